@@ -1,0 +1,13 @@
+-- The numbers of a journal's refusals.
+use Rattle.std.specs.Prelude.{ℕ}
+use Rattle.em_journal.specs.declared.refusal.JournalRefusal.{JournalRefusal}
+use Rattle.em_journal.specs.declared.refusal.JournalRefusal.TheVariants.{Budget, Memory}
+
+-- of a machine that was not made
+abbrev pub code_of : JournalRefusal → ℕ
+code_of Budget = 24
+code_of Memory = 9
+
+-- of a step back from an empty journal
+abbrev pub code_of_empty : ℕ
+code_of_empty = 8

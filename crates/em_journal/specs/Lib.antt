@@ -1,0 +1,5 @@
+pub mod Budget
+pub mod Chain
+pub mod History
+pub mod JournalRefusal
+pub mod View

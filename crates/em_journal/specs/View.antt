@@ -1,0 +1,44 @@
+-- What a machine shows: where it is, and what it can go back to.
+use Rattle.std.specs.Prelude.{ℕ, ◌-◌, nat_le, if◌then◌else◌, suc, List, [], ◌∷◌, take, refl}
+use Rattle.std.specs.Coded.{Coded, code_by, coded×, coded_list, coded_ℕ}
+use Rattle.em_step.specs.State.{State, state_code}
+
+-- the lists have the newest first, and each cost is that of the event that led away from the state beside it
+pub record View : Type 0 where
+  pub budget : ℕ
+  -- the state that the adapter shows
+  pub present : State
+  -- the states that steps back lead to
+  pub past : List State
+  -- what the journal counts for each of those steps, in octets of cost
+  pub costs : List ℕ
+
+abbrev pub view_code : Coded View
+view_code =
+    code_by (ℕ × (State × (List State × List ℕ))) (coded× coded_ℕ (coded× state_code (coded× (coded_list state_code) (coded_list coded_ℕ))))
+    (λ v. (v.budget, (v.present, (v.past, v.costs)))) (λ p. record { budget = p.0; present = p.1.0; past = p.1.1.0; costs = p.1.1.1 }) (λ _. refl)
+
+-- a machine that has performed nothing
+abbrev pub opening : ℕ → State → View
+opening budget s = record { budget = budget; present = s; past = []; costs = [] }
+
+-- the present state and those before it
+abbrev pub states : View → List State
+states v = v.present ∷ v.past
+
+-- how many costs, from the newest on, the budget holds
+abbrev pub reach : ℕ → List ℕ → ℕ
+reach budget [] = 0
+reach budget (c ∷ costs) = if nat_le c budget then suc (reach (budget - c) costs) else 0
+
+-- the costs without the oldest, which the budget does not hold
+abbrev pub within : ℕ → List ℕ → List ℕ
+within budget costs = take (reach budget costs) costs
+
+-- after an event of the cost that led to s
+abbrev pub performed : View → State → ℕ → View
+performed v s cost = record v {
+  present = s;
+  past = take (reach v.budget (cost ∷ v.costs)) (states v);
+  costs = within v.budget (cost ∷ v.costs);
+}

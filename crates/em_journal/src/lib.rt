@@ -1,0 +1,12 @@
+//! A journal of an adapter's events: it performs them, and takes the newest back, within a budget.
+#![tactic(auto)]
+
+pub mod laws;
+mod machine;
+mod records;
+mod refusal;
+#[cfg(test)]
+mod tests;
+
+pub use machine::{LEAST_BUDGET, MOST_BUDGET, Machine};
+pub use refusal::{Empty, JournalRefusal};

@@ -1,0 +1,187 @@
+//! The machine: an adapter with a journal of its latest events.
+ghost use Rattle.std.specs.Prelude.{◌≡◌, ◌+◌, ◌<◌, ◌↔◌, [], ◌∷◌, IfOk, IfErr, OnOk, OnErr, IsErrOf, IsTrue, length, drop, min};
+ghost use Rattle.std.specs.Option.{option_map};
+ghost use Rattle.em_mem.specs.Memory.{part};
+ghost use Rattle.em_regs.specs.Table.{reg_at};
+ghost use Rattle.em_latch.specs.Latches.{IsAsserted};
+ghost use Rattle.em_step.specs.Access.{gives};
+ghost use Rattle.em_step.specs.Cells.{shows};
+ghost use Rattle.em_step.specs.Step.{seen, step, Refuses};
+ghost use Rattle.em_step.specs.Cost.{cost};
+ghost use Rattle.em_journal.specs.Budget.{IsBudget};
+ghost use Rattle.em_journal.specs.View.{opening, states, performed};
+
+use crate::records::{drop_oldest, put_newest};
+use crate::refusal::{Empty, JournalRefusal};
+use circular_buffer::HeapCircularBuffer;
+use em_step::{Adapter, Answer, Event, LEAST_COST, Refusal, Undo};
+use std::alloc::Global;
+use std::marker::Model;
+
+/// The least budget of a journal, in octets of cost: the dearest event, so that the newest one
+/// always fits.
+pub const LEAST_BUDGET: u64 = 65_536;
+
+/// The greatest budget of a journal, in octets of cost.
+pub const MOST_BUDGET: u64 = 16_777_216;
+
+/// An adapter with the records that take its latest events back, as many as the budget holds.
+#[derive(Drop)]
+pub struct Machine {
+    adapter: Adapter,
+    // the newest first
+    records: HeapCircularBuffer<Undo>,
+    budget: u64,
+    // what the records cost together
+    used: u64,
+}
+
+impl Model for Machine {
+    ghost use Rattle.em_step.specs.Cells.{shows};
+    ghost use Rattle.em_journal.specs.Chain.{back_through, costs_of, IsJournal};
+    ghost use Rattle.em_journal.specs.View.{View, view_code};
+
+    ghost Value = { View };
+
+    ghost coded = { view_code };
+
+    ghost view = { λ m. record { budget = m.budget; present = shows m.adapter; past = back_through m.adapter m.records.items; costs = costs_of m.records.items } };
+
+    ghost invariant = { λ m. IsJournal m.adapter m.records.items m.records.capacity m.budget m.used };
+}
+
+impl Machine {
+    /// A machine over an adapter, with an empty journal; all places of its records are made here.
+    ///
+    /// The budget is counted in octets of cost. It is refused as Budget outside 65,536 to
+    /// 16,777,216, before any memory is taken. With a refusal the adapter comes back as it was.
+    pub fn new(
+        alloc: Global,
+        adapter: Adapter,
+        budget: u64,
+    ) -> Result<Machine, (Adapter, JournalRefusal)>
+        ensures ok { IfOk result (λ machine. machine ≡ opening budget (shows adapter)) }
+        ensures budget { OnOk result (IsBudget budget) }
+        ensures refused { IfErr result (λ e. (e.1 ≡ JournalRefusal.Budget) ↔ (IsBudget budget → ⊥)) }
+        ensures same { IfErr result (λ e. e.0 ≡ adapter) }
+    {
+        if budget < LEAST_BUDGET || budget > MOST_BUDGET {
+            return Err((adapter, JournalRefusal::Budget));
+        }
+        // No record costs less, so the places are never too few.
+        let places = (budget / u64::from(LEAST_COST)) as usize;
+        match HeapCircularBuffer::with_capacity(alloc, places) {
+            Ok(records) => Ok(Machine {
+                adapter,
+                records,
+                budget,
+                used: 0,
+            }),
+            Err(_) => Err((adapter, JournalRefusal::Memory)),
+        }
+    }
+
+    /// Performs one event and journals it; the oldest records go that the budget no longer holds.
+    ///
+    /// A refused event is not journalled: the machine stays as it was, also in how far it can go
+    /// back.
+    pub fn perform(&mut self, event: Event<'_>) -> Result<Answer, Refusal>
+        ensures ok { IfOk result (λ answer. step self.old.present (seen event.entry) ≡ Ok (answer, self.new.present)) }
+        ensures view { OnOk result (self.new ≡ performed self.old self.new.present (cost self.old.present (seen event.entry))) }
+        // a performed event can always be taken back
+        ensures kept { OnOk result (0 < length self.new.past) }
+        ensures err { IfErr result (Refuses self.old.present (seen event.entry)) }
+        ensures same { OnErr result (self.new ≡ self.old) }
+    {
+        let (answer, undo) = self.adapter.apply(event)?;
+        let cost = u64::from(undo.cost());
+        // The oldest go first, since a full ring would lose one whose cost is not counted.
+        let kept = drop_oldest(&mut self.records, self.used, self.budget - cost);
+        put_newest(&mut self.records, undo);
+        self.used = kept + cost;
+        Ok(answer)
+    }
+
+    /// Takes the newest event of the journal back. Refused exactly where the journal is empty.
+    pub fn back(&mut self) -> Result<(), Empty>
+        ensures ok { OnOk result (self.old.past ≡ self.new.present ∷ self.new.past) }
+        ensures costs { OnOk result (self.new.costs ≡ drop 1 self.old.costs) }
+        ensures budget { self.new.budget ≡ self.old.budget }
+        ensures empty { OnErr result (self.old.past ≡ []) }
+        ensures same { OnErr result (self.new ≡ self.old) }
+    {
+        match self.records.pop_front() {
+            Some(undo) => {
+                self.used -= u64::from(undo.cost());
+                self.adapter.take_back(undo);
+                Ok(())
+            }
+            None => Err(Empty),
+        }
+    }
+
+    /// Takes events back, the newest first, until `n` are done or the journal is empty, and gives
+    /// how many it took back.
+    pub fn back_by(&mut self, n: usize) -> usize
+        ensures count { result ≡ min n (length self.old.past) }
+        ensures states { states self.new ≡ drop result (states self.old) }
+        ensures costs { self.new.costs ≡ drop result self.old.costs }
+        ensures budget { self.new.budget ≡ self.old.budget }
+    {
+        for done in 0..n {
+            match self.back() {
+                Ok(()) => {}
+                Err(Empty) => return done,
+            }
+        }
+        n
+    }
+
+    /// How many events can be taken back.
+    pub fn can_go_back(&self) -> usize
+        ensures past { result ≡ length self.now.past }
+        ensures costs { result ≡ length self.now.costs }
+    {
+        self.records.len()
+    }
+
+    /// What a read of the register at an offset (octets) would give, with nothing cleared; none
+    /// where no register lies there.
+    pub fn look(&self, offset: u32) -> Option<u32>
+        ensures { result ≡ option_map (gives self.now.present) (reg_at offset) }
+    {
+        self.adapter.look(offset)
+    }
+
+    /// Copies the octets of guest memory at an address out. Refused as Range where they leave
+    /// memory; `out` then stays.
+    pub fn peek(&self, addr: u64, out: &mut [u8]) -> Result<(), Refusal>
+        ensures ok { OnOk result (out.new ≡ part self.now.present.memory addr (length out.old)) }
+        ensures range { IsErrOf result Refusal.Range ↔ (length self.now.present.memory < addr + length out.old) }
+        ensures only { IfErr result (λ e. e ≡ Refusal.Range) }
+        ensures same { OnErr result (out.new ≡ out.old) }
+    {
+        self.adapter.peek(addr, out)
+    }
+
+    /// Whether the interrupt line is asserted.
+    pub fn line(&self) -> bool
+        ensures { IsTrue result ↔ IsAsserted self.now.present.latches }
+    {
+        self.adapter.line()
+    }
+
+    /// Whether the link is up.
+    pub fn link(&self) -> bool
+        ensures { result ≡ self.now.present.link }
+    {
+        self.adapter.link()
+    }
+
+    /// How many octets the guest's memory has.
+    pub fn memory_size(&self) -> u64
+        ensures { result ≡ length self.now.present.memory }
+    {
+        self.adapter.memory_size()
+    }
+}

@@ -1,0 +1,37 @@
+//! Why a journal is not made, and why nothing is taken back.
+ghost use Rattle.std.specs.Prelude.{◌≡◌};
+ghost use Rattle.em_journal.specs.JournalRefusal.{code_of, code_of_empty};
+
+/// Why no machine was made.
+#[derive(Clone, Copy, PartialEq, Eq, Debug)]
+pub enum JournalRefusal {
+    /// The budget lies outside 65,536 to 16,777,216 octets of cost.
+    Budget,
+    /// The memory of the journal's places was refused.
+    Memory,
+}
+
+impl JournalRefusal {
+    /// The number of the refusal (this project's profile).
+    pub fn code(self) -> u32
+        ensures { result ≡ code_of self }
+    {
+        match self {
+            JournalRefusal::Budget => 24,
+            JournalRefusal::Memory => 9,
+        }
+    }
+}
+
+/// The journal holds no event that could be taken back.
+#[derive(Clone, Copy, PartialEq, Eq, Debug)]
+pub struct Empty;
+
+impl Empty {
+    /// The number of the refusal (this project's profile).
+    pub fn code(self) -> u32
+        ensures { result ≡ code_of_empty }
+    {
+        8
+    }
+}

@@ -1,0 +1,88 @@
+-- What an access of a latched register gives and does.
+use Rattle.std.specs.Prelude.{◌≢◌, ℕ, ◌-◌, Bool, true, List, [], ◌∷◌, IsTrue, bit_and, bit_or}
+use Rattle.std.specs.FinMap as map
+use Rattle.em_regs.specs.declared.reg.Reg.{Reg}
+use Rattle.em_regs.specs.declared.reg.Reg.TheVariants.{Icr, Ics, Ims, Imc, Gorcl, Gorch, Gotcl, Gotch}
+use Rattle.em_regs.specs.Table.{offset_of, is_counter}
+use Rattle.em_regs.specs.Registers as registers
+use Rattle.em_regs.specs.Registers.{Registers, Cell, at}
+use Rattle.em_latch.specs.declared.latches.TheConstants.{CAUSE_BITS, EVERY_BIT}
+
+-- the interrupt registers and the counters
+abbrev pub is_latched : Reg → Bool
+is_latched Icr = true
+is_latched Ics = true
+is_latched Ims = true
+is_latched Imc = true
+is_latched reg = is_counter reg
+
+abbrev pub IsLatched : Reg → Type 0
+IsLatched reg = IsTrue (is_latched reg)
+
+-- a latched register with a word of its own: ICS and IMC work on those of ICR and IMS
+abbrev pub is_word : Reg → Bool
+is_word Icr = true
+is_word Ims = true
+is_word reg = is_counter reg
+
+abbrev pub IsWord : Reg → Type 0
+IsWord reg = IsTrue (is_word reg)
+
+-- the causes that are set
+abbrev pub causes : Registers → ℕ
+causes m = at m (offset_of Icr)
+
+-- the causes that are let through to the line
+abbrev pub mask : Registers → ℕ
+mask m = at m (offset_of Ims)
+
+-- the bits of n that are clear in v
+abbrev pub without : ℕ → ℕ → ℕ
+without n v = bit_and n (EVERY_BIT - v)
+
+-- what a read gives
+abbrev pub gives : Registers → Reg → ℕ
+gives m Ics = 0
+gives m Imc = 0
+gives m reg = at m (offset_of reg)
+
+-- both halves of a pair cleared
+abbrev pub pair_cleared : Registers → Reg → Reg → Registers
+pair_cleared m low high = map.insert (map.insert m (offset_of low) 0) (offset_of high) 0
+
+-- a read of the causes or a counter clears it; of a pair, the read of the high half clears both
+abbrev pub after_read : Registers → Reg → Registers
+after_read m Ics = m
+after_read m Ims = m
+after_read m Imc = m
+after_read m Gorcl = m
+after_read m Gotcl = m
+after_read m Gorch = pair_cleared m Gorcl Gorch
+after_read m Gotch = pair_cleared m Gotcl Gotch
+after_read m reg = map.insert m (offset_of reg) 0
+
+-- causes that are set beside those that were
+abbrev pub raised : Registers → ℕ → Registers
+raised m v = map.insert m (offset_of Icr) (bit_or (causes m) v)
+
+-- ICR and IMC clear the bits that are 1 in v, ICS and IMS set those of them that name a cause; counters stay
+abbrev pub after_write : Registers → Reg → ℕ → Registers
+after_write m Icr v = map.insert m (offset_of Icr) (without (causes m) v)
+after_write m Ics v = raised m (bit_and v CAUSE_BITS)
+after_write m Ims v = map.insert m (offset_of Ims) (bit_or (mask m) (bit_and v CAUSE_BITS))
+after_write m Imc v = map.insert m (offset_of Ims) (without (mask m) v)
+after_write m reg v = m
+
+-- the interrupt line: some cause is set that the mask lets through
+abbrev pub IsAsserted : Registers → Type 0
+IsAsserted m = bit_and (causes m) (mask m) ≢ 0
+
+-- each word is there
+abbrev pub Fits : Registers → List Cell → Type 0
+Fits m [] = Unit {0}
+Fits m (c ∷ cs) = registers.Fits m c × Fits (registers.undo m c) cs
+
+-- the words hold what they held
+abbrev pub undo : Registers → List Cell → Registers
+undo m [] = m
+undo m (c ∷ cs) = undo (registers.undo m c) cs

@@ -1,0 +1,6 @@
+pub mod Zeros
+pub mod PutLaws
+pub mod PageLaws
+pub mod TableLaws
+pub mod PieceLaws
+pub mod MadePages

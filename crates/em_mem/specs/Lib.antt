@@ -1,0 +1,3 @@
+pub mod MemRefusal
+pub mod Memory
+pub mod Pages

@@ -1,0 +1,80 @@
+-- Octets of guest memory, and which of its pages are made.
+use Rattle.std.specs.Prelude.{◌≡◌, ℕ, ◌+◌, ◌*◌, ◌/◌, ◌%◌, ◌<◌, ◌≤◌, ◌⊎◌, Bool, true, false, List, ◌++◌, length, take, drop, replicate, slice_index_or, refl}
+use Rattle.std.specs.Coded.{Coded, code_by, coded×, coded_list, coded_ℕ, coded_bool}
+use Rattle.em_mem.specs.declared.TheConstants.{PAGE_OCTETS, MOST_OCTETS}
+
+-- what guest memory keeps: its octets, and for each page whether it is made
+pub record Cells : Type 0 where
+  pub octets : List ℕ
+  pub made : List Bool
+
+-- cells are stored as the pair of their fields
+abbrev pub cells_code : Coded Cells
+cells_code = code_by (List ℕ × List Bool) (coded× (coded_list coded_ℕ) (coded_list coded_bool)) (λ c. (c.octets, c.made)) (λ p. record { octets = p.0; made = p.1 }) (λ _. refl)
+
+-- a size that guest memory can have: whole pages, one at least
+abbrev pub IsMemorySize : ℕ → Type 0
+IsMemorySize size = (PAGE_OCTETS ≤ size) × (size ≤ MOST_OCTETS) × (size % PAGE_OCTETS ≡ 0)
+
+-- so many zeros
+unfoldable pub zeros : ℕ → List ℕ
+zeros n = replicate n 0
+
+-- for each page of memory of this size that it is not made
+unfoldable pub none_made : ℕ → List Bool
+none_made size = replicate (size / PAGE_OCTETS) false
+
+-- memory of this size, all zero, with no page made
+abbrev pub fresh : ℕ → Cells
+fresh size = record { octets = zeros size; made = none_made size }
+
+-- the range of n octets from a on lies in memory
+abbrev pub IsHeld : List ℕ → ℕ → ℕ → Type 0
+IsHeld octets a n = a + n ≤ length octets
+
+-- the range of n octets from a on lies in one page
+abbrev pub IsInOnePage : ℕ → ℕ → Type 0
+IsInOnePage a n = a % PAGE_OCTETS + n ≤ PAGE_OCTETS
+
+-- page p is made
+abbrev pub IsPageMade : Cells → ℕ → Type 0
+IsPageMade c p = slice_index_or c.made p false ≡ true
+
+-- each page of the range of n octets from a on is made
+abbrev pub IsMade : Cells → ℕ → ℕ → Type 0
+IsMade c a n = (i : ℕ) → i < n → IsPageMade c ((a + i) / PAGE_OCTETS)
+
+-- page p has an octet of the range of n octets from a on
+abbrev pub IsPageOf : ℕ → ℕ → ℕ → Type 0
+IsPageOf p a n = (0 < n) × (a < PAGE_OCTETS * p + PAGE_OCTETS) × (PAGE_OCTETS * p < a + n)
+
+-- the n octets from a on
+abbrev pub part : List ℕ → ℕ → ℕ → List ℕ
+part octets a n = take n (drop a octets)
+
+-- the octets with those of d from a on
+abbrev pub put : List ℕ → ℕ → List ℕ → List ℕ
+put octets a d = take a octets ++ (d ++ drop (a + length d) octets)
+
+-- old octets, and the address where they lay
+pub record Patch : Type 0 where
+  pub at : ℕ
+  pub octets : List ℕ
+
+-- the patch lies in memory, in pages that are made
+pub record Fits (c : Cells) (p : Patch) : Type 0 where
+  pub held : IsHeld c.octets p.at (length p.octets)
+  pub made : IsMade c p.at (length p.octets)
+
+-- the cells with the patch put back: pages that are made stay made
+abbrev pub undo : Cells → Patch → Cells
+undo c p = record c { octets = put c.octets p.at p.octets }
+
+-- d is c, but that d may have more pages made
+pub record More (c d : Cells) : Type 0 where
+  pub octets : d.octets ≡ c.octets
+  pub made : (p : ℕ) → IsPageMade c p → IsPageMade d p
+
+-- the pages that d has made and c has not are pages of the range of n octets from a on
+abbrev pub MakesOnly : Cells → Cells → ℕ → ℕ → Type 0
+MakesOnly c d a n = (p : ℕ) → IsPageMade d p → IsPageMade c p ⊎ IsPageOf p a n

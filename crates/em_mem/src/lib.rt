@@ -1,0 +1,27 @@
+//! The guest memory of a network adapter's software model: octets in pages that are made only when
+//! they are about to be written, and what it means to take a change back.
+#![tactic(auto)]
+
+pub use memory::GuestMemory;
+pub use refusal::MemRefusal;
+pub use reversible::Reversible;
+pub use undo::MemUndo;
+
+mod memory;
+mod page;
+mod refusal;
+mod reversible;
+mod table;
+#[cfg(test)]
+mod tests;
+mod undo;
+
+/// The octets of one page.
+pub const PAGE_OCTETS: usize = 4096;
+
+/// The greatest size of guest memory, in octets.
+pub const MOST_OCTETS: u64 = 16_777_216;
+
+/// The most octets that one record of old octets holds: one write of memory writes no more, and one
+/// descriptor's buffer has no more.
+pub const MOST_RECORD: usize = 16_384;

@@ -1,0 +1,208 @@
+ghost use Rattle.std.specs.Prelude.{◌≡◌, ◌+◌, ◌%◌, ◌≤◌, ◌<◌, ◌↔◌, IfOk, IfErr, IsErrOf, IsOk, IsTrue, IsSome, IfSome, OnOk, length};
+ghost use Rattle.em_mem.specs.Memory.{Fits, IsHeld, IsInOnePage, IsMade, IsMemorySize, MakesOnly, More, fresh, part, put, undo as undone_by};
+
+use crate::page::Page;
+use crate::{MOST_OCTETS, MemRefusal, MemUndo, PAGE_OCTETS, Reversible, page, table};
+use std::alloc::Global;
+use std::marker::Model;
+
+/// The octets of the guest, in pages of 4,096. A page is made before it is first written, and never
+/// given back.
+#[derive(Drop)]
+pub struct GuestMemory {
+    alloc: Global,
+    pages: Vec<Page>,
+    // Stands for each page that is not made, so that `slice` can lend its octets.
+    zeros: Box<[u8; PAGE_OCTETS]>,
+}
+
+impl Model for GuestMemory {
+    ghost use Rattle.em_mem.specs.Memory.{Cells, cells_code};
+
+    ghost Value = { Cells };
+
+    ghost coded = { cells_code };
+
+    ghost use Rattle.em_mem.specs.Pages.{table_octets, table_made, IsTable};
+
+    ghost view = { λ m. record { octets = table_octets m.pages.items; made = table_made m.pages.items } };
+
+    ghost invariant = { λ m. IsTable m.pages.items m.zeros.value };
+}
+
+impl GuestMemory {
+    /// Memory of `size` octets, all zero, with no page made. `Size` comes before any memory is
+    /// taken, where `size` is not a multiple of 4,096 from 4,096 to 16,777,216.
+    pub fn new(alloc: Global, size: u64) -> Result<GuestMemory, MemRefusal>
+        ensures ok { IfOk result (λ memory. memory ≡ fresh size) }
+        ensures fit { OnOk result (IsMemorySize size) }
+        ensures size { IsErrOf result MemRefusal.Size ↔ (IsMemorySize size → ⊥) }
+        ensures memory { IsErrOf result MemRefusal.Memory → IsMemorySize size }
+    {
+        let at_least = PAGE_OCTETS as u64;
+        if size < at_least || size > MOST_OCTETS || size % at_least != 0 {
+            return Err(MemRefusal::Size);
+        }
+        let pages = table::no_pages(alloc, size as usize / PAGE_OCTETS)?;
+        let zeros = page::new_page(alloc)?;
+        Ok(GuestMemory {
+            alloc,
+            pages,
+            zeros,
+        })
+    }
+
+    /// The size of memory in octets.
+    pub fn len(&self) -> u64
+        ensures len { result ≡ length self.now.octets }
+        ensures most { result ≤ MOST_OCTETS }
+    {
+        (self.pages.len() * PAGE_OCTETS) as u64
+    }
+
+    /// Whether the `len` octets from `addr` on lie in memory.
+    pub fn holds(&self, addr: u64, len: u64) -> bool
+        ensures { IsTrue result ↔ IsHeld self.now.octets addr len }
+    {
+        let size = self.len();
+        addr <= size && len <= size - addr
+    }
+
+    /// The `len` octets from `addr` on, where they lie in memory and in one page: without a copy.
+    pub fn slice(&self, addr: u64, len: usize) -> Option<&[u8]>
+        ensures found { IsSome result ↔ (IsHeld self.now.octets addr len × IsInOnePage addr len) }
+        ensures octets { IfSome result (λ octets. octets.now ≡ part self.now.octets addr len) }
+    {
+        if !self.holds(addr, len as u64) {
+            return None;
+        }
+        if len == 0 {
+            return Some(&[]);
+        }
+        let at = addr as usize;
+        if len > PAGE_OCTETS - at % PAGE_OCTETS {
+            return None;
+        }
+        Some(self.slice_in_page(at, len))
+    }
+
+    fn slice_in_page(&self, addr: usize, len: usize) -> &[u8]
+        requires some { 0 < len }
+        requires held { IsHeld self.now.octets addr len }
+        requires one { IsInOnePage addr len }
+        ensures { result.now ≡ part self.now.octets addr len }
+    {
+        let octets = page::octets(&self.pages[addr / PAGE_OCTETS], &self.zeros);
+        let at = addr % PAGE_OCTETS;
+        &octets[at..at + len]
+    }
+
+    /// Makes the pages of the `len` octets from `addr` on, so that they can be written; a range of 0
+    /// octets has none. Where memory is refused (`Memory`), the pages made until then stay; it is not
+    /// where all pages of the range are made already.
+    pub fn touch(&mut self, addr: u64, len: u64) -> Result<(), MemRefusal>
+        requires { IsHeld self.old.octets addr len }
+        ensures more { More self.old self.new }
+        ensures made { OnOk result (IsMade self.new addr len) }
+        ensures only { MakesOnly self.old self.new addr len }
+        ensures ready { IsMade self.old addr len → IsOk result }
+        ensures refused { IfErr result (λ refusal. refusal ≡ MemRefusal.Memory) }
+    {
+        if len == 0 {
+            return Ok(());
+        }
+        // the sums below stay small
+        let _size = self.len();
+        let first = addr as usize / PAGE_OCTETS;
+        let last = (addr + (len - 1)) as usize / PAGE_OCTETS;
+        table::make_pages(self.alloc, self.pages.as_mut_slice(), first, last)?;
+        Ok(())
+    }
+
+    /// Copies the octets from `addr` on into `out`. The range may cross page ends.
+    pub fn read_into(&self, addr: u64, out: &mut [u8])
+        requires { IsHeld self.now.octets addr (length out.old) }
+        ensures { out.new ≡ part self.now.octets addr (length out.old) }
+    {
+        // the sums below stay small
+        let _size = self.len();
+        let mut done = 0;
+        while done < out.len() {
+            let from = addr + done as u64;
+            let count = in_page(from, out.len() - done);
+            let Some(octets) = self.slice(from, count) else {
+                unreachable!();
+            };
+            out[done..done + count].copy_from_slice(octets);
+            done += count;
+        }
+    }
+
+    /// Writes the octets of `swapped` from `addr` on, and leaves the old ones in `swapped`. The range
+    /// may cross page ends. It takes no memory: `touch` made the pages.
+    pub fn swap(&mut self, addr: u64, swapped: &mut [u8])
+        requires held { IsHeld self.old.octets addr (length swapped.old) }
+        requires made { IsMade self.old addr (length swapped.old) }
+
+        ensures octets { self.new.octets ≡ put self.old.octets addr swapped.old }
+        ensures made { self.new.made ≡ self.old.made }
+        ensures old { swapped.new ≡ part self.old.octets addr (length swapped.old) }
+
+        // A record of the old octets takes the write back.
+        ensures len { length swapped.new ≡ length swapped.old }
+        ensures fits { Fits self.new (record { at = addr; octets = swapped.new }) }
+        ensures restores { undone_by self.new (record { at = addr; octets = swapped.new }) ≡ self.old }
+    {
+        // the sums below stay small
+        let _size = self.len();
+        let mut done = 0;
+        while done < swapped.len() {
+            let from = addr + done as u64;
+            let count = in_page(from, swapped.len() - done);
+            self.swap_piece(from, &mut swapped[done..done + count]);
+            done += count;
+        }
+    }
+
+    fn swap_piece(&mut self, addr: u64, swapped: &mut [u8])
+        requires some { 0 < length swapped.old }
+        requires held { IsHeld self.old.octets addr (length swapped.old) }
+        requires made { IsMade self.old addr (length swapped.old) }
+        requires one { IsInOnePage addr (length swapped.old) }
+        ensures octets { self.new.octets ≡ put self.old.octets addr swapped.old }
+        ensures made { self.new.made ≡ self.old.made }
+        ensures old { swapped.new ≡ part self.old.octets addr (length swapped.old) }
+    {
+        let at = addr as usize;
+        table::swap_in_page(
+            self.pages.as_mut_slice(),
+            at / PAGE_OCTETS,
+            at % PAGE_OCTETS,
+            swapped,
+        );
+    }
+}
+
+/// How many of the `len` octets from `addr` on lie before the page's end.
+fn in_page(addr: u64, len: usize) -> usize
+    ensures within { result ≤ len }
+    ensures one { IsInOnePage addr result }
+    ensures some { 0 < len → 0 < result }
+{
+    (PAGE_OCTETS - addr as usize % PAGE_OCTETS).min(len)
+}
+
+impl Reversible for GuestMemory {
+    type Undo = MemUndo;
+
+    ghost use Rattle.em_mem.specs.Memory.{Fits, undo};
+
+    ghost fits = { Fits };
+
+    ghost undone = { undo };
+
+    fn take_back(&mut self, undo: MemUndo) {
+        let (addr, mut octets) = undo.into_parts();
+        self.swap(addr, octets.as_mut_slice());
+    }
+}

@@ -1,0 +1,64 @@
+ghost use Rattle.std.specs.Prelude.{◌≡◌, ◌+◌, ◌≤◌, IfOk, IsOk, OnOk, length, true};
+ghost use Rattle.em_mem.specs.Memory.{part, put};
+ghost use Rattle.em_mem.specs.Pages.{zero_page, page_octets, is_made};
+
+use crate::PAGE_OCTETS;
+use std::alloc::{AllocError, Global};
+
+/// A page, or none where it is not made: its octets are then zero.
+pub(crate) type Page = Option<Box<[u8; PAGE_OCTETS]>>;
+
+/// A page of zeros.
+#[tactic(auto, unfolding(crate::specs::Memory::zeros))]
+pub(crate) fn new_page(alloc: Global) -> Result<Box<[u8; PAGE_OCTETS]>, AllocError>
+    ensures { IfOk result (λ page. page.value ≡ zero_page) }
+{
+    Ok(Box::new(alloc, [0; PAGE_OCTETS])?)
+}
+
+/// The octets of a page, where `zeros` stands for one that is not made.
+pub(crate) fn octets<'a>(page: &'a Page, zeros: &'a [u8; PAGE_OCTETS]) -> &'a [u8]
+    requires { zeros.now ≡ zero_page }
+    ensures { result.now ≡ page_octets page.now }
+{
+    match page {
+        Some(octets) => octets.as_slice(),
+        None => zeros.as_slice(),
+    }
+}
+
+/// Makes a page, if it is not made yet. Its octets stay.
+pub(crate) fn make(alloc: Global, page: &mut Page) -> Result<(), AllocError>
+    ensures octets { page_octets page.new ≡ page_octets page.old }
+    ensures made { OnOk result (is_made page.new ≡ true) }
+    ensures more { is_made page.old ≡ true → is_made page.new ≡ true }
+    ensures ready { is_made page.old ≡ true → IsOk result }
+{
+    if page.is_none() {
+        *page = Some(new_page(alloc)?);
+    }
+    Ok(())
+}
+
+/// Exchanges octets of a made page with those of a slice.
+pub(crate) fn swap(page: &mut Page, at: usize, swapped: &mut [u8])
+    requires made { is_made page.old ≡ true }
+    requires range { at + length swapped.old ≤ length (page_octets page.old) }
+    ensures octets { page_octets page.new ≡ put (page_octets page.old) at swapped.old }
+    ensures made { is_made page.new ≡ true }
+    ensures old { swapped.new ≡ part (page_octets page.old) at (length swapped.old) }
+{
+    match page {
+        Some(octets) => exchange(octets.as_mut_slice(), at, swapped),
+        None => unreachable!(),
+    }
+}
+
+fn exchange(octets: &mut [u8], at: usize, swapped: &mut [u8])
+    requires { at + length swapped.old ≤ length octets.old }
+    ensures octets { octets.new ≡ put octets.old at swapped.old }
+    ensures old { swapped.new ≡ part octets.old at (length swapped.old) }
+{
+    let end = at + swapped.len();
+    octets[at..end].swap_with_slice(swapped);
+}

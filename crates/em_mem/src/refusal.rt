@@ -1,0 +1,34 @@
+ghost use Rattle.std.specs.Prelude.{◌≡◌};
+
+use std::alloc::AllocError;
+
+/// Why guest memory was not made, or a page of it.
+#[derive(Clone, Copy, Debug, PartialEq, Eq)]
+pub enum MemRefusal {
+    /// The size is not a multiple of 4,096 from 4,096 to 16,777,216.
+    Size = 1,
+    /// A growth was refused.
+    Memory = 9,
+}
+
+impl MemRefusal {
+    ghost use Rattle.em_mem.specs.MemRefusal.{code_of};
+
+    /// The refusal's number: 1 for `Size`, 9 for `Memory`.
+    pub fn code(self) -> u32
+        ensures { result ≡ code_of self }
+    {
+        self as u32
+    }
+}
+
+impl From<AllocError> for MemRefusal {
+    ghost use Rattle.std.specs.Prelude.{◌≡◌};
+    ghost use Rattle.em_mem.specs.declared.refusal.MemRefusal.TheVariants.{Memory};
+
+    ghost from_gives = { λ _ refusal. refusal ≡ Memory };
+
+    fn from(_error: AllocError) -> MemRefusal {
+        MemRefusal::Memory
+    }
+}

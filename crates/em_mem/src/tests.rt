@@ -1,0 +1,103 @@
+ghost use Rattle.std.specs.Prelude.{IfOk};
+ghost use Rattle.em_mem.specs.Memory.{Fits};
+
+use crate::{GuestMemory, MOST_RECORD, MemRefusal, MemUndo, Reversible};
+use std::alloc::Global;
+use std::test::Fail;
+
+// It has no clause, so that no proof below computes with that many zeros.
+fn memory_of(alloc: Global, size: u64) -> Result<GuestMemory, MemRefusal> {
+    GuestMemory::new(alloc, size)
+}
+
+fn poke(memory: &mut GuestMemory, addr: u64, octets: Vec<u8>) -> Result<MemUndo, Fail>
+    ensures { IfOk result (λ undo. Fits memory.new undo) }
+{
+    if octets.len() > MOST_RECORD || !memory.holds(addr, octets.len() as u64) {
+        return Err(Fail::from("out of range"));
+    }
+    let mut octets = octets;
+    memory.touch(addr, octets.len() as u64)?;
+    memory.swap(addr, octets.as_mut_slice());
+    Ok(MemUndo::new(addr, octets))
+}
+
+fn peek(memory: &GuestMemory, addr: u64, out: &mut [u8]) -> Result<(), Fail> {
+    if !memory.holds(addr, out.len() as u64) {
+        return Err(Fail::from("out of range"));
+    }
+    memory.read_into(addr, out);
+    Ok(())
+}
+
+#[test]
+fn refuses_sizes_that_are_not_whole_pages_or_too_great(rt: HostRuntime) -> Result<(), Fail> {
+    for size in [0, 4095, 4097, 16_781_312] {
+        match memory_of(rt.alloc(), size) {
+            Err(refusal) => assert_eq!(rt; refusal, MemRefusal::Size),
+            Ok(_) => return Err(Fail::from("not refused")),
+        }
+    }
+    assert_eq!(rt; MemRefusal::Size.code(), 1);
+    assert_eq!(rt; MemRefusal::Memory.code(), 9);
+    Ok(())
+}
+
+#[test]
+fn has_the_least_size(rt: HostRuntime) -> Result<(), Fail> {
+    let memory = memory_of(rt.alloc(), 4096)?;
+    assert_eq!(rt; memory.len(), 4096);
+    assert!(rt; memory.holds(4096, 0));
+    assert!(rt; !memory.holds(4095, 2));
+    Ok(())
+}
+
+#[test]
+fn writes_both_ends_of_the_greatest_memory(rt: HostRuntime) -> Result<(), Fail> {
+    let mut memory = memory_of(rt.alloc(), 16_777_216)?;
+    poke(&mut memory, 0, [1].to_vec(rt.alloc())?)?;
+    poke(&mut memory, 16_777_215, [2].to_vec(rt.alloc())?)?;
+    assert_eq!(rt; memory.slice(0, 2), Some(&[1, 0][..]));
+    assert_eq!(rt; memory.slice(16_777_214, 2), Some(&[0, 2][..]));
+    Ok(())
+}
+
+#[test]
+fn lends_no_slice_over_a_page_end(rt: HostRuntime) -> Result<(), Fail> {
+    let memory = memory_of(rt.alloc(), 65_536)?;
+    assert_eq!(rt; memory.slice(0xFFE, 2), Some(&[0, 0][..]));
+    assert_eq!(rt; memory.slice(0xFFE, 4), None);
+    assert_eq!(rt; memory.slice(65_536, 0), Some(&[][..]));
+    assert_eq!(rt; memory.slice(65_536, 1), None);
+    Ok(())
+}
+
+#[test]
+fn takes_back_a_write_over_two_pages(rt: HostRuntime) -> Result<(), Fail> {
+    let mut memory = memory_of(rt.alloc(), 65_536)?;
+    let undo = poke(&mut memory, 0xFFE, [1, 2, 3, 4].to_vec(rt.alloc())?)?;
+    assert_eq!(rt; undo.len(), 4);
+    let mut out = [9; 6];
+    peek(&memory, 0xFFD, &mut out)?;
+    assert_eq!(rt; out, [0, 1, 2, 3, 4, 0]);
+
+    memory.take_back(undo);
+    peek(&memory, 0xFFD, &mut out)?;
+    assert_eq!(rt; out, [0; 6]);
+    Ok(())
+}
+
+#[test]
+fn shows_the_same_where_a_page_is_refused(rt: HostRuntime) -> Result<(), Fail> {
+    let mut memory = memory_of(rt.alloc(), 65_536)?;
+    poke(&mut memory, 0x2000, [7].to_vec(rt.alloc())?)?;
+    assert!(rt; memory.holds(0x1FFF, 0x3000));
+    if let Err(refusal) = memory.touch(0x1FFF, 0x3000) {
+        assert_eq!(rt; refusal, MemRefusal::Memory);
+    }
+    let mut out = [9; 3];
+    peek(&memory, 0x1FFF, &mut out)?;
+    assert_eq!(rt; out, [0, 7, 0]);
+    assert_eq!(rt; memory.len(), 65_536);
+    Ok(())
+}

@@ -1,0 +1,49 @@
+ghost use Rattle.std.specs.Prelude.{◌≡◌, ◌≤◌, length, vec_len};
+
+use crate::MOST_RECORD;
+use std::marker::Model;
+
+/// Old octets of guest memory, and the address where they lay.
+#[derive(Drop)]
+pub struct MemUndo {
+    addr: u64,
+    octets: Vec<u8>,
+}
+
+impl Model for MemUndo {
+    ghost use Rattle.std.specs.Prelude.{◌≤◌, length};
+    ghost use Rattle.em_mem.specs.declared.TheConstants.{MOST_RECORD};
+    ghost use Rattle.em_mem.specs.Memory.{Patch};
+
+    ghost Value = { Patch };
+
+    ghost view = { λ u. record { at = u.addr; octets = u.octets.items } };
+
+    ghost invariant = { λ u. length u.octets.items ≤ MOST_RECORD };
+}
+
+impl MemUndo {
+    /// A record of octets that lay from `addr` on. It takes no memory.
+    pub fn new(addr: u64, octets: Vec<u8>) -> MemUndo
+        requires { vec_len octets ≤ MOST_RECORD }
+        ensures { result ≡ record { at = addr; octets = octets.items } }
+    {
+        MemUndo { addr, octets }
+    }
+
+    /// How many octets it holds, at most 16,384.
+    pub fn len(&self) -> u32
+        ensures len { result ≡ length self.now.octets }
+        ensures most { result ≤ MOST_RECORD }
+    {
+        self.octets.len() as u32
+    }
+
+    /// The address and the octets.
+    pub(crate) fn into_parts(self) -> (u64, Vec<u8>)
+        ensures at { result.0 ≡ self.at }
+        ensures octets { result.1.items ≡ self.octets }
+    {
+        (self.addr, self.octets)
+    }
+}

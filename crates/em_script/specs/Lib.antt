@@ -1,0 +1,10 @@
+pub mod Names
+pub mod Arguments
+pub mod Orders
+pub mod Grammar
+pub mod Desk
+pub mod Registers
+pub mod Replies
+pub mod Played
+pub mod Summary
+pub mod Runs

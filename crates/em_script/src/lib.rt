@@ -1,0 +1,36 @@
+//! The script language: lines of text that say what to do with a machine, and the text that they
+//! print.
+//!
+//! A line ends at a newline; lines are numbered from 1. Its words stand between spaces, tabs and
+//! carriage returns. A line without a word, or whose first word begins with `#`, prints nothing.
+//!
+//! | Line | Prints |
+//! |---|---|
+//! | `r OFF` | the value of the register, in 8 digits |
+//! | `w OFF VAL`, `poke ADDR DATA` | `ok` |
+//! | `peek ADDR LEN`, LEN from 1 to 16,384 | the octets of guest memory |
+//! | `link up`, `link down` | `ok` |
+//! | `regs` | for each register that is not zero, by offset: the offset in 5 digits, a space, the value in 8 |
+//! | `line` | `0` or `1`: whether the interrupt line is asserted |
+//! | `back` | `ok`: the newest event was taken back |
+//! | `back N`, N from 1 to 65,536 | `back K`: K events were taken back, at most N |
+//!
+//! OFF and VAL have 1 to 8 hexadecimal digits, ADDR has 1 to 16, and DATA an even number, at least
+//! 2; LEN and N are decimal, with 1 to 7 digits. Hexadecimal is read in both cases and printed in
+//! upper case. What is refused prints `refused` and the name of the refusal. Any other line prints
+//! `bad line` and its number, and does nothing.
+#![tactic(auto)]
+
+mod answer;
+mod arguments;
+mod command;
+mod name;
+mod outcome;
+mod output;
+mod peek_len;
+mod registers;
+mod runner;
+mod session;
+
+pub use runner::{BenchFault, Summary, run};
+pub use session::Session;

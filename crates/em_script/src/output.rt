@@ -1,0 +1,109 @@
+//! Writing answers.
+ghost use Rattle.std.specs.Prelude.{◌≡◌, ◌++◌, IfOk};
+ghost use Rattle.em_text.specs.Writer.{Writes, hex_line_text, decimal_line_text};
+ghost use Rattle.em_script.specs.Replies.{answer_text, done_text, bit_text, refused_text, empty_text, bad_text, back_text};
+
+use crate::outcome::Outcome;
+use em_step::{Answer, Refusal};
+use em_text::{WriteFailed, write_decimal_line, write_octets_line, write_value, write_whole};
+use std::io::Write;
+
+/// What a performed event answered.
+pub fn write_answer<W: Write>(writer: &mut W, answer: Answer) -> Result<Outcome, WriteFailed>
+    ensures text { Writes (W.contents writer.old) (W.contents writer.new) result (answer_text answer) }
+    ensures outcome { IfOk result (λ outcome. outcome ≡ Outcome.Done) }
+{
+    match answer {
+        Answer::Done => write_done(writer),
+        Answer::Value(value) => {
+            write_value(writer, value)?;
+            Ok(Outcome::Done)
+        }
+    }
+}
+
+/// That something was done.
+pub fn write_done<W: Write>(writer: &mut W) -> Result<Outcome, WriteFailed>
+    ensures text { Writes (W.contents writer.old) (W.contents writer.new) result done_text }
+    ensures outcome { IfOk result (λ outcome. outcome ≡ Outcome.Done) }
+{
+    write_whole(writer, b"ok\n")?;
+    Ok(Outcome::Done)
+}
+
+/// Octets that were looked at.
+pub fn write_octets<W: Write>(writer: &mut W, octets: &[u8]) -> Result<Outcome, WriteFailed>
+    ensures text { Writes (W.contents writer.old) (W.contents writer.new) result (hex_line_text octets.now) }
+    ensures outcome { IfOk result (λ outcome. outcome ≡ Outcome.Done) }
+{
+    write_octets_line(writer, octets)?;
+    Ok(Outcome::Done)
+}
+
+/// A bit that was looked at.
+pub fn write_bit<W: Write>(writer: &mut W, bit: bool) -> Result<Outcome, WriteFailed>
+    ensures text { Writes (W.contents writer.old) (W.contents writer.new) result (bit_text bit) }
+    ensures outcome { IfOk result (λ outcome. outcome ≡ Outcome.Done) }
+{
+    let text: &[u8] = if bit { b"1\n" } else { b"0\n" };
+    write_whole(writer, text)?;
+    Ok(Outcome::Done)
+}
+
+/// How many events were taken back.
+pub fn write_back<W: Write>(writer: &mut W, count: u32) -> Result<Outcome, WriteFailed>
+    ensures text { Writes (W.contents writer.old) (W.contents writer.new) result (back_text count) }
+    ensures outcome { IfOk result (λ outcome. outcome ≡ Outcome.Done) }
+{
+    write_numbered(writer, b"back ", count)?;
+    Ok(Outcome::Done)
+}
+
+/// That the line of this number has no form.
+pub fn write_bad<W: Write>(writer: &mut W, number: u32) -> Result<Outcome, WriteFailed>
+    ensures text { Writes (W.contents writer.old) (W.contents writer.new) result (bad_text number) }
+    ensures outcome { IfOk result (λ outcome. outcome ≡ Outcome.Bad) }
+{
+    write_numbered(writer, b"bad line ", number)?;
+    Ok(Outcome::Bad)
+}
+
+/// Why an event or a look at memory was refused.
+pub fn write_refused<W: Write>(writer: &mut W, refusal: Refusal) -> Result<Outcome, WriteFailed>
+    ensures text { Writes (W.contents writer.old) (W.contents writer.new) result (refused_text refusal) }
+    ensures outcome { IfOk result (λ outcome. outcome ≡ Outcome.Refused) }
+{
+    write_whole(writer, refused_line(refusal))?;
+    Ok(Outcome::Refused)
+}
+
+/// That there was nothing to take back.
+pub fn write_empty<W: Write>(writer: &mut W) -> Result<Outcome, WriteFailed>
+    ensures text { Writes (W.contents writer.old) (W.contents writer.new) result empty_text }
+    ensures outcome { IfOk result (λ outcome. outcome ≡ Outcome.Refused) }
+{
+    write_whole(writer, b"refused Empty\n")?;
+    Ok(Outcome::Refused)
+}
+
+/// A line that ends in a number.
+fn write_numbered<W: Write>(writer: &mut W, words: &[u8], number: u32) -> Result<(), WriteFailed>
+    ensures { Writes (W.contents writer.old) (W.contents writer.new) result (words.now ++ decimal_line_text number) }
+{
+    write_whole(writer, words)?;
+    write_decimal_line(writer, number)
+}
+
+fn refused_line(refusal: Refusal) -> &'static [u8]
+    ensures { result.now ≡ refused_text refusal }
+{
+    match refusal {
+        Refusal::NoRegister => b"refused NoRegister\n",
+        Refusal::Range => b"refused Range\n",
+        Refusal::Length => b"refused Length\n",
+        Refusal::DmaRange => b"refused DmaRange\n",
+        Refusal::Extended => b"refused Extended\n",
+        Refusal::TooLong => b"refused TooLong\n",
+        Refusal::Memory => b"refused Memory\n",
+    }
+}

@@ -1,0 +1,7 @@
+pub mod State
+pub mod Access
+pub mod Cells
+pub mod Refusal
+pub mod Step
+pub mod Undoing
+pub mod Cost

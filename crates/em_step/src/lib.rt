@@ -1,0 +1,11 @@
+//! The adapter, one event at a time, and what takes each event back.
+#![tactic(auto)]
+
+mod adapter;
+mod event;
+pub mod laws;
+mod undo;
+
+pub use adapter::Adapter;
+pub use event::{Answer, Event, Refusal};
+pub use undo::{Kept, LEAST_COST, MOST_COST, Undo};

@@ -1,0 +1,5 @@
+pub mod DigitsLemmas
+pub mod LinesLemmas
+pub mod WordsLemmas
+pub mod NumbersLemmas
+pub mod WritingLemmas

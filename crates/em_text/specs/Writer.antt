@@ -1,0 +1,42 @@
+-- What a text that is written leaves in a writer, and the texts of octets and numbers.
+use Rattle.std.specs.Prelude.{ℕ, ◌<◌, List, ◌++◌, length, take, drop, Option, Result, MatchResult, codes, decimal}
+use Rattle.std.specs.Int.{w32, to_be_bytes}
+use Rattle.std.specs.Io.KnownBytes.{Appends}
+use Rattle.hex.specs.Hex.{encode_upper}
+use Rattle.em_text.specs.declared.writer.TheConstants.{HIGH_DIGITS}
+
+-- a front of the text was written, and not all of it
+abbrev pub WritesPart : Option (List ℕ) → Option (List ℕ) → List ℕ → Type 0
+WritesPart old new text = (n : ℕ) × (n < length text) × Appends old new (take n text)
+
+-- on `Ok` the text was written, on `Err` a front of it that is not all of it
+abbrev pub Writes : {T E : Type 0} → Option (List ℕ) → Option (List ℕ) → Result T E → List ℕ → Type 0
+Writes old new result text = MatchResult result (λ _. Appends old new text) (λ _. WritesPart old new text)
+
+-- octets in upper case digits, two for each
+abbrev pub hex_text : List ℕ → List ℕ
+hex_text octets = encode_upper octets
+
+-- a line of octets
+abbrev pub hex_line_text : List ℕ → List ℕ
+hex_line_text octets = hex_text octets ++ codes "\n"
+
+-- a value in 8 digits
+abbrev pub value_digits : ℕ → List ℕ
+value_digits value = hex_text (to_be_bytes w32 value)
+
+-- a line of a value
+abbrev pub value_text : ℕ → List ℕ
+value_text value = value_digits value ++ codes "\n"
+
+-- a line of a register: its offset in 5 digits, a space, and its value
+abbrev pub register_line_text : ℕ → ℕ → List ℕ
+register_line_text offset value = drop HIGH_DIGITS (value_digits offset) ++ codes " " ++ value_text value
+
+-- a number in decimal digits
+abbrev pub decimal_text : ℕ → List ℕ
+decimal_text number = decimal number
+
+-- a line of a number
+abbrev pub decimal_line_text : ℕ → List ℕ
+decimal_line_text number = decimal_text number ++ codes "\n"

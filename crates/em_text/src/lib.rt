@@ -1,0 +1,23 @@
+//! Octets of text, apart from any machine: the lines of a script, the words of a line, the numbers
+//! and octets that words write, a whole script from a reader, and texts to a writer.
+//!
+//! Nothing here but [`read_script`], [`octets_of`] and [`octets_into`] takes memory.
+#![tactic(auto)]
+
+mod digits;
+mod lines;
+mod numbers;
+mod reader;
+#[cfg(test)]
+mod tests;
+mod words;
+mod writer;
+
+pub use lines::next_line;
+pub use numbers::{decimal_number, hex_address, hex_number, octets_into, octets_of};
+pub use reader::{MOST_OCTETS, ReadFault, read_script};
+pub use words::Words;
+pub use writer::{
+    WriteFailed, write_decimal, write_decimal_line, write_octets, write_octets_line, write_pieces,
+    write_register_line, write_value, write_whole,
+};

@@ -1,0 +1,135 @@
+//! Texts to a writer, by calls of its `write` alone.
+ghost use Rattle.std.specs.Prelude.{◌≡◌, ◌*◌, ◌^◌, ◌<◌, length};
+ghost use Rattle.std.specs.List.{flat_map};
+ghost use Rattle.em_text.specs.Writer.{Writes, hex_text, hex_line_text, value_digits, value_text, register_line_text, decimal_text, decimal_line_text};
+
+use itoa::Buffer;
+use std::io::Write;
+
+const UPPER_DIGITS: &[u8; 16] = b"0123456789ABCDEF";
+
+/// How many octets are written as digits at once.
+const CHUNK_OCTETS: usize = 64;
+
+/// Two digits for each of those.
+const CHUNK_DIGITS: usize = 128;
+
+/// The digits of a 32-bit value.
+const VALUE_DIGITS: usize = 8;
+
+/// How many of them are 0 where the value is below 2^20.
+const HIGH_DIGITS: usize = 3;
+
+/// A writer failed, or took no octet.
+#[derive(Clone, Copy, Debug, PartialEq, Eq)]
+pub struct WriteFailed;
+
+/// Writes the text whole. A write that takes no octet is a fault.
+pub fn write_whole<W: Write>(writer: &mut W, text: &[u8]) -> Result<(), WriteFailed>
+    ensures writes { Writes (W.contents writer.old) (W.contents writer.new) result text.now }
+{
+    let mut done = 0;
+    while done < text.len() {
+        match writer.write(&text[done..]) {
+            Ok(0) => return Err(WriteFailed),
+            Ok(count) => done += count,
+            Err(_) => return Err(WriteFailed),
+        }
+    }
+    Ok(())
+}
+
+/// Writes pieces of a text, one after another.
+pub fn write_pieces<W: Write>(writer: &mut W, pieces: &[&[u8]]) -> Result<(), WriteFailed>
+    ensures writes { Writes (W.contents writer.old) (W.contents writer.new) result (flat_map (λ piece. piece.now) pieces.now) }
+{
+    for piece in pieces {
+        write_whole(writer, *piece)?;
+    }
+    Ok(())
+}
+
+/// Writes octets as hexadecimal digits in upper case, two for each.
+pub fn write_octets<W: Write>(writer: &mut W, octets: &[u8]) -> Result<(), WriteFailed>
+    ensures writes { Writes (W.contents writer.old) (W.contents writer.new) result (hex_text octets.now) }
+{
+    let mut digits = [0u8; CHUNK_DIGITS];
+    let mut rest = octets;
+    while !rest.is_empty() {
+        let (chunk, behind) = rest.split_at(rest.len().min(CHUNK_OCTETS));
+        let text = &mut digits[..2 * chunk.len()];
+        fill_digits(chunk, text);
+        write_whole(writer, text)?;
+        rest = behind;
+    }
+    Ok(())
+}
+
+/// Writes octets as hexadecimal digits in upper case, and a newline.
+pub fn write_octets_line<W: Write>(writer: &mut W, octets: &[u8]) -> Result<(), WriteFailed>
+    ensures writes { Writes (W.contents writer.old) (W.contents writer.new) result (hex_line_text octets.now) }
+{
+    write_octets(writer, octets)?;
+    write_whole(writer, b"\n")
+}
+
+/// Writes a value in 8 hexadecimal digits in upper case, and a newline.
+pub fn write_value<W: Write>(writer: &mut W, value: u32) -> Result<(), WriteFailed>
+    ensures writes { Writes (W.contents writer.old) (W.contents writer.new) result (value_text value) }
+{
+    let mut text = [b'\n'; VALUE_DIGITS + 1];
+    fill_digits(&value.to_be_bytes(), &mut text[..VALUE_DIGITS]);
+    write_whole(writer, &text)
+}
+
+/// Writes an offset below 2^20 in 5 hexadecimal digits, a space, a value in 8, and a newline.
+pub fn write_register_line<W: Write>(
+    writer: &mut W,
+    offset: u32,
+    value: u32,
+) -> Result<(), WriteFailed>
+    requires { offset < 2 ^ 20 }
+    ensures writes { Writes (W.contents writer.old) (W.contents writer.new) result (register_line_text offset value) }
+{
+    let offset = digits_of(offset);
+    let value = digits_of(value);
+    write_pieces(writer, &[&offset[HIGH_DIGITS..], b" ", &value, b"\n"])
+}
+
+/// Writes a number in decimal digits.
+pub fn write_decimal<W: Write>(writer: &mut W, number: u32) -> Result<(), WriteFailed>
+    ensures writes { Writes (W.contents writer.old) (W.contents writer.new) result (decimal_text number) }
+{
+    let mut buffer = Buffer::new();
+    write_whole(writer, buffer.format(number).as_bytes())
+}
+
+/// Writes a number in decimal digits, and a newline.
+pub fn write_decimal_line<W: Write>(writer: &mut W, number: u32) -> Result<(), WriteFailed>
+    ensures writes { Writes (W.contents writer.old) (W.contents writer.new) result (decimal_line_text number) }
+{
+    write_decimal(writer, number)?;
+    write_whole(writer, b"\n")
+}
+
+/// The 8 digits of a value.
+fn digits_of(value: u32) -> [u8; VALUE_DIGITS]
+    ensures { result ≡ value_digits value }
+{
+    let mut digits = [0; VALUE_DIGITS];
+    fill_digits(&value.to_be_bytes(), &mut digits);
+    digits
+}
+
+/// Two digits for each octet, the high four bits first.
+#[inline]
+fn fill_digits(octets: &[u8], digits: &mut [u8])
+    requires { length digits.old ≡ 2 * length octets.now }
+    ensures { digits.new ≡ hex_text octets.now }
+{
+    for i in 0..octets.len() {
+        let octet = octets[i];
+        digits[2 * i] = UPPER_DIGITS[(octet >> 4) as usize];
+        digits[2 * i + 1] = UPPER_DIGITS[(octet & 0x0f) as usize];
+    }
+}
