@@ -4,23 +4,9 @@
 //! the fault on standard error.
 #![tactic(auto)]
 
-use em_eeprom::Eeprom;
-use em_journal::{JournalRefusal, Machine};
-use em_mem::MemRefusal;
-use em_script::{BenchFault, Session, Summary, run};
-use em_step::Adapter;
-use std::alloc::Global;
+use em_script::{BenchFault, Session, Summary, run, standard_machine};
 use std::io::{self, BufWriter, Write};
 use std::process::ExitCode;
-
-/// How many octets the guest's memory has.
-const MEMORY: u64 = 65_536;
-
-/// The journal's budget, in octets of cost.
-const BUDGET: u64 = 1_048_576;
-
-/// The adapter's Ethernet address.
-const MAC: [u8; 6] = [0x52, 0x54, 0x00, 0x12, 0x34, 0x56];
 
 /// How many octets of text are written at a time.
 const WRITTEN_AT_ONCE: usize = 65_536;
@@ -45,8 +31,9 @@ fn main(rt: HostRuntime) -> io::Result<ExitCode> {
 /// Runs the script on a new machine. What was answered is written out whole, also where the run
 /// then stopped.
 fn bench(rt: &(impl Input + Print + AllocGlobal)) -> Result<Summary, BenchFault> {
-    let mut session = Session::new(new_machine(rt.alloc())?);
-    let Ok(mut writer) = BufWriter::with_capacity(rt.alloc(), WRITTEN_AT_ONCE, io::writer(rt)) else {
+    let mut session = Session::new(standard_machine(rt.alloc())?);
+    let Ok(mut writer) = BufWriter::with_capacity(rt.alloc(), WRITTEN_AT_ONCE, io::writer(rt))
+    else {
         return Err(BenchFault::Memory);
     };
     let ran = run(rt.alloc(), &mut rt.reader(), &mut writer, &mut session);
@@ -54,17 +41,4 @@ fn bench(rt: &(impl Input + Print + AllocGlobal)) -> Result<Summary, BenchFault>
         return Err(BenchFault::Write);
     }
     ran
-}
-
-fn new_machine(alloc: Global) -> Result<Machine, BenchFault> {
-    let adapter = match Adapter::new(alloc, MEMORY, Eeprom::of_mac(MAC)) {
-        Ok(adapter) => adapter,
-        Err(MemRefusal::Size) => unreachable!(),
-        Err(MemRefusal::Memory) => return Err(BenchFault::Memory),
-    };
-    match Machine::new(alloc, adapter, BUDGET) {
-        Ok(machine) => Ok(machine),
-        Err((_, JournalRefusal::Budget)) => unreachable!(),
-        Err((_, JournalRefusal::Memory)) => Err(BenchFault::Memory),
-    }
 }

@@ -5,22 +5,12 @@
 #![tactic(auto)]
 
 use anyhow::{Context, Result};
-use em_eeprom::Eeprom;
-use em_journal::Machine;
-use em_script::{Session, run};
-use em_step::Adapter;
-use std::alloc::Global;
+use em_script::{Session, run, standard_machine};
 use std::fs;
 use std::rt::Files;
 
-/// How many octets the guest's memory has.
-const MEMORY: u64 = 65_536;
-
-/// The journal's budget, in octets of cost.
-const BUDGET: u64 = 1_048_576;
-
-/// The adapter's Ethernet address.
-const MAC: [u8; 6] = [0x52, 0x54, 0x00, 0x12, 0x34, 0x56];
+#[cfg(test)]
+mod tests;
 
 fn main(rt: HostRuntime) -> Result<()> {
     let rows = fs::read_to_string(&rt, "rows").context("reading the names of the rows")?;
@@ -36,7 +26,7 @@ fn row(rt: &(impl Files + AllocGlobal), name: &str) -> Result<&'static str> {
     let alloc = rt.alloc();
     let script = fs::read(rt, format!(in alloc; "{name}/script")?).context("reading a script")?;
     let wanted = fs::read(rt, format!(in alloc; "{name}/stdout")?).context("reading a text")?;
-    let mut session = Session::new(new_machine(alloc)?);
+    let mut session = Session::new(standard_machine(alloc)?);
     let mut printed = Vec::new(alloc);
     let mut reader = script.as_slice();
     run(alloc, &mut reader, &mut printed, &mut session)?;
@@ -44,13 +34,5 @@ fn row(rt: &(impl Files + AllocGlobal), name: &str) -> Result<&'static str> {
         Ok("passed")
     } else {
         Ok("DIFFERS")
-    }
-}
-
-fn new_machine(alloc: Global) -> Result<Machine> {
-    let adapter = Adapter::new(alloc, MEMORY, Eeprom::of_mac(MAC))?;
-    match Machine::new(alloc, adapter, BUDGET) {
-        Ok(machine) => Ok(machine),
-        Err((_, refusal)) => Err(anyhow::anyhow!("no machine: {refusal:?}")),
     }
 }

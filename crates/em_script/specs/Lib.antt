@@ -3,6 +3,7 @@ pub mod Arguments
 pub mod Orders
 pub mod Grammar
 pub mod Desk
+pub mod Standard
 pub mod Registers
 pub mod Replies
 pub mod Played

@@ -31,6 +31,8 @@ mod peek_len;
 mod registers;
 mod runner;
 mod session;
+mod standard;
 
 pub use runner::{BenchFault, Summary, run};
 pub use session::Session;
+pub use standard::{BUDGET, MAC, MEMORY, standard_machine};

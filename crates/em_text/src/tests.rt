@@ -1,67 +1,9 @@
-ghost use Rattle.std.specs.Prelude.{Some};
-
 use crate::{
-    MOST_OCTETS, ReadFault, Words, WriteFailed, decimal_number, hex_address, hex_number, next_line,
-    octets_into, octets_of, read_script, write_decimal, write_decimal_line, write_octets,
-    write_octets_line, write_pieces, write_register_line, write_value, write_whole,
+    Words, WriteFailed, decimal_number, hex_address, hex_number, next_line, octets_into, octets_of,
+    read_script, write_decimal, write_decimal_line, write_octets, write_octets_line, write_pieces,
+    write_register_line, write_value, write_whole,
 };
-use std::io;
-use std::io::{ErrorKind, Read, Write};
 use std::test::Fail;
-
-/// Gives its octets `at_once` at a time, counts the reads, and fails at the read `fails_at`.
-#[derive(Drop)]
-struct Source<'a> {
-    octets: &'a [u8],
-    at_once: usize,
-    reads: u32,
-    fails_at: Option<u32>,
-}
-
-impl Read for Source<'_> {
-    fn read(&mut self, buf: &mut [u8]) -> io::Result<usize> {
-        self.reads = self.reads.saturating_add(1);
-        if self.fails_at == Some(self.reads) {
-            return Err(ErrorKind::Other.into());
-        }
-        let most = self.at_once.min(buf.len());
-        let mut from = &self.octets[..most.min(self.octets.len())];
-        let count = from.read(buf)?;
-        self.octets = &self.octets[count..];
-        Ok(count)
-    }
-}
-
-/// Takes `at_once` octets at a time, and fails, or takes nothing, at the write `fails_at`.
-#[derive(Drop)]
-struct Sink {
-    taken: Vec<u8>,
-    at_once: usize,
-    writes: u32,
-    fails_at: Option<u32>,
-    takes_none: bool,
-}
-
-impl Write for Sink {
-    ghost contents = { λ w. Some w.taken.items };
-
-    fn write(&mut self, buf: &[u8]) -> io::Result<usize> {
-        self.writes = self.writes.saturating_add(1);
-        if self.fails_at == Some(self.writes) {
-            if self.takes_none {
-                return Ok(0);
-            }
-            return Err(ErrorKind::BrokenPipe.into());
-        }
-        let count = self.at_once.min(buf.len());
-        self.taken.extend_from_slice(&buf[..count])?;
-        Ok(count)
-    }
-
-    fn flush(&mut self) -> io::Result<()> {
-        Ok(())
-    }
-}
 
 #[test]
 fn cuts_lines_and_words(rt: HostRuntime) -> Result<(), Fail> {
@@ -149,127 +91,35 @@ fn reads_octets(rt: HostRuntime) -> Result<(), Fail> {
 }
 
 #[test]
-fn reads_to_the_end(rt: HostRuntime) -> Result<(), Fail> {
-    let script = b"r 8\nw 0 1\nline";
-    for at_once in [1usize, 5, 100] {
-        let mut source = Source {
-            octets: script,
-            at_once,
-            reads: 0,
-            fails_at: None,
-        };
-        match read_script(rt.alloc(), &mut source) {
-            Ok(read) => assert_eq!(rt; read.as_slice(), script.as_slice()),
-            Err(fault) => assert_eq!(rt; fault, ReadFault::Memory),
-        }
-        for fails_at in 1..source.reads {
-            let mut source = Source {
-                octets: script,
-                at_once,
-                reads: 0,
-                fails_at: Some(fails_at),
-            };
-            let fault = read_script(rt.alloc(), &mut source).err();
-            assert!(rt; fault == Some(ReadFault::Read) || fault == Some(ReadFault::Memory));
-        }
-    }
-    Ok(())
-}
-
-#[test]
-fn reads_no_more_than_the_most(rt: HostRuntime) -> Result<(), Fail> {
-    for (count, at_once, reads, fits) in [
-        (MOST_OCTETS, 1usize, 4_194_305u32, true),
-        (MOST_OCTETS, 1_000_000, 65, true),
-        (MOST_OCTETS + 1, 1_000_000, 65, false),
-    ] {
-        let octets = vec![in rt.alloc(); b'\n'; count]?;
-        let mut source = Source {
-            octets: octets.as_slice(),
-            at_once,
-            reads: 0,
-            fails_at: None,
-        };
-        match read_script(rt.alloc(), &mut source) {
-            Ok(script) => {
-                assert!(rt; fits);
-                assert_eq!(rt; script.len(), count);
-                assert_eq!(rt; source.reads, reads);
-            }
-            Err(ReadFault::TooLarge) => {
-                assert!(rt; !fits);
-                assert_eq!(rt; source.reads, reads);
-            }
-            Err(fault) => assert_eq!(rt; fault, ReadFault::Memory),
-        }
+fn reads_a_script(rt: HostRuntime) -> Result<(), Fail> {
+    let mut source = b"r 8\nline".as_slice();
+    match read_script(rt.alloc(), &mut source) {
+        Ok(script) => assert_eq!(rt; script.as_slice(), b"r 8\nline".as_slice()),
+        Err(_) => assert!(rt; false),
     }
     Ok(())
 }
 
 /// Each writing call once.
-fn write_all_forms(sink: &mut Sink) -> Result<(), WriteFailed> {
-    write_whole(sink, b"ok\n")?;
-    write_pieces(sink, &[b"refused ", b"", b"Range\n"])?;
-    write_octets(sink, &[0x00, 0x9A, 0xBC, 0xFF])?;
-    write_octets_line(sink, &[0xDE; 65])?;
-    write_value(sink, 0xDEAD_0042)?;
-    write_register_line(sink, 0x5_28FC, 0xABCD)?;
-    write_decimal(sink, 0)?;
-    write_decimal_line(sink, u32::MAX)
+fn write_all_forms(text: &mut Vec<u8>) -> Result<(), WriteFailed> {
+    write_whole(text, b"ok\n")?;
+    write_pieces(text, &[b"refused ", b"", b"Range\n"])?;
+    write_octets(text, &[0x00, 0x9A, 0xBC, 0xFF])?;
+    write_octets_line(text, &[0xDE; 65])?;
+    write_value(text, 0xDEAD_0042)?;
+    write_register_line(text, 0x5_28FC, 0xABCD)?;
+    write_decimal(text, 0)?;
+    write_decimal_line(text, u32::MAX)
 }
-
-const START: &[u8] = b"ok\nrefused Range\n009ABCFF";
-
-const END: &[u8] = b"DE\nDEAD0042\n528FC 0000ABCD\n04294967295\n";
 
 #[test]
 fn writes_texts(rt: HostRuntime) -> Result<(), Fail> {
-    for at_once in [1usize, 7, 1_000] {
-        let mut sink = Sink {
-            taken: Vec::new(rt.alloc()),
-            at_once,
-            writes: 0,
-            fails_at: None,
-            takes_none: false,
-        };
-        let result = write_all_forms(&mut sink);
-        if result.is_ok() {
-            assert!(rt; sink.taken.as_slice().starts_with(START));
-            assert!(rt; sink.taken.as_slice().ends_with(END));
-            assert_eq!(rt; sink.taken.len(), START.len() + 2 * 64 + END.len());
-        }
-    }
-    Ok(())
-}
-
-#[test]
-fn stops_at_each_write(rt: HostRuntime) -> Result<(), Fail> {
-    let mut whole = Sink {
-        taken: Vec::new(rt.alloc()),
-        at_once: 7,
-        writes: 0,
-        fails_at: None,
-        takes_none: false,
-    };
-    let _ = write_all_forms(&mut whole);
-    for takes_none in [false, true] {
-        for fails_at in 1..whole.writes.saturating_add(1) {
-            let mut sink = Sink {
-                taken: Vec::new(rt.alloc()),
-                at_once: 7,
-                writes: 0,
-                fails_at: Some(fails_at),
-                takes_none,
-            };
-            assert_eq!(rt;
-                write_all_forms(&mut sink),
-                Err(WriteFailed),
-                "at {fails_at}"
-            );
-            assert!(rt; whole.taken.as_slice().starts_with(sink.taken.as_slice()));
-            assert!(rt; sink.taken.len() < whole.taken.len() || whole.taken.is_empty());
-            assert!(rt; sink.writes <= fails_at);
-        }
-    }
+    let start = b"ok\nrefused Range\n009ABCFF".as_slice();
+    let end = b"DE\nDEAD0042\n528FC 0000ABCD\n04294967295\n".as_slice();
+    let mut text = Vec::new(rt.alloc());
+    assert_eq!(rt; write_all_forms(&mut text), Ok(()));
+    assert!(rt; text.as_slice().starts_with(start));
+    assert!(rt; text.as_slice().ends_with(end));
+    assert_eq!(rt; text.len(), start.len() + 2 * 64 + end.len());
     Ok(())
 }
