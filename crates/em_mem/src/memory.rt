@@ -1,3 +1,4 @@
+//! Guest memory: the octets of the guest, and which of its pages are made.
 ghost use Rattle.std.specs.Prelude.{◌≡◌, ◌+◌, ◌%◌, ◌≤◌, ◌<◌, ◌↔◌, IfOk, IfErr, IsErrOf, IsOk, IsTrue, IsSome, IfSome, OnOk, length};
 ghost use Rattle.em_mem.specs.Memory.{Fits, IsHeld, IsInOnePage, IsMade, IsMemorySize, MakesOnly, More, fresh, part, put, undo as undone_by};
 

@@ -1,3 +1,4 @@
+//! One page of guest memory, made or not.
 ghost use Rattle.std.specs.Prelude.{◌≡◌, ◌+◌, ◌≤◌, IfOk, IsOk, OnOk, length, true};
 ghost use Rattle.em_mem.specs.Memory.{part, put};
 ghost use Rattle.em_mem.specs.Pages.{zero_page, page_octets, is_made};

@@ -1,3 +1,4 @@
+//! What it means to take a change back.
 ghost use Rattle.std.specs.Prelude.{◌≡◌};
 
 /// A part of the model whose changes give out records, by which they are taken back.

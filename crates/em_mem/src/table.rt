@@ -1,3 +1,4 @@
+//! The table of pages, of which one is read, written or made.
 ghost use Rattle.std.specs.Prelude.{◌≡◌, ◌+◌, ◌*◌, ◌<◌, ◌≤◌, ◌⊎◌, ℕ, IfOk, IsOk, OnOk, length, replicate, None};
 ghost use Rattle.em_mem.specs.Memory.{part, put};
 ghost use Rattle.em_mem.specs.Pages.{table_octets, table_made, AllMade, AllWhole, IsMadeAt};

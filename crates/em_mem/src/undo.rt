@@ -1,3 +1,4 @@
+//! The record of a write to guest memory.
 ghost use Rattle.std.specs.Prelude.{◌≡◌, ◌≤◌, length, vec_len};
 
 use crate::MOST_RECORD;
