@@ -71,7 +71,7 @@ abbrev pub undo : Cells → Patch → Cells
 undo c p = record c { octets = put c.octets p.at p.octets }
 
 -- d is c, but that d may have more pages made
-pub record More (c d : Cells) : Type 0 where
+pub record MorePages (c d : Cells) : Type 0 where
   pub octets : d.octets ≡ c.octets
   pub made : (p : ℕ) → IsPageMade c p → IsPageMade d p
 

@@ -1,6 +1,6 @@
 //! Guest memory: the octets of the guest, and which of its pages are made.
 ghost use Rattle.std.specs.Prelude.{◌≡◌, ◌+◌, ◌%◌, ◌≤◌, ◌<◌, ◌↔◌, IfOk, IfErr, IsErrOf, IsOk, IsTrue, IsSome, IfSome, OnOk, length};
-ghost use Rattle.em_mem.specs.Memory.{Fits, IsHeld, IsInOnePage, IsMade, IsMemorySize, MakesOnly, More, fresh, part, put, undo as undone_by};
+ghost use Rattle.em_mem.specs.Memory.{Fits, IsHeld, IsInOnePage, IsMade, IsMemorySize, MakesOnly, MorePages, fresh, part, put, undo as undone_by};
 
 use crate::page::Page;
 use crate::{MOST_OCTETS, MemRefusal, MemUndo, PAGE_OCTETS, Reversible, page, table};
@@ -103,7 +103,7 @@ impl GuestMemory {
     /// where all pages of the range are made already.
     pub fn touch(&mut self, addr: u64, len: u64) -> Result<(), MemRefusal>
         requires { IsHeld self.old.octets addr len }
-        ensures more { More self.old self.new }
+        ensures more { MorePages self.old self.new }
         ensures made { OnOk result (IsMade self.new addr len) }
         ensures only { MakesOnly self.old self.new addr len }
         ensures ready { IsMade self.old addr len → IsOk result }
