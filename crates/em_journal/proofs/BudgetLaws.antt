@@ -1,5 +1,6 @@
 -- How many records a budget holds.
-use Rattle.std.proofs.Common.{◌≡◌, ℕ, ◌+◌, ◌-◌, ◌*◌, ◌/◌, ◌≤◌, ◌<◌, zero, suc, List, [], ◌∷◌, length, take, refl, ap, ◌∙◌, sym, arith, Some, ◌⊎◌, inl, inr}
+use Rattle.std.proofs.Common.{◌≡◌, ℕ, ◌+◌, ◌-◌, ◌*◌, ◌/◌, ◌≤◌, ◌<◌, zero, suc, List, [], ◌∷◌, length, take, Some}
+use Rattle.std.proofs.Common.{◌⊎◌, inl, inr, refl, ap, ◌∙◌, sym, arith}
 use Rattle.std.specs.Prelude.{slice_get, sum}
 use Rattle.std.proofs.lemmas.Bool.Decides.{nat_tests}
 use Rattle.std.proofs.lemmas.List.{length-take-le, take-take}
@@ -109,7 +110,8 @@ reach_less_by room r n cs h (inr e) over = absurd (omega (arith, h, over, ap (λ
 
 -- while what is left costs more than the room, the reach lies below it
 pub reach_less : (room : ℕ) (xs ys : List Undo)
-    → ys ≡ take (length ys) xs → reach room (costs_of xs) ≤ length ys → room < sum (costs_of ys) → reach room (costs_of xs) < length ys
+    → ys ≡ take (length ys) xs → reach room (costs_of xs) ≤ length ys → room < sum (costs_of ys)
+    → reach room (costs_of xs) < length ys
 reach_less room xs ys are l over =
     reach_less_by room (reach room (costs_of xs)) (length ys) (costs_of xs)
     (reach_within room (costs_of xs)) (less_or_same l) (omega (arith, over, left_cost xs ys are))
@@ -131,8 +133,8 @@ pub has_place : {budget capacity cost : ℕ} (mid : List Undo) → 32 ≤ cost �
     → sum (costs_of mid) ≤ budget - cost → capacity ≡ budget / 32 → length mid < capacity
 has_place mid least l within places = omega (arith, sum_least mid)
 
-pub newest_first : {budget cost : ℕ} (rs : List Undo) {mid new : List Undo} {r : Undo} → cost ≡ cost_of r → cost ≤ budget
-    → mid ≡ take (reach (budget - cost) (costs_of rs)) rs → new ≡ r ∷ mid
+pub newest_first : {budget cost : ℕ} (rs : List Undo) {mid new : List Undo} {r : Undo}
+    → cost ≡ cost_of r → cost ≤ budget → mid ≡ take (reach (budget - cost) (costs_of rs)) rs → new ≡ r ∷ mid
     → new ≡ take (reach budget (cost_of r ∷ costs_of rs)) (r ∷ rs)
 newest_first {budget} {cost} rs {r = r} same l kept is =
     is ∙ ap (λ xs. r ∷ xs) kept ∙ ap (λ n. take n (r ∷ rs)) (sym (reach_first budget cost (costs_of rs) l))

@@ -1,5 +1,6 @@
 -- A chain of records that is cut, or that grows.
-use Rattle.std.proofs.Common.{◌≡◌, ℕ, ◌+◌, ◌≤◌, ◌/◌, zero, suc, List, [], ◌∷◌, length, take, refl, ap, ◌∙◌, sym, arith, subst}
+use Rattle.std.proofs.Common.{◌≡◌, ℕ, ◌+◌, ◌≤◌, ◌/◌, zero, suc, List, [], ◌∷◌, length, take}
+use Rattle.std.proofs.Common.{refl, ap, ◌∙◌, sym, arith, subst}
 use Rattle.std.specs.Prelude.{Result, Ok, Err, IfErr, sum}
 use Rattle.em_step.proofs.MadePages.{fits_after, undo_after, shows_after}
 use Rattle.em_step.specs.Cells.{Cells, shows, MorePages}

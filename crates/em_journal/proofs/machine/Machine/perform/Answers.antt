@@ -2,7 +2,8 @@ use Rattle.std.proofs.Common.{sym, ap, ◌∙◌, arith, rules, length}
 use Rattle.std.specs.Prelude.{IfErr}
 use Rattle.em_step.specs.Event.{plain}
 use Rattle.em_step.specs.Step.{step, Refuses}
-use Rattle.em_journal.proofs.RecordsLaws.{view_event, journal_event, journal_same, view_same, refusal_does, length-back_through}
+use Rattle.em_journal.proofs.RecordsLaws.{view_event, journal_event, length-back_through}
+use Rattle.em_journal.proofs.RecordsLaws.{view_same, journal_same, refusal_does}
 use Rattle.em_journal.proofs.BudgetLaws.{newest_first, has_place}
 use Rattle.em_journal.proofs.machine.Machine.perform.Goals as goal
 
