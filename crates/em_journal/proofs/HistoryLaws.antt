@@ -56,7 +56,7 @@ stands_event {budget} {s} {events} {costs} {v} {w} e h does =
     let n = reach v.budget (cost v.present e ∷ v.costs) in
     let led : w.present ≡ state s (events ++ e ∷ [])
     = ap (after_step v.present) (sym does.0) ∙ ap (λ p. after_step p (step p e)) h.present
-      ∙ sym (state-push s events e) in
+    ∙ sym (state-push s events e) in
     let some : 0 < length (events ++ e ∷ []) = omega (arith, length_push events e) in
     let here = h.present ∙ ap (state s) (sym (without_last-push events e)) in
     let rest = subst (IsHistory s v.past) (sym (without_last-push events e)) h.past in
@@ -65,13 +65,13 @@ stands_event {budget} {s} {events} {costs} {v} {w} e h does =
     let costs_many = ap (λ x. length x.costs) does.1 ∙ length-take n (cost v.present e ∷ v.costs) in
     let held : w.costs ≡ costs_within budget (cost (state s events) e ∷ costs)
     = ap (λ x. x.costs) does.1 ∙ ap (λ b. costs_within b (cost v.present e ∷ v.costs)) h.budget_is
-      ∙ ap (λ p. costs_within budget (cost p e ∷ v.costs)) h.present
-      ∙ ap (λ cs. costs_within budget (cost (state s events) e ∷ cs)) h.costs_are in
+    ∙ ap (λ p. costs_within budget (cost p e ∷ v.costs)) h.present
+    ∙ ap (λ cs. costs_within budget (cost (state s events) e ∷ cs)) h.costs_are in
     record {
       budget_is = ap (λ x. x.budget) does.1 ∙ h.budget_is;
       present = led;
       past = subst (λ x. IsHistory s x.past (events ++ e ∷ [])) (sym does.1)
-        (IsHistory-take n s (states v) (events ++ e ∷ []) all);
+          (IsHistory-take n s (states v) (events ++ e ∷ []) all);
       costs_are = held;
       many = omega (arith, past, costs_many, h.many);
     }

@@ -40,5 +40,5 @@ pub returns-clause-items : goal.returns-clause-items
 returns-clause-items c =
     let here = c.loop-used.invariant in
     let items = left_is_reach c.args.room c.args.records.now.items c.loop-used.records.items
-      here.kept here.reached here.short (omega arith) in
+    here.kept here.reached here.short (omega arith) in
     λ i. buffer (items i) (here.places i)
