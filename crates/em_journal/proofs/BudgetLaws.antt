@@ -6,7 +6,7 @@ use Rattle.std.proofs.lemmas.Bool.Decides.{nat_tests}
 use Rattle.std.proofs.lemmas.List.{length-take-le, take-take}
 use Rattle.std.proofs.lemmas.List.Sums.{sum_by-cons}
 use Rattle.circular_buffer.specs.Buffer.{last_item}
-use Rattle.em_step.specs.Cost.{cost_of}
+use Rattle.em_step.specs.Cost.{least_cost, cost_of}
 use Rattle.em_step.specs.declared.undo.Undo.{Undo}
 use Rattle.em_step.proofs.CostLaws.{cost_of_least}
 use Rattle.em_journal.specs.Records.{costs_of}
@@ -80,7 +80,7 @@ pub sum_without_last : (rs : List Undo) (r : Undo)
 sum_without_last rs r some is = sum_without_last_at rs (length rs - 1) r (omega arith) is
 
 -- no record costs less than the least
-pub sum_least : (rs : List Undo) → 32 * length rs ≤ sum (costs_of rs)
+pub sum_least : (rs : List Undo) → least_cost * length rs ≤ sum (costs_of rs)
 sum_least [] = omega arith
 sum_least (r ∷ rs) = omega (arith, cost_of_least r, sum_least rs, sum_cons (cost_of r) (costs_of rs))
 
@@ -129,8 +129,8 @@ left_is_reach room xs ys are l short within =
 
 -- ---- a record that comes first, once those have gone whose room it needs
 
-pub has_place : {budget capacity cost : ℕ} (mid : List Undo) → 32 ≤ cost → cost ≤ budget
-    → sum (costs_of mid) ≤ budget - cost → capacity ≡ budget / 32 → length mid < capacity
+pub has_place : {budget capacity cost : ℕ} (mid : List Undo) → least_cost ≤ cost → cost ≤ budget
+    → sum (costs_of mid) ≤ budget - cost → capacity ≡ budget / least_cost → length mid < capacity
 has_place mid least l within places = omega (arith, sum_least mid)
 
 pub newest_first : {budget cost : ℕ} (rs : List Undo) {mid new : List Undo} {r : Undo}

@@ -20,7 +20,7 @@ invariant_of-self-2 c =
     let places = ap (λ b. b.capacity) c.put_newest.ensures.items ∙ ap (λ b. b.capacity) c.drop_oldest-kept.ensures.items
     ∙ c.self.invariant.places in
     journal_event c.drop_oldest-kept.new.records.items
-    (record { kept = kept; fits = c.in_ok-answer.ensures.fits; restores = c.in_ok-answer.ensures.restores })
+    (record { kept = kept; reverses = c.in_ok-answer.ensures.reverses })
     new c.self.invariant.fit (omega arith) (omega arith) places c.self.invariant.allowed
 
 pub returns-clause-ok : goal.returns-clause-ok
@@ -30,7 +30,7 @@ returns-clause-ok c =
     let kept = newest_first c.self.inside.records.items (omega (arith, c.cost.ensures.cost)) (omega arith) mid new in
     let answer = ap (λ v. step v.present (plain c.args.event)) (sym c.self.view_is) ∙ c.in_ok-answer.ensures.ok in
     let view = view_event (plain c.args.event)
-    (record { kept = kept; fits = c.in_ok-answer.ensures.fits; restores = c.in_ok-answer.ensures.restores })
+    (record { kept = kept; reverses = c.in_ok-answer.ensures.reverses })
     c.in_ok-answer.ensures.cost c.self.view_is in
     (answer, view)
 
