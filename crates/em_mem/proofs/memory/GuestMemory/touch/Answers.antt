@@ -16,4 +16,5 @@ returns-in_err-make_pages-clause-ready c =
     let here = subst (λ v. IsMade v c.args.addr c.args.len) (sym c.self.view_is) made in
     let made_at = made_page_of (table_made c.self.inside.pages.items) c.args.addr c.args.len in
     absurd (false≢true (c.in_err-make_pages.ensures.ready
-    (λ p low high. subst (λ pages. IsMadeAt pages p) (sym c.as_mut_slice.ensures.value) (made_at p here (omega arith, omega arith, omega arith)))))
+    (λ p low high. subst (λ pages. IsMadeAt pages p) (sym c.as_mut_slice.ensures.value)
+    (made_at p here (omega arith, omega arith, omega arith)))))
