@@ -1,5 +1,21 @@
 -- What an access of a latched register gives and does.
-use Rattle.std.specs.Prelude.{◌≡◌, ◌≢◌, ℕ, ◌-◌, Bool, true, false, List, [], ◌∷◌, IsTrue, bit_and, bit_or, length, replicate}
+use Rattle.std.specs.Prelude.{
+  ◌≡◌,
+  ◌≢◌,
+  ℕ,
+  ◌-◌,
+  Bool,
+  true,
+  false,
+  List,
+  [],
+  ◌∷◌,
+  IsTrue,
+  bit_and,
+  bit_or,
+  length,
+  replicate,
+}
 use Rattle.std.specs.FinMap as map
 use Rattle.em_regs.specs.declared.reg.Reg.{Reg}
 use Rattle.em_regs.specs.declared.reg.Reg.TheVariants.{Icr, Ics, Ims, Imc, Gorcl, Gorch, Gotcl, Gotch}

@@ -4,8 +4,8 @@ ghost use Rattle.std.specs.FinMap as map;
 ghost use Rattle.em_regs.specs.Table.{offset_of};
 ghost use Rattle.em_regs.specs.RegFile as registers;
 ghost use Rattle.em_latch.specs.Storage.{offsets};
-ghost use Rattle.em_latch.specs.Latches.{fresh, is_latched, IsLatched, IsWord, gives, after_read, after_write, after_raise};
-ghost use Rattle.em_latch.specs.Latches.{IsAsserted, Fits, undo, Reverses};
+ghost use Rattle.em_latch.specs.Latches.{fresh, is_latched, IsLatched, IsWord, gives, after_read, after_write};
+ghost use Rattle.em_latch.specs.Latches.{after_raise, IsAsserted, Fits, undo, Reverses};
 ghost use Rattle.em_latch.specs.Counter.{after_count, after_pair_count};
 
 use crate::counter::Counter;
