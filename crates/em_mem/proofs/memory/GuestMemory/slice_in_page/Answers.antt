@@ -33,5 +33,6 @@ returns c =
     let count : at + c.args.len - at ≡ c.args.len = omega arith in
     ap (λ n. take n (drop at c.octets-octets.result.now)) count
     ∙ ap (λ m. part m at c.args.len) (c.octets-octets.ensures ∙ ap page_octets c.index.ensures)
-    ∙ sym (part_at c.self.inside.pages.items c.args.addr c.args.len c.index.result.now c.self.invariant.whole index c.requires.one)
+    ∙ sym (part_at c.self.inside.pages.items c.args.addr c.args.len c.index.result.now
+    c.self.invariant.whole index c.requires.one)
     ∙ ap (λ v. part v.octets c.args.addr c.args.len) c.self.view_is

@@ -8,7 +8,8 @@ use Rattle.em_mem.proofs.memory.GuestMemory.touch.Goals as goal
 
 pub make_pages-requires-clause-last : goal.make_pages-requires-clause-last
 make_pages-requires-clause-last c =
-    omega (arith, ap length c.as_mut_slice.ensures.value, length-table_octets c.self.inside.pages.items c.self.invariant.whole, ap (λ v. length v.octets) c.self.view_is)
+    let octets = length-table_octets c.self.inside.pages.items c.self.invariant.whole in
+    omega (arith, ap length c.as_mut_slice.ensures.value, octets, ap (λ v. length v.octets) c.self.view_is)
 
 pub returns-in_err-make_pages-clause-ready : goal.returns-in_err-make_pages-clause-ready
 returns-in_err-make_pages-clause-ready c =
