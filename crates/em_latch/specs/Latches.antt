@@ -74,9 +74,13 @@ gives m Ics = 0
 gives m Imc = 0
 gives m reg = at m (offset_of reg)
 
+-- both halves of a pair written
+abbrev pub after_pair_write : Registers → Reg → Reg → ℕ → ℕ → Registers
+after_pair_write m low high v w = map.insert (map.insert m (offset_of low) v) (offset_of high) w
+
 -- both halves of a pair cleared
 abbrev pub after_pair_clear : Registers → Reg → Reg → Registers
-after_pair_clear m low high = map.insert (map.insert m (offset_of low) 0) (offset_of high) 0
+after_pair_clear m low high = after_pair_write m low high 0 0
 
 -- a read of the causes or a counter clears it; of a pair, the read of the high half clears both
 abbrev pub after_read : Registers → Reg → Registers
