@@ -1,0 +1,53 @@
+-- What a record says, when it can be said of cells, and what it puts back.
+use Rattle.std.specs.Prelude.{◌≡◌, ℕ, ◌<◌, ◌≤◌, List, length, set}
+use Rattle.em_mem.specs.Memory as memory
+use Rattle.em_rx.specs.Ring.{ring_put}
+use Rattle.em_rx.specs.Fifo.{Cells, IsSound}
+use Rattle.em_rx.specs.FramePatch.{FramePatch}
+use Rattle.em_rx.specs.declared.undo.RxUndo.{RxUndo}
+use Rattle.em_rx.specs.declared.undo.RxUndo.TheVariants.{Nothing, Place, Frame}
+
+-- the cells with the patch put in
+abbrev pub with_patch : Cells → FramePatch → Cells
+with_patch c p = record {
+  octets = ring_put c.octets p.at p.octets;
+  entries = set c.entries p.index p.entry;
+  places = p.places;
+}
+
+-- the patch lies in the buffer and in the ring, and with it the places agree with the entries
+pub record FitsFrame (c : Cells) (p : FramePatch) : Type 0 where
+  pub at : p.at ≤ length c.octets
+  pub size : length p.octets ≤ length c.octets
+  pub index : p.index < length c.entries
+  pub sound : IsSound (with_patch c p)
+
+-- the record's cells lie in the FIFO's and in guest memory
+abbrev pub Fits : Cells → memory.Cells → RxUndo → Type 0
+Fits c m Nothing = Unit {0}
+Fits c m (Place places) = IsSound (record c { places = places })
+Fits c m (Frame patch) = FitsFrame c patch
+
+-- the FIFO's cells with those of the record put back
+abbrev pub undo_fifo : Cells → RxUndo → Cells
+undo_fifo c Nothing = c
+undo_fifo c (Place places) = record c { places = places }
+undo_fifo c (Frame patch) = with_patch c patch
+
+-- guest memory with the record's octets put back
+abbrev pub undo_memory : memory.Cells → RxUndo → memory.Cells
+undo_memory m Nothing = m
+undo_memory m (Place places) = m
+undo_memory m (Frame patch) = m
+
+-- how many octets the record holds
+abbrev pub octets_held : RxUndo → ℕ
+octets_held Nothing = 0
+octets_held (Place places) = 0
+octets_held (Frame patch) = length patch.octets
+
+-- the record takes back the change from the old cells and memory to the new ones
+pub record Reverses (old new : Cells) (before after : memory.Cells) (r : RxUndo) : Type 0 where
+  pub fits : Fits new after r
+  pub fifo : undo_fifo new r ≡ old
+  pub memory : undo_memory after r ≡ before

@@ -1,0 +1,189 @@
+//! The FIFO: frames that lie end to end in one packet buffer.
+ghost use Rattle.std.specs.Prelude.{◌≡◌, ◌↔◌, ◌≤◌, IfOk, IfErr, IsTrue, OnOk, OnErr, length};
+ghost use Rattle.em_mem.specs.Memory as memory;
+ghost use Rattle.em_rx.specs.Frame.{stored_frame};
+ghost use Rattle.em_rx.specs.Fifo.{after_arrival, empty, fresh, HasRoom, shows};
+ghost use Rattle.em_rx.specs.Undo.{Fits, FitsFrame, Reverses, octets_held, undo_fifo, undo_memory, with_patch};
+
+use crate::frame::{stored_octets, stored_tag};
+use crate::places::{Entry, Places};
+use crate::ring::{exchange, wrap};
+use crate::{FramePatch, RxRefusal, RxUndo};
+use em_mem::GuestMemory;
+use std::alloc::Global;
+use std::marker::Model;
+
+/// How many octets the packet buffer has (manual, chapter on packet buffer memory: 48 KB for receive).
+const OCTETS: u32 = 49_152;
+
+/// How many entries the ring has: so many frames of the least stored length, 56 octets, fill the buffer.
+const ENTRIES: u32 = 877;
+
+/// The frames that the wire brought and the receive engine has not delivered yet.
+#[derive(Drop)]
+pub struct Fifo {
+    alloc: Global,
+    octets: Vec<u8>,
+    entries: Vec<Entry>,
+    places: Places,
+}
+
+impl Model for Fifo {
+    ghost use Rattle.em_rx.specs.Fifo.{Cells, cells_code};
+
+    ghost Value = { Cells };
+
+    ghost coded = { cells_code };
+
+    ghost use Rattle.em_rx.specs.Fifo.{IsSound};
+
+    ghost view = { λ f. record { octets = f.octets.items; entries = f.entries.items; places = f.places } };
+
+    ghost invariant = { λ f. IsSound (record { octets = f.octets.items; entries = f.entries.items; places = f.places }) };
+}
+
+impl Fifo {
+    /// A FIFO with no frame. It takes all its memory here; `Memory` where that is refused.
+    #[tactic(auto, unfolding(crate::specs::Fifo::fresh))]
+    pub fn new(alloc: Global) -> Result<Fifo, RxRefusal>
+        ensures ok { IfOk result (λ fifo. fifo ≡ fresh) }
+        ensures shown { IfOk result (λ fifo. shows fifo ≡ empty) }
+        ensures refused { IfErr result (λ refusal. refusal ≡ RxRefusal.Memory) }
+    {
+        let octets = vec![in alloc; 0; OCTETS as usize]?;
+        let entries = vec![in alloc; Entry { len: 0, tag: None }; ENTRIES as usize]?;
+        let places = Places {
+            head: 0,
+            first: 0,
+            count: 0,
+            taken: 0,
+            used: 0,
+        };
+        Ok(Fifo {
+            alloc,
+            octets,
+            entries,
+            places,
+        })
+    }
+
+    /// Whether a frame of `len` stored octets has room.
+    pub fn has_room(&self, len: usize) -> bool
+        ensures { IsTrue result ↔ HasRoom (shows self.now) len }
+    {
+        len <= (OCTETS - self.places.used) as usize
+    }
+
+    /// Stores a frame, which comes last: a tagged one without its octets 12 to 15. Refused for
+    /// `Memory` alone, where the record of what it overwrites finds none; the FIFO then stays.
+    pub fn accept(&mut self, frame: &[u8], tagged: bool) -> Result<RxUndo, RxRefusal>
+        requires least { 60 ≤ length frame.now }
+        requires most { length (stored_frame frame.now tagged).octets ≤ 16_384 }
+        requires room { HasRoom (shows self.old) (length (stored_frame frame.now tagged).octets) }
+        ensures ok { OnOk result (shows self.new ≡ after_arrival (shows self.old) (stored_frame frame.now tagged)) }
+        ensures held { IfOk result (λ r. octets_held r ≡ length (stored_frame frame.now tagged).octets) }
+        ensures reverses { IfOk result (λ r. (m : memory.Cells) → Reverses self.old self.new m m r) }
+        ensures refused { IfErr result (λ refusal. refusal ≡ RxRefusal.Memory) }
+        ensures same { OnErr result (self.new ≡ self.old) }
+    {
+        let octets = stored_octets(self.alloc, frame, tagged)?;
+        let patch = self.arrival(octets, stored_tag(frame, tagged));
+        Ok(RxUndo::Frame(self.exchange_frame(patch)))
+    }
+
+    /// All frames leave. Their octets stay in the buffer until arrivals overwrite them.
+    pub fn clear(&mut self) -> RxUndo
+        ensures shown { shows self.new ≡ empty }
+        ensures held { octets_held result ≡ 0 }
+        ensures reverses { (m : memory.Cells) → Reverses self.old self.new m m result }
+    {
+        let places = self.places;
+        self.places = Places {
+            count: 0,
+            taken: 0,
+            used: 0,
+            ..places
+        };
+        RxUndo::Place(places)
+    }
+
+    /// What puts stored octets behind the last frame.
+    fn arrival(&self, octets: Vec<u8>, tag: Option<u16>) -> FramePatch
+        requires least { 56 ≤ length octets.items }
+        requires most { length octets.items ≤ 16_384 }
+        requires room { HasRoom (shows self.now) (length octets.items) }
+        ensures fits { FitsFrame self.now result }
+        ensures shown { shows (with_patch self.now result) ≡ after_arrival (shows self.now) (record { octets = octets.items; tag = tag }) }
+        ensures octets { result.octets ≡ octets.items }
+    {
+        let places = self.places;
+        let len = octets.len();
+        FramePatch {
+            octets,
+            at: wrap(OCTETS, places.head + places.used),
+            entry: Entry {
+                len: len as u16,
+                tag,
+            },
+            index: wrap(ENTRIES, places.first + places.count),
+            places: Places {
+                count: places.count + 1,
+                used: places.used + len as u32,
+                ..places
+            },
+        }
+    }
+
+    /// Puts a patch in, and gives what it replaced.
+    fn exchange_frame(&mut self, patch: FramePatch) -> FramePatch
+        requires { FitsFrame self.old patch }
+        ensures state { self.new ≡ with_patch self.old patch }
+        ensures held { length result.octets ≡ length patch.octets }
+        ensures fits { FitsFrame self.new result }
+        ensures restores { with_patch self.new result ≡ self.old }
+    {
+        let mut patch = patch;
+        exchange(
+            self.octets.as_mut_slice(),
+            patch.at as usize,
+            patch.octets.as_mut_slice(),
+        );
+        std::mem::swap(&mut self.entries[patch.index as usize], &mut patch.entry);
+        std::mem::swap(&mut self.places, &mut patch.places);
+        patch
+    }
+
+    /// Takes back the change that gave out this record, and gives the record that makes it again. It
+    /// takes no memory.
+    pub fn exchange(&mut self, memory: &mut GuestMemory, taken: RxUndo) -> RxUndo
+        requires { Fits self.old memory.old taken }
+        ensures fifo { self.new ≡ undo_fifo self.old taken }
+        ensures memory { memory.new ≡ undo_memory memory.old taken }
+        ensures held { octets_held result ≡ octets_held taken }
+        ensures reverses { Reverses self.old self.new memory.old memory.new result }
+    {
+        match taken {
+            RxUndo::Nothing => RxUndo::Nothing,
+            RxUndo::Place(places) => RxUndo::Place(self.exchange_places(places)),
+            RxUndo::Frame(patch) => RxUndo::Frame(self.exchange_frame(patch)),
+        }
+    }
+
+    fn exchange_places(&mut self, places: Places) -> Places
+        requires { Rattle.em_rx.specs.Fifo.IsSound (record self.old { places = places }) }
+        ensures state { self.new ≡ record self.old { places = places } }
+        ensures fits { Rattle.em_rx.specs.Fifo.IsSound (record self.new { places = result }) }
+        ensures restores { record self.new { places = result } ≡ self.old }
+    {
+        std::mem::replace(&mut self.places, places)
+    }
+
+    /// Takes back the change that gave out this record. It takes no memory.
+    pub fn take_back(&mut self, memory: &mut GuestMemory, taken: RxUndo)
+        requires { Fits self.old memory.old taken }
+        ensures fifo { self.new ≡ undo_fifo self.old taken }
+        ensures memory { memory.new ≡ undo_memory memory.old taken }
+    {
+        let _again = self.exchange(memory, taken);
+    }
+}

@@ -1,0 +1,48 @@
+//! Slices whose end is followed by their beginning.
+ghost use Rattle.std.specs.Prelude.{◌≡◌, ◌+◌, ◌≤◌, ◌++◌, length, take, drop};
+ghost use Rattle.em_rx.specs.Ring.{turn, ring_part, ring_put, wrap as place_in};
+
+/// The place `n` in a ring of the given size, where `n` may be past the end once.
+pub(crate) fn wrap(size: u32, n: u32) -> u32
+    ensures { result ≡ place_in size n }
+{
+    if n < size { n } else { n - size }
+}
+
+/// Exchanges the octets with those that lie in the ring from `at` on.
+pub(crate) fn exchange(ring: &mut [u8], at: usize, octets: &mut [u8])
+    requires at { at ≤ length ring.old }
+    requires size { length octets.old ≤ length ring.old }
+    ensures ring { ring.new ≡ ring_put ring.old at octets.old }
+    ensures octets { octets.new ≡ ring_part ring.old at (length octets.old) }
+{
+    let (low, high) = ring.split_at_mut(at);
+    exchange_over(high, low, octets);
+}
+
+/// The same where the ring's two parts are given, the one that comes first before the other.
+fn exchange_over(first: &mut [u8], second: &mut [u8], octets: &mut [u8])
+    requires size { length octets.old ≤ length first.old + length second.old }
+    ensures parts { first.new ++ second.new ≡ octets.old ++ drop (length octets.old) (first.old ++ second.old) }
+    ensures first { length first.new ≡ length first.old }
+    ensures octets { octets.new ≡ take (length octets.old) (first.old ++ second.old) }
+{
+    let size = first.len();
+    if octets.len() <= size {
+        exchange_front(first, octets);
+    } else {
+        let (before, after) = octets.split_at_mut(size);
+        first.swap_with_slice(before);
+        exchange_front(second, after);
+    }
+}
+
+/// Exchanges the octets with those at the front of the slice.
+fn exchange_front(slice: &mut [u8], octets: &mut [u8])
+    requires size { length octets.old ≤ length slice.old }
+    ensures slice { slice.new ≡ octets.old ++ drop (length octets.old) slice.old }
+    ensures octets { octets.new ≡ take (length octets.old) slice.old }
+{
+    let count = octets.len();
+    slice[..count].swap_with_slice(octets);
+}
