@@ -1,1 +1,4 @@
 pub mod RingLaws
+pub mod PatchLaws
+pub mod CutLaws
+pub mod ArrivalLaws

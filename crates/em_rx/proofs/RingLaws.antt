@@ -131,16 +131,20 @@ module _ {A : Type 0} where
           ∙ sym (set-append_right (drop h xs) (take h xs) (size - h) n e dl (omega arith))
       ]
 
+-- a place that may be past the end once comes to lie in the ring
+pub wrap-below : (size n : ℕ) → n < size + size → 0 < size → wrap size n < size
+wrap-below size n h some = elim (cases_lt n size) [
+  | inl low ↦ let w : wrap size n ≡ n = grind (arith, nat_tests) in omega arith
+  | inr high ↦ let w : wrap size n ≡ n - size = grind (arith, nat_tests) in omega arith
+]
+
 -- octets written u places behind place h, seen from place h on
 module _ (size h u : ℕ) (xs d : List ℕ) (l : length xs ≡ size) (inside : h < size) (room : u + length d ≤ size) (some : 0 < length d) where
   abbrev place : ℕ
   place = wrap size (h + u)
 
   place_in : place < size
-  place_in = elim (cases_lt (h + u) size) [
-    | inl low ↦ let w : place ≡ h + u = grind (arith, nat_tests) in omega arith
-    | inr high ↦ let w : place ≡ h + u - size = grind (arith, nat_tests) in omega arith
-  ]
+  place_in = wrap-below size (h + u) (omega arith) (omega arith)
 
   abbrev seen : List ℕ
   seen = turn h xs

@@ -5,7 +5,7 @@ use Rattle.em_rx.specs.Ring.{ring_put}
 use Rattle.em_rx.specs.Fifo.{Cells, IsSound}
 use Rattle.em_rx.specs.FramePatch.{FramePatch}
 use Rattle.em_rx.specs.declared.undo.RxUndo.{RxUndo}
-use Rattle.em_rx.specs.declared.undo.RxUndo.TheVariants.{Nothing, Place, Frame}
+use Rattle.em_rx.specs.declared.undo.RxUndo.TheVariants.{Nothing, Places, Frame}
 
 -- the cells with the patch put in
 abbrev pub with_patch : Cells → FramePatch → Cells
@@ -25,25 +25,25 @@ pub record FitsFrame (c : Cells) (p : FramePatch) : Type 0 where
 -- the record's cells lie in the FIFO's and in guest memory
 abbrev pub Fits : Cells → memory.Cells → RxUndo → Type 0
 Fits c m Nothing = Unit {0}
-Fits c m (Place places) = IsSound (record c { places = places })
+Fits c m (Places places) = IsSound (record c { places = places })
 Fits c m (Frame patch) = FitsFrame c patch
 
 -- the FIFO's cells with those of the record put back
 abbrev pub undo_fifo : Cells → RxUndo → Cells
 undo_fifo c Nothing = c
-undo_fifo c (Place places) = record c { places = places }
+undo_fifo c (Places places) = record c { places = places }
 undo_fifo c (Frame patch) = with_patch c patch
 
 -- guest memory with the record's octets put back
 abbrev pub undo_memory : memory.Cells → RxUndo → memory.Cells
 undo_memory m Nothing = m
-undo_memory m (Place places) = m
+undo_memory m (Places places) = m
 undo_memory m (Frame patch) = m
 
 -- how many octets the record holds
 abbrev pub octets_held : RxUndo → ℕ
 octets_held Nothing = 0
-octets_held (Place places) = 0
+octets_held (Places places) = 0
 octets_held (Frame patch) = length patch.octets
 
 -- the record takes back the change from the old cells and memory to the new ones

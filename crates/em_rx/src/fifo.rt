@@ -7,7 +7,7 @@ ghost use Rattle.em_rx.specs.Undo.{Fits, FitsFrame, Reverses, octets_held, undo_
 
 use crate::frame::{stored_octets, stored_tag};
 use crate::places::{Entry, Places};
-use crate::ring::{exchange, wrap};
+use crate::ring::{replace, replace_entry, wrap};
 use crate::{FramePatch, RxRefusal, RxUndo};
 use em_mem::GuestMemory;
 use std::alloc::Global;
@@ -104,7 +104,7 @@ impl Fifo {
             used: 0,
             ..places
         };
-        RxUndo::Place(places)
+        RxUndo::Places(places)
     }
 
     /// What puts stored octets behind the last frame.
@@ -112,8 +112,7 @@ impl Fifo {
         requires least { 56 ≤ length octets.items }
         requires most { length octets.items ≤ 16_384 }
         requires room { HasRoom (shows self.now) (length octets.items) }
-        ensures fits { FitsFrame self.now result }
-        ensures shown { shows (with_patch self.now result) ≡ after_arrival (shows self.now) (record { octets = octets.items; tag = tag }) }
+        ensures arrives { FitsFrame self.now result × (shows (with_patch self.now result) ≡ after_arrival (shows self.now) (record { octets = octets.items; tag = tag })) }
         ensures octets { result.octets ≡ octets.items }
     {
         let places = self.places;
@@ -139,18 +138,15 @@ impl Fifo {
         requires { FitsFrame self.old patch }
         ensures state { self.new ≡ with_patch self.old patch }
         ensures held { length result.octets ≡ length patch.octets }
-        ensures fits { FitsFrame self.new result }
-        ensures restores { with_patch self.new result ≡ self.old }
+        ensures reverses { FitsFrame self.new result × (with_patch self.new result ≡ self.old) }
     {
-        let mut patch = patch;
-        exchange(
-            self.octets.as_mut_slice(),
-            patch.at as usize,
-            patch.octets.as_mut_slice(),
-        );
-        std::mem::swap(&mut self.entries[patch.index as usize], &mut patch.entry);
-        std::mem::swap(&mut self.places, &mut patch.places);
-        patch
+        FramePatch {
+            octets: replace(&mut self.octets, patch.at as usize, patch.octets),
+            at: patch.at,
+            entry: replace_entry(&mut self.entries, patch.index as usize, patch.entry),
+            index: patch.index,
+            places: std::mem::replace(&mut self.places, patch.places),
+        }
     }
 
     /// Takes back the change that gave out this record, and gives the record that makes it again. It
@@ -164,7 +160,7 @@ impl Fifo {
     {
         match taken {
             RxUndo::Nothing => RxUndo::Nothing,
-            RxUndo::Place(places) => RxUndo::Place(self.exchange_places(places)),
+            RxUndo::Places(places) => RxUndo::Places(self.exchange_places(places)),
             RxUndo::Frame(patch) => RxUndo::Frame(self.exchange_frame(patch)),
         }
     }

@@ -1,6 +1,8 @@
 //! Slices whose end is followed by their beginning.
-ghost use Rattle.std.specs.Prelude.{◌≡◌, ◌+◌, ◌≤◌, ◌++◌, length, take, drop};
-ghost use Rattle.em_rx.specs.Ring.{turn, ring_part, ring_put, wrap as place_in};
+ghost use Rattle.std.specs.Prelude.{◌≡◌, ◌+◌, ◌<◌, ◌≤◌, ◌++◌, length, take, drop, set, get_or};
+ghost use Rattle.em_rx.specs.Ring.{ring_part, ring_put, wrap as place_in};
+
+use crate::places::Entry;
 
 /// The place `n` in a ring of the given size, where `n` may be past the end once.
 pub(crate) fn wrap(size: u32, n: u32) -> u32
@@ -9,8 +11,29 @@ pub(crate) fn wrap(size: u32, n: u32) -> u32
     if n < size { n } else { n - size }
 }
 
+/// Puts the octets into the ring from `at` on, and gives those that lay there.
+pub(crate) fn replace(ring: &mut Vec<u8>, at: usize, octets: Vec<u8>) -> Vec<u8>
+    requires at { at ≤ length ring.old.items }
+    requires size { length octets.items ≤ length ring.old.items }
+    ensures ring { ring.new.items ≡ ring_put ring.old.items at octets.items }
+    ensures octets { result.items ≡ ring_part ring.old.items at (length octets.items) }
+{
+    let mut octets = octets;
+    exchange(ring.as_mut_slice(), at, octets.as_mut_slice());
+    octets
+}
+
+/// Puts the entry into its place in the ring, and gives the one that lay there.
+pub(crate) fn replace_entry(ring: &mut Vec<Entry>, index: usize, entry: Entry) -> Entry
+    requires { index < length ring.old.items }
+    ensures ring { ring.new.items ≡ set ring.old.items index entry }
+    ensures entry { result ≡ get_or ring.old.items index entry }
+{
+    std::mem::replace(&mut ring[index], entry)
+}
+
 /// Exchanges the octets with those that lie in the ring from `at` on.
-pub(crate) fn exchange(ring: &mut [u8], at: usize, octets: &mut [u8])
+fn exchange(ring: &mut [u8], at: usize, octets: &mut [u8])
     requires at { at ≤ length ring.old }
     requires size { length octets.old ≤ length ring.old }
     ensures ring { ring.new ≡ ring_put ring.old at octets.old }

@@ -44,7 +44,7 @@ pub enum RxUndo {
     /// Nothing changed.
     Nothing,
     /// The places, of a FIFO that was cleared.
-    Place(Places),
+    Places(Places),
     /// What an arrival overwrote, and the places before it.
     Frame(FramePatch),
 }
@@ -56,7 +56,7 @@ impl RxUndo {
         ensures most { result ≤ MOST_RECORD }
     {
         match self {
-            RxUndo::Nothing | RxUndo::Place(_) => 0,
+            RxUndo::Nothing | RxUndo::Places(_) => 0,
             RxUndo::Frame(patch) => patch.len(),
         }
     }
