@@ -80,9 +80,9 @@ module _ (c : Cells) (d : List ℕ) (e : Entry) (sound : IsSound c) (is : length
   others_stay =
       cut_same (live c) (put T c.places.used d) T
       (
-        ap (λ (k : ℕ). take k (put T c.places.used d)) sound.used
-        ∙ take_at (take c.places.used T) (d ++ drop (c.places.used + length d) T) c.places.used length-front
-        ∙ ap (λ (k : ℕ). take k T) (sym sound.used)
+      ap (λ (k : ℕ). take k (put T c.places.used d)) sound.used
+      ∙ take_at (take c.places.used T) (d ++ drop (c.places.used + length d) T) c.places.used length-front
+      ∙ ap (λ (k : ℕ). take k T) (sym sound.used)
       )
 
   pub arrival_shows : shows after ≡ after_arrival (shows c) (record { octets = d; tag = e.tag })

@@ -37,8 +37,8 @@ cut_push (x ∷ es) e m =
     = drop-drop (total es) x.len m ∙ ap (λ (n : ℕ). drop n m) (sym (total-cons x es)) in
     ap (λ (fs : List Frame). f ∷ fs)
     (
-      cut_push es e (drop x.len m)
-      ∙ ap (λ (y : List ℕ). cut es (drop x.len m) ++ record { octets = take e.len y; tag = e.tag } ∷ []) rest
+    cut_push es e (drop x.len m)
+    ∙ ap (λ (y : List ℕ). cut es (drop x.len m) ++ record { octets = take e.len y; tag = e.tag } ∷ []) rest
     )
 
 -- only the octets of frames count

@@ -35,8 +35,7 @@ patch_reverses c v new p q r is patch sound fits_then left gives =
     let size : length r.octets ≡ length p.octets
     = ap (λ (x : FramePatch). length x.octets) gives ∙ length-ring_part c.octets p.at (length p.octets) fits.size in
     let at : r.at ≡ p.at = ap (λ (x : FramePatch). x.at) gives in
-    let index : r.index ≡ p.index = ap (λ (x : FramePatch). x.index) gives in
-    (
+    let index : r.index ≡ p.index = ap (λ (x : FramePatch). x.index) gives in (
       record {
         at = omega (arith, fits.at);
         size = omega (arith, fits.size);

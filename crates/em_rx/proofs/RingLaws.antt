@@ -79,8 +79,8 @@ module _ {A : Type 0} where
   turn-wrap size h n xs l inside less = elim (cases_lt (h + n) size) [
     | inl low ↦ let w : wrap size (h + n) ≡ h + n = grind (arith, nat_tests) in ap (λ (k : ℕ). turn k xs) w ∙ turn_more h n xs (omega arith)
     | inr high ↦
-      let w : wrap size (h + n) ≡ h + n - size = grind (arith, nat_tests) in
-      ap (λ (k : ℕ). turn k xs) w ∙ turn_past h n (h + n - size) xs (omega arith) (omega arith) (omega arith)
+        let w : wrap size (h + n) ≡ h + n - size = grind (arith, nat_tests) in
+        ap (λ (k : ℕ). turn k xs) w ∙ turn_past h n (h + n - size) xs (omega arith) (omega arith) (omega arith)
   ]
 
   -- a write round the end leaves the size
@@ -114,21 +114,21 @@ module _ {A : Type 0} where
       let tl : length (take h xs) ≡ h = length-take-le h xs (omega arith) in
       elim (cases_lt (h + n) size) [
         | inl low ↦
-          let w : wrap size (h + n) ≡ h + n = grind (arith, nat_tests) in
-          ap (λ (k : ℕ). turn h (set xs k e)) w
-          ∙ ap₂ ◌++◌ (drop-set-add h xs n e) (take-set-le h xs (h + n) e (omega arith))
-          ∙ sym (set-append_left (drop h xs) (take h xs) n e (omega arith))
+            let w : wrap size (h + n) ≡ h + n = grind (arith, nat_tests) in
+            ap (λ (k : ℕ). turn h (set xs k e)) w
+            ∙ ap₂ ◌++◌ (drop-set-add h xs n e) (take-set-le h xs (h + n) e (omega arith))
+            ∙ sym (set-append_left (drop h xs) (take h xs) n e (omega arith))
         | inr high ↦
-          let w : wrap size (h + n) ≡ h + n - size = grind (arith, nat_tests) in
-          let i : ℕ = h + n - size in
-          let split : set xs i e ≡ set (take h xs) i e ++ drop h xs
-          = ap (λ (x : List A). set x i e) (sym (take-append-drop h xs)) ∙ set-append_left (take h xs) (drop h xs) i e (omega arith) in
-          let kept : length (set (take h xs) i e) ≡ h = length-set (take h xs) i e ∙ tl in
-          ap (λ (k : ℕ). turn h (set xs k e)) w
-          ∙ ap (turn h) split
-          ∙ turn_joined h (set (take h xs) i e) (drop h xs) kept
-          ∙ ap (λ (k : ℕ). drop h xs ++ set (take h xs) k e) (omega arith)
-          ∙ sym (set-append_right (drop h xs) (take h xs) (size - h) n e dl (omega arith))
+            let w : wrap size (h + n) ≡ h + n - size = grind (arith, nat_tests) in
+            let i : ℕ = h + n - size in
+            let split : set xs i e ≡ set (take h xs) i e ++ drop h xs
+            = ap (λ (x : List A). set x i e) (sym (take-append-drop h xs)) ∙ set-append_left (take h xs) (drop h xs) i e (omega arith) in
+            let kept : length (set (take h xs) i e) ≡ h = length-set (take h xs) i e ∙ tl in
+            ap (λ (k : ℕ). turn h (set xs k e)) w
+            ∙ ap (turn h) split
+            ∙ turn_joined h (set (take h xs) i e) (drop h xs) kept
+            ∙ ap (λ (k : ℕ). drop h xs ++ set (take h xs) k e) (omega arith)
+            ∙ sym (set-append_right (drop h xs) (take h xs) (size - h) n e dl (omega arith))
       ]
 
 -- a place that may be past the end once comes to lie in the ring
