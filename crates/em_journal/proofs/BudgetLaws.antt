@@ -9,7 +9,7 @@ use Rattle.em_step.specs.Cost.{cost_of}
 use Rattle.em_step.specs.declared.undo.TheConstants.{LEAST_COST}
 use Rattle.em_step.specs.declared.undo.Undo.{Undo}
 use Rattle.em_step.proofs.CostLaws.{cost_of_least}
-use Rattle.em_journal.specs.Chain.{costs_of}
+use Rattle.em_journal.specs.Records.{costs_of}
 use Rattle.em_journal.specs.View.{reach}
 
 pub sum_cons : (c : ℕ) (cs : List ℕ) → sum (c ∷ cs) ≡ c + sum cs

@@ -1,5 +1,5 @@
 pub mod Budget
-pub mod Chain
+pub mod Records
 pub mod History
 pub mod JournalRefusal
 pub mod View

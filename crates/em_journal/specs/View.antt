@@ -36,8 +36,8 @@ abbrev pub within : ℕ → List ℕ → List ℕ
 within budget costs = take (reach budget costs) costs
 
 -- after an event of the cost that led to s
-abbrev pub performed : View → State → ℕ → View
-performed v s cost = record v {
+abbrev pub after_event : View → State → ℕ → View
+after_event v s cost = record v {
   present = s;
   past = take (reach v.budget (cost ∷ v.costs)) (states v);
   costs = within v.budget (cost ∷ v.costs);

@@ -1,21 +1,21 @@
 //! What the definitions of a machine's view say together.
 ghost use Rattle.std.specs.Prelude.{◌≡◌, ◌<◌, ◌≤◌, ◌↔◌, ℕ, List, [], length, take, sum, slice_get};
 ghost use Rattle.em_step.specs.State.{State};
-ghost use Rattle.em_step.specs.Cells.{Cells, More};
+ghost use Rattle.em_step.specs.Cells.{Cells, MorePages};
 ghost use Rattle.em_step.specs.declared.undo.Undo.{Undo};
-ghost use Rattle.em_journal.specs.Chain.{back_through, AllFit};
+ghost use Rattle.em_journal.specs.Records.{back_through, AllFit};
 ghost use Rattle.em_journal.specs.View.{View, states, reach};
-ghost use Rattle.em_journal.specs.History.{Command, Leads, state, kept, held_costs, without_last};
+ghost use Rattle.em_journal.specs.History.{Call, Leads, state, kept, held_costs, without_last};
 
 /// The law of the view: after any commands, item i of what a machine shows is the state that the
 /// events which were performed and not taken back lead to, without the last i of them. It can go
 /// back as often as costs are held, and a step back is refused exactly where none is.
 pub fn view_is_fold()
-    ensures states { (budget : ℕ) (s : State) (commands : List Command) (v : View) → Leads budget s commands v →
-        (i : ℕ) → i < length (states v) → slice_get (states v) i ≡ Some (state s (without_last i (kept commands))) }
-    ensures costs { (budget : ℕ) (s : State) (commands : List Command) (v : View) → Leads budget s commands v → v.costs ≡ held_costs budget s commands }
-    ensures reach { (budget : ℕ) (s : State) (commands : List Command) (v : View) → Leads budget s commands v → length v.past ≡ length (held_costs budget s commands) }
-    ensures empty { (budget : ℕ) (s : State) (commands : List Command) (v : View) → Leads budget s commands v → (v.past ≡ []) ↔ (held_costs budget s commands ≡ []) }
+    ensures states { (budget : ℕ) (s : State) (calls : List Call) (v : View) → Leads budget s calls v →
+        (i : ℕ) → i < length (states v) → slice_get (states v) i ≡ Some (state s (without_last i (kept calls))) }
+    ensures costs { (budget : ℕ) (s : State) (calls : List Call) (v : View) → Leads budget s calls v → v.costs ≡ held_costs budget s calls }
+    ensures reach { (budget : ℕ) (s : State) (calls : List Call) (v : View) → Leads budget s calls v → length v.past ≡ length (held_costs budget s calls) }
+    ensures empty { (budget : ℕ) (s : State) (calls : List Call) (v : View) → Leads budget s calls v → (v.past ≡ []) ↔ (held_costs budget s calls ≡ []) }
 {}
 
 /// What is kept costs no more than the budget, and no longer list from the newest on does so too.
@@ -26,5 +26,5 @@ pub fn reach_is_most()
 
 /// More made pages change no state that records lead back to, and leave each record fitting.
 pub fn made_pages()
-    ensures { (c d : Cells) (records : List Undo) → More c d → AllFit c records → AllFit d records × (back_through d records ≡ back_through c records) }
+    ensures { (c d : Cells) (records : List Undo) → MorePages c d → AllFit c records → AllFit d records × (back_through d records ≡ back_through c records) }
 {}

@@ -6,10 +6,11 @@ ghost use Rattle.em_regs.specs.Table.{reg_at};
 ghost use Rattle.em_latch.specs.Latches.{IsAsserted};
 ghost use Rattle.em_step.specs.Access.{gives};
 ghost use Rattle.em_step.specs.Cells.{shows};
-ghost use Rattle.em_step.specs.Step.{seen, step, Refuses};
+ghost use Rattle.em_step.specs.Event.{plain};
+ghost use Rattle.em_step.specs.Step.{step, Refuses};
 ghost use Rattle.em_step.specs.Cost.{cost};
 ghost use Rattle.em_journal.specs.Budget.{IsBudget};
-ghost use Rattle.em_journal.specs.View.{opening, states, performed};
+ghost use Rattle.em_journal.specs.View.{opening, states, after_event};
 
 use crate::records::{drop_oldest, put_newest};
 use crate::refusal::{Empty, JournalRefusal};
@@ -38,7 +39,7 @@ pub struct Machine {
 
 impl Model for Machine {
     ghost use Rattle.em_step.specs.Cells.{shows};
-    ghost use Rattle.em_journal.specs.Chain.{back_through, costs_of, IsJournal};
+    ghost use Rattle.em_journal.specs.Records.{back_through, costs_of, IsJournal};
     ghost use Rattle.em_journal.specs.View.{View, view_code};
 
     ghost Value = { View };
@@ -86,11 +87,11 @@ impl Machine {
     /// A refused event is not journalled: the machine stays as it was, also in how far it can go
     /// back.
     pub fn perform(&mut self, event: Event<'_>) -> Result<Answer, Refusal>
-        ensures ok { IfOk result (λ answer. step self.old.present (seen event.entry) ≡ Ok (answer, self.new.present)) }
-        ensures view { OnOk result (self.new ≡ performed self.old self.new.present (cost self.old.present (seen event.entry))) }
+        ensures ok { IfOk result (λ answer. step self.old.present (plain event.entry) ≡ Ok (answer, self.new.present)) }
+        ensures view { OnOk result (self.new ≡ after_event self.old self.new.present (cost self.old.present (plain event.entry))) }
         // a performed event can always be taken back
         ensures kept { OnOk result (0 < length self.new.past) }
-        ensures err { IfErr result (Refuses self.old.present (seen event.entry)) }
+        ensures err { IfErr result (Refuses self.old.present (plain event.entry)) }
         ensures same { OnErr result (self.new ≡ self.old) }
     {
         let (answer, undo) = self.adapter.apply(event)?;

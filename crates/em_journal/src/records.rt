@@ -2,7 +2,7 @@
 ghost use Rattle.std.specs.Prelude.{◌≡◌, ◌+◌, ◌-◌, ◌≤◌, ◌<◌, ◌∷◌, length, take, sum};
 ghost use Rattle.circular_buffer.specs.Buffer.{buffer};
 ghost use Rattle.em_step.specs.Cost.{cost_of};
-ghost use Rattle.em_journal.specs.Chain.{costs_of};
+ghost use Rattle.em_journal.specs.Records.{costs_of};
 ghost use Rattle.em_journal.specs.View.{reach};
 
 use circular_buffer::HeapCircularBuffer;

@@ -47,8 +47,8 @@ gives m Imc = 0
 gives m reg = at m (offset_of reg)
 
 -- both halves of a pair cleared
-abbrev pub pair_cleared : Registers → Reg → Reg → Registers
-pair_cleared m low high = map.insert (map.insert m (offset_of low) 0) (offset_of high) 0
+abbrev pub after_pair_clear : Registers → Reg → Reg → Registers
+after_pair_clear m low high = map.insert (map.insert m (offset_of low) 0) (offset_of high) 0
 
 -- a read of the causes or a counter clears it; of a pair, the read of the high half clears both
 abbrev pub after_read : Registers → Reg → Registers
@@ -57,18 +57,18 @@ after_read m Ims = m
 after_read m Imc = m
 after_read m Gorcl = m
 after_read m Gotcl = m
-after_read m Gorch = pair_cleared m Gorcl Gorch
-after_read m Gotch = pair_cleared m Gotcl Gotch
+after_read m Gorch = after_pair_clear m Gorcl Gorch
+after_read m Gotch = after_pair_clear m Gotcl Gotch
 after_read m reg = map.insert m (offset_of reg) 0
 
 -- causes that are set beside those that were
-abbrev pub raised : Registers → ℕ → Registers
-raised m v = map.insert m (offset_of Icr) (bit_or (causes m) v)
+abbrev pub after_raise : Registers → ℕ → Registers
+after_raise m v = map.insert m (offset_of Icr) (bit_or (causes m) v)
 
 -- ICR and IMC clear the bits that are 1 in v, ICS and IMS set those of them that name a cause; counters stay
 abbrev pub after_write : Registers → Reg → ℕ → Registers
 after_write m Icr v = map.insert m (offset_of Icr) (without (causes m) v)
-after_write m Ics v = raised m (bit_and v CAUSE_BITS)
+after_write m Ics v = after_raise m (bit_and v CAUSE_BITS)
 after_write m Ims v = map.insert m (offset_of Ims) (bit_or (mask m) (bit_and v CAUSE_BITS))
 after_write m Imc v = map.insert m (offset_of Ims) (without (mask m) v)
 after_write m reg v = m

@@ -5,8 +5,8 @@ ghost use Rattle.std.specs.Option.{option_to_list};
 ghost use Rattle.em_regs.specs.Table.{offset_of};
 ghost use Rattle.em_regs.specs.Registers as registers;
 ghost use Rattle.em_latch.specs.Layout.{offsets, fresh};
-ghost use Rattle.em_latch.specs.Latches.{is_latched, IsLatched, IsWord, gives, after_read, after_write, raised, IsAsserted, Fits, undo};
-ghost use Rattle.em_latch.specs.Counter.{counted, pair_counted};
+ghost use Rattle.em_latch.specs.Latches.{is_latched, IsLatched, IsWord, gives, after_read, after_write, after_raise, IsAsserted, Fits, undo};
+ghost use Rattle.em_latch.specs.Counter.{after_count, after_pair_count};
 
 use crate::counter::Counter;
 use crate::undo::{LatchUndo, OldWord};
@@ -112,7 +112,7 @@ impl Latches {
 
     /// Sets causes in ICR.
     pub fn raise(&mut self, causes: u32) -> LatchUndo
-        ensures state { self.new ≡ raised self.old causes }
+        ensures state { self.new ≡ after_raise self.old causes }
         ensures fits { Fits self.new result }
         ensures restores { undo self.new result ≡ self.old }
     {
@@ -122,7 +122,7 @@ impl Latches {
 
     /// Steps a counter by some number; it stops at its greatest value.
     pub fn count(&mut self, counter: Counter, by: u32) -> LatchUndo
-        ensures state { self.new ≡ counted self.old counter by }
+        ensures state { self.new ≡ after_count self.old counter by }
         ensures fits { Fits self.new result }
         ensures restores { undo self.new result ≡ self.old }
     {
@@ -197,7 +197,7 @@ impl Latches {
     fn count_pair(&mut self, low: Reg, high: Reg, by: u32) -> LatchUndo
         requires low { IsWord low }
         requires high { IsWord high }
-        ensures state { self.new ≡ pair_counted self.old low high by }
+        ensures state { self.new ≡ after_pair_count self.old low high by }
         ensures fits { Fits self.new result }
         ensures restores { undo self.new result ≡ self.old }
     {

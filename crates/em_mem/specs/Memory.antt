@@ -1,7 +1,7 @@
 -- Octets of guest memory, and which of its pages are made.
 use Rattle.std.specs.Prelude.{◌≡◌, ℕ, ◌+◌, ◌*◌, ◌/◌, ◌%◌, ◌<◌, ◌≤◌, ◌⊎◌, Bool, true, false, List, ◌++◌, length, take, drop, replicate, slice_index_or, refl}
 use Rattle.std.specs.Coded.{Coded, code_by, coded×, coded_list, coded_ℕ, coded_bool}
-use Rattle.em_mem.specs.declared.TheConstants.{PAGE_OCTETS, MOST_OCTETS}
+use Rattle.em_mem.specs.declared.TheConstants.{PAGE_OCTETS, MOST_MEMORY}
 
 -- what guest memory keeps: its octets, and for each page whether it is made
 pub record Cells : Type 0 where
@@ -14,7 +14,7 @@ cells_code = code_by (List ℕ × List Bool) (coded× (coded_list coded_ℕ) (co
 
 -- a size that guest memory can have: whole pages, one at least
 abbrev pub IsMemorySize : ℕ → Type 0
-IsMemorySize size = (PAGE_OCTETS ≤ size) × (size ≤ MOST_OCTETS) × (size % PAGE_OCTETS ≡ 0)
+IsMemorySize size = (PAGE_OCTETS ≤ size) × (size ≤ MOST_MEMORY) × (size % PAGE_OCTETS ≡ 0)
 
 -- so many zeros
 unfoldable pub zeros : ℕ → List ℕ
@@ -70,8 +70,13 @@ pub record Fits (c : Cells) (p : Patch) : Type 0 where
 abbrev pub undo : Cells → Patch → Cells
 undo c p = record c { octets = put c.octets p.at p.octets }
 
+-- the patch takes the change from the old cells to the new ones back
+pub record Reverses (old new : Cells) (p : Patch) : Type 0 where
+  pub fits : Fits new p
+  pub restores : undo new p ≡ old
+
 -- d is c, but that d may have more pages made
-pub record More (c d : Cells) : Type 0 where
+pub record MorePages (c d : Cells) : Type 0 where
   pub octets : d.octets ≡ c.octets
   pub made : (p : ℕ) → IsPageMade c p → IsPageMade d p
 

@@ -2,7 +2,8 @@
 use Rattle.std.proofs.Common.{inl, inr, ◌≡◌, ℕ, zero, suc, ◌+◌, ◌≤◌, List, [], ◌∷◌, length, drop, min, Option, Some, None, Result, Err, IfOk, subst, refl, sym, ap, ◌∙◌, arith}
 use Rattle.std.proofs.lemmas.List.{drop-drop}
 use Rattle.em_step.specs.State.{State}
-use Rattle.em_step.specs.Step.{Act, step, Refuses}
+use Rattle.em_step.specs.Event.{Event}
+use Rattle.em_step.specs.Step.{step, Refuses}
 use Rattle.em_step.specs.Cost.{cost}
 use Rattle.em_step.specs.declared.event.Refusal.{Refusal}
 use Rattle.em_journal.specs.View.{View, states}
@@ -16,7 +17,7 @@ use Rattle.em_script.specs.Replies.{Reply, refused, stepped, event_reply, refuse
 use Rattle.em_script.specs.Played.{Performs}
 
 -- an event was refused by its step
-refused_by_step : (number : ℕ) (act : Act) (refusal : Refusal) (first now : Desk) (old new : Option (List ℕ)) (result : Result Outcome WriteFailed)
+refused_by_step : (number : ℕ) (act : Event) (refusal : Refusal) (first now : Desk) (old new : Option (List ℕ)) (result : Result Outcome WriteFailed)
     → step (present first) act ≡ Err refusal → now ≡ first → Writes old new result (refused_text refusal) → IfOk result (λ o. o ≡ outcome.Refused)
     → Performs number (says (event act)) first now old new result
 refused_by_step number act refusal first now old new result e same text outcome =
@@ -30,7 +31,7 @@ refused_by_step number act refusal first now old new result e same text outcome 
     }
 
 -- an event was refused, by its step or for memory
-pub event_refused : (number : ℕ) (act : Act) (refusal : Refusal) (first now : Desk) (old new : Option (List ℕ)) (result : Result Outcome WriteFailed)
+pub event_refused : (number : ℕ) (act : Event) (refusal : Refusal) (first now : Desk) (old new : Option (List ℕ)) (result : Result Outcome WriteFailed)
     → Refuses (present first) act refusal → now ≡ first → Writes old new result (refused_text refusal) → IfOk result (λ o. o ≡ outcome.Refused)
     → Performs number (says (event act)) first now old new result
 event_refused number act refusal first now old new result why same text outcome =

@@ -2,7 +2,7 @@
 use Rattle.std.specs.Prelude.{ℕ, zero, suc, List, [], ◌∷◌, drop}
 use Rattle.std.specs.Coded.{Coded}
 use Rattle.em_step.specs.State.{State}
-use Rattle.em_journal.specs.View.{View, view_code, performed}
+use Rattle.em_journal.specs.View.{View, view_code, after_event}
 
 abbrev pub Desk : Type 0
 Desk = View
@@ -20,7 +20,7 @@ past desk = desk.past
 
 -- the desk after an event of the cost that led to s
 abbrev pub after_event : Desk → State → ℕ → Desk
-after_event desk s cost = performed desk s cost
+after_event desk s cost = after_event desk s cost
 
 -- the desk after a reverse step to the newest of these states
 abbrev pub back_to : List State → Desk → Desk

@@ -1,7 +1,7 @@
 -- What a line says, by its words.
 use Rattle.std.specs.Prelude.{ℕ, Bool, true, false, codes, ◌==◌, ◌&&◌, nat_le, if◌then◌else◌, List, [], ◌∷◌, Option, Some, None}
 use Rattle.std.specs.Str.{bytes_eq}
-use Rattle.em_step.specs.Step.{reads, writes, pokes, links}
+use Rattle.em_step.specs.Event.{reads, writes, pokes, links}
 use Rattle.em_text.specs.Words.{words_of}
 use Rattle.em_text.specs.Numbers.{hex_number, hex_address, decimal_number, octets_of}
 use Rattle.em_script.specs.declared.name.Name.{Name}

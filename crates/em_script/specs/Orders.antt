@@ -1,6 +1,6 @@
 -- What a line says, as data.
 use Rattle.std.specs.Prelude.{ℕ, List}
-use Rattle.em_step.specs.Step.{Act, reads, writes, pokes, links}
+use Rattle.em_step.specs.Event.{Event, reads, writes, pokes, links}
 use Rattle.em_script.specs.declared.command.Command.{Command}
 use Rattle.em_script.specs.declared.command.Command.TheVariants as command
 use Rattle.em_script.specs.declared.command.Form.{Form}
@@ -8,7 +8,7 @@ use Rattle.em_script.specs.declared.command.Form.TheVariants as form
 
 -- what to do with a machine: an event, a look at memory, at the interrupt line or at the registers, reverse steps
 pub data Order : Type 0 where
-  event : Act → Order
+  event : Event → Order
   peek : ℕ → ℕ → Order
   line : Order
   back : Order

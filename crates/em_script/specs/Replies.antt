@@ -3,7 +3,8 @@ use Rattle.std.specs.Prelude.{◌≡◌, ℕ, ◌+◌, ◌==◌, Bool, false, no
 use Rattle.em_mem.specs.Memory.{part}
 use Rattle.em_latch.specs.Latches.{causes, mask}
 use Rattle.em_step.specs.State.{State}
-use Rattle.em_step.specs.Step.{Act, step, takes_memory}
+use Rattle.em_step.specs.Event.{Event}
+use Rattle.em_step.specs.Step.{step, takes_memory}
 use Rattle.em_step.specs.Cost.{cost}
 use Rattle.em_step.specs.declared.event.Answer.{Answer}
 use Rattle.em_step.specs.declared.event.Answer.TheVariants as answer
@@ -74,7 +75,7 @@ stepped (Ok r) cost desk = done (answer_text r.0) (after_event desk r.1 cost)
 stepped (Err refusal) cost desk = refused (refused_text refusal) desk
 
 -- to an event, by whether memory was refused to it
-abbrev pub event_reply : Option ℕ → Act → Desk → Reply
+abbrev pub event_reply : Option ℕ → Event → Desk → Reply
 event_reply None act desk = stepped (step (present desk) act) (cost (present desk) act) desk
 event_reply (Some events) act desk = refused (refused_text Memory) desk
 

@@ -1,6 +1,6 @@
 //! Doing what a line says, and writing its answer.
 ghost use Rattle.std.specs.Prelude.{ℕ};
-ghost use Rattle.em_step.specs.Step.{seen};
+ghost use Rattle.em_step.specs.Event.{plain};
 ghost use Rattle.em_script.specs.Desk.{past};
 ghost use Rattle.em_script.specs.Orders.{said, says, order_of, event as event_order};
 ghost use Rattle.em_script.specs.Replies.{peek_reply, line_reply, registers_reply, back_reply, back_by_reply, Gives};
@@ -68,7 +68,7 @@ fn perform_event<W: Write>(
     machine: &mut Machine,
     event: Event<'_>,
 ) -> Result<Outcome, WriteFailed>
-    ensures { (number : ℕ) → Performs number (says (event_order (seen event.entry))) machine.old machine.new (W.contents writer.old) (W.contents writer.new) result }
+    ensures { (number : ℕ) → Performs number (says (event_order (plain event.entry))) machine.old machine.new (W.contents writer.old) (W.contents writer.new) result }
 {
     match machine.perform(event) {
         Ok(answer) => write_answer(writer, answer),

@@ -2,7 +2,7 @@
 ghost use Rattle.std.specs.Prelude.{◌≡◌, ◌≤◌, ℕ, List, IfOk, IfSome};
 ghost use Rattle.em_script.specs.Arguments.{view};
 ghost use Rattle.em_text.specs.Numbers.{octets_of};
-ghost use Rattle.em_step.specs.Step.{pokes};
+ghost use Rattle.em_step.specs.Event.{pokes};
 ghost use Rattle.em_script.specs.Orders.{said, says, event};
 ghost use Rattle.em_script.specs.Grammar.{saying_of, with, command_form, read_form, write_form, poke_form, peek_form, line_form, back_form, link_form, regs_form, way_of, count_to, is_comment};
 

@@ -4,7 +4,8 @@ use Rattle.std.proofs.lemmas.Bool.Decides.{nat_tests}
 use Rattle.std.specs.Prelude.{if◌then◌else◌}
 use Rattle.em_regs.specs.Table.{reg_at}
 use Rattle.em_step.specs.State.{State}
-use Rattle.em_step.specs.Step.{Act, reads, writes, pokes, links, resets, step}
+use Rattle.em_step.specs.Event.{Event, reads, writes, pokes, links}
+use Rattle.em_step.specs.Step.{resets, step}
 use Rattle.em_step.specs.Cost.{cost, cost_of}
 use Rattle.em_step.specs.declared.event.Answer.{Answer}
 use Rattle.em_step.specs.declared.undo.TheConstants.{LEAST_COST, MOST_COST}
@@ -23,7 +24,7 @@ if_most : (b : Bool) → (if b then MOST_COST else LEAST_COST) ≤ MOST_COST
 if_most true = omega arith
 if_most false = omega arith
 
-pub cost_most : (s : State) (a : Act) (r : Answer × State) → step s a ≡ Ok r → cost s a ≤ MOST_COST
+pub cost_most : (s : State) (a : Event) (r : Answer × State) → step s a ≡ Ok r → cost s a ≤ MOST_COST
 cost_most s (reads o) r is = omega arith
 cost_most s (writes o v) r is = if_most (resets (reg_at o) v)
 cost_most s (pokes a octets) r is = grind (arith, nat_tests)

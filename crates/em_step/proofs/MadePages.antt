@@ -3,15 +3,15 @@ use Rattle.std.proofs.Common.{◌≡◌, refl, ap, sym, subst}
 use Rattle.em_mem.proofs.MadePages as memory
 use Rattle.em_regs.specs.Registers as registers
 use Rattle.em_latch.specs.Latches as latches
-use Rattle.em_step.specs.Cells.{Cells, shows, More}
-use Rattle.em_step.specs.Undoing.{Fits, undo}
+use Rattle.em_step.specs.Cells.{Cells, shows, MorePages}
+use Rattle.em_step.specs.Undo.{Fits, undo}
 use Rattle.em_step.specs.declared.undo.Undo.{Undo}
 use Rattle.em_step.specs.declared.undo.Undo.TheVariants.{Nothing, Register, Latch, Octets, Link, Reset}
 
-pub shows_after : (c d : Cells) → More c d → shows d ≡ shows c
+pub shows_after : (c d : Cells) → MorePages c d → shows d ≡ shows c
 shows_after c d more = λ i. record { registers = more.registers i; latches = more.latches i; memory = more.memory.octets i; eeprom = more.eeprom i; link = more.link i }
 
-pub fits_after : (c d : Cells) (r : Undo) → More c d → Fits c r → Fits d r
+pub fits_after : (c d : Cells) (r : Undo) → MorePages c d → Fits c r → Fits d r
 fits_after c d Nothing more fits = tt
 fits_after c d (Register cell) more fits = subst (λ m. registers.Fits m cell) (sym more.registers) fits
 fits_after c d (Latch cells) more fits = subst (λ m. latches.Fits m cells) (sym more.latches) fits
@@ -19,7 +19,7 @@ fits_after c d (Octets patch) more fits = memory.fits_after c.memory d.memory pa
 fits_after c d (Link up cells) more fits = subst (λ m. latches.Fits m cells) (sym more.latches) fits
 fits_after c d (Reset kept) more fits = tt
 
-pub undo_after : (c d : Cells) (r : Undo) → More c d → More (undo c r) (undo d r)
+pub undo_after : (c d : Cells) (r : Undo) → MorePages c d → MorePages (undo c r) (undo d r)
 undo_after c d Nothing more = more
 undo_after c d (Register cell) more = record {
   registers = ap (λ m. registers.undo m cell) more.registers;

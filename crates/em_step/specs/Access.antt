@@ -35,23 +35,23 @@ is_reset Ctrl v = bit_and v CTRL_RST == CTRL_RST
 is_reset reg v = false
 
 -- a write that stores what the register's row keeps
-abbrev pub stored : State → Reg → ℕ → State
-stored s reg v =
+abbrev pub after_store : State → Reg → ℕ → State
+after_store s reg v =
     if is_latched reg then record s { latches = latches.after_write s.latches reg v }
     else record s { registers = registers.put s.registers reg v }
 
 -- a write of EERD: with START set it reads the EEPROM's word at the address in bits 15 to 8, 0 past its end
-abbrev pub eerd_written : State → ℕ → State
-eerd_written s v =
+abbrev pub after_eerd_write : State → ℕ → State
+after_eerd_write s v =
     if bit_and v EERD_START == EERD_START then record s { registers = registers.put_eerd s.registers (v / 0x100 % 0x100) (slice_index s.eeprom (v / 0x100 % 0x100)) }
-    else stored s Eerd v
+    else after_store s Eerd v
 
 -- the state after a write of v
 abbrev pub after_write : State → Reg → ℕ → State
-after_write s Ctrl v = if is_reset Ctrl v then reset s else stored s Ctrl v
+after_write s Ctrl v = if is_reset Ctrl v then reset s else after_store s Ctrl v
 after_write s Status v = s
-after_write s Eerd v = eerd_written s v
-after_write s reg v = stored s reg v
+after_write s Eerd v = after_eerd_write s v
+after_write s reg v = after_store s reg v
 
 -- two truth values differ
 abbrev pub differ : Bool → Bool → Bool
@@ -60,5 +60,5 @@ differ true false = true
 differ false b = b
 
 -- a change of the link raises LSC; a link that stays raises nothing
-abbrev pub link_changed : State → Bool → State
-link_changed s up = if differ up s.link then record s { link = up; latches = latches.raised s.latches LSC } else s
+abbrev pub after_link : State → Bool → State
+after_link s up = if differ up s.link then record s { link = up; latches = latches.after_raise s.latches LSC } else s

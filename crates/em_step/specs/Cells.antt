@@ -30,9 +30,9 @@ abbrev pub fresh : ℕ → List ℕ → Cells
 fresh size eeprom = record { registers = registers.reset (mac_of eeprom); latches = latches.fresh; memory = memory.fresh size; eeprom = eeprom; link = false }
 
 -- the same, but that d may have more pages made
-pub record More (c d : Cells) : Type 0 where
+pub record MorePages (c d : Cells) : Type 0 where
   pub registers : d.registers ≡ c.registers
   pub latches : d.latches ≡ c.latches
-  pub memory : memory.More c.memory d.memory
+  pub memory : memory.MorePages c.memory d.memory
   pub eeprom : d.eeprom ≡ c.eeprom
   pub link : d.link ≡ c.link

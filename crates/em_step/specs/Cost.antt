@@ -4,7 +4,8 @@ use Rattle.em_regs.specs.Table.{reg_at}
 use Rattle.em_regs.specs.declared.reg.Reg.{Reg}
 use Rattle.em_step.specs.Access.{is_reset}
 use Rattle.em_step.specs.State.{State}
-use Rattle.em_step.specs.Step.{Act, reads, writes, pokes, links, resets}
+use Rattle.em_step.specs.Event.{Event, reads, writes, pokes, links}
+use Rattle.em_step.specs.Step.{resets}
 use Rattle.em_step.specs.declared.undo.TheConstants.{LEAST_COST, MOST_COST}
 use Rattle.em_step.specs.declared.undo.Undo.{Undo}
 use Rattle.em_step.specs.declared.undo.Undo.TheVariants.{Nothing, Register, Latch, Octets, Link, Reset}
@@ -14,7 +15,7 @@ abbrev pub write_cost : Reg → ℕ → ℕ
 write_cost reg v = if is_reset reg v then MOST_COST else LEAST_COST
 
 -- of an event that is performed in the state
-abbrev pub cost : State → Act → ℕ
+abbrev pub cost : State → Event → ℕ
 cost s (reads o) = LEAST_COST
 cost s (writes o v) = if resets (reg_at o) v then MOST_COST else LEAST_COST
 cost s (pokes a octets) = LEAST_COST + length octets

@@ -1,7 +1,8 @@
+pub mod Event
 pub mod State
 pub mod Access
 pub mod Cells
 pub mod Refusal
 pub mod Step
-pub mod Undoing
+pub mod Undo
 pub mod Cost

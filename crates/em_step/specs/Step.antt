@@ -3,28 +3,14 @@ use Rattle.std.specs.Prelude.{◌≡◌, ◌⊎◌, ℕ, ◌+◌, ◌==◌, ◌|
 use Rattle.em_mem.specs.Memory.{put}
 use Rattle.em_regs.specs.Table.{reg_at}
 use Rattle.em_regs.specs.declared.reg.Reg.{Reg}
+use Rattle.em_step.specs.Event.{Event, reads, writes, pokes, links}
 use Rattle.em_step.specs.State.{State}
-use Rattle.em_step.specs.Access.{gives, after_read, after_write, is_reset, link_changed}
+use Rattle.em_step.specs.Access.{gives, after_read, after_write, is_reset, after_link}
 use Rattle.em_step.specs.declared.adapter.TheConstants.{MOST_POKE}
-use Rattle.em_step.specs.declared.event.Event.{Event}
-use Rattle.em_step.specs.declared.event.Event.TheVariants.{Read, Write, Poke, Link}
 use Rattle.em_step.specs.declared.event.Answer.{Answer}
 use Rattle.em_step.specs.declared.event.Answer.TheVariants.{Done, Value}
 use Rattle.em_step.specs.declared.event.Refusal.{Refusal}
 use Rattle.em_step.specs.declared.event.Refusal.TheVariants.{NoRegister, Range, Length, Memory}
-
--- an event as data
-pub data Act : Type 0 where
-  reads : ℕ → Act
-  writes : ℕ → ℕ → Act
-  pokes : ℕ → List ℕ → Act
-  links : Bool → Act
-
-abbrev pub seen : Event → Act
-seen (Read o) = reads o
-seen (Write o v) = writes o v
-seen (Poke a octets) = pokes a octets.now
-seen (Link up) = links up
 
 -- an access of the register at an offset, where there is one
 abbrev pub at_register : Option Reg → (Reg → Answer × State) → Result (Answer × State) Refusal
@@ -39,11 +25,11 @@ poke s a octets =
     else Ok (Done, record s { memory = put s.memory a octets })
 
 -- the answer and the next state, or why there is none
-abbrev pub step : State → Act → Result (Answer × State) Refusal
+abbrev pub step : State → Event → Result (Answer × State) Refusal
 step s (reads o) = at_register (reg_at o) (λ reg. (Value (gives s reg), after_read s reg))
 step s (writes o v) = at_register (reg_at o) (λ reg. (Done, after_write s reg v))
 step s (pokes a octets) = poke s a octets
-step s (links up) = Ok (Done, link_changed s up)
+step s (links up) = Ok (Done, after_link s up)
 
 -- a write that resets
 abbrev pub resets : Option Reg → ℕ → Bool
@@ -51,12 +37,12 @@ resets None v = false
 resets (Some reg) v = is_reset reg v
 
 -- the events that take memory: a memory write, and a reset
-abbrev pub takes_memory : Act → Bool
+abbrev pub takes_memory : Event → Bool
 takes_memory (reads o) = false
 takes_memory (writes o v) = resets (reg_at o) v
 takes_memory (pokes a octets) = true
 takes_memory (links up) = false
 
 -- what refuses an event: its first cause, or, where it has none and takes memory, the want of memory
-abbrev pub Refuses : State → Act → Refusal → Type 0
+abbrev pub Refuses : State → Event → Refusal → Type 0
 Refuses s a refusal = ((refusal ≡ Memory) × IsTrue (takes_memory a) × IsOk (step s a)) ⊎ (step s a ≡ Err refusal)

@@ -5,14 +5,15 @@ ghost use Rattle.em_mem.specs.Memory.{IsMemorySize, IsHeld, part};
 ghost use Rattle.em_regs.specs.Table.{IsReg, reg_at};
 ghost use Rattle.em_regs.specs.Registers.{IsStored};
 ghost use Rattle.em_latch.specs.Latches.{IsLatched, IsAsserted};
-ghost use Rattle.em_step.specs.Access.{gives, after_read, after_write, status_of, is_reset, stored, eerd_written, reset, link_changed};
-ghost use Rattle.em_step.specs.Cells.{fresh, shows, More};
-ghost use Rattle.em_step.specs.Step.{seen, step, pokes, Refuses};
-ghost use Rattle.em_step.specs.Undoing.{Fits, undo};
+ghost use Rattle.em_step.specs.Access.{gives, after_read, after_write, status_of, is_reset, after_store, after_eerd_write, reset, after_link};
+ghost use Rattle.em_step.specs.Cells.{fresh, shows, MorePages};
+ghost use Rattle.em_step.specs.Event.{plain, pokes};
+ghost use Rattle.em_step.specs.Step.{step, Refuses};
+ghost use Rattle.em_step.specs.Undo.{Fits, undo};
 ghost use Rattle.em_step.specs.Cost.{cost, cost_of, write_cost};
 
 use crate::event::{Answer, Event, Refusal};
-use crate::undo::{Kept, LEAST_COST, MOST_COST, Undo};
+use crate::undo::{BeforeReset, LEAST_COST, MOST_COST, Undo};
 use bitflags::Flags;
 use em_eeprom::Eeprom;
 use em_latch::Latches;
@@ -127,12 +128,12 @@ impl Adapter {
     /// Performs one event, and gives what takes it back. A refused event changes nothing that is
     /// shown.
     pub fn apply(&mut self, event: Event<'_>) -> Result<(Answer, Undo), Refusal>
-        ensures ok { IfOk result (λ r. step (shows self.old) (seen event.entry) ≡ Ok (r.0, shows self.new)) }
-        ensures cost { IfOk result (λ r. cost_of r.1 ≡ cost (shows self.old) (seen event.entry)) }
+        ensures ok { IfOk result (λ r. step (shows self.old) (plain event.entry) ≡ Ok (r.0, shows self.new)) }
+        ensures cost { IfOk result (λ r. cost_of r.1 ≡ cost (shows self.old) (plain event.entry)) }
         ensures fits { IfOk result (λ r. Fits self.new r.1) }
-        ensures restores { IfOk result (λ r. More self.old (undo self.new r.1)) }
-        ensures err { IfErr result (Refuses (shows self.old) (seen event.entry)) }
-        ensures same { OnErr result (More self.old self.new) }
+        ensures restores { IfOk result (λ r. MorePages self.old (undo self.new r.1)) }
+        ensures err { IfErr result (Refuses (shows self.old) (plain event.entry)) }
+        ensures same { OnErr result (MorePages self.old self.new) }
     {
         match event {
             Event::Read(offset) => {
@@ -156,7 +157,7 @@ impl Adapter {
     /// Takes an event back by its record.
     pub fn take_back(&mut self, undo: Undo)
         requires { Fits self.old undo }
-        ensures { self.new ≡ Rattle.em_step.specs.Undoing.undo self.old undo }
+        ensures { self.new ≡ Rattle.em_step.specs.Undo.undo self.old undo }
     {
         match undo {
             Undo::Nothing => {}
@@ -168,7 +169,7 @@ impl Adapter {
                 self.latches.take_back(cells);
             }
             Undo::Reset(kept) => {
-                let Kept { registers, latches } = Box::into_inner(kept);
+                let BeforeReset { registers, latches } = Box::into_inner(kept);
                 self.registers = registers;
                 self.latches = latches;
             }
@@ -195,7 +196,7 @@ impl Adapter {
         ensures state { shows self.new ≡ after_read (shows self.old) reg }
         ensures cost { cost_of result.1 ≡ LEAST_COST }
         ensures fits { Fits self.new result.1 }
-        ensures restores { More self.old (undo self.new result.1) }
+        ensures restores { MorePages self.old (undo self.new result.1) }
     {
         if self.latches.holds(reg) {
             let (value, undo) = self.latches.read(reg);
@@ -210,7 +211,7 @@ impl Adapter {
         ensures state { OnOk result (shows self.new ≡ after_write (shows self.old) reg value) }
         ensures cost { IfOk result (λ r. cost_of r ≡ write_cost reg value) }
         ensures fits { IfOk result (λ r. Fits self.new r) }
-        ensures restores { IfOk result (λ r. More self.old (undo self.new r)) }
+        ensures restores { IfOk result (λ r. MorePages self.old (undo self.new r)) }
         ensures err { IfErr result (λ e. (e ≡ Refusal.Memory) × IsTrue (is_reset reg value)) }
         ensures same { OnErr result (self.new ≡ self.old) }
     {
@@ -232,10 +233,10 @@ impl Adapter {
     fn store(&mut self, reg: Reg, value: u32) -> Undo
         requires reg { IsReg reg }
         requires kept { IsStored reg ⊎ IsLatched reg }
-        ensures state { shows self.new ≡ stored (shows self.old) reg value }
+        ensures state { shows self.new ≡ after_store (shows self.old) reg value }
         ensures cost { cost_of result ≡ LEAST_COST }
         ensures fits { Fits self.new result }
-        ensures restores { More self.old (undo self.new result) }
+        ensures restores { MorePages self.old (undo self.new result) }
     {
         if self.latches.holds(reg) {
             Undo::Latch(self.latches.write(reg, value))
@@ -246,10 +247,10 @@ impl Adapter {
 
     /// Writes EERD: with START the word at the address is there at once.
     fn write_eerd(&mut self, value: u32) -> Undo
-        ensures state { shows self.new ≡ eerd_written (shows self.old) value }
+        ensures state { shows self.new ≡ after_eerd_write (shows self.old) value }
         ensures cost { cost_of result ≡ LEAST_COST }
         ensures fits { Fits self.new result }
-        ensures restores { More self.old (undo self.new result) }
+        ensures restores { MorePages self.old (undo self.new result) }
     {
         if value & EERD_START == EERD_START {
             let address = (value / 0x100 % 0x100) as u8;
@@ -265,11 +266,11 @@ impl Adapter {
         ensures state { OnOk result (shows self.new ≡ reset (shows self.old)) }
         ensures cost { IfOk result (λ r. cost_of r ≡ MOST_COST) }
         ensures fits { IfOk result (λ r. Fits self.new r) }
-        ensures restores { IfOk result (λ r. More self.old (undo self.new r)) }
+        ensures restores { IfOk result (λ r. MorePages self.old (undo self.new r)) }
         ensures err { IfErr result (λ e. e ≡ Refusal.Memory) }
         ensures same { OnErr result (self.new ≡ self.old) }
     {
-        let fresh = Kept {
+        let fresh = BeforeReset {
             registers: RegFile::reset(self.eeprom.mac()),
             latches: Latches::new(),
         };
@@ -282,10 +283,10 @@ impl Adapter {
 
     /// Takes the link up or down; a change raises LSC.
     fn change_link(&mut self, up: bool) -> Undo
-        ensures state { shows self.new ≡ link_changed (shows self.old) up }
+        ensures state { shows self.new ≡ after_link (shows self.old) up }
         ensures cost { cost_of result ≡ LEAST_COST }
         ensures fits { Fits self.new result }
-        ensures restores { More self.old (undo self.new result) }
+        ensures restores { MorePages self.old (undo self.new result) }
     {
         if up == self.link {
             return Undo::Nothing;
@@ -299,9 +300,9 @@ impl Adapter {
         ensures ok { OnOk result (step (shows self.old) (pokes addr octets.now) ≡ Ok (Answer.Done, shows self.new)) }
         ensures cost { IfOk result (λ r. cost_of r ≡ cost (shows self.old) (pokes addr octets.now)) }
         ensures fits { IfOk result (λ r. Fits self.new r) }
-        ensures restores { IfOk result (λ r. More self.old (undo self.new r)) }
+        ensures restores { IfOk result (λ r. MorePages self.old (undo self.new r)) }
         ensures err { IfErr result (Refuses (shows self.old) (pokes addr octets.now)) }
-        ensures same { OnErr result (More self.old self.new) }
+        ensures same { OnErr result (MorePages self.old self.new) }
     {
         if !self.memory.holds(addr, octets.len() as u64) {
             return Err(Refusal::Range);

@@ -8,4 +8,4 @@ mod undo;
 
 pub use adapter::Adapter;
 pub use event::{Answer, Event, Refusal};
-pub use undo::{Kept, LEAST_COST, MOST_COST, Undo};
+pub use undo::{BeforeReset, LEAST_COST, MOST_COST, Undo};

@@ -8,7 +8,7 @@ use em_regs::{RegFile, RegUndo};
 
 /// What a reset put aside: the registers and latches as they were.
 #[derive(Drop)]
-pub struct Kept {
+pub struct BeforeReset {
     pub registers: RegFile,
     pub latches: Latches,
 }
@@ -23,7 +23,7 @@ pub enum Undo {
     Octets(MemUndo),
     /// The link, as it was, and the causes before its change was raised.
     Link(bool, LatchUndo),
-    Reset(Box<Kept>),
+    Reset(Box<BeforeReset>),
 }
 
 /// What a record costs that holds no octets.

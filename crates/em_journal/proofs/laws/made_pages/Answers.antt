@@ -1,4 +1,4 @@
-use Rattle.em_journal.proofs.ChainLaws.{fit_after, back_after}
+use Rattle.em_journal.proofs.RecordsLaws.{fit_after, back_after}
 use Rattle.em_journal.proofs.laws.made_pages.Goals as goal
 
 pub returns : goal.returns

@@ -2,7 +2,7 @@ use Rattle.std.proofs.Common.{◌-◌, length, refl, sym, ap, ◌∙◌, arith}
 use Rattle.std.proofs.lemmas.List.{length-take-le}
 use Rattle.std.proofs.Math.Seq.{take-length}
 use Rattle.circular_buffer.specs.Buffer.{buffer}
-use Rattle.em_journal.specs.Chain.{costs_of}
+use Rattle.em_journal.specs.Records.{costs_of}
 use Rattle.em_journal.proofs.BudgetLaws.{sum_some, reach_length, length-costs_of, reach_less, left_after_drop, left_is_reach}
 use Rattle.em_journal.proofs.records.drop_oldest.Goals as goal
 

@@ -1,6 +1,6 @@
 use Rattle.std.proofs.Common.{◌≡◌, ◌≤◌, length, take}
 use Rattle.std.specs.Prelude.{sum}
-use Rattle.em_journal.specs.Chain.{costs_of}
+use Rattle.em_journal.specs.Records.{costs_of}
 use Rattle.em_journal.specs.View.{reach}
 use Rattle.em_journal.proofs.records.drop_oldest.Given as goal
 

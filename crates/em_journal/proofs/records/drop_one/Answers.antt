@@ -1,6 +1,6 @@
 use Rattle.std.proofs.Common.{sym, ap, ◌∙◌, arith}
 use Rattle.std.specs.Prelude.{sum}
-use Rattle.em_journal.specs.Chain.{costs_of}
+use Rattle.em_journal.specs.Records.{costs_of}
 use Rattle.em_journal.proofs.BudgetLaws.{sum_without_last}
 use Rattle.em_journal.proofs.records.drop_one.Goals as goal
 

@@ -13,12 +13,12 @@ pub loop-rest-preserved : goal.loop-rest-preserved
 loop-rest-preserved g c =
     let line = c.next_line.result.0.now in
     let meant : said c.in-Ok.form c.as_slice.result.now ≡ saying_of line = ap (said c.in-Ok.form) c.as_slice.ensures.value ∙ c.in-Ok.ensures in
-    let performed = rw meant at c.answer.ensures in
-    let played : Played = record { line = line; refused = performed.memory } in
+    let after_event = rw meant at c.answer.ensures in
+    let played : Played = record { line = line; refused = after_event.memory } in
     record {
-      ran = Ran-more _ _ _ played _ _ _ _ _ _ _ _ _ c.loop-rest.invariant.ran c.next_line.ensures.lines performed.allowed performed.desk
-          (rw c.in-Ok-answer.is at performed.text)
-          (c.count.ensures.value ∙ ap (counted c.loop-rest.summary) (rw c.in-Ok-answer.is at performed.outcome));
+      ran = Ran-more _ _ _ played _ _ _ _ _ _ _ _ _ c.loop-rest.invariant.ran c.next_line.ensures.lines after_event.allowed after_event.desk
+          (rw c.in-Ok-answer.is at after_event.text)
+          (c.count.ensures.value ∙ ap (counted c.loop-rest.summary) (rw c.in-Ok-answer.is at after_event.outcome));
       bad = c.count.ensures.bad;
       refused = c.count.ensures.refused;
       few = omega (arith, c.count.ensures.lines);
@@ -50,5 +50,5 @@ returns-in-Err-clause-err g c =
     let ran = c.loop-rest.invariant.ran in
     let line = c.next_line.result.0.now in
     let meant : said c.in-Ok.form c.as_slice.result.now ≡ saying_of line = ap (said c.in-Ok.form) c.as_slice.ensures.value ∙ c.in-Ok.ensures in
-    let performed = rw meant at c.answer.ensures in
-    Ran-fails _ _ _ record { line = line; refused = performed.memory } _ _ _ _ _ _ _ _ ran c.next_line.ensures.lines performed.allowed performed.desk (rw c.in-Err.is at performed.text)
+    let after_event = rw meant at c.answer.ensures in
+    Ran-fails _ _ _ record { line = line; refused = after_event.memory } _ _ _ _ _ _ _ _ ran c.next_line.ensures.lines after_event.allowed after_event.desk (rw c.in-Err.is at after_event.text)

@@ -1,5 +1,5 @@
 use Rattle.std.proofs.Common.{◌∙◌, sym, ap, length}
-use Rattle.em_journal.proofs.ChainLaws.{length-back_through}
+use Rattle.em_journal.proofs.RecordsLaws.{length-back_through}
 use Rattle.em_journal.proofs.BudgetLaws.{length-costs_of}
 use Rattle.em_journal.proofs.machine.Machine.can_go_back.Goals as goal
 

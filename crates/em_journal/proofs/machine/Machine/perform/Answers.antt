@@ -1,6 +1,6 @@
 use Rattle.std.proofs.Common.{ap, ◌∙◌, arith, length}
-use Rattle.em_step.specs.Step.{seen}
-use Rattle.em_journal.proofs.ChainLaws.{view_more, journal_more, journal_same, view_same, on_err, length-back_through}
+use Rattle.em_step.specs.Event.{plain}
+use Rattle.em_journal.proofs.RecordsLaws.{view_more, journal_more, journal_same, view_same, on_err, length-back_through}
 use Rattle.em_journal.proofs.BudgetLaws.{newest_first, has_place}
 use Rattle.em_journal.proofs.machine.Machine.perform.Goals as goal
 
@@ -23,7 +23,7 @@ returns-clause-view c =
     let mid = ap (λ b. b.items) c.drop_oldest-kept.ensures.items in
     let new = ap (λ b. b.items) c.put_newest.ensures.items in
     let is = newest_first c.self.inside.budget c.from-cost.result c.self.inside.records.items c.drop_oldest-kept.new.records.items _ c.in_ok-answer.undo (omega (arith, c.cost.ensures.cost)) (omega arith) mid new in
-    view_more _ (seen c.args.event) c.self.inside.adapter c.apply.new.self c.in_ok-answer.undo c.self.inside.records.items _ _ is c.in_ok-answer.ensures.restores c.in_ok-answer.ensures.cost c.self.view_is
+    view_more _ (plain c.args.event) c.self.inside.adapter c.apply.new.self c.in_ok-answer.undo c.self.inside.records.items _ _ is c.in_ok-answer.ensures.restores c.in_ok-answer.ensures.cost c.self.view_is
 
 pub invariant_of-self : goal.invariant_of-self
 invariant_of-self c = journal_same _ _ _ c.self.inside.adapter c.apply.new.self _ c.in_err-answer.ensures.same c.self.invariant

@@ -3,7 +3,7 @@ use Rattle.std.specs.Prelude.{◌≡◌, ◌≤◌, ◌/◌, ℕ, List, [], ◌�
 use Rattle.em_step.specs.State.{State}
 use Rattle.em_step.specs.Cells.{Cells, shows}
 use Rattle.em_step.specs.Cost.{cost_of}
-use Rattle.em_step.specs.Undoing.{Fits, undo}
+use Rattle.em_step.specs.Undo.{Fits, undo}
 use Rattle.em_step.specs.declared.undo.TheConstants.{LEAST_COST}
 use Rattle.em_step.specs.declared.undo.Undo.{Undo}
 use Rattle.em_journal.specs.Budget.{IsBudget}

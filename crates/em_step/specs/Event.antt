@@ -1,0 +1,21 @@
+-- An event, as data.
+use Rattle.std.specs.Prelude.{ℕ, Bool, List}
+use Rattle.em_step.specs.declared.event.Event.{Event as Lent}
+use Rattle.em_step.specs.declared.event.Event.TheVariants as lent
+
+pub data Event : Type 0 where
+  -- software reads the register at an offset
+  reads : ℕ → Event
+  -- software writes a value to the register at an offset
+  writes : ℕ → ℕ → Event
+  -- software writes octets to guest memory, from an address on
+  pokes : ℕ → List ℕ → Event
+  -- the link goes up, or down
+  links : Bool → Event
+
+-- an event of the code without where its octets lie in memory
+abbrev pub plain : Lent → Event
+plain (lent.Read o) = reads o
+plain (lent.Write o v) = writes o v
+plain (lent.Poke a octets) = pokes a octets.now
+plain (lent.Link up) = links up
