@@ -2,3 +2,5 @@ pub mod RingLaws
 pub mod PatchLaws
 pub mod CutLaws
 pub mod ArrivalLaws
+pub mod DeliveryLaws
+pub mod StepLaws

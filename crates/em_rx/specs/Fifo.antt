@@ -1,6 +1,7 @@
 -- What the FIFO shows, and what it keeps.
-use Rattle.std.specs.Prelude.{◌≡◌, ℕ, ◌+◌, ◌<◌, ◌≤◌, List, [], ◌∷◌, ◌++◌, All, length, take, drop, replicate, sum_by, Option, None, refl}
+use Rattle.std.specs.Prelude.{◌≡◌, ℕ, ◌+◌, ◌-◌, ◌<◌, ◌≤◌, nat_lt, if◌then◌else◌, List, [], ◌∷◌, ◌++◌, All, length, take, drop, replicate, sum_by, Option, None, refl}
 use Rattle.std.specs.Coded.{Coded, code_by, coded×, coded_list, coded_ℕ, coded_option}
+use Rattle.em_mem.specs.Memory.{part}
 use Rattle.em_rx.specs.Frame.{Frame, len_of}
 use Rattle.em_rx.specs.Ring.{turn}
 use Rattle.em_rx.specs.declared.places.Entry.{Entry}
@@ -26,6 +27,24 @@ octets_in fifo = sum_by len_of fifo.frames
 -- a frame of n stored octets has room
 abbrev pub HasRoom : Fifo → ℕ → Type 0
 HasRoom fifo n = octets_in fifo + n ≤ 49_152
+
+-- the oldest frame
+abbrev pub first : Fifo → Frame
+first fifo = elim fifo.frames [ [] ↦ record { octets = []; tag = None } | frame ∷ frames ↦ frame ]
+
+-- how many of its octets are not in guest memory yet
+abbrev pub rest : Fifo → ℕ
+rest fifo = length (first fifo).octets - fifo.taken
+
+-- the next n of them
+abbrev pub next : Fifo → ℕ → List ℕ
+next fifo n = part (first fifo).octets fifo.taken n
+
+-- n octets more are in guest memory; with its last one the frame leaves
+abbrev pub after_delivery : Fifo → ℕ → Fifo
+after_delivery fifo n =
+    if nat_lt (fifo.taken + n) (length (first fifo).octets) then record fifo { taken = fifo.taken + n }
+    else record { frames = drop 1 fifo.frames; taken = 0 }
 
 -- what the FIFO keeps: each octet of the packet buffer, each entry of the ring, and the places in both.
 -- Octets that no frame has stay as they are until an arrival overwrites them
@@ -92,3 +111,10 @@ fresh = record {
   entries = replicate 877 (record { len = 0; tag = None });
   places = record { head = 0; first = 0; count = 0; taken = 0; used = 0 };
 }
+
+-- the entry is that of the first frame
+pub record IsFirst (c : Cells) (e : Entry) : Type 0 where
+  pub len : e.len ≡ length (first (shows c)).octets
+  pub tag : e.tag ≡ (first (shows c)).tag
+  pub taken : (shows c).taken < e.len
+  pub used : e.len ≤ c.places.used

@@ -3,4 +3,7 @@ pub mod Ring
 pub mod Frame
 pub mod Fifo
 pub mod FramePatch
+pub mod StepPatch
 pub mod Undo
+pub mod Descriptor
+pub mod Receive

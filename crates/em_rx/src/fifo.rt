@@ -1,16 +1,18 @@
 //! The FIFO: frames that lie end to end in one packet buffer.
-ghost use Rattle.std.specs.Prelude.{◌≡◌, ◌↔◌, ◌≤◌, IfOk, IfErr, IsTrue, OnOk, OnErr, length};
+ghost use Rattle.std.specs.Prelude.{◌≡◌, ◌↔◌, ◌+◌, ◌<◌, ◌≤◌, IfOk, IfErr, IsTrue, OnOk, OnErr, length};
 ghost use Rattle.em_mem.specs.Memory as memory;
 ghost use Rattle.em_rx.specs.Frame.{stored_frame};
-ghost use Rattle.em_rx.specs.Fifo.{after_arrival, empty, fresh, HasRoom, shows};
-ghost use Rattle.em_rx.specs.Undo.{Fits, FitsFrame, Reverses, octets_held, undo_fifo, undo_memory, with_patch};
+ghost use Rattle.em_rx.specs.Fifo.{after_arrival, empty, first, fresh, HasRoom, IsFirst, IsSound, next, rest, shows};
+ghost use Rattle.em_rx.specs.Descriptor.{written_back as octets_of};
+ghost use Rattle.em_rx.specs.Undo.{Fits, FitsFrame, FitsStep, IsMove, Reverses, octets_held, undo_fifo, undo_memory, with_both, with_patch};
 
+use crate::descriptor::written_back;
 use crate::frame::{stored_octets, stored_tag};
 use crate::places::{Entry, Places};
-use crate::ring::{replace, replace_entry, wrap};
-use crate::{FramePatch, RxRefusal, RxUndo};
-use em_mem::GuestMemory;
-use std::alloc::Global;
+use crate::ring::{copied, replace, replace_entry, wrap};
+use crate::{FramePatch, RxRefusal, RxUndo, StepPatch};
+use em_mem::{GuestMemory, MemUndo};
+use std::alloc::{AllocError, Global};
 use std::marker::Model;
 
 /// How many octets the packet buffer has (manual, chapter on packet buffer memory: 48 KB for receive).
@@ -149,6 +151,112 @@ impl Fifo {
         }
     }
 
+    /// Puts a step's patch in, and gives what it replaced: what was put in last is put back first.
+    pub(crate) fn exchange_step(&mut self, memory: &mut GuestMemory, patch: StepPatch) -> StepPatch
+        requires { FitsStep self.old memory.old patch }
+        ensures fifo { self.new ≡ record self.old { places = patch.places } }
+        ensures memory { memory.new ≡ with_both memory.old patch }
+        ensures held { length result.first.octets + length result.second.octets ≡ length patch.first.octets + length patch.second.octets }
+        ensures reverses { Reverses self.old self.new memory.old memory.new (RxUndo.Step result) }
+    {
+        let older = memory.exchange(patch.first);
+        let newer = memory.exchange(patch.second);
+        StepPatch {
+            first: newer,
+            second: older,
+            places: std::mem::replace(&mut self.places, patch.places),
+        }
+    }
+
+    /// Whether no frame waits.
+    pub(crate) fn is_empty(&self) -> bool
+        ensures { IsTrue result ↔ (length (shows self.now).frames ≡ 0) }
+    {
+        self.places.count == 0
+    }
+
+    /// The entry of the first frame.
+    fn first_entry(&self) -> Entry
+        requires { 0 < length (shows self.now).frames }
+        ensures { IsFirst self.now result }
+    {
+        self.entries[self.places.first as usize]
+    }
+
+    /// How many octets of the first frame are not in guest memory yet.
+    pub(crate) fn rest(&self) -> u32
+        requires { 0 < length (shows self.now).frames }
+        ensures { result ≡ rest (shows self.now) }
+    {
+        self.first_entry().len as u32 - self.places.taken
+    }
+
+    /// A copy of the next octets of the first frame.
+    fn piece(&self, count: u32) -> Result<Vec<u8>, AllocError>
+        requires some { 0 < length (shows self.now).frames }
+        requires count { count ≤ rest (shows self.now) }
+        ensures octets { IfOk result (λ piece. piece.items ≡ next (shows self.now) count) }
+        ensures count { IfOk result (λ piece. length piece.items ≡ count) }
+    {
+        let at = wrap(OCTETS, self.places.head + self.places.taken);
+        copied(
+            self.alloc,
+            self.octets.as_slice(),
+            at as usize,
+            count as usize,
+        )
+    }
+
+    /// The places with `count` octets more of the first frame in guest memory.
+    fn places_after(&self, count: u32) -> Places
+        requires some { 0 < length (shows self.now).frames }
+        requires count { count ≤ rest (shows self.now) }
+        ensures { IsMove self.now result count }
+    {
+        let places = self.places;
+        let len = self.first_entry().len as u32;
+        if places.taken + count < len {
+            return Places {
+                taken: places.taken + count,
+                ..places
+            };
+        }
+        Places {
+            head: wrap(OCTETS, places.head + len),
+            first: wrap(ENTRIES, places.first + 1),
+            count: places.count - 1,
+            taken: 0,
+            used: places.used - len,
+        }
+    }
+
+    /// What puts the next octets of the first frame into their buffer, and then writes the descriptor
+    /// back.
+    pub(crate) fn delivery(
+        &self,
+        buffer: u64,
+        count: u32,
+        written_at: u64,
+        last: bool,
+    ) -> Result<StepPatch, AllocError>
+        requires some { 0 < length (shows self.now).frames }
+        requires count { count ≤ rest (shows self.now) }
+        requires most { count ≤ 16_384 }
+        ensures first { IfOk result (λ patch. patch.first ≡ record { at = buffer; octets = next (shows self.now) count }) }
+        ensures second { IfOk result (λ patch. patch.second ≡ record { at = written_at; octets = octets_of count last (first (shows self.now)).tag }) }
+        ensures count { IfOk result (λ patch. length patch.first.octets ≡ count) }
+        ensures moves { IfOk result (λ patch. IsMove self.now patch.places count) }
+    {
+        let piece = self.piece(count)?;
+        let octets = written_back(count as u16, last, self.first_entry().tag);
+        let written = Vec::from_slice(self.alloc, octets.as_slice())?;
+        Ok(StepPatch {
+            first: MemUndo::new(buffer, piece),
+            second: MemUndo::new(written_at, written),
+            places: self.places_after(count),
+        })
+    }
+
     /// Takes back the change that gave out this record, and gives the record that makes it again. It
     /// takes no memory.
     pub fn exchange(&mut self, memory: &mut GuestMemory, taken: RxUndo) -> RxUndo
@@ -162,13 +270,14 @@ impl Fifo {
             RxUndo::Nothing => RxUndo::Nothing,
             RxUndo::Places(places) => RxUndo::Places(self.exchange_places(places)),
             RxUndo::Frame(patch) => RxUndo::Frame(self.exchange_frame(patch)),
+            RxUndo::Step(patch) => RxUndo::Step(self.exchange_step(memory, patch)),
         }
     }
 
     fn exchange_places(&mut self, places: Places) -> Places
-        requires { Rattle.em_rx.specs.Fifo.IsSound (record self.old { places = places }) }
+        requires { IsSound (record self.old { places = places }) }
         ensures state { self.new ≡ record self.old { places = places } }
-        ensures fits { Rattle.em_rx.specs.Fifo.IsSound (record self.new { places = result }) }
+        ensures fits { IsSound (record self.new { places = result }) }
         ensures restores { record self.new { places = result } ≡ self.old }
     {
         std::mem::replace(&mut self.places, places)

@@ -1,6 +1,7 @@
 //! Why the receive side refuses.
 ghost use Rattle.std.specs.Prelude.{◌≡◌};
 
+use em_mem::MemRefusal;
 use std::alloc::AllocError;
 
 /// Why a receive step was not made, or a frame not stored.
@@ -30,6 +31,18 @@ impl From<AllocError> for RxRefusal {
     ghost from_gives = { λ _ refusal. refusal ≡ Memory };
 
     fn from(_error: AllocError) -> RxRefusal {
+        RxRefusal::Memory
+    }
+}
+
+impl From<MemRefusal> for RxRefusal {
+    ghost use Rattle.std.specs.Prelude.{◌≡◌};
+    ghost use Rattle.em_rx.specs.declared.refusal.RxRefusal.TheVariants.{Memory};
+
+    ghost from_gives = { λ _ refusal. refusal ≡ Memory };
+
+    /// A page that is not made is `Memory`: no step asks for memory of another size.
+    fn from(_refusal: MemRefusal) -> RxRefusal {
         RxRefusal::Memory
     }
 }

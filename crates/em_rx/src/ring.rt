@@ -1,14 +1,36 @@
 //! Slices whose end is followed by their beginning.
-ghost use Rattle.std.specs.Prelude.{◌≡◌, ◌+◌, ◌<◌, ◌≤◌, ◌++◌, length, take, drop, set, get_or};
+ghost use Rattle.std.specs.Prelude.{◌≡◌, ◌+◌, ◌<◌, ◌≤◌, ◌++◌, IfOk, length, take, drop, set, get_or};
 ghost use Rattle.em_rx.specs.Ring.{ring_part, ring_put, wrap as place_in};
 
 use crate::places::Entry;
+use std::alloc::{AllocError, Global};
 
 /// The place `n` in a ring of the given size, where `n` may be past the end once.
 pub(crate) fn wrap(size: u32, n: u32) -> u32
     ensures { result ≡ place_in size n }
 {
     if n < size { n } else { n - size }
+}
+
+/// A copy of the `len` octets that lie in the ring from `at` on.
+pub(crate) fn copied(
+    alloc: Global,
+    ring: &[u8],
+    at: usize,
+    len: usize,
+) -> Result<Vec<u8>, AllocError>
+    requires at { at ≤ length ring.now }
+    requires size { len ≤ length ring.now }
+    ensures { IfOk result (λ octets. octets.items ≡ ring_part ring.now at len) }
+{
+    let (low, high) = ring.split_at(at);
+    if len <= high.len() {
+        return Vec::from_slice(alloc, &high[..len]);
+    }
+    let mut octets = Vec::with_capacity(alloc, len)?;
+    octets.extend_from_slice(high)?;
+    octets.extend_from_slice(&low[..len - high.len()])?;
+    Ok(octets)
 }
 
 /// Puts the octets into the ring from `at` on, and gives those that lay there.
