@@ -1,5 +1,6 @@
--- What an order prints, how its line counts, and what it leaves.
-use Rattle.std.specs.Prelude.{◌≡◌, ℕ, ◌+◌, ◌==◌, Bool, false, not, nat_lt, min, if◌then◌else◌, List, [], ◌∷◌, ◌++◌, length, codes, bit_and, Option, Some, None, Result, Ok, Err, IfOk, IsOk, IsTrue}
+-- What a command prints, how its line counts, and what it leaves.
+use Rattle.std.specs.Prelude.{◌≡◌, ℕ, ◌+◌, ◌==◌, Bool, false, not, nat_lt, min, if◌then◌else◌, List, [], ◌∷◌, length}
+use Rattle.std.specs.Prelude.{bit_and, Option, Some, None, Result, Ok, Err, IfOk, IsOk, IsTrue}
 use Rattle.em_mem.specs.Memory.{part}
 use Rattle.em_latch.specs.Latches.{causes, mask}
 use Rattle.em_step.specs.State.{State}
@@ -7,134 +8,128 @@ use Rattle.em_step.specs.Event.{Event}
 use Rattle.em_step.specs.Step.{step, takes_memory}
 use Rattle.em_step.specs.Cost.{cost}
 use Rattle.em_step.specs.declared.event.Answer.{Answer}
-use Rattle.em_step.specs.declared.event.Answer.TheVariants as answer
 use Rattle.em_step.specs.declared.event.Refusal.{Refusal}
-use Rattle.em_step.specs.declared.event.Refusal.TheVariants.{NoRegister, Range, Length, DmaRange, Extended, TooLong, Memory}
-use Rattle.em_text.specs.Writer.{Writes, hex_line_text, value_text, decimal_line_text}
+use Rattle.em_step.specs.declared.event.Refusal.TheVariants.{Range, Memory}
+use Rattle.em_text.specs.Writer.{hex_line_text}
 use Rattle.em_text.specs.declared.writer.WriteFailed.{WriteFailed}
 use Rattle.em_script.specs.declared.outcome.Outcome.{Outcome}
 use Rattle.em_script.specs.declared.outcome.Outcome.TheVariants as outcome
-use Rattle.em_script.specs.Desk.{Desk, present, past, after_event, after_back, after_backs}
-use Rattle.em_script.specs.Orders.{Order, event, peek, line, back, back_by, registers}
+use Rattle.em_script.specs.Session.{Session, present, past, after_event, after_back, after_backs}
+use Rattle.em_script.specs.Command.{Command, event, peek, interrupt_line, back, back_by, registers}
+use Rattle.em_script.specs.ParsedLine.{ParsedLine, silent, bad, says}
+use Rattle.em_script.specs.Output.{done_text, bit_text, back_text, bad_line_text, answer_text, refusal_text, empty_text}
+use Rattle.em_script.specs.Output.{Prints}
 use Rattle.em_script.specs.Registers.{registers_text}
-
--- ---- texts
-
-abbrev pub done_text : List ℕ
-done_text = codes "ok\n"
-
-abbrev pub bit_text : Bool → List ℕ
-bit_text bit = if bit then codes "1\n" else codes "0\n"
-
-abbrev pub back_text : ℕ → List ℕ
-back_text count = codes "back " ++ decimal_line_text count
-
-abbrev pub bad_text : ℕ → List ℕ
-bad_text number = codes "bad line " ++ decimal_line_text number
-
--- what a performed event prints
-abbrev pub answer_text : Answer → List ℕ
-answer_text answer.Done = done_text
-answer_text (answer.Value value) = value_text value
-
--- a refusal prints its name
-abbrev pub refused_as : List ℕ → List ℕ
-refused_as name = codes "refused " ++ name ++ codes "\n"
-
-abbrev pub refused_text : Refusal → List ℕ
-refused_text NoRegister = refused_as (codes "NoRegister")
-refused_text Range = refused_as (codes "Range")
-refused_text Length = refused_as (codes "Length")
-refused_text DmaRange = refused_as (codes "DmaRange")
-refused_text Extended = refused_as (codes "Extended")
-refused_text TooLong = refused_as (codes "TooLong")
-refused_text Memory = refused_as (codes "Memory")
-
--- of a reverse step where the journal is empty
-abbrev pub empty_text : List ℕ
-empty_text = refused_as (codes "Empty")
-
--- ---- replies
 
 pub record Reply : Type 0 where
   pub text : List ℕ
   pub outcome : Outcome
-  pub desk : Desk
+  pub session : Session
 
 -- what was asked for was done
-abbrev pub done : List ℕ → Desk → Reply
-done text desk = record { text = text; outcome = outcome.Done; desk = desk }
+abbrev pub done_reply : List ℕ → Session → Reply
+done_reply text session = record { text = text; outcome = outcome.Done; session = session }
 
 -- what was refused changed nothing
-abbrev pub refused : List ℕ → Desk → Reply
-refused text desk = record { text = text; outcome = outcome.Refused; desk = desk }
+abbrev pub refusal_reply : List ℕ → Session → Reply
+refusal_reply text session = record { text = text; outcome = outcome.Refused; session = session }
 
 -- to an event, by its step
-abbrev pub stepped : Result (Answer × State) Refusal → ℕ → Desk → Reply
-stepped (Ok r) cost desk = done (answer_text r.0) (after_event desk r.1 cost)
-stepped (Err refusal) cost desk = refused (refused_text refusal) desk
+abbrev pub step_reply : Result (Answer × State) Refusal → ℕ → Session → Reply
+step_reply (Ok r) cost session = done_reply (answer_text r.0) (after_event session r.1 cost)
+step_reply (Err refusal) cost session = refusal_reply (refusal_text refusal) session
 
 -- to an event, by whether memory was refused to it
-abbrev pub event_reply : Option ℕ → Event → Desk → Reply
-event_reply None act desk = stepped (step (present desk) act) (cost (present desk) act) desk
-event_reply (Some events) act desk = refused (refused_text Memory) desk
+abbrev pub event_reply : Option ℕ → Event → Session → Reply
+event_reply None e session = step_reply (step (present session) e) (cost (present session) e) session
+event_reply (Some events) e session = refusal_reply (refusal_text Memory) session
 
 -- to a look at n octets of memory, from an address on
-abbrev pub peek_reply : ℕ → ℕ → Desk → Reply
-peek_reply addr n desk =
-    if nat_lt (length (present desk).memory) (addr + n) then refused (refused_text Range) desk
-    else done (hex_line_text (part (present desk).memory addr n)) desk
+abbrev pub peek_reply : ℕ → ℕ → Session → Reply
+peek_reply addr n session =
+    if nat_lt (length (present session).memory) (addr + n) then refusal_reply (refusal_text Range) session
+    else done_reply (hex_line_text (part (present session).memory addr n)) session
 
 -- to a look at the interrupt line
-abbrev pub line_reply : Desk → Reply
-line_reply desk = done (bit_text (not (bit_and (causes (present desk).latches) (mask (present desk).latches) == 0))) desk
+abbrev pub interrupt_line_reply : Session → Reply
+interrupt_line_reply session =
+    let latches = (present session).latches in
+    done_reply (bit_text (not (bit_and (causes latches) (mask latches) == 0))) session
 
 -- to a look at the registers
-abbrev pub registers_reply : Desk → Reply
-registers_reply desk = done (registers_text (present desk)) desk
+abbrev pub registers_reply : Session → Reply
+registers_reply session = done_reply (registers_text (present session)) session
 
--- to a reverse step, by the states that there are to go back to
-abbrev pub back_reply : List State → Desk → Reply
-back_reply [] desk = refused empty_text desk
-back_reply (s ∷ older) desk = done done_text (after_back desk)
+-- to a step back, by the states that there are to go back to
+abbrev pub back_reply : List State → Session → Reply
+back_reply [] session = refusal_reply empty_text session
+back_reply (s ∷ older) session = done_reply done_text (after_back session)
 
--- to reverse steps: as many are taken as can be, at most so many
-abbrev pub back_by_reply : ℕ → Desk → Reply
-back_by_reply most desk = let count = min most (length (past desk)) in done (back_text count) (after_backs count desk)
+-- to steps back: as many are taken as can be, at most so many
+abbrev pub back_by_reply : ℕ → Session → Reply
+back_by_reply most session =
+    let count = min most (length (past session)) in done_reply (back_text count) (after_backs count session)
 
--- to an order, by whether memory was refused, and after how many of its events
-abbrev pub reply : Option ℕ → Order → Desk → Reply
-reply memory (event act) desk = event_reply memory act desk
-reply memory (peek addr n) desk = peek_reply addr n desk
-reply memory line desk = line_reply desk
-reply memory back desk = back_reply (past desk) desk
-reply memory (back_by most) desk = back_by_reply most desk
-reply memory registers desk = registers_reply desk
+-- to a command, by whether memory was refused, and after how many of its events
+abbrev pub reply : Option ℕ → Command → Session → Reply
+reply memory (event e) session = event_reply memory e session
+reply memory (peek addr n) session = peek_reply addr n session
+reply memory interrupt_line session = interrupt_line_reply session
+reply memory back session = back_reply (past session) session
+reply memory (back_by most) session = back_by_reply most session
+reply memory registers session = registers_reply session
 
 -- ---- memory
 
--- the orders that take memory
-abbrev pub order_takes_memory : Order → Bool
-order_takes_memory (event act) = takes_memory act
-order_takes_memory (peek addr n) = false
-order_takes_memory line = false
-order_takes_memory back = false
-order_takes_memory (back_by most) = false
-order_takes_memory registers = false
+-- the commands that take memory
+abbrev pub command_takes_memory : Command → Bool
+command_takes_memory (event e) = takes_memory e
+command_takes_memory _ = false
 
--- an order can be refused for memory before its event, which nothing else refuses
-abbrev pub MayBeRefused : ℕ → Order → Desk → Type 0
-MayBeRefused events (event act) desk = (events ≡ 0) × IsTrue (takes_memory act) × IsOk (step (present desk) act)
-MayBeRefused events (peek addr n) desk = ⊥
-MayBeRefused events line desk = ⊥
-MayBeRefused events back desk = ⊥
-MayBeRefused events (back_by most) desk = ⊥
-MayBeRefused events registers desk = ⊥
+-- a command can be refused for memory before its event, which nothing else refuses
+abbrev pub MayBeRefused : ℕ → Command → Session → Type 0
+MayBeRefused events (event e) session = (events ≡ 0) × IsTrue (takes_memory e) × IsOk (step (present session) e)
+MayBeRefused events _ session = ⊥
+
+-- ---- what a line says, by whether memory was refused to it, and after how many of its events
+
+-- what it prints, where it has this number
+abbrev pub line_text : ℕ → Option ℕ → ParsedLine → Session → List ℕ
+line_text number memory silent session = []
+line_text number memory bad session = bad_line_text number
+line_text number memory (says command) session = (reply memory command session).text
+
+abbrev pub line_outcome : Option ℕ → ParsedLine → Session → Outcome
+line_outcome memory silent session = outcome.Silent
+line_outcome memory bad session = outcome.Bad
+line_outcome memory (says command) session = (reply memory command session).outcome
+
+abbrev pub after_line : Option ℕ → ParsedLine → Session → Session
+after_line memory (says command) session = (reply memory command session).session
+after_line memory _ session = session
+
+abbrev pub line_takes_memory : ParsedLine → Bool
+line_takes_memory (says command) = command_takes_memory command
+line_takes_memory _ = false
+
+-- memory is refused only to what takes memory and is refused for nothing else
+abbrev pub IsAllowed : Option ℕ → ParsedLine → Session → Type 0
+IsAllowed None parsed session = Unit {0}
+IsAllowed (Some events) (says command) session = MayBeRefused events command session
+IsAllowed (Some events) _ session = ⊥
 
 -- ---- what a call does
 
--- the reply was written and is left
-pub record Gives (r : Reply) (now : Desk) (old new : Option (List ℕ)) (result : Result Outcome WriteFailed) : Type 0 where
-  pub text : Writes old new result r.text
-  pub outcome : IfOk result (λ o. o ≡ r.outcome)
-  pub desk : now ≡ r.desk
+-- the reply was printed, and its session is left
+pub record Gives (r : Reply) (now : Session) (old new : Option (List ℕ)) (result : Result Outcome WriteFailed)
+    : Type 0 where
+  pub prints : Prints r.text r.outcome old new result
+  pub session : now ≡ r.session
+
+-- what the line of this number says was done, and its text printed
+pub record Performs (number : ℕ) (parsed : ParsedLine) (first now : Session) (old new : Option (List ℕ))
+    (result : Result Outcome WriteFailed) : Type 0 where
+  pub memory : Option ℕ
+  pub allowed : IsAllowed memory parsed first
+  pub prints : Prints (line_text number memory parsed first) (line_outcome memory parsed first) old new result
+  pub session : now ≡ after_line memory parsed first

@@ -1,37 +1,34 @@
 -- What lies before the one who runs a script: a machine.
 use Rattle.std.specs.Prelude.{ℕ, zero, suc, List, [], ◌∷◌, drop}
-use Rattle.std.specs.Coded.{Coded}
 use Rattle.em_step.specs.State.{State}
-use Rattle.em_journal.specs.View.{View, view_code, after_event}
+use Rattle.em_journal.specs.View as views
+use Rattle.em_journal.specs.View.{View}
 
-abbrev pub Desk : Type 0
-Desk = View
-
-abbrev pub desk_code : Coded Desk
-desk_code = view_code
+abbrev pub Session : Type 0
+Session = View
 
 -- the state that the machine shows
-abbrev pub present : Desk → State
-present desk = desk.present
+abbrev pub present : Session → State
+present session = session.present
 
--- the states that reverse steps lead to, the newest first
-abbrev pub past : Desk → List State
-past desk = desk.past
+-- the states that steps back lead to, the newest first
+abbrev pub past : Session → List State
+past session = session.past
 
--- the desk after an event of the cost that led to s
-abbrev pub after_event : Desk → State → ℕ → Desk
-after_event desk s cost = after_event desk s cost
+-- after an event of the cost that led to s
+abbrev pub after_event : Session → State → ℕ → Session
+after_event session s cost = views.after_event session s cost
 
--- the desk after a reverse step to the newest of these states
-abbrev pub back_to : List State → Desk → Desk
-back_to [] desk = desk
-back_to (s ∷ older) desk = record desk { present = s; past = older; costs = drop 1 desk.costs }
+-- after a step back to the newest of these states
+abbrev pub back_to : List State → Session → Session
+back_to [] session = session
+back_to (s ∷ older) session = record session { present = s; past = older; costs = drop 1 session.costs }
 
--- the desk after a reverse step, where there is one
-abbrev pub after_back : Desk → Desk
-after_back desk = back_to (past desk) desk
+-- after a step back, where there is one
+abbrev pub after_back : Session → Session
+after_back session = back_to (past session) session
 
--- the desk after n reverse steps
-abbrev pub after_backs : ℕ → Desk → Desk
-after_backs zero desk = desk
-after_backs (suc n) desk = after_backs n (after_back desk)
+-- after n steps back
+abbrev pub after_backs : ℕ → Session → Session
+after_backs zero session = session
+after_backs (suc n) session = after_backs n (after_back session)

@@ -1,14 +1,19 @@
 //! What a line says.
-ghost use Rattle.std.specs.Prelude.{◌≡◌, ◌≤◌, ℕ, List, IfOk, IfSome};
-ghost use Rattle.em_script.specs.Arguments.{view};
-ghost use Rattle.em_text.specs.Numbers.{octets_of};
+ghost use Rattle.std.specs.Prelude.{◌≡◌, ◌≤◌, IfOk, IfSome, OnErr, IsSome, IsTrue};
 ghost use Rattle.em_step.specs.Event.{pokes};
-ghost use Rattle.em_script.specs.Orders.{said, says, event};
-ghost use Rattle.em_script.specs.Grammar.{saying_of, with, command_form, read_form, write_form, poke_form, peek_form, line_form, back_form, link_form, regs_form, way_of, count_to, is_comment};
+ghost use Rattle.em_text.specs.Numbers.{octets_of};
+ghost use Rattle.em_script.specs.Arguments.{plain as plain_arguments};
+ghost use Rattle.em_script.specs.Command.{event};
+ghost use Rattle.em_script.specs.ParsedLine.{plain, says, brings_octets};
+ghost use Rattle.em_script.specs.Grammar.{parsed_line, with, command_form, read_form, write_form, poke_form};
+ghost use Rattle.em_script.specs.Grammar.{peek_form, interrupt_line_form, back_form, link_form, registers_form};
+ghost use Rattle.em_script.specs.Grammar.{way_of, count_to, is_comment};
 
 use crate::arguments::{Arguments, arguments_of};
-use crate::name::{Name, name_of};
+use crate::command::Command;
+use crate::parsed_line::ParsedLine;
 use crate::peek_len::{MOST_PEEK, PeekLen};
+use em_step::Event;
 use em_text::{Words, decimal_number, hex_address, hex_number, octets_into};
 use std::alloc::AllocError;
 
@@ -18,43 +23,21 @@ const HASH: u8 = b'#';
 /// The most events that one `back` takes back.
 pub const MOST_BACK: u32 = 65_536;
 
-/// What to do with a machine.
-///
-/// Offsets, lengths and counts are as their line says them. The octets of a `Poke` lie beside it.
-#[derive(Clone, Copy, Debug)]
-pub enum Command {
-    Read(u32),
-    Write(u32, u32),
-    Poke(u64),
-    Peek(u64, PeekLen),
-    Line,
-    Back,
-    BackBy(u32),
-    Link(bool),
-    Registers,
-}
-
-/// A line prints nothing, or is bad, or is a command.
-#[derive(Clone, Copy, Debug)]
-pub enum Form {
-    Silent,
-    Bad,
-    Command(Command),
-}
-
-/// What a line says. The octets of a `Poke` are left in `octets`, which alone takes memory.
-#[tactic(auto, unfolding(crate::specs::Grammar::saying_of))]
-pub fn form_of(line: &[u8], octets: &mut Vec<u8>) -> Result<Form, AllocError>
-    ensures { IfOk result (λ form. said form octets.new.items ≡ saying_of line.now) }
+/// What a line says. The octets that it writes to guest memory are left in `octets`, which alone
+/// takes memory.
+#[tactic(auto, unfolding(crate::specs::Grammar::parsed_line))]
+pub fn parse_line<'a>(line: &[u8], octets: &'a mut Vec<u8>) -> Result<ParsedLine<'a>, AllocError>
+    ensures value { IfOk result (λ parsed. plain parsed ≡ parsed_line line.now) }
+    ensures memory { OnErr result (IsTrue (brings_octets (parsed_line line.now))) }
 {
     let mut words = Words(line);
     let Some(first) = words.next() else {
-        return Ok(Form::Silent);
+        return Ok(ParsedLine::Silent);
     };
     if is_comment(first) {
-        return Ok(Form::Silent);
+        return Ok(ParsedLine::Silent);
     }
-    command_form(name_of(first), arguments_of(words), octets)
+    command_form(first, arguments_of(words), octets)
 }
 
 fn is_comment(word: &[u8]) -> bool
@@ -63,130 +46,157 @@ fn is_comment(word: &[u8]) -> bool
     matches!(word, [HASH, ..])
 }
 
-fn command_form(
-    name: Option<Name>,
+fn command_form<'a>(
+    name: &[u8],
     arguments: Arguments<'_>,
-    octets: &mut Vec<u8>,
-) -> Result<Form, AllocError>
-    ensures { IfOk result (λ form. said form octets.new.items ≡ command_form name (view arguments.entry)) }
+    octets: &'a mut Vec<u8>,
+) -> Result<ParsedLine<'a>, AllocError>
+    ensures value { IfOk result (λ parsed. plain parsed ≡ command_form name.now (plain_arguments arguments.entry)) }
+    ensures memory { OnErr result (IsTrue (brings_octets (command_form name.now (plain_arguments arguments.entry)))) }
 {
-    match name {
-        Some(Name::Read) => Ok(read_form(arguments)),
-        Some(Name::Write) => Ok(write_form(arguments)),
-        Some(Name::Poke) => poke_form(arguments, octets),
-        Some(Name::Peek) => Ok(peek_form(arguments)),
-        Some(Name::Line) => Ok(line_form(arguments)),
-        Some(Name::Back) => Ok(back_form(arguments)),
-        Some(Name::Link) => Ok(link_form(arguments)),
-        Some(Name::Regs) => Ok(regs_form(arguments)),
-        None => Ok(Form::Bad),
+    if name == b"r".as_slice() {
+        return Ok(read_form(arguments));
     }
+    if name == b"w".as_slice() {
+        return Ok(write_form(arguments));
+    }
+    if name == b"poke".as_slice() {
+        return poke_form(arguments, octets);
+    }
+    if name == b"peek".as_slice() {
+        return Ok(peek_form(arguments));
+    }
+    if name == b"line".as_slice() {
+        return Ok(interrupt_line_form(arguments));
+    }
+    if name == b"back".as_slice() {
+        return Ok(back_form(arguments));
+    }
+    if name == b"link".as_slice() {
+        return Ok(link_form(arguments));
+    }
+    if name == b"regs".as_slice() {
+        return Ok(registers_form(arguments));
+    }
+    Ok(ParsedLine::Bad)
 }
 
-fn read_form(arguments: Arguments<'_>) -> Form
-    ensures { (octets : List ℕ) → said result octets ≡ read_form (view arguments.entry) }
+fn read_form(arguments: Arguments<'_>) -> ParsedLine<'static>
+    ensures { plain result ≡ read_form (plain_arguments arguments.entry) }
 {
     match arguments {
         Arguments::One(offset) => match hex_number(offset) {
-            Some(offset) => Form::Command(Command::Read(offset)),
-            None => Form::Bad,
+            Some(offset) => ParsedLine::Command(Command::Event(Event::Read(offset))),
+            None => ParsedLine::Bad,
         },
-        _ => Form::Bad,
+        _ => ParsedLine::Bad,
     }
 }
 
-fn write_form(arguments: Arguments<'_>) -> Form
-    ensures { (octets : List ℕ) → said result octets ≡ write_form (view arguments.entry) }
+fn write_form(arguments: Arguments<'_>) -> ParsedLine<'static>
+    ensures { plain result ≡ write_form (plain_arguments arguments.entry) }
 {
     match arguments {
         Arguments::Two(offset, value) => match (hex_number(offset), hex_number(value)) {
-            (Some(offset), Some(value)) => Form::Command(Command::Write(offset, value)),
-            _ => Form::Bad,
+            (Some(offset), Some(value)) => ParsedLine::Command(Command::Event(Event::Write(
+                offset, value,
+            ))),
+            _ => ParsedLine::Bad,
         },
-        _ => Form::Bad,
+        _ => ParsedLine::Bad,
     }
 }
 
-fn poke_form(arguments: Arguments<'_>, octets: &mut Vec<u8>) -> Result<Form, AllocError>
-    ensures { IfOk result (λ form. said form octets.new.items ≡ poke_form (view arguments.entry)) }
+fn poke_form<'a>(
+    arguments: Arguments<'_>,
+    octets: &'a mut Vec<u8>,
+) -> Result<ParsedLine<'a>, AllocError>
+    ensures value { IfOk result (λ parsed. plain parsed ≡ poke_form (plain_arguments arguments.entry)) }
+    ensures memory { OnErr result (IsTrue (brings_octets (poke_form (plain_arguments arguments.entry)))) }
 {
     match arguments {
         Arguments::Two(addr, digits) => match hex_address(addr) {
             Some(addr) => poke_at(addr, digits, octets),
-            None => Ok(Form::Bad),
+            None => Ok(ParsedLine::Bad),
         },
-        _ => Ok(Form::Bad),
+        _ => Ok(ParsedLine::Bad),
     }
 }
 
 /// A memory write at the address, if its octets are digits.
-fn poke_at(addr: u64, digits: &[u8], octets: &mut Vec<u8>) -> Result<Form, AllocError>
-    ensures { IfOk result (λ form. said form octets.new.items ≡ with (octets_of digits.now) (λ written. says (event (pokes addr written)))) }
+fn poke_at<'a>(
+    addr: u64,
+    digits: &[u8],
+    octets: &'a mut Vec<u8>,
+) -> Result<ParsedLine<'a>, AllocError>
+    ensures value { IfOk result (λ parsed.
+        plain parsed ≡ with (octets_of digits.now) (λ written. says (event (pokes addr written)))) }
+    ensures memory { OnErr result (IsSome (octets_of digits.now)) }
 {
     if octets_into(octets, digits)? {
-        Ok(Form::Command(Command::Poke(addr)))
+        Ok(ParsedLine::Command(Command::Event(Event::Poke(addr, octets.as_slice()))))
     } else {
-        Ok(Form::Bad)
+        Ok(ParsedLine::Bad)
     }
 }
 
-fn peek_form(arguments: Arguments<'_>) -> Form
-    ensures { (octets : List ℕ) → said result octets ≡ peek_form (view arguments.entry) }
+fn peek_form(arguments: Arguments<'_>) -> ParsedLine<'static>
+    ensures { plain result ≡ peek_form (plain_arguments arguments.entry) }
 {
     match arguments {
         Arguments::Two(addr, len) => match (hex_address(addr), count_to(MOST_PEEK as u32, len)) {
-            (Some(addr), Some(len)) => Form::Command(Command::Peek(
+            (Some(addr), Some(len)) => ParsedLine::Command(Command::Peek(
                 addr,
                 PeekLen {
                     octets: len as usize,
                 },
             )),
-            _ => Form::Bad,
+            _ => ParsedLine::Bad,
         },
-        _ => Form::Bad,
+        _ => ParsedLine::Bad,
     }
 }
 
-fn line_form(arguments: Arguments<'_>) -> Form
-    ensures { (octets : List ℕ) → said result octets ≡ line_form (view arguments.entry) }
+fn interrupt_line_form(arguments: Arguments<'_>) -> ParsedLine<'static>
+    ensures { plain result ≡ interrupt_line_form (plain_arguments arguments.entry) }
 {
     match arguments {
-        Arguments::Zero => Form::Command(Command::Line),
-        _ => Form::Bad,
+        Arguments::Zero => ParsedLine::Command(Command::InterruptLine),
+        _ => ParsedLine::Bad,
     }
 }
 
-fn back_form(arguments: Arguments<'_>) -> Form
-    ensures { (octets : List ℕ) → said result octets ≡ back_form (view arguments.entry) }
+fn back_form(arguments: Arguments<'_>) -> ParsedLine<'static>
+    ensures { plain result ≡ back_form (plain_arguments arguments.entry) }
 {
     match arguments {
-        Arguments::Zero => Form::Command(Command::Back),
+        Arguments::Zero => ParsedLine::Command(Command::Back),
         Arguments::One(count) => match count_to(MOST_BACK, count) {
-            Some(count) => Form::Command(Command::BackBy(count)),
-            None => Form::Bad,
+            Some(count) => ParsedLine::Command(Command::BackBy(count)),
+            None => ParsedLine::Bad,
         },
-        _ => Form::Bad,
+        _ => ParsedLine::Bad,
     }
 }
 
-fn link_form(arguments: Arguments<'_>) -> Form
-    ensures { (octets : List ℕ) → said result octets ≡ link_form (view arguments.entry) }
+fn link_form(arguments: Arguments<'_>) -> ParsedLine<'static>
+    ensures { plain result ≡ link_form (plain_arguments arguments.entry) }
 {
     match arguments {
         Arguments::One(way) => match way_of(way) {
-            Some(up) => Form::Command(Command::Link(up)),
-            None => Form::Bad,
+            Some(up) => ParsedLine::Command(Command::Event(Event::Link(up))),
+            None => ParsedLine::Bad,
         },
-        _ => Form::Bad,
+        _ => ParsedLine::Bad,
     }
 }
 
-fn regs_form(arguments: Arguments<'_>) -> Form
-    ensures { (octets : List ℕ) → said result octets ≡ regs_form (view arguments.entry) }
+fn registers_form(arguments: Arguments<'_>) -> ParsedLine<'static>
+    ensures { plain result ≡ registers_form (plain_arguments arguments.entry) }
 {
     match arguments {
-        Arguments::Zero => Form::Command(Command::Registers),
-        _ => Form::Bad,
+        Arguments::Zero => ParsedLine::Command(Command::Registers),
+        _ => ParsedLine::Bad,
     }
 }
 
