@@ -1,5 +1,5 @@
 -- What the words of an EEPROM mean.
-use Rattle.std.specs.Prelude.{◌≡◌, ℕ, ◌/◌, ◌%◌, List, [], ◌∷◌, sum, slice_index}
+use Rattle.std.specs.Prelude.{◌≡◌, ℕ, ◌+◌, ◌-◌, ◌*◌, ◌/◌, ◌%◌, List, [], ◌∷◌, ◌++◌, sum, replicate, slice_index}
 use Rattle.em_eeprom.specs.declared.eeprom.TheConstants.{CHECKSUM}
 
 -- the low and the high octet of a word
@@ -18,3 +18,17 @@ mac_of words =
 -- the words sum to BABA, modulo 65,536
 abbrev pub IsSummed : List ℕ → Type 0
 IsSummed words = sum words % 0x1_0000 ≡ CHECKSUM
+
+-- the words that hold an address
+abbrev pub address_words : List ℕ → List ℕ
+address_words mac =
+    (slice_index mac 0 + 256 * slice_index mac 1) ∷ (slice_index mac 2 + 256 * slice_index mac 3)
+    ∷ (slice_index mac 4 + 256 * slice_index mac 5) ∷ []
+
+-- what is to be added to three words for BABA, modulo 65,536
+abbrev pub rest_of : ℕ → ℕ
+rest_of total = (0x3_BABA - total) % 0x1_0000
+
+-- the 64 words for an address: its words, zeros, and last the one that makes the sum come out
+abbrev pub words_of_mac : List ℕ → List ℕ
+words_of_mac mac = address_words mac ++ (replicate 60 0 ++ rest_of (sum (address_words mac)) ∷ [])

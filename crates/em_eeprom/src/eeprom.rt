@@ -1,6 +1,6 @@
 //! The words of the EEPROM.
 ghost use Rattle.std.specs.Prelude.{◌≡◌, ◌↔◌, IsTrue, length, slice_index, slice_range, replicate};
-ghost use Rattle.em_eeprom.specs.Eeprom.{mac_of, IsSummed};
+ghost use Rattle.em_eeprom.specs.Eeprom.{mac_of, words_of_mac, IsSummed};
 
 use std::marker::Model;
 
@@ -40,6 +40,7 @@ impl Eeprom {
     /// An EEPROM with this Ethernet address in words 0 to 2, a last word that makes the sum come
     /// out, and zero between them.
     pub fn of_mac(mac: [u8; 6]) -> Eeprom
+        ensures words { result ≡ words_of_mac mac }
         ensures len { length result ≡ WORDS }
         ensures mac { mac_of result ≡ mac }
         ensures zeros { slice_range result 3 63 ≡ replicate 60 0 }
