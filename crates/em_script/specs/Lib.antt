@@ -3,7 +3,6 @@ pub mod Command
 pub mod ParsedLine
 pub mod Grammar
 pub mod Session
-pub mod Standard
 pub mod Registers
 pub mod Output
 pub mod Reply

@@ -1,5 +1,6 @@
 -- The lines of a script that were played.
 use Rattle.std.specs.Prelude.{◌≡◌, ℕ, ◌+◌, List, [], ◌∷◌, ◌++◌, map, Option, None}
+use Rattle.em_journal.specs.History.{Call}
 use Rattle.em_script.specs.declared.outcome.Outcome.{Outcome}
 use Rattle.em_script.specs.Session.{Session}
 use Rattle.em_script.specs.Grammar.{parsed_line}
@@ -18,6 +19,9 @@ played_outcome played session = replies.line_outcome played.refused (parsed_line
 
 abbrev pub after_played : PlayedLine → Session → Session
 after_played played session = replies.after_line played.refused (parsed_line played.line) session
+
+abbrev pub played_calls : PlayedLine → Session → List Call
+played_calls played session = replies.line_calls played.refused (parsed_line played.line) session
 
 abbrev pub IsAllowed : PlayedLine → Session → Type 0
 IsAllowed played session = replies.IsAllowed played.refused (parsed_line played.line) session
@@ -39,6 +43,11 @@ after_all (played ∷ all) session = after_all all (after_played played session)
 abbrev pub outcomes : List PlayedLine → Session → List Outcome
 outcomes [] session = []
 outcomes (played ∷ all) session = played_outcome played session ∷ outcomes all (after_played played session)
+
+-- the calls that they make
+abbrev pub calls : List PlayedLine → Session → List Call
+calls [] session = []
+calls (played ∷ all) session = played_calls played session ++ calls all (after_played played session)
 
 -- memory was refused only where it may be
 abbrev pub AreAllowed : List PlayedLine → Session → Type 0

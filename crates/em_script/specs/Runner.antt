@@ -2,6 +2,8 @@
 use Rattle.std.specs.Prelude.{◌≡◌, ℕ, ◌+◌, ◌<◌, ◌≤◌, false, List, ◌∷◌, ◌++◌, length, take, codes, Option, IsTrue}
 use Rattle.std.specs.List.{AllByRecursion}
 use Rattle.std.specs.Io.KnownBytes.{Appends, Consumes, IsAtEnd}
+use Rattle.em_step.specs.State.{State}
+use Rattle.em_journal.specs.History.{Call, Run, Leads, state, kept_events}
 use Rattle.em_text.specs.Lines.{lines_of}
 use Rattle.em_text.specs.Reader.{most_script}
 use Rattle.em_script.specs.declared.summary.Summary.{Summary}
@@ -12,7 +14,7 @@ use Rattle.em_script.specs.ParsedLine.{brings_octets}
 use Rattle.em_script.specs.Grammar.{parsed_line}
 use Rattle.em_script.specs.Reply.{line_takes_memory}
 use Rattle.em_script.specs.PlayedLine.{PlayedLine, played_text, after_played, IsAllowed, text_from, after_all, outcomes}
-use Rattle.em_script.specs.PlayedLine.{ArePlayed, with_memory}
+use Rattle.em_script.specs.PlayedLine.{ArePlayed, with_memory, calls}
 use Rattle.em_script.specs.Summary.{counts}
 
 -- what a script prints where memory is refused nowhere
@@ -31,7 +33,14 @@ SaysMemory written = (before behind : List ℕ) × (written ≡ before ++ codes 
 abbrev pub ReadsWhole : Option (List ℕ) → Option (List ℕ) → List ℕ → Type 0
 ReadsWhole old new script = Consumes old new script × IsAtEnd new × (length script ≤ most_script)
 
--- the script was played: its text was written, and its lines were counted
+-- the state that a session shows is that which all events lead to that were performed since its machine was new, and
+-- not taken back
+abbrev pub IsFold : List PlayedLine → Session → Session → Type 0
+IsFold all first now =
+    (budget : ℕ) (s : State) (before : List Call) → Leads budget s before first
+    → now.present ≡ state s (kept_events (before ++ calls all first))
+
+-- the script was played: its text was written, its lines were counted, and its commands' calls were made
 pub record Answers (script : List ℕ) (first now : Session) (old new : Option (List ℕ)) (summary : Summary)
     : Type 0 where
   pub all : List PlayedLine
@@ -39,6 +48,8 @@ pub record Answers (script : List ℕ) (first now : Session) (old new : Option (
   pub written : Appends old new (text_from 1 all first)
   pub session : now ≡ after_all all first
   pub count : summary ≡ counts (outcomes all first)
+  pub run : Run first (calls all first) now
+  pub fold : IsFold all first now
 
 -- the text of one line was written in part: that of the lines before it is written, and what the line did stands
 pub record FailsInLine (script : List ℕ) (first now : Session) (old new : Option (List ℕ)) : Type 0 where

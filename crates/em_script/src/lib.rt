@@ -32,10 +32,8 @@ mod registers;
 mod reply;
 mod runner;
 mod session;
-mod standard;
 mod summary;
 
 pub use runner::{BenchFault, run};
 pub use session::Session;
-pub use standard::{BUDGET, MAC, MEMORY, standard_machine};
 pub use summary::Summary;

@@ -1,10 +1,9 @@
 //! Doing what a line says, and writing its answer.
 ghost use Rattle.std.specs.Prelude.{ℕ};
 ghost use Rattle.em_step.specs.Event.{plain as plain_event};
-ghost use Rattle.em_script.specs.Session.{past};
 ghost use Rattle.em_script.specs.Command.{plain as plain_command, event as event_command};
 ghost use Rattle.em_script.specs.ParsedLine.{plain, says};
-ghost use Rattle.em_script.specs.Reply.{peek_reply, interrupt_line_reply, registers_reply, back_reply};
+ghost use Rattle.em_script.specs.Reply.{peek_reply, interrupt_line_reply, registers_reply, back_call, call_reply};
 ghost use Rattle.em_script.specs.Reply.{back_by_reply, Gives, Performs};
 
 use crate::command::Command;
@@ -107,7 +106,7 @@ fn registers<W: Write>(writer: &mut W, machine: &Machine) -> Result<Outcome, Wri
 }
 
 fn back<W: Write>(writer: &mut W, machine: &mut Machine) -> Result<Outcome, WriteFailed>
-    ensures { Gives (back_reply (past machine.old) machine.old)
+    ensures { Gives (call_reply (back_call machine.old.past) machine.old)
         machine.new (W.contents writer.old) (W.contents writer.new) result }
 {
     match machine.back() {
