@@ -5,7 +5,8 @@
 #![tactic(auto)]
 
 use anyhow::{Context, Result};
-use em_script::{Session, run, standard_machine};
+use em_journal::Settings;
+use em_script::{Session, run};
 use std::fs;
 use std::rt::Files;
 
@@ -26,7 +27,7 @@ fn row(rt: &(impl Files + AllocGlobal), name: &str) -> Result<&'static str> {
     let alloc = rt.alloc();
     let script = fs::read(rt, format!(in alloc; "{name}/script")?).context("reading a script")?;
     let wanted = fs::read(rt, format!(in alloc; "{name}/stdout")?).context("reading a text")?;
-    let mut session = Session::new(standard_machine(alloc)?);
+    let mut session = Session::new(Settings::default().machine(alloc)?);
     let mut printed = Vec::new(alloc);
     let mut reader = script.as_slice();
     run(alloc, &mut reader, &mut printed, &mut session)?;

@@ -1,17 +1,19 @@
 -- The number and the octets of a word, by cases.
-use Rattle.std.proofs.Common.{◌≡◌, ◌≢◌, ◌%◌, ℕ, ◌+◌, ◌*◌, ◌^◌, ◌<◌, ◌≤◌, true, false, List, length, drop, get_or, Some, None, refl, arith, add-one, take, Ok, Err, ap, ◌∙◌}
-use Rattle.std.specs.List.{list_all}
-use Rattle.std.proofs.lemmas.List.{drop_more}
+use Rattle.std.proofs.Common.{◌≡◌, ◌≢◌, ◌%◌, ℕ, ◌+◌, ◌*◌, ◌^◌, ◌<◌, ◌≤◌, true, false, List, length, drop, get_or, Option, Some, None, refl, arith, add-one, take, Result, Ok, Err, ap, ◌∙◌}
+use Rattle.std.specs.List.{list_all, AllPass}
+use Rattle.std.proofs.lemmas.List.{drop_more, get_or_default}
 use Rattle.std.proofs.lemmas.Bool.{lt-ltb, le-ltb}
 use Rattle.std.proofs.lemmas.Bool.Decides.{nat_tests}
 use Rattle.std.proofs.Math.Nat.{pow-le-pow_right, pow-suc, mul-le-mul_right}
 use Rattle.std.specs.Char.{is_digit, digit_value}
 use Rattle.std.specs.Str.Parse.{digits_value, digits_value_after}
 use Rattle.std.specs.Result.{result_ok}
-use Rattle.hex.specs.Hex.{decode_of, decode_pairs, hex_digit_value, digit_or_error, value_at, pair_value}
+use Rattle.std.specs.Prelude.{EachIndex, IsSome, slice_index}
+use Rattle.hex.specs.Hex.{decode_of, is_hex_digit, decode_pairs, hex_digit_value, digit_or_error, value_at, pair_value}
 use Rattle.hex.specs.declared.error.FromHexError.TheVariants.{InvalidHexCharacter}
 use Rattle.hex.proofs.Pairs.{prepend, decode_err, decode_done}
-use Rattle.hex.proofs.HexLemmas.{decode_of-even}
+use Rattle.hex.proofs.HexLemmas.{decode_of-even, decode_pairs-digits, decode_of-ok}
+use Rattle.hex.specs.declared.error.FromHexError.{FromHexError}
 use Rattle.em_text.specs.Numbers.{number, octets_of}
 
 -- no digit
@@ -83,6 +85,45 @@ octets_of-odd word h = grind (arith, nat_tests)
 pub octets_of-some : (word : List ℕ) → 0 < length word → octets_of word ≡ result_ok (decode_of word)
 unfolding octets_of
 octets_of-some word h = rw (lt-ltb 0 (length word) h) refl
+
+-- ---- digits alone
+
+-- the value of a hexadecimal digit, in the words of the crate `hex`
+hex_digit-value : (c : ℕ) → digit_value c < 16 → is_hex_digit c ≡ true
+hex_digit-value c h = grind (arith, nat_tests)
+
+value-hex_digit : (c : ℕ) → is_hex_digit c ≡ true → digit_value c < 16
+value-hex_digit c h = grind (arith, nat_tests)
+
+-- an even number of digits writes octets
+pub octets_of-digits : (word : List ℕ) → 0 < length word → length word % 2 ≡ 0
+    → EachIndex word (λ k. digit_value (slice_index word k) < 16) → IsSome (octets_of word)
+octets_of-digits word some even digits =
+    let pass : AllPass is_hex_digit word = λ k d lt.
+    rw (get_or_default word k d 0 lt) (hex_digit-value (get_or word k 0) (digits k lt)) in
+    let bytes = decode_pairs-digits 0 word even pass in
+    rw (octets_of-some word some ∙ ap result_ok (decode_of-even word even ∙ bytes.1)) refl
+
+-- what writes octets has digits alone
+pub digits-octets_of : (word : List ℕ) → 0 < length word → IsSome (octets_of word)
+    → EachIndex word (λ k. digit_value (slice_index word k) < 16)
+digits-octets_of word some h =
+    let written = decoded word (decode_of word) refl (rw (octets_of-some word some) at h) in
+    λ k lt. value-hex_digit (get_or word k 0) (written k 0 lt)
+  where
+  decoded : (word : List ℕ) (r : Result (List ℕ) FromHexError) → decode_of word ≡ r → IsSome (result_ok r)
+      → AllPass is_hex_digit word
+  decoded word (Ok bytes) e h = (decode_of-ok word bytes e).1
+  decoded word (Err x) e h = cc h
+
+-- a word that has some octet but digits writes no octets
+pub octets_of-no_digits : (word : List ℕ) → 0 < length word
+    → (EachIndex word (λ k. digit_value (slice_index word k) < 16) → ⊥) → octets_of word ≡ None
+octets_of-no_digits word some not = none (octets_of word) (λ h. not (digits-octets_of word some h))
+  where
+  none : (o : Option (List ℕ)) → (IsSome o → ⊥) → o ≡ None
+  none None h = refl
+  none (Some x) h = absurd (h refl)
 
 -- ---- two digits an octet
 
