@@ -1,10 +1,19 @@
 """What the parts of ./check share: where things lie, one run of the program, and the count of what passed."""
 import subprocess
+import sys
 from pathlib import Path
 
 TOP = Path(__file__).resolve().parent.parent
 CRATES = TOP / "crates"
 PROGRAM = CRATES / "em_bench" / "out" / "em_bench"
+
+
+def program() -> str:
+    """The program that a part is told to run, or the one that was built last."""
+    named = sys.argv[1] if sys.argv[1:] else str(PROGRAM)
+    if not Path(named).is_file():
+        sys.exit(f"{named} is not there: ./em_bench builds it")
+    return named
 
 
 def run(words: list, script: bytes | None = None, **how) -> subprocess.CompletedProcess:
