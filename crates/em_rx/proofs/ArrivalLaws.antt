@@ -35,7 +35,8 @@ arrival c d e = record {
   places = record c.places { count = c.places.count + 1; used = c.places.used + length d };
 }
 
-module _ (c : Cells) (d : List ℕ) (e : Entry) (sound : IsSound c) (is : length d ≡ e.len) (room : c.places.used + length d ≤ 49_152) (long : 56 ≤ length d) where
+module _ (c : Cells) (d : List ℕ) (e : Entry) (sound : IsSound c) (is : length d ≡ e.len)
+    (room : c.places.used + length d ≤ 49_152) (long : 56 ≤ length d) where
   abbrev T : List ℕ
   T = turn c.places.head c.octets
 
@@ -51,20 +52,24 @@ module _ (c : Cells) (d : List ℕ) (e : Entry) (sound : IsSound c) (is : length
   -- the ring of entries has a place
   has_place : c.places.count < 877
   has_place =
-      let n : length (live c) ≡ c.places.count = length-take-le c.places.count E (omega (arith, length-E, sound.count)) in
+      let n : length (live c) ≡ c.places.count
+      = length-take-le c.places.count E (omega (arith, length-E, sound.count)) in
       omega (arith, few (live c) sound.least, sound.used, room, long)
 
   abbrev after : Cells
   after = with_patch c (arrival c d e)
 
   octets_seen : turn c.places.head after.octets ≡ put T c.places.used d
-  octets_seen = turn-ring_put 49_152 c.places.head c.places.used c.octets d sound.octets sound.head room (omega (arith, long))
+  octets_seen =
+      turn-ring_put 49_152 c.places.head c.places.used c.octets d sound.octets sound.head room (omega (arith, long))
 
   entries_seen : turn c.places.first after.entries ≡ set E c.places.count e
   entries_seen = turn-set 877 c.places.first c.places.count c.entries e sound.entries sound.first has_place
 
   live_after : live after ≡ live c ++ e ∷ []
-  live_after = ap (take (c.places.count + 1)) entries_seen ∙ take_more_set E c.places.count e (omega (arith, length-E, has_place))
+  live_after =
+      ap (take (c.places.count + 1)) entries_seen
+      ∙ take_more_set E c.places.count e (omega (arith, length-E, has_place))
 
   length-front : length (take c.places.used T) ≡ c.places.used
   length-front = length-take-le c.places.used T (omega (arith, length-T, sound.room))
@@ -87,7 +92,8 @@ module _ (c : Cells) (d : List ℕ) (e : Entry) (sound : IsSound c) (is : length
 
   pub arrival_shows : shows after ≡ after_arrival (shows c) (record { octets = d; tag = e.tag })
   arrival_shows =
-      let frames : cut (live after) (turn c.places.head after.octets) ≡ cut (live c) T ++ record { octets = d; tag = e.tag } ∷ []
+      let frames : cut (live after) (turn c.places.head after.octets)
+      ≡ cut (live c) T ++ record { octets = d; tag = e.tag } ∷ []
       = ap₂ cut live_after octets_seen
       ∙ cut_push (live c) e (put T c.places.used d)
       ∙ ap₂ (λ (fs : List Frame) (o : List ℕ). fs ++ record { octets = o; tag = e.tag } ∷ []) others_stay last_is in
@@ -95,30 +101,46 @@ module _ (c : Cells) (d : List ℕ) (e : Entry) (sound : IsSound c) (is : length
 
   arrival_sound : IsSound after
   arrival_sound = record {
-    octets = length-ring_put c.octets (wrap 49_152 (c.places.head + c.places.used)) d (omega (arith, sound.octets, room)) ∙ sound.octets;
+    octets =
+        length-ring_put c.octets (wrap 49_152 (c.places.head + c.places.used)) d (omega (arith, sound.octets, room))
+        ∙ sound.octets;
     entries = length-set c.entries (wrap 877 (c.places.first + c.places.count)) e ∙ sound.entries;
     head = sound.head;
     first = sound.first;
     count = omega (arith, has_place);
     used = ap total live_after ∙ sum_by_push (λ (x : Entry). x.len) (live c) e ∙ omega (arith, sound.used, is);
     room = room;
-    least = All-same IsLong (live after) (live c ++ e ∷ []) live_after (All-push IsLong (live c) e sound.least (omega (arith, is, long)));
-    within = subst (IsWithin c.places.taken) (sym live_after) (within_push c.places.taken (live c) e sound.within (omega (arith, is, long)));
+    least =
+        All-same IsLong (live after) (live c ++ e ∷ []) live_after
+        (All-push IsLong (live c) e sound.least (omega (arith, is, long)));
+    within =
+        subst (IsWithin c.places.taken) (sym live_after)
+        (within_push c.places.taken (live c) e sound.within (omega (arith, is, long)));
   }
 
   pub arrival_fits : FitsFrame c (arrival c d e)
   arrival_fits = record {
-    at = omega (arith, sound.octets, wrap-below 49_152 (c.places.head + c.places.used) (omega (arith, sound.head, room, long)) (omega arith));
+    at =
+        let inside : c.places.head + c.places.used < 49_152 + 49_152 = omega (arith, sound.head, room, long) in
+        omega (arith, sound.octets, wrap-below 49_152 (c.places.head + c.places.used) inside (omega arith));
     size = omega (arith, sound.octets, room);
-    index = omega (arith, sound.entries, wrap-below 877 (c.places.first + c.places.count) (omega (arith, sound.first, has_place)) (omega arith));
+    index =
+        let inside : c.places.first + c.places.count < 877 + 877 = omega (arith, sound.first, has_place) in
+        omega (arith, sound.entries, wrap-below 877 (c.places.first + c.places.count) inside (omega arith));
     sound = arrival_sound;
   }
 
 -- both, of cells and a patch that are known to be these
-pub arrival_at : (c v : Cells) (d : List ℕ) (e : Entry) (p : FramePatch) → IsSound c → c ≡ v → length d ≡ e.len → HasRoom (shows v) (length d) → 56 ≤ length d → p ≡ arrival c d e → FitsFrame v p × (shows (with_patch v p) ≡ after_arrival (shows v) (record { octets = d; tag = e.tag }))
+pub arrival_at : (c v : Cells) (d : List ℕ) (e : Entry) (p : FramePatch) →
+    IsSound c → c ≡ v → length d ≡ e.len → HasRoom (shows v) (length d) → 56 ≤ length d → p ≡ arrival c d e →
+    FitsFrame v p × (shows (with_patch v p) ≡ after_arrival (shows v) (record { octets = d; tag = e.tag }))
 arrival_at c v d e p sound is len room long patch =
     let used : c.places.used + length d ≤ 49_152 = omega (arith, octets_in_at c v sound is, room) in
     subst
-    (λ (x : Cells × FramePatch). FitsFrame x.0 x.1 × (shows (with_patch x.0 x.1) ≡ after_arrival (shows x.0) (record { octets = d; tag = e.tag })))
+    (
+    λ (x : Cells × FramePatch).
+    FitsFrame x.0 x.1
+    × (shows (with_patch x.0 x.1) ≡ after_arrival (shows x.0) (record { octets = d; tag = e.tag }))
+    )
     (λ i. (is i, sym patch i))
     (arrival_fits c d e sound len used long, arrival_shows c d e sound len used long)

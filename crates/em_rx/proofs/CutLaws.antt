@@ -26,10 +26,16 @@ octets_in-cut (e ∷ es) m h =
     let s = total-cons e es in
     let f : Frame = record { octets = take e.len m; tag = e.tag } in
     sum_by-cons len_of f (cut es (drop e.len m))
-    ∙ omega (arith, s, length-take-le e.len m (omega (arith, s)), octets_in-cut es (drop e.len m) (omega (arith, s, length-drop e.len m)))
+    ∙ omega (
+      arith,
+      s,
+      length-take-le e.len m (omega (arith, s)),
+      octets_in-cut es (drop e.len m) (omega (arith, s, length-drop e.len m)),
+    )
 
 -- a frame more at the end
-pub cut_push : (es : List Entry) (e : Entry) (m : List ℕ) → cut (es ++ e ∷ []) m ≡ cut es m ++ record { octets = take e.len (drop (total es) m); tag = e.tag } ∷ []
+pub cut_push : (es : List Entry) (e : Entry) (m : List ℕ) →
+    cut (es ++ e ∷ []) m ≡ cut es m ++ record { octets = take e.len (drop (total es) m); tag = e.tag } ∷ []
 cut_push [] e m = refl
 cut_push (x ∷ es) e m =
     let f : Frame = record { octets = take x.len m; tag = x.tag } in
@@ -46,12 +52,14 @@ pub cut_same : (es : List Entry) (m w : List ℕ) → take (total es) m ≡ take
 cut_same [] m w is = refl
 cut_same (x ∷ es) m w is =
     let n : ℕ = x.len + total es in
-    let same : take n m ≡ take n w = ap (λ (k : ℕ). take k m) (sym (total-cons x es)) ∙ is ∙ ap (λ (k : ℕ). take k w) (total-cons x es) in
+    let same : take n m ≡ take n w
+    = ap (λ (k : ℕ). take k m) (sym (total-cons x es)) ∙ is ∙ ap (λ (k : ℕ). take k w) (total-cons x es) in
     let first : take x.len m ≡ take x.len w
     = sym (take-take x.len n m (omega arith)) ∙ ap (take x.len) same ∙ take-take x.len n w (omega arith) in
     let others : take (total es) (drop x.len m) ≡ take (total es) (drop x.len w)
     = sym (drop-take x.len (total es) m) ∙ ap (drop x.len) same ∙ drop-take x.len (total es) w in
-    ap₂ (λ (o : List ℕ) (fs : List Frame). record { octets = o; tag = x.tag } ∷ fs) first (cut_same es (drop x.len m) (drop x.len w) others)
+    ap₂ (λ (o : List ℕ) (fs : List Frame). record { octets = o; tag = x.tag } ∷ fs) first
+    (cut_same es (drop x.len m) (drop x.len w) others)
 
 -- long frames are few
 pub few : (es : List Entry) → All IsLong es → 56 * length es ≤ total es

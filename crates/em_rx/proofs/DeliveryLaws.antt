@@ -125,13 +125,13 @@ module _ (c : Cells) (sound : IsSound c) (e : Entry) (es : List Entry) (is : liv
     more_moves = record {
       sound = more_sound;
       shown =
-        ap
-        (
+          ap
+          (
           λ (b : Bool).
-            let s : Fifo = if b then shows more else record { frames = drop 1 (shows c).frames; taken = 0 } in
-            s
-        )
-        (sym test);
+          let s : Fifo = if b then shows more else record { frames = drop 1 (shows c).frames; taken = 0 } in
+          s
+          )
+          (sym test);
     }
 
   -- the last octet
@@ -151,9 +151,10 @@ module _ (c : Cells) (sound : IsSound c) (e : Entry) (es : List Entry) (is : liv
 
     cut_gone : cut es (turn (wrap 49_152 (c.places.head + e.len)) c.octets) ≡ cut es (drop e.len T)
     cut_gone =
-        let seen = turn-wrap 49_152 c.places.head e.len c.octets sound.octets sound.head (omega (arith, used_is, sound.room)) in
+        let inside : e.len ≤ 49_152 = omega (arith, used_is, sound.room) in
+        let seen = turn-wrap 49_152 c.places.head e.len c.octets sound.octets sound.head inside in
         let same = take-append-le (total es) (drop e.len T) (take e.len T)
-            (omega (arith, used_is, sound.room, length-T, length-drop e.len T)) in
+        (omega (arith, used_is, sound.room, length-T, length-drop e.len T)) in
         ap (cut es) seen ∙ cut_same es (turn e.len T) (drop e.len T) same
 
     none_taken : (xs : List Entry) → All IsLong xs → IsWithin 0 xs
@@ -189,13 +190,14 @@ module _ (c : Cells) (sound : IsSound c) (e : Entry) (es : List Entry) (is : liv
     gone_moves = record {
       sound = gone_sound;
       shown =
-        ap (λ (fs : List Frame). let s : Fifo = record { frames = fs; taken = 0 } in s) others_are
-        ∙ ap
+          ap (λ (fs : List Frame). let s : Fifo = record { frames = fs; taken = 0 } in s) others_are
+          ∙ ap
           (
-            λ (b : Bool).
-              let s : Fifo
-              = if b then record (shows c) { taken = c.places.taken + n } else record { frames = drop 1 (shows c).frames; taken = 0 } in
-              s
+          λ (b : Bool).
+          let s : Fifo
+          = if b then record (shows c) { taken = c.places.taken + n }
+          else record { frames = drop 1 (shows c).frames; taken = 0 } in
+          s
           )
           (sym last_test);
     }
@@ -208,7 +210,10 @@ module _ (c v : Cells) (sound : IsSound c) (is : c ≡ v) (frames : 0 < length (
   pub first_at : (e : Entry) → e ≡ get_or c.entries c.places.first e → IsFirst v e
   first_at e read =
       subst (λ (x : Cells). IsFirst x e) is
-      (first_sound c sound e (drop 1 (live c)) (first_is c sound e some ∙ ap (λ (x : Entry). x ∷ drop 1 (live c)) (sym read)))
+      (
+      first_sound c sound e (drop 1 (live c))
+      (first_is c sound e some ∙ ap (λ (x : Entry). x ∷ drop 1 (live c)) (sym read))
+      )
 
   abbrev e : Entry
   e = get_or c.entries c.places.first (record { len = 0; tag = None })

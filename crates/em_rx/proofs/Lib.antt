@@ -4,3 +4,4 @@ pub mod CutLaws
 pub mod ArrivalLaws
 pub mod DeliveryLaws
 pub mod StepLaws
+pub mod MadePages

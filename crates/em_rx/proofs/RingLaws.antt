@@ -10,12 +10,15 @@ module _ {A : Type 0} where
   -- the first n + k items
   take_plus : (n k : ℕ) (xs : List A) → take n xs ++ take k (drop n xs) ≡ take (n + k) xs
   take_plus n k xs =
-      ap₂ ◌++◌ (sym (take-take n (n + k) xs (omega arith))) (sym (drop-take n k xs)) ∙ take-append-drop n (take (n + k) xs)
+      ap₂ ◌++◌ (sym (take-take n (n + k) xs (omega arith))) (sym (drop-take n k xs))
+      ∙ take-append-drop n (take (n + k) xs)
 
   -- items past the first of two lists
   pub drop_past : (xs ys : List A) (k n : ℕ) → n ≡ length xs + k → drop n (xs ++ ys) ≡ drop k ys
   drop_past xs ys k n is =
-      ap (λ i. drop i (xs ++ ys)) is ∙ sym (drop-drop k (length xs) (xs ++ ys)) ∙ ap (drop k) (drop_at xs ys (length xs) refl)
+      ap (λ i. drop i (xs ++ ys)) is
+      ∙ sym (drop-drop k (length xs) (xs ++ ys))
+      ∙ ap (drop k) (drop_at xs ys (length xs) refl)
 
   pub take_past : (xs ys : List A) (k n : ℕ) → n ≡ length xs + k → take n (xs ++ ys) ≡ xs ++ take k ys
   take_past xs ys k n is =
@@ -24,10 +27,13 @@ module _ {A : Type 0} where
       ∙ ap₂ ◌++◌ (take_at xs ys (length xs) refl) (ap (take k) (drop_at xs ys (length xs) refl))
 
   -- a write at the front of two lists, within the first or over both
-  pub front_within : (xs ys d : List A) → length d ≤ length xs → (d ++ drop (length d) xs) ++ ys ≡ d ++ drop (length d) (xs ++ ys)
-  front_within xs ys d h = append_assoc d (drop (length d) xs) ys ∙ ap (λ t. d ++ t) (sym (drop-append-le (length d) xs ys h))
+  pub front_within : (xs ys d : List A) → length d ≤ length xs →
+      (d ++ drop (length d) xs) ++ ys ≡ d ++ drop (length d) (xs ++ ys)
+  front_within xs ys d h =
+      append_assoc d (drop (length d) xs) ys ∙ ap (λ t. d ++ t) (sym (drop-append-le (length d) xs ys h))
 
-  pub front_over : (xs ys d e : List A) → length d ≡ length xs → d ++ (e ++ drop (length e) ys) ≡ (d ++ e) ++ drop (length (d ++ e)) (xs ++ ys)
+  pub front_over : (xs ys d e : List A) → length d ≡ length xs →
+      d ++ (e ++ drop (length e) ys) ≡ (d ++ e) ++ drop (length (d ++ e)) (xs ++ ys)
   front_over xs ys d e h =
       sym (append_assoc d e (drop (length e) ys))
       ∙ ap (λ t. (d ++ e) ++ t) (sym (drop_past xs ys (length e) (length (d ++ e)) (omega (arith, length-append d e))))
@@ -43,7 +49,8 @@ module _ {A : Type 0} where
 
   pub length-turn : (k : ℕ) (xs : List A) → length (turn k xs) ≡ length xs
   length-turn k xs =
-      length-append (drop k xs) (take k xs) ∙ (omega (arith, length-append (take k xs) (drop k xs), ap length (take-append-drop k xs)))
+      length-append (drop k xs) (take k xs)
+      ∙ omega (arith, length-append (take k xs) (drop k xs), ap length (take-append-drop k xs))
 
   pub length-unturn : (k : ℕ) (xs : List A) → length (unturn k xs) ≡ length xs
   length-unturn k xs = length-turn (length xs - k) xs
@@ -63,7 +70,10 @@ module _ {A : Type 0} where
       let d = drop-append-le n (drop h xs) (take h xs) (omega arith) in
       let t = take-append-le n (drop h xs) (take h xs) (omega arith) in
       rw (d, t, drop-drop n h xs)
-      (ap (λ x. drop (h + n) xs ++ x) (sym (take_plus h n xs)) ∙ sym (append_assoc (drop (h + n) xs) (take h xs) (take n (drop h xs))))
+      (
+      ap (λ x. drop (h + n) xs ++ x) (sym (take_plus h n xs))
+      ∙ sym (append_assoc (drop (h + n) xs) (take h xs) (take n (drop h xs)))
+      )
 
   turn_past : (h n r : ℕ) (xs : List A) → h ≤ length xs → r ≤ h → h + n ≡ length xs + r → turn r xs ≡ turn n (turn h xs)
   turn_past h n r xs inside less is =
@@ -71,13 +81,18 @@ module _ {A : Type 0} where
       let d = drop_past (drop h xs) (take h xs) r n (omega arith) in
       let t = take_past (drop h xs) (take h xs) r n (omega arith) in
       let whole : drop r xs ≡ drop r (take h xs) ++ drop h xs
-      = ap (drop r) (sym (take-append-drop h xs)) ∙ drop-append-le r (take h xs) (drop h xs) (omega (arith, length-take-le h xs inside)) in
-      rw (d, t, take-take r h xs less) (ap (λ x. x ++ take r xs) whole ∙ append_assoc (drop r (take h xs)) (drop h xs) (take r xs))
+      = ap (drop r) (sym (take-append-drop h xs))
+      ∙ drop-append-le r (take h xs) (drop h xs) (omega (arith, length-take-le h xs inside)) in
+      rw (d, t, take-take r h xs less)
+      (ap (λ x. x ++ take r xs) whole ∙ append_assoc (drop r (take h xs)) (drop h xs) (take r xs))
 
   -- a turn to place h, and n places further
-  pub turn-wrap : (size h n : ℕ) (xs : List A) → length xs ≡ size → h < size → n ≤ size → turn (wrap size (h + n)) xs ≡ turn n (turn h xs)
+  pub turn-wrap : (size h n : ℕ) (xs : List A) → length xs ≡ size → h < size → n ≤ size →
+      turn (wrap size (h + n)) xs ≡ turn n (turn h xs)
   turn-wrap size h n xs l inside less = elim (cases_lt (h + n) size) [
-    | inl low ↦ let w : wrap size (h + n) ≡ h + n = grind (arith, nat_tests) in ap (λ (k : ℕ). turn k xs) w ∙ turn_more h n xs (omega arith)
+    | inl low ↦
+        let w : wrap size (h + n) ≡ h + n = grind (arith, nat_tests) in
+        ap (λ (k : ℕ). turn k xs) w ∙ turn_more h n xs (omega arith)
     | inr high ↦
         let w : wrap size (h + n) ≡ h + n - size = grind (arith, nat_tests) in
         ap (λ (k : ℕ). turn k xs) w ∙ turn_past h n (h + n - size) xs (omega arith) (omega arith) (omega arith)
@@ -89,13 +104,16 @@ module _ {A : Type 0} where
 
   pub length-ring_put : (xs : List A) (k : ℕ) (d : List A) → length d ≤ length xs → length (ring_put xs k d) ≡ length xs
   length-ring_put xs k d h =
-      length-unturn k (d ++ drop (length d) (turn k xs)) ∙ front_size (turn k xs) d (omega (arith, length-turn k xs)) ∙ length-turn k xs
+      length-unturn k (d ++ drop (length d) (turn k xs))
+      ∙ front_size (turn k xs) d (omega (arith, length-turn k xs))
+      ∙ length-turn k xs
 
   pub length-ring_part : (xs : List A) (k n : ℕ) → n ≤ length xs → length (ring_part xs k n) ≡ n
   length-ring_part xs k n h = length-take-le n (turn k xs) (omega (arith, length-turn k xs))
 
   -- the items that were there, put back, take a write back
-  pub ring_put-ring_put : (xs : List A) (k : ℕ) (d : List A) → k ≤ length xs → length d ≤ length xs → ring_put (ring_put xs k d) k (ring_part xs k (length d)) ≡ xs
+  pub ring_put-ring_put : (xs : List A) (k : ℕ) (d : List A) → k ≤ length xs → length d ≤ length xs →
+      ring_put (ring_put xs k d) k (ring_part xs k (length d)) ≡ xs
   ring_put-ring_put xs k d inside size =
       let T : List A = turn k xs in
       let F : List A = d ++ drop (length d) T in
@@ -105,10 +123,13 @@ module _ {A : Type 0} where
       let old : length (take (length d) T) ≡ length d = length-take-le (length d) T (omega arith) in
       let rest : drop (length (take (length d) T)) (turn k (unturn k F)) ≡ drop (length d) T
       = ap₂ (λ (n : ℕ) (x : List A). drop n x) old seen ∙ drop_at d (drop (length d) T) (length d) refl in
-      ap (λ (t : List A). unturn k (take (length d) T ++ t)) rest ∙ ap (unturn k) (take-append-drop (length d) T) ∙ unturn-turn k xs inside
+      ap (λ (t : List A). unturn k (take (length d) T ++ t)) rest
+      ∙ ap (unturn k) (take-append-drop (length d) T)
+      ∙ unturn-turn k xs inside
 
   -- one item, seen from place h on
-  pub turn-set : (size h n : ℕ) (xs : List A) (e : A) → length xs ≡ size → h < size → n < size → turn h (set xs (wrap size (h + n)) e) ≡ set (turn h xs) n e
+  pub turn-set : (size h n : ℕ) (xs : List A) (e : A) → length xs ≡ size → h < size → n < size →
+      turn h (set xs (wrap size (h + n)) e) ≡ set (turn h xs) n e
   turn-set size h n xs e l inside less =
       let dl : length (drop h xs) ≡ size - h = omega (arith, length-drop h xs) in
       let tl : length (take h xs) ≡ h = length-take-le h xs (omega arith) in
@@ -122,7 +143,8 @@ module _ {A : Type 0} where
             let w : wrap size (h + n) ≡ h + n - size = grind (arith, nat_tests) in
             let i : ℕ = h + n - size in
             let split : set xs i e ≡ set (take h xs) i e ++ drop h xs
-            = ap (λ (x : List A). set x i e) (sym (take-append-drop h xs)) ∙ set-append_left (take h xs) (drop h xs) i e (omega arith) in
+            = ap (λ (x : List A). set x i e) (sym (take-append-drop h xs))
+            ∙ set-append_left (take h xs) (drop h xs) i e (omega arith) in
             let kept : length (set (take h xs) i e) ≡ h = length-set (take h xs) i e ∙ tl in
             ap (λ (k : ℕ). turn h (set xs k e)) w
             ∙ ap (turn h) split
@@ -139,7 +161,8 @@ wrap-below size n h some = elim (cases_lt n size) [
 ]
 
 -- octets written u places behind place h, seen from place h on
-module _ (size h u : ℕ) (xs d : List ℕ) (l : length xs ≡ size) (inside : h < size) (room : u + length d ≤ size) (some : 0 < length d) where
+module _ (size h u : ℕ) (xs d : List ℕ) (l : length xs ≡ size) (inside : h < size)
+    (room : u + length d ≤ size) (some : 0 < length d) where
   abbrev place : ℕ
   place = wrap size (h + u)
 
@@ -161,14 +184,16 @@ module _ (size h u : ℕ) (xs d : List ℕ) (l : length xs ≡ size) (inside : h
       let lu : length (unturn place after) ≡ size = length-unturn place after ∙ length-after in
       let lz : length z ≡ size = length-turn h (unturn place after) ∙ lu in
       let same : after ≡ turn u z
-      = sym (turn-unturn place after (omega (arith, length-after, place_in))) ∙ turn-wrap size h u (unturn place after) lu inside (omega arith) in
+      = sym (turn-unturn place after (omega (arith, length-after, place_in)))
+      ∙ turn-wrap size h u (unturn place after) lu inside (omega arith) in
       sym (ap (unturn u) same ∙ unturn-turn u z (omega arith))
 
   after_is : after ≡ (d ++ drop (u + length d) seen) ++ take u seen
   after_is =
       let ls : length seen ≡ size = length-turn h xs ∙ l in
       let rest : drop (length d) (drop u seen ++ take u seen) ≡ drop (u + length d) seen ++ take u seen
-      = drop-append-le (length d) (drop u seen) (take u seen) (omega (arith, length-drop u seen)) ∙ ap (λ (x : List ℕ). x ++ take u seen) (drop-drop (length d) u seen) in
+      = drop-append-le (length d) (drop u seen) (take u seen) (omega (arith, length-drop u seen))
+      ∙ ap (λ (x : List ℕ). x ++ take u seen) (drop-drop (length d) u seen) in
       ap (λ (x : List ℕ). d ++ drop (length d) x) (turn-wrap size h u xs l inside (omega arith))
       ∙ ap (λ (x : List ℕ). d ++ x) rest
       ∙ sym (append_assoc d (drop (u + length d) seen) (take u seen))
@@ -176,4 +201,6 @@ module _ (size h u : ℕ) (xs d : List ℕ) (l : length xs ≡ size) (inside : h
   pub turn-ring_put : turn h (ring_put xs (wrap size (h + u)) d) ≡ put (turn h xs) u d
   turn-ring_put =
       let ls : length seen ≡ size = length-turn h xs ∙ l in
-      from_head ∙ ap (unturn u) after_is ∙ unturn_joined u (take u seen) (d ++ drop (u + length d) seen) (length-take-le u seen (omega arith))
+      from_head
+      ∙ ap (unturn u) after_is
+      ∙ unturn_joined u (take u seen) (d ++ drop (u + length d) seen) (length-take-le u seen (omega arith))

@@ -24,19 +24,21 @@ pub step_fits : (c : Cells) (before between after : memory.Cells) (p : StepPatch
     memory.IsMade between a n → memory.IsMade after b 8 →
     p.first.at ≡ a → length p.first.octets ≡ n → p.second.at ≡ b → length p.second.octets ≡ 8 →
     IsSound (record c { places = p.places }) → FitsStep c after p
-step_fits c before between after p a n b more still held_first held_second made_first made_second at count written eight sound =
+step_fits c before between after p a n b more still held_a held_b made_a made_b at count written eight sound =
     let octets : after.octets ≡ before.octets = still.octets ∙ more.octets in
     let size : length after.octets ≡ length before.octets = ap length octets in
-    let first_held : memory.IsHeld after.octets p.first.at (length p.first.octets) = omega (arith, held_first) in
+    let first_held : memory.IsHeld after.octets p.first.at (length p.first.octets) = omega (arith, held_a) in
     let put_size = length-put after.octets p.first.at p.first.octets first_held in
     record {
       first = record {
         held = first_held;
-        made = made_at after p.first.at a (length p.first.octets) n at count (λ i l. still.made ((a + i) / 4096) (made_first i l));
+        made =
+            made_at after p.first.at a (length p.first.octets) n at count
+            (λ i l. still.made ((a + i) / 4096) (made_a i l));
       };
       second = record {
-        held = omega (arith, held_second, put_size);
-        made = made_at (memory.undo after p.first) p.second.at b (length p.second.octets) 8 written eight made_second;
+        held = omega (arith, held_b, put_size);
+        made = made_at (memory.undo after p.first) p.second.at b (length p.second.octets) 8 written eight made_b;
       };
       sound = sound;
     }

@@ -11,7 +11,10 @@ pub record Frame : Type 0 where
 abbrev pub stored_frame : List ℕ → Bool → Frame
 stored_frame octets false = record { octets = octets; tag = None }
 stored_frame octets true =
-    record { octets = take 12 octets ++ drop 16 octets; tag = Some (256 * slice_index octets 14 + slice_index octets 15) }
+    record {
+      octets = take 12 octets ++ drop 16 octets;
+      tag = Some (256 * slice_index octets 14 + slice_index octets 15);
+    }
 
 -- how many octets a frame has
 abbrev pub len_of : Frame → ℕ

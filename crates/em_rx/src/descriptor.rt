@@ -42,7 +42,14 @@ impl Model for RxDescriptor {
 
     ghost Value = { spec.RxDescriptor };
 
-    ghost view = { λ d. record { address = d.address; length = d.length; checksum = d.checksum; status = d.status; errors = d.errors; special = d.special } };
+    ghost view = { λ d. record {
+      address = d.address;
+      length = d.length;
+      checksum = d.checksum;
+      status = d.status;
+      errors = d.errors;
+      special = d.special;
+    } };
 }
 
 impl RxDescriptor {

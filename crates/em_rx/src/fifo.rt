@@ -41,7 +41,8 @@ impl Model for Fifo {
 
     ghost view = { λ f. record { octets = f.octets.items; entries = f.entries.items; places = f.places } };
 
-    ghost invariant = { λ f. IsSound (record { octets = f.octets.items; entries = f.entries.items; places = f.places }) };
+    ghost invariant = { λ f.
+        IsSound (record { octets = f.octets.items; entries = f.entries.items; places = f.places }) };
 }
 
 impl Fifo {
@@ -114,7 +115,8 @@ impl Fifo {
         requires least { 56 ≤ length octets.items }
         requires most { length octets.items ≤ 16_384 }
         requires room { HasRoom (shows self.now) (length octets.items) }
-        ensures arrives { FitsFrame self.now result × (shows (with_patch self.now result) ≡ after_arrival (shows self.now) (record { octets = octets.items; tag = tag })) }
+        ensures arrives { FitsFrame self.now result × (shows (with_patch self.now result)
+            ≡ after_arrival (shows self.now) (record { octets = octets.items; tag = tag })) }
         ensures octets { result.octets ≡ octets.items }
     {
         let places = self.places;
@@ -156,7 +158,7 @@ impl Fifo {
         requires { FitsStep self.old memory.old patch }
         ensures fifo { self.new ≡ record self.old { places = patch.places } }
         ensures memory { memory.new ≡ with_both memory.old patch }
-        ensures held { length result.first.octets + length result.second.octets ≡ length patch.first.octets + length patch.second.octets }
+        ensures held { octets_held (RxUndo.Step result) ≡ octets_held (RxUndo.Step patch) }
         ensures reverses { Reverses self.old self.new memory.old memory.new (RxUndo.Step result) }
     {
         let older = memory.exchange(patch.first);
@@ -242,8 +244,10 @@ impl Fifo {
         requires some { 0 < length (shows self.now).frames }
         requires count { count ≤ rest (shows self.now) }
         requires most { count ≤ 16_384 }
-        ensures first { IfOk result (λ patch. patch.first ≡ record { at = buffer; octets = next (shows self.now) count }) }
-        ensures second { IfOk result (λ patch. patch.second ≡ record { at = written_at; octets = octets_of count last (first (shows self.now)).tag }) }
+        ensures first { IfOk result (λ patch.
+            patch.first ≡ record { at = buffer; octets = next (shows self.now) count }) }
+        ensures second { IfOk result (λ patch.
+            patch.second ≡ record { at = written_at; octets = octets_of count last (first (shows self.now)).tag }) }
         ensures count { IfOk result (λ patch. length patch.first.octets ≡ count) }
         ensures moves { IfOk result (λ patch. IsMove self.now patch.places count) }
     {

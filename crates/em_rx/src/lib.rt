@@ -12,6 +12,7 @@ pub use undo::{FramePatch, MOST_HELD, RxUndo, StepPatch};
 mod descriptor;
 mod fifo;
 mod frame;
+pub mod laws;
 mod places;
 mod receive;
 mod refusal;

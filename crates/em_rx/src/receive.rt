@@ -101,7 +101,8 @@ impl Fifo {
     ) -> Result<(RxAnswer, RxUndo), RxRefusal>
         requires buffer { setup.buffer ≤ 16_384 }
         requires count { setup.count < 2 ^ 28 }
-        ensures ok { IfOk result (λ r. receive setup memory.old.octets (shows self.old) ≡ Ok (record { answer = r.0; memory = memory.new.octets; fifo = shows self.new })) }
+        ensures ok { IfOk result (λ r. receive setup memory.old.octets (shows self.old)
+            ≡ Ok (record { answer = r.0; memory = memory.new.octets; fifo = shows self.new })) }
         ensures held { IfOk result (λ r. octets_held r.1 ≡ octets_written setup (shows self.old)) }
         ensures reverses { IfOk result (λ r. ReversesInPages self.old self.new memory.old memory.new r.1) }
         ensures refused { IfErr result (Refuses setup memory.old.octets (shows self.old)) }

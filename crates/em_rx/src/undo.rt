@@ -23,7 +23,13 @@ impl Model for FramePatch {
 
     ghost Value = { FramePatch };
 
-    ghost view = { λ p. record { octets = p.octets.items; at = p.at; entry = p.entry; index = p.index; places = p.places } };
+    ghost view = { λ p. record {
+      octets = p.octets.items;
+      at = p.at;
+      entry = p.entry;
+      index = p.index;
+      places = p.places;
+    } };
 
     ghost invariant = { λ p. length p.octets.items ≤ 16_384 };
 }

@@ -28,5 +28,5 @@ returns c =
       used = f.places.used - len;
     } in
     let moves = last_at cells c.args.self.now c.self.invariant c.self.view_is c.requires.some c.args.count len
-        c.first_entry-len.ensures.len c.if-places-count.false in
+    c.first_entry-len.ensures.len c.if-places-count.false in
     subst (λ (p : Places). IsMove c.args.self.now p c.args.count) (sym is) moves
