@@ -182,6 +182,7 @@ impl Adapter {
             Part::Nothing => Part::Nothing,
             Part::Register(old) => Part::Register(self.registers.exchange(old)),
             Part::Octets(mut old) => {
+                // the box is kept for the other record, since this takes no memory
                 let none = MemUndo::new(0, Vec::new(self.alloc));
                 let taken = std::mem::replace(&mut *old, none);
                 *old = self.memory.exchange(taken);
