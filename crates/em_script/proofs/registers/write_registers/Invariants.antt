@@ -8,4 +8,5 @@ use Rattle.em_script.proofs.registers.write_registers.Given as goal
 abbrev pub invariant-loop-word : goal.invariant-loop-word
 invariant-loop-word g l =
     let contents = g.W.Write.contents in
-    WroteFront (contents l.fn.writer) (contents l.writer) (words_text l.machine.present l.word (REGISTER_WORDS - l.word)) (words_text l.machine.present 0 REGISTER_WORDS)
+    WroteFront (contents l.fn.writer) (contents l.writer)
+    (words_text l.machine.present l.word (0x01600 - l.word)) (registers_text l.machine.present)
