@@ -24,23 +24,23 @@ unfolding words_text
 words_text-none s word e = rw e refl
 
 -- a word by the value that a look gave
-pub word_text-at : (s : State) (word value : ℕ) (looked : Option ℕ) → looked ≡ option_map (gives s) (reg_at (4 * word))
+word_text-at : (s : State) (word : ℕ) {value : ℕ} {looked : Option ℕ} → looked ≡ option_map (gives s) (reg_at (4 * word))
     → value ≡ unwrap_or looked 0 → register_text (4 * word) value ≡ word_text s word
-word_text-at s word value looked look is = ap (register_text (4 * word)) (is ∙ ap (λ o. unwrap_or o 0) look)
+word_text-at s word look is = ap (register_text (4 * word)) (is ∙ ap (λ o. unwrap_or o 0) look)
 
 -- nothing is written of a register that is zero
-pub zero_written : (s : State) (word value : ℕ) (looked : Option ℕ) (a : Option (List ℕ))
+pub zero_written : (s : State) (word : ℕ) {value : ℕ} {looked : Option ℕ} (a : Option (List ℕ))
     → looked ≡ option_map (gives s) (reg_at (4 * word)) → value ≡ unwrap_or looked 0 → value ≡ 0
     → Appends a a (word_text s word)
-zero_written s word value looked a look is none =
-    let empty : word_text s word ≡ [] = sym (word_text-at s word value looked look is)
+zero_written s word a look is none =
+    let empty : word_text s word ≡ [] = sym (word_text-at s word look is)
     ∙ ap (register_text (4 * word)) none in
     rw empty (Appends-same a)
 
 -- a register that is not zero has its line
-pub line_written : (s : State) (word value : ℕ) (looked : Option ℕ) → looked ≡ option_map (gives s) (reg_at (4 * word))
+pub line_written : (s : State) (word : ℕ) {value : ℕ} {looked : Option ℕ} → looked ≡ option_map (gives s) (reg_at (4 * word))
     → value ≡ unwrap_or looked 0 → value ≢ 0 → register_line_text (4 * word) value ≡ word_text s word
-line_written s word value looked look is some =
+line_written s word {value = value} look is some =
     let test : (value == 0) ≡ false = grind (arith, nat_tests) in
     let line : register_text (4 * word) value ≡ register_line_text (4 * word) value = rw test refl in
-    sym line ∙ word_text-at s word value looked look is
+    sym line ∙ word_text-at s word look is

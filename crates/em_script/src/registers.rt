@@ -8,7 +8,7 @@ use em_text::{WriteFailed, write_register_line};
 use std::io::Write;
 
 /// How many words the registers' space has.
-pub const REGISTER_WORDS: u32 = 0x01600;
+const REGISTER_WORDS: u32 = 0x01600;
 
 const _: () = prove!(4 * REGISTER_WORDS == em_regs::SPACE);
 

@@ -1,7 +1,6 @@
 use Rattle.std.proofs.Common.{◌-◌}
 use Rattle.em_text.proofs.WritingLemmas.{WroteFront}
-use Rattle.em_script.specs.declared.registers.TheConstants.{REGISTER_WORDS}
-use Rattle.em_script.specs.Registers.{words_text}
+use Rattle.em_script.specs.Registers.{words_text, registers_text}
 use Rattle.em_script.proofs.registers.write_registers.Given as goal
 
 -- the lines of the words from here on are still to come
