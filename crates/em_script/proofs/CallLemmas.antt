@@ -1,5 +1,6 @@
 -- The calls that the lines of a script make.
-use Rattle.std.proofs.Common.{◌≡◌, ℕ, ◌≤◌, ◌<◌, ◌-◌, List, [], ◌∷◌, ◌++◌, length, min, Some, None, Result, Ok, Err, Option, Bool}
+use Rattle.std.proofs.Common.{◌≡◌, ℕ, ◌≤◌, ◌<◌, ◌-◌, List, [], ◌∷◌, ◌++◌, length, min, Some, None, Result, Ok, Err}
+use Rattle.std.proofs.Common.{Option, Bool}
 use Rattle.std.proofs.Common.{refl, sym, ap, ◌∙◌, subst, inl, inr, arith}
 use Rattle.std.proofs.Common.{◌+◌, true, false, cond, nat_lt}
 use Rattle.std.specs.Prelude.{replicate}
@@ -13,7 +14,8 @@ use Rattle.em_step.specs.declared.event.Answer.{Answer}
 use Rattle.em_step.specs.declared.event.Refusal.{Refusal}
 use Rattle.em_step.specs.declared.event.Refusal.TheVariants.{Memory}
 use Rattle.em_journal.specs.View.{after_event, after_backs}
-use Rattle.em_journal.specs.History.{Call, refuses, goes_back, Does, Run, Leads, state, after_step, kept_events, without_last}
+use Rattle.em_journal.specs.History.{Call, refuses, goes_back, Does, Run, Leads, state, after_step, kept_events}
+use Rattle.em_journal.specs.History.{without_last}
 use Rattle.em_journal.proofs.BackLaws.{run_back, no_more_back, past_left}
 use Rattle.em_journal.proofs.HistoryLaws.{run_join, item_is}
 use Rattle.em_script.specs.Session.{Session}
@@ -70,8 +72,10 @@ command_runs : (memory : Option ℕ) (command : Command) (session : Session) →
     → Run session (calls_of memory command session) (reply memory command session).session
 command_runs None (event e) session allowed =
     run_one session _ (step_call e (step session.present e)) (step_does e session (step session.present e) refl)
-command_runs (Some n) (event e) session allowed = run_one session session (refuses e Memory) (inl (refl, allowed.1, allowed.2), refl)
-command_runs memory back session allowed = run_one session _ (back_call session.past) (back_does session session.past refl)
+command_runs (Some n) (event e) session allowed =
+    run_one session session (refuses e Memory) (inl (refl, allowed.1, allowed.2), refl)
+command_runs memory back session allowed =
+    run_one session _ (back_call session.past) (back_does session session.past refl)
 command_runs memory (back_by most) session allowed = backs_run most session
 command_runs memory (peek addr n) session allowed =
     look_leaves (nat_lt (length session.present.memory) (addr + n)) session _ _

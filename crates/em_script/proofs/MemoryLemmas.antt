@@ -12,7 +12,8 @@ use Rattle.em_script.specs.Command.{event}
 use Rattle.em_script.specs.ParsedLine.{ParsedLine, says}
 use Rattle.em_script.specs.Grammar.{parsed_line}
 use Rattle.em_script.specs.Reply.{line_text, line_takes_memory, IsAllowed as IsLineAllowed}
-use Rattle.em_script.specs.PlayedLine.{PlayedLine, played_text, after_played, AreAllowed, text_from, ArePlayed, with_memory}
+use Rattle.em_script.specs.PlayedLine.{PlayedLine, played_text, after_played, AreAllowed, text_from, ArePlayed}
+use Rattle.em_script.specs.PlayedLine.{with_memory}
 use Rattle.em_script.specs.Runner.{TakesNoMemory, SaysMemory, text}
 
 -- memory was refused to none of them
@@ -28,7 +29,8 @@ not_refused (Some n) (says (event e)) session allowed none = absurd (false≢tru
 not_refused (Some n) _ session allowed none = absurd allowed
 
 took_none : (all : List PlayedLine) (session : Session) → AreAllowed all session
-    → AllByRecursion (λ line. line_takes_memory (parsed_line line) ≡ false) (map (λ (played : PlayedLine). played.line) all)
+    → AllByRecursion (λ line. line_takes_memory (parsed_line line) ≡ false)
+      (map (λ (played : PlayedLine). played.line) all)
     → HadMemory all
 took_none [] session allowed none = tt
 took_none (x ∷ xs) session allowed none = (
@@ -68,7 +70,8 @@ said_none number (x ∷ xs) session allowed none =
 
 -- ---- the script's own text
 
-had_memory : (all : List PlayedLine) → HadMemory all → all ≡ with_memory (map (λ (played : PlayedLine). played.line) all)
+had_memory : (all : List PlayedLine) → HadMemory all
+    → all ≡ with_memory (map (λ (played : PlayedLine). played.line) all)
 had_memory [] h = refl
 had_memory (x ∷ xs) h =
     let make : Option ℕ → PlayedLine = λ r. record { line = x.line; refused = r } in

@@ -36,7 +36,8 @@ by_step gives = record { memory = None; allowed = tt; prints = gives.prints; ses
 -- an event was performed
 pub event_performed : {number : ℕ} {e : Event} {first now : Session} {old new : Option (List ℕ)}
     {result : Result Outcome WriteFailed} (answer : Answer) → Does first (performs e answer) now
-    → Prints (answer_text answer) outcome.Done old new result → Performs number (says (event e)) first now old new result
+    → Prints (answer_text answer) outcome.Done old new result
+    → Performs number (says (event e)) first now old new result
 event_performed {e = e} {first = first} {now = now} answer did prints =
     let s = first.present in
     let after : now.present ≡ after_step s (step s e) = ap (after_step s) (sym did.0) in

@@ -148,9 +148,9 @@ Ran-fails {behind = behind} {first = first} {now = now} {old = old} {mid = mid} 
       played = ran.played;
       allowed = subst (IsAllowed x) ran.session allowed;
       session = ea ∙ ap (after_played x) ran.session;
-      octets = cut.0;
-      part = cut.1;
-      written = Appends-more old mid new (text_from 1 before first) (take cut.0 own) _ ran.written cut.2 refl;
+      octets = cut.octets;
+      part = cut.part;
+      written = Appends-more old mid new (text_from 1 before first) (take cut.octets own) _ ran.written cut.written refl;
     }
 
 -- the memory for a line's octets was refused

@@ -1,5 +1,6 @@
 -- What a line says, by its words.
-use Rattle.std.specs.Prelude.{ℕ, Bool, true, false, codes, ◌==◌, ◌&&◌, nat_le, if◌then◌else◌, List, [], ◌∷◌, Option, Some, None}
+use Rattle.std.specs.Prelude.{ℕ, Bool, true, false, codes, ◌==◌, ◌&&◌, nat_le, if◌then◌else◌, List, [], ◌∷◌, Option}
+use Rattle.std.specs.Prelude.{Some, None}
 use Rattle.std.specs.Str.{bytes_eq}
 use Rattle.em_step.specs.Event.{reads, writes, pokes, links}
 use Rattle.em_text.specs.Words.{words_of}

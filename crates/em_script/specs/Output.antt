@@ -3,7 +3,8 @@ use Rattle.std.specs.Prelude.{◌≡◌, ℕ, Bool, if◌then◌else◌, List, �
 use Rattle.em_step.specs.declared.event.Answer.{Answer}
 use Rattle.em_step.specs.declared.event.Answer.TheVariants as answer
 use Rattle.em_step.specs.declared.event.Refusal.{Refusal}
-use Rattle.em_step.specs.declared.event.Refusal.TheVariants.{NoRegister, Range, Length, DmaRange, Extended, TooLong, Memory}
+use Rattle.em_step.specs.declared.event.Refusal.TheVariants.{NoRegister, Range, Length, DmaRange, Extended, TooLong}
+use Rattle.em_step.specs.declared.event.Refusal.TheVariants.{Memory}
 use Rattle.em_text.specs.Writer.{Writes, value_text, decimal_line_text}
 use Rattle.em_text.specs.declared.writer.WriteFailed.{WriteFailed}
 use Rattle.em_script.specs.declared.outcome.Outcome.{Outcome}

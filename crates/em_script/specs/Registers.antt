@@ -6,7 +6,6 @@ use Rattle.em_regs.specs.Table.{reg_at}
 use Rattle.em_step.specs.State.{State}
 use Rattle.em_step.specs.Access.{gives}
 use Rattle.em_text.specs.Writer.{register_line_text}
-use Rattle.em_script.specs.declared.registers.TheConstants.{REGISTER_WORDS}
 
 -- a register that is not zero has a line
 abbrev pub register_text : ℕ → ℕ → List ℕ
@@ -20,6 +19,6 @@ word_text s word = register_text (4 * word) (unwrap_or (option_map (gives s) (re
 unfoldable pub words_text : State → ℕ → ℕ → List ℕ
 words_text s word n = flat_map (word_text s) (range_with_len word n)
 
--- all registers, by offset
+-- all registers, by offset: the words of their space
 abbrev pub registers_text : State → List ℕ
-registers_text s = words_text s 0 REGISTER_WORDS
+registers_text s = words_text s 0 0x01600

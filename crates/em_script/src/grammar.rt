@@ -21,7 +21,7 @@ use std::alloc::AllocError;
 const HASH: u8 = b'#';
 
 /// The most events that one `back` takes back.
-pub const MOST_BACK: u32 = 65_536;
+const MOST_BACK: u32 = 65_536;
 
 /// What a line says. The octets that it writes to guest memory are left in `octets`, which alone
 /// takes memory.

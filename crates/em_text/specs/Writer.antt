@@ -5,8 +5,10 @@ use Rattle.std.specs.Io.KnownBytes.{Appends}
 use Rattle.hex.specs.Hex.{encode_upper}
 
 -- a front of the text was written, and not all of it
-abbrev pub WritesPart : Option (List ℕ) → Option (List ℕ) → List ℕ → Type 0
-WritesPart old new text = (n : ℕ) × (n < length text) × Appends old new (take n text)
+pub record WritesPart (old new : Option (List ℕ)) (text : List ℕ) : Type 0 where
+  pub octets : ℕ
+  pub part : octets < length text
+  pub written : Appends old new (take octets text)
 
 -- on `Ok` the text was written, on `Err` a front of it that is not all of it
 abbrev pub Writes : {T E : Type 0} → Option (List ℕ) → Option (List ℕ) → Result T E → List ℕ → Type 0

@@ -1,7 +1,8 @@
 use Rattle.std.proofs.Common.{◌≡◌, ◌%◌, ◌<◌, length, rules, arith}
 use Rattle.em_text.proofs.NumbersLemmas.{octets_of-empty, octets_of-odd, octets_of-digits, octets_of-no_digits}
 use Rattle.em_text.proofs.numbers.octets_into.Goals as goal
-use Rattle.em_text.proofs.numbers.octets_into.Goals.{then-is_empty-via-then-is_empty, then-is_empty-via-else-is_empty+then-word-ne0}
+use Rattle.em_text.proofs.numbers.octets_into.Goals.{then-is_empty-via-then-is_empty}
+use Rattle.em_text.proofs.numbers.octets_into.Goals.{then-is_empty-via-else-is_empty+then-word-ne0}
 
 pub returns-then-is_empty-clause-value : goal.returns-then-is_empty-clause-value
 returns-then-is_empty-clause-value c =
