@@ -2,7 +2,7 @@
 use Rattle.std.proofs.Common.{◌≡◌, ℕ, ◌==◌, ◌&&◌, ◌||◌, Bool, true, false, cond, List, [], ◌∷◌, refl, ap}
 use Rattle.std.specs.Prelude.{map, filter}
 use Rattle.std.specs.List.{list_any, range_with_len}
-use Rattle.em_regs.specs.Registers.{Registers}
+use Rattle.em_regs.specs.Storage.{Registers}
 use Rattle.em_filter.specs.Address.{is_valid, entry, is_entry_at, is_in_table}
 
 -- to look through the values of what passes a test is to look for what passes it and has the value

@@ -1,7 +1,7 @@
 -- The address filter: the five cases in which a destination is accepted.
 use Rattle.std.specs.Prelude.{ℕ, ◌+◌, ◌*◌, ◌/◌, ◌%◌, ◌^◌, ◌==◌, ◌&&◌, ◌||◌, Bool, List, [], ◌∷◌, map, filter, slice_index}
 use Rattle.std.specs.List.{list_any, range_with_len}
-use Rattle.em_regs.specs.Registers.{Registers}
+use Rattle.em_regs.specs.Storage.{Registers}
 use Rattle.em_filter.specs.declared.kind.Kind.{Kind}
 use Rattle.em_filter.specs.Kind.{kind_of, is_unicast, is_group, is_broadcast}
 use Rattle.em_filter.specs.Bits.{bit, upe, mpe, bam, mo, mta, ral, rah}

@@ -2,7 +2,8 @@
 use Rattle.std.specs.Prelude.{ℕ, ◌/◌, ◌%◌, ◌^◌, ◌==◌, Bool}
 use Rattle.em_regs.specs.declared.reg.Reg.TheVariants.{Ctrl, Vet, Rctl, Mta, Ral, Rah, Vfta}
 use Rattle.em_regs.specs.Table.{offset_of}
-use Rattle.em_regs.specs.Registers.{Registers, at}
+use Rattle.em_regs.specs.Storage.{Registers}
+use Rattle.em_regs.specs.RegFile.{at}
 
 -- bit k of a number is 1
 abbrev pub bit : ℕ → ℕ → Bool

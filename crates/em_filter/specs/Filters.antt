@@ -1,6 +1,6 @@
 -- What the filters say of a frame.
 use Rattle.std.specs.Prelude.{ℕ, ◌+◌, nat_lt, not, List, length, if◌then◌else◌}
-use Rattle.em_regs.specs.Registers.{Registers}
+use Rattle.em_regs.specs.Storage.{Registers}
 use Rattle.em_filter.specs.declared.outcome.Verdict.{Verdict}
 use Rattle.em_filter.specs.declared.outcome.Verdict.TheVariants.{Reject, Undersize, Oversize, Accept}
 use Rattle.em_filter.specs.Kind.{destination, kind_of}

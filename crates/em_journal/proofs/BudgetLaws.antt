@@ -1,12 +1,12 @@
 -- How many records a budget holds.
-use Rattle.std.proofs.Common.{◌≡◌, ℕ, ◌+◌, ◌-◌, ◌*◌, ◌/◌, ◌≤◌, ◌<◌, zero, suc, List, [], ◌∷◌, length, take, refl, ap, ◌∙◌, sym, arith, Some, ◌⊎◌, inl, inr}
+use Rattle.std.proofs.Common.{◌≡◌, ℕ, ◌+◌, ◌-◌, ◌*◌, ◌/◌, ◌≤◌, ◌<◌, zero, suc, List, [], ◌∷◌, length, take, Some}
+use Rattle.std.proofs.Common.{◌⊎◌, inl, inr, refl, ap, ◌∙◌, sym, arith}
 use Rattle.std.specs.Prelude.{slice_get, sum}
 use Rattle.std.proofs.lemmas.Bool.Decides.{nat_tests}
 use Rattle.std.proofs.lemmas.List.{length-take-le, take-take}
 use Rattle.std.proofs.lemmas.List.Sums.{sum_by-cons}
 use Rattle.circular_buffer.specs.Buffer.{last_item}
-use Rattle.em_step.specs.Cost.{cost_of}
-use Rattle.em_step.specs.declared.undo.TheConstants.{LEAST_COST}
+use Rattle.em_step.specs.Cost.{least_cost, cost_of}
 use Rattle.em_step.specs.declared.undo.Undo.{Undo}
 use Rattle.em_step.proofs.CostLaws.{cost_of_least}
 use Rattle.em_journal.specs.Records.{costs_of}
@@ -27,7 +27,10 @@ costs_of-take (suc n) (r ∷ rs) = ap (λ costs. cost_of r ∷ costs) (costs_of-
 -- ---- what a budget holds
 
 -- the first cost fits, or none does
-reach_cases : (b c : ℕ) (cs : List ℕ) → ((c ≤ b) × (reach b (c ∷ cs) ≡ suc (reach (b - c) cs))) ⊎ ((b < c) × (reach b (c ∷ cs) ≡ 0))
+abbrev ReachCases : ℕ → ℕ → List ℕ → Type 0
+ReachCases b c cs = ((c ≤ b) × (reach b (c ∷ cs) ≡ suc (reach (b - c) cs))) ⊎ ((b < c) × (reach b (c ∷ cs) ≡ 0))
+
+reach_cases : (b c : ℕ) (cs : List ℕ) → ReachCases b c cs
 reach_cases b c cs = grind (arith, nat_tests)
 
 pub reach_first : (b c : ℕ) (cs : List ℕ) → c ≤ b → reach b (c ∷ cs) ≡ suc (reach (b - c) cs)
@@ -37,7 +40,7 @@ pub reach_length : (b : ℕ) (cs : List ℕ) → reach b cs ≤ length cs
 reach_length b [] = omega arith
 reach_length b (c ∷ cs) = grind (arith, reach_cases b c cs, reach_length (b - c) cs)
 
-reach_within_by : (b c : ℕ) (cs : List ℕ) → ((c ≤ b) × (reach b (c ∷ cs) ≡ suc (reach (b - c) cs))) ⊎ ((b < c) × (reach b (c ∷ cs) ≡ 0))
+reach_within_by : (b c : ℕ) (cs : List ℕ) → ReachCases b c cs
     → sum (take (reach (b - c) cs) cs) ≤ b - c → sum (take (reach b (c ∷ cs)) (c ∷ cs)) ≤ b
 reach_within_by b c cs (inl h) rest = rw h.1 (omega (arith, h.0, rest, sum_cons c (take (reach (b - c) cs) cs)))
 reach_within_by b c cs (inr h) rest = rw h.1 (omega arith)
@@ -46,7 +49,7 @@ pub reach_within : (b : ℕ) (cs : List ℕ) → sum (take (reach b cs) cs) ≤ 
 reach_within b [] = omega arith
 reach_within b (c ∷ cs) = reach_within_by b c cs (reach_cases b c cs) (reach_within (b - c) cs)
 
-reach_most_by : (b c k : ℕ) (cs : List ℕ) → ((c ≤ b) × (reach b (c ∷ cs) ≡ suc (reach (b - c) cs))) ⊎ ((b < c) × (reach b (c ∷ cs) ≡ 0))
+reach_most_by : (b c k : ℕ) (cs : List ℕ) → ReachCases b c cs
     → c + sum (take k cs) ≤ b → (sum (take k cs) ≤ b - c → k ≤ reach (b - c) cs) → suc k ≤ reach b (c ∷ cs)
 reach_most_by b c k cs (inl h) held rest = omega (arith, h.1, rest (omega arith))
 reach_most_by b c k cs (inr h) held rest = absurd (omega arith)
@@ -54,21 +57,30 @@ reach_most_by b c k cs (inr h) held rest = absurd (omega arith)
 pub reach_most : (b k : ℕ) (cs : List ℕ) → k ≤ length cs → sum (take k cs) ≤ b → k ≤ reach b cs
 reach_most b zero cs short h = omega arith
 reach_most b (suc k) [] short h = absurd (omega arith)
-reach_most b (suc k) (c ∷ cs) short h = reach_most_by b c k cs (reach_cases b c cs) (omega (arith, h, sum_cons c (take k cs))) (reach_most (b - c) k cs (omega arith))
+reach_most b (suc k) (c ∷ cs) short h =
+    reach_most_by b c k cs (reach_cases b c cs) (omega (arith, h, sum_cons c (take k cs)))
+    (reach_most (b - c) k cs (omega arith))
 
 -- ---- the sum of the records' costs
 
-sum_without_last_at : (rs : List Undo) (k : ℕ) (r : Undo) → k + 1 ≡ length rs → slice_get rs k ≡ Some r → sum (costs_of (take k rs)) + cost_of r ≡ sum (costs_of rs)
+sum_without_last_at : (rs : List Undo) (k : ℕ) (r : Undo)
+    → k + 1 ≡ length rs → slice_get rs k ≡ Some r → sum (costs_of (take k rs)) + cost_of r ≡ sum (costs_of rs)
 sum_without_last_at [] k r len is = absurd (omega arith)
-sum_without_last_at (q ∷ []) zero r len is = let e : q ≡ r = cc in let f : cost_of q ≡ cost_of r = ap (λ x. cost_of x) e in omega (arith, f, sum_cons (cost_of q) [])
+sum_without_last_at (q ∷ []) zero r len is =
+    let e : q ≡ r = cc in
+    let f : cost_of q ≡ cost_of r = ap (λ x. cost_of x) e in
+    omega (arith, f, sum_cons (cost_of q) [])
 sum_without_last_at (q ∷ (p ∷ rs)) zero r len is = absurd (omega arith)
-sum_without_last_at (q ∷ rs) (suc k) r len is = let h = sum_without_last_at rs k r (omega arith) is in omega (arith, h, sum_cons (cost_of q) (costs_of rs), sum_cons (cost_of q) (costs_of (take k rs)))
+sum_without_last_at (q ∷ rs) (suc k) r len is =
+    let h = sum_without_last_at rs k r (omega arith) is in
+    omega (arith, h, sum_cons (cost_of q) (costs_of rs), sum_cons (cost_of q) (costs_of (take k rs)))
 
-pub sum_without_last : (rs : List Undo) (r : Undo) → 0 < length rs → last_item rs ≡ Some r → sum (costs_of (take (length rs - 1) rs)) + cost_of r ≡ sum (costs_of rs)
+pub sum_without_last : (rs : List Undo) (r : Undo)
+    → 0 < length rs → last_item rs ≡ Some r → sum (costs_of (take (length rs - 1) rs)) + cost_of r ≡ sum (costs_of rs)
 sum_without_last rs r some is = sum_without_last_at rs (length rs - 1) r (omega arith) is
 
 -- no record costs less than the least
-pub sum_least : (rs : List Undo) → LEAST_COST * length rs ≤ sum (costs_of rs)
+pub sum_least : (rs : List Undo) → least_cost * length rs ≤ sum (costs_of rs)
 sum_least [] = omega arith
 sum_least (r ∷ rs) = omega (arith, cost_of_least r, sum_least rs, sum_cons (cost_of r) (costs_of rs))
 
@@ -78,39 +90,52 @@ sum_some (r ∷ rs) n h = omega arith
 
 -- ---- records that are dropped from the end, ys being what is left of xs
 
-less_or_same : (a b : ℕ) → a ≤ b → (a < b) ⊎ (a ≡ b)
-less_or_same a b h = grind (arith, nat_tests)
+less_or_same : {a b : ℕ} → a ≤ b → (a < b) ⊎ (a ≡ b)
+less_or_same {a} {b} h = grind (arith, nat_tests)
 
-pub left_after_drop : (xs ys zs : List Undo) → ys ≡ take (length ys) xs → zs ≡ take (length ys - 1) ys → zs ≡ take (length zs) xs
-left_after_drop xs ys zs are is =
+pub left_after_drop : (xs ys : List Undo) {zs : List Undo}
+    → ys ≡ take (length ys) xs → zs ≡ take (length ys - 1) ys → zs ≡ take (length zs) xs
+left_after_drop xs ys {zs} are is =
     let n : length zs ≡ length ys - 1 = ap length is ∙ length-take-le (length ys - 1) ys (omega arith) in
-    is ∙ ap (take (length ys - 1)) are ∙ take-take (length ys - 1) (length ys) xs (omega arith) ∙ ap (λ k. take k xs) (sym n)
+    is ∙ ap (take (length ys - 1)) are ∙ take-take (length ys - 1) (length ys) xs (omega arith)
+    ∙ ap (λ k. take k xs) (sym n)
 
 left_cost : (xs ys : List Undo) → ys ≡ take (length ys) xs → sum (costs_of ys) ≡ sum (take (length ys) (costs_of xs))
 left_cost xs ys are = ap (λ rs. sum (costs_of rs)) are ∙ ap sum (costs_of-take (length ys) xs)
 
-reach_less_by : (room r n : ℕ) (cs : List ℕ) → sum (take r cs) ≤ room → (r < n) ⊎ (r ≡ n) → room < sum (take n cs) → r < n
+reach_less_by : (room r n : ℕ) (cs : List ℕ)
+    → sum (take r cs) ≤ room → (r < n) ⊎ (r ≡ n) → room < sum (take n cs) → r < n
 reach_less_by room r n cs h (inl less) over = less
 reach_less_by room r n cs h (inr e) over = absurd (omega (arith, h, over, ap (λ k. sum (take k cs)) e))
 
 -- while what is left costs more than the room, the reach lies below it
-pub reach_less : (room : ℕ) (xs ys : List Undo) → ys ≡ take (length ys) xs → reach room (costs_of xs) ≤ length ys → room < sum (costs_of ys) → reach room (costs_of xs) < length ys
+pub reach_less : (room : ℕ) (xs ys : List Undo)
+    → ys ≡ take (length ys) xs → reach room (costs_of xs) ≤ length ys → room < sum (costs_of ys)
+    → reach room (costs_of xs) < length ys
 reach_less room xs ys are l over =
-    reach_less_by room (reach room (costs_of xs)) (length ys) (costs_of xs) (reach_within room (costs_of xs)) (less_or_same _ _ l) (omega (arith, over, left_cost xs ys are))
+    reach_less_by room (reach room (costs_of xs)) (length ys) (costs_of xs)
+    (reach_within room (costs_of xs)) (less_or_same l) (omega (arith, over, left_cost xs ys are))
 
 -- once it costs no more, it is the reach
-pub left_is_reach : (room : ℕ) (xs ys : List Undo) → ys ≡ take (length ys) xs → reach room (costs_of xs) ≤ length ys → length ys ≤ length xs → sum (costs_of ys) ≤ room → ys ≡ take (reach room (costs_of xs)) xs
+pub left_is_reach : (room : ℕ) (xs ys : List Undo)
+    → ys ≡ take (length ys) xs → reach room (costs_of xs) ≤ length ys → length ys ≤ length xs
+    → sum (costs_of ys) ≤ room → ys ≡ take (reach room (costs_of xs)) xs
 left_is_reach room xs ys are l short within =
-    let most : length ys ≤ reach room (costs_of xs) = reach_most room (length ys) (costs_of xs) (omega (arith, length-costs_of xs)) (omega (arith, within, left_cost xs ys are)) in
+    let short_costs : length ys ≤ length (costs_of xs) = omega (arith, length-costs_of xs) in
+    let most : length ys ≤ reach room (costs_of xs)
+    = reach_most room (length ys) (costs_of xs) short_costs (omega (arith, within, left_cost xs ys are)) in
     let e : length ys ≡ reach room (costs_of xs) = omega arith in
     are ∙ ap (λ k. take k xs) e
 
 -- ---- a record that comes first, once those have gone whose room it needs
 
-pub has_place : (budget capacity cost : ℕ) (mid : List Undo) → LEAST_COST ≤ cost → cost ≤ budget → sum (costs_of mid) ≤ budget - cost → capacity ≡ budget / LEAST_COST → length mid < capacity
-has_place budget capacity cost mid least l within places = omega (arith, sum_least mid)
+pub has_place : {budget capacity cost : ℕ} (mid : List Undo) → least_cost ≤ cost → cost ≤ budget
+    → sum (costs_of mid) ≤ budget - cost → capacity ≡ budget / least_cost → length mid < capacity
+has_place mid least l within places = omega (arith, sum_least mid)
 
-pub newest_first : (budget cost : ℕ) (rs mid new : List Undo) (r : Undo) → cost ≡ cost_of r → cost ≤ budget → mid ≡ take (reach (budget - cost) (costs_of rs)) rs → new ≡ r ∷ mid
+pub newest_first : {budget cost : ℕ} (rs : List Undo) {mid new : List Undo} {r : Undo}
+    → cost ≡ cost_of r → cost ≤ budget → mid ≡ take (reach (budget - cost) (costs_of rs)) rs → new ≡ r ∷ mid
     → new ≡ take (reach budget (cost_of r ∷ costs_of rs)) (r ∷ rs)
-newest_first budget cost rs mid new r same l kept is =
-    is ∙ ap (λ xs. r ∷ xs) kept ∙ ap (λ n. take n (r ∷ rs)) (sym (reach_first budget cost (costs_of rs) l)) ∙ ap (λ n. take (reach budget (n ∷ costs_of rs)) (r ∷ rs)) same
+newest_first {budget} {cost} rs {r = r} same l kept is =
+    is ∙ ap (λ xs. r ∷ xs) kept ∙ ap (λ n. take n (r ∷ rs)) (sym (reach_first budget cost (costs_of rs) l))
+    ∙ ap (λ n. take (reach budget (n ∷ costs_of rs)) (r ∷ rs)) same

@@ -1,7 +1,6 @@
 -- The budgets that a journal can have, in octets of cost.
 use Rattle.std.specs.Prelude.{ℕ, ◌≤◌}
-use Rattle.em_journal.specs.declared.machine.TheConstants.{LEAST_BUDGET, MOST_BUDGET}
 
 -- the least one holds any single event
 abbrev pub IsBudget : ℕ → Type 0
-IsBudget budget = (LEAST_BUDGET ≤ budget) × (budget ≤ MOST_BUDGET)
+IsBudget budget = (65_536 ≤ budget) × (budget ≤ 16_777_216)

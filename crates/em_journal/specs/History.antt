@@ -1,31 +1,33 @@
--- What commands do to a view, and what becomes of their events.
-use Rattle.std.specs.Prelude.{◌≡◌, ℕ, ◌-◌, List, [], ◌∷◌, ◌++◌, length, take, drop, Result, Ok, Err}
+-- What calls do to a view, and what becomes of their events.
+use Rattle.std.specs.Prelude.{◌≡◌, ℕ, ◌-◌, ◌<◌, List, [], ◌∷◌, ◌++◌, length, take, drop, Result, Ok, Err}
 use Rattle.em_step.specs.State.{State}
 use Rattle.em_step.specs.Event.{Event}
-use Rattle.em_step.specs.Step.{step}
+use Rattle.em_step.specs.Step.{step, Refuses}
 use Rattle.em_step.specs.Cost.{cost}
 use Rattle.em_step.specs.declared.event.Answer.{Answer}
-use Rattle.em_step.specs.declared.event.Refusal.{Refusal}
-use Rattle.em_journal.specs.View.{View, opening, after_event, within}
+use Rattle.em_step.specs.declared.refusal.Refusal.{Refusal}
+use Rattle.em_journal.specs.View.{View, opening, after_event, after_back, costs_within}
 
--- a command with its outcome
+-- a call with its outcome
 pub data Call : Type 0 where
-  -- an event that was performed
-  performs : Event → Call
+  -- an event that was performed, with its answer
+  performs : Event → Answer → Call
   -- an event that was refused
-  refuses : Event → Call
+  refuses : Event → Refusal → Call
   -- a step back
   goes_back : Call
   -- a step back that was refused, since the journal was empty
   is_empty : Call
 
--- ---- what one command does to the view
+-- ---- what one call does to the view
 
--- a performed event steps the present state, a step back makes the newest state of the past the present one, and a refusal changes nothing
+-- An event answers by the table, and its state becomes the present one; it is refused by the table or for want of
+-- memory. A step back needs a past. What is refused changes nothing.
 abbrev pub Does : View → Call → View → Type 0
-Does v (performs e) w = (r : Answer × State) × (step v.present e ≡ Ok r) × (w ≡ after_event v r.1 (cost v.present e))
-Does v (refuses e) w = w ≡ v
-Does v goes_back w = (s : State) × (past : List State) × (v.past ≡ s ∷ past) × (w ≡ record v { present = s; past = past; costs = drop 1 v.costs })
+Does v (performs e answer) w =
+    (step v.present e ≡ Ok (answer, w.present)) × (w ≡ after_event v w.present (cost v.present e))
+Does v (refuses e refusal) w = Refuses v.present e refusal × (w ≡ v)
+Does v goes_back w = (0 < length v.past) × (w ≡ after_back v)
 Does v is_empty w = (v.past ≡ []) × (w ≡ v)
 
 -- one after the other
@@ -44,15 +46,15 @@ abbrev pub without_last : ℕ → List Event → List Event
 without_last i events = take (length events - i) events
 
 -- a performed event goes last, and a step back drops the last
-abbrev pub kept_after : List Event → List Call → List Event
-kept_after events [] = events
-kept_after events (performs e ∷ calls) = kept_after (events ++ e ∷ []) calls
-kept_after events (refuses e ∷ calls) = kept_after events calls
-kept_after events (goes_back ∷ calls) = kept_after (without_last 1 events) calls
-kept_after events (is_empty ∷ calls) = kept_after events calls
+abbrev pub events_after : List Event → List Call → List Event
+events_after events [] = events
+events_after events (performs e answer ∷ calls) = events_after (events ++ e ∷ []) calls
+events_after events (refuses e refusal ∷ calls) = events_after events calls
+events_after events (goes_back ∷ calls) = events_after (without_last 1 events) calls
+events_after events (is_empty ∷ calls) = events_after events calls
 
-abbrev pub kept : List Call → List Event
-kept calls = kept_after [] calls
+abbrev pub kept_events : List Call → List Event
+kept_events calls = events_after [] calls
 
 -- the state that an event leads to
 abbrev pub after_step : State → Result (Answer × State) Refusal → State
@@ -69,10 +71,11 @@ state s (e ∷ events) = state (after_step s (step s e)) events
 -- a performed event's cost comes first, and the oldest that the budget does not hold go; a step back drops the newest
 abbrev pub costs_after : ℕ → State → List Event → List ℕ → List Call → List ℕ
 costs_after budget s events costs [] = costs
-costs_after budget s events costs (performs e ∷ calls) =
-    costs_after budget s (events ++ e ∷ []) (within budget (cost (state s events) e ∷ costs)) calls
-costs_after budget s events costs (refuses e ∷ calls) = costs_after budget s events costs calls
-costs_after budget s events costs (goes_back ∷ calls) = costs_after budget s (without_last 1 events) (drop 1 costs) calls
+costs_after budget s events costs (performs e answer ∷ calls) =
+    costs_after budget s (events ++ e ∷ []) (costs_within budget (cost (state s events) e ∷ costs)) calls
+costs_after budget s events costs (refuses e refusal ∷ calls) = costs_after budget s events costs calls
+costs_after budget s events costs (goes_back ∷ calls) =
+    costs_after budget s (without_last 1 events) (drop 1 costs) calls
 costs_after budget s events costs (is_empty ∷ calls) = costs_after budget s events costs calls
 
 -- the costs of the events that can be taken back, the newest first

@@ -1,5 +1,6 @@
 pub mod Budget
 pub mod Records
 pub mod History
-pub mod JournalRefusal
+pub mod Refusal
+pub mod Settings
 pub mod View

@@ -1,5 +1,5 @@
 -- What a machine shows: where it is, and what it can go back to.
-use Rattle.std.specs.Prelude.{ℕ, ◌-◌, nat_le, if◌then◌else◌, suc, List, [], ◌∷◌, take, refl}
+use Rattle.std.specs.Prelude.{ℕ, ◌-◌, nat_le, if◌then◌else◌, zero, suc, List, [], ◌∷◌, take, drop, refl}
 use Rattle.std.specs.Coded.{Coded, code_by, coded×, coded_list, coded_ℕ}
 use Rattle.em_step.specs.State.{State, state_code}
 
@@ -15,8 +15,10 @@ pub record View : Type 0 where
 
 abbrev pub view_code : Coded View
 view_code =
-    code_by (ℕ × (State × (List State × List ℕ))) (coded× coded_ℕ (coded× state_code (coded× (coded_list state_code) (coded_list coded_ℕ))))
-    (λ v. (v.budget, (v.present, (v.past, v.costs)))) (λ p. record { budget = p.0; present = p.1.0; past = p.1.1.0; costs = p.1.1.1 }) (λ _. refl)
+    code_by (ℕ × (State × (List State × List ℕ)))
+    (coded× coded_ℕ (coded× state_code (coded× (coded_list state_code) (coded_list coded_ℕ))))
+    (λ v. (v.budget, (v.present, (v.past, v.costs))))
+    (λ p. record { budget = p.0; present = p.1.0; past = p.1.1.0; costs = p.1.1.1 }) (λ _. refl)
 
 -- a machine that has performed nothing
 abbrev pub opening : ℕ → State → View
@@ -32,13 +34,29 @@ reach budget [] = 0
 reach budget (c ∷ costs) = if nat_le c budget then suc (reach (budget - c) costs) else 0
 
 -- the costs without the oldest, which the budget does not hold
-abbrev pub within : ℕ → List ℕ → List ℕ
-within budget costs = take (reach budget costs) costs
+abbrev pub costs_within : ℕ → List ℕ → List ℕ
+costs_within budget costs = take (reach budget costs) costs
+
+-- ---- what events and steps back make of it
 
 -- after an event of the cost that led to s
 abbrev pub after_event : View → State → ℕ → View
 after_event v s cost = record v {
   present = s;
   past = take (reach v.budget (cost ∷ v.costs)) (states v);
-  costs = within v.budget (cost ∷ v.costs);
+  costs = costs_within v.budget (cost ∷ v.costs);
 }
+
+-- after a step back to the newest of these states, where there is one
+abbrev pub back_to : List State → View → View
+back_to [] v = v
+back_to (s ∷ older) v = record v { present = s; past = older; costs = drop 1 v.costs }
+
+-- after a step back: the newest state of the past is the present one
+abbrev pub after_back : View → View
+after_back v = back_to v.past v
+
+-- after n steps back, or as many as there are
+abbrev pub after_backs : ℕ → View → View
+after_backs zero v = v
+after_backs (suc n) v = after_backs n (after_back v)

@@ -5,8 +5,10 @@ pub mod laws;
 mod machine;
 mod records;
 mod refusal;
+mod settings;
 #[cfg(test)]
 mod tests;
 
 pub use machine::{LEAST_BUDGET, MOST_BUDGET, Machine};
 pub use refusal::{Empty, JournalRefusal};
+pub use settings::{Settings, SettingsRefusal};

@@ -1,5 +1,6 @@
 //! The machine: an adapter with a journal of its latest events.
-ghost use Rattle.std.specs.Prelude.{◌≡◌, ◌+◌, ◌<◌, ◌↔◌, [], ◌∷◌, IfOk, IfErr, OnOk, OnErr, IsErrOf, IsTrue, length, drop, min};
+ghost use Rattle.std.specs.Prelude.{◌≡◌, ◌+◌, ◌<◌, ◌↔◌, IfOk, IfErr, OnOk, OnErr, IsErrOf, IsTrue};
+ghost use Rattle.std.specs.Prelude.{length, min, replicate};
 ghost use Rattle.std.specs.Option.{option_map};
 ghost use Rattle.em_mem.specs.Memory.{part};
 ghost use Rattle.em_regs.specs.Table.{reg_at};
@@ -7,10 +8,9 @@ ghost use Rattle.em_latch.specs.Latches.{IsAsserted};
 ghost use Rattle.em_step.specs.Access.{gives};
 ghost use Rattle.em_step.specs.Cells.{shows};
 ghost use Rattle.em_step.specs.Event.{plain};
-ghost use Rattle.em_step.specs.Step.{step, Refuses};
-ghost use Rattle.em_step.specs.Cost.{cost};
 ghost use Rattle.em_journal.specs.Budget.{IsBudget};
-ghost use Rattle.em_journal.specs.View.{opening, states, after_event};
+ghost use Rattle.em_journal.specs.History.{performs, refuses, goes_back, is_empty, Does, Run};
+ghost use Rattle.em_journal.specs.View.{opening, after_backs};
 
 use crate::records::{drop_oldest, put_newest};
 use crate::refusal::{Empty, JournalRefusal};
@@ -38,15 +38,14 @@ pub struct Machine {
 }
 
 impl Model for Machine {
-    ghost use Rattle.em_step.specs.Cells.{shows};
-    ghost use Rattle.em_journal.specs.Records.{back_through, costs_of, IsJournal};
+    ghost use Rattle.em_journal.specs.Records.{view_of, IsJournal};
     ghost use Rattle.em_journal.specs.View.{View, view_code};
 
     ghost Value = { View };
 
     ghost coded = { view_code };
 
-    ghost view = { λ m. record { budget = m.budget; present = shows m.adapter; past = back_through m.adapter m.records.items; costs = costs_of m.records.items } };
+    ghost view = { λ m. view_of m.budget m.adapter m.records.items };
 
     ghost invariant = { λ m. IsJournal m.adapter m.records.items m.records.capacity m.budget m.used };
 }
@@ -64,9 +63,10 @@ impl Machine {
         ensures ok { IfOk result (λ machine. machine ≡ opening budget (shows adapter)) }
         ensures budget { OnOk result (IsBudget budget) }
         ensures refused { IfErr result (λ e. (e.1 ≡ JournalRefusal.Budget) ↔ (IsBudget budget → ⊥)) }
+        ensures memory { IfErr result (λ e. (e.1 ≡ JournalRefusal.Memory) → IsBudget budget) }
         ensures same { IfErr result (λ e. e.0 ≡ adapter) }
     {
-        if budget < LEAST_BUDGET || budget > MOST_BUDGET {
+        if !is_budget(budget) {
             return Err((adapter, JournalRefusal::Budget));
         }
         // No record costs less, so the places are never too few.
@@ -87,12 +87,10 @@ impl Machine {
     /// A refused event is not journalled: the machine stays as it was, also in how far it can go
     /// back.
     pub fn perform(&mut self, event: Event<'_>) -> Result<Answer, Refusal>
-        ensures ok { IfOk result (λ answer. step self.old.present (plain event.entry) ≡ Ok (answer, self.new.present)) }
-        ensures view { OnOk result (self.new ≡ after_event self.old self.new.present (cost self.old.present (plain event.entry))) }
+        ensures ok { IfOk result (λ answer. Does self.old (performs (plain event.entry) answer) self.new) }
         // a performed event can always be taken back
         ensures kept { OnOk result (0 < length self.new.past) }
-        ensures err { IfErr result (Refuses self.old.present (plain event.entry)) }
-        ensures same { OnErr result (self.new ≡ self.old) }
+        ensures err { IfErr result (λ refusal. Does self.old (refuses (plain event.entry) refusal) self.new) }
     {
         let (answer, undo) = self.adapter.apply(event)?;
         let cost = u64::from(undo.cost());
@@ -105,11 +103,8 @@ impl Machine {
 
     /// Takes the newest event of the journal back. Refused exactly where the journal is empty.
     pub fn back(&mut self) -> Result<(), Empty>
-        ensures ok { OnOk result (self.old.past ≡ self.new.present ∷ self.new.past) }
-        ensures costs { OnOk result (self.new.costs ≡ drop 1 self.old.costs) }
-        ensures budget { self.new.budget ≡ self.old.budget }
-        ensures empty { OnErr result (self.old.past ≡ []) }
-        ensures same { OnErr result (self.new ≡ self.old) }
+        ensures ok { OnOk result (Does self.old goes_back self.new) }
+        ensures empty { OnErr result (Does self.old is_empty self.new) }
     {
         match self.records.pop_front() {
             Some(undo) => {
@@ -125,9 +120,8 @@ impl Machine {
     /// how many it took back.
     pub fn back_by(&mut self, n: usize) -> usize
         ensures count { result ≡ min n (length self.old.past) }
-        ensures states { states self.new ≡ drop result (states self.old) }
-        ensures costs { self.new.costs ≡ drop result self.old.costs }
-        ensures budget { self.new.budget ≡ self.old.budget }
+        ensures view { self.new ≡ after_backs n self.old }
+        ensures run { Run self.old (replicate result goes_back) self.new }
     {
         for done in 0..n {
             match self.back() {
@@ -185,4 +179,11 @@ impl Machine {
     {
         self.adapter.memory_size()
     }
+}
+
+/// Whether a journal can have this budget.
+pub fn is_budget(budget: u64) -> bool
+    ensures { IsTrue result ↔ IsBudget budget }
+{
+    LEAST_BUDGET <= budget && budget <= MOST_BUDGET
 }

@@ -1,13 +1,17 @@
 //! Why a journal is not made, and why nothing is taken back.
 ghost use Rattle.std.specs.Prelude.{◌≡◌};
-ghost use Rattle.em_journal.specs.JournalRefusal.{code_of, code_of_empty};
+ghost use Rattle.em_journal.specs.Refusal.{code_of, code_of_empty};
+
+use thiserror::Error;
 
 /// Why no machine was made.
-#[derive(Clone, Copy, PartialEq, Eq, Debug)]
+#[derive(Clone, Copy, PartialEq, Eq, Debug, Error)]
 pub enum JournalRefusal {
     /// The budget lies outside 65,536 to 16,777,216 octets of cost.
+    #[error("Budget")]
     Budget,
     /// The memory of the journal's places was refused.
+    #[error("Memory")]
     Memory,
 }
 
@@ -24,7 +28,8 @@ impl JournalRefusal {
 }
 
 /// The journal holds no event that could be taken back.
-#[derive(Clone, Copy, PartialEq, Eq, Debug)]
+#[derive(Clone, Copy, PartialEq, Eq, Debug, Error)]
+#[error("Empty")]
 pub struct Empty;
 
 impl Empty {

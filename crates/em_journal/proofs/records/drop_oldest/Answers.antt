@@ -3,7 +3,8 @@ use Rattle.std.proofs.lemmas.List.{length-take-le}
 use Rattle.std.proofs.Math.Seq.{take-length}
 use Rattle.circular_buffer.specs.Buffer.{buffer}
 use Rattle.em_journal.specs.Records.{costs_of}
-use Rattle.em_journal.proofs.BudgetLaws.{sum_some, reach_length, length-costs_of, reach_less, left_after_drop, left_is_reach}
+use Rattle.em_journal.proofs.BudgetLaws.{sum_some, length-costs_of, reach_length, reach_less}
+use Rattle.em_journal.proofs.BudgetLaws.{left_after_drop, left_is_reach}
 use Rattle.em_journal.proofs.records.drop_oldest.Goals as goal
 
 pub drop_one-used-requires : goal.drop_one-used-requires
@@ -12,16 +13,23 @@ drop_one-used-requires c = sum_some c.loop-used.records.items c.args.room (omega
 pub loop-used-init : goal.loop-used-init
 loop-used-init c =
     let rs = c.args.records.now.items in
-    record { kept = sym (take-length rs); places = refl; reached = omega (arith, reach_length c.args.room (costs_of rs), length-costs_of rs); short = omega arith; counted = c.requires }
+    record {
+      kept = sym (take-length rs);
+      places = refl;
+      reached = omega (arith, reach_length c.args.room (costs_of rs), length-costs_of rs);
+      short = omega arith;
+      counted = c.requires;
+    }
 
 pub loop-used-preserved : goal.loop-used-preserved
 loop-used-preserved c =
     let old = c.loop-used.records.items in
     let items = ap (λ b. b.items) c.drop_one-used.ensures.items in
     let len = ap length items ∙ length-take-le (length old - 1) old (omega arith) in
-    let less = reach_less c.args.room c.args.records.now.items old c.loop-used.invariant.kept c.loop-used.invariant.reached (omega arith) in
+    let here = c.loop-used.invariant in
+    let less = reach_less c.args.room c.args.records.now.items old here.kept here.reached (omega arith) in
     record {
-      kept = left_after_drop c.args.records.now.items old _ c.loop-used.invariant.kept items;
+      kept = left_after_drop c.args.records.now.items old c.loop-used.invariant.kept items;
       places = ap (λ b. b.capacity) c.drop_one-used.ensures.items ∙ c.loop-used.invariant.places;
       reached = omega (arith, less, len);
       short = omega (arith, len);
@@ -30,5 +38,7 @@ loop-used-preserved c =
 
 pub returns-clause-items : goal.returns-clause-items
 returns-clause-items c =
-    let items = left_is_reach c.args.room c.args.records.now.items c.loop-used.records.items c.loop-used.invariant.kept c.loop-used.invariant.reached c.loop-used.invariant.short (omega arith) in
-    λ i. buffer (items i) (c.loop-used.invariant.places i)
+    let here = c.loop-used.invariant in
+    let items = left_is_reach c.args.room c.args.records.now.items c.loop-used.records.items
+    here.kept here.reached here.short (omega arith) in
+    λ i. buffer (items i) (here.places i)

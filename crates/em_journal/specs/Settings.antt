@@ -1,0 +1,30 @@
+-- What settings make, and when they make nothing.
+use Rattle.std.specs.Prelude.{◌≡◌, ℕ, [], ◌∷◌}
+use Rattle.em_mem.specs.Memory.{IsMemorySize}
+use Rattle.em_eeprom.specs.Eeprom.{words_of_mac}
+use Rattle.em_step.specs.Cells.{fresh, shows}
+use Rattle.em_journal.specs.Budget.{IsBudget}
+use Rattle.em_journal.specs.View.{View, opening}
+use Rattle.em_journal.specs.declared.settings.Settings.{Settings}
+use Rattle.em_journal.specs.declared.settings.SettingsRefusal.{SettingsRefusal}
+use Rattle.em_journal.specs.declared.settings.SettingsRefusal.TheVariants.{Size, Budget, Memory}
+
+-- 64 KiB of memory, 1 MiB for the journal, and an address that is administered locally: 52:54:00:12:34:56
+pub record IsDefault (settings : Settings) : Type 0 where
+  pub memory : settings.memory ≡ 65_536
+  pub budget : settings.budget ≡ 1_048_576
+  pub mac : settings.mac ≡ 0x52 ∷ 0x54 ∷ 0x00 ∷ 0x12 ∷ 0x34 ∷ 0x56 ∷ []
+
+-- after a reset, over a memory of zeros, with the link down and nothing to take back
+abbrev pub new_machine : Settings → View
+new_machine settings = opening settings.budget (shows (fresh settings.memory (words_of_mac settings.mac)))
+
+-- a memory and a journal can be of these sizes
+abbrev pub AreAllowed : Settings → Type 0
+AreAllowed settings = IsMemorySize settings.memory × IsBudget settings.budget
+
+-- the size of memory is named first, then the budget, and want of memory where neither refuses
+abbrev pub IsRefusedAs : Settings → SettingsRefusal → Type 0
+IsRefusedAs settings Size = IsMemorySize settings.memory → ⊥
+IsRefusedAs settings Budget = IsMemorySize settings.memory × (IsBudget settings.budget → ⊥)
+IsRefusedAs settings Memory = AreAllowed settings

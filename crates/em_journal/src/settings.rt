@@ -1,0 +1,87 @@
+//! What a machine is made of, and what it is made of where nobody says otherwise.
+ghost use Rattle.std.specs.Prelude.{◌≡◌, ◌↔◌, IfOk, IfErr, OnOk};
+ghost use Rattle.em_mem.specs.Memory.{IsMemorySize};
+ghost use Rattle.em_journal.specs.Settings.{new_machine, AreAllowed, IsRefusedAs};
+
+use crate::machine::{Machine, is_budget};
+use crate::refusal::JournalRefusal;
+use em_eeprom::Eeprom;
+use em_mem::MemRefusal;
+use em_step::Adapter;
+use std::alloc::Global;
+use thiserror::Error;
+
+/// What a machine is made of. By default it has 65,536 octets of memory, a budget of 1,048,576 and
+/// the address 52:54:00:12:34:56.
+#[derive(Clone, Copy, PartialEq, Eq, Debug)]
+pub struct Settings {
+    /// How many octets the guest's memory has: a multiple of 4,096 from 4,096 to 16,777,216.
+    pub memory: u64,
+    /// The journal's budget in octets of cost, from 65,536 to 16,777,216.
+    pub budget: u64,
+    /// The adapter's Ethernet address, octet 0 first.
+    pub mac: [u8; 6],
+}
+
+impl Default for Settings {
+    ghost use Rattle.em_journal.specs.Settings.{IsDefault};
+
+    ghost is_default = { IsDefault };
+
+    fn default() -> Settings {
+        Settings {
+            memory: 65_536,
+            budget: 1_048_576,
+            mac: [0x52, 0x54, 0x00, 0x12, 0x34, 0x56],
+        }
+    }
+}
+
+/// Why settings made no machine. Where several causes are there, the first of them is named.
+#[derive(Clone, Copy, PartialEq, Eq, Debug, Error)]
+pub enum SettingsRefusal {
+    /// The size of memory is not a multiple of 4,096 from 4,096 to 16,777,216.
+    #[error("Size")]
+    Size,
+    /// The budget lies outside 65,536 to 16,777,216 octets of cost.
+    #[error("Budget")]
+    Budget,
+    /// Memory was refused.
+    #[error("Memory")]
+    Memory,
+}
+
+impl Settings {
+    /// A new machine: the state after a reset, over a memory of zeros, with the link down and an
+    /// empty journal.
+    ///
+    /// Refused as Size, or else as Budget; as Memory only where neither is refused.
+    pub fn machine(&self, alloc: Global) -> Result<Machine, SettingsRefusal>
+        ensures ok { IfOk result (λ machine. machine ≡ new_machine self.now) }
+        ensures allowed { OnOk result (AreAllowed self.now) }
+        ensures err { IfErr result (IsRefusedAs self.now) }
+    {
+        let adapter = match Adapter::new(alloc, self.memory, Eeprom::of_mac(self.mac)) {
+            Ok(adapter) => adapter,
+            Err(refusal) => return Err(self.without_adapter(refusal)),
+        };
+        match Machine::new(alloc, adapter, self.budget) {
+            Ok(machine) => Ok(machine),
+            Err((_, JournalRefusal::Budget)) => Err(SettingsRefusal::Budget),
+            Err((_, JournalRefusal::Memory)) => Err(SettingsRefusal::Memory),
+        }
+    }
+
+    /// What refuses settings for which no adapter was made: a budget that is not allowed is named
+    /// before the want of memory.
+    fn without_adapter(&self, refusal: MemRefusal) -> SettingsRefusal
+        requires { (refusal ≡ MemRefusal.Size) ↔ (IsMemorySize self.now.memory → ⊥) }
+        ensures { IsRefusedAs self.now result }
+    {
+        match refusal {
+            MemRefusal::Size => SettingsRefusal::Size,
+            MemRefusal::Memory if is_budget(self.budget) => SettingsRefusal::Memory,
+            MemRefusal::Memory => SettingsRefusal::Budget,
+        }
+    }
+}
