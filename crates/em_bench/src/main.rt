@@ -4,7 +4,8 @@
 //! the fault on standard error.
 #![tactic(auto)]
 
-use em_script::{BenchFault, Session, Summary, run, standard_machine};
+use em_journal::{Settings, SettingsRefusal};
+use em_script::{BenchFault, Session, Summary, run};
 use std::io::{self, BufWriter, Write};
 use std::process::ExitCode;
 
@@ -17,13 +18,14 @@ const BAD_LINE: u8 = 1;
 /// The status where the run stopped.
 const STOPPED: u8 = 3;
 
-fn main(rt: HostRuntime) -> io::Result<ExitCode> {
+fn main(rt: HostRuntime) -> ExitCode {
     match bench(&rt) {
-        Ok(summary) if summary.bad == 0 => Ok(ExitCode::SUCCESS),
-        Ok(_) => Ok(ExitCode::from(BAD_LINE)),
+        Ok(summary) if summary.bad == 0 => ExitCode::SUCCESS,
+        Ok(_) => ExitCode::from(BAD_LINE),
         Err(fault) => {
-            eprintln!(rt; "em_bench: {fault}")?;
-            Ok(ExitCode::from(STOPPED))
+            // The status says that the run stopped, also where its fault can't be written.
+            let _ = eprintln!(rt; "em_bench: {fault}");
+            ExitCode::from(STOPPED)
         }
     }
 }
@@ -31,7 +33,12 @@ fn main(rt: HostRuntime) -> io::Result<ExitCode> {
 /// Runs the script on a new machine. What was answered is written out whole, also where the run
 /// then stopped.
 fn bench(rt: &(impl Input + Print + AllocGlobal)) -> Result<Summary, BenchFault> {
-    let mut session = Session::new(standard_machine(rt.alloc())?);
+    let machine = match Settings::default().machine(rt.alloc()) {
+        Ok(machine) => machine,
+        Err(SettingsRefusal::Memory) => return Err(BenchFault::Memory),
+        Err(SettingsRefusal::Size | SettingsRefusal::Budget) => unreachable!(),
+    };
+    let mut session = Session::new(machine);
     let Ok(mut writer) = BufWriter::with_capacity(rt.alloc(), WRITTEN_AT_ONCE, io::writer(rt))
     else {
         return Err(BenchFault::Memory);

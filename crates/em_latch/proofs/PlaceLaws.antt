@@ -41,7 +41,8 @@ unfolding offsets
 each_placed Ctrl = refl
 each_placed _ = refl
 
-both : (reg : Reg) → IsWord reg → (nat_lt (word_place reg) 28 ≡ true) × ((get_or offsets (word_place reg) 0 == offset_of reg) ≡ true)
+both : (reg : Reg) → IsWord reg → (nat_lt (word_place reg) 28 ≡ true) ×
+    ((get_or offsets (word_place reg) 0 == offset_of reg) ≡ true)
 both reg h =
     and_parts (nat_lt (word_place reg) 28) (get_or offsets (word_place reg) 0 == offset_of reg)
     (chosen (is_word reg) _ h (each_placed reg))
@@ -100,7 +101,8 @@ pub record Swaps (old : Registers) (words : List ℕ) (i v w : ℕ) : Type 0 whe
   pub was : map.get old (get_or offsets i 0) ≡ Some w
   pub now : words_at offsets words ≡ map.insert old (get_or offsets i 0) v
 
-pub swaps : {old : Registers} {words : List ℕ} {i v w : ℕ} (ws : List ℕ) → i < 28 → length ws ≡ 28 → words_at offsets ws ≡ old
+pub swaps : {old : Registers} {words : List ℕ} {i v w : ℕ} (ws : List ℕ) → i < 28 → length ws ≡ 28
+    → words_at offsets ws ≡ old
     → get_or ws i 0 ≡ w → words ≡ set ws i v → Swaps old words i v w
 swaps {old} {words} {i} {v} {w} ws h size is was now =
     let place = is_place ws old i h size is in

@@ -1,5 +1,21 @@
 -- What an access of a latched register gives and does.
-use Rattle.std.specs.Prelude.{◌≡◌, ◌≢◌, ℕ, ◌-◌, Bool, true, false, List, [], ◌∷◌, IsTrue, bit_and, bit_or, length, replicate}
+use Rattle.std.specs.Prelude.{
+  ◌≡◌,
+  ◌≢◌,
+  ℕ,
+  ◌-◌,
+  Bool,
+  true,
+  false,
+  List,
+  [],
+  ◌∷◌,
+  IsTrue,
+  bit_and,
+  bit_or,
+  length,
+  replicate,
+}
 use Rattle.std.specs.FinMap as map
 use Rattle.em_regs.specs.declared.reg.Reg.{Reg}
 use Rattle.em_regs.specs.declared.reg.Reg.TheVariants.{Icr, Ics, Ims, Imc, Gorcl, Gorch, Gotcl, Gotch}
@@ -58,9 +74,13 @@ gives m Ics = 0
 gives m Imc = 0
 gives m reg = at m (offset_of reg)
 
+-- both halves of a pair written
+abbrev pub after_pair_write : Registers → Reg → Reg → ℕ → ℕ → Registers
+after_pair_write m low high v w = map.insert (map.insert m (offset_of low) v) (offset_of high) w
+
 -- both halves of a pair cleared
 abbrev pub after_pair_clear : Registers → Reg → Reg → Registers
-after_pair_clear m low high = map.insert (map.insert m (offset_of low) 0) (offset_of high) 0
+after_pair_clear m low high = after_pair_write m low high 0 0
 
 -- a read of the causes or a counter clears it; of a pair, the read of the high half clears both
 abbrev pub after_read : Registers → Reg → Registers

@@ -4,8 +4,8 @@ ghost use Rattle.std.specs.FinMap as map;
 ghost use Rattle.em_regs.specs.Table.{offset_of};
 ghost use Rattle.em_regs.specs.RegFile as registers;
 ghost use Rattle.em_latch.specs.Storage.{offsets};
-ghost use Rattle.em_latch.specs.Latches.{fresh, is_latched, IsLatched, IsWord, gives, after_read, after_write, after_raise};
-ghost use Rattle.em_latch.specs.Latches.{IsAsserted, Fits, undo, Reverses};
+ghost use Rattle.em_latch.specs.Latches.{fresh, is_latched, IsLatched, IsWord, gives, after_read, after_write};
+ghost use Rattle.em_latch.specs.Latches.{after_raise, after_pair_write, IsAsserted, Fits, undo, Reverses};
 ghost use Rattle.em_latch.specs.Counter.{after_count, after_pair_count};
 
 use crate::counter::Counter;
@@ -215,7 +215,7 @@ impl Latches {
     fn replace_both(&mut self, low: Reg, high: Reg, low_value: u32, high_value: u32) -> LatchUndo
         requires low { IsWord low }
         requires high { IsWord high }
-        ensures state { self.new ≡ map.insert (map.insert self.old (offset_of low) low_value) (offset_of high) high_value }
+        ensures state { self.new ≡ after_pair_write self.old low high low_value high_value }
         ensures words { length result ≡ 2 }
         ensures reverses { Reverses self.old self.new result }
     {

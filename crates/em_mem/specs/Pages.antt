@@ -1,5 +1,22 @@
 -- What a table of pages, some of which are made, means as octets.
-use Rattle.std.specs.Prelude.{◌≡◌, ◌*◌, ◌≤◌, ℕ, Bool, true, false, List, [], ◌∷◌, length, map, slice_index_or, Option, Some, None}
+use Rattle.std.specs.Prelude.{
+  ◌≡◌,
+  ◌*◌,
+  ◌≤◌,
+  ℕ,
+  Bool,
+  true,
+  false,
+  List,
+  [],
+  ◌∷◌,
+  length,
+  map,
+  slice_index_or,
+  Option,
+  Some,
+  None,
+}
 use Rattle.std.specs.List.{flat_map}
 use Rattle.std.specs.Global.{Box}
 use Rattle.em_mem.specs.declared.TheConstants.{PAGE_OCTETS, MOST_MEMORY}

@@ -1,6 +1,8 @@
 //! Guest memory: the octets of the guest, and which of its pages are made.
-ghost use Rattle.std.specs.Prelude.{◌≡◌, ◌+◌, ◌%◌, ◌≤◌, ◌<◌, ◌↔◌, IfOk, IfErr, IsErrOf, IsOk, IsTrue, IsSome, IfSome, OnOk, length};
-ghost use Rattle.em_mem.specs.Memory.{Fits, IsHeld, IsInOnePage, IsMade, IsMemorySize, MakesOnly, MorePages, Reverses, fresh, part, put, undo};
+ghost use Rattle.std.specs.Prelude.{◌≡◌, ◌+◌, ◌%◌, ◌≤◌, ◌<◌, ◌↔◌, length};
+ghost use Rattle.std.specs.Prelude.{IfOk, IfErr, IsErrOf, IsOk, IsTrue, IsSome, IfSome, OnOk};
+ghost use Rattle.em_mem.specs.Memory.{IsHeld, IsInOnePage, IsMade, IsMemorySize, MakesOnly, MorePages};
+ghost use Rattle.em_mem.specs.Memory.{fresh, part, put, Fits, undo, Reverses};
 
 use crate::page::Page;
 use crate::{MOST_MEMORY, MemRefusal, MemUndo, PAGE_OCTETS, Reversible, page, table};

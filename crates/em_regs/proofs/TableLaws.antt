@@ -59,7 +59,8 @@ spaced (Rah _) = inr refl
 spaced Ctrl = inl refl
 spaced _ = inl refl
 
-by_four : (off n o : ℕ) → (nat_le off o && nat_lt (o - off) (4 * n) && ((o - off) % 4) == 0) ≡ true → ((o - off) / 4 < n) × (off + 4 * ((o - off) / 4) ≡ o)
+by_four : (off n o : ℕ) → (nat_le off o && nat_lt (o - off) (4 * n) && ((o - off) % 4) == 0) ≡ true
+    → ((o - off) / 4 < n) × (off + 4 * ((o - off) / 4) ≡ o)
 by_four off n o h =
     let outer = and_parts (nat_le off o && nat_lt (o - off) (4 * n)) (((o - off) % 4) == 0) h in
     let inner = and_parts (nat_le off o) (nat_lt (o - off) (4 * n)) outer.0 in
@@ -68,7 +69,8 @@ by_four off n o h =
     let whole : (o - off) % 4 ≡ 0 = eqb-true _ _ outer.1 in
     (omega arith, omega arith)
 
-by_eight : (off n o : ℕ) → (nat_le off o && nat_lt (o - off) (8 * n) && ((o - off) % 8) == 0) ≡ true → ((o - off) / 8 < n) × (off + 8 * ((o - off) / 8) ≡ o)
+by_eight : (off n o : ℕ) → (nat_le off o && nat_lt (o - off) (8 * n) && ((o - off) % 8) == 0) ≡ true
+    → ((o - off) / 8 < n) × (off + 8 * ((o - off) / 8) ≡ o)
 by_eight off n o h =
     let outer = and_parts (nat_le off o && nat_lt (o - off) (8 * n)) (((o - off) % 8) == 0) h in
     let inner = and_parts (nat_le off o) (nat_lt (o - off) (8 * n)) outer.0 in
@@ -78,7 +80,8 @@ by_eight off n o h =
     (omega arith, omega arith)
 
 abbrev Lies : ℕ → ℕ → ℕ → ℕ → Type 0
-Lies off n o s = (nat_le off o && nat_lt (o - off) (s * n) && ((o - off) % s) == 0) ≡ true → ((o - off) / s < n) × (off + s * ((o - off) / s) ≡ o)
+Lies off n o s = (nat_le off o && nat_lt (o - off) (s * n) && ((o - off) % s) == 0) ≡ true
+    → ((o - off) / s < n) × (off + s * ((o - off) / s) ≡ o)
 
 word_lies : (off s n o : ℕ) → (s ≡ 4) ⊎ (s ≡ 8) → Lies off n o s
 word_lies off s n o (inl e) = subst (Lies off n o) (sym e) (by_four off n o)
@@ -106,11 +109,6 @@ reg_at-offset_of (Vfta i) h = same_below (λ k. reg_at (offset_of (Vfta k))) (λ
 reg_at-offset_of Ctrl h = refl
 reg_at-offset_of _ h = refl
 
--- where nothing is found, no register lies
-pub none_lies : (o : ℕ) (found : Option Reg) → found ≡ reg_at o → IfNone found ((reg : Reg) → IsReg reg → offset_of reg ≡ o → ⊥)
-none_lies o None is = λ reg has lies. let e : None ≡ Some reg = is ∙ ap reg_at (sym lies) ∙ reg_at-offset_of reg has in cc
-none_lies o (Some reg) is = tt
-
 -- ---- the pages
 abbrev pub page_at : ℕ → ℕ
 page_at o = slice_index_or PAGE_AT (o / 64) 0
@@ -134,7 +132,8 @@ all_below-at p (suc n) h i lt =
 
 pub page_is_there : (k : ℕ) → k < 352 → slice_index_or PAGE_AT k 0 < 18
 page_is_there k h =
-    let t : nat_lt (slice_index_or PAGE_AT k 0) 18 ≡ true = all_below-at (λ i. nat_lt (slice_index_or PAGE_AT i 0) 18) 352 refl k h in
+    let t : nat_lt (slice_index_or PAGE_AT k 0) 18 ≡ true = all_below-at
+    (λ i. nat_lt (slice_index_or PAGE_AT i 0) 18) 352 refl k h in
     grind (arith, nat_tests, t)
 
 near_of-offset_of : (reg : Reg) → IsReg reg → near_of (offset_of reg) ≡ first reg
@@ -149,8 +148,10 @@ near_of-offset_of _ h = refl
 pub near_is : (o : ℕ) (x : Reg) → x ≡ near_of o → (reg : Reg) → IsReg reg → offset_of reg ≡ o → x ≡ first reg
 near_is o x e reg has lies = e ∙ ap near_of (sym lies) ∙ near_of-offset_of reg has
 
-pub page_gives : (o page : ℕ) → page ≡ page_at o → (reg : Reg) → IsReg reg → offset_of reg ≡ o → slice_index_or (slice_index_or PAGES page []) ((o / 4) % 16) Ctrl ≡ first reg
-page_gives o page is reg has lies = ap (λ k. slice_index_or (slice_index_or PAGES k []) ((o / 4) % 16) Ctrl) is ∙ near_is o (near_of o) refl reg has lies
+pub page_gives : (o page : ℕ) → page ≡ page_at o → (reg : Reg) → IsReg reg → offset_of reg ≡ o
+    → slice_index_or (slice_index_or PAGES page []) ((o / 4) % 16) Ctrl ≡ first reg
+page_gives o page is reg has lies = ap (λ k. slice_index_or (slice_index_or PAGES k []) ((o / 4) % 16) Ctrl) is
+    ∙ near_is o (near_of o) refl reg has lies
 
 -- each row ends within the registers' space
 abbrev pub ends_within : Reg → Bool
@@ -174,7 +175,8 @@ below_space reg h =
     below_end row.offset row.spacing row.words (index_of reg) (spaced reg) (leb-true _ _ (each_within reg)) h
 
 -- ---- of_offset
-none_in : (o : ℕ) (found : Option Reg) → IfSome found (λ reg. IsReg reg × (offset_of reg ≡ o)) → ((reg : Reg) → IsReg reg → offset_of reg ≡ o → ⊥) → None ≡ found
+none_in : (o : ℕ) (found : Option Reg) → IfSome found (λ reg. IsReg reg × (offset_of reg ≡ o))
+    → ((reg : Reg) → IsReg reg → offset_of reg ≡ o → ⊥) → None ≡ found
 none_in o None l n = refl
 none_in o (Some reg) l n = absurd (n reg l.0 l.1)
 
@@ -194,12 +196,9 @@ row-first _ = refl
 pub row_near : (row : Row) (near reg : Reg) → row ≡ row_of near → near ≡ first reg → row ≡ row_of reg
 row_near row near reg is first_is = is ∙ ap row_of first_is ∙ row-first reg
 
--- which word of the row an offset is
-pub record Word (row : Row) (past index : ℕ) : Type 0 where
-  pub within : index < row.words
-  pub whole : past ≡ row.spacing * index
-
-by_spacing : (s n i past index : ℕ) → (s ≡ 4) ⊎ (s ≡ 8) → ((s ≡ 8) × (index ≡ past / 8)) ⊎ ((s ≢ 8) × (index ≡ past / 4)) → i < n → past ≡ s * i → (index < n) × (past ≡ s * index)
+by_spacing : (s n i past index : ℕ) → (s ≡ 4) ⊎ (s ≡ 8)
+    → ((s ≡ 8) × (index ≡ past / 8)) ⊎ ((s ≢ 8) × (index ≡ past / 4)) → i < n → past ≡ s * i
+    → (index < n) × (past ≡ s * index)
 by_spacing s n i past index (inl four) (inl at) h is = absurd (omega (arith, at.0))
 by_spacing s n i past index (inl four) (inr at) h is =
     let p : past ≡ 4 * i = is ∙ ap (λ k. k * i) four in
@@ -212,7 +211,9 @@ by_spacing s n i past index (inr eight) (inl at) h is =
 by_spacing s n i past index (inr eight) (inr at) h is = absurd (at.0 eight)
 
 -- an offset where a register lies is a word of the register's row
-pub word_there : (reg : Reg) (row : Row) (o past index : ℕ) → row ≡ row_of reg → past ≡ o - row.offset → ((row.spacing ≡ 8) × (index ≡ past / 8)) ⊎ ((row.spacing ≢ 8) × (index ≡ past / 4)) → IsReg reg → offset_of reg ≡ o → (index < row.words) × (past ≡ row.spacing * index)
+pub word_there : (reg : Reg) (row : Row) (o past index : ℕ) → row ≡ row_of reg → past ≡ o - row.offset
+    → ((row.spacing ≡ 8) × (index ≡ past / 8)) ⊎ ((row.spacing ≢ 8) × (index ≡ past / 4)) → IsReg reg
+    → offset_of reg ≡ o → (index < row.words) × (past ≡ row.spacing * index)
 word_there reg row o past index is from at has lies =
     let s : (row.spacing ≡ 4) ⊎ (row.spacing ≡ 8) = rw is (spaced reg) in
     let h : index_of reg < row.words = rw is has in
@@ -220,7 +221,9 @@ word_there reg row o past index is from at has lies =
     by_spacing row.spacing row.words (index_of reg) past index s at h (omega arith)
 
 -- the register of the row with the index lies there
-pub found_lies : (near : Reg) (row : Row) (o past index : ℕ) (found : Reg) → row ≡ row_of near → found ≡ with_index near index → past ≡ o - row.offset → row.offset ≤ o → index < row.words → past ≡ row.spacing * index → IsReg found × (offset_of found ≡ o)
+pub found_lies : (near : Reg) (row : Row) (o past index : ℕ) (found : Reg) → row ≡ row_of near
+    → found ≡ with_index near index → past ≡ o - row.offset → row.offset ≤ o → index < row.words
+    → past ≡ row.spacing * index → IsReg found × (offset_of found ≡ o)
 found_lies near row o past index found is made from low h whole =
     let x = indexed near index (subst (λ (r : Row). index < r.words) is h) in
     let e : row.offset + row.spacing * index ≡ o = omega arith in

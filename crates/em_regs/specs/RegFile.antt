@@ -1,5 +1,19 @@
 -- Registers as a map from offset to number, and what a write does to it.
-use Rattle.std.specs.Prelude.{◌≡◌, ℕ, ◌+◌, ◌*◌, List, [], ◌∷◌, IsTrue, unwrap_or, bit_and, slice_index, length, replicate}
+use Rattle.std.specs.Prelude.{
+  ◌≡◌,
+  ℕ,
+  ◌+◌,
+  ◌*◌,
+  List,
+  [],
+  ◌∷◌,
+  IsTrue,
+  unwrap_or,
+  bit_and,
+  slice_index,
+  length,
+  replicate,
+}
 use Rattle.std.specs.FinMap as map
 use Rattle.std.specs.Coded.{Coded, coded_ℕ}
 use Rattle.std.specs.Int.{w16, w32, from_le_bytes}
@@ -49,7 +63,8 @@ address_high mac = from_le_bytes w16 (slice_index mac 4 ∷ slice_index mac 5 �
 -- after a reset: all zero, but that the first receive address is the given one, and valid (AV, bit 31)
 abbrev pub reset : List ℕ → Registers
 reset mac =
-    map.insert (map.insert zeroed (offset_of (Ral 0)) (address_low mac)) (offset_of (Rah 0)) (address_high mac + 0x8000_0000)
+    map.insert (map.insert zeroed (offset_of (Ral 0)) (address_low mac)) (offset_of (Rah 0))
+    (address_high mac + 0x8000_0000)
 
 -- ---- what takes a write back
 -- what the word at an offset was

@@ -1,7 +1,38 @@
 -- What the registers say of the two rings.
-use Rattle.std.specs.Prelude.{Bool, ℕ, ◌+◌, ◌*◌, ◌/◌, ◌%◌, ◌^◌, ◌==◌, if◌then◌else◌, bit_and, [], ◌∷◌, Some, None, slice_index}
+use Rattle.std.specs.Prelude.{
+  Bool,
+  ℕ,
+  ◌+◌,
+  ◌*◌,
+  ◌/◌,
+  ◌%◌,
+  ◌^◌,
+  ◌==◌,
+  if◌then◌else◌,
+  bit_and,
+  [],
+  ◌∷◌,
+  Some,
+  None,
+  slice_index,
+}
 use Rattle.em_regs.specs.declared.reg.Reg.{Reg}
-use Rattle.em_regs.specs.declared.reg.Reg.TheVariants.{Ctrl, Vet, Rctl, Rdbal, Rdbah, Rdlen, Rdh, Rdt, Tctl, Tdbal, Tdbah, Tdlen, Tdh, Tdt}
+use Rattle.em_regs.specs.declared.reg.Reg.TheVariants.{
+  Ctrl,
+  Vet,
+  Rctl,
+  Rdbal,
+  Rdbah,
+  Rdlen,
+  Rdh,
+  Rdt,
+  Tctl,
+  Tdbal,
+  Tdbah,
+  Tdlen,
+  Tdh,
+  Tdt,
+}
 use Rattle.em_regs.specs.declared.setup.RxSetup.{RxSetup}
 use Rattle.em_regs.specs.declared.setup.TxSetup.{TxSetup}
 use Rattle.em_regs.specs.Table.{offset_of}

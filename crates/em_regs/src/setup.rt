@@ -9,6 +9,11 @@ use crate::reg::Reg;
 use crate::reg_file::RegFile;
 use bitflags::Flags;
 
+/// The lowest bit of RCTL.BSIZE and of RCTL.RDMTS, fields of two bits.
+const BSIZE_BIT: u32 = 0x0001_0000;
+
+const RDMTS_BIT: u32 = 0x0000_0100;
+
 /// The octets of a descriptor.
 const DESCRIPTOR: u32 = 16;
 
@@ -107,7 +112,7 @@ impl RegFile {
 fn buffer_size(rctl: u32) -> u32
     ensures { result ≡ buffer_size rctl }
 {
-    let bsize = (rctl / 0x1_0000 % 4) as usize;
+    let bsize = (rctl / BSIZE_BIT % 4) as usize;
     if Rctl::from_bits_retain(rctl).contains(Rctl::BSEX) {
         GREATER_SIZES[bsize]
     } else {
@@ -118,6 +123,6 @@ fn buffer_size(rctl: u32) -> u32
 fn threshold(rctl: u32, count: u32) -> u32
     ensures { result ≡ few_of count rctl }
 {
-    let rdmts = (rctl / 0x100 % 4) as usize;
+    let rdmts = (rctl / RDMTS_BIT % 4) as usize;
     [count / 2, count / 4, count / 8, count / 8][rdmts]
 }

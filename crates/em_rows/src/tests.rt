@@ -1,9 +1,8 @@
 //! What no contract of `run` can see: readers and writers that fail, and how often they are called.
 ghost use Rattle.std.specs.Prelude.{Some};
 
-use em_latch::{Counter, Latches};
-use em_regs::Reg;
-use em_script::{BenchFault, Session, Summary, run, standard_machine};
+use em_journal::Settings;
+use em_script::{BenchFault, Session, Summary, run};
 use std::io::{self, ErrorKind, Read, Write};
 use std::test::Fail;
 
@@ -99,7 +98,7 @@ const COUNTS: Summary = Summary {
 #[test]
 fn writes_the_text_however_it_is_cut(rt: HostRuntime) -> Result<(), Fail> {
     for at_once in 1..80usize {
-        let mut session = Session::new(standard_machine(rt.alloc())?);
+        let mut session = Session::new(Settings::default().machine(rt.alloc())?);
         let mut source = Source::new(SCRIPT, at_once, None);
         let mut sink = Sink::new(Vec::new(rt.alloc()), at_once, None, false);
         let summary = run(rt.alloc(), &mut source, &mut sink, &mut session)?;
@@ -112,12 +111,12 @@ fn writes_the_text_however_it_is_cut(rt: HostRuntime) -> Result<(), Fail> {
 #[test]
 fn stops_at_each_write(rt: HostRuntime) -> Result<(), Fail> {
     let mut whole = Sink::new(Vec::new(rt.alloc()), 5, None, false);
-    let mut session = Session::new(standard_machine(rt.alloc())?);
+    let mut session = Session::new(Settings::default().machine(rt.alloc())?);
     let mut source = SCRIPT;
     let _ = run(rt.alloc(), &mut source, &mut whole, &mut session)?;
     for takes_none in [false, true] {
         for fails_at in 1..whole.writes.saturating_add(1) {
-            let mut session = Session::new(standard_machine(rt.alloc())?);
+            let mut session = Session::new(Settings::default().machine(rt.alloc())?);
             let mut source = SCRIPT;
             let mut sink = Sink::new(Vec::new(rt.alloc()), 5, Some(fails_at), takes_none);
             let result = run(rt.alloc(), &mut source, &mut sink, &mut session);
@@ -134,7 +133,7 @@ fn stops_at_each_write(rt: HostRuntime) -> Result<(), Fail> {
 #[test]
 fn stops_at_each_read(rt: HostRuntime) -> Result<(), Fail> {
     for fails_at in 1..14u32 {
-        let mut session = Session::new(standard_machine(rt.alloc())?);
+        let mut session = Session::new(Settings::default().machine(rt.alloc())?);
         let mut source = Source::new(b"poke 0 11\nw D0 4\n", 2, Some(fails_at));
         let mut taken = Vec::new(rt.alloc());
         let result = run(rt.alloc(), &mut source, &mut taken, &mut session);
@@ -159,7 +158,7 @@ fn takes_so_many_octets(rt: HostRuntime) -> Result<(), Fail> {
         (4_194_304, 1_000_000, 65, true),
     ] {
         let octets = vec![in rt.alloc(); b'\n'; count]?;
-        let mut session = Session::new(standard_machine(rt.alloc())?);
+        let mut session = Session::new(Settings::default().machine(rt.alloc())?);
         let mut source = Source::new(octets.as_slice(), at_once, None);
         let mut taken = Vec::new(rt.alloc());
         let result = run(rt.alloc(), &mut source, &mut taken, &mut session);
@@ -182,7 +181,7 @@ fn takes_so_many_octets(rt: HostRuntime) -> Result<(), Fail> {
 
 #[test]
 fn counts_the_lines_of_a_script(rt: HostRuntime) -> Result<(), Fail> {
-    let mut session = Session::new(standard_machine(rt.alloc())?);
+    let mut session = Session::new(Settings::default().machine(rt.alloc())?);
     let mut source = b"line\n\xff\nline\n".as_slice();
     let mut taken = Vec::new(rt.alloc());
     let summary = run(rt.alloc(), &mut source, &mut taken, &mut session)?;
@@ -196,29 +195,12 @@ fn counts_the_lines_of_a_script(rt: HostRuntime) -> Result<(), Fail> {
     Ok(())
 }
 
-#[test]
-fn counters_stop_at_their_greatest_value(rt: HostRuntime) {
-    let mut latches = Latches::new();
-    let _ = latches.count(Counter::Mpc, 0xFFFF_FFFE);
-    let _ = latches.count(Counter::Mpc, 3);
-    let (value, _) = latches.read(Reg::Mpc);
-    assert_eq!(rt; value, 0xFFFF_FFFF);
-    let _ = latches.count(Counter::Gorc, 0xFFFF_FFFF);
-    let _ = latches.count(Counter::Gorc, 2);
-    let (low, _) = latches.read(Reg::Gorcl);
-    assert_eq!(rt; low, 1);
-    let (high, _) = latches.read(Reg::Gorch);
-    assert_eq!(rt; high, 1);
-    let (low, _) = latches.read(Reg::Gorcl);
-    assert_eq!(rt; low, 0);
-}
-
 /// For runs in which a growth is refused: the run says Memory, or the line does, and what was
 /// written is the text so far; the next run of the same lines succeeds.
 #[test]
 fn a_refused_growth_is_named(rt: HostRuntime) -> Result<(), Fail> {
     let script = b"w C8 4\npoke 0 1234\nw 0 4000000\nline\n".as_slice();
-    let Ok(machine) = standard_machine(rt.alloc()) else {
+    let Ok(machine) = Settings::default().machine(rt.alloc()) else {
         return Ok(());
     };
     let mut session = Session::new(machine);

@@ -1,72 +1,79 @@
--- What single orders do.
-use Rattle.std.proofs.Common.{inl, inr, ◌≡◌, ℕ, zero, suc, ◌+◌, ◌≤◌, List, [], ◌∷◌, length, drop, min, Option, Some, None, Result, Err, IfOk, subst, refl, sym, ap, ◌∙◌, arith}
-use Rattle.std.proofs.lemmas.List.{drop-drop}
+-- What single commands do.
+use Rattle.std.proofs.Common.{◌≡◌, ℕ, ◌<◌, List, [], ◌∷◌, length, Option, Some, None, Result, Err, refl, sym, ap, ◌∙◌}
+use Rattle.std.proofs.Common.{subst, inl, inr, arith}
 use Rattle.em_step.specs.State.{State}
 use Rattle.em_step.specs.Event.{Event}
-use Rattle.em_step.specs.Step.{step, Refuses}
+use Rattle.em_step.specs.Step.{step}
 use Rattle.em_step.specs.Cost.{cost}
+use Rattle.em_step.specs.declared.event.Answer.{Answer}
 use Rattle.em_step.specs.declared.event.Refusal.{Refusal}
-use Rattle.em_journal.specs.View.{View, states}
-use Rattle.em_text.specs.Writer.{Writes}
+use Rattle.em_journal.specs.View.{after_event}
+use Rattle.em_journal.specs.History.{Call, performs, refuses, goes_back, is_empty, Does, after_step}
 use Rattle.em_text.specs.declared.writer.WriteFailed.{WriteFailed}
 use Rattle.em_script.specs.declared.outcome.Outcome.{Outcome}
 use Rattle.em_script.specs.declared.outcome.Outcome.TheVariants as outcome
-use Rattle.em_script.specs.Desk.{Desk, present, after_backs}
-use Rattle.em_script.specs.Orders.{says, event}
-use Rattle.em_script.specs.Replies.{Reply, refused, stepped, event_reply, refused_text, back_text, back_by_reply, Gives}
-use Rattle.em_script.specs.Played.{Performs}
+use Rattle.em_script.specs.Session.{Session}
+use Rattle.em_script.specs.Command.{event}
+use Rattle.em_script.specs.ParsedLine.{says}
+use Rattle.em_script.specs.Output.{Prints, answer_text, refusal_text}
+use Rattle.em_script.specs.Reply.{Reply, step_call, event_call, back_call, call_reply, Gives, Performs}
 
--- an event was refused by its step
-refused_by_step : (number : ℕ) (act : Event) (refusal : Refusal) (first now : Desk) (old new : Option (List ℕ)) (result : Result Outcome WriteFailed)
-    → step (present first) act ≡ Err refusal → now ≡ first → Writes old new result (refused_text refusal) → IfOk result (λ o. o ≡ outcome.Refused)
-    → Performs number (says (event act)) first now old new result
-refused_by_step number act refusal first now old new result e same text outcome =
-    let given : refused (refused_text refusal) first ≡ event_reply None act first = sym (ap (λ r. stepped r (cost (present first) act) first) e) in
-    record {
-      memory = None;
-      allowed = tt;
-      text = subst (λ (r : Reply). Writes old new result r.text) given text;
-      outcome = subst (λ (r : Reply). IfOk result (λ o. o ≡ r.outcome)) given outcome;
-      desk = same ∙ ap (λ (r : Reply). r.desk) given;
-    }
+-- ---- what prints one call's reply prints that of the same call
+
+gives_of : (first : Session) {call other : Call} {now : Session} {old new : Option (List ℕ)}
+    {result : Result Outcome WriteFailed} → call ≡ other → Gives (call_reply call first) now old new result
+    → Gives (call_reply other first) now old new result
+gives_of first {now = now} {old = old} {new = new} {result = result} same gives =
+    subst (λ (c : Call). Gives (call_reply c first) now old new result) same gives
+
+by_step : {number : ℕ} {e : Event} {first now : Session} {old new : Option (List ℕ)}
+    {result : Result Outcome WriteFailed} → Gives (call_reply (event_call None e first) first) now old new result
+    → Performs number (says (event e)) first now old new result
+by_step gives = record { memory = None; allowed = tt; prints = gives.prints; session = gives.session }
+
+-- ---- events
+
+-- an event was performed
+pub event_performed : {number : ℕ} {e : Event} {first now : Session} {old new : Option (List ℕ)}
+    {result : Result Outcome WriteFailed} (answer : Answer) → Does first (performs e answer) now
+    → Prints (answer_text answer) outcome.Done old new result
+    → Performs number (says (event e)) first now old new result
+event_performed {e = e} {first = first} {now = now} answer did prints =
+    let s = first.present in
+    let after : now.present ≡ after_step s (step s e) = ap (after_step s) (sym did.0) in
+    by_step (gives_of first (sym (ap (step_call e) did.0))
+    record { prints = prints; session = did.1 ∙ ap (λ (x : State). after_event first x (cost s e)) after })
 
 -- an event was refused, by its step or for memory
-pub event_refused : (number : ℕ) (act : Event) (refusal : Refusal) (first now : Desk) (old new : Option (List ℕ)) (result : Result Outcome WriteFailed)
-    → Refuses (present first) act refusal → now ≡ first → Writes old new result (refused_text refusal) → IfOk result (λ o. o ≡ outcome.Refused)
-    → Performs number (says (event act)) first now old new result
-event_refused number act refusal first now old new result why same text outcome =
-    elim why [
-      | inl lack ↦ record { memory = Some 0; allowed = (refl, lack.1, lack.2); text = rw lack.0 at text; outcome = outcome; desk = same }
-      | inr e ↦ refused_by_step number act refusal first now old new result e same text outcome
+pub event_refused : {number : ℕ} {e : Event} {first now : Session} {old new : Option (List ℕ)}
+    {result : Result Outcome WriteFailed} (refusal : Refusal) → Does first (refuses e refusal) now
+    → Prints (refusal_text refusal) outcome.Refused old new result
+    → Performs number (says (event e)) first now old new result
+event_refused {e = e} {first = first} refusal did prints =
+    elim did.0 [
+      | inl lack ↦ record {
+        memory = Some 0;
+        allowed = (refl, lack.1, lack.2);
+        prints = rw lack.0 at prints;
+        session = did.1;
+      }
+      | inr is ↦ by_step (gives_of first (sym (ap (step_call e) is)) record { prints = prints; session = did.1 })
     ]
 
-same_view : (v w : View) → v.budget ≡ w.budget → states v ≡ states w → v.costs ≡ w.costs → v ≡ w
-same_view v w budget all costs =
-    let make : ℕ → State → List State → List ℕ → View = λ b s past c. record { budget = b; present = s; past = past; costs = c } in
-    let here : v.present ≡ w.present = cc in
-    let older : v.past ≡ w.past = cc in
-    ap (λ b. make b v.present v.past v.costs) budget ∙ ap (λ s. make w.budget s v.past v.costs) here
-    ∙ ap (λ past. make w.budget w.present past v.costs) older ∙ ap (make w.budget w.present w.past) costs
+-- ---- steps back
 
--- the view after k reverse steps, which can be taken
-backs_are_drops : (k budget : ℕ) (s : State) (older : List State) (costs : List ℕ) (now : View)
-    → k ≤ length older → now.budget ≡ budget → states now ≡ drop k (s ∷ older) → now.costs ≡ drop k costs
-    → now ≡ after_backs k record { budget = budget; present = s; past = older; costs = costs }
-backs_are_drops zero budget s older costs now le eb es ec = same_view now _ eb es ec
-backs_are_drops (suc k) budget s [] costs now le eb es ec = absurd (omega arith)
-backs_are_drops (suc k) budget s (t ∷ older) costs now le eb es ec =
-    let next : suc k ≡ 1 + k = omega arith in
-    backs_are_drops k budget t older (drop 1 costs) now (omega arith) eb es (ec ∙ ap (λ n. drop n costs) next ∙ sym (drop-drop k 1 costs))
+back_call-some : (past : List State) → 0 < length past → goes_back ≡ back_call past
+back_call-some [] some = absurd (omega arith)
+back_call-some (s ∷ older) some = refl
 
--- as many events were taken back as can be, at most so many
-pub backs_given : (most count : ℕ) (first now : Desk) (old new : Option (List ℕ)) (result : Result Outcome WriteFailed)
-    → count ≡ min most (length first.past) → now.budget ≡ first.budget → states now ≡ drop count (states first) → now.costs ≡ drop count first.costs
-    → Writes old new result (back_text count) → IfOk result (λ o. o ≡ outcome.Done)
-    → Gives (back_by_reply most first) now old new result
-backs_given most count first now old new result e eb es ec text outcome =
-    let le : count ≤ length first.past = omega arith in
-    record {
-      text = rw (← e) text;
-      outcome = outcome;
-      desk = rw (← e) (backs_are_drops count first.budget first.present first.past first.costs now le eb es ec);
-    }
+-- a step back was taken
+pub back_given : (first : Session) {now : Session} {old new : Option (List ℕ)} {result : Result Outcome WriteFailed}
+    → 0 < length first.past → Gives (call_reply goes_back first) now old new result
+    → Gives (call_reply (back_call first.past) first) now old new result
+back_given first some gives = gives_of first (back_call-some first.past some) gives
+
+-- there was nothing to take back
+pub empty_given : (first : Session) {now : Session} {old new : Option (List ℕ)} {result : Result Outcome WriteFailed}
+    → first.past ≡ [] → Gives (call_reply is_empty first) now old new result
+    → Gives (call_reply (back_call first.past) first) now old new result
+empty_given first none gives = gives_of first (ap back_call (sym none)) gives

@@ -16,8 +16,8 @@ arguments_of (a ∷ b ∷ []) = two a b
 arguments_of (a ∷ b ∷ c ∷ words) = more
 
 -- the arguments without where they lie in memory
-abbrev pub view : Lent → Arguments
-view lent.Zero = zero
-view (lent.One a) = one a.now
-view (lent.Two a b) = two a.now b.now
-view lent.More = more
+abbrev pub plain : Lent → Arguments
+plain lent.Zero = zero
+plain (lent.One a) = one a.now
+plain (lent.Two a b) = two a.now b.now
+plain lent.More = more

@@ -6,20 +6,19 @@ use Rattle.em_regs.specs.Table.{reg_at}
 use Rattle.em_step.specs.State.{State}
 use Rattle.em_step.specs.Access.{gives}
 use Rattle.em_text.specs.Writer.{register_line_text}
-use Rattle.em_script.specs.declared.registers.TheConstants.{REGISTER_WORDS}
 
 -- a register that is not zero has a line
-abbrev pub line_text : ℕ → ℕ → List ℕ
-line_text offset value = if value == 0 then [] else register_line_text offset value
+abbrev pub register_text : ℕ → ℕ → List ℕ
+register_text offset value = if value == 0 then [] else register_line_text offset value
 
 -- what a look at a word of the registers' space shows; where no register lies it is nothing
 abbrev pub word_text : State → ℕ → List ℕ
-word_text s word = line_text (4 * word) (unwrap_or (option_map (gives s) (reg_at (4 * word))) 0)
+word_text s word = register_text (4 * word) (unwrap_or (option_map (gives s) (reg_at (4 * word))) 0)
 
 -- n words from one of them on
 unfoldable pub words_text : State → ℕ → ℕ → List ℕ
 words_text s word n = flat_map (word_text s) (range_with_len word n)
 
--- all registers, by offset
+-- all registers, by offset: the words of their space
 abbrev pub registers_text : State → List ℕ
-registers_text s = words_text s 0 REGISTER_WORDS
+registers_text s = words_text s 0 0x01600

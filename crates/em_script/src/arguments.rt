@@ -1,6 +1,6 @@
 //! The words behind a command's name.
 ghost use Rattle.std.specs.Prelude.{◌≡◌};
-ghost use Rattle.em_script.specs.Arguments.{arguments_of, view};
+ghost use Rattle.em_script.specs.Arguments.{arguments_of, plain};
 ghost use Rattle.em_text.specs.Words.{words_of};
 
 use em_text::Words;
@@ -18,7 +18,7 @@ pub enum Arguments<'a> {
 /// The words that are still to come.
 #[inline]
 pub fn arguments_of(mut words: Words<'_>) -> Arguments<'_>
-    ensures { view result ≡ arguments_of (words_of words.entry.0.now) }
+    ensures { plain result ≡ arguments_of (words_of words.entry.0.now) }
 {
     let Some(first) = words.next() else {
         return Arguments::Zero;

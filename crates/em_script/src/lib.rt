@@ -21,18 +21,19 @@
 //! `bad line` and its number, and does nothing.
 #![tactic(auto)]
 
-mod answer;
 mod arguments;
 mod command;
-mod name;
+mod grammar;
 mod outcome;
 mod output;
+mod parsed_line;
 mod peek_len;
 mod registers;
+mod reply;
 mod runner;
 mod session;
-mod standard;
+mod summary;
 
-pub use runner::{BenchFault, Summary, run};
+pub use runner::{BenchFault, run};
 pub use session::Session;
-pub use standard::{BUDGET, MAC, MEMORY, standard_machine};
+pub use summary::Summary;

@@ -1,7 +1,8 @@
 //! Writing answers.
-ghost use Rattle.std.specs.Prelude.{◌≡◌, ◌++◌, IfOk};
+ghost use Rattle.std.specs.Prelude.{◌≡◌, ◌++◌};
 ghost use Rattle.em_text.specs.Writer.{Writes, hex_line_text, decimal_line_text};
-ghost use Rattle.em_script.specs.Replies.{answer_text, done_text, bit_text, refused_text, empty_text, bad_text, back_text};
+ghost use Rattle.em_script.specs.Output.{Prints, answer_text, done_text, bit_text, back_text, bad_line_text};
+ghost use Rattle.em_script.specs.Output.{refusal_text, empty_text};
 
 use crate::outcome::Outcome;
 use em_step::{Answer, Refusal};
@@ -10,8 +11,7 @@ use std::io::Write;
 
 /// What a performed event answered.
 pub fn write_answer<W: Write>(writer: &mut W, answer: Answer) -> Result<Outcome, WriteFailed>
-    ensures text { Writes (W.contents writer.old) (W.contents writer.new) result (answer_text answer) }
-    ensures outcome { IfOk result (λ outcome. outcome ≡ Outcome.Done) }
+    ensures { Prints (answer_text answer) Outcome.Done (W.contents writer.old) (W.contents writer.new) result }
 {
     match answer {
         Answer::Done => write_done(writer),
@@ -24,8 +24,7 @@ pub fn write_answer<W: Write>(writer: &mut W, answer: Answer) -> Result<Outcome,
 
 /// That something was done.
 pub fn write_done<W: Write>(writer: &mut W) -> Result<Outcome, WriteFailed>
-    ensures text { Writes (W.contents writer.old) (W.contents writer.new) result done_text }
-    ensures outcome { IfOk result (λ outcome. outcome ≡ Outcome.Done) }
+    ensures { Prints done_text Outcome.Done (W.contents writer.old) (W.contents writer.new) result }
 {
     write_whole(writer, b"ok\n")?;
     Ok(Outcome::Done)
@@ -33,8 +32,7 @@ pub fn write_done<W: Write>(writer: &mut W) -> Result<Outcome, WriteFailed>
 
 /// Octets that were looked at.
 pub fn write_octets<W: Write>(writer: &mut W, octets: &[u8]) -> Result<Outcome, WriteFailed>
-    ensures text { Writes (W.contents writer.old) (W.contents writer.new) result (hex_line_text octets.now) }
-    ensures outcome { IfOk result (λ outcome. outcome ≡ Outcome.Done) }
+    ensures { Prints (hex_line_text octets.now) Outcome.Done (W.contents writer.old) (W.contents writer.new) result }
 {
     write_octets_line(writer, octets)?;
     Ok(Outcome::Done)
@@ -42,8 +40,7 @@ pub fn write_octets<W: Write>(writer: &mut W, octets: &[u8]) -> Result<Outcome, 
 
 /// A bit that was looked at.
 pub fn write_bit<W: Write>(writer: &mut W, bit: bool) -> Result<Outcome, WriteFailed>
-    ensures text { Writes (W.contents writer.old) (W.contents writer.new) result (bit_text bit) }
-    ensures outcome { IfOk result (λ outcome. outcome ≡ Outcome.Done) }
+    ensures { Prints (bit_text bit) Outcome.Done (W.contents writer.old) (W.contents writer.new) result }
 {
     let text: &[u8] = if bit { b"1\n" } else { b"0\n" };
     write_whole(writer, text)?;
@@ -52,35 +49,31 @@ pub fn write_bit<W: Write>(writer: &mut W, bit: bool) -> Result<Outcome, WriteFa
 
 /// How many events were taken back.
 pub fn write_back<W: Write>(writer: &mut W, count: u32) -> Result<Outcome, WriteFailed>
-    ensures text { Writes (W.contents writer.old) (W.contents writer.new) result (back_text count) }
-    ensures outcome { IfOk result (λ outcome. outcome ≡ Outcome.Done) }
+    ensures { Prints (back_text count) Outcome.Done (W.contents writer.old) (W.contents writer.new) result }
 {
     write_numbered(writer, b"back ", count)?;
     Ok(Outcome::Done)
 }
 
 /// That the line of this number has no form.
-pub fn write_bad<W: Write>(writer: &mut W, number: u32) -> Result<Outcome, WriteFailed>
-    ensures text { Writes (W.contents writer.old) (W.contents writer.new) result (bad_text number) }
-    ensures outcome { IfOk result (λ outcome. outcome ≡ Outcome.Bad) }
+pub fn write_bad_line<W: Write>(writer: &mut W, number: u32) -> Result<Outcome, WriteFailed>
+    ensures { Prints (bad_line_text number) Outcome.Bad (W.contents writer.old) (W.contents writer.new) result }
 {
     write_numbered(writer, b"bad line ", number)?;
     Ok(Outcome::Bad)
 }
 
 /// Why an event or a look at memory was refused.
-pub fn write_refused<W: Write>(writer: &mut W, refusal: Refusal) -> Result<Outcome, WriteFailed>
-    ensures text { Writes (W.contents writer.old) (W.contents writer.new) result (refused_text refusal) }
-    ensures outcome { IfOk result (λ outcome. outcome ≡ Outcome.Refused) }
+pub fn write_refusal<W: Write>(writer: &mut W, refusal: Refusal) -> Result<Outcome, WriteFailed>
+    ensures { Prints (refusal_text refusal) Outcome.Refused (W.contents writer.old) (W.contents writer.new) result }
 {
-    write_whole(writer, refused_line(refusal))?;
+    write_whole(writer, refusal_line(refusal))?;
     Ok(Outcome::Refused)
 }
 
 /// That there was nothing to take back.
 pub fn write_empty<W: Write>(writer: &mut W) -> Result<Outcome, WriteFailed>
-    ensures text { Writes (W.contents writer.old) (W.contents writer.new) result empty_text }
-    ensures outcome { IfOk result (λ outcome. outcome ≡ Outcome.Refused) }
+    ensures { Prints empty_text Outcome.Refused (W.contents writer.old) (W.contents writer.new) result }
 {
     write_whole(writer, b"refused Empty\n")?;
     Ok(Outcome::Refused)
@@ -94,8 +87,8 @@ fn write_numbered<W: Write>(writer: &mut W, words: &[u8], number: u32) -> Result
     write_decimal_line(writer, number)
 }
 
-fn refused_line(refusal: Refusal) -> &'static [u8]
-    ensures { result.now ≡ refused_text refusal }
+fn refusal_line(refusal: Refusal) -> &'static [u8]
+    ensures { result.now ≡ refusal_text refusal }
 {
     match refusal {
         Refusal::NoRegister => b"refused NoRegister\n",

@@ -1,16 +1,17 @@
 //! Running a whole script.
-ghost use Rattle.std.specs.Prelude.{◌≡◌, ◌⊎◌, ℕ, ◌+◌, ◌≤◌, ◌<◌, ◌^◌, List, length, IfOk, IfErr, OnOk, IfSome, IsErrOf};
+ghost use Rattle.std.specs.Prelude.{◌≡◌, ◌⊎◌, ℕ, ◌≤◌, ◌<◌, List, length, IfOk, IfErr, OnOk, IfSome, IsErrOf};
 ghost use Rattle.std.specs.Io.KnownBytes.{Appends, Keeps};
-ghost use Rattle.em_script.specs.Summary.{counted};
-ghost use Rattle.em_script.specs.Runs.{text, TakesNoMemory, Answers, ReadsWhole, FailsInLine, StopsBeforeLine, StopsInScript};
+ghost use Rattle.em_text.specs.Reader.{most_script};
+ghost use Rattle.em_script.specs.Runner.{text, TakesNoMemory, SaysMemory, Answers, ReadsWhole, FailsInLine};
+ghost use Rattle.em_script.specs.Runner.{StopsBeforeLine, StopsInScript};
 
-use crate::answer::answer;
-use crate::command::form_of;
-use crate::outcome::Outcome;
+use crate::grammar::parse_line;
 use crate::peek_len::MOST_PEEK;
+use crate::reply::reply;
 use crate::session::Session;
+use crate::summary::{Summary, count};
 use em_journal::Machine;
-use em_text::{MOST_OCTETS, ReadFault, WriteFailed, next_line, read_script};
+use em_text::{ReadFault, WriteFailed, next_line, read_script};
 use std::alloc::Global;
 use std::io::{Read, Write};
 use thiserror::Error;
@@ -27,20 +28,9 @@ pub enum BenchFault {
     /// The script has more than 4,194,304 octets.
     #[error("TooLarge")]
     TooLarge,
-    /// Memory was refused while the script was read, or before the events of a line.
+    /// Memory was refused while the script was read, or for the octets of a line.
     #[error("Memory")]
     Memory,
-}
-
-/// How the lines of a script are counted.
-#[derive(Clone, Copy, Debug, PartialEq, Eq)]
-pub struct Summary {
-    /// Those that are neither blank nor comments.
-    pub lines: u32,
-    /// Those that have no form.
-    pub bad: u32,
-    /// Those that were refused.
-    pub refused: u32,
 }
 
 /// Reads a whole script, plays its lines one after another, and writes their answers.
@@ -58,19 +48,25 @@ pub fn run<R: Read, W: Write>(
     ensures text { OnOk result (IfSome (R.remaining reader.old) (λ script. TakesNoMemory script
         → Appends (W.contents writer.old) (W.contents writer.new) (text script session.old))) }
 
+    // Where no line of what is written ends in ` Memory`, it is the text of the script with memory refused nowhere.
+    ensures full { OnOk result (IfSome (R.remaining reader.old) (λ script. (written : List ℕ)
+        → Appends (W.contents writer.old) (W.contents writer.new) written → (SaysMemory written → ⊥)
+        → Appends (W.contents writer.old) (W.contents writer.new) (text script session.old))) }
+
     // What is written is the text of the script's lines, as they were played, and nothing else.
     ensures ok { IfOk result (λ summary. (script : List ℕ)
         × ReadsWhole (R.remaining reader.old) (R.remaining reader.new) script
-        × Answers script session.old session.new (W.contents writer.old) (W.contents writer.new) summary) }
+        × Answers script session.old session.new
+        (W.contents writer.old) (W.contents writer.new) summary) }
 
     // Where the script could not be read nothing happens.
     ensures read { IsErrOf result BenchFault.Read
         → (session.new ≡ session.old) × Keeps (W.contents writer.old) (W.contents writer.new) }
     ensures too_large { IsErrOf result BenchFault.TooLarge
         → (session.new ≡ session.old) × Keeps (W.contents writer.old) (W.contents writer.new)
-        × IfSome (R.remaining reader.old) (λ octets. MOST_OCTETS < length octets) }
+        × IfSome (R.remaining reader.old) (λ octets. most_script < length octets) }
 
-    // What was written is known to the octet.
+    // Memory is refused while the script is read, or for the octets of a line. What was written is known to the octet.
     ensures memory { IsErrOf result BenchFault.Memory
         → ((session.new ≡ session.old) × Keeps (W.contents writer.old) (W.contents writer.new))
         ⊎ ((script : List ℕ) × ReadsWhole (R.remaining reader.old) (R.remaining reader.new) script
@@ -106,11 +102,16 @@ fn run_lines<W: Write>(
     octets: &mut Vec<u8>,
     room: &mut [u8; MOST_PEEK],
 ) -> Result<Summary, BenchFault>
-    requires { length script.now ≤ MOST_OCTETS }
+    requires { length script.now ≤ most_script }
     ensures text { OnOk result (TakesNoMemory script.now
         → Appends (W.contents writer.old) (W.contents writer.new) (text script.now machine.old)) }
-    ensures ok { IfOk result (Answers script.now machine.old machine.new (W.contents writer.old) (W.contents writer.new)) }
-    ensures err { IfErr result (StopsInScript script.now machine.old machine.new (W.contents writer.old) (W.contents writer.new)) }
+    ensures full { OnOk result ((written : List ℕ)
+        → Appends (W.contents writer.old) (W.contents writer.new) written → (SaysMemory written → ⊥)
+        → Appends (W.contents writer.old) (W.contents writer.new) (text script.now machine.old)) }
+    ensures ok { IfOk result (Answers script.now machine.old machine.new
+        (W.contents writer.old) (W.contents writer.new)) }
+    ensures err { IfErr result (StopsInScript script.now machine.old machine.new
+        (W.contents writer.old) (W.contents writer.new)) }
 {
     let mut summary = Summary {
         lines: 0,
@@ -121,10 +122,10 @@ fn run_lines<W: Write>(
     let mut number = 1;
     while !rest.is_empty() {
         let (line, behind) = next_line(rest);
-        let Ok(form) = form_of(line, octets) else {
+        let Ok(parsed) = parse_line(line, octets) else {
             return Err(BenchFault::Memory);
         };
-        let outcome = match answer(writer, machine, number, form, octets.as_slice(), room) {
+        let outcome = match reply(writer, machine, number, parsed, room) {
             Ok(outcome) => outcome,
             Err(WriteFailed) => return Err(BenchFault::Write),
         };
@@ -133,28 +134,4 @@ fn run_lines<W: Write>(
         number += 1;
     }
     Ok(summary)
-}
-
-/// Counts one more line.
-fn count(summary: &mut Summary, outcome: Outcome)
-    requires bad { summary.old.bad ≤ summary.old.lines }
-    requires refused { summary.old.refused ≤ summary.old.lines }
-    requires room { summary.old.lines < 2 ^ 31 }
-    ensures value { summary.new ≡ counted summary.old outcome }
-    ensures bad { summary.new.bad ≤ summary.new.lines }
-    ensures refused { summary.new.refused ≤ summary.new.lines }
-    ensures lines { summary.new.lines ≤ summary.old.lines + 1 }
-{
-    match outcome {
-        Outcome::Silent => {}
-        Outcome::Bad => {
-            summary.lines += 1;
-            summary.bad += 1;
-        }
-        Outcome::Done => summary.lines += 1,
-        Outcome::Refused => {
-            summary.lines += 1;
-            summary.refused += 1;
-        }
-    }
 }

@@ -11,11 +11,11 @@ pub struct Session {
 }
 
 impl Model for Session {
-    ghost use Rattle.em_script.specs.Desk.{Desk, desk_code};
+    ghost use Rattle.em_journal.specs.View.{View, view_code};
 
-    ghost Value = { Desk };
+    ghost Value = { View };
 
-    ghost coded = { desk_code };
+    ghost coded = { view_code };
 
     ghost view = { λ s. s.machine };
 }

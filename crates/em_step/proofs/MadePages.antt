@@ -21,7 +21,7 @@ shows_after c d more = λ i. record {
 part_fits_after : (c d : Cells) (p : Part) → MorePages c d → PartFits c p → PartFits d p
 part_fits_after c d Nothing more fits = tt
 part_fits_after c d (Register old) more fits = subst (λ m. registers.Fits m old) (sym more.registers) fits
-part_fits_after c d (Octets old) more fits = memory.fits_after c.memory d.memory old more.memory fits
+part_fits_after c d (Octets old) more fits = memory.fits_after c.memory d.memory old.value more.memory fits
 part_fits_after c d (Link old) more fits = tt
 part_fits_after c d (Reset old) more fits = tt
 
@@ -43,7 +43,7 @@ part_after c d (Register old) more = record {
 part_after c d (Octets old) more = record {
   registers = more.registers;
   latches = more.latches;
-  memory = memory.undo_after c.memory d.memory old more.memory;
+  memory = memory.undo_after c.memory d.memory old.value more.memory;
   eeprom = more.eeprom;
   link = more.link;
 }

@@ -27,7 +27,7 @@ cost s (links up) = least_cost
 abbrev pub cost_of_part : Part → ℕ
 cost_of_part Nothing = least_cost
 cost_of_part (Register old) = least_cost
-cost_of_part (Octets old) = least_cost + length old.octets
+cost_of_part (Octets old) = least_cost + length old.value.octets
 cost_of_part (Link old) = least_cost
 cost_of_part (Reset old) = most_cost
 

@@ -11,7 +11,7 @@ use Rattle.em_step.specs.declared.undo.Part.TheVariants.{Nothing, Register, Octe
 abbrev pub PartFits : Cells → Part → Type 0
 PartFits c Nothing = Unit {0}
 PartFits c (Register old) = registers.Fits c.registers old
-PartFits c (Octets old) = memory.Fits c.memory old
+PartFits c (Octets old) = memory.Fits c.memory old.value
 PartFits c (Link old) = Unit {0}
 PartFits c (Reset old) = Unit {0}
 
@@ -24,7 +24,7 @@ pub record Fits (c : Cells) (r : Undo) : Type 0 where
 abbrev pub undo_part : Cells → Part → Cells
 undo_part c Nothing = c
 undo_part c (Register old) = record c { registers = registers.undo c.registers old }
-undo_part c (Octets old) = record c { memory = memory.undo c.memory old }
+undo_part c (Octets old) = record c { memory = memory.undo c.memory old.value }
 undo_part c (Link old) = record c { link = old }
 undo_part c (Reset old) = record c { registers = old.value.registers; latches = old.value.latches }
 

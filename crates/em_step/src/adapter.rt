@@ -181,7 +181,13 @@ impl Adapter {
         let part = match part {
             Part::Nothing => Part::Nothing,
             Part::Register(old) => Part::Register(self.registers.exchange(old)),
-            Part::Octets(old) => Part::Octets(self.memory.exchange(old)),
+            Part::Octets(mut old) => {
+                // the box is kept for the other record, since this takes no memory
+                let none = MemUndo::new(0, Vec::new(self.alloc));
+                let taken = std::mem::replace(&mut *old, none);
+                *old = self.memory.exchange(taken);
+                Part::Octets(old)
+            }
             Part::Link(old) => Part::Link(std::mem::replace(&mut self.link, old)),
             // what it put aside has every word of the latches
             Part::Reset(old) => return self.exchange_reset(old),
@@ -339,11 +345,11 @@ impl Adapter {
         if octets.is_empty() || octets.len() > MOST_POKE {
             return Err(Refusal::Length);
         }
-        let mut swapped = Vec::from_slice(self.alloc, octets)?;
+        let new = MemUndo::new(addr, Vec::from_slice(self.alloc, octets)?);
+        let new = Box::new(self.alloc, new)?;
         if self.memory.touch(addr, octets.len() as u64).is_err() {
             return Err(Refusal::Memory);
         }
-        self.memory.swap(addr, swapped.as_mut_slice());
-        Ok(Undo::of_part(Part::Octets(MemUndo::new(addr, swapped))))
+        Ok(self.exchange(Undo::of_part(Part::Octets(new))))
     }
 }

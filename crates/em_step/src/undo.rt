@@ -5,6 +5,7 @@ ghost use Rattle.em_step.specs.Cost.{least_cost, most_cost, cost_of};
 use em_latch::{LatchUndo, Latches};
 use em_mem::MemUndo;
 use em_regs::{RegFile, RegUndo};
+use std::mem::size_of;
 
 /// What a record costs that holds no octets.
 pub const LEAST_COST: u32 = 32;
@@ -27,8 +28,8 @@ pub enum Part {
     Nothing,
     /// A register.
     Register(RegUndo),
-    /// Octets of guest memory.
-    Octets(MemUndo),
+    /// Octets of guest memory, in a box, so that records stay small: a journal has a place for each.
+    Octets(Box<MemUndo>),
     /// The link.
     Link(bool),
     /// All that a reset put aside, the latches among it.
@@ -76,3 +77,6 @@ impl Undo {
         }
     }
 }
+
+// A journal makes a place for each 32 octets of its budget, so a record may not grow unseen.
+const _: () = prove!(size_of::<Undo>() == 48);

@@ -1,5 +1,6 @@
 -- Taking the first line off a script.
-use Rattle.std.proofs.Common.{◌≡◌, ℕ, ◌<◌, ◌≤◌, Bool, true, false, cond, List, [], ◌∷◌, length, refl, ap, ◌∙◌, arith, nat_lt}
+use Rattle.std.proofs.Common.{◌≡◌, ℕ, ◌<◌, ◌≤◌, Bool, true, false, cond, List, [], ◌∷◌, length, refl, ap, ◌∙◌, arith}
+use Rattle.std.proofs.Common.{nat_lt}
 use Rattle.std.specs.List.{slice_split, position_or_len, before_first, after_first, onto_first}
 use Rattle.std.proofs.lemmas.List.Splits.{slice_split_none, slice_split_first}
 use Rattle.std.proofs.lemmas.List.Sums.{fails_before_first}
@@ -10,17 +11,21 @@ use Rattle.em_text.specs.Lines.{lines_of, is_newline, without_empty_last}
 first_part : (p : ℕ → Bool) (xs : List ℕ) → (head : List ℕ) × (tail : List (List ℕ)) × (slice_split p xs ≡ head ∷ tail)
 first_part p [] = ([], [], refl)
 first_part p (x ∷ xs) =
-    elim (p x) as (λ b. (head : List ℕ) × (tail : List (List ℕ)) × (cond b ([] ∷ slice_split p xs) (onto_first x (slice_split p xs)) ≡ head ∷ tail)) [
+    let more = slice_split p xs in
+    elim (p x) as (λ b.
+    (head : List ℕ) × (tail : List (List ℕ)) × (cond b ([] ∷ more) (onto_first x more) ≡ head ∷ tail)) [
       | true ↦ ([], slice_split p xs, refl)
       | false ↦ let rest = first_part p xs in (x ∷ rest.0, rest.1, ap (onto_first x) rest.2)
     ]
 
 -- a part before others is kept
-without_empty_last-cons : (part : List ℕ) (parts : List (List ℕ)) (head : List ℕ) (tail : List (List ℕ)) → parts ≡ head ∷ tail → without_empty_last (part ∷ parts) ≡ part ∷ without_empty_last parts
+without_empty_last-cons : (part : List ℕ) (parts : List (List ℕ)) (head : List ℕ) (tail : List (List ℕ))
+    → parts ≡ head ∷ tail → without_empty_last (part ∷ parts) ≡ part ∷ without_empty_last parts
 without_empty_last-cons part parts head tail e = rw e refl
 
 -- where a newline stands, the first line is what stands before it
-pub lines_of_first : (xs : List ℕ) → position_or_len is_newline xs < length xs → lines_of xs ≡ before_first is_newline xs ∷ lines_of (after_first is_newline xs)
+pub lines_of_first : (xs : List ℕ) → position_or_len is_newline xs < length xs
+    → lines_of xs ≡ before_first is_newline xs ∷ lines_of (after_first is_newline xs)
 unfolding lines_of
 lines_of_first xs h =
     let rest = first_part is_newline (after_first is_newline xs) in
@@ -37,8 +42,10 @@ nonempty : (xs : List ℕ) → 0 < length xs → cond (nat_lt 0 (length xs)) (xs
 nonempty xs h = rw (lt-ltb 0 (length xs) h) refl
 
 -- where none stands, the script is one line
-pub lines_of_last : (xs : List ℕ) → 0 < length xs → length xs ≤ position_or_len is_newline xs → lines_of xs ≡ xs ∷ lines_of []
+pub lines_of_last : (xs : List ℕ) → 0 < length xs → length xs ≤ position_or_len is_newline xs
+    → lines_of xs ≡ xs ∷ lines_of []
 unfolding lines_of
 lines_of_last xs some h =
-    ap without_empty_last (slice_split_none is_newline xs (λ k d lt. fails_before_first is_newline xs k d (omega arith)))
+    let none = slice_split_none is_newline xs (λ k d lt. fails_before_first is_newline xs k d (omega arith)) in
+    ap without_empty_last none
     ∙ nonempty xs some

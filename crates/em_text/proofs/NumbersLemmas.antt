@@ -1,17 +1,20 @@
 -- The number and the octets of a word, by cases.
-use Rattle.std.proofs.Common.{◌≡◌, ◌≢◌, ◌%◌, ℕ, ◌+◌, ◌*◌, ◌^◌, ◌<◌, ◌≤◌, true, false, List, length, drop, get_or, Some, None, refl, arith, add-one, take, Ok, Err, ap, ◌∙◌}
-use Rattle.std.specs.List.{list_all}
-use Rattle.std.proofs.lemmas.List.{drop_more}
+use Rattle.std.proofs.Common.{◌≡◌, ◌≢◌, ◌%◌, ℕ, ◌+◌, ◌*◌, ◌^◌, ◌<◌, ◌≤◌, true, false, List, length, drop, get_or}
+use Rattle.std.proofs.Common.{Option, Some, None, refl, arith, add-one, take, Result, Ok, Err, ap, ◌∙◌}
+use Rattle.std.specs.List.{list_all, AllPass}
+use Rattle.std.proofs.lemmas.List.{drop_more, get_or_default}
 use Rattle.std.proofs.lemmas.Bool.{lt-ltb, le-ltb}
 use Rattle.std.proofs.lemmas.Bool.Decides.{nat_tests}
 use Rattle.std.proofs.Math.Nat.{pow-le-pow_right, pow-suc, mul-le-mul_right}
 use Rattle.std.specs.Char.{is_digit, digit_value}
 use Rattle.std.specs.Str.Parse.{digits_value, digits_value_after}
 use Rattle.std.specs.Result.{result_ok}
-use Rattle.hex.specs.Hex.{decode_of, decode_pairs, hex_digit_value, digit_or_error, value_at, pair_value}
+use Rattle.std.specs.Prelude.{EachIndex, IsSome, slice_index}
+use Rattle.hex.specs.Hex.{decode_of, is_hex_digit, decode_pairs, hex_digit_value, digit_or_error, value_at, pair_value}
 use Rattle.hex.specs.declared.error.FromHexError.TheVariants.{InvalidHexCharacter}
 use Rattle.hex.proofs.Pairs.{prepend, decode_err, decode_done}
-use Rattle.hex.proofs.HexLemmas.{decode_of-even}
+use Rattle.hex.proofs.HexLemmas.{decode_of-even, decode_pairs-digits, decode_of-ok}
+use Rattle.hex.specs.declared.error.FromHexError.{FromHexError}
 use Rattle.em_text.specs.Numbers.{number, octets_of}
 
 -- no digit
@@ -25,12 +28,14 @@ unfolding number
 number-long base most word h = grind (arith, nat_tests)
 
 -- an octet that is no digit
-pub number-bad : (base most : ℕ) (word : List ℕ) → list_all (λ octet. is_digit octet base) word ≡ false → number base most word ≡ None
+pub number-bad : (base most : ℕ) (word : List ℕ) → list_all (λ octet. is_digit octet base) word ≡ false
+    → number base most word ≡ None
 unfolding number
 number-bad base most word h = grind (arith, nat_tests)
 
 -- digits alone, and few enough
-pub number-good : (base most : ℕ) (word : List ℕ) → 0 < length word → length word ≤ most → list_all (λ octet. is_digit octet base) word ≡ true
+pub number-good : (base most : ℕ) (word : List ℕ) → 0 < length word → length word ≤ most
+    → list_all (λ octet. is_digit octet base) word ≡ true
     → number base most word ≡ Some (digits_value base word)
 unfolding number
 number-good base most word some short h = grind (arith, nat_tests)
@@ -50,23 +55,28 @@ below_power base most i v le some small =
     omega arith
 
 -- a number of fewer digits than the most has room for one more
-pub value_fits : (base most i v d : ℕ) → i < most → 0 < base → v < base ^ i → d < base → base ^ most ≤ 2 ^ 64 → v * base + d < 2 ^ 64
+pub value_fits : (base most i v d : ℕ) → i < most → 0 < base → v < base ^ i → d < base → base ^ most ≤ 2 ^ 64
+    → v * base + d < 2 ^ 64
 value_fits base most i v d h some small digit room =
-    let step : v * base + d < base ^ most = below_power base most (i + 1) (v * base + d) (omega arith) some (value_step base i v d small digit) in
+    let step : v * base + d < base ^ most =
+    below_power base most (i + 1) (v * base + d) (omega arith) some (value_step base i v d small digit) in
     omega arith
 
 -- a place that is no digit
-pub bad_digit : (base : ℕ) (word : List ℕ) (i : ℕ) → i < length word → base ≤ digit_value (get_or word i 0) → list_all (λ octet. is_digit octet base) (drop i word) ≡ false
+pub bad_digit : (base : ℕ) (word : List ℕ) (i : ℕ) → i < length word → base ≤ digit_value (get_or word i 0)
+    → list_all (λ octet. is_digit octet base) (drop i word) ≡ false
 bad_digit base word i lt bad = rw (drop_more word i 0 lt, le-ltb _ _ bad) refl
 
 -- a place that is a digit
 pub good_digit : (base : ℕ) (word : List ℕ) (i : ℕ) → i < length word → digit_value (get_or word i 0) < base
-    → list_all (λ octet. is_digit octet base) (drop i word) ≡ list_all (λ octet. is_digit octet base) (drop (i + 1) word)
+    → list_all (λ octet. is_digit octet base) (drop i word)
+      ≡ list_all (λ octet. is_digit octet base) (drop (i + 1) word)
 good_digit base word i lt good = rw (drop_more word i 0 lt, lt-ltb _ _ good) refl
 
 -- the value of one digit more
 pub value_digit : (base v : ℕ) (word : List ℕ) (i : ℕ) → i < length word
-    → digits_value_after base v (drop i word) ≡ digits_value_after base (v * base + digit_value (get_or word i 0)) (drop (i + 1) word)
+    → digits_value_after base v (drop i word)
+      ≡ digits_value_after base (v * base + digit_value (get_or word i 0)) (drop (i + 1) word)
 value_digit base v word i lt = rw (drop_more word i 0 lt) refl
 
 -- no digit writes no octets
@@ -84,6 +94,45 @@ pub octets_of-some : (word : List ℕ) → 0 < length word → octets_of word �
 unfolding octets_of
 octets_of-some word h = rw (lt-ltb 0 (length word) h) refl
 
+-- ---- digits alone
+
+-- the value of a hexadecimal digit, in the words of the crate `hex`
+hex_digit-value : (c : ℕ) → digit_value c < 16 → is_hex_digit c ≡ true
+hex_digit-value c h = grind (arith, nat_tests)
+
+value-hex_digit : (c : ℕ) → is_hex_digit c ≡ true → digit_value c < 16
+value-hex_digit c h = grind (arith, nat_tests)
+
+-- an even number of digits writes octets
+pub octets_of-digits : (word : List ℕ) → 0 < length word → length word % 2 ≡ 0
+    → EachIndex word (λ k. digit_value (slice_index word k) < 16) → IsSome (octets_of word)
+octets_of-digits word some even digits =
+    let pass : AllPass is_hex_digit word = λ k d lt.
+    rw (get_or_default word k d 0 lt) (hex_digit-value (get_or word k 0) (digits k lt)) in
+    let bytes = decode_pairs-digits 0 word even pass in
+    rw (octets_of-some word some ∙ ap result_ok (decode_of-even word even ∙ bytes.1)) refl
+
+-- what writes octets has digits alone
+pub digits-octets_of : (word : List ℕ) → 0 < length word → IsSome (octets_of word)
+    → EachIndex word (λ k. digit_value (slice_index word k) < 16)
+digits-octets_of word some h =
+    let written = decoded word (decode_of word) refl (rw (octets_of-some word some) at h) in
+    λ k lt. value-hex_digit (get_or word k 0) (written k 0 lt)
+  where
+  decoded : (word : List ℕ) (r : Result (List ℕ) FromHexError) → decode_of word ≡ r → IsSome (result_ok r)
+      → AllPass is_hex_digit word
+  decoded word (Ok bytes) e h = (decode_of-ok word bytes e).1
+  decoded word (Err x) e h = cc h
+
+-- a word that has some octet but digits writes no octets
+pub octets_of-no_digits : (word : List ℕ) → 0 < length word
+    → (EachIndex word (λ k. digit_value (slice_index word k) < 16) → ⊥) → octets_of word ≡ None
+octets_of-no_digits word some not = none (octets_of word) (λ h. not (digits-octets_of word some h))
+  where
+  none : (o : Option (List ℕ)) → (IsSome o → ⊥) → o ≡ None
+  none None h = refl
+  none (Some x) h = absurd (h refl)
+
 -- ---- two digits an octet
 
 -- the values of hexadecimal digits, in the words of the crate `hex`
@@ -100,7 +149,8 @@ value_at-bad : (c i : ℕ) → 16 ≤ digit_value c → value_at c i ≡ Err (In
 value_at-bad c i h = ap (digit_or_error c i) (hex_digit_value-bad c h)
 
 -- a pair of digits
-pub pair_value-good : (a b i : ℕ) → digit_value a < 16 → digit_value b < 16 → pair_value a b i ≡ Ok (digit_value a * 16 + digit_value b)
+pub pair_value-good : (a b i : ℕ) → digit_value a < 16 → digit_value b < 16
+    → pair_value a b i ≡ Ok (digit_value a * 16 + digit_value b)
 pair_value-good a b i ha hb =
     let ea = value_at-good a i ha in
     let eb = value_at-good b (i + 1) hb in
@@ -110,28 +160,35 @@ pair_value-good a b i ha hb =
 pair_value-bad_high : (a b i : ℕ) → 16 ≤ digit_value a → pair_value a b i ≡ Err (InvalidHexCharacter a i)
 pair_value-bad_high a b i ha = let ea = value_at-bad a i ha in rw ea refl
 
-pair_value-bad_low : (a b i : ℕ) → digit_value a < 16 → 16 ≤ digit_value b → pair_value a b i ≡ Err (InvalidHexCharacter b (i + 1))
+pair_value-bad_low : (a b i : ℕ) → digit_value a < 16 → 16 ≤ digit_value b
+    → pair_value a b i ≡ Err (InvalidHexCharacter b (i + 1))
 pair_value-bad_low a b i ha hb =
     let ea = value_at-good a i ha in
     let eb = value_at-bad b (i + 1) hb in
     rw (ea, eb) refl
 
 -- the answer of a decoder that has met a pair that is none
-pub octets_of-bad_high : (word octets : List ℕ) (i : ℕ) → length word % 2 ≡ 0 → 2 * i + 1 < length word → 16 ≤ digit_value (get_or word (2 * i) 0)
+pub octets_of-bad_high : (word octets : List ℕ) (i : ℕ) → length word % 2 ≡ 0 → 2 * i + 1 < length word
+    → 16 ≤ digit_value (get_or word (2 * i) 0)
     → decode_pairs 0 word ≡ prepend (take i octets) (decode_pairs (2 * i) (drop (2 * i) word)) → octets_of word ≡ None
 octets_of-bad_high word octets i even lt bad so_far =
+    let pair = pair_value-bad_high (get_or word (2 * i) 0) (get_or word (2 * i + 1) 0) (2 * i) bad in
     octets_of-some word (omega arith)
-    ∙ ap result_ok (decode_of-even word even ∙ decode_err word octets i _ lt (pair_value-bad_high (get_or word (2 * i) 0) (get_or word (2 * i + 1) 0) (2 * i) bad) so_far)
+    ∙ ap result_ok (decode_of-even word even ∙ decode_err word octets i _ lt pair so_far)
 
-pub octets_of-bad_low : (word octets : List ℕ) (i : ℕ) → length word % 2 ≡ 0 → 2 * i + 1 < length word → digit_value (get_or word (2 * i) 0) < 16 → 16 ≤ digit_value (get_or word (2 * i + 1) 0)
+pub octets_of-bad_low : (word octets : List ℕ) (i : ℕ) → length word % 2 ≡ 0 → 2 * i + 1 < length word
+    → digit_value (get_or word (2 * i) 0) < 16 → 16 ≤ digit_value (get_or word (2 * i + 1) 0)
     → decode_pairs 0 word ≡ prepend (take i octets) (decode_pairs (2 * i) (drop (2 * i) word)) → octets_of word ≡ None
 octets_of-bad_low word octets i even lt good bad so_far =
+    let pair = pair_value-bad_low (get_or word (2 * i) 0) (get_or word (2 * i + 1) 0) (2 * i) good bad in
     octets_of-some word (omega arith)
-    ∙ ap result_ok (decode_of-even word even ∙ decode_err word octets i _ lt (pair_value-bad_low (get_or word (2 * i) 0) (get_or word (2 * i + 1) 0) (2 * i) good bad) so_far)
+    ∙ ap result_ok (decode_of-even word even ∙ decode_err word octets i _ lt pair so_far)
 
 -- the answer of a decoder that is at the end
-pub octets_of-good : (word octets : List ℕ) (i : ℕ) → 0 < length word → length word ≡ 2 * length octets → length octets ≤ i
-    → decode_pairs 0 word ≡ prepend (take i octets) (decode_pairs (2 * i) (drop (2 * i) word)) → octets_of word ≡ Some octets
+pub octets_of-good : (word octets : List ℕ) (i : ℕ) → 0 < length word → length word ≡ 2 * length octets
+    → length octets ≤ i
+    → decode_pairs 0 word ≡ prepend (take i octets) (decode_pairs (2 * i) (drop (2 * i) word))
+    → octets_of word ≡ Some octets
 octets_of-good word octets i some room end so_far =
     octets_of-some word some
     ∙ ap result_ok (decode_of-even word (omega arith) ∙ decode_done word octets i end (omega arith) so_far)

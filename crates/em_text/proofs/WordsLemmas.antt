@@ -1,5 +1,6 @@
 -- Taking the first word off a line.
-use Rattle.std.proofs.Common.{one-add, ◌≡◌, ℕ, ◌+◌, ◌<◌, ◌≤◌, Bool, true, false, not, cond, List, [], ◌∷◌, length, take, drop, get_or, refl, sym, ap, ◌∙◌, arith, nat_lt, filter, inl, inr}
+use Rattle.std.proofs.Common.{one-add, ◌≡◌, ℕ, ◌+◌, ◌<◌, ◌≤◌, Bool, true, false, not, cond, List, [], ◌∷◌, length, take}
+use Rattle.std.proofs.Common.{drop, get_or, refl, sym, ap, ◌∙◌, arith, nat_lt, filter, inl, inr}
 use Rattle.std.specs.List.{slice_split, position_or_len, prefix_len, before_first, after_first, All}
 use Rattle.std.proofs.lemmas.List.{length-take-le, drop_more, drop_all, take_all}
 use Rattle.std.proofs.lemmas.List.Splits.{slice_split-cons_yes, slice_split_none, slice_split_first}
@@ -20,9 +21,11 @@ words_of-blank x xs h = ap kept (slice_split-cons_yes is_blank x xs h)
 pub words_of-blanks : (xs : List ℕ) → words_of (drop (prefix_len is_blank xs) xs) ≡ words_of xs
 words_of-blanks [] = refl
 words_of-blanks (x ∷ xs) = by_first x xs (is_blank x) refl (words_of-blanks xs) where
-  by_first : (x : ℕ) (xs : List ℕ) (b : Bool) → is_blank x ≡ b → words_of (drop (prefix_len is_blank xs) xs) ≡ words_of xs
+  by_first : (x : ℕ) (xs : List ℕ) (b : Bool) → is_blank x ≡ b
+      → words_of (drop (prefix_len is_blank xs) xs) ≡ words_of xs
       → words_of (drop (cond b (1 + prefix_len is_blank xs) 0) (x ∷ xs)) ≡ words_of (x ∷ xs)
-  by_first x xs true h more = ap (λ n. words_of (drop n (x ∷ xs))) (one-add (prefix_len is_blank xs)) ∙ more ∙ sym (words_of-blank x xs h)
+  by_first x xs true h more =
+      ap (λ n. words_of (drop n (x ∷ xs))) (one-add (prefix_len is_blank xs)) ∙ more ∙ sym (words_of-blank x xs h)
   by_first x xs false h more = refl
 
 -- a part that is not empty is kept
@@ -40,31 +43,37 @@ unfolding words_of
 words_of-whole xs none some = ap kept (slice_split_none is_blank xs none) ∙ kept-cons xs [] some
 
 -- what is kept of the parts
-words_of-first_part : (xs part : List ℕ) (more : List ℕ) → slice_split is_blank xs ≡ part ∷ slice_split is_blank more → 0 < length part → words_of xs ≡ part ∷ words_of more
+words_of-first_part : (xs part : List ℕ) (more : List ℕ) → slice_split is_blank xs ≡ part ∷ slice_split is_blank more
+    → 0 < length part → words_of xs ≡ part ∷ words_of more
 unfolding words_of
 words_of-first_part xs part more e some = ap kept e ∙ kept-cons part (slice_split is_blank more) some
 
 -- a word that ends at a blank
-ends_at_blank : (xs : List ℕ) → 0 < position_or_len is_blank xs → position_or_len is_blank xs < length xs → words_of xs ≡ before_first is_blank xs ∷ words_of (drop (position_or_len is_blank xs) xs)
+ends_at_blank : (xs : List ℕ) → 0 < position_or_len is_blank xs → position_or_len is_blank xs < length xs
+    → words_of xs ≡ before_first is_blank xs ∷ words_of (drop (position_or_len is_blank xs) xs)
 ends_at_blank xs some lt =
     let n = position_or_len is_blank xs in
     let long : 0 < length (before_first is_blank xs) = rw (length-take-le n xs (omega arith)) some in
     let rest : words_of (drop n xs) ≡ words_of (after_first is_blank xs) =
     ap words_of (drop_more xs n 0 lt) ∙ words_of-blank (get_or xs n 0) _ (passes_at_first is_blank xs 0 lt) in
-    words_of-first_part xs (before_first is_blank xs) (after_first is_blank xs) (slice_split_first is_blank xs 0 lt) long
+    words_of-first_part xs (before_first is_blank xs) (after_first is_blank xs)
+    (slice_split_first is_blank xs 0 lt) long
     ∙ ap (λ l. before_first is_blank xs ∷ l) (sym rest)
 
 -- a word that ends with its line
-ends_with_line : (xs : List ℕ) → 0 < position_or_len is_blank xs → length xs ≤ position_or_len is_blank xs → words_of xs ≡ before_first is_blank xs ∷ words_of (drop (position_or_len is_blank xs) xs)
+ends_with_line : (xs : List ℕ) → 0 < position_or_len is_blank xs → length xs ≤ position_or_len is_blank xs
+    → words_of xs ≡ before_first is_blank xs ∷ words_of (drop (position_or_len is_blank xs) xs)
 ends_with_line xs some le =
     let n = position_or_len is_blank xs in
     let same : n ≡ length xs = omega (arith, prefix_len-le-length (λ x. not (is_blank x)) xs) in
     let long : 0 < length xs = omega arith in
     words_of-whole xs (λ k d lt. fails_before_first is_blank xs k d (omega arith)) long
-    ∙ ap (λ l. l ∷ []) (sym (take_all n xs le)) ∙ ap (λ l. before_first is_blank xs ∷ l) (sym (ap words_of (drop_all n xs le) ∙ words_of-nil))
+    ∙ ap (λ l. l ∷ []) (sym (take_all n xs le))
+    ∙ ap (λ l. before_first is_blank xs ∷ l) (sym (ap words_of (drop_all n xs le) ∙ words_of-nil))
 
 -- the first word ends at the first blank, or with the line
-pub words_of_first : (xs : List ℕ) → 0 < position_or_len is_blank xs → words_of xs ≡ before_first is_blank xs ∷ words_of (drop (position_or_len is_blank xs) xs)
+pub words_of_first : (xs : List ℕ) → 0 < position_or_len is_blank xs
+    → words_of xs ≡ before_first is_blank xs ∷ words_of (drop (position_or_len is_blank xs) xs)
 words_of_first xs some =
     elim (cases_lt (position_or_len is_blank xs) (length xs)) [
       | inl lt ↦ ends_at_blank xs some lt
@@ -72,18 +81,21 @@ words_of_first xs some =
     ]
 
 -- what stands at the first place that is no blank
-first_is_long : (xs : List ℕ) → prefix_len is_blank xs < length xs → 0 < position_or_len is_blank (drop (prefix_len is_blank xs) xs)
+first_is_long : (xs : List ℕ) → prefix_len is_blank xs < length xs
+    → 0 < position_or_len is_blank (drop (prefix_len is_blank xs) xs)
 first_is_long xs h =
     let n = prefix_len is_blank xs in
     let stops : is_blank (get_or xs n 0) ≡ false = prefix_len_stops is_blank xs 0 h in
     rw (drop_more xs n 0 h, stops) (omega arith)
 
 -- the same, at a place that is known to be the first that is no blank
-long_at : (line : List ℕ) (n : ℕ) → n ≡ prefix_len is_blank line → n < length line → 0 < position_or_len is_blank (drop n line)
+long_at : (line : List ℕ) (n : ℕ) → n ≡ prefix_len is_blank line → n < length line
+    → 0 < position_or_len is_blank (drop n line)
 long_at line n e lt = rw e (first_is_long line (omega arith))
 
 -- the first word of a line, behind n blanks
-pub first_word : (line : List ℕ) (n len : ℕ) (word rest : List ℕ) → n ≡ prefix_len is_blank line → n < length line → len ≡ position_or_len is_blank (drop n line)
+pub first_word : (line : List ℕ) (n len : ℕ) (word rest : List ℕ) → n ≡ prefix_len is_blank line → n < length line
+    → len ≡ position_or_len is_blank (drop n line)
     → word ≡ take len (drop n line) → rest ≡ drop len (drop n line) → words_of line ≡ word ∷ words_of rest
 first_word line n len word rest e lt el ew er =
     let from = drop n line in

@@ -1,10 +1,10 @@
 -- The lines of a script.
 use Rattle.std.specs.Prelude.{ℕ, Bool, ◌==◌, nat_lt, if◌then◌else◌, List, [], ◌∷◌, length}
 use Rattle.std.specs.List.{slice_split}
-use Rattle.em_text.specs.declared.lines.TheConstants.{NEWLINE}
 
+-- what ends a line
 abbrev pub is_newline : ℕ → Bool
-is_newline octet = octet == NEWLINE
+is_newline octet = octet == 10
 
 -- the parts, less the last where that is empty
 abbrev pub without_empty_last : List (List ℕ) → List (List ℕ)

@@ -5,7 +5,6 @@ use Rattle.std.specs.Char.{is_digit}
 use Rattle.std.specs.Result.{result_ok}
 use Rattle.std.specs.Str.Parse.{digits_value}
 use Rattle.hex.specs.Hex.{decode_of}
-use Rattle.em_text.specs.declared.numbers.TheConstants.{HEX, DECIMAL, HEX_NUMBER_DIGITS, HEX_ADDRESS_DIGITS, DECIMAL_NUMBER_DIGITS}
 
 -- the number that one to `most` digits in this base write
 unfoldable pub number : ℕ → ℕ → List ℕ → Option ℕ
@@ -16,15 +15,15 @@ number base most word =
 
 -- OFF, VAL and the like: 1 to 8 hexadecimal digits
 abbrev pub hex_number : List ℕ → Option ℕ
-hex_number word = number HEX HEX_NUMBER_DIGITS word
+hex_number word = number 16 8 word
 
 -- an address: 1 to 16 hexadecimal digits
 abbrev pub hex_address : List ℕ → Option ℕ
-hex_address word = number HEX HEX_ADDRESS_DIGITS word
+hex_address word = number 16 16 word
 
 -- 1 to 7 decimal digits
 abbrev pub decimal_number : List ℕ → Option ℕ
-decimal_number word = number DECIMAL DECIMAL_NUMBER_DIGITS word
+decimal_number word = number 10 7 word
 
 -- the octets that an even number of hexadecimal digits write, two digits or more
 unfoldable pub octets_of : List ℕ → Option (List ℕ)

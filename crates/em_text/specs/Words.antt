@@ -1,10 +1,10 @@
 -- The words of a line.
 use Rattle.std.specs.Prelude.{ℕ, Bool, ◌==◌, ◌||◌, nat_lt, List, length, filter}
 use Rattle.std.specs.List.{slice_split}
-use Rattle.em_text.specs.declared.words.TheConstants.{SPACE, TAB, CARRIAGE_RETURN}
 
+-- a space, a tab or a carriage return
 abbrev pub is_blank : ℕ → Bool
-is_blank octet = (octet == SPACE || octet == TAB) || octet == CARRIAGE_RETURN
+is_blank octet = (octet == 32 || octet == 9) || octet == 13
 
 -- the parts between blanks, less the empty ones
 unfoldable pub words_of : List ℕ → List (List ℕ)

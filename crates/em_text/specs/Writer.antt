@@ -3,11 +3,12 @@ use Rattle.std.specs.Prelude.{ℕ, ◌<◌, List, ◌++◌, length, take, drop, 
 use Rattle.std.specs.Int.{w32, to_be_bytes}
 use Rattle.std.specs.Io.KnownBytes.{Appends}
 use Rattle.hex.specs.Hex.{encode_upper}
-use Rattle.em_text.specs.declared.writer.TheConstants.{HIGH_DIGITS}
 
 -- a front of the text was written, and not all of it
-abbrev pub WritesPart : Option (List ℕ) → Option (List ℕ) → List ℕ → Type 0
-WritesPart old new text = (n : ℕ) × (n < length text) × Appends old new (take n text)
+pub record WritesPart (old new : Option (List ℕ)) (text : List ℕ) : Type 0 where
+  pub octets : ℕ
+  pub part : octets < length text
+  pub written : Appends old new (take octets text)
 
 -- on `Ok` the text was written, on `Err` a front of it that is not all of it
 abbrev pub Writes : {T E : Type 0} → Option (List ℕ) → Option (List ℕ) → Result T E → List ℕ → Type 0
@@ -31,7 +32,7 @@ value_text value = value_digits value ++ codes "\n"
 
 -- a line of a register: its offset in 5 digits, a space, and its value
 abbrev pub register_line_text : ℕ → ℕ → List ℕ
-register_line_text offset value = drop HIGH_DIGITS (value_digits offset) ++ codes " " ++ value_text value
+register_line_text offset value = drop 3 (value_digits offset) ++ codes " " ++ value_text value
 
 -- a number in decimal digits
 abbrev pub decimal_text : ℕ → List ℕ

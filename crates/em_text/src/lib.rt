@@ -15,7 +15,7 @@ mod writer;
 
 pub use lines::next_line;
 pub use numbers::{decimal_number, hex_address, hex_number, octets_into, octets_of};
-pub use reader::{MOST_OCTETS, ReadFault, read_script};
+pub use reader::{MOST_SCRIPT, ReadFault, read_script};
 pub use words::Words;
 pub use writer::{
     WriteFailed, write_decimal, write_decimal_line, write_octets, write_octets_line, write_pieces,

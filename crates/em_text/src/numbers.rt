@@ -1,5 +1,7 @@
 //! The numbers and the octets that words write.
-ghost use Rattle.std.specs.Prelude.{◌≡◌, ◌≢◌, ◌*◌, ◌/◌, ◌≤◌, ◌<◌, ◌^◌, true, [], IfOk, OnErr, IfSome, option_map, if◌then◌else◌, length};
+ghost use Rattle.std.specs.Prelude.{◌≡◌, ◌≢◌, ◌*◌, ◌/◌, ◌≤◌, ◌<◌, ◌^◌, true, [], IfOk, OnErr, IfSome, IsSome};
+ghost use Rattle.std.specs.Prelude.{◌↔◌, IsTrue, EachIndex, slice_index, option_map, if◌then◌else◌, length};
+ghost use Rattle.std.specs.Char.{digit_value};
 ghost use Rattle.std.specs.Vec.{vec_capacity};
 ghost use Rattle.em_text.specs.Numbers.{number, hex_number, hex_address, decimal_number, octets_of};
 
@@ -87,24 +89,39 @@ pub fn octets_of(alloc: Global, word: &[u8]) -> Result<Option<Vec<u8>>, AllocErr
 /// Whether an even number of hexadecimal digits stands there, 2 digits or more, and if so, the
 /// octets that they write, in place of what `octets` held.
 ///
-/// Otherwise `octets` is empty afterwards. It takes memory only where it has no room for half as
-/// many octets as the word has digits.
+/// Otherwise `octets` is empty afterwards. It takes memory only for octets that stand there, and
+/// only where it has no room for them.
 pub fn octets_into(octets: &mut Vec<u8>, word: &[u8]) -> Result<bool, AllocError>
     ensures value { IfOk result (λ found.
         octets_of word.now ≡ (if found then Some octets.new.items else None)) }
     ensures cleared { result ≢ Ok true → octets.new.items ≡ [] }
     ensures memory { OnErr result (vec_capacity octets.old < length word.now / 2) }
+    ensures digits { OnErr result (IsSome (octets_of word.now)) }
 {
     octets.clear();
     if word.is_empty() || word.len() % 2 != 0 {
         return Ok(false);
     }
-    octets.resize(word.len() / 2, 0)?;
+    if octets.resize(word.len() / 2, 0).is_err() {
+        // What is no text of octets is so also where there is no memory.
+        return if has_digits_alone(word) {
+            Err(AllocError)
+        } else {
+            Ok(false)
+        };
+    }
     if decode(word, octets.as_mut_slice()) {
         return Ok(true);
     }
     octets.clear();
     Ok(false)
+}
+
+/// Whether each octet of a word is a hexadecimal digit.
+fn has_digits_alone(word: &[u8]) -> bool
+    ensures { IsTrue result ↔ EachIndex word.now (λ k. digit_value (slice_index word.now k) < 16) }
+{
+    word.iter().all(|octet| value_of(*octet) < HEX)
 }
 
 /// Whether the word is of digits, and if so, writes the octets that they write.

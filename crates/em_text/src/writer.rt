@@ -1,7 +1,8 @@
 //! Texts to a writer, by calls of its `write` alone.
 ghost use Rattle.std.specs.Prelude.{◌≡◌, ◌*◌, ◌^◌, ◌<◌, length};
 ghost use Rattle.std.specs.List.{flat_map};
-ghost use Rattle.em_text.specs.Writer.{Writes, hex_text, hex_line_text, value_digits, value_text, register_line_text, decimal_text, decimal_line_text};
+ghost use Rattle.em_text.specs.Writer.{Writes, hex_text, hex_line_text, value_digits, value_text, register_line_text};
+ghost use Rattle.em_text.specs.Writer.{decimal_text, decimal_line_text};
 
 use itoa::Buffer;
 use std::io::Write;
@@ -41,7 +42,8 @@ pub fn write_whole<W: Write>(writer: &mut W, text: &[u8]) -> Result<(), WriteFai
 
 /// Writes pieces of a text, one after another.
 pub fn write_pieces<W: Write>(writer: &mut W, pieces: &[&[u8]]) -> Result<(), WriteFailed>
-    ensures writes { Writes (W.contents writer.old) (W.contents writer.new) result (flat_map (λ piece. piece.now) pieces.now) }
+    ensures writes { Writes (W.contents writer.old) (W.contents writer.new) result
+        (flat_map (λ piece. piece.now) pieces.now) }
 {
     for piece in pieces {
         write_whole(writer, *piece)?;

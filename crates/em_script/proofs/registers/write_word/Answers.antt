@@ -4,11 +4,18 @@ use Rattle.em_script.proofs.RegisterLemmas.{zero_written, line_written}
 use Rattle.em_script.proofs.registers.write_word.Goals as goal
 
 pub returns-then-value-eq0 : goal.returns-then-value-eq0
-returns-then-value-eq0 g c = record { writes = zero_written c.args.machine.now.present c.args.word c.unwrap_or-value.result c.look.result _ c.look.ensures c.unwrap_or-value.ensures c.if-value-eq0.true }
+returns-then-value-eq0 g c = record {
+  writes = zero_written c.args.machine.now.present c.args.word _ c.look.ensures c.unwrap_or-value.ensures
+      c.if-value-eq0.true;
+}
 
 pub returns : goal.returns
-returns g c = record {
-  writes = subst (λ text. Writes (g.W.Write.contents c.args.writer.now) (g.W.Write.contents c.write_register_line.new.writer) c.write_register_line.result text)
-      (line_written c.args.machine.now.present c.args.word c.unwrap_or-value.result c.look.result c.look.ensures c.unwrap_or-value.ensures c.if-value-eq0.false)
-      c.write_register_line.ensures.writes;
-}
+returns g c =
+    let contents = g.W.Write.contents in
+    let line = c.write_register_line in
+    record {
+      writes = subst (λ text. Writes (contents c.args.writer.now) (contents line.new.writer) line.result text)
+          (line_written c.args.machine.now.present c.args.word c.look.ensures c.unwrap_or-value.ensures
+          c.if-value-eq0.false)
+          line.ensures.writes;
+    }

@@ -7,8 +7,10 @@ use Rattle.em_text.proofs.lines.line_len.Goals as goal
 pub returns-in-Some-clause-value : goal.returns-in-Some-clause-value
 returns-in-Some-clause-value c =
     let found = c.in-Some.ensures in
-    sym (position_or_len_is is_newline c.args.script.now c.in-Some.end 0 (omega (arith, found.0.high)) (λ k lt. false_from_ne_true _ (found.0.before k (omega arith) lt)) (λ lt. found.1))
+    sym (position_or_len_is is_newline c.args.script.now c.in-Some.end 0 (omega (arith, found.0.high))
+    (λ k lt. false_from_ne_true _ (found.0.before k (omega arith) lt)) (λ lt. found.1))
 
 pub returns-in-None-clause-value : goal.returns-in-None-clause-value
 returns-in-None-clause-value c =
-    sym (position_or_len_is is_newline c.args.script.now _ 0 (omega arith) (λ k lt. false_from_ne_true _ (c.in-None.ensures k (omega arith) lt)) (λ lt. absurd (omega arith)))
+    sym (position_or_len_is is_newline c.args.script.now _ 0 (omega arith)
+    (λ k lt. false_from_ne_true _ (c.in-None.ensures k (omega arith) lt)) (λ lt. absurd (omega arith)))

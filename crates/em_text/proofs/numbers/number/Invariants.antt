@@ -9,6 +9,7 @@ abbrev pub invariant-loop-octet : goal.invariant-loop-octet
 invariant-loop-octet l =
     record {
       small : l.value < l.base ^ l.octet-index;
-      digits : list_all (λ octet. is_digit octet l.base) (drop l.octet-index l.word) ≡ list_all (λ octet. is_digit octet l.base) l.word;
+      digits : list_all (λ octet. is_digit octet l.base) (drop l.octet-index l.word)
+          ≡ list_all (λ octet. is_digit octet l.base) l.word;
       number : digits_value_after l.base l.value (drop l.octet-index l.word) ≡ digits_value l.base l.word;
     }

@@ -14,7 +14,7 @@ returns-in_err-write_whole g c =
     ∙ ap (λ l. l ++ hex_text behind) (sym c.fill_digits.ensures) in
     record {
       writes = MatchResult-from_err _ _ _ c.from_residual.ensures.0 (λ _.
-          WroteFront-part _ _ _ c.fill_digits.new.digits (hex_text behind) (hex_text c.loop-rest.rest.now) _ c.loop-rest.invariant cut c.in_err-write_whole.ensures.writes);
+          WroteFront-part (hex_text behind) c.loop-rest.invariant cut c.in_err-write_whole.ensures.writes);
     }
 
 pub loop-rest-preserved : goal.loop-rest-preserved
@@ -23,10 +23,10 @@ loop-rest-preserved g c =
     let behind = c.split_at.result.1.now in
     let cut = hex_text-cut c.loop-rest.rest.now chunk behind _ c.split_at.ensures.front c.split_at.ensures.back
     ∙ ap (λ l. l ++ hex_text behind) (sym c.fill_digits.ensures) in
-    WroteFront-more _ _ _ c.fill_digits.new.digits (hex_text behind) (hex_text c.loop-rest.rest.now) _ c.loop-rest.invariant cut c.in_ok-write_whole.ensures.writes
+    WroteFront-more c.fill_digits.new.digits c.loop-rest.invariant cut c.in_ok-write_whole.ensures.writes
 
 pub returns : goal.returns
 unfolding encode_with
 returns g c =
     let done : c.loop-rest.rest.now ≡ [] = nil_from_length _ (search rules) in
-    record { writes = WroteFront-all _ _ (hex_text c.loop-rest.rest.now) _ c.loop-rest.invariant (ap hex_text done) }
+    record { writes = WroteFront-all c.loop-rest.invariant (ap hex_text done) }

@@ -10,9 +10,11 @@ loop-done-preserved g c =
     let text = c.args.text.now in
     let rest = drop c.loop-done.done text in
     let bound : c.in-Ok.count ≤ length (take (length text - c.loop-done.done) rest) = c.in-Ok.ensures.bound in
+    let piece = take c.in-Ok.count (take (length text - c.loop-done.done) rest) in
+    let all = take-add c.loop-done.done c.in-Ok.count text
+    ∙ ap (λ l. take c.loop-done.done text ++ take c.in-Ok.count l) (sym (take_rest text c.loop-done.done)) in
     record {
       within = grind (arith, common_steps);
-      written = Appends-more _ _ _ (take c.loop-done.done text) (take c.in-Ok.count (take (length text - c.loop-done.done) rest)) (take (c.loop-done.done + c.in-Ok.count) text)
-          c.loop-done.invariant.written c.in-Ok.ensures.bytes
-          (take-add c.loop-done.done c.in-Ok.count text ∙ ap (λ l. take c.loop-done.done text ++ take c.in-Ok.count l) (sym (take_rest text c.loop-done.done)));
+      written = Appends-more _ _ _ (take c.loop-done.done text) piece _ c.loop-done.invariant.written
+          c.in-Ok.ensures.bytes all;
     }

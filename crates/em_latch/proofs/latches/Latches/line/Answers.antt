@@ -8,5 +8,6 @@ pub returns : goal.returns
 returns c =
     let words = c.self.inside.causes ∷ c.self.inside.mask ∷ c.self.inside.counters in
     let size : length words ≡ 28 = omega arith in
-    rw (at_word words c.args.self.now Icr refl size c.self.view_is, at_word words c.args.self.now Ims refl size c.self.view_is)
-    (grind (arith, nat_tests))
+    let causes = at_word words c.args.self.now Icr refl size c.self.view_is in
+    let mask = at_word words c.args.self.now Ims refl size c.self.view_is in
+    rw (causes, mask) (grind (arith, nat_tests))

@@ -3,7 +3,8 @@ use Rattle.em_latch.proofs.PlaceLaws.{Swaps, swaps, get-counter, set-counter}
 use Rattle.em_latch.proofs.latches.Latches.swap.Goals as goal
 
 in-0 : (c : goal.After-replace)
-    → Swaps c.args.self.now (c.replace.new.dest ∷ c.self.inside.mask ∷ c.self.inside.counters) c.args.place c.args.value c.replace.result
+    → Swaps c.args.self.now
+    (c.replace.new.dest ∷ c.self.inside.mask ∷ c.self.inside.counters) c.args.place c.args.value c.replace.result
 in-0 c =
     let words = c.self.inside.causes ∷ c.self.inside.mask ∷ c.self.inside.counters in
     let size : length words ≡ 28 = omega arith in
@@ -19,7 +20,8 @@ pub returns-in-0-clause-state : goal.returns-in-0-clause-state
 returns-in-0-clause-state c = (in-0 c).now
 
 in-1 : (c : goal.After-replace-in-1)
-    → Swaps c.args.self.now (c.self.inside.causes ∷ c.replace-in-1.new.dest ∷ c.self.inside.counters) c.args.place c.args.value
+    → Swaps c.args.self.now
+    (c.self.inside.causes ∷ c.replace-in-1.new.dest ∷ c.self.inside.counters) c.args.place c.args.value
     c.replace-in-1.result
 in-1 c =
     let words = c.self.inside.causes ∷ c.self.inside.mask ∷ c.self.inside.counters in

@@ -21,7 +21,8 @@ returns-clause-steps c =
     let n = c.blanks_len.result in
     let from : take (length line - n) (drop n line) ≡ drop n line = take_rest line n in
     let some : n < length line = search rules in
-    first_word line n c.word_len-len.result c.split_at.result.0.now c.split_at.result.1.now c.blanks_len.ensures.value some
+    first_word line n c.word_len-len.result c.split_at.result.0.now c.split_at.result.1.now
+    c.blanks_len.ensures.value some
     (c.word_len-len.ensures.value ∙ ap (position_or_len is_blank) from)
     (c.split_at.ensures.front ∙ ap (take c.word_len-len.result) from)
     (c.split_at.ensures.back ∙ ap (drop c.word_len-len.result) from)

@@ -1,0 +1,100 @@
+-- Scripts to which memory was refused nowhere.
+use Rattle.std.proofs.Common.{◌≡◌, ◌⊎◌, inl, inr, ℕ, ◌+◌, false, List, [], ◌∷◌, ◌++◌, map, Option, Some, None}
+use Rattle.std.proofs.Common.{refl, sym, ap, ap₂, ◌∙◌, subst, append_assoc}
+use Rattle.std.specs.Prelude.{codes}
+use Rattle.std.specs.Io.KnownBytes.{Appends}
+use Rattle.std.specs.List.{AllByRecursion}
+use Rattle.std.proofs.lemmas.Bool.{false≢true}
+use Rattle.std.proofs.lemmas.List.{append_cancel_left}
+use Rattle.em_text.specs.Lines.{lines_of}
+use Rattle.em_script.specs.Session.{Session}
+use Rattle.em_script.specs.Command.{event}
+use Rattle.em_script.specs.ParsedLine.{ParsedLine, says}
+use Rattle.em_script.specs.Grammar.{parsed_line}
+use Rattle.em_script.specs.Reply.{line_text, line_takes_memory, IsAllowed as IsLineAllowed}
+use Rattle.em_script.specs.PlayedLine.{PlayedLine, played_text, after_played, AreAllowed, text_from, ArePlayed}
+use Rattle.em_script.specs.PlayedLine.{with_memory}
+use Rattle.em_script.specs.Runner.{TakesNoMemory, SaysMemory, text}
+
+-- memory was refused to none of them
+abbrev pub HadMemory : List PlayedLine → Type 0
+HadMemory all = AllByRecursion (λ (played : PlayedLine). played.refused ≡ None) all
+
+-- ---- where no line takes memory
+
+not_refused : (memory : Option ℕ) (parsed : ParsedLine) (session : Session) → IsLineAllowed memory parsed session
+    → line_takes_memory parsed ≡ false → memory ≡ None
+not_refused None parsed session allowed none = refl
+not_refused (Some n) (says (event e)) session allowed none = absurd (false≢true (sym none ∙ allowed.1))
+not_refused (Some n) _ session allowed none = absurd allowed
+
+took_none : (all : List PlayedLine) (session : Session) → AreAllowed all session
+    → AllByRecursion (λ line. line_takes_memory (parsed_line line) ≡ false)
+      (map (λ (played : PlayedLine). played.line) all)
+    → HadMemory all
+took_none [] session allowed none = tt
+took_none (x ∷ xs) session allowed none = (
+  not_refused x.refused (parsed_line x.line) session allowed.0 none.0,
+  took_none xs (after_played x session) allowed.1 none.1,
+)
+
+-- ---- where no line that is written ends in ` Memory`
+
+-- a line to which memory was refused says so
+refused_says : (number : ℕ) (memory : Option ℕ) (parsed : ParsedLine) (session : Session)
+    → IsLineAllowed memory parsed session
+    → (memory ≡ None) ⊎ (line_text number memory parsed session ≡ codes "refused" ++ codes " Memory\n")
+refused_says number None parsed session allowed = inl refl
+refused_says number (Some n) (says (event e)) session allowed = inr refl
+refused_says number (Some n) _ session allowed = absurd allowed
+
+-- more text before it
+SaysMemory-behind : (front behind : List ℕ) → SaysMemory behind → SaysMemory (front ++ behind)
+SaysMemory-behind front behind h =
+    let word = codes " Memory\n" in
+    let whole = ap (λ l. front ++ l) h.2 ∙ sym (append_assoc front (h.0 ++ word) h.1)
+    ∙ ap (λ l. l ++ h.1) (sym (append_assoc front h.0 word)) in
+    (front ++ h.0, h.1, whole)
+
+said_none : (number : ℕ) (all : List PlayedLine) (session : Session) → AreAllowed all session
+    → (SaysMemory (text_from number all session) → ⊥) → HadMemory all
+said_none number [] session allowed none = tt
+said_none number (x ∷ xs) session allowed none =
+    let after = after_played x session in
+    let own = played_text number x session in
+    let rest = text_from (number + 1) xs after in
+    elim (refused_says number x.refused (parsed_line x.line) session allowed.0) [
+      | inl had ↦ (had, said_none (number + 1) xs after allowed.1 (λ h. none (SaysMemory-behind own rest h)))
+      | inr is ↦ absurd (none (codes "refused", rest, ap (λ l. l ++ rest) is))
+    ]
+
+-- ---- the script's own text
+
+had_memory : (all : List PlayedLine) → HadMemory all
+    → all ≡ with_memory (map (λ (played : PlayedLine). played.line) all)
+had_memory [] h = refl
+had_memory (x ∷ xs) h =
+    let make : Option ℕ → PlayedLine = λ r. record { line = x.line; refused = r } in
+    ap₂ (λ (p : PlayedLine) ps. p ∷ ps) (ap make h.0) (had_memory xs h.1)
+
+own_text : {all : List PlayedLine} {first : Session} (script : List ℕ) → ArePlayed all (lines_of script) first
+    → HadMemory all → text_from 1 all first ≡ text script first
+own_text {all = all} {first = first} script played had =
+    ap (λ lines. text_from 1 lines first) (had_memory all had ∙ ap with_memory played.each)
+
+pub text_without_memory : {all : List PlayedLine} {first : Session} (old new : Option (List ℕ)) (script : List ℕ)
+    → ArePlayed all (lines_of script) first → Appends old new (text_from 1 all first) → TakesNoMemory script
+    → Appends old new (text script first)
+text_without_memory {all = all} {first = first} old new script played written none =
+    let took = took_none all first played.allowed (rw (played.each) none) in
+    subst (Appends old new) (own_text script played took) written
+
+pub text_with_memory : {all : List PlayedLine} {first : Session} (old new : Option (List ℕ)) (script other : List ℕ)
+    → ArePlayed all (lines_of script) first → Appends old new (text_from 1 all first)
+    → Appends old new other → (SaysMemory other → ⊥) → Appends old new (text script first)
+text_with_memory None new script other played written same none = tt
+text_with_memory (Some x) None script other played written same none = absurd written
+text_with_memory {all = all} {first = first} (Some x) (Some y) script other played written same none =
+    let e : text_from 1 all first ≡ other = append_cancel_left x _ _ (sym written ∙ same) in
+    let had = said_none 1 all first played.allowed (λ h. none (subst SaysMemory e h)) in
+    written ∙ ap (λ l. x ++ l) (own_text script played had)

@@ -1,0 +1,50 @@
+-- The texts of answers.
+use Rattle.std.specs.Prelude.{◌≡◌, ℕ, Bool, if◌then◌else◌, List, ◌++◌, codes, Option, Result, IfOk}
+use Rattle.em_step.specs.declared.event.Answer.{Answer}
+use Rattle.em_step.specs.declared.event.Answer.TheVariants as answer
+use Rattle.em_step.specs.declared.event.Refusal.{Refusal}
+use Rattle.em_step.specs.declared.event.Refusal.TheVariants.{NoRegister, Range, Length, DmaRange, Extended, TooLong}
+use Rattle.em_step.specs.declared.event.Refusal.TheVariants.{Memory}
+use Rattle.em_text.specs.Writer.{Writes, value_text, decimal_line_text}
+use Rattle.em_text.specs.declared.writer.WriteFailed.{WriteFailed}
+use Rattle.em_script.specs.declared.outcome.Outcome.{Outcome}
+
+abbrev pub done_text : List ℕ
+done_text = codes "ok\n"
+
+abbrev pub bit_text : Bool → List ℕ
+bit_text bit = if bit then codes "1\n" else codes "0\n"
+
+abbrev pub back_text : ℕ → List ℕ
+back_text count = codes "back " ++ decimal_line_text count
+
+abbrev pub bad_line_text : ℕ → List ℕ
+bad_line_text number = codes "bad line " ++ decimal_line_text number
+
+-- what a performed event prints
+abbrev pub answer_text : Answer → List ℕ
+answer_text answer.Done = done_text
+answer_text (answer.Value value) = value_text value
+
+-- what is refused prints its name
+abbrev pub named_refusal_text : List ℕ → List ℕ
+named_refusal_text name = codes "refused " ++ name ++ codes "\n"
+
+abbrev pub refusal_text : Refusal → List ℕ
+refusal_text NoRegister = named_refusal_text (codes "NoRegister")
+refusal_text Range = named_refusal_text (codes "Range")
+refusal_text Length = named_refusal_text (codes "Length")
+refusal_text DmaRange = named_refusal_text (codes "DmaRange")
+refusal_text Extended = named_refusal_text (codes "Extended")
+refusal_text TooLong = named_refusal_text (codes "TooLong")
+refusal_text Memory = named_refusal_text (codes "Memory")
+
+-- of a step back where the journal is empty
+abbrev pub empty_text : List ℕ
+empty_text = named_refusal_text (codes "Empty")
+
+-- the text was written, or a front of it where the writer failed; with the text whole, the line came out so
+pub record Prints (text : List ℕ) (outcome : Outcome) (old new : Option (List ℕ)) (result : Result Outcome WriteFailed)
+    : Type 0 where
+  pub written : Writes old new result text
+  pub ended : IfOk result (λ o. o ≡ outcome)

@@ -1,0 +1,162 @@
+-- What a command prints, how its line counts, what it leaves, and which calls it makes.
+use Rattle.std.specs.Prelude.{◌≡◌, ℕ, ◌+◌, ◌==◌, Bool, false, not, nat_lt, min, if◌then◌else◌, List, [], ◌∷◌, length}
+use Rattle.std.specs.Prelude.{replicate, bit_and, Option, Some, None, Result, Ok, Err, IsOk, IsTrue}
+use Rattle.em_mem.specs.Memory.{part}
+use Rattle.em_latch.specs.Latches.{causes, mask}
+use Rattle.em_step.specs.State.{State}
+use Rattle.em_step.specs.Event.{Event}
+use Rattle.em_step.specs.Step.{step, takes_memory}
+use Rattle.em_step.specs.Cost.{cost}
+use Rattle.em_step.specs.declared.event.Answer.{Answer}
+use Rattle.em_step.specs.declared.event.Refusal.{Refusal}
+use Rattle.em_step.specs.declared.event.Refusal.TheVariants.{Range, Memory}
+use Rattle.em_journal.specs.View.{after_event, after_back, after_backs}
+use Rattle.em_journal.specs.History.{Call, performs, refuses, goes_back, is_empty, after_step}
+use Rattle.em_text.specs.Writer.{hex_line_text}
+use Rattle.em_text.specs.declared.writer.WriteFailed.{WriteFailed}
+use Rattle.em_script.specs.declared.outcome.Outcome.{Outcome}
+use Rattle.em_script.specs.declared.outcome.Outcome.TheVariants as outcome
+use Rattle.em_script.specs.Session.{Session}
+use Rattle.em_script.specs.Command.{Command, event, peek, interrupt_line, back, back_by, registers}
+use Rattle.em_script.specs.ParsedLine.{ParsedLine, silent, bad, says}
+use Rattle.em_script.specs.Output.{done_text, bit_text, back_text, bad_line_text, answer_text, refusal_text, empty_text}
+use Rattle.em_script.specs.Output.{Prints}
+use Rattle.em_script.specs.Registers.{registers_text}
+
+-- ---- the calls
+
+-- an event, by its step
+abbrev pub step_call : Event → Result (Answer × State) Refusal → Call
+step_call e (Ok r) = performs e r.0
+step_call e (Err refusal) = refuses e refusal
+
+-- an event, by whether memory was refused to it
+abbrev pub event_call : Option ℕ → Event → Session → Call
+event_call None e session = step_call e (step session.present e)
+event_call (Some events) e session = refuses e Memory
+
+-- a step back, by the states that there are to go back to
+abbrev pub back_call : List State → Call
+back_call [] = is_empty
+back_call (s ∷ older) = goes_back
+
+-- those that a command makes, by whether memory was refused, and after how many of its events
+abbrev pub calls_of : Option ℕ → Command → Session → List Call
+calls_of memory (event e) session = event_call memory e session ∷ []
+calls_of memory back session = back_call session.past ∷ []
+calls_of memory (back_by most) session = replicate (min most (length session.past)) goes_back
+calls_of memory _ session = []
+
+-- ---- replies
+
+pub record Reply : Type 0 where
+  pub text : List ℕ
+  pub outcome : Outcome
+  pub session : Session
+
+-- what was asked for was done
+abbrev pub done_reply : List ℕ → Session → Reply
+done_reply text session = record { text = text; outcome = outcome.Done; session = session }
+
+-- what was refused changed nothing
+abbrev pub refusal_reply : List ℕ → Session → Reply
+refusal_reply text session = record { text = text; outcome = outcome.Refused; session = session }
+
+-- to a single call: a performed event prints its answer
+abbrev pub call_reply : Call → Session → Reply
+call_reply (performs e answer) session =
+    let s = session.present in
+    done_reply (answer_text answer) (after_event session (after_step s (step s e)) (cost s e))
+call_reply (refuses e refusal) session = refusal_reply (refusal_text refusal) session
+call_reply goes_back session = done_reply done_text (after_back session)
+call_reply is_empty session = refusal_reply empty_text session
+
+-- to a look at n octets of memory, from an address on
+abbrev pub peek_reply : ℕ → ℕ → Session → Reply
+peek_reply addr n session =
+    if nat_lt (length session.present.memory) (addr + n) then refusal_reply (refusal_text Range) session
+    else done_reply (hex_line_text (part session.present.memory addr n)) session
+
+-- to a look at the interrupt line
+abbrev pub interrupt_line_reply : Session → Reply
+interrupt_line_reply session =
+    let latches = session.present.latches in
+    done_reply (bit_text (not (bit_and (causes latches) (mask latches) == 0))) session
+
+-- to a look at the registers
+abbrev pub registers_reply : Session → Reply
+registers_reply session = done_reply (registers_text session.present) session
+
+-- to steps back: as many are taken as can be, at most so many
+abbrev pub back_by_reply : ℕ → Session → Reply
+back_by_reply most session =
+    done_reply (back_text (min most (length session.past))) (after_backs most session)
+
+-- to a command, by whether memory was refused, and after how many of its events
+abbrev pub reply : Option ℕ → Command → Session → Reply
+reply memory (event e) session = call_reply (event_call memory e session) session
+reply memory (peek addr n) session = peek_reply addr n session
+reply memory interrupt_line session = interrupt_line_reply session
+reply memory back session = call_reply (back_call session.past) session
+reply memory (back_by most) session = back_by_reply most session
+reply memory registers session = registers_reply session
+
+-- ---- memory
+
+-- the commands that take memory
+abbrev pub command_takes_memory : Command → Bool
+command_takes_memory (event e) = takes_memory e
+command_takes_memory _ = false
+
+-- a command can be refused for memory before its event, which nothing else refuses
+abbrev pub MayBeRefused : ℕ → Command → Session → Type 0
+MayBeRefused events (event e) session = (events ≡ 0) × IsTrue (takes_memory e) × IsOk (step session.present e)
+MayBeRefused events _ session = ⊥
+
+-- ---- what a line says, by whether memory was refused to it, and after how many of its events
+
+-- what it prints, where it has this number
+abbrev pub line_text : ℕ → Option ℕ → ParsedLine → Session → List ℕ
+line_text number memory silent session = []
+line_text number memory bad session = bad_line_text number
+line_text number memory (says command) session = (reply memory command session).text
+
+abbrev pub line_outcome : Option ℕ → ParsedLine → Session → Outcome
+line_outcome memory silent session = outcome.Silent
+line_outcome memory bad session = outcome.Bad
+line_outcome memory (says command) session = (reply memory command session).outcome
+
+abbrev pub after_line : Option ℕ → ParsedLine → Session → Session
+after_line memory (says command) session = (reply memory command session).session
+after_line memory _ session = session
+
+-- the calls that it makes
+abbrev pub line_calls : Option ℕ → ParsedLine → Session → List Call
+line_calls memory (says command) session = calls_of memory command session
+line_calls memory _ session = []
+
+abbrev pub line_takes_memory : ParsedLine → Bool
+line_takes_memory (says command) = command_takes_memory command
+line_takes_memory _ = false
+
+-- memory is refused only to what takes memory and is refused for nothing else
+abbrev pub IsAllowed : Option ℕ → ParsedLine → Session → Type 0
+IsAllowed None parsed session = Unit {0}
+IsAllowed (Some events) (says command) session = MayBeRefused events command session
+IsAllowed (Some events) _ session = ⊥
+
+-- ---- what a call does
+
+-- the reply was printed, and its session is left
+pub record Gives (r : Reply) (now : Session) (old new : Option (List ℕ)) (result : Result Outcome WriteFailed)
+    : Type 0 where
+  pub prints : Prints r.text r.outcome old new result
+  pub session : now ≡ r.session
+
+-- what the line of this number says was done, and its text printed
+pub record Performs (number : ℕ) (parsed : ParsedLine) (first now : Session) (old new : Option (List ℕ))
+    (result : Result Outcome WriteFailed) : Type 0 where
+  pub memory : Option ℕ
+  pub allowed : IsAllowed memory parsed first
+  pub prints : Prints (line_text number memory parsed first) (line_outcome memory parsed first) old new result
+  pub session : now ≡ after_line memory parsed first

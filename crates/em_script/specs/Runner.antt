@@ -1,0 +1,85 @@
+-- What a whole script prints, counts and leaves.
+use Rattle.std.specs.Prelude.{◌≡◌, ℕ, ◌+◌, ◌<◌, ◌≤◌, false, List, ◌∷◌, ◌++◌, length, take, codes, Option, IsTrue}
+use Rattle.std.specs.List.{AllByRecursion}
+use Rattle.std.specs.Io.KnownBytes.{Appends, Consumes, IsAtEnd}
+use Rattle.em_step.specs.State.{State}
+use Rattle.em_journal.specs.History.{Call, Run, Leads, state, kept_events}
+use Rattle.em_text.specs.Lines.{lines_of}
+use Rattle.em_text.specs.Reader.{most_script}
+use Rattle.em_script.specs.declared.summary.Summary.{Summary}
+use Rattle.em_script.specs.declared.runner.BenchFault.{BenchFault}
+use Rattle.em_script.specs.declared.runner.BenchFault.TheVariants.{Read, Write, TooLarge, Memory}
+use Rattle.em_script.specs.Session.{Session}
+use Rattle.em_script.specs.ParsedLine.{brings_octets}
+use Rattle.em_script.specs.Grammar.{parsed_line}
+use Rattle.em_script.specs.Reply.{line_takes_memory}
+use Rattle.em_script.specs.PlayedLine.{PlayedLine, played_text, after_played, IsAllowed, text_from, after_all, outcomes}
+use Rattle.em_script.specs.PlayedLine.{ArePlayed, with_memory, calls}
+use Rattle.em_script.specs.Summary.{counts}
+
+-- what a script prints where memory is refused nowhere
+abbrev pub text : List ℕ → Session → List ℕ
+text script session = text_from 1 (with_memory (lines_of script)) session
+
+-- no line of the script takes memory
+abbrev pub TakesNoMemory : List ℕ → Type 0
+TakesNoMemory script = AllByRecursion (λ line. line_takes_memory (parsed_line line) ≡ false) (lines_of script)
+
+-- a line of a text that was written ends in ` Memory`
+abbrev pub SaysMemory : List ℕ → Type 0
+SaysMemory written = (before behind : List ℕ) × (written ≡ before ++ codes " Memory\n" ++ behind)
+
+-- the reader gave this script, which is not too large, and came to its end
+abbrev pub ReadsWhole : Option (List ℕ) → Option (List ℕ) → List ℕ → Type 0
+ReadsWhole old new script = Consumes old new script × IsAtEnd new × (length script ≤ most_script)
+
+-- the state that a session shows is that which all events lead to that were performed since its machine was new, and
+-- not taken back
+abbrev pub IsFold : List PlayedLine → Session → Session → Type 0
+IsFold all first now =
+    (budget : ℕ) (s : State) (before : List Call) → Leads budget s before first
+    → now.present ≡ state s (kept_events (before ++ calls all first))
+
+-- the script was played: its text was written, its lines were counted, and its commands' calls were made
+pub record Answers (script : List ℕ) (first now : Session) (old new : Option (List ℕ)) (summary : Summary)
+    : Type 0 where
+  pub all : List PlayedLine
+  pub played : ArePlayed all (lines_of script) first
+  pub written : Appends old new (text_from 1 all first)
+  pub session : now ≡ after_all all first
+  pub count : summary ≡ counts (outcomes all first)
+  pub run : Run first (calls all first) now
+  pub fold : IsFold all first now
+
+-- the text of one line was written in part: that of the lines before it is written, and what the line did stands
+pub record FailsInLine (script : List ℕ) (first now : Session) (old new : Option (List ℕ)) : Type 0 where
+  pub before : List PlayedLine
+  pub failed : PlayedLine
+  pub done : List (List ℕ)
+  pub behind : List (List ℕ)
+  pub lines : lines_of script ≡ done ++ failed.line ∷ behind
+  pub played : ArePlayed before done first
+  pub allowed : IsAllowed failed (after_all before first)
+  pub session : now ≡ after_played failed (after_all before first)
+  pub octets : ℕ
+  pub part : octets < length (played_text (length before + 1) failed (after_all before first))
+  pub written : Appends old new (text_from 1 before first
+      ++ take octets (played_text (length before + 1) failed (after_all before first)))
+
+-- the memory for a line's octets was refused: the lines before it are played and their text is written, and no more
+pub record StopsBeforeLine (script : List ℕ) (first now : Session) (old new : Option (List ℕ)) : Type 0 where
+  pub before : List PlayedLine
+  pub line : List ℕ
+  pub done : List (List ℕ)
+  pub behind : List (List ℕ)
+  pub lines : lines_of script ≡ done ++ line ∷ behind
+  pub octets : IsTrue (brings_octets (parsed_line line))
+  pub played : ArePlayed before done first
+  pub session : now ≡ after_all before first
+  pub written : Appends old new (text_from 1 before first)
+
+-- what a fault between the lines of a script leaves
+abbrev pub StopsInScript : List ℕ → Session → Session → Option (List ℕ) → Option (List ℕ) → BenchFault → Type 0
+StopsInScript script first now old new Memory = StopsBeforeLine script first now old new
+StopsInScript script first now old new Write = FailsInLine script first now old new
+StopsInScript script first now old new _ = ⊥

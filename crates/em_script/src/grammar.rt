@@ -1,0 +1,226 @@
+//! What a line says.
+ghost use Rattle.std.specs.Prelude.{◌≡◌, ◌≤◌, IfOk, IfSome, OnErr, IsSome, IsTrue};
+ghost use Rattle.em_step.specs.Event.{pokes};
+ghost use Rattle.em_text.specs.Numbers.{octets_of};
+ghost use Rattle.em_script.specs.Arguments.{plain as plain_arguments};
+ghost use Rattle.em_script.specs.Command.{event};
+ghost use Rattle.em_script.specs.ParsedLine.{plain, says, brings_octets};
+ghost use Rattle.em_script.specs.Grammar.{parsed_line, with, command_form, read_form, write_form, poke_form};
+ghost use Rattle.em_script.specs.Grammar.{peek_form, interrupt_line_form, back_form, link_form, registers_form};
+ghost use Rattle.em_script.specs.Grammar.{way_of, count_to, is_comment};
+
+use crate::arguments::{Arguments, arguments_of};
+use crate::command::Command;
+use crate::parsed_line::ParsedLine;
+use crate::peek_len::{MOST_PEEK, PeekLen};
+use em_step::Event;
+use em_text::{Words, decimal_number, hex_address, hex_number, octets_into};
+use std::alloc::AllocError;
+
+/// What a comment begins with.
+const HASH: u8 = b'#';
+
+/// The most events that one `back` takes back.
+const MOST_BACK: u32 = 65_536;
+
+/// What a line says. The octets that it writes to guest memory are left in `octets`, which alone
+/// takes memory.
+#[tactic(auto, unfolding(crate::specs::Grammar::parsed_line))]
+pub fn parse_line<'a>(line: &[u8], octets: &'a mut Vec<u8>) -> Result<ParsedLine<'a>, AllocError>
+    ensures value { IfOk result (λ parsed. plain parsed ≡ parsed_line line.now) }
+    ensures memory { OnErr result (IsTrue (brings_octets (parsed_line line.now))) }
+{
+    let mut words = Words(line);
+    let Some(first) = words.next() else {
+        return Ok(ParsedLine::Silent);
+    };
+    if is_comment(first) {
+        return Ok(ParsedLine::Silent);
+    }
+    command_form(first, arguments_of(words), octets)
+}
+
+fn is_comment(word: &[u8]) -> bool
+    ensures { result ≡ is_comment word.now }
+{
+    matches!(word, [HASH, ..])
+}
+
+fn command_form<'a>(
+    name: &[u8],
+    arguments: Arguments<'_>,
+    octets: &'a mut Vec<u8>,
+) -> Result<ParsedLine<'a>, AllocError>
+    ensures value { IfOk result (λ parsed. plain parsed ≡ command_form name.now (plain_arguments arguments.entry)) }
+    ensures memory { OnErr result (IsTrue (brings_octets (command_form name.now (plain_arguments arguments.entry)))) }
+{
+    if name == b"r".as_slice() {
+        return Ok(read_form(arguments));
+    }
+    if name == b"w".as_slice() {
+        return Ok(write_form(arguments));
+    }
+    if name == b"poke".as_slice() {
+        return poke_form(arguments, octets);
+    }
+    if name == b"peek".as_slice() {
+        return Ok(peek_form(arguments));
+    }
+    if name == b"line".as_slice() {
+        return Ok(interrupt_line_form(arguments));
+    }
+    if name == b"back".as_slice() {
+        return Ok(back_form(arguments));
+    }
+    if name == b"link".as_slice() {
+        return Ok(link_form(arguments));
+    }
+    if name == b"regs".as_slice() {
+        return Ok(registers_form(arguments));
+    }
+    Ok(ParsedLine::Bad)
+}
+
+fn read_form(arguments: Arguments<'_>) -> ParsedLine<'static>
+    ensures { plain result ≡ read_form (plain_arguments arguments.entry) }
+{
+    match arguments {
+        Arguments::One(offset) => match hex_number(offset) {
+            Some(offset) => ParsedLine::Command(Command::Event(Event::Read(offset))),
+            None => ParsedLine::Bad,
+        },
+        _ => ParsedLine::Bad,
+    }
+}
+
+fn write_form(arguments: Arguments<'_>) -> ParsedLine<'static>
+    ensures { plain result ≡ write_form (plain_arguments arguments.entry) }
+{
+    match arguments {
+        Arguments::Two(offset, value) => match (hex_number(offset), hex_number(value)) {
+            (Some(offset), Some(value)) => ParsedLine::Command(Command::Event(Event::Write(
+                offset, value,
+            ))),
+            _ => ParsedLine::Bad,
+        },
+        _ => ParsedLine::Bad,
+    }
+}
+
+fn poke_form<'a>(
+    arguments: Arguments<'_>,
+    octets: &'a mut Vec<u8>,
+) -> Result<ParsedLine<'a>, AllocError>
+    ensures value { IfOk result (λ parsed. plain parsed ≡ poke_form (plain_arguments arguments.entry)) }
+    ensures memory { OnErr result (IsTrue (brings_octets (poke_form (plain_arguments arguments.entry)))) }
+{
+    match arguments {
+        Arguments::Two(addr, digits) => match hex_address(addr) {
+            Some(addr) => poke_at(addr, digits, octets),
+            None => Ok(ParsedLine::Bad),
+        },
+        _ => Ok(ParsedLine::Bad),
+    }
+}
+
+/// A memory write at the address, if its octets are digits.
+fn poke_at<'a>(
+    addr: u64,
+    digits: &[u8],
+    octets: &'a mut Vec<u8>,
+) -> Result<ParsedLine<'a>, AllocError>
+    ensures value { IfOk result (λ parsed.
+        plain parsed ≡ with (octets_of digits.now) (λ written. says (event (pokes addr written)))) }
+    ensures memory { OnErr result (IsSome (octets_of digits.now)) }
+{
+    if octets_into(octets, digits)? {
+        Ok(ParsedLine::Command(Command::Event(Event::Poke(addr, octets.as_slice()))))
+    } else {
+        Ok(ParsedLine::Bad)
+    }
+}
+
+fn peek_form(arguments: Arguments<'_>) -> ParsedLine<'static>
+    ensures { plain result ≡ peek_form (plain_arguments arguments.entry) }
+{
+    match arguments {
+        Arguments::Two(addr, len) => match (hex_address(addr), count_to(MOST_PEEK as u32, len)) {
+            (Some(addr), Some(len)) => ParsedLine::Command(Command::Peek(
+                addr,
+                PeekLen {
+                    octets: len as usize,
+                },
+            )),
+            _ => ParsedLine::Bad,
+        },
+        _ => ParsedLine::Bad,
+    }
+}
+
+fn interrupt_line_form(arguments: Arguments<'_>) -> ParsedLine<'static>
+    ensures { plain result ≡ interrupt_line_form (plain_arguments arguments.entry) }
+{
+    match arguments {
+        Arguments::Zero => ParsedLine::Command(Command::InterruptLine),
+        _ => ParsedLine::Bad,
+    }
+}
+
+fn back_form(arguments: Arguments<'_>) -> ParsedLine<'static>
+    ensures { plain result ≡ back_form (plain_arguments arguments.entry) }
+{
+    match arguments {
+        Arguments::Zero => ParsedLine::Command(Command::Back),
+        Arguments::One(count) => match count_to(MOST_BACK, count) {
+            Some(count) => ParsedLine::Command(Command::BackBy(count)),
+            None => ParsedLine::Bad,
+        },
+        _ => ParsedLine::Bad,
+    }
+}
+
+fn link_form(arguments: Arguments<'_>) -> ParsedLine<'static>
+    ensures { plain result ≡ link_form (plain_arguments arguments.entry) }
+{
+    match arguments {
+        Arguments::One(way) => match way_of(way) {
+            Some(up) => ParsedLine::Command(Command::Event(Event::Link(up))),
+            None => ParsedLine::Bad,
+        },
+        _ => ParsedLine::Bad,
+    }
+}
+
+fn registers_form(arguments: Arguments<'_>) -> ParsedLine<'static>
+    ensures { plain result ≡ registers_form (plain_arguments arguments.entry) }
+{
+    match arguments {
+        Arguments::Zero => ParsedLine::Command(Command::Registers),
+        _ => ParsedLine::Bad,
+    }
+}
+
+/// Whether the link goes up, if the word says which way it goes.
+fn way_of(word: &[u8]) -> Option<bool>
+    ensures { result ≡ way_of word.now }
+{
+    if word == b"up".as_slice() {
+        return Some(true);
+    }
+    if word == b"down".as_slice() {
+        return Some(false);
+    }
+    None
+}
+
+/// The number from 1 to `most` that decimal digits write.
+fn count_to(most: u32, word: &[u8]) -> Option<u32>
+    ensures value { result ≡ count_to most word.now }
+    ensures bound { IfSome result (λ count. count ≤ most) }
+{
+    let count = decimal_number(word)?;
+    if count == 0 || count > most {
+        return None;
+    }
+    Some(count)
+}

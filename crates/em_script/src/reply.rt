@@ -1,0 +1,128 @@
+//! Doing what a line says, and writing its answer.
+ghost use Rattle.std.specs.Prelude.{ℕ};
+ghost use Rattle.em_step.specs.Event.{plain as plain_event};
+ghost use Rattle.em_script.specs.Command.{plain as plain_command, event as event_command};
+ghost use Rattle.em_script.specs.ParsedLine.{plain, says};
+ghost use Rattle.em_script.specs.Reply.{peek_reply, interrupt_line_reply, registers_reply, back_call, call_reply};
+ghost use Rattle.em_script.specs.Reply.{back_by_reply, Gives, Performs};
+
+use crate::command::Command;
+use crate::outcome::Outcome;
+use crate::output::{
+    write_answer, write_back, write_bad_line, write_bit, write_done, write_empty, write_octets,
+    write_refusal,
+};
+use crate::parsed_line::ParsedLine;
+use crate::peek_len::{MOST_PEEK, PeekLen};
+use crate::registers::write_registers;
+use em_journal::{Empty, Machine};
+use em_step::Event;
+use em_text::WriteFailed;
+use std::io::Write;
+
+/// Does what the line of a number says, and writes its answer.
+///
+/// `room` is for the octets that a look at guest memory shows.
+pub fn reply<W: Write>(
+    writer: &mut W,
+    machine: &mut Machine,
+    number: u32,
+    line: ParsedLine<'_>,
+    room: &mut [u8; MOST_PEEK],
+) -> Result<Outcome, WriteFailed>
+    ensures { Performs number (plain line.entry)
+        machine.old machine.new (W.contents writer.old) (W.contents writer.new) result }
+{
+    match line {
+        ParsedLine::Silent => Ok(Outcome::Silent),
+        ParsedLine::Bad => write_bad_line(writer, number),
+        ParsedLine::Command(command) => perform(writer, machine, command, room),
+    }
+}
+
+fn perform<W: Write>(
+    writer: &mut W,
+    machine: &mut Machine,
+    command: Command<'_>,
+    room: &mut [u8; MOST_PEEK],
+) -> Result<Outcome, WriteFailed>
+    ensures { (number : ℕ) → Performs number (says (plain_command command.entry))
+        machine.old machine.new (W.contents writer.old) (W.contents writer.new) result }
+{
+    match command {
+        Command::Event(event) => perform_event(writer, machine, event),
+        Command::Peek(addr, len) => peek(writer, machine, addr, len, room),
+        Command::InterruptLine => interrupt_line(writer, machine),
+        Command::Back => back(writer, machine),
+        Command::BackBy(most) => back_by(writer, machine, most),
+        Command::Registers => registers(writer, machine),
+    }
+}
+
+fn perform_event<W: Write>(
+    writer: &mut W,
+    machine: &mut Machine,
+    event: Event<'_>,
+) -> Result<Outcome, WriteFailed>
+    ensures { (number : ℕ) → Performs number (says (event_command (plain_event event.entry)))
+        machine.old machine.new (W.contents writer.old) (W.contents writer.new) result }
+{
+    match machine.perform(event) {
+        Ok(answer) => write_answer(writer, answer),
+        Err(refusal) => write_refusal(writer, refusal),
+    }
+}
+
+fn peek<W: Write>(
+    writer: &mut W,
+    machine: &Machine,
+    addr: u64,
+    len: PeekLen,
+    room: &mut [u8; MOST_PEEK],
+) -> Result<Outcome, WriteFailed>
+    ensures { Gives (peek_reply addr len.octets machine.now)
+        machine.now (W.contents writer.old) (W.contents writer.new) result }
+{
+    let octets = &mut room[..len.octets];
+    match machine.peek(addr, octets) {
+        Ok(()) => write_octets(writer, octets),
+        Err(refusal) => write_refusal(writer, refusal),
+    }
+}
+
+fn interrupt_line<W: Write>(writer: &mut W, machine: &Machine) -> Result<Outcome, WriteFailed>
+    ensures { Gives (interrupt_line_reply machine.now)
+        machine.now (W.contents writer.old) (W.contents writer.new) result }
+{
+    write_bit(writer, machine.line())
+}
+
+fn registers<W: Write>(writer: &mut W, machine: &Machine) -> Result<Outcome, WriteFailed>
+    ensures { Gives (registers_reply machine.now)
+        machine.now (W.contents writer.old) (W.contents writer.new) result }
+{
+    write_registers(writer, machine)?;
+    Ok(Outcome::Done)
+}
+
+fn back<W: Write>(writer: &mut W, machine: &mut Machine) -> Result<Outcome, WriteFailed>
+    ensures { Gives (call_reply (back_call machine.old.past) machine.old)
+        machine.new (W.contents writer.old) (W.contents writer.new) result }
+{
+    match machine.back() {
+        Ok(()) => write_done(writer),
+        Err(Empty) => write_empty(writer),
+    }
+}
+
+fn back_by<W: Write>(
+    writer: &mut W,
+    machine: &mut Machine,
+    most: u32,
+) -> Result<Outcome, WriteFailed>
+    ensures { Gives (back_by_reply most machine.old)
+        machine.new (W.contents writer.old) (W.contents writer.new) result }
+{
+    let count = machine.back_by(most as usize);
+    write_back(writer, count as u32)
+}

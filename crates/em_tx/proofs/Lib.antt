@@ -1,0 +1,4 @@
+pub mod FrameLaws
+pub mod CostLaws
+pub mod ReverseLaws
+pub mod EngineLaws

@@ -1,0 +1,87 @@
+-- One step of the transmit engine.
+use Rattle.std.specs.Prelude.{◌≡◌, ◌⊎◌, ◌≤◌, ◌<◌, ℕ, ◌+◌, ◌&&◌, nat_lt, not, Bool, List, [], ◌∷◌, ◌++◌, length, if◌then◌else◌, Option, Some, None, Result, Ok, Err, IsOk, IsTrue}
+use Rattle.em_mem.specs.Memory.{IsHeld, part, put}
+use Rattle.em_regs.specs.declared.setup.TxSetup.{TxSetup}
+use Rattle.em_tx.specs.declared.answer.TxAnswer.{TxAnswer}
+use Rattle.em_tx.specs.declared.answer.TxAnswer.TheVariants.{Idle, Fetched, Sent}
+use Rattle.em_tx.specs.declared.refusal.TxRefusal.{TxRefusal}
+use Rattle.em_tx.specs.declared.refusal.TxRefusal.TheVariants.{DmaRange, Extended, TooLong, Memory}
+use Rattle.em_tx.specs.Cells.{Shown}
+use Rattle.em_tx.specs.Descriptor.{address, length_of, eop, rs, dext}
+use Rattle.em_tx.specs.Frame.{frame, frame_len, kind_sent}
+use Rattle.em_tx.specs.Ring.{is_idle, place, next, causes}
+
+-- the first cause that refuses the descriptor d, over gathered octets and memory; of a length of 0 the address is not
+-- looked at
+unfoldable pub refusal : List ℕ → List ℕ → List ℕ → Option TxRefusal
+refusal g m d =
+    if dext d then Some Extended
+    else if nat_lt 16380 (length g + length_of d) then Some TooLong
+    else if nat_lt 0 (length_of d) && nat_lt (length m) (address d + length_of d) then Some DmaRange
+    else None
+
+-- a descriptor with no cause of a refusal
+pub record Allows (g m d : List ℕ) : Type 0 where
+  pub few : length g + length_of d ≤ 16380
+  pub held : 0 < length_of d → IsHeld m (address d) (length_of d)
+
+-- the gathered octets, and after them those of the descriptor's buffer
+abbrev pub gather : Shown → List ℕ → List ℕ
+gather s d = s.gathered ++ part s.memory (address d) (length_of d)
+
+-- the memory, where RS asks for it with DD alone in the descriptor's status octet
+abbrev pub report : ℕ → List ℕ → List ℕ → List ℕ
+report at d m = if rs d then put m (at + 12) (1 ∷ []) else m
+
+-- with EOP a frame is sent of n gathered octets, if there are any
+abbrev pub sends : List ℕ → ℕ → Bool
+sends d n = eop d && nat_lt 0 n
+
+-- the octets stay gathered
+abbrev pub fetch : TxSetup → List ℕ → Shown → List ℕ → TxAnswer × Shown
+fetch q d s octets =
+    (Fetched q.head (next q) (causes q d), record { gathered = octets; wire = s.wire; memory = report (place q) d s.memory })
+
+-- a frame goes last to the wire, and nothing is gathered
+abbrev pub send : TxSetup → List ℕ → Shown → List ℕ → TxAnswer × Shown
+send q d s f = (
+  Sent q.head (next q) (causes q d) (length f) (kind_sent f),
+  record { gathered = []; wire = s.wire ++ f ∷ []; memory = report (place q) d s.memory },
+)
+
+-- the descriptor d is handled
+unfoldable pub handle : TxSetup → List ℕ → Shown → TxAnswer × Shown
+handle q d s =
+    let octets = gather s d in
+    if sends d (length octets) then send q d s (frame q d octets) else fetch q d s octets
+
+-- so many octets are gathered at most, tag and padding of a frame among them
+abbrev pub room : TxSetup → List ℕ → ℕ → ℕ
+room q d n = if sends d n then frame_len q d n else n
+
+-- the refusal, or else the value
+abbrev pub unless : {A : Type 0} → Option TxRefusal → A → Result A TxRefusal
+unless None x = Ok x
+unless (Some refused) x = Err refused
+
+-- the answer and what is shown next, or the first cause of a refusal
+unfoldable pub transmit : TxSetup → Shown → Result (TxAnswer × Shown) TxRefusal
+transmit q s =
+    if is_idle q then Ok (Idle, s)
+    else if nat_lt (length s.memory) (place q + 16) then Err DmaRange
+    else let d = part s.memory (place q) 16 in unless (refusal s.gathered s.memory d) (handle q d s)
+
+-- what refuses a step: its first cause, or, where it has none and is not idle, the want of memory
+abbrev pub Refuses : TxSetup → Shown → TxRefusal → Type 0
+Refuses q s refused =
+    ((refused ≡ Memory) × IsTrue (not (is_idle q)) × IsOk (transmit q s)) ⊎ (transmit q s ≡ Err refused)
+
+-- what the handling of the descriptor d costs beyond the least
+abbrev pub handling_cost : TxSetup → List ℕ → Shown → ℕ
+handling_cost q d s =
+    let octets = gather s d in
+    length_of d + (if rs d then 1 else 0) + (if sends d (length octets) then length (frame q d octets) else 0)
+
+-- what a step that is not refused costs beyond the least
+abbrev pub cost : TxSetup → Shown → ℕ
+cost q s = if is_idle q then 0 else handling_cost q (part s.memory (place q) 16) s

@@ -1,0 +1,9 @@
+pub mod Refusal
+pub mod Descriptor
+pub mod Ring
+pub mod Frame
+pub mod Wire
+pub mod Cells
+pub mod Transfer
+pub mod Undo
+pub mod Engine

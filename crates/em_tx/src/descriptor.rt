@@ -1,0 +1,140 @@
+//! The transmit descriptor (manual, chapter on transmit description, legacy format).
+ghost use Rattle.std.specs.Prelude.{◌≡◌, slice_index};
+ghost use Rattle.em_tx.specs.Descriptor.{address, dext, eop, length_of, rs, special, vle};
+
+use byteorder::{ByteOrder, LittleEndian};
+use std::marker::Model;
+
+/// How many octets a descriptor has.
+pub(crate) const DESCRIPTOR_OCTETS: usize = 16;
+
+/// Where its fields lie.
+const LENGTH: usize = 8;
+
+const CSO: usize = 10;
+
+const COMMAND: usize = 11;
+
+pub(crate) const STATUS: usize = 12;
+
+const CSS: usize = 13;
+
+const SPECIAL: usize = 14;
+
+/// The bits of CMD that have an effect.
+const EOP: u8 = 0;
+
+const RS: u8 = 3;
+
+const DEXT: u8 = 5;
+
+const VLE: u8 = 6;
+
+/// A descriptor of the transmit ring, as software wrote it. Clauses see its octets.
+#[derive(Clone, Copy, PartialEq, Eq, Debug)]
+pub struct TxDescriptor {
+    octets: [u8; DESCRIPTOR_OCTETS],
+}
+
+impl Model for TxDescriptor {
+    ghost use Rattle.std.specs.Prelude.{List, ℕ};
+
+    ghost Value = { List ℕ };
+
+    ghost view = { λ descriptor. descriptor.octets };
+
+    ghost inverse = { λ octets. record { octets = octets } };
+}
+
+impl TxDescriptor {
+    /// The descriptor of these octets.
+    pub fn of_octets(octets: [u8; 16]) -> TxDescriptor
+        ensures { result ≡ octets }
+    {
+        TxDescriptor { octets }
+    }
+
+    /// The address of the buffer.
+    #[tactic(auto, unfolding(crate::specs::Descriptor::address))]
+    pub fn address(&self) -> u64
+        ensures { result ≡ address self.now }
+    {
+        LittleEndian::read_u64(&self.octets)
+    }
+
+    /// How many octets the buffer has.
+    #[tactic(auto, unfolding(crate::specs::Descriptor::length_of))]
+    pub fn length(&self) -> u16
+        ensures { result ≡ length_of self.now }
+    {
+        LittleEndian::read_u16(&self.octets[LENGTH..])
+    }
+
+    /// CSO, where a checksum would go. It has no effect (this project's profile).
+    pub fn cso(&self) -> u8
+        ensures { result ≡ slice_index self.now 10 }
+    {
+        self.octets[CSO]
+    }
+
+    /// CMD, the command bits.
+    pub fn command(&self) -> u8
+        ensures { result ≡ slice_index self.now 11 }
+    {
+        self.octets[COMMAND]
+    }
+
+    /// STA, the status octet: bit 0 is DD.
+    pub fn status(&self) -> u8
+        ensures { result ≡ slice_index self.now 12 }
+    {
+        self.octets[STATUS]
+    }
+
+    /// CSS, where a checksum would begin. It has no effect (this project's profile).
+    pub fn css(&self) -> u8
+        ensures { result ≡ slice_index self.now 13 }
+    {
+        self.octets[CSS]
+    }
+
+    /// The tag control information of a VLAN tag.
+    #[tactic(auto, unfolding(crate::specs::Descriptor::special))]
+    pub fn special(&self) -> u16
+        ensures { result ≡ special self.now }
+    {
+        LittleEndian::read_u16(&self.octets[SPECIAL..])
+    }
+
+    /// CMD.EOP: the buffer is the last of a frame.
+    #[tactic(auto, unfolding(crate::specs::Descriptor::eop))]
+    pub fn eop(&self) -> bool
+        ensures { result ≡ eop self.now }
+    {
+        (self.command() >> EOP) % 2 == 1
+    }
+
+    /// CMD.RS: the status is to be reported.
+    #[tactic(auto, unfolding(crate::specs::Descriptor::rs))]
+    pub fn rs(&self) -> bool
+        ensures { result ≡ rs self.now }
+    {
+        (self.command() >> RS) % 2 == 1
+    }
+
+    /// CMD.DEXT: the descriptor is of another format.
+    #[tactic(auto, unfolding(crate::specs::Descriptor::dext))]
+    pub fn dext(&self) -> bool
+        ensures { result ≡ dext self.now }
+    {
+        (self.command() >> DEXT) % 2 == 1
+    }
+
+    /// CMD.VLE: a VLAN tag is to be inserted.
+    #[tactic(auto, unfolding(crate::specs::Descriptor::vle))]
+    pub fn vle(&self) -> bool
+        ensures { result ≡ vle self.now }
+    {
+        (self.command() >> VLE) % 2 == 1
+    }
+}

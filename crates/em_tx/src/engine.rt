@@ -1,0 +1,303 @@
+//! One step of the transmit engine.
+ghost use Rattle.std.specs.Prelude.{◌≡◌, ◌+◌, ◌<◌, ◌≤◌, ◌++◌, ◌∷◌, [], IfErr, IfNone, IfOk, IsTrue, None, Ok, OnErr, OnOk, false, is_some, length, vec_capacity, vec_len};
+ghost use Rattle.em_mem.specs.Memory as mem;
+ghost use Rattle.em_mem.specs.Memory.{IsHeld, IsMade, part};
+ghost use Rattle.em_tx.specs.Cells.{MorePages, cells, shown};
+ghost use Rattle.em_tx.specs.Descriptor.{address, length_of, rs};
+ghost use Rattle.em_tx.specs.Engine.{Allows, Refuses, cost, handle, handling_cost, refusal, report, room, sends, transmit};
+ghost use Rattle.em_tx.specs.Frame.{frame, kind_sent, tag_of};
+ghost use Rattle.em_tx.specs.Ring.{is_idle, place};
+ghost use Rattle.em_tx.specs.Undo.{Reverses, StatusReverses, cost_of};
+ghost use Rattle.em_tx.specs.Wire.{plain};
+
+use crate::answer::TxAnswer;
+use crate::descriptor::{STATUS, TxDescriptor};
+use crate::gather::Gather;
+use crate::refusal::TxRefusal;
+use crate::transfer::{Status, Transfer};
+use crate::undo::TxUndo;
+use crate::wire::Wire;
+use crate::{frame, ring};
+use em_filter::Kind;
+use em_mem::GuestMemory;
+use em_regs::TxSetup;
+use std::alloc::{AllocError, Global};
+
+/// The most octets that are gathered (this project's profile).
+const MOST_GATHERED: usize = 16_380;
+
+/// One step of the transmit engine: it handles the descriptor at the ring's head, if that is the
+/// adapter's. It changes no register: the answer says what becomes of the head and which causes are
+/// raised.
+///
+/// Refused, in this order: DmaRange where the descriptor leaves memory, Extended, TooLong, DmaRange where
+/// its buffer leaves memory, and Memory. All growth comes before the first change.
+pub fn step(
+    gather: &mut Gather,
+    wire: &mut Wire,
+    memory: &mut GuestMemory,
+    setup: TxSetup,
+) -> Result<(TxAnswer, TxUndo), TxRefusal>
+    ensures ok { IfOk result (λ r. transmit setup (shown gather.old wire.old memory.old) ≡ Ok (r.0, shown gather.new wire.new memory.new)) }
+    ensures cost { IfOk result (λ r. cost_of r.1 ≡ cost setup (shown gather.old wire.old memory.old)) }
+    ensures reverses { IfOk result (λ r. Reverses (cells gather.old wire.old memory.old) (cells gather.new wire.new memory.new) r.1) }
+    ensures err { IfErr result (Refuses setup (shown gather.old wire.old memory.old)) }
+    ensures same { OnErr result (MorePages (cells gather.old wire.old memory.old) (cells gather.new wire.new memory.new)) }
+{
+    if ring::is_idle(&setup) {
+        return Ok((TxAnswer::Idle, TxUndo::Nothing));
+    }
+    let Some(found) = ring::first(memory, &setup) else {
+        return Err(TxRefusal::DmaRange);
+    };
+    match refusal_of(gather, memory, &found.descriptor) {
+        Some(refused) => Err(refused),
+        None => perform(gather, wire, memory, found.place, &setup, &found.descriptor),
+    }
+}
+
+/// Handles a descriptor that is not refused, where its room can be made.
+fn perform(
+    gather: &mut Gather,
+    wire: &mut Wire,
+    memory: &mut GuestMemory,
+    at: u64,
+    setup: &TxSetup,
+    descriptor: &TxDescriptor,
+) -> Result<(TxAnswer, TxUndo), TxRefusal>
+    requires turn { is_idle setup.now ≡ false }
+    requires place { at ≡ place setup.now }
+    requires held { IsHeld memory.old.octets (place setup.now) 16 }
+    requires octets { descriptor.now ≡ part memory.old.octets (place setup.now) 16 }
+    requires allowed { refusal gather.old memory.old.octets descriptor.now ≡ None }
+    requires allows { Allows gather.old memory.old.octets descriptor.now }
+    ensures ok { IfOk result (λ r. transmit setup.now (shown gather.old wire.old memory.old) ≡ Ok (r.0, shown gather.new wire.new memory.new)) }
+    ensures cost { IfOk result (λ r. cost_of r.1 ≡ cost setup.now (shown gather.old wire.old memory.old)) }
+    ensures reverses { IfOk result (λ r. Reverses (cells gather.old wire.old memory.old) (cells gather.new wire.new memory.new) r.1) }
+    ensures err { IfErr result (Refuses setup.now (shown gather.old wire.old memory.old)) }
+    ensures same { OnErr result (MorePages (cells gather.old wire.old memory.old) (cells gather.new wire.new memory.new)) }
+{
+    let octets = &mut gather.octets;
+    let frames = &mut wire.frames;
+    if let Err(refused) = make_room(octets, frames, memory, at, setup, descriptor) {
+        return Err(refused);
+    }
+    Ok(handle(gather.alloc, octets, frames, memory, at, setup, descriptor))
+}
+
+/// Why a descriptor is refused, if it is.
+#[tactic(auto, unfolding(crate::specs::Engine::refusal))]
+fn refusal_of(gather: &Gather, memory: &GuestMemory, descriptor: &TxDescriptor) -> Option<TxRefusal>
+    ensures value { result ≡ refusal gather.now memory.now.octets descriptor.now }
+    ensures none { IfNone result (Allows gather.now memory.now.octets descriptor.now) }
+{
+    let length = descriptor.length();
+    if descriptor.dext() {
+        return Some(TxRefusal::Extended);
+    }
+    if gather.octets.len() + usize::from(length) > MOST_GATHERED {
+        return Some(TxRefusal::TooLong);
+    }
+    if length > 0 && !memory.holds(descriptor.address(), u64::from(length)) {
+        return Some(TxRefusal::DmaRange);
+    }
+    None
+}
+
+/// Makes room for all that the descriptor needs, and changes nothing.
+fn make_room(
+    octets: &mut Vec<u8>,
+    frames: &mut Vec<Vec<u8>>,
+    memory: &mut GuestMemory,
+    at: u64,
+    setup: &TxSetup,
+    descriptor: &TxDescriptor,
+) -> Result<(), TxRefusal>
+    requires few { vec_len octets.old + length_of descriptor.now ≤ 16380 }
+    requires held { IsHeld memory.old.octets at 16 }
+    ensures octets { octets.new.items ≡ octets.old.items }
+    ensures frames { frames.new.items ≡ frames.old.items }
+    ensures memory { mem.MorePages memory.old memory.new }
+    ensures room { OnOk result (room setup.now descriptor.now (vec_len octets.old + length_of descriptor.now) ≤ vec_capacity octets.new) }
+    ensures place { OnOk result (IsTrue (sends descriptor.now (vec_len octets.old + length_of descriptor.now)) → vec_len frames.new < vec_capacity frames.new) }
+    ensures made { OnOk result (IsTrue (rs descriptor.now) → IsMade memory.new (at + 12) 1) }
+    ensures refused { IfErr result (λ e. e ≡ TxRefusal.Memory) }
+{
+    let count = octets.len() + usize::from(descriptor.length());
+    let whole = descriptor.eop() && count > 0;
+    room_for_octets(octets, count, whole, setup, descriptor)?;
+    room_for_frame(frames, whole)?;
+    room_for_status(memory, at, descriptor)
+}
+
+/// Room for the octets of a frame, or for those that stay gathered.
+fn room_for_octets(
+    octets: &mut Vec<u8>,
+    count: usize,
+    whole: bool,
+    setup: &TxSetup,
+    descriptor: &TxDescriptor,
+) -> Result<(), AllocError>
+    requires few { count ≤ 16380 }
+    requires more { vec_len octets.old ≤ count }
+    requires whole { whole ≡ sends descriptor.now count }
+    ensures octets { octets.new.items ≡ octets.old.items }
+    ensures room { OnOk result (room setup.now descriptor.now count ≤ vec_capacity octets.new) }
+{
+    let needed = if whole {
+        frame::len_of(setup, descriptor, count)
+    } else {
+        count
+    };
+    let missing = needed - octets.len();
+    octets.reserve(missing)
+}
+
+/// Room for one more frame.
+fn room_for_frame(frames: &mut Vec<Vec<u8>>, whole: bool) -> Result<(), AllocError>
+    ensures frames { frames.new.items ≡ frames.old.items }
+    ensures room { OnOk result (IsTrue whole → vec_len frames.new < vec_capacity frames.new) }
+{
+    if whole { frames.reserve(1) } else { Ok(()) }
+}
+
+/// The page of a status octet.
+fn room_for_status(
+    memory: &mut GuestMemory,
+    at: u64,
+    descriptor: &TxDescriptor,
+) -> Result<(), TxRefusal>
+    requires { IsHeld memory.old.octets at 16 }
+    ensures memory { mem.MorePages memory.old memory.new }
+    ensures made { OnOk result (IsTrue (rs descriptor.now) → IsMade memory.new (at + 12) 1) }
+    ensures refused { IfErr result (λ e. e ≡ TxRefusal.Memory) }
+{
+    // the sum below stays small
+    let _size = memory.len();
+    if descriptor.rs() && memory.touch(at + STATUS as u64, 1).is_err() {
+        return Err(TxRefusal::Memory);
+    }
+    Ok(())
+}
+
+/// Handles the descriptor. Its room is made.
+#[tactic(auto, unfolding(crate::specs::Engine::handle))]
+fn handle(
+    alloc: Global,
+    octets: &mut Vec<u8>,
+    frames: &mut Vec<Vec<u8>>,
+    memory: &mut GuestMemory,
+    at: u64,
+    setup: &TxSetup,
+    descriptor: &TxDescriptor,
+) -> (TxAnswer, TxUndo)
+    requires first { setup.now.head < setup.now.count }
+    requires place { at ≡ place setup.now }
+    requires descriptor { IsHeld memory.old.octets at 16 }
+    requires allows { Allows octets.old.items memory.old.octets descriptor.now }
+    requires room { room setup.now descriptor.now (vec_len octets.old + length_of descriptor.now) ≤ vec_capacity octets.old }
+    requires frames { IsTrue (sends descriptor.now (vec_len octets.old + length_of descriptor.now)) → vec_len frames.old < vec_capacity frames.old }
+    requires made { IsTrue (rs descriptor.now) → IsMade memory.old (at + 12) 1 }
+    ensures state { (result.0, shown octets.new.items (plain frames.new.items) memory.new) ≡ handle setup.now descriptor.now (shown octets.old.items (plain frames.old.items) memory.old) }
+    ensures cost { cost_of result.1 ≡ handling_cost setup.now descriptor.now (shown octets.old.items (plain frames.old.items) memory.old) }
+    ensures reverses { Reverses (cells octets.old.items (plain frames.old.items) memory.old) (cells octets.new.items (plain frames.new.items) memory.new) result.1 }
+{
+    let count = octets.len();
+    fetch(octets, memory, descriptor);
+    let status = report(memory, at, descriptor);
+    let cost = u32::from(descriptor.length()) + u32::from(descriptor.rs());
+    let index = setup.head;
+    let next = ring::next(setup);
+    let causes = ring::causes(setup, descriptor);
+    if descriptor.eop() && !octets.is_empty() {
+        let sent = send(alloc, octets, frames, setup, descriptor);
+        let answer = TxAnswer::Sent {
+            index,
+            next,
+            causes,
+            octets: sent.octets,
+            kind: sent.kind,
+        };
+        let transfer = Transfer::new(count, cost + sent.octets, status);
+        (answer, TxUndo::Send(transfer, sent.tagged))
+    } else {
+        let answer = TxAnswer::Fetched {
+            index,
+            next,
+            causes,
+        };
+        (answer, TxUndo::Fetch(Transfer::new(count, cost, status)))
+    }
+}
+
+/// Gathers the octets of a buffer, straight from memory.
+fn fetch(octets: &mut Vec<u8>, memory: &GuestMemory, descriptor: &TxDescriptor)
+    requires held { 0 < length_of descriptor.now → IsHeld memory.now.octets (address descriptor.now) (length_of descriptor.now) }
+    requires room { vec_len octets.old + length_of descriptor.now ≤ vec_capacity octets.old }
+    ensures octets { octets.new.items ≡ octets.old.items ++ part memory.now.octets (address descriptor.now) (length_of descriptor.now) }
+    ensures len { vec_len octets.new ≡ vec_len octets.old + length_of descriptor.now }
+    ensures capacity { vec_capacity octets.old ≤ vec_capacity octets.new }
+{
+    let length = usize::from(descriptor.length());
+    if length == 0 {
+        return;
+    }
+    let count = octets.len();
+    let Ok(()) = octets.resize(count + length, 0) else {
+        unreachable!();
+    };
+    memory.read_into(descriptor.address(), &mut octets[count..]);
+}
+
+/// Reports the status, where RS asks for it.
+fn report(memory: &mut GuestMemory, at: u64, descriptor: &TxDescriptor) -> Option<Status>
+    requires held { IsHeld memory.old.octets at 16 }
+    requires made { IsTrue (rs descriptor.now) → IsMade memory.old (at + 12) 1 }
+    ensures octets { memory.new.octets ≡ report at descriptor.now memory.old.octets }
+    ensures reverses { StatusReverses memory.old memory.new result }
+{
+    // the sum below stays small
+    let _size = memory.len();
+    if descriptor.rs() {
+        Some(Status::report(memory, at + STATUS as u64))
+    } else {
+        None
+    }
+}
+
+/// A frame that was sent.
+#[derive(Clone, Copy)]
+struct Sending {
+    octets: u32,
+    kind: Kind,
+    tagged: bool,
+}
+
+/// Puts the gathered octets on the wire as a frame.
+fn send(
+    alloc: Global,
+    octets: &mut Vec<u8>,
+    frames: &mut Vec<Vec<u8>>,
+    setup: &TxSetup,
+    descriptor: &TxDescriptor,
+) -> Sending
+    requires few { vec_len octets.old ≤ 16380 }
+    requires room { Rattle.em_tx.specs.Frame.frame_len setup.now descriptor.now (vec_len octets.old) ≤ vec_capacity octets.old }
+    requires place { vec_len frames.old < vec_capacity frames.old }
+    ensures gathered { octets.new.items ≡ [] }
+    ensures wire { plain frames.new.items ≡ plain frames.old.items ++ frame setup.now descriptor.now octets.old.items ∷ [] }
+    ensures octets { result.octets ≡ length (frame setup.now descriptor.now octets.old.items) }
+    ensures kind { result.kind ≡ kind_sent (frame setup.now descriptor.now octets.old.items) }
+    ensures tagged { result.tagged ≡ is_some (tag_of setup.now.vlan descriptor.now (length octets.old.items)) }
+    ensures most { result.octets ≤ 16384 }
+{
+    let tagged = frame::make(octets, setup, descriptor);
+    let kind = frame::kind_sent(octets);
+    let len = octets.len() as u32;
+    frames.push_reserved(std::mem::replace(octets, Vec::new(alloc)));
+    Sending {
+        octets: len,
+        kind,
+        tagged,
+    }
+}
