@@ -1,5 +1,5 @@
 -- What single commands do.
-use Rattle.std.proofs.Common.{◌≡◌, ℕ, ◌<◌, List, [], ◌∷◌, length, Option, Some, None, Result, Err, refl, sym, ap, ◌∙◌}
+use Rattle.std.proofs.Common.{◌≡◌, ℕ, ◌<◌, List, [], ◌∷◌, length, Option, Some, None, Result, refl, sym, ap, ◌∙◌}
 use Rattle.std.proofs.Common.{subst, inl, inr, arith}
 use Rattle.em_step.specs.State.{State}
 use Rattle.em_step.specs.Event.{Event}
@@ -16,7 +16,7 @@ use Rattle.em_script.specs.Session.{Session}
 use Rattle.em_script.specs.Command.{event}
 use Rattle.em_script.specs.ParsedLine.{says}
 use Rattle.em_script.specs.Output.{Prints, answer_text, refusal_text}
-use Rattle.em_script.specs.Reply.{Reply, step_call, event_call, back_call, call_reply, Gives, Performs}
+use Rattle.em_script.specs.Reply.{step_call, event_call, back_call, call_reply, Gives, Performs}
 
 -- ---- what prints one call's reply prints that of the same call
 
