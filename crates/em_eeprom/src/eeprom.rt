@@ -1,6 +1,6 @@
 //! The words of the EEPROM.
-ghost use Rattle.std.specs.Prelude.{◌≡◌, ◌↔◌, IsTrue, length, slice_index, slice_range, replicate};
-ghost use Rattle.em_eeprom.specs.Eeprom.{mac_of, words_of_mac, IsSummed};
+ghost use Rattle.std.specs.Prelude.{◌≡◌, ◌≤◌, ◌↔◌, IsTrue, slice_range, replicate};
+ghost use Rattle.em_eeprom.specs.Eeprom.{IsEeprom, word_at, mac_of, words_of_mac, IsSummed};
 
 use std::marker::Model;
 
@@ -26,13 +26,18 @@ impl Model for Eeprom {
 
     ghost view = { λ eeprom. eeprom.words };
 
+    ghost use Rattle.em_eeprom.specs.Eeprom.{IsEeprom};
+
+    ghost invariant = { λ eeprom. IsEeprom eeprom.words };
+
     ghost inverse = { λ words. record { words = words } };
 }
 
 impl Eeprom {
     /// An EEPROM with these words.
     pub fn of_words(words: [u16; WORDS]) -> Eeprom
-        ensures { result ≡ words }
+        ensures words { result ≡ words }
+        ensures whole { IsEeprom result }
     {
         Eeprom { words }
     }
@@ -41,7 +46,7 @@ impl Eeprom {
     /// out, and zero between them.
     pub fn of_mac(mac: [u8; 6]) -> Eeprom
         ensures words { result ≡ words_of_mac mac }
-        ensures len { length result ≡ WORDS }
+        ensures whole { IsEeprom result }
         ensures mac { mac_of result ≡ mac }
         ensures zeros { slice_range result 3 63 ≡ replicate 60 0 }
         ensures sum { IsSummed result }
@@ -57,7 +62,8 @@ impl Eeprom {
 
     /// The word at an address, 0 above 63.
     pub fn word(&self, addr: u8) -> u16
-        ensures { result ≡ slice_index self.now addr }
+        ensures word { result ≡ word_at self.now addr }
+        ensures above { 64 ≤ addr → result ≡ 0 }
     {
         self.words.get(usize::from(addr)).copied().unwrap_or(0)
     }
@@ -76,7 +82,8 @@ impl Eeprom {
 
     /// The Ethernet address of words 0 to 2: octet 0 is the low half of word 0.
     pub fn mac(&self) -> [u8; 6]
-        ensures { result ≡ mac_of self.now }
+        ensures mac { result ≡ mac_of self.now }
+        ensures whole { IsEeprom self.now }
     {
         let [a, b] = self.words[0].to_le_bytes();
         let [c, d] = self.words[1].to_le_bytes();

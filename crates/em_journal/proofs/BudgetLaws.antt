@@ -1,11 +1,12 @@
 -- How many records a budget holds.
-use Rattle.std.proofs.Common.{◌≡◌, ℕ, ◌+◌, ◌-◌, ◌*◌, ◌/◌, ◌≤◌, ◌<◌, zero, suc, List, [], ◌∷◌, length, take, refl, ap, ◌∙◌, sym, arith, Some, ◌⊎◌, inl, inr}
+use Rattle.std.proofs.Common.{◌≡◌, ℕ, ◌+◌, ◌-◌, ◌*◌, ◌/◌, ◌≤◌, ◌<◌, zero, suc, List, [], ◌∷◌, length, take, Some}
+use Rattle.std.proofs.Common.{◌⊎◌, inl, inr, refl, ap, ◌∙◌, sym, arith}
 use Rattle.std.specs.Prelude.{slice_get, sum}
 use Rattle.std.proofs.lemmas.Bool.Decides.{nat_tests}
 use Rattle.std.proofs.lemmas.List.{length-take-le, take-take}
 use Rattle.std.proofs.lemmas.List.Sums.{sum_by-cons}
 use Rattle.circular_buffer.specs.Buffer.{last_item}
-use Rattle.em_step.specs.Cost.{cost_of}
+use Rattle.em_step.specs.Cost.{least_cost, cost_of}
 use Rattle.em_step.specs.declared.undo.Undo.{Undo}
 use Rattle.em_step.proofs.CostLaws.{cost_of_least}
 use Rattle.em_journal.specs.Records.{costs_of}
@@ -79,7 +80,7 @@ pub sum_without_last : (rs : List Undo) (r : Undo)
 sum_without_last rs r some is = sum_without_last_at rs (length rs - 1) r (omega arith) is
 
 -- no record costs less than the least
-pub sum_least : (rs : List Undo) → 32 * length rs ≤ sum (costs_of rs)
+pub sum_least : (rs : List Undo) → least_cost * length rs ≤ sum (costs_of rs)
 sum_least [] = omega arith
 sum_least (r ∷ rs) = omega (arith, cost_of_least r, sum_least rs, sum_cons (cost_of r) (costs_of rs))
 
@@ -109,7 +110,8 @@ reach_less_by room r n cs h (inr e) over = absurd (omega (arith, h, over, ap (λ
 
 -- while what is left costs more than the room, the reach lies below it
 pub reach_less : (room : ℕ) (xs ys : List Undo)
-    → ys ≡ take (length ys) xs → reach room (costs_of xs) ≤ length ys → room < sum (costs_of ys) → reach room (costs_of xs) < length ys
+    → ys ≡ take (length ys) xs → reach room (costs_of xs) ≤ length ys → room < sum (costs_of ys)
+    → reach room (costs_of xs) < length ys
 reach_less room xs ys are l over =
     reach_less_by room (reach room (costs_of xs)) (length ys) (costs_of xs)
     (reach_within room (costs_of xs)) (less_or_same l) (omega (arith, over, left_cost xs ys are))
@@ -127,12 +129,12 @@ left_is_reach room xs ys are l short within =
 
 -- ---- a record that comes first, once those have gone whose room it needs
 
-pub has_place : {budget capacity cost : ℕ} (mid : List Undo) → 32 ≤ cost → cost ≤ budget
-    → sum (costs_of mid) ≤ budget - cost → capacity ≡ budget / 32 → length mid < capacity
+pub has_place : {budget capacity cost : ℕ} (mid : List Undo) → least_cost ≤ cost → cost ≤ budget
+    → sum (costs_of mid) ≤ budget - cost → capacity ≡ budget / least_cost → length mid < capacity
 has_place mid least l within places = omega (arith, sum_least mid)
 
-pub newest_first : {budget cost : ℕ} (rs : List Undo) {mid new : List Undo} {r : Undo} → cost ≡ cost_of r → cost ≤ budget
-    → mid ≡ take (reach (budget - cost) (costs_of rs)) rs → new ≡ r ∷ mid
+pub newest_first : {budget cost : ℕ} (rs : List Undo) {mid new : List Undo} {r : Undo}
+    → cost ≡ cost_of r → cost ≤ budget → mid ≡ take (reach (budget - cost) (costs_of rs)) rs → new ≡ r ∷ mid
     → new ≡ take (reach budget (cost_of r ∷ costs_of rs)) (r ∷ rs)
 newest_first {budget} {cost} rs {r = r} same l kept is =
     is ∙ ap (λ xs. r ∷ xs) kept ∙ ap (λ n. take n (r ∷ rs)) (sym (reach_first budget cost (costs_of rs) l))

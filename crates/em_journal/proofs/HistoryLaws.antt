@@ -1,5 +1,6 @@
 -- What calls leave, against the events that were performed and not taken back.
-use Rattle.std.proofs.Common.{◌≡◌, ℕ, ◌-◌, ◌<◌, zero, suc, List, [], ◌∷◌, ◌++◌, length, take, drop, Some, Ok, refl, sym, ap, ◌∙◌, subst, arith}
+use Rattle.std.proofs.Common.{◌≡◌, ℕ, ◌-◌, ◌<◌, zero, suc, List, [], ◌∷◌, ◌++◌, length, take, drop, Some, Ok}
+use Rattle.std.proofs.Common.{refl, sym, ap, ◌∙◌, subst, arith}
 use Rattle.std.specs.Prelude.{slice_get, ◌↔◌}
 use Rattle.std.proofs.lemmas.List.{take_at, take_all, take-take, length-take, length-take-le, length_push, length-drop}
 use Rattle.em_step.specs.State.{State}
@@ -7,10 +8,10 @@ use Rattle.em_step.specs.Event.{Event}
 use Rattle.em_step.specs.Step.{step, Refuses}
 use Rattle.em_step.specs.Cost.{cost}
 use Rattle.em_step.specs.declared.event.Answer.{Answer}
-use Rattle.em_step.specs.declared.event.Refusal.{Refusal}
+use Rattle.em_step.specs.declared.refusal.Refusal.{Refusal}
 use Rattle.em_journal.specs.View.{View, opening, states, after_event, after_back, back_to, reach, costs_within}
-use Rattle.em_journal.specs.History.{Call, performs, refuses, goes_back, is_empty, Does, Run, Leads}
-use Rattle.em_journal.specs.History.{events_after, kept_events, after_step, state, costs_after, held_costs, without_last}
+use Rattle.em_journal.specs.History.{Call, performs, refuses, goes_back, is_empty, Does, Run, Leads, without_last}
+use Rattle.em_journal.specs.History.{events_after, kept_events, after_step, state, costs_after, held_costs}
 
 -- ---- lists of events
 
@@ -54,7 +55,8 @@ stands_event : {budget : ℕ} {s : State} {events : List Event} {costs : List �
 stands_event {budget} {s} {events} {costs} {v} {w} e h does =
     let n = reach v.budget (cost v.present e ∷ v.costs) in
     let led : w.present ≡ state s (events ++ e ∷ [])
-    = ap (after_step v.present) (sym does.0) ∙ ap (λ p. after_step p (step p e)) h.present ∙ sym (state-push s events e) in
+    = ap (after_step v.present) (sym does.0) ∙ ap (λ p. after_step p (step p e)) h.present
+    ∙ sym (state-push s events e) in
     let some : 0 < length (events ++ e ∷ []) = omega (arith, length_push events e) in
     let here = h.present ∙ ap (state s) (sym (without_last-push events e)) in
     let rest = subst (IsHistory s v.past) (sym (without_last-push events e)) h.past in
@@ -63,13 +65,13 @@ stands_event {budget} {s} {events} {costs} {v} {w} e h does =
     let costs_many = ap (λ x. length x.costs) does.1 ∙ length-take n (cost v.present e ∷ v.costs) in
     let held : w.costs ≡ costs_within budget (cost (state s events) e ∷ costs)
     = ap (λ x. x.costs) does.1 ∙ ap (λ b. costs_within b (cost v.present e ∷ v.costs)) h.budget_is
-      ∙ ap (λ p. costs_within budget (cost p e ∷ v.costs)) h.present
-      ∙ ap (λ cs. costs_within budget (cost (state s events) e ∷ cs)) h.costs_are in
+    ∙ ap (λ p. costs_within budget (cost p e ∷ v.costs)) h.present
+    ∙ ap (λ cs. costs_within budget (cost (state s events) e ∷ cs)) h.costs_are in
     record {
       budget_is = ap (λ x. x.budget) does.1 ∙ h.budget_is;
       present = led;
       past = subst (λ x. IsHistory s x.past (events ++ e ∷ [])) (sym does.1)
-        (IsHistory-take n s (states v) (events ++ e ∷ []) all);
+          (IsHistory-take n s (states v) (events ++ e ∷ []) all);
       costs_are = held;
       many = omega (arith, past, costs_many, h.many);
     }
@@ -144,8 +146,9 @@ empty_of_length (x ∷ xs) ys len is = absurd (omega (arith, len, ap length is))
 pub empty_past : (budget : ℕ) (s : State) (calls : List Call) (v : View) → Leads budget s calls v
     → (v.past ≡ []) ↔ (held_costs budget s calls ≡ [])
 empty_past budget s calls v run =
+    let held = held_costs budget s calls in
     let len = past_length budget s calls v run in
-    (empty_of_length (held_costs budget s calls) v.past (sym len), empty_of_length v.past (held_costs budget s calls) len)
+    (empty_of_length held v.past (sym len), empty_of_length v.past held len)
 
 -- ---- lists of calls, one after the other
 

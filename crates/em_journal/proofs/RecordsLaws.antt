@@ -1,14 +1,15 @@
 -- A chain of records that is cut, or that grows.
-use Rattle.std.proofs.Common.{◌≡◌, ℕ, ◌+◌, ◌≤◌, ◌/◌, zero, suc, List, [], ◌∷◌, length, take, refl, ap, ◌∙◌, sym, arith, subst}
+use Rattle.std.proofs.Common.{◌≡◌, ℕ, ◌+◌, ◌≤◌, ◌/◌, zero, suc, List, [], ◌∷◌, length, take}
+use Rattle.std.proofs.Common.{refl, ap, ◌∙◌, sym, arith, subst}
 use Rattle.std.specs.Prelude.{Result, Ok, Err, IfErr, sum}
 use Rattle.em_step.proofs.MadePages.{fits_after, undo_after, shows_after}
 use Rattle.em_step.specs.Cells.{Cells, shows, MorePages}
-use Rattle.em_step.specs.Cost.{cost, cost_of}
+use Rattle.em_step.specs.Cost.{least_cost, cost, cost_of}
 use Rattle.em_step.specs.Event.{Event}
 use Rattle.em_step.specs.Step.{Refuses}
-use Rattle.em_step.specs.Undo.{Fits, undo}
+use Rattle.em_step.specs.Undo.{undo, Reverses}
 use Rattle.em_step.specs.declared.event.Answer.{Answer}
-use Rattle.em_step.specs.declared.event.Refusal.{Refusal}
+use Rattle.em_step.specs.declared.refusal.Refusal.{Refusal}
 use Rattle.em_step.specs.declared.undo.Undo.{Undo}
 use Rattle.em_journal.specs.Budget.{IsBudget}
 use Rattle.em_journal.specs.History.{refuses, Does}
@@ -52,21 +53,20 @@ AllFit-take (suc n) c (r ∷ rs) fit = (fit.0, AllFit-take n (undo c r) rs fit.1
 -- its record r goes first, and of all records those stay that the budget holds
 pub record Follows (budget : ℕ) (c d : Cells) (r : Undo) (rs new : List Undo) : Type 0 where
   pub kept : new ≡ take (reach budget (cost_of r ∷ costs_of rs)) (r ∷ rs)
-  pub fits : Fits d r
-  pub restores : MorePages c (undo d r)
+  pub reverses : Reverses c d r
 
 AllFit-event : {budget : ℕ} {c d : Cells} {r : Undo} {rs new : List Undo}
     → Follows budget c d r rs new → AllFit c rs → AllFit d new
 AllFit-event {budget} {c} {d} {r} {rs} h fit =
-    let all : AllFit d (r ∷ rs) = (h.fits, fit_after c (undo d r) rs h.restores fit) in
+    let all : AllFit d (r ∷ rs) = (h.reverses.fits, fit_after c (undo d r) rs h.reverses.restores fit) in
     subst (AllFit d) (sym h.kept) (AllFit-take (reach budget (cost_of r ∷ costs_of rs)) d (r ∷ rs) all)
 
 back_through-event : {budget : ℕ} {c d : Cells} {r : Undo} {rs new : List Undo} → Follows budget c d r rs new
     → back_through d new ≡ take (reach budget (cost_of r ∷ costs_of rs)) (shows c ∷ back_through c rs)
 back_through-event {budget} {c} {d} {r} {rs} h =
     let n = reach budget (cost_of r ∷ costs_of rs) in
-    let here = shows_after c (undo d r) h.restores in
-    let below = back_after c (undo d r) rs h.restores in
+    let here = shows_after c (undo d r) h.reverses.restores in
+    let below = back_after c (undo d r) rs h.reverses.restores in
     let all : back_through d (r ∷ rs) ≡ shows c ∷ back_through c rs = λ i. here i ∷ below i in
     ap (back_through d) h.kept ∙ back_through-take n d (r ∷ rs) ∙ ap (take n) all
 
@@ -84,7 +84,7 @@ view_event {budget} {c} {d} {r} {rs} {new} e h same view =
 
 pub journal_event : {budget used capacity : ℕ} {c d : Cells} {r : Undo} {rs new : List Undo} (mid : List Undo)
     → Follows budget c d r rs new → new ≡ r ∷ mid → AllFit c rs → used ≡ sum (costs_of mid) + cost_of r
-    → used ≤ budget → capacity ≡ budget / 32 → IsBudget budget → IsJournal d new capacity budget used
+    → used ≤ budget → capacity ≡ budget / least_cost → IsBudget budget → IsJournal d new capacity budget used
 journal_event {r = r} mid h alone fit counted held places allowed = record {
   fit = AllFit-event h fit;
   counted = omega (arith, counted, ap (λ xs. sum (costs_of xs)) alone, sum_cons (cost_of r) (costs_of mid));

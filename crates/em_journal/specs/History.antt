@@ -5,7 +5,7 @@ use Rattle.em_step.specs.Event.{Event}
 use Rattle.em_step.specs.Step.{step, Refuses}
 use Rattle.em_step.specs.Cost.{cost}
 use Rattle.em_step.specs.declared.event.Answer.{Answer}
-use Rattle.em_step.specs.declared.event.Refusal.{Refusal}
+use Rattle.em_step.specs.declared.refusal.Refusal.{Refusal}
 use Rattle.em_journal.specs.View.{View, opening, after_event, after_back, costs_within}
 
 -- a call with its outcome

@@ -2,7 +2,7 @@
 use Rattle.std.specs.Prelude.{◌≡◌, ◌≤◌, ◌/◌, ℕ, List, [], ◌∷◌, sum}
 use Rattle.em_step.specs.State.{State}
 use Rattle.em_step.specs.Cells.{Cells, shows}
-use Rattle.em_step.specs.Cost.{cost_of}
+use Rattle.em_step.specs.Cost.{least_cost, cost_of}
 use Rattle.em_step.specs.Undo.{Fits, undo}
 use Rattle.em_step.specs.declared.undo.Undo.{Undo}
 use Rattle.em_journal.specs.Budget.{IsBudget}
@@ -38,6 +38,6 @@ pub record IsJournal (c : Cells) (records : List Undo) (capacity budget used : �
   -- the running sum is that of the records, and the budget holds it
   pub counted : used ≡ sum (costs_of records)
   pub held : used ≤ budget
-  -- no record costs less than 32
-  pub places : capacity ≡ budget / 32
+  -- no record costs less, so that there is a place for each that the budget holds
+  pub places : capacity ≡ budget / least_cost
   pub allowed : IsBudget budget

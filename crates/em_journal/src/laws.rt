@@ -5,7 +5,7 @@ ghost use Rattle.em_step.specs.Event.{Event};
 ghost use Rattle.em_step.specs.Step.{step, Refuses};
 ghost use Rattle.em_step.specs.Cells.{Cells, MorePages};
 ghost use Rattle.em_step.specs.declared.event.Answer.{Answer};
-ghost use Rattle.em_step.specs.declared.event.Refusal.{Refusal};
+ghost use Rattle.em_step.specs.declared.refusal.Refusal.{Refusal};
 ghost use Rattle.em_step.specs.declared.undo.Undo.{Undo};
 ghost use Rattle.em_journal.specs.Records.{back_through, AllFit};
 ghost use Rattle.em_journal.specs.View.{View, states, reach};
@@ -17,7 +17,8 @@ ghost use Rattle.em_journal.specs.History.{state, kept_events, held_costs, witho
 /// back as often as costs are held, and a step back is refused exactly where none is.
 pub fn view_is_fold()
     ensures states { (budget : ℕ) (s : State) (calls : List Call) (v : View) → Leads budget s calls v
-        → (i : ℕ) → i < length (states v) → slice_get (states v) i ≡ Some (state s (without_last i (kept_events calls))) }
+        → (i : ℕ) → i < length (states v)
+        → slice_get (states v) i ≡ Some (state s (without_last i (kept_events calls))) }
     ensures costs { (budget : ℕ) (s : State) (calls : List Call) (v : View) → Leads budget s calls v
         → v.costs ≡ held_costs budget s calls }
     ensures reach { (budget : ℕ) (s : State) (calls : List Call) (v : View) → Leads budget s calls v

@@ -1,5 +1,6 @@
 //! The machine: an adapter with a journal of its latest events.
-ghost use Rattle.std.specs.Prelude.{◌≡◌, ◌+◌, ◌<◌, ◌↔◌, IfOk, IfErr, OnOk, OnErr, IsErrOf, IsTrue, length, min, replicate};
+ghost use Rattle.std.specs.Prelude.{◌≡◌, ◌+◌, ◌<◌, ◌↔◌, IfOk, IfErr, OnOk, OnErr, IsErrOf, IsTrue};
+ghost use Rattle.std.specs.Prelude.{length, min, replicate};
 ghost use Rattle.std.specs.Option.{option_map};
 ghost use Rattle.em_mem.specs.Memory.{part};
 ghost use Rattle.em_regs.specs.Table.{reg_at};

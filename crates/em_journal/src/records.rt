@@ -11,7 +11,8 @@ use em_step::Undo;
 /// Drops the oldest records until the others cost no more than the room, and gives what those cost.
 pub fn drop_oldest(records: &mut HeapCircularBuffer<Undo>, used: u64, room: u64) -> u64
     requires { used ≡ sum (costs_of records.old.items) }
-    ensures items { records.new ≡ buffer (take (reach room (costs_of records.old.items)) records.old.items) records.old.capacity }
+    ensures items { records.new
+        ≡ buffer (take (reach room (costs_of records.old.items)) records.old.items) records.old.capacity }
     ensures used { result ≡ sum (costs_of records.new.items) }
     ensures within { result ≤ room }
 {

@@ -54,6 +54,8 @@ pub enum SettingsRefusal {
 impl Settings {
     /// A new machine: the state after a reset, over a memory of zeros, with the link down and an
     /// empty journal.
+    ///
+    /// Refused as Size, or else as Budget; as Memory only where neither is refused.
     pub fn machine(&self, alloc: Global) -> Result<Machine, SettingsRefusal>
         ensures ok { IfOk result (λ machine. machine ≡ new_machine self.now) }
         ensures allowed { OnOk result (AreAllowed self.now) }

@@ -1,20 +1,44 @@
 -- What an access of a latched register gives and does.
-use Rattle.std.specs.Prelude.{◌≢◌, ℕ, ◌-◌, Bool, true, List, [], ◌∷◌, IsTrue, bit_and, bit_or}
+use Rattle.std.specs.Prelude.{
+  ◌≡◌,
+  ◌≢◌,
+  ℕ,
+  ◌-◌,
+  Bool,
+  true,
+  false,
+  List,
+  [],
+  ◌∷◌,
+  IsTrue,
+  bit_and,
+  bit_or,
+  length,
+  replicate,
+}
 use Rattle.std.specs.FinMap as map
 use Rattle.em_regs.specs.declared.reg.Reg.{Reg}
 use Rattle.em_regs.specs.declared.reg.Reg.TheVariants.{Icr, Ics, Ims, Imc, Gorcl, Gorch, Gotcl, Gotch}
-use Rattle.em_regs.specs.Table.{offset_of, is_counter}
-use Rattle.em_regs.specs.Registers as registers
-use Rattle.em_regs.specs.Registers.{Registers, Cell, at}
-use Rattle.em_latch.specs.declared.latches.TheConstants.{CAUSE_BITS, EVERY_BIT}
+use Rattle.em_regs.specs.declared.table.Kind.{Kind}
+use Rattle.em_regs.specs.declared.table.Kind.TheVariants.{Interrupt, Counter}
+use Rattle.em_regs.specs.Table.{row_of, offset_of, is_counter}
+use Rattle.em_regs.specs.RegFile as registers
+use Rattle.em_regs.specs.RegFile.{OldWord, at}
+use Rattle.em_regs.specs.Storage.{Registers, words_at}
+use Rattle.em_latch.specs.Storage.{offsets}
+
+-- nothing set, nothing let through, nothing counted
+unfoldable pub fresh : Registers
+fresh = words_at offsets (replicate (length offsets) 0)
+
+abbrev pub is_latched_kind : Kind → Bool
+is_latched_kind Interrupt = true
+is_latched_kind Counter = true
+is_latched_kind kind = false
 
 -- the interrupt registers and the counters
 abbrev pub is_latched : Reg → Bool
-is_latched Icr = true
-is_latched Ics = true
-is_latched Ims = true
-is_latched Imc = true
-is_latched reg = is_counter reg
+is_latched reg = is_latched_kind (row_of reg).kind
 
 abbrev pub IsLatched : Reg → Type 0
 IsLatched reg = IsTrue (is_latched reg)
@@ -38,7 +62,11 @@ mask m = at m (offset_of Ims)
 
 -- the bits of n that are clear in v
 abbrev pub without : ℕ → ℕ → ℕ
-without n v = bit_and n (EVERY_BIT - v)
+without n v = bit_and n (0xFFFF_FFFF - v)
+
+-- the bits of v that name a cause: bits 16 to 0
+abbrev pub named_causes : ℕ → ℕ
+named_causes v = bit_and v 0x0001_FFFF
 
 -- what a read gives
 abbrev pub gives : Registers → Reg → ℕ
@@ -46,9 +74,13 @@ gives m Ics = 0
 gives m Imc = 0
 gives m reg = at m (offset_of reg)
 
+-- both halves of a pair written
+abbrev pub after_pair_write : Registers → Reg → Reg → ℕ → ℕ → Registers
+after_pair_write m low high v w = map.insert (map.insert m (offset_of low) v) (offset_of high) w
+
 -- both halves of a pair cleared
 abbrev pub after_pair_clear : Registers → Reg → Reg → Registers
-after_pair_clear m low high = map.insert (map.insert m (offset_of low) 0) (offset_of high) 0
+after_pair_clear m low high = after_pair_write m low high 0 0
 
 -- a read of the causes or a counter clears it; of a pair, the read of the high half clears both
 abbrev pub after_read : Registers → Reg → Registers
@@ -68,8 +100,8 @@ after_raise m v = map.insert m (offset_of Icr) (bit_or (causes m) v)
 -- ICR and IMC clear the bits that are 1 in v, ICS and IMS set those of them that name a cause; counters stay
 abbrev pub after_write : Registers → Reg → ℕ → Registers
 after_write m Icr v = map.insert m (offset_of Icr) (without (causes m) v)
-after_write m Ics v = after_raise m (bit_and v CAUSE_BITS)
-after_write m Ims v = map.insert m (offset_of Ims) (bit_or (mask m) (bit_and v CAUSE_BITS))
+after_write m Ics v = after_raise m (named_causes v)
+after_write m Ims v = map.insert m (offset_of Ims) (bit_or (mask m) (named_causes v))
 after_write m Imc v = map.insert m (offset_of Ims) (without (mask m) v)
 after_write m reg v = m
 
@@ -77,12 +109,18 @@ after_write m reg v = m
 abbrev pub IsAsserted : Registers → Type 0
 IsAsserted m = bit_and (causes m) (mask m) ≢ 0
 
+-- ---- what takes changes back: old words, the newest first
 -- each word is there
-abbrev pub Fits : Registers → List Cell → Type 0
+abbrev pub Fits : Registers → List OldWord → Type 0
 Fits m [] = Unit {0}
-Fits m (c ∷ cs) = registers.Fits m c × Fits (registers.undo m c) cs
+Fits m (w ∷ ws) = registers.Fits m w × Fits (registers.undo m w) ws
 
 -- the words hold what they held
-abbrev pub undo : Registers → List Cell → Registers
+abbrev pub undo : Registers → List OldWord → Registers
 undo m [] = m
-undo m (c ∷ cs) = undo (registers.undo m c) cs
+undo m (w ∷ ws) = undo (registers.undo m w) ws
+
+-- the words take the changes from the old registers to the new ones back
+pub record Reverses (old new : Registers) (ws : List OldWord) : Type 0 where
+  pub fits : Fits new ws
+  pub restores : undo new ws ≡ old

@@ -1,65 +1,71 @@
 //! The interrupt causes, their mask and the counters.
-ghost use Rattle.std.specs.Prelude.{◌≡◌, ◌<◌, ℕ, ◌↔◌, IsTrue, Some, get_or, [], ◌∷◌};
+ghost use Rattle.std.specs.Prelude.{◌≡◌, ◌≤◌, ◌<◌, ℕ, ◌↔◌, IsTrue, Some, slice_index, length};
 ghost use Rattle.std.specs.FinMap as map;
-ghost use Rattle.std.specs.Option.{option_to_list};
 ghost use Rattle.em_regs.specs.Table.{offset_of};
-ghost use Rattle.em_regs.specs.Registers as registers;
-ghost use Rattle.em_latch.specs.Layout.{offsets, fresh};
-ghost use Rattle.em_latch.specs.Latches.{is_latched, IsLatched, IsWord, gives, after_read, after_write, after_raise, IsAsserted, Fits, undo};
+ghost use Rattle.em_regs.specs.RegFile as registers;
+ghost use Rattle.em_latch.specs.Storage.{offsets};
+ghost use Rattle.em_latch.specs.Latches.{fresh, is_latched, IsLatched, IsWord, gives, after_read, after_write};
+ghost use Rattle.em_latch.specs.Latches.{after_raise, after_pair_write, IsAsserted, Fits, undo, Reverses};
 ghost use Rattle.em_latch.specs.Counter.{after_count, after_pair_count};
 
 use crate::counter::Counter;
-use crate::undo::{LatchUndo, OldWord};
+use crate::undo::{LatchUndo, OldWord, WORDS};
 use em_mem::Reversible;
-use em_regs::Reg;
+use em_regs::{COUNTER_WORDS, Kind, Reg};
 use std::marker::Model;
 
 /// The causes that ICS and IMS can set: bits 16 to 0 (this project's profile).
-pub const CAUSE_BITS: u32 = 0x0001_FFFF;
+const CAUSE_BITS: u32 = 0x0001_FFFF;
 
-/// Every bit of a register, and the greatest value of a counter.
-pub const EVERY_BIT: u32 = 0xFFFF_FFFF;
+/// The places of the causes, of their mask and of the first counter, as an old word names them.
+const CAUSES: u8 = 0;
 
-/// How many words the latches have: the causes, their mask, and 26 of the counters.
-const WORDS: usize = 28;
+const MASK: u8 = 1;
+
+const COUNTERS: u8 = 2;
+
+/// What the high half of a pair counts in.
+const HALF: u64 = 0x1_0000_0000;
 
 /// The interrupt registers and the counters (manual, chapter on register descriptions).
 #[derive(Drop)]
 pub struct Latches {
-    // in the order of their offsets
-    words: [u32; WORDS],
+    causes: u32,
+    mask: u32,
+    // each counter's word at the place that its row of the table names
+    counters: [u32; COUNTER_WORDS],
 }
 
 impl Model for Latches {
-    ghost use Rattle.em_regs.specs.Registers.{Registers, registers_code};
+    ghost use Rattle.std.specs.Prelude.{◌∷◌};
+    ghost use Rattle.em_regs.specs.RegFile.{registers_code};
+    ghost use Rattle.em_regs.specs.Storage.{Registers, words_at};
+    ghost use Rattle.em_latch.specs.Storage.{offsets};
 
     ghost Value = { Registers };
 
     ghost coded = { registers_code };
 
-    ghost use Rattle.em_regs.specs.Layout.{words_at};
-    ghost use Rattle.em_latch.specs.Layout.{offsets};
-
-    ghost view = { λ latches. words_at offsets latches.words };
+    ghost view = { λ latches. words_at offsets (latches.causes ∷ latches.mask ∷ latches.counters) };
 }
 
 impl Latches {
     /// No cause set, none let through to the line, and nothing counted.
-    #[tactic(auto, unfolding(crate::specs::Layout::fresh))]
     pub fn new() -> Latches
         ensures { result ≡ fresh }
     {
-        Latches { words: [0; WORDS] }
+        Latches {
+            causes: 0,
+            mask: 0,
+            counters: [0; COUNTER_WORDS],
+        }
     }
 
     /// Whether the register is one of these: the condition of `look`, `read` and `write`.
     pub fn holds(&self, reg: Reg) -> bool
         ensures { result ≡ is_latched reg }
     {
-        match reg {
-            Reg::Icr | Reg::Ics | Reg::Ims | Reg::Imc => true,
-            _ => reg.is_counter(),
-        }
+        matches!(reg.row().kind, Kind::Interrupt | Kind::Counter)
     }
 
     /// What a read of the register gives, with nothing cleared.
@@ -69,7 +75,7 @@ impl Latches {
     {
         match reg {
             Reg::Ics | Reg::Imc => 0,
-            _ => self.held(reg),
+            _ => self.word(reg),
         }
     }
 
@@ -79,15 +85,15 @@ impl Latches {
         requires { IsLatched reg }
         ensures value { result.0 ≡ gives self.old reg }
         ensures state { self.new ≡ after_read self.old reg }
-        ensures fits { Fits self.new result.1 }
-        ensures restores { undo self.new result.1 ≡ self.old }
+        ensures words { length result.1 ≤ 2 }
+        ensures reverses { Reverses self.old self.new result.1 }
     {
         let value = self.look(reg);
         let undo = match reg {
             Reg::Ics | Reg::Ims | Reg::Imc | Reg::Gorcl | Reg::Gotcl => LatchUndo::none(),
             Reg::Gorch => self.replace_both(Reg::Gorcl, Reg::Gorch, 0, 0),
             Reg::Gotch => self.replace_both(Reg::Gotcl, Reg::Gotch, 0, 0),
-            _ => LatchUndo::one(self.replace(reg, 0)),
+            _ => self.replace(reg, 0),
         };
         (value, undo)
     }
@@ -96,16 +102,16 @@ impl Latches {
     pub fn write(&mut self, reg: Reg, value: u32) -> LatchUndo
         requires { IsLatched reg }
         ensures state { self.new ≡ after_write self.old reg value }
-        ensures fits { Fits self.new result }
-        ensures restores { undo self.new result ≡ self.old }
+        ensures words { length result ≤ 1 }
+        ensures reverses { Reverses self.old self.new result }
     {
-        let causes = self.held(Reg::Icr);
-        let mask = self.held(Reg::Ims);
+        let causes = self.word(Reg::Icr);
+        let mask = self.word(Reg::Ims);
         match reg {
-            Reg::Icr => LatchUndo::one(self.replace(Reg::Icr, causes & !value)),
-            Reg::Ics => LatchUndo::one(self.replace(Reg::Icr, causes | (value & CAUSE_BITS))),
-            Reg::Ims => LatchUndo::one(self.replace(Reg::Ims, mask | (value & CAUSE_BITS))),
-            Reg::Imc => LatchUndo::one(self.replace(Reg::Ims, mask & !value)),
+            Reg::Icr => self.replace(Reg::Icr, causes & !value),
+            Reg::Ics => self.replace(Reg::Icr, causes | (value & CAUSE_BITS)),
+            Reg::Ims => self.replace(Reg::Ims, mask | (value & CAUSE_BITS)),
+            Reg::Imc => self.replace(Reg::Ims, mask & !value),
             _ => LatchUndo::none(),
         }
     }
@@ -113,26 +119,26 @@ impl Latches {
     /// Sets causes in ICR.
     pub fn raise(&mut self, causes: u32) -> LatchUndo
         ensures state { self.new ≡ after_raise self.old causes }
-        ensures fits { Fits self.new result }
-        ensures restores { undo self.new result ≡ self.old }
+        ensures words { length result ≤ 1 }
+        ensures reverses { Reverses self.old self.new result }
     {
-        let set = self.held(Reg::Icr);
-        LatchUndo::one(self.replace(Reg::Icr, set | causes))
+        let set = self.word(Reg::Icr);
+        self.replace(Reg::Icr, set | causes)
     }
 
     /// Steps a counter by some number; it stops at its greatest value.
     pub fn count(&mut self, counter: Counter, by: u32) -> LatchUndo
         ensures state { self.new ≡ after_count self.old counter by }
-        ensures fits { Fits self.new result }
-        ensures restores { undo self.new result ≡ self.old }
+        ensures words { length result ≤ 2 }
+        ensures reverses { Reverses self.old self.new result }
     {
         match counter {
             Counter::Gorc => self.count_pair(Reg::Gorcl, Reg::Gorch, by),
             Counter::Gotc => self.count_pair(Reg::Gotcl, Reg::Gotch, by),
             _ => {
                 let reg = counter.reg();
-                let sum = self.held(reg).saturating_add(by);
-                LatchUndo::one(self.replace(reg, sum))
+                let sum = self.word(reg).saturating_add(by);
+                self.replace(reg, sum)
             }
         }
     }
@@ -141,56 +147,81 @@ impl Latches {
     pub fn line(&self) -> bool
         ensures { IsTrue result ↔ IsAsserted self.now }
     {
-        self.held(Reg::Icr) & self.held(Reg::Ims) != 0
+        self.causes & self.mask != 0
     }
 
-    fn held(&self, reg: Reg) -> u32
-        requires { IsWord reg }
-        ensures there { map.get self.now (offset_of reg) ≡ Some result }
-        ensures value { result ≡ registers.at self.now (offset_of reg) }
+    /// Takes back the changes that gave out this record, and gives the record that makes them again.
+    pub fn exchange(&mut self, taken: LatchUndo) -> LatchUndo
+        ensures state { self.new ≡ undo self.old taken }
+        ensures words { length result ≡ length taken }
+        ensures reverses { Reverses self.old self.new result }
     {
-        self.words[place_of(reg)]
+        let mut again = LatchUndo::none();
+        let mut left = taken.len();
+        while left > 0 {
+            left -= 1;
+            again.push(self.exchange_word(taken.word(left)));
+        }
+        again
     }
 
-    fn store(&mut self, reg: Reg, value: u32)
+    fn word(&self, reg: Reg) -> u32
         requires { IsWord reg }
-        ensures { self.new ≡ map.insert self.old (offset_of reg) value }
+        ensures { result ≡ registers.at self.now (offset_of reg) }
     {
-        self.words[place_of(reg)] = value;
+        match reg {
+            Reg::Icr => self.causes,
+            Reg::Ims => self.mask,
+            _ => self.counters[reg.row().place],
+        }
     }
 
-    /// Stores a word, and keeps what it held.
-    fn replace(&mut self, reg: Reg, value: u32) -> OldWord
+    /// Puts an old word back, and gives the one that it replaces.
+    fn exchange_word(&mut self, taken: OldWord) -> OldWord
+        ensures state { self.new ≡ registers.undo self.old taken }
+        ensures reverses { registers.Reverses self.old self.new result }
+    {
+        let OldWord { place, old } = taken;
+        let was = self.swap(place, old);
+        OldWord { place, old: was }
+    }
+
+    /// Stores the word at a place, and gives what it was.
+    fn swap(&mut self, place: u8, value: u32) -> u32
+        requires { place < WORDS }
+        ensures old { map.get self.old (slice_index offsets place) ≡ Some result }
+        ensures state { self.new ≡ map.insert self.old (slice_index offsets place) value }
+    {
+        match place {
+            CAUSES => std::mem::replace(&mut self.causes, value),
+            MASK => std::mem::replace(&mut self.mask, value),
+            _ => std::mem::replace(&mut self.counters[usize::from(place - COUNTERS)], value),
+        }
+    }
+
+    /// Stores a word.
+    fn replace(&mut self, reg: Reg, value: u32) -> LatchUndo
         requires { IsWord reg }
         ensures state { self.new ≡ map.insert self.old (offset_of reg) value }
-        ensures fits { registers.Fits self.new result }
-        ensures restores { registers.undo self.new result ≡ self.old }
+        ensures words { length result ≡ 1 }
+        ensures reverses { Reverses self.old self.new result }
     {
-        let old = self.held(reg);
-        self.store(reg, value);
-        OldWord { reg, old }
-    }
-
-    fn put_back(&mut self, word: Option<OldWord>)
-        requires { Fits self.old (option_to_list word) }
-        ensures { self.new ≡ undo self.old (option_to_list word) }
-    {
-        if let Some(OldWord { reg, old }) = word {
-            self.store(reg, old);
-        }
+        let place = place_of(reg);
+        let old = self.swap(place, value);
+        LatchUndo::one(OldWord { place, old })
     }
 
     /// Stores two words, the low half of a pair and the high one.
     fn replace_both(&mut self, low: Reg, high: Reg, low_value: u32, high_value: u32) -> LatchUndo
         requires low { IsWord low }
         requires high { IsWord high }
-        ensures state { self.new ≡ map.insert (map.insert self.old (offset_of low) low_value) (offset_of high) high_value }
-        ensures fits { Fits self.new result }
-        ensures restores { undo self.new result ≡ self.old }
+        ensures state { self.new ≡ after_pair_write self.old low high low_value high_value }
+        ensures words { length result ≡ 2 }
+        ensures reverses { Reverses self.old self.new result }
     {
         let older = self.replace(low, low_value);
         let newer = self.replace(high, high_value);
-        LatchUndo::both(newer, older)
+        older.and(newer)
     }
 
     /// Steps a pair as one number.
@@ -198,17 +229,12 @@ impl Latches {
         requires low { IsWord low }
         requires high { IsWord high }
         ensures state { self.new ≡ after_pair_count self.old low high by }
-        ensures fits { Fits self.new result }
-        ensures restores { undo self.new result ≡ self.old }
+        ensures words { length result ≡ 2 }
+        ensures reverses { Reverses self.old self.new result }
     {
-        let old = u64::from(self.held(low)) + 0x1_0000_0000 * u64::from(self.held(high));
+        let old = u64::from(self.word(low)) + HALF * u64::from(self.word(high));
         let sum = old.saturating_add(u64::from(by));
-        self.replace_both(
-            low,
-            high,
-            (sum % 0x1_0000_0000) as u32,
-            (sum / 0x1_0000_0000) as u32,
-        )
+        self.replace_both(low, high, (sum % HALF) as u32, (sum / HALF) as u32)
     }
 }
 
@@ -222,47 +248,19 @@ impl Reversible for Latches {
     ghost undone = { undo };
 
     fn take_back(&mut self, undo: LatchUndo) {
-        let LatchUndo { newer, older } = undo;
-        self.put_back(newer);
-        self.put_back(older);
+        let _again = self.exchange(undo);
     }
 }
 
-/// Which word keeps the register.
-fn place_of(reg: Reg) -> usize
+/// The place of the register's word, as an old word names it.
+fn place_of(reg: Reg) -> u8
     requires { IsWord reg }
     ensures within { result < WORDS }
-    ensures place { get_or offsets result 0 ≡ offset_of reg }
+    ensures place { slice_index offsets result ≡ offset_of reg }
 {
     match reg {
-        Reg::Icr => 0,
-        Reg::Ims => 1,
-        Reg::Mpc => 2,
-        Reg::Prc64 => 3,
-        Reg::Prc127 => 4,
-        Reg::Prc255 => 5,
-        Reg::Prc511 => 6,
-        Reg::Prc1023 => 7,
-        Reg::Prc1522 => 8,
-        Reg::Gprc => 9,
-        Reg::Bprc => 10,
-        Reg::Mprc => 11,
-        Reg::Gptc => 12,
-        Reg::Gorcl => 13,
-        Reg::Gorch => 14,
-        Reg::Gotcl => 15,
-        Reg::Gotch => 16,
-        Reg::Rnbc => 17,
-        Reg::Ruc => 18,
-        Reg::Roc => 19,
-        Reg::Ptc64 => 20,
-        Reg::Ptc127 => 21,
-        Reg::Ptc255 => 22,
-        Reg::Ptc511 => 23,
-        Reg::Ptc1023 => 24,
-        Reg::Ptc1522 => 25,
-        Reg::Mptc => 26,
-        Reg::Bptc => 27,
-        _ => unreachable!(),
+        Reg::Icr => CAUSES,
+        Reg::Ims => MASK,
+        _ => COUNTERS + reg.row().place as u8,
     }
 }

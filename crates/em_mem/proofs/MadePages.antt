@@ -7,7 +7,11 @@ pub more_same : (c : Cells) → MorePages c c
 more_same c = record { octets = refl; made = λ p is. is }
 
 pub more_trans : (c d e : Cells) → MorePages c d → MorePages d e → MorePages c e
-more_trans c d e first then = record { octets = then.octets ∙ first.octets; made = λ p is. then.made p (first.made p is) }
+more_trans c d e first then = record {
+  octets = then.octets
+      ∙ first.octets;
+  made = λ p is. then.made p (first.made p is);
+}
 
 -- what fits still fits where more pages are made
 pub fits_after : (c d : Cells) (p : Patch) → MorePages c d → Fits c p → Fits d p

@@ -1,5 +1,23 @@
 -- What a write leaves, what a read after it gives, and what takes it back.
-use Rattle.std.proofs.Common.{◌≡◌, ℕ, ◌+◌, ◌≤◌, List, ◌++◌, length, take, drop, refl, sym, ap, ◌∙◌, arith, length-append, length-drop, take-add}
+use Rattle.std.proofs.Common.{
+  ◌≡◌,
+  ℕ,
+  ◌+◌,
+  ◌≤◌,
+  List,
+  ◌++◌,
+  length,
+  take,
+  drop,
+  refl,
+  sym,
+  ap,
+  ◌∙◌,
+  arith,
+  length-append,
+  length-drop,
+  take-add,
+}
 use Rattle.std.proofs.lemmas.List.{take_at, drop_at, length-take-le, drop-drop, take-append-drop, append_assoc}
 use Rattle.em_mem.specs.Memory.{IsHeld, part, put}
 use Rattle.std.proofs.lemmas.List.{take-append-le, drop-append-le}
@@ -27,19 +45,23 @@ drop-put : (m : List ℕ) (a : ℕ) (d : List ℕ) → IsHeld m a (length d) →
 drop-put m a d held = drop_at (take a m) (d ++ drop (a + length d) m) a (length-take-le a m (omega arith))
 
 -- what lies past a write
-pub drop_past-put : (m : List ℕ) (a : ℕ) (d : List ℕ) → IsHeld m a (length d) → drop (a + length d) (put m a d) ≡ drop (a + length d) m
-drop_past-put m a d held = sym (drop-drop (length d) a (put m a d)) ∙ ap (drop (length d)) (drop-put m a d held) ∙ drop_at d (drop (a + length d) m) (length d) refl
+pub drop_past-put : (m : List ℕ) (a : ℕ) (d : List ℕ) → IsHeld m a (length d)
+    → drop (a + length d) (put m a d) ≡ drop (a + length d) m
+drop_past-put m a d held = sym (drop-drop (length d) a (put m a d)) ∙ ap (drop (length d)) (drop-put m a d held)
+    ∙ drop_at d (drop (a + length d) m) (length d) refl
 
 -- a read of what was written
 pub part-put : (m : List ℕ) (a : ℕ) (d : List ℕ) → IsHeld m a (length d) → part (put m a d) a (length d) ≡ d
 part-put m a d held = ap (take (length d)) (drop-put m a d held) ∙ take_at d (drop (a + length d) m) (length d) refl
 
 -- a read past a write gives the old octets
-pub part_past-put : (m : List ℕ) (a : ℕ) (d : List ℕ) (n : ℕ) → IsHeld m a (length d) → part (put m a d) (a + length d) n ≡ part m (a + length d) n
+pub part_past-put : (m : List ℕ) (a : ℕ) (d : List ℕ) (n : ℕ) → IsHeld m a (length d)
+    → part (put m a d) (a + length d) n ≡ part m (a + length d) n
 part_past-put m a d n held = ap (take n) (drop_past-put m a d held)
 
 -- the old octets, put back, take a write back
-pub put-part : (m : List ℕ) (a : ℕ) (d e : List ℕ) → IsHeld m a (length d) → e ≡ part m a (length d) → put (put m a d) a e ≡ m
+pub put-part : (m : List ℕ) (a : ℕ) (d e : List ℕ) → IsHeld m a (length d) → e ≡ part m a (length d)
+    → put (put m a d) a e ≡ m
 put-part m a d e held is =
     let size : length e ≡ length d = ap length is ∙ length-part m a (length d) held in
     let front : take a (put m a d) ≡ take a m = take-put m a d held in
@@ -51,21 +73,29 @@ put-part m a d e held is =
     done ∙ ap (λ x. take a m ++ x) old ∙ take-append-drop a m
 
 -- the same, at the list that the write left
-pub put_back : (m w : List ℕ) (a : ℕ) (d e : List ℕ) → w ≡ put m a d → e ≡ part m a (length d) → IsHeld m a (length d) → put w a e ≡ m
+pub put_back : (m w : List ℕ) (a : ℕ) (d e : List ℕ) → w ≡ put m a d → e ≡ part m a (length d)
+    → IsHeld m a (length d) → put w a e ≡ m
 put_back m w a d e left is held = ap (λ x. put x a e) left ∙ put-part m a d e held is
 
 -- two writes end to end are one
-pub put-put : (m : List ℕ) (a : ℕ) (d e : List ℕ) → a + length d + length e ≤ length m → put (put m a d) (a + length d) e ≡ put m a (d ++ e)
+pub put-put : (m : List ℕ) (a : ℕ) (d e : List ℕ) → a + length d + length e ≤ length m
+    → put (put m a d) (a + length d) e ≡ put m a (d ++ e)
 put-put m a d e held =
     let front_size : length (take a m) ≡ a = length-take-le a m (omega arith) in
     let first_size : length (take a m ++ d) ≡ a + length d = omega (arith, length-append (take a m) d) in
-    let split : put m a d ≡ (take a m ++ d) ++ drop (a + length d) m = sym (append_assoc (take a m) d (drop (a + length d) m)) in
-    let front : take (a + length d) (put m a d) ≡ take a m ++ d = ap (take (a + length d)) split ∙ take_at (take a m ++ d) (drop (a + length d) m) (a + length d) first_size in
+    let split : put m a d ≡ (take a m ++ d) ++ drop (a + length d) m = sym
+    (append_assoc (take a m) d (drop (a + length d) m)) in
+    let front : take (a + length d) (put m a d) ≡ take a m ++ d = ap (take (a + length d)) split
+    ∙ take_at (take a m ++ d) (drop (a + length d) m) (a + length d) first_size in
     let end : a + length d + length e ≡ a + length (d ++ e) = omega (arith, length-append d e) in
     let back : drop (a + length d + length e) (put m a d) ≡ drop (a + length (d ++ e)) m
-    = sym (drop-drop (length e) (a + length d) (put m a d)) ∙ ap (drop (length e)) (drop_past-put m a d (omega arith)) ∙ drop-drop (length e) (a + length d) m ∙ ap (λ k. drop k m) end in
-    let all : put (put m a d) (a + length d) e ≡ (take a m ++ d) ++ (e ++ drop (a + length (d ++ e)) m) = λ i. front i ++ (e ++ back i) in
-    all ∙ append_assoc (take a m) d (e ++ drop (a + length (d ++ e)) m) ∙ ap (λ t. take a m ++ t) (sym (append_assoc d e (drop (a + length (d ++ e)) m)))
+    = sym (drop-drop (length e) (a + length d) (put m a d))
+    ∙ ap (drop (length e)) (drop_past-put m a d (omega arith)) ∙ drop-drop (length e) (a + length d) m
+    ∙ ap (λ k. drop k m) end in
+    let all : put (put m a d) (a + length d) e ≡ (take a m ++ d) ++
+    (e ++ drop (a + length (d ++ e)) m) = λ i. front i ++ (e ++ back i) in
+    all ∙ append_assoc (take a m) d (e ++ drop (a + length (d ++ e)) m)
+    ∙ ap (λ t. take a m ++ t) (sym (append_assoc d e (drop (a + length (d ++ e)) m)))
 
 -- two reads end to end are one
 pub part-append : (m : List ℕ) (a k n : ℕ) → part m a k ++ part m (a + k) n ≡ part m a (k + n)
@@ -73,7 +103,8 @@ part-append m a k n = ap (λ t. take k (drop a m) ++ take n t) (sym (drop-drop k
 
 -- ---- a part, and a write, within the first of two lists, or after it
 pub part_left : (xs ys : List ℕ) (o n : ℕ) → IsHeld xs o n → part (xs ++ ys) o n ≡ part xs o n
-part_left xs ys o n held = ap (take n) (drop-append-le o xs ys (omega arith)) ∙ take-append-le n (drop o xs) ys (omega (arith, length-drop o xs))
+part_left xs ys o n held = ap (take n) (drop-append-le o xs ys (omega arith))
+    ∙ take-append-le n (drop o xs) ys (omega (arith, length-drop o xs))
 
 pub part_right : (xs ys : List ℕ) (k o n : ℕ) → k ≡ length xs + o → part (xs ++ ys) k n ≡ part ys o n
 part_right xs ys k o n after = ap (λ m. take n (drop m (xs ++ ys))) after ∙ ap (take n) (drop-append-add xs ys o)
@@ -83,12 +114,14 @@ put_left xs ys o d held =
     let front = take-append-le o xs ys (omega arith) in
     let back = drop-append-le (o + length d) xs ys held in
     let all : put (xs ++ ys) o d ≡ take o xs ++ (d ++ (drop (o + length d) xs ++ ys)) = λ i. front i ++ (d ++ back i) in
-    all ∙ ap (λ t. take o xs ++ t) (sym (append_assoc d (drop (o + length d) xs) ys)) ∙ sym (append_assoc (take o xs) (d ++ drop (o + length d) xs) ys)
+    all ∙ ap (λ t. take o xs ++ t) (sym (append_assoc d (drop (o + length d) xs) ys))
+    ∙ sym (append_assoc (take o xs) (d ++ drop (o + length d) xs) ys)
 
 pub put_right : (xs ys : List ℕ) (k o : ℕ) (d : List ℕ) → k ≡ length xs + o → put (xs ++ ys) k d ≡ xs ++ put ys o d
 put_right xs ys k o d after =
     let front : take k (xs ++ ys) ≡ xs ++ take o ys = ap (λ m. take m (xs ++ ys)) after ∙ take-append-add xs ys o in
     let end : k + length d ≡ length xs + (o + length d) = omega arith in
-    let back : drop (k + length d) (xs ++ ys) ≡ drop (o + length d) ys = ap (λ m. drop m (xs ++ ys)) end ∙ drop-append-add xs ys (o + length d) in
+    let back : drop (k + length d) (xs ++ ys) ≡ drop (o + length d) ys = ap (λ m. drop m (xs ++ ys)) end
+    ∙ drop-append-add xs ys (o + length d) in
     let all : put (xs ++ ys) k d ≡ (xs ++ take o ys) ++ (d ++ drop (o + length d) ys) = λ i. front i ++ (d ++ back i) in
     all ∙ append_assoc xs (take o ys) (d ++ drop (o + length d) ys)

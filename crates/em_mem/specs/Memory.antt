@@ -1,7 +1,27 @@
 -- Octets of guest memory, and which of its pages are made.
-use Rattle.std.specs.Prelude.{◌≡◌, ℕ, ◌+◌, ◌*◌, ◌/◌, ◌%◌, ◌<◌, ◌≤◌, ◌⊎◌, Bool, true, false, List, ◌++◌, length, take, drop, replicate, slice_index_or, refl}
+use Rattle.std.specs.Prelude.{
+  ◌≡◌,
+  ℕ,
+  ◌+◌,
+  ◌*◌,
+  ◌/◌,
+  ◌%◌,
+  ◌<◌,
+  ◌≤◌,
+  ◌⊎◌,
+  Bool,
+  true,
+  false,
+  List,
+  ◌++◌,
+  length,
+  take,
+  drop,
+  replicate,
+  slice_index_or,
+  refl,
+}
 use Rattle.std.specs.Coded.{Coded, code_by, coded×, coded_list, coded_ℕ, coded_bool}
-use Rattle.em_mem.specs.declared.TheConstants.{PAGE_OCTETS, MOST_OCTETS}
 
 -- what guest memory keeps: its octets, and for each page whether it is made
 pub record Cells : Type 0 where
@@ -10,11 +30,16 @@ pub record Cells : Type 0 where
 
 -- cells are stored as the pair of their fields
 abbrev pub cells_code : Coded Cells
-cells_code = code_by (List ℕ × List Bool) (coded× (coded_list coded_ℕ) (coded_list coded_bool)) (λ c. (c.octets, c.made)) (λ p. record { octets = p.0; made = p.1 }) (λ _. refl)
+cells_code = code_by (List ℕ × List Bool) (coded× (coded_list coded_ℕ) (coded_list coded_bool))
+    (λ c. (c.octets, c.made)) (λ p. record { octets = p.0; made = p.1 }) (λ _. refl)
 
--- a size that guest memory can have: whole pages, one at least
+-- the octets of a page
+abbrev pub page_size : ℕ
+page_size = 4096
+
+-- a size that guest memory can have: whole pages, one at least, and 16 MiB at most
 abbrev pub IsMemorySize : ℕ → Type 0
-IsMemorySize size = (PAGE_OCTETS ≤ size) × (size ≤ MOST_OCTETS) × (size % PAGE_OCTETS ≡ 0)
+IsMemorySize size = (page_size ≤ size) × (size ≤ 16777216) × (size % page_size ≡ 0)
 
 -- so many zeros
 unfoldable pub zeros : ℕ → List ℕ
@@ -22,7 +47,7 @@ zeros n = replicate n 0
 
 -- for each page of memory of this size that it is not made
 unfoldable pub none_made : ℕ → List Bool
-none_made size = replicate (size / PAGE_OCTETS) false
+none_made size = replicate (size / page_size) false
 
 -- memory of this size, all zero, with no page made
 abbrev pub fresh : ℕ → Cells
@@ -34,7 +59,7 @@ IsHeld octets a n = a + n ≤ length octets
 
 -- the range of n octets from a on lies in one page
 abbrev pub IsInOnePage : ℕ → ℕ → Type 0
-IsInOnePage a n = a % PAGE_OCTETS + n ≤ PAGE_OCTETS
+IsInOnePage a n = a % page_size + n ≤ page_size
 
 -- page p is made
 abbrev pub IsPageMade : Cells → ℕ → Type 0
@@ -42,11 +67,11 @@ IsPageMade c p = slice_index_or c.made p false ≡ true
 
 -- each page of the range of n octets from a on is made
 abbrev pub IsMade : Cells → ℕ → ℕ → Type 0
-IsMade c a n = (i : ℕ) → i < n → IsPageMade c ((a + i) / PAGE_OCTETS)
+IsMade c a n = (i : ℕ) → i < n → IsPageMade c ((a + i) / page_size)
 
 -- page p has an octet of the range of n octets from a on
 abbrev pub IsPageOf : ℕ → ℕ → ℕ → Type 0
-IsPageOf p a n = (0 < n) × (a < PAGE_OCTETS * p + PAGE_OCTETS) × (PAGE_OCTETS * p < a + n)
+IsPageOf p a n = (0 < n) × (a < page_size * p + page_size) × (page_size * p < a + n)
 
 -- the n octets from a on
 abbrev pub part : List ℕ → ℕ → ℕ → List ℕ
@@ -69,6 +94,11 @@ pub record Fits (c : Cells) (p : Patch) : Type 0 where
 -- the cells with the patch put back: pages that are made stay made
 abbrev pub undo : Cells → Patch → Cells
 undo c p = record c { octets = put c.octets p.at p.octets }
+
+-- the patch takes the change from the old cells to the new ones back
+pub record Reverses (old new : Cells) (p : Patch) : Type 0 where
+  pub fits : Fits new p
+  pub restores : undo new p ≡ old
 
 -- d is c, but that d may have more pages made
 pub record MorePages (c d : Cells) : Type 0 where

@@ -1,8 +1,25 @@
 -- What a table of pages, some of which are made, means as octets.
-use Rattle.std.specs.Prelude.{◌≡◌, ◌*◌, ◌≤◌, ℕ, Bool, true, false, List, [], ◌∷◌, length, map, slice_index_or, Option, Some, None}
+use Rattle.std.specs.Prelude.{
+  ◌≡◌,
+  ◌*◌,
+  ◌≤◌,
+  ℕ,
+  Bool,
+  true,
+  false,
+  List,
+  [],
+  ◌∷◌,
+  length,
+  map,
+  slice_index_or,
+  Option,
+  Some,
+  None,
+}
 use Rattle.std.specs.List.{flat_map}
 use Rattle.std.specs.Global.{Box}
-use Rattle.em_mem.specs.declared.TheConstants.{PAGE_OCTETS, MOST_OCTETS}
+use Rattle.em_mem.specs.declared.TheConstants.{PAGE_OCTETS, MOST_MEMORY}
 use Rattle.em_mem.specs.Memory.{zeros}
 
 -- a page, or none where it is not made
@@ -47,5 +64,5 @@ AllWhole (p ∷ ps) = (length (page_octets p) ≡ PAGE_OCTETS) × AllWhole ps
 -- a table of whole pages, no greater than memory may be, and the page of zeros
 pub record IsTable (pages : List Page) (zeros : List ℕ) : Type 0 where
   pub whole : AllWhole pages
-  pub most : PAGE_OCTETS * length pages ≤ MOST_OCTETS
+  pub most : PAGE_OCTETS * length pages ≤ MOST_MEMORY
   pub zero : zeros ≡ zero_page

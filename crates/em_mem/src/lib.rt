@@ -20,7 +20,7 @@ mod undo;
 pub const PAGE_OCTETS: usize = 4096;
 
 /// The greatest size of guest memory, in octets.
-pub const MOST_OCTETS: u64 = 16_777_216;
+pub const MOST_MEMORY: u64 = 16_777_216;
 
 /// The most octets that one record of old octets holds: one write of memory writes no more, and one
 /// descriptor's buffer has no more.

@@ -1,9 +1,11 @@
 //! Guest memory: the octets of the guest, and which of its pages are made.
-ghost use Rattle.std.specs.Prelude.{◌≡◌, ◌+◌, ◌%◌, ◌≤◌, ◌<◌, ◌↔◌, IfOk, IfErr, IsErrOf, IsOk, IsTrue, IsSome, IfSome, OnOk, length};
-ghost use Rattle.em_mem.specs.Memory.{Fits, IsHeld, IsInOnePage, IsMade, IsMemorySize, MakesOnly, MorePages, fresh, part, put, undo as undone_by};
+ghost use Rattle.std.specs.Prelude.{◌≡◌, ◌+◌, ◌%◌, ◌≤◌, ◌<◌, ◌↔◌, length};
+ghost use Rattle.std.specs.Prelude.{IfOk, IfErr, IsErrOf, IsOk, IsTrue, IsSome, IfSome, OnOk};
+ghost use Rattle.em_mem.specs.Memory.{IsHeld, IsInOnePage, IsMade, IsMemorySize, MakesOnly, MorePages};
+ghost use Rattle.em_mem.specs.Memory.{fresh, part, put, Fits, undo, Reverses};
 
 use crate::page::Page;
-use crate::{MOST_OCTETS, MemRefusal, MemUndo, PAGE_OCTETS, Reversible, page, table};
+use crate::{MOST_MEMORY, MemRefusal, MemUndo, PAGE_OCTETS, Reversible, page, table};
 use std::alloc::Global;
 use std::marker::Model;
 
@@ -41,7 +43,7 @@ impl GuestMemory {
         ensures memory { IsErrOf result MemRefusal.Memory → IsMemorySize size }
     {
         let at_least = PAGE_OCTETS as u64;
-        if size < at_least || size > MOST_OCTETS || size % at_least != 0 {
+        if size < at_least || size > MOST_MEMORY || size % at_least != 0 {
             return Err(MemRefusal::Size);
         }
         let pages = table::no_pages(alloc, size as usize / PAGE_OCTETS)?;
@@ -56,7 +58,7 @@ impl GuestMemory {
     /// The size of memory in octets.
     pub fn len(&self) -> u64
         ensures len { result ≡ length self.now.octets }
-        ensures most { result ≤ MOST_OCTETS }
+        ensures most { result ≤ MOST_MEMORY }
     {
         (self.pages.len() * PAGE_OCTETS) as u64
     }
@@ -67,6 +69,15 @@ impl GuestMemory {
     {
         let size = self.len();
         addr <= size && len <= size - addr
+    }
+
+    /// Where the range of `len` octets from `addr` on ends.
+    fn end(&self, addr: u64, len: u64) -> u64
+        requires { IsHeld self.now.octets addr len }
+        ensures end { result ≡ addr + len }
+        ensures most { result ≤ MOST_MEMORY }
+    {
+        self.len().min(addr + len)
     }
 
     /// The `len` octets from `addr` on, where they lie in memory and in one page: without a copy.
@@ -112,10 +123,8 @@ impl GuestMemory {
         if len == 0 {
             return Ok(());
         }
-        // the sums below stay small
-        let _size = self.len();
         let first = addr as usize / PAGE_OCTETS;
-        let last = (addr + (len - 1)) as usize / PAGE_OCTETS;
+        let last = (self.end(addr, len) - 1) as usize / PAGE_OCTETS;
         table::make_pages(self.alloc, self.pages.as_mut_slice(), first, last)?;
         Ok(())
     }
@@ -125,10 +134,9 @@ impl GuestMemory {
         requires { IsHeld self.now.octets addr (length out.old) }
         ensures { out.new ≡ part self.now.octets addr (length out.old) }
     {
-        // the sums below stay small
-        let _size = self.len();
+        let end = self.end(addr, out.len() as u64);
         let mut done = 0;
-        while done < out.len() {
+        while addr + (done as u64) < end {
             let from = addr + done as u64;
             let count = in_page(from, out.len() - done);
             let Some(octets) = self.slice(from, count) else {
@@ -151,18 +159,29 @@ impl GuestMemory {
 
         // A record of the old octets takes the write back.
         ensures len { length swapped.new ≡ length swapped.old }
-        ensures fits { Fits self.new (record { at = addr; octets = swapped.new }) }
-        ensures restores { undone_by self.new (record { at = addr; octets = swapped.new }) ≡ self.old }
+        ensures reverses { Reverses self.old self.new (record { at = addr; octets = swapped.new }) }
     {
-        // the sums below stay small
-        let _size = self.len();
+        let end = self.end(addr, swapped.len() as u64);
         let mut done = 0;
-        while done < swapped.len() {
+        while addr + (done as u64) < end {
             let from = addr + done as u64;
             let count = in_page(from, swapped.len() - done);
             self.swap_piece(from, &mut swapped[done..done + count]);
             done += count;
         }
+    }
+
+    /// Takes back the write that gave out this record, and gives the record that makes it again. It
+    /// takes no memory.
+    pub fn exchange(&mut self, taken: MemUndo) -> MemUndo
+        requires { Fits self.old taken }
+        ensures state { self.new ≡ undo self.old taken }
+        ensures len { length result.octets ≡ length taken.octets }
+        ensures reverses { Reverses self.old self.new result }
+    {
+        let (addr, mut octets) = taken.into_parts();
+        self.swap(addr, octets.as_mut_slice());
+        MemUndo::new(addr, octets)
     }
 
     fn swap_piece(&mut self, addr: u64, swapped: &mut [u8])
@@ -203,7 +222,6 @@ impl Reversible for GuestMemory {
     ghost undone = { undo };
 
     fn take_back(&mut self, undo: MemUndo) {
-        let (addr, mut octets) = undo.into_parts();
-        self.swap(addr, octets.as_mut_slice());
+        let _again = self.exchange(undo);
     }
 }

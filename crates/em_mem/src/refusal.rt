@@ -2,9 +2,11 @@
 ghost use Rattle.std.specs.Prelude.{◌≡◌};
 
 use std::alloc::AllocError;
+use thiserror::Error;
 
 /// Why guest memory was not made, or a page of it.
-#[derive(Clone, Copy, Debug, PartialEq, Eq)]
+#[derive(Clone, Copy, Debug, PartialEq, Eq, Error)]
+#[error("{}", self.name())]
 pub enum MemRefusal {
     /// The size is not a multiple of 4,096 from 4,096 to 16,777,216.
     Size = 1,
@@ -13,13 +15,23 @@ pub enum MemRefusal {
 }
 
 impl MemRefusal {
-    ghost use Rattle.em_mem.specs.MemRefusal.{code_of};
+    ghost use Rattle.em_mem.specs.MemRefusal.{code_of, name_of};
 
     /// The refusal's number: 1 for `Size`, 9 for `Memory`.
     pub fn code(self) -> u32
         ensures { result ≡ code_of self }
     {
         self as u32
+    }
+
+    /// The refusal's name, as it is printed.
+    pub fn name(self) -> &'static str
+        ensures { result.now ≡ name_of self }
+    {
+        match self {
+            MemRefusal::Size => "Size",
+            MemRefusal::Memory => "Memory",
+        }
     }
 }
 

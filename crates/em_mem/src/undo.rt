@@ -44,6 +44,7 @@ impl MemUndo {
     pub(crate) fn into_parts(self) -> (u64, Vec<u8>)
         ensures at { result.0 ≡ self.at }
         ensures octets { result.1.items ≡ self.octets }
+        ensures most { vec_len result.1 ≤ MOST_RECORD }
     {
         (self.addr, self.octets)
     }

@@ -1,154 +1,233 @@
 -- The table of registers, read in both directions.
-use Rattle.std.proofs.Common.{◌≡◌, ℕ, ◌+◌, ◌*◌, ◌<◌, true, false, ◌-◌, ◌/◌, ◌%◌, List, [], ◌∷◌, Option, Some, None, refl, sym, ap, ◌∙◌, inl, inr, arith}
-use Rattle.std.specs.Prelude.{IfSome, IfNone, nat_le, nat_lt}
+use Rattle.std.proofs.Common.{◌≡◌, ◌≢◌, ℕ, zero, suc, ◌+◌, ◌*◌, ◌<◌, ◌≤◌, ◌-◌, ◌/◌, ◌%◌, Bool, true, false, ◌&&◌, ◌==◌}
+use Rattle.std.proofs.Common.{◌⊎◌, inl, inr, List, [], ◌∷◌, Option, Some, None, refl, sym, ap, ◌∙◌, subst, arith}
+use Rattle.std.proofs.Common.{slice_index_or, nat_lt, nat_le, leb-true, eqb-true}
+use Rattle.std.specs.Prelude.{IfSome, IfNone}
+use Rattle.std.proofs.lemmas.Bool.{and_parts, cases_eq}
 use Rattle.std.proofs.lemmas.Bool.Decides.{nat_tests}
-use Rattle.std.specs.FinMap.{find}
-use Rattle.std.specs.Ordering.{nat_cmp}
 use Rattle.em_regs.specs.declared.reg.Reg.{Reg}
-use Rattle.em_regs.specs.declared.reg.Reg.TheVariants.{Ctrl, Status, Eerd, CtrlExt, Fcal, Fcah, Fct, Vet, Fcttv, Ledctl, Pba, Icr, Itr, Ics, Ims, Imc, Rctl, Rdbal, Rdbah, Rdlen, Rdh, Rdt, Rdtr, Rxdctl, Radv, Rxcsum, Tctl, Tipg, Tdbal, Tdbah, Tdlen, Tdh, Tdt, Tidv, Txdctl, Tadv, Mpc, Prc64, Prc127, Prc255, Prc511, Prc1023, Prc1522, Gprc, Bprc, Mprc, Gorcl, Gorch, Rnbc, Ruc, Roc, Gptc, Gotcl, Gotch, Ptc64, Ptc127, Ptc255, Ptc511, Ptc1023, Ptc1522, Mptc, Bptc, Mta, Ral, Rah, Vfta}
-use Rattle.em_regs.specs.declared.reg.TheConstants.{TABLE_WORDS, ADDRESSES}
-use Rattle.em_regs.specs.Table.{IsReg, offset_of, reg_at, array, general, receive, transmit, received, sent}
-use Rattle.em_regs.proofs.Entries.{tie}
+use Rattle.em_regs.specs.declared.reg.Reg.TheVariants.{Ctrl, Mta, Ral, Rah, Vfta}
+use Rattle.em_regs.specs.declared.table.Row.{Row}
+use Rattle.em_regs.specs.declared.table.TheConstants.{PAGES, PAGE_AT}
+use Rattle.em_regs.specs.Table.{IsReg, row_of, index_of, with_index, first, offset_of, has_word_at, reg_in, registers}
+use Rattle.em_regs.specs.Table.{reg_at}
 
--- each entry of a group has the register that lies there
-abbrev AllLie : List (ℕ × Reg) → Type 0
-AllLie [] = Unit {0}
-AllLie (e ∷ es) = IsReg e.1 × (offset_of e.1 ≡ e.0) × AllLie es
+-- ---- two functions agree below n, where their first n values are computed and compared
+abbrev pub firsts : {X : Type 0} → (ℕ → X) → ℕ → List X
+firsts f zero = []
+firsts f (suc n) = f n ∷ firsts f n
 
-find_lies : (es : List (ℕ × Reg)) (o : ℕ) → AllLie es → IfSome (find nat_cmp o es) (λ reg. IsReg reg × (offset_of reg ≡ o))
-find_lies [] o h = tt
-find_lies (e ∷ es) o h = elim (tie o e.0) [
-  | inl t ↦ rw t.0 (h.0, h.1 ∙ sym t.1)
-  | inr t ↦ rw t.0 (find_lies es o h.2)
+abbrev head_or : {X : Type 0} → X → List X → X
+head_or d [] = d
+head_or d (x ∷ xs) = x
+
+abbrev rest : {X : Type 0} → List X → List X
+rest [] = []
+rest (x ∷ xs) = xs
+
+pub same_below : {X : Type 0} (f g : ℕ → X) (n : ℕ) → firsts f n ≡ firsts g n → (i : ℕ) → i < n → f i ≡ g i
+same_below f g zero e i h = absurd (omega arith)
+same_below f g (suc n) e i h = elim (cases_eq i n) [
+  | inl is ↦ ap f is ∙ ap (head_or (f n)) e ∙ sym (ap g is)
+  | inr apart ↦ same_below f g n (ap rest e) i (omega arith)
 ]
 
--- what a group has at an offset lies there
-pub receive_lies : (o : ℕ) → IfSome (find nat_cmp o receive) (λ reg. IsReg reg × (offset_of reg ≡ o))
-receive_lies o = find_lies receive o (tt, refl, (tt, refl, (tt, refl, (tt, refl, (tt, refl, (tt, refl, (tt, refl, (tt, refl, (tt, refl, (tt, refl, tt))))))))))
+truth : (b : Bool) → (b ≡ true) ⊎ (b ≡ false)
+truth true = inl refl
+truth false = inr refl
 
-pub transmit_lies : (o : ℕ) → IfSome (find nat_cmp o transmit) (λ reg. IsReg reg × (offset_of reg ≡ o))
-transmit_lies o = find_lies transmit o (tt, refl, (tt, refl, (tt, refl, (tt, refl, (tt, refl, (tt, refl, (tt, refl, (tt, refl, (tt, refl, (tt, refl, tt))))))))))
+-- ---- the words of a row
+zero_only : (i : ℕ) → i < 1 → 0 ≡ i
+zero_only i h = omega arith
 
-pub received_lies : (o : ℕ) → IfSome (find nat_cmp o received) (λ reg. IsReg reg × (offset_of reg ≡ o))
-received_lies o = find_lies received o (tt, refl, (tt, refl, (tt, refl, (tt, refl, (tt, refl, (tt, refl, (tt, refl, (tt, refl, (tt, refl, (tt, refl, (tt, refl, (tt, refl, (tt, refl, (tt, refl, (tt, refl, tt)))))))))))))))
+pub record Indexed (r : Reg) (i : ℕ) : Type 0 where
+  pub row : row_of (with_index r i) ≡ row_of r
+  pub index : index_of (with_index r i) ≡ i
 
-pub sent_lies : (o : ℕ) → IfSome (find nat_cmp o sent) (λ reg. IsReg reg × (offset_of reg ≡ o))
-sent_lies o = find_lies sent o (tt, refl, (tt, refl, (tt, refl, (tt, refl, (tt, refl, (tt, refl, (tt, refl, (tt, refl, (tt, refl, (tt, refl, (tt, refl, tt)))))))))))
+-- a row's register with an index below the row's words is of the row, and has the index
+pub indexed : (r : Reg) (i : ℕ) → i < (row_of r).words → Indexed r i
+indexed (Mta _) i h = record { row = refl; index = refl }
+indexed (Ral _) i h = record { row = refl; index = refl }
+indexed (Rah _) i h = record { row = refl; index = refl }
+indexed (Vfta _) i h = record { row = refl; index = refl }
+indexed Ctrl i h = record { row = refl; index = zero_only i h }
+indexed _ i h = record { row = refl; index = zero_only i h }
 
-pub general_lies : (o : ℕ) → IfSome (find nat_cmp o general) (λ reg. IsReg reg × (offset_of reg ≡ o))
-general_lies o = find_lies general o (tt, refl, (tt, refl, (tt, refl, (tt, refl, (tt, refl, (tt, refl, (tt, refl, (tt, refl, (tt, refl, (tt, refl, (tt, refl, tt)))))))))))
+pub spaced : (r : Reg) → ((row_of r).spacing ≡ 4) ⊎ ((row_of r).spacing ≡ 8)
+spaced (Ral _) = inr refl
+spaced (Rah _) = inr refl
+spaced Ctrl = inl refl
+spaced _ = inl refl
 
--- ---- the words of the arrays are found where they lie
-array-mta : (i : ℕ) → i < TABLE_WORDS → array (0x05200 + 4 * i) ≡ Some (Mta i)
-array-mta i h =
-    let index : (0x05200 + 4 * i - 0x05200) / 4 ≡ i = omega arith in
-    let low : nat_le 0x05200 (0x05200 + 4 * i) ≡ true = grind (arith, nat_tests) in
-    let high : nat_lt (0x05200 + 4 * i) 0x05400 ≡ true = grind (arith, nat_tests) in
-    let whole : (0x05200 + 4 * i) % 4 ≡ 0 = omega arith in
-    rw (low, high, whole) (ap (λ k. Some (Mta k)) index)
+by_four : (off n o : ℕ) → (nat_le off o && nat_lt (o - off) (4 * n) && ((o - off) % 4) == 0) ≡ true
+    → ((o - off) / 4 < n) × (off + 4 * ((o - off) / 4) ≡ o)
+by_four off n o h =
+    let outer = and_parts (nat_le off o && nat_lt (o - off) (4 * n)) (((o - off) % 4) == 0) h in
+    let inner = and_parts (nat_le off o) (nat_lt (o - off) (4 * n)) outer.0 in
+    let low : off ≤ o = leb-true off o inner.0 in
+    let within : o - off < 4 * n = grind (arith, nat_tests, inner.1) in
+    let whole : (o - off) % 4 ≡ 0 = eqb-true _ _ outer.1 in
+    (omega arith, omega arith)
 
-array-ral : (i : ℕ) → i < ADDRESSES → array (0x05400 + 8 * i) ≡ Some (Ral i)
-array-ral i h =
-    let index : (0x05400 + 8 * i - 0x05400) / 8 ≡ i = omega arith in
-    let first : nat_le 0x05200 (0x05400 + 8 * i) ≡ true = grind (arith, nat_tests) in
-    let past : nat_lt (0x05400 + 8 * i) 0x05400 ≡ false = grind (arith, nat_tests) in
-    let low : nat_le 0x05400 (0x05400 + 8 * i) ≡ true = grind (arith, nat_tests) in
-    let high : nat_lt (0x05400 + 8 * i) 0x05480 ≡ true = grind (arith, nat_tests) in
-    let whole : (0x05400 + 8 * i) % 8 ≡ 0 = omega arith in
-    rw (first, past, low, high, whole) (ap (λ k. Some (Ral k)) index)
+by_eight : (off n o : ℕ) → (nat_le off o && nat_lt (o - off) (8 * n) && ((o - off) % 8) == 0) ≡ true
+    → ((o - off) / 8 < n) × (off + 8 * ((o - off) / 8) ≡ o)
+by_eight off n o h =
+    let outer = and_parts (nat_le off o && nat_lt (o - off) (8 * n)) (((o - off) % 8) == 0) h in
+    let inner = and_parts (nat_le off o) (nat_lt (o - off) (8 * n)) outer.0 in
+    let low : off ≤ o = leb-true off o inner.0 in
+    let within : o - off < 8 * n = grind (arith, nat_tests, inner.1) in
+    let whole : (o - off) % 8 ≡ 0 = eqb-true _ _ outer.1 in
+    (omega arith, omega arith)
 
-array-rah : (i : ℕ) → i < ADDRESSES → array (0x05404 + 8 * i) ≡ Some (Rah i)
-array-rah i h =
-    let index : (0x05404 + 8 * i - 0x05404) / 8 ≡ i = omega arith in
-    let first : nat_le 0x05200 (0x05404 + 8 * i) ≡ true = grind (arith, nat_tests) in
-    let past : nat_lt (0x05404 + 8 * i) 0x05400 ≡ false = grind (arith, nat_tests) in
-    let low : nat_le 0x05400 (0x05404 + 8 * i) ≡ true = grind (arith, nat_tests) in
-    let high : nat_lt (0x05404 + 8 * i) 0x05480 ≡ true = grind (arith, nat_tests) in
-    let half : (0x05404 + 8 * i) % 8 ≡ 4 = omega arith in
-    rw (first, past, low, high, half) (ap (λ k. Some (Rah k)) index)
+abbrev Lies : ℕ → ℕ → ℕ → ℕ → Type 0
+Lies off n o s = (nat_le off o && nat_lt (o - off) (s * n) && ((o - off) % s) == 0) ≡ true
+    → ((o - off) / s < n) × (off + s * ((o - off) / s) ≡ o)
 
-array-vfta : (i : ℕ) → i < TABLE_WORDS → array (0x05600 + 4 * i) ≡ Some (Vfta i)
-array-vfta i h =
-    let index : (0x05600 + 4 * i - 0x05600) / 4 ≡ i = omega arith in
-    let first : nat_le 0x05200 (0x05600 + 4 * i) ≡ true = grind (arith, nat_tests) in
-    let past : nat_lt (0x05600 + 4 * i) 0x05400 ≡ false = grind (arith, nat_tests) in
-    let second : nat_le 0x05400 (0x05600 + 4 * i) ≡ true = grind (arith, nat_tests) in
-    let beyond : nat_lt (0x05600 + 4 * i) 0x05480 ≡ false = grind (arith, nat_tests) in
-    let low : nat_le 0x05600 (0x05600 + 4 * i) ≡ true = grind (arith, nat_tests) in
-    let high : nat_lt (0x05600 + 4 * i) 0x05800 ≡ true = grind (arith, nat_tests) in
-    let whole : (0x05600 + 4 * i) % 4 ≡ 0 = omega arith in
-    rw (first, past, second, beyond, low, high, whole) (ap (λ k. Some (Vfta k)) index)
+word_lies : (off s n o : ℕ) → (s ≡ 4) ⊎ (s ≡ 8) → Lies off n o s
+word_lies off s n o (inl e) = subst (Lies off n o) (sym e) (by_four off n o)
+word_lies off s n o (inr e) = subst (Lies off n o) (sym e) (by_eight off n o)
 
--- a register is found where it lies
+-- what the table has at an offset lies there
+pub reg_in_lies : (rs : List Reg) (o : ℕ) → IfSome (reg_in rs o) (λ reg. IsReg reg × (offset_of reg ≡ o))
+reg_in_lies [] o = tt
+reg_in_lies (r ∷ rs) o = elim (truth (has_word_at (row_of r) o)) [
+  | inl t ↦
+      let row = row_of r in
+      let w = word_lies row.offset row.spacing row.words o (spaced r) t in
+      let x = indexed r ((o - row.offset) / row.spacing) w.0 in
+      rw (t, x.row, x.index) w
+  | inr t ↦ rw t (reg_in_lies rs o)
+]
+
+-- ---- a register is found where it lies
 pub reg_at-offset_of : (reg : Reg) → IsReg reg → reg_at (offset_of reg) ≡ Some reg
+unfolding reg_at
+reg_at-offset_of (Mta i) h = same_below (λ k. reg_at (offset_of (Mta k))) (λ k. Some (Mta k)) 128 refl i h
+reg_at-offset_of (Ral i) h = same_below (λ k. reg_at (offset_of (Ral k))) (λ k. Some (Ral k)) 16 refl i h
+reg_at-offset_of (Rah i) h = same_below (λ k. reg_at (offset_of (Rah k))) (λ k. Some (Rah k)) 16 refl i h
+reg_at-offset_of (Vfta i) h = same_below (λ k. reg_at (offset_of (Vfta k))) (λ k. Some (Vfta k)) 128 refl i h
 reg_at-offset_of Ctrl h = refl
-reg_at-offset_of Status h = refl
-reg_at-offset_of Eerd h = refl
-reg_at-offset_of CtrlExt h = refl
-reg_at-offset_of Fcal h = refl
-reg_at-offset_of Fcah h = refl
-reg_at-offset_of Fct h = refl
-reg_at-offset_of Vet h = refl
-reg_at-offset_of Icr h = refl
-reg_at-offset_of Itr h = refl
-reg_at-offset_of Ics h = refl
-reg_at-offset_of Ims h = refl
-reg_at-offset_of Imc h = refl
-reg_at-offset_of Rctl h = refl
-reg_at-offset_of Fcttv h = refl
-reg_at-offset_of Tctl h = refl
-reg_at-offset_of Tipg h = refl
-reg_at-offset_of Ledctl h = refl
-reg_at-offset_of Pba h = refl
-reg_at-offset_of Rdbal h = refl
-reg_at-offset_of Rdbah h = refl
-reg_at-offset_of Rdlen h = refl
-reg_at-offset_of Rdh h = refl
-reg_at-offset_of Rdt h = refl
-reg_at-offset_of Rdtr h = refl
-reg_at-offset_of Rxdctl h = refl
-reg_at-offset_of Radv h = refl
-reg_at-offset_of Tdbal h = refl
-reg_at-offset_of Tdbah h = refl
-reg_at-offset_of Tdlen h = refl
-reg_at-offset_of Tdh h = refl
-reg_at-offset_of Tdt h = refl
-reg_at-offset_of Tidv h = refl
-reg_at-offset_of Txdctl h = refl
-reg_at-offset_of Tadv h = refl
-reg_at-offset_of Mpc h = refl
-reg_at-offset_of Prc64 h = refl
-reg_at-offset_of Prc127 h = refl
-reg_at-offset_of Prc255 h = refl
-reg_at-offset_of Prc511 h = refl
-reg_at-offset_of Prc1023 h = refl
-reg_at-offset_of Prc1522 h = refl
-reg_at-offset_of Gprc h = refl
-reg_at-offset_of Bprc h = refl
-reg_at-offset_of Mprc h = refl
-reg_at-offset_of Gptc h = refl
-reg_at-offset_of Gorcl h = refl
-reg_at-offset_of Gorch h = refl
-reg_at-offset_of Gotcl h = refl
-reg_at-offset_of Gotch h = refl
-reg_at-offset_of Rnbc h = refl
-reg_at-offset_of Ruc h = refl
-reg_at-offset_of Roc h = refl
-reg_at-offset_of Ptc64 h = refl
-reg_at-offset_of Ptc127 h = refl
-reg_at-offset_of Ptc255 h = refl
-reg_at-offset_of Ptc511 h = refl
-reg_at-offset_of Ptc1023 h = refl
-reg_at-offset_of Ptc1522 h = refl
-reg_at-offset_of Mptc h = refl
-reg_at-offset_of Bptc h = refl
-reg_at-offset_of Rxcsum h = refl
-reg_at-offset_of (Mta i) h = rw (array-mta i h) refl
-reg_at-offset_of (Ral i) h = rw (array-ral i h) refl
-reg_at-offset_of (Rah i) h = rw (array-rah i h) refl
-reg_at-offset_of (Vfta i) h = rw (array-vfta i h) refl
+reg_at-offset_of _ h = refl
 
--- where nothing is found, no register lies
-pub none_lies : (o : ℕ) (found : Option Reg) → found ≡ reg_at o → IfNone found ((reg : Reg) → IsReg reg → offset_of reg ≡ o → ⊥)
-none_lies o None is = λ reg has lies. let e : None ≡ Some reg = is ∙ ap reg_at (sym lies) ∙ reg_at-offset_of reg has in cc
-none_lies o (Some reg) is = tt
+-- ---- the pages
+abbrev pub page_at : ℕ → ℕ
+page_at o = slice_index_or PAGE_AT (o / 64) 0
+
+abbrev pub near_of : ℕ → Reg
+near_of o = slice_index_or (slice_index_or PAGES (page_at o) []) ((o / 4) % 16) Ctrl
+
+-- each number below n passes
+abbrev pub all_below : (ℕ → Bool) → ℕ → Bool
+all_below p zero = true
+all_below p (suc n) = p n && all_below p n
+
+all_below-at : (p : ℕ → Bool) (n : ℕ) → all_below p n ≡ true → (i : ℕ) → i < n → p i ≡ true
+all_below-at p zero h i lt = absurd (omega arith)
+all_below-at p (suc n) h i lt =
+    let parts = and_parts (p n) (all_below p n) h in
+    elim (cases_eq i n) [
+      | inl is ↦ ap p is ∙ parts.0
+      | inr apart ↦ all_below-at p n parts.1 i (omega arith)
+    ]
+
+pub page_is_there : (k : ℕ) → k < 352 → slice_index_or PAGE_AT k 0 < 18
+page_is_there k h =
+    let t : nat_lt (slice_index_or PAGE_AT k 0) 18 ≡ true = all_below-at
+    (λ i. nat_lt (slice_index_or PAGE_AT i 0) 18) 352 refl k h in
+    grind (arith, nat_tests, t)
+
+near_of-offset_of : (reg : Reg) → IsReg reg → near_of (offset_of reg) ≡ first reg
+near_of-offset_of (Mta i) h = same_below (λ k. near_of (offset_of (Mta k))) (λ k. Mta 0) 128 refl i h
+near_of-offset_of (Ral i) h = same_below (λ k. near_of (offset_of (Ral k))) (λ k. Ral 0) 16 refl i h
+near_of-offset_of (Rah i) h = same_below (λ k. near_of (offset_of (Rah k))) (λ k. Rah 0) 16 refl i h
+near_of-offset_of (Vfta i) h = same_below (λ k. near_of (offset_of (Vfta k))) (λ k. Vfta 0) 128 refl i h
+near_of-offset_of Ctrl h = refl
+near_of-offset_of _ h = refl
+
+-- what the pages give is the first register of the row
+pub near_is : (o : ℕ) (x : Reg) → x ≡ near_of o → (reg : Reg) → IsReg reg → offset_of reg ≡ o → x ≡ first reg
+near_is o x e reg has lies = e ∙ ap near_of (sym lies) ∙ near_of-offset_of reg has
+
+pub page_gives : (o page : ℕ) → page ≡ page_at o → (reg : Reg) → IsReg reg → offset_of reg ≡ o
+    → slice_index_or (slice_index_or PAGES page []) ((o / 4) % 16) Ctrl ≡ first reg
+page_gives o page is reg has lies = ap (λ k. slice_index_or (slice_index_or PAGES k []) ((o / 4) % 16) Ctrl) is
+    ∙ near_is o (near_of o) refl reg has lies
+
+-- each row ends within the registers' space
+abbrev pub ends_within : Reg → Bool
+ends_within reg = nat_le ((row_of reg).offset + (row_of reg).spacing * (row_of reg).words) 0x05800
+
+each_within : (reg : Reg) → ends_within reg ≡ true
+each_within Ctrl = refl
+each_within _ = refl
+
+below_end : (off s n i : ℕ) → (s ≡ 4) ⊎ (s ≡ 8) → off + s * n ≤ 0x05800 → i < n → off + s * i < 0x05800
+below_end off s n i (inl e) le lt =
+    let P : ℕ → Type 0 = λ t. off + t * n ≤ 0x05800 → off + t * i < 0x05800 in
+    subst P (sym e) (λ h. omega arith) le
+below_end off s n i (inr e) le lt =
+    let P : ℕ → Type 0 = λ t. off + t * n ≤ 0x05800 → off + t * i < 0x05800 in
+    subst P (sym e) (λ h. omega arith) le
+
+pub below_space : (reg : Reg) → IsReg reg → offset_of reg < 0x05800
+below_space reg h =
+    let row = row_of reg in
+    below_end row.offset row.spacing row.words (index_of reg) (spaced reg) (leb-true _ _ (each_within reg)) h
+
+-- ---- of_offset
+none_in : (o : ℕ) (found : Option Reg) → IfSome found (λ reg. IsReg reg × (offset_of reg ≡ o))
+    → ((reg : Reg) → IsReg reg → offset_of reg ≡ o → ⊥) → None ≡ found
+none_in o None l n = refl
+none_in o (Some reg) l n = absurd (n reg l.0 l.1)
+
+pub none_found : (o : ℕ) → ((reg : Reg) → IsReg reg → offset_of reg ≡ o → ⊥) → None ≡ reg_at o
+unfolding reg_at
+none_found o n = none_in o (reg_at o) (reg_in_lies registers o) n
+
+pub row-first : (reg : Reg) → row_of (first reg) ≡ row_of reg
+row-first (Mta _) = refl
+row-first (Ral _) = refl
+row-first (Rah _) = refl
+row-first (Vfta _) = refl
+row-first Ctrl = refl
+row-first _ = refl
+
+-- the row that is looked at is that of the register that lies there
+pub row_near : (row : Row) (near reg : Reg) → row ≡ row_of near → near ≡ first reg → row ≡ row_of reg
+row_near row near reg is first_is = is ∙ ap row_of first_is ∙ row-first reg
+
+by_spacing : (s n i past index : ℕ) → (s ≡ 4) ⊎ (s ≡ 8)
+    → ((s ≡ 8) × (index ≡ past / 8)) ⊎ ((s ≢ 8) × (index ≡ past / 4)) → i < n → past ≡ s * i
+    → (index < n) × (past ≡ s * index)
+by_spacing s n i past index (inl four) (inl at) h is = absurd (omega (arith, at.0))
+by_spacing s n i past index (inl four) (inr at) h is =
+    let p : past ≡ 4 * i = is ∙ ap (λ k. k * i) four in
+    let e : index ≡ i = omega (arith, at.1) in
+    (omega arith, is ∙ ap (λ k. s * k) (sym e))
+by_spacing s n i past index (inr eight) (inl at) h is =
+    let p : past ≡ 8 * i = is ∙ ap (λ k. k * i) eight in
+    let e : index ≡ i = omega (arith, at.1) in
+    (omega arith, is ∙ ap (λ k. s * k) (sym e))
+by_spacing s n i past index (inr eight) (inr at) h is = absurd (at.0 eight)
+
+-- an offset where a register lies is a word of the register's row
+pub word_there : (reg : Reg) (row : Row) (o past index : ℕ) → row ≡ row_of reg → past ≡ o - row.offset
+    → ((row.spacing ≡ 8) × (index ≡ past / 8)) ⊎ ((row.spacing ≢ 8) × (index ≡ past / 4)) → IsReg reg
+    → offset_of reg ≡ o → (index < row.words) × (past ≡ row.spacing * index)
+word_there reg row o past index is from at has lies =
+    let s : (row.spacing ≡ 4) ⊎ (row.spacing ≡ 8) = rw is (spaced reg) in
+    let h : index_of reg < row.words = rw is has in
+    let l : row.offset + row.spacing * index_of reg ≡ o = rw is lies in
+    by_spacing row.spacing row.words (index_of reg) past index s at h (omega arith)
+
+-- the register of the row with the index lies there
+pub found_lies : (near : Reg) (row : Row) (o past index : ℕ) (found : Reg) → row ≡ row_of near
+    → found ≡ with_index near index → past ≡ o - row.offset → row.offset ≤ o → index < row.words
+    → past ≡ row.spacing * index → IsReg found × (offset_of found ≡ o)
+found_lies near row o past index found is made from low h whole =
+    let x = indexed near index (subst (λ (r : Row). index < r.words) is h) in
+    let e : row.offset + row.spacing * index ≡ o = omega arith in
+    rw (made, x.row, x.index, ← is) (h, e)
+
+pub found_there : (o : ℕ) (found : Reg) → IsReg found × (offset_of found ≡ o) → Some found ≡ reg_at o
+found_there o found h = sym (reg_at-offset_of found h.0) ∙ ap reg_at h.1

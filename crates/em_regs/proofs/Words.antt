@@ -1,112 +1,96 @@
--- Words at increasing offsets, of which one is read or written.
-use Rattle.std.proofs.Common.{◌≡◌, ◌≢◌, ℕ, ◌+◌, ◌*◌, ◌<◌, ◌≤◌, suc, zero, Bool, true, false, ◌&&◌, IsTrue, List, [], ◌∷◌, ◌++◌, length, Some, refl, sym, ap, ◌∙◌, arith, rules, set, get_or, append_assoc, append-nil}
-use Rattle.std.specs.Prelude.{nat_le}
+-- Words at offsets that differ, of which one is read or written.
+use Rattle.std.proofs.Common.{◌≡◌, ◌≢◌, ℕ, ◌<◌, suc, zero, Bool, true, ◌&&◌, ◌==◌, List, [], ◌∷◌, length, Option, Some}
+use Rattle.std.proofs.Common.{refl, sym, ap, ◌∙◌, arith, set, get_or, inl, inr}
+use Rattle.std.specs.Prelude.{not, replicate, unwrap_or}
+use Rattle.std.specs.Cmp.{nat_cmp_total}
 use Rattle.std.specs.List.{zip}
-use Rattle.std.proofs.lemmas.List.{get_or-append-add, get_or_append_left}
 use Rattle.std.specs.FinMap as map
-use Rattle.std.specs.FinMap.{find}
+use Rattle.std.specs.FinMap.{find, get-from_entries}
 use Rattle.std.specs.Ordering.{nat_cmp}
-use Rattle.em_regs.specs.Registers.{Registers}
-use Rattle.em_regs.specs.Layout.{words_from, words_at, offsets, singles}
-use Rattle.em_regs.proofs.Entries.{tied, untied, edit, get_entry, insert_entry}
+use Rattle.std.proofs.lemmas.Bool.{and_parts}
+use Rattle.std.proofs.lemmas.Bool.Decides.{nat_tests}
+use Rattle.em_regs.specs.Storage.{Registers, words_at}
+use Rattle.em_regs.specs.RegFile.{at}
+use Rattle.em_regs.proofs.Entries.{tie, tied, untied, edit, get_entry, insert_entry}
 
--- each number is greater than the one before it, and none is below the first argument
-abbrev pub ascending : ℕ → List ℕ → Bool
-ascending low [] = true
-ascending low (o ∷ os) = nat_le low o && ascending (suc o) os
+-- a number is not in a list
+abbrev pub lacks : ℕ → List ℕ → Bool
+lacks x [] = true
+lacks x (o ∷ os) = not (x == o) && lacks x os
 
-both_left : (b c : Bool) → IsTrue (b && c) → IsTrue b
-both_left true c h = refl
-both_left false c h = cc
+-- each number of a list differs from those behind it
+abbrev pub distinct : List ℕ → Bool
+distinct [] = true
+distinct (o ∷ os) = lacks o os && distinct os
 
-both_right : (b c : Bool) → IsTrue (b && c) → IsTrue c
-both_right true c h = h
-both_right false c h = cc
+differ : (x o : ℕ) → not (x == o) ≡ true → o ≢ x
+differ x o h = grind (arith, nat_tests)
 
-within : (a b : ℕ) → IsTrue (nat_le a b) → a ≤ b
-within a b h = search rules
+lacks-at : (x : ℕ) (os : List ℕ) (i : ℕ) → lacks x os ≡ true → i < length os → get_or os i 0 ≢ x
+lacks-at x [] i h lt = absurd (omega arith)
+lacks-at x (o ∷ os) zero h lt = differ x o (and_parts (not (x == o)) (lacks x os) h).0
+lacks-at x (o ∷ os) (suc i) h lt = lacks-at x os i (and_parts (not (x == o)) (lacks x os) h).1 (omega arith)
 
-at_least : (low : ℕ) (os : List ℕ) (i : ℕ) → IsTrue (ascending low os) → i < length os → low ≤ get_or os i 0
-at_least low [] i up h = absurd (omega arith)
-at_least low (o ∷ os) zero up h = within low o (both_left (nat_le low o) _ up)
-at_least low (o ∷ os) (suc i) up h =
-    let here = within low o (both_left (nat_le low o) _ up) in
-    let there = at_least (suc o) os i (both_right (nat_le low o) _ up) (omega arith) in
-    omega arith
+find-zip : (os ws : List ℕ) (i d : ℕ) → distinct os ≡ true → i < length os → i < length ws
+    → find nat_cmp (get_or os i 0) (zip os ws) ≡ Some (get_or ws i d)
+find-zip [] ws i d apart h l = absurd (omega arith)
+find-zip (o ∷ os) [] i d apart h l = absurd (omega arith)
+find-zip (o ∷ os) (w ∷ ws) zero d apart h l = rw (tied o o refl) refl
+find-zip (o ∷ os) (w ∷ ws) (suc i) d apart h l =
+    let parts = and_parts (lacks o os) (distinct os) apart in
+    let other : get_or os i 0 ≢ o = lacks-at o os i parts.0 (omega arith) in
+    rw (untied (get_or os i 0) o other) (find-zip os ws i d parts.1 (omega arith) (omega arith))
 
-find-zip : (low : ℕ) (os ws : List ℕ) (i d : ℕ) → IsTrue (ascending low os) → i < length os → i < length ws → find nat_cmp (get_or os i 0) (zip os ws) ≡ Some (get_or ws i d)
-find-zip low [] ws i d up h l = absurd (omega arith)
-find-zip low (o ∷ os) [] i d up h l = absurd (omega arith)
-find-zip low (o ∷ os) (w ∷ ws) zero d up h l = rw (tied o o refl) refl
-find-zip low (o ∷ os) (w ∷ ws) (suc i) d up h l =
-    let rest = both_right (nat_le low o) _ up in
-    let above = at_least (suc o) os i rest (omega arith) in
-    let other : get_or os i 0 ≢ o = omega arith in
-    rw (untied (get_or os i 0) o other) (find-zip (suc o) os ws i d rest (omega arith) (omega arith))
+edit-zip : (os ws : List ℕ) (i v : ℕ) → distinct os ≡ true → i < length os → i < length ws
+    → edit (get_or os i 0) v (zip os ws) ≡ zip os (set ws i v)
+edit-zip [] ws i v apart h l = absurd (omega arith)
+edit-zip (o ∷ os) [] i v apart h l = absurd (omega arith)
+edit-zip (o ∷ os) (w ∷ ws) zero v apart h l = rw (tied o o refl) refl
+edit-zip (o ∷ os) (w ∷ ws) (suc i) v apart h l =
+    let parts = and_parts (lacks o os) (distinct os) apart in
+    let other : get_or os i 0 ≢ o = lacks-at o os i parts.0 (omega arith) in
+    rw (untied (get_or os i 0) o other)
+    (ap (λ es. (o, w) ∷ es) (edit-zip os ws i v parts.1 (omega arith) (omega arith)))
 
-edit-zip : (low : ℕ) (os ws : List ℕ) (i v : ℕ) → IsTrue (ascending low os) → i < length os → i < length ws → edit (get_or os i 0) v (zip os ws) ≡ zip os (set ws i v)
-edit-zip low [] ws i v up h l = absurd (omega arith)
-edit-zip low (o ∷ os) [] i v up h l = absurd (omega arith)
-edit-zip low (o ∷ os) (w ∷ ws) zero v up h l = rw (tied o o refl) refl
-edit-zip low (o ∷ os) (w ∷ ws) (suc i) v up h l =
-    let rest = both_right (nat_le low o) _ up in
-    let above = at_least (suc o) os i rest (omega arith) in
-    let other : get_or os i 0 ≢ o = omega arith in
-    rw (untied (get_or os i 0) o other) (ap (λ es. (o, w) ∷ es) (edit-zip (suc o) os ws i v rest (omega arith) (omega arith)))
+-- place i among the offsets is that of o, and the words at the offsets are the map
+pub record IsPlace (os ws : List ℕ) (m : Registers) (i o : ℕ) : Type 0 where
+  pub differ : distinct os ≡ true
+  pub offset : i < length os
+  pub word : i < length ws
+  pub place : get_or os i 0 ≡ o
+  pub words : words_at os ws ≡ m
 
 -- the word at a place is the map's number at the place's offset
-pub word_is : (os ws : List ℕ) (m : Registers) (i o d : ℕ) → IsTrue (ascending 0 os) → i < length os → i < length ws → get_or os i 0 ≡ o → words_at os ws ≡ m → map.get m o ≡ Some (get_or ws i d)
+pub word_is : {os ws : List ℕ} {m : Registers} {i o : ℕ} → IsPlace os ws m i o → map.get m o ≡ Some (get_or ws i 0)
 unfolding words_at
-word_is os ws m i o d up h l place is = get_entry (zip os ws) m o (get_or ws i d) is (ap (λ k. find nat_cmp k (zip os ws)) (sym place) ∙ find-zip 0 os ws i d up h l)
+word_is {os} {ws} {m} {i} {o} p =
+    get_entry (zip os ws) m o (get_or ws i 0) p.words
+    (ap (λ k. find nat_cmp k (zip os ws)) (sym p.place) ∙ find-zip os ws i 0 p.differ p.offset p.word)
 
 -- writing a word is writing the map at its offset
-pub word_set : (os ws : List ℕ) (m : Registers) (i o v : ℕ) → IsTrue (ascending 0 os) → i < length os → i < length ws → get_or os i 0 ≡ o → words_at os ws ≡ m → words_at os (set ws i v) ≡ map.insert m o v
+pub word_set : {os ws : List ℕ} {m : Registers} {i o : ℕ} (v : ℕ) → IsPlace os ws m i o
+    → words_at os (set ws i v) ≡ map.insert m o v
 unfolding words_at
-word_set os ws m i o v up h l place is =
-    insert_entry (zip os ws) (zip os (set ws i v)) m o v (get_or ws i 0) is
-    (ap (λ k. find nat_cmp k (zip os ws)) (sym place) ∙ find-zip 0 os ws i 0 up h l)
-    (sym (edit-zip 0 os ws i v up h l) ∙ ap (λ k. edit k v (zip os ws)) place)
+word_set {os} {ws} {m} {i} {o} v p =
+    insert_entry (zip os ws) (zip os (set ws i v)) m o v (get_or ws i 0) p.words
+    (ap (λ k. find nat_cmp k (zip os ws)) (sym p.place) ∙ find-zip os ws i 0 p.differ p.offset p.word)
+    (sym (edit-zip os ws i v p.differ p.offset p.word) ∙ ap (λ k. edit k v (zip os ws)) p.place)
 
--- ---- the offsets of a register file
-pub ascending-offsets : IsTrue (ascending 0 offsets)
-unfolding offsets
-ascending-offsets = refl
+-- ---- words that are all zero
+abbrev pub zeros : ℕ → List ℕ
+zeros n = replicate n 0
 
-pub length-offsets : length offsets ≡ 319
-unfolding offsets
-length-offsets = refl
+abbrev number : Option ℕ → ℕ
+number found = unwrap_or found 0
 
-get_or-words_from : (o n i : ℕ) → i < n → get_or (words_from o n) i 0 ≡ o + 4 * i
-get_or-words_from o zero i h = absurd (omega arith)
-get_or-words_from o (suc n) zero h = omega arith
-get_or-words_from o (suc n) (suc i) h = get_or-words_from (o + 4) n i (omega arith) ∙ (omega arith)
+find-zeros : (os : List ℕ) (n o : ℕ) → number (find nat_cmp o (zip os (zeros n))) ≡ 0
+find-zeros [] n o = refl
+find-zeros (p ∷ os) zero o = refl
+find-zeros (p ∷ os) (suc n) o = elim (tie o p) [
+  | inl t ↦ rw t.0 refl
+  | inr t ↦ rw t.0 (find-zeros os n o)
+]
 
-length-words_from : (o n : ℕ) → length (words_from o n) ≡ n
-length-words_from o zero = refl
-length-words_from o (suc n) = ap suc (length-words_from (o + 4) n)
-
--- a word of an array that stands after other registers and before others
-array_word : (front back : List ℕ) (o n i k : ℕ) → i < n → k ≡ length front + i → get_or (front ++ (words_from o n ++ back)) k 0 ≡ o + 4 * i
-array_word front back o n i k h place =
-    ap (λ j. get_or (front ++ (words_from o n ++ back)) j 0) place
-    ∙ get_or-append-add front (words_from o n ++ back) i 0
-    ∙ get_or_append_left (words_from o n) back 0 i (omega (arith, length-words_from o n))
-    ∙ get_or-words_from o n i h
-
-pub mta_place : (i k : ℕ) → i < 128 → k ≡ 31 + i → get_or offsets k 0 ≡ 0x05200 + 4 * i
-unfolding offsets
-mta_place i k h place = array_word singles (words_from 0x05400 32 ++ words_from 0x05600 128) 0x05200 128 i k h place
-
-pub address_place : (i k : ℕ) → i < 32 → k ≡ 159 + i → get_or offsets k 0 ≡ 0x05400 + 4 * i
-unfolding offsets
-address_place i k h place =
-    ap (λ os. get_or os k 0) (sym (append_assoc singles (words_from 0x05200 128) (words_from 0x05400 32 ++ words_from 0x05600 128)))
-    ∙ array_word (singles ++ words_from 0x05200 128) (words_from 0x05600 128) 0x05400 32 i k h place
-
-pub vfta_place : (i k : ℕ) → i < 128 → k ≡ 191 + i → get_or offsets k 0 ≡ 0x05600 + 4 * i
-unfolding offsets
-vfta_place i k h place =
-    ap (λ os. get_or os k 0) (sym (append_assoc singles (words_from 0x05200 128) (words_from 0x05400 32 ++ words_from 0x05600 128))
-    ∙ sym (append_assoc (singles ++ words_from 0x05200 128) (words_from 0x05400 32) (words_from 0x05600 128))
-    ∙ ap (λ os. ((singles ++ words_from 0x05200 128) ++ words_from 0x05400 32) ++ os) (sym (append-nil (words_from 0x05600 128))))
-    ∙ array_word ((singles ++ words_from 0x05200 128) ++ words_from 0x05400 32) [] 0x05600 128 i k h place
+pub at-zeros : (os : List ℕ) (n o : ℕ) → at (words_at os (zeros n)) o ≡ 0
+unfolding words_at
+at-zeros os n o = ap number (get-from_entries nat_cmp_total (zip os (zeros n)) o) ∙ find-zeros os n o

@@ -1,127 +1,248 @@
--- The registers: where each lies, and which of its bits a write stores.
-use Rattle.std.specs.Prelude.{Bool, ℕ, ◌+◌, ◌-◌, ◌*◌, ◌/◌, ◌%◌, ◌<◌, ◌==◌, ◌&&◌, nat_le, nat_lt, if◌then◌else◌, List, [], ◌∷◌, Option, Some, None}
-use Rattle.std.specs.FinMap.{find}
-use Rattle.std.specs.Ordering.{nat_cmp}
-use Rattle.em_regs.specs.declared.reg.TheConstants.{TABLE_WORDS, ADDRESSES, FIRST_COUNTER, LAST_COUNTER}
+-- The table of the registers: where each lies, what an access does, which of its bits a write stores, and its place.
+use Rattle.std.specs.Prelude.{
+  Bool,
+  true,
+  false,
+  ℕ,
+  ◌+◌,
+  ◌-◌,
+  ◌*◌,
+  ◌/◌,
+  ◌%◌,
+  ◌<◌,
+  ◌==◌,
+  ◌&&◌,
+  nat_le,
+  nat_lt,
+  if◌then◌else◌,
+}
+use Rattle.std.specs.Prelude.{List, [], ◌∷◌, Option, Some, None}
 use Rattle.em_regs.specs.declared.reg.Reg.{Reg}
-use Rattle.em_regs.specs.declared.reg.Reg.TheVariants.{Ctrl, Status, Eerd, CtrlExt, Fcal, Fcah, Fct, Vet, Fcttv, Ledctl, Pba, Icr, Itr, Ics, Ims, Imc, Rctl, Rdbal, Rdbah, Rdlen, Rdh, Rdt, Rdtr, Rxdctl, Radv, Rxcsum, Tctl, Tipg, Tdbal, Tdbah, Tdlen, Tdh, Tdt, Tidv, Txdctl, Tadv, Mpc, Prc64, Prc127, Prc255, Prc511, Prc1023, Prc1522, Gprc, Bprc, Mprc, Gorcl, Gorch, Rnbc, Ruc, Roc, Gptc, Gotcl, Gotch, Ptc64, Ptc127, Ptc255, Ptc511, Ptc1023, Ptc1522, Mptc, Bptc, Mta, Ral, Rah, Vfta}
+use Rattle.em_regs.specs.declared.reg.Reg.TheVariants.{
+  Ctrl,
+  Status,
+  Eerd,
+  CtrlExt,
+  Fcal,
+  Fcah,
+  Fct,
+  Vet,
+  Icr,
+  Itr,
+  Ics,
+  Ims,
+  Imc,
+  Rctl,
+  Fcttv,
+  Tctl,
+  Tipg,
+  Ledctl,
+  Pba,
+  Rdbal,
+  Rdbah,
+  Rdlen,
+  Rdh,
+  Rdt,
+  Rdtr,
+  Rxdctl,
+  Radv,
+  Tdbal,
+  Tdbah,
+  Tdlen,
+  Tdh,
+  Tdt,
+  Tidv,
+  Txdctl,
+  Tadv,
+  Mpc,
+  Prc64,
+  Prc127,
+  Prc255,
+  Prc511,
+  Prc1023,
+  Prc1522,
+  Gprc,
+  Bprc,
+  Mprc,
+  Gptc,
+  Gorcl,
+  Gorch,
+  Gotcl,
+  Gotch,
+  Rnbc,
+  Ruc,
+  Roc,
+  Ptc64,
+  Ptc127,
+  Ptc255,
+  Ptc511,
+  Ptc1023,
+  Ptc1522,
+  Mptc,
+  Bptc,
+  Rxcsum,
+  Mta,
+  Ral,
+  Rah,
+  Vfta,
+}
+use Rattle.em_regs.specs.declared.table.Row.{Row}
+use Rattle.em_regs.specs.declared.table.Kind.{Kind}
+use Rattle.em_regs.specs.declared.table.Kind.TheVariants.{Stored, Status as StatusKind, Interrupt, Counter}
+
+-- an array: n words that lie some octets apart, which store the bits of a mask
+abbrev pub array : ℕ → ℕ → ℕ → ℕ → ℕ → Row
+array offset n spacing mask place =
+    record { offset = offset; words = n; spacing = spacing; kind = Stored; mask = mask; place = place }
+
+-- one such word
+abbrev pub word : ℕ → ℕ → ℕ → Row
+word offset mask place = array offset 1 4 mask place
+
+-- a register that keeps nothing of what is written
+abbrev pub other : ℕ → Kind → ℕ → Row
+other offset kind place =
+    record { offset = offset; words = 1; spacing = 4; kind = kind; mask = 0xFFFF_FFFF; place = place }
+
+-- the table: offset, mask or kind, and the place among the words of its kind
+abbrev pub row_of : Reg → Row
+row_of Ctrl = word 0x00000 0xFFFF_FFFF 0
+row_of Status = other 0x00008 StatusKind 0
+row_of Eerd = word 0x00014 0x0000_FF00 1
+row_of CtrlExt = word 0x00018 0xFFFF_FFFF 2
+row_of Fcal = word 0x00028 0xFFFF_FFFF 3
+row_of Fcah = word 0x0002C 0xFFFF_FFFF 4
+row_of Fct = word 0x00030 0xFFFF_FFFF 5
+row_of Vet = word 0x00038 0x0000_FFFF 6
+row_of Icr = other 0x000C0 Interrupt 0
+row_of Itr = word 0x000C4 0xFFFF_FFFF 7
+row_of Ics = other 0x000C8 Interrupt 0
+row_of Ims = other 0x000D0 Interrupt 0
+row_of Imc = other 0x000D8 Interrupt 0
+row_of Rctl = word 0x00100 0xFFFF_FFFF 8
+row_of Fcttv = word 0x00170 0xFFFF_FFFF 9
+row_of Tctl = word 0x00400 0xFFFF_FFFF 10
+row_of Tipg = word 0x00410 0xFFFF_FFFF 11
+row_of Ledctl = word 0x00E00 0xFFFF_FFFF 12
+row_of Pba = word 0x01000 0xFFFF_FFFF 13
+row_of Rdbal = word 0x02800 0xFFFF_FFF0 14
+row_of Rdbah = word 0x02804 0xFFFF_FFFF 15
+row_of Rdlen = word 0x02808 0x000F_FF80 16
+row_of Rdh = word 0x02810 0x0000_FFFF 17
+row_of Rdt = word 0x02818 0x0000_FFFF 18
+row_of Rdtr = word 0x02820 0xFFFF_FFFF 19
+row_of Rxdctl = word 0x02828 0xFFFF_FFFF 20
+row_of Radv = word 0x0282C 0xFFFF_FFFF 21
+row_of Tdbal = word 0x03800 0xFFFF_FFF0 22
+row_of Tdbah = word 0x03804 0xFFFF_FFFF 23
+row_of Tdlen = word 0x03808 0x000F_FF80 24
+row_of Tdh = word 0x03810 0x0000_FFFF 25
+row_of Tdt = word 0x03818 0x0000_FFFF 26
+row_of Tidv = word 0x03820 0xFFFF_FFFF 27
+row_of Txdctl = word 0x03828 0xFFFF_FFFF 28
+row_of Tadv = word 0x0382C 0xFFFF_FFFF 29
+row_of Mpc = other 0x04010 Counter 0
+row_of Prc64 = other 0x0405C Counter 1
+row_of Prc127 = other 0x04060 Counter 2
+row_of Prc255 = other 0x04064 Counter 3
+row_of Prc511 = other 0x04068 Counter 4
+row_of Prc1023 = other 0x0406C Counter 5
+row_of Prc1522 = other 0x04070 Counter 6
+row_of Gprc = other 0x04074 Counter 7
+row_of Bprc = other 0x04078 Counter 8
+row_of Mprc = other 0x0407C Counter 9
+row_of Gptc = other 0x04080 Counter 10
+row_of Gorcl = other 0x04088 Counter 11
+row_of Gorch = other 0x0408C Counter 12
+row_of Gotcl = other 0x04090 Counter 13
+row_of Gotch = other 0x04094 Counter 14
+row_of Rnbc = other 0x040A0 Counter 15
+row_of Ruc = other 0x040A4 Counter 16
+row_of Roc = other 0x040AC Counter 17
+row_of Ptc64 = other 0x040D8 Counter 18
+row_of Ptc127 = other 0x040DC Counter 19
+row_of Ptc255 = other 0x040E0 Counter 20
+row_of Ptc511 = other 0x040E4 Counter 21
+row_of Ptc1023 = other 0x040E8 Counter 22
+row_of Ptc1522 = other 0x040EC Counter 23
+row_of Mptc = other 0x040F0 Counter 24
+row_of Bptc = other 0x040F4 Counter 25
+row_of Rxcsum = word 0x05000 0xFFFF_FFFF 30
+row_of (Mta _) = array 0x05200 128 4 0xFFFF_FFFF 31
+row_of (Ral _) = array 0x05400 16 8 0xFFFF_FFFF 159
+row_of (Rah _) = array 0x05404 16 8 0x8003_FFFF 175
+row_of (Vfta _) = array 0x05600 128 4 0xFFFF_FFFF 191
+
+-- which of its row's words a register is
+abbrev pub index_of : Reg → ℕ
+index_of (Mta i) = i
+index_of (Ral i) = i
+index_of (Rah i) = i
+index_of (Vfta i) = i
+index_of _ = 0
+
+-- the register of the same row with another index
+abbrev pub with_index : Reg → ℕ → Reg
+with_index (Mta _) i = Mta i
+with_index (Ral _) i = Ral i
+with_index (Rah _) i = Rah i
+with_index (Vfta _) i = Vfta i
+with_index reg _ = reg
+
+-- the first register of the same row
+abbrev pub first : Reg → Reg
+first reg = with_index reg 0
 
 -- the index of an array's register lies in the array
 abbrev pub IsReg : Reg → Type 0
-IsReg (Mta i) = i < TABLE_WORDS
-IsReg (Ral i) = i < ADDRESSES
-IsReg (Rah i) = i < ADDRESSES
-IsReg (Vfta i) = i < TABLE_WORDS
-IsReg _ = Unit {0}
+IsReg reg = index_of reg < (row_of reg).words
 
 -- where a register lies
 abbrev pub offset_of : Reg → ℕ
-offset_of Ctrl = 0x00000
-offset_of Status = 0x00008
-offset_of Eerd = 0x00014
-offset_of CtrlExt = 0x00018
-offset_of Fcal = 0x00028
-offset_of Fcah = 0x0002C
-offset_of Fct = 0x00030
-offset_of Vet = 0x00038
-offset_of Icr = 0x000C0
-offset_of Itr = 0x000C4
-offset_of Ics = 0x000C8
-offset_of Ims = 0x000D0
-offset_of Imc = 0x000D8
-offset_of Rctl = 0x00100
-offset_of Fcttv = 0x00170
-offset_of Tctl = 0x00400
-offset_of Tipg = 0x00410
-offset_of Ledctl = 0x00E00
-offset_of Pba = 0x01000
-offset_of Rdbal = 0x02800
-offset_of Rdbah = 0x02804
-offset_of Rdlen = 0x02808
-offset_of Rdh = 0x02810
-offset_of Rdt = 0x02818
-offset_of Rdtr = 0x02820
-offset_of Rxdctl = 0x02828
-offset_of Radv = 0x0282C
-offset_of Tdbal = 0x03800
-offset_of Tdbah = 0x03804
-offset_of Tdlen = 0x03808
-offset_of Tdh = 0x03810
-offset_of Tdt = 0x03818
-offset_of Tidv = 0x03820
-offset_of Txdctl = 0x03828
-offset_of Tadv = 0x0382C
-offset_of Mpc = 0x04010
-offset_of Prc64 = 0x0405C
-offset_of Prc127 = 0x04060
-offset_of Prc255 = 0x04064
-offset_of Prc511 = 0x04068
-offset_of Prc1023 = 0x0406C
-offset_of Prc1522 = 0x04070
-offset_of Gprc = 0x04074
-offset_of Bprc = 0x04078
-offset_of Mprc = 0x0407C
-offset_of Gptc = 0x04080
-offset_of Gorcl = 0x04088
-offset_of Gorch = 0x0408C
-offset_of Gotcl = 0x04090
-offset_of Gotch = 0x04094
-offset_of Rnbc = 0x040A0
-offset_of Ruc = 0x040A4
-offset_of Roc = 0x040AC
-offset_of Ptc64 = 0x040D8
-offset_of Ptc127 = 0x040DC
-offset_of Ptc255 = 0x040E0
-offset_of Ptc511 = 0x040E4
-offset_of Ptc1023 = 0x040E8
-offset_of Ptc1522 = 0x040EC
-offset_of Mptc = 0x040F0
-offset_of Bptc = 0x040F4
-offset_of Rxcsum = 0x05000
-offset_of (Mta i) = 0x05200 + 4 * i
-offset_of (Ral i) = 0x05400 + 8 * i
-offset_of (Rah i) = 0x05404 + 8 * i
-offset_of (Vfta i) = 0x05600 + 4 * i
+offset_of reg = (row_of reg).offset + (row_of reg).spacing * index_of reg
 
--- a counter lies in the range of the statistics registers
+-- the bits that a write stores
+abbrev pub mask_of : Reg → ℕ
+mask_of reg = (row_of reg).mask
+
+-- which word of its kind keeps a register
+abbrev pub place_of : Reg → ℕ
+place_of reg = (row_of reg).place + index_of reg
+
+abbrev pub is_stored_kind : Kind → Bool
+is_stored_kind Stored = true
+is_stored_kind kind = false
+
+-- a register that keeps what software writes: every one but STATUS, the interrupt registers and the counters
+abbrev pub is_stored : Reg → Bool
+is_stored reg = is_stored_kind (row_of reg).kind
+
+abbrev pub is_counter_kind : Kind → Bool
+is_counter_kind Counter = true
+is_counter_kind kind = false
+
 abbrev pub is_counter : Reg → Bool
-is_counter reg = nat_le FIRST_COUNTER (offset_of reg) && nat_le (offset_of reg) LAST_COUNTER
+is_counter reg = is_counter_kind (row_of reg).kind
 
--- the registers that stand alone, by their offsets, in six groups
-abbrev pub general : List (ℕ × Reg)
-general = (0x00000, Ctrl) ∷ (0x00008, Status) ∷ (0x00014, Eerd) ∷ (0x00018, CtrlExt) ∷ (0x00028, Fcal) ∷ (0x0002C, Fcah) ∷ (0x00030, Fct) ∷ (0x00038, Vet) ∷ (0x00170, Fcttv) ∷ (0x00E00, Ledctl) ∷ (0x01000, Pba) ∷ []
+-- the first register of each row, those of a kind in the order of their places
+abbrev pub registers : List Reg
+registers = Ctrl ∷ Status ∷ Eerd ∷ CtrlExt ∷ Fcal ∷ Fcah ∷ Fct ∷ Vet ∷ Icr ∷ Itr ∷ Ics ∷ Ims ∷ Imc ∷ Rctl ∷ Fcttv ∷
+    Tctl ∷ Tipg ∷ Ledctl ∷ Pba ∷ Rdbal ∷ Rdbah ∷ Rdlen ∷ Rdh ∷ Rdt ∷ Rdtr ∷ Rxdctl ∷ Radv ∷ Tdbal ∷ Tdbah ∷ Tdlen ∷
+    Tdh ∷ Tdt ∷ Tidv ∷ Txdctl ∷ Tadv ∷ Mpc ∷ Prc64 ∷ Prc127 ∷ Prc255 ∷ Prc511 ∷ Prc1023 ∷ Prc1522 ∷ Gprc ∷ Bprc ∷
+    Mprc ∷ Gptc ∷ Gorcl ∷ Gorch ∷ Gotcl ∷ Gotch ∷ Rnbc ∷ Ruc ∷ Roc ∷ Ptc64 ∷ Ptc127 ∷ Ptc255 ∷ Ptc511 ∷ Ptc1023 ∷
+    Ptc1522 ∷ Mptc ∷ Bptc ∷ Rxcsum ∷ Mta 0 ∷ Ral 0 ∷ Rah 0 ∷ Vfta 0 ∷ []
 
-abbrev pub interrupt : List (ℕ × Reg)
-interrupt = (0x000C0, Icr) ∷ (0x000C4, Itr) ∷ (0x000C8, Ics) ∷ (0x000D0, Ims) ∷ (0x000D8, Imc) ∷ []
+-- a word of the row lies at the offset
+abbrev pub has_word_at : Row → ℕ → Bool
+has_word_at row o =
+    nat_le row.offset o && nat_lt (o - row.offset) (row.spacing * row.words) && ((o - row.offset) % row.spacing) == 0
 
-abbrev pub receive : List (ℕ × Reg)
-receive = (0x00100, Rctl) ∷ (0x02800, Rdbal) ∷ (0x02804, Rdbah) ∷ (0x02808, Rdlen) ∷ (0x02810, Rdh) ∷ (0x02818, Rdt) ∷ (0x02820, Rdtr) ∷ (0x02828, Rxdctl) ∷ (0x0282C, Radv) ∷ (0x05000, Rxcsum) ∷ []
-
-abbrev pub transmit : List (ℕ × Reg)
-transmit = (0x00400, Tctl) ∷ (0x00410, Tipg) ∷ (0x03800, Tdbal) ∷ (0x03804, Tdbah) ∷ (0x03808, Tdlen) ∷ (0x03810, Tdh) ∷ (0x03818, Tdt) ∷ (0x03820, Tidv) ∷ (0x03828, Txdctl) ∷ (0x0382C, Tadv) ∷ []
-
-abbrev pub received : List (ℕ × Reg)
-received = (0x04010, Mpc) ∷ (0x0405C, Prc64) ∷ (0x04060, Prc127) ∷ (0x04064, Prc255) ∷ (0x04068, Prc511) ∷ (0x0406C, Prc1023) ∷ (0x04070, Prc1522) ∷ (0x04074, Gprc) ∷ (0x04078, Bprc) ∷ (0x0407C, Mprc) ∷ (0x04088, Gorcl) ∷ (0x0408C, Gorch) ∷ (0x040A0, Rnbc) ∷ (0x040A4, Ruc) ∷ (0x040AC, Roc) ∷ []
-
-abbrev pub sent : List (ℕ × Reg)
-sent = (0x04080, Gptc) ∷ (0x04090, Gotcl) ∷ (0x04094, Gotch) ∷ (0x040D8, Ptc64) ∷ (0x040DC, Ptc127) ∷ (0x040E0, Ptc255) ∷ (0x040E4, Ptc511) ∷ (0x040E8, Ptc1023) ∷ (0x040EC, Ptc1522) ∷ (0x040F0, Mptc) ∷ (0x040F4, Bptc) ∷ []
-
--- the words of the arrays, which lie four octets apart, or eight
-abbrev pub array : ℕ → Option Reg
-array o =
-    if nat_le 0x05200 o && nat_lt o 0x05400 && (o % 4) == 0 then Some (Mta ((o - 0x05200) / 4)) else
-    if nat_le 0x05400 o && nat_lt o 0x05480 && (o % 8) == 0 then Some (Ral ((o - 0x05400) / 8)) else
-    if nat_le 0x05400 o && nat_lt o 0x05480 && (o % 8) == 4 then Some (Rah ((o - 0x05404) / 8)) else
-    if nat_le 0x05600 o && nat_lt o 0x05800 && (o % 4) == 0 then Some (Vfta ((o - 0x05600) / 4)) else
-    None
-
--- the first of two that is there
-abbrev pub or_else : Option Reg → Option Reg → Option Reg
-or_else None y = y
-or_else (Some r) y = Some r
+-- the register of the rows at an offset
+abbrev pub reg_in : List Reg → ℕ → Option Reg
+reg_in [] o = None
+reg_in (r ∷ rs) o =
+    if has_word_at (row_of r) o then Some (with_index r ((o - (row_of r).offset) / (row_of r).spacing)) else reg_in rs o
 
 -- the register at an offset
-abbrev pub reg_at : ℕ → Option Reg
-reg_at o =
-    or_else (array o) (or_else (find nat_cmp o interrupt) (or_else (find nat_cmp o receive) (or_else (find nat_cmp o transmit)
-    (or_else (find nat_cmp o received) (or_else (find nat_cmp o sent) (find nat_cmp o general))))))
+unfoldable pub reg_at : ℕ → Option Reg
+reg_at o = reg_in registers o

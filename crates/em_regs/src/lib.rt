@@ -1,11 +1,15 @@
 //! The registers of the adapter by name, and the file of those that keep what software writes.
 #![tactic(auto)]
 
-mod control;
+mod bits;
 pub mod laws;
 mod reg;
 mod reg_file;
+mod setup;
+mod table;
 
-pub use control::{Ctrl, Rctl, Tctl};
-pub use reg::{Reg, SPACE};
+pub use bits::{Causes, Ctrl, Eerd, Rah, Rctl, Status, Tctl};
+pub use reg::Reg;
 pub use reg_file::{RegFile, RegUndo};
+pub use setup::{RxSetup, TxSetup};
+pub use table::{COUNTER_WORDS, Kind, Row, SPACE};

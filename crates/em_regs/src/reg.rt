@@ -1,8 +1,8 @@
-//! The registers by name, and where each lies.
+//! The registers by name.
 ghost use Rattle.std.specs.Prelude.{◌≡◌, IfSome, IfNone};
-ghost use Rattle.std.specs.FinMap.{find};
-ghost use Rattle.std.specs.Ordering.{nat_cmp};
-ghost use Rattle.em_regs.specs.Table.{IsReg, offset_of, is_counter, reg_at, general, interrupt, receive, transmit, received, sent, array};
+ghost use Rattle.em_regs.specs.Table.{IsReg, index_of, with_index, offset_of, is_counter, reg_at};
+
+use crate::table::{Kind, SPACE, near};
 
 /// A register of the table, by the manual's name (manual, chapter on register descriptions).
 ///
@@ -10,87 +10,139 @@ ghost use Rattle.em_regs.specs.Table.{IsReg, offset_of, is_counter, reg_at, gene
 /// one below 16. A greater index names no register.
 #[derive(Clone, Copy, PartialEq, Eq, Debug)]
 pub enum Reg {
+    /// CTRL: device control; a write with RST resets the adapter.
     Ctrl,
+    /// STATUS: device status; read only.
     Status,
+    /// EERD: EEPROM read; a write with START reads a word.
     Eerd,
+    /// CTRL_EXT: extended device control; read and write.
     CtrlExt,
+    /// FCAL: flow control address low; read and write.
     Fcal,
+    /// FCAH: flow control address high; read and write.
     Fcah,
+    /// FCT: flow control type; read and write.
     Fct,
+    /// VET: VLAN Ethernet type; read and write.
     Vet,
-    Fcttv,
-    Ledctl,
-    Pba,
+    /// ICR: interrupt cause read; cleared by a read, and a write clears the bits that are 1.
     Icr,
+    /// ITR: interrupt throttling; read and write.
     Itr,
+    /// ICS: interrupt cause set; write only.
     Ics,
+    /// IMS: interrupt mask set and read; a write sets the bits that are 1.
     Ims,
+    /// IMC: interrupt mask clear; write only.
     Imc,
+    /// RCTL: receive control; read and write.
     Rctl,
-    Rdbal,
-    Rdbah,
-    Rdlen,
-    Rdh,
-    Rdt,
-    Rdtr,
-    Rxdctl,
-    Radv,
-    Rxcsum,
+    /// FCTTV: flow control transmit timer value; read and write.
+    Fcttv,
+    /// TCTL: transmit control; read and write.
     Tctl,
+    /// TIPG: transmit inter-packet gap; read and write.
     Tipg,
+    /// LEDCTL: LED control; read and write.
+    Ledctl,
+    /// PBA: packet buffer allocation; read and write.
+    Pba,
+    /// RDBAL: receive descriptor base address low; read and write.
+    Rdbal,
+    /// RDBAH: receive descriptor base address high; read and write.
+    Rdbah,
+    /// RDLEN: receive descriptor length; read and write.
+    Rdlen,
+    /// RDH: receive descriptor head; read and write.
+    Rdh,
+    /// RDT: receive descriptor tail; read and write.
+    Rdt,
+    /// RDTR: receive delay timer; read and write.
+    Rdtr,
+    /// RXDCTL: receive descriptor control; read and write.
+    Rxdctl,
+    /// RADV: receive interrupt absolute delay timer; read and write.
+    Radv,
+    /// TDBAL: transmit descriptor base address low; read and write.
     Tdbal,
+    /// TDBAH: transmit descriptor base address high; read and write.
     Tdbah,
+    /// TDLEN: transmit descriptor length; read and write.
     Tdlen,
+    /// TDH: transmit descriptor head; read and write.
     Tdh,
+    /// TDT: transmit descriptor tail; read and write.
     Tdt,
+    /// TIDV: transmit interrupt delay value; read and write.
     Tidv,
+    /// TXDCTL: transmit descriptor control; read and write.
     Txdctl,
+    /// TADV: transmit absolute interrupt delay value; read and write.
     Tadv,
+    /// MPC: missed packets count; cleared by a read.
     Mpc,
+    /// PRC64: packets received of 64 octets count; cleared by a read.
     Prc64,
+    /// PRC127: packets received of 65 to 127 octets count; cleared by a read.
     Prc127,
+    /// PRC255: packets received of 128 to 255 octets count; cleared by a read.
     Prc255,
+    /// PRC511: packets received of 256 to 511 octets count; cleared by a read.
     Prc511,
+    /// PRC1023: packets received of 512 to 1023 octets count; cleared by a read.
     Prc1023,
+    /// PRC1522: packets received of 1024 octets to the greatest size count; cleared by a read.
     Prc1522,
+    /// GPRC: good packets received count; cleared by a read.
     Gprc,
+    /// BPRC: broadcast packets received count; cleared by a read.
     Bprc,
+    /// MPRC: multicast packets received count; cleared by a read.
     Mprc,
-    Gorcl,
-    Gorch,
-    Rnbc,
-    Ruc,
-    Roc,
+    /// GPTC: good packets transmitted count; cleared by a read.
     Gptc,
+    /// GORCL: good octets received count, low half; a read leaves it.
+    Gorcl,
+    /// GORCH: good octets received count, high half; a read clears both halves.
+    Gorch,
+    /// GOTCL: good octets transmitted count, low half; a read leaves it.
     Gotcl,
+    /// GOTCH: good octets transmitted count, high half; a read clears both halves.
     Gotch,
+    /// RNBC: receive no buffers count; cleared by a read.
+    Rnbc,
+    /// RUC: receive undersize count; cleared by a read.
+    Ruc,
+    /// ROC: receive oversize count; cleared by a read.
+    Roc,
+    /// PTC64: packets transmitted of 64 octets count; cleared by a read.
     Ptc64,
+    /// PTC127: packets transmitted of 65 to 127 octets count; cleared by a read.
     Ptc127,
+    /// PTC255: packets transmitted of 128 to 255 octets count; cleared by a read.
     Ptc255,
+    /// PTC511: packets transmitted of 256 to 511 octets count; cleared by a read.
     Ptc511,
+    /// PTC1023: packets transmitted of 512 to 1023 octets count; cleared by a read.
     Ptc1023,
+    /// PTC1522: packets transmitted of 1024 octets or more count; cleared by a read.
     Ptc1522,
+    /// MPTC: multicast packets transmitted count; cleared by a read.
     Mptc,
+    /// BPTC: broadcast packets transmitted count; cleared by a read.
     Bptc,
+    /// RXCSUM: receive checksum control; read and write.
+    Rxcsum,
+    /// MTA: multicast table array, 128 words; read and write.
     Mta(u8),
+    /// RAL: receive address low, 16 words; read and write.
     Ral(u8),
+    /// RAH: receive address high, 16 words; read and write.
     Rah(u8),
+    /// VFTA: VLAN filter table array, 128 words; read and write.
     Vfta(u8),
 }
-
-/// How many words the multicast table and the VLAN filter table have each.
-pub const TABLE_WORDS: u8 = 128;
-
-/// How many receive addresses there are.
-pub const ADDRESSES: u8 = 16;
-
-/// The registers lie below this offset, each at a multiple of 4 octets.
-pub const SPACE: u32 = 0x05800;
-
-/// Where the first and the last of the counters lie.
-pub const FIRST_COUNTER: u32 = 0x04010;
-
-pub const LAST_COUNTER: u32 = 0x040F4;
 
 impl Reg {
     /// The register at an offset, in octets from the first register; none where the table has none.
@@ -100,229 +152,57 @@ impl Reg {
         ensures some { IfSome result (λ reg. IsReg reg × (offset_of reg ≡ offset)) }
         ensures none { IfNone result ((reg : Reg) → IsReg reg → offset_of reg ≡ offset → ⊥) }
     {
-        if let Some(reg) = of_array(offset) {
-            return Some(reg);
+        if offset >= SPACE {
+            return None;
         }
-        if let Some(reg) = of_interrupt(offset) {
-            return Some(reg);
+        let near = near(offset);
+        let row = near.row();
+        if offset < row.offset {
+            return None;
         }
-        if let Some(reg) = of_receive(offset) {
-            return Some(reg);
+        let past = offset - row.offset;
+        let index = if row.spacing == 8 { past / 8 } else { past / 4 };
+        if index >= u32::from(row.words) || past != row.spacing * index {
+            return None;
         }
-        if let Some(reg) = of_transmit(offset) {
-            return Some(reg);
-        }
-        if let Some(reg) = of_received(offset) {
-            return Some(reg);
-        }
-        if let Some(reg) = of_sent(offset) {
-            return Some(reg);
-        }
-        of_general(offset)
-    }
-
-    /// Whether the register is a counter (manual, chapter on statistics registers).
-    pub fn is_counter(self) -> bool
-        ensures { result ≡ is_counter self }
-    {
-        matches!(self.offset(), FIRST_COUNTER..=LAST_COUNTER)
+        Some(near.with_index(index as u8))
     }
 
     /// Where the register lies, in octets from the first register.
     pub fn offset(self) -> u32
         ensures { result ≡ offset_of self }
     {
+        let row = self.row();
+        row.offset + row.spacing * u32::from(self.index())
+    }
+
+    /// Whether the register is a counter (manual, chapter on statistics registers).
+    pub fn is_counter(self) -> bool
+        ensures { result ≡ is_counter self }
+    {
+        matches!(self.row().kind, Kind::Counter)
+    }
+
+    /// Which of its row's words the register is: 0 where the row has one.
+    pub fn index(self) -> u8
+        ensures { result ≡ index_of self }
+    {
         match self {
-            Reg::Ctrl => 0x00000,
-            Reg::Status => 0x00008,
-            Reg::Eerd => 0x00014,
-            Reg::CtrlExt => 0x00018,
-            Reg::Fcal => 0x00028,
-            Reg::Fcah => 0x0002C,
-            Reg::Fct => 0x00030,
-            Reg::Vet => 0x00038,
-            Reg::Icr => 0x000C0,
-            Reg::Itr => 0x000C4,
-            Reg::Ics => 0x000C8,
-            Reg::Ims => 0x000D0,
-            Reg::Imc => 0x000D8,
-            Reg::Rctl => 0x00100,
-            Reg::Fcttv => 0x00170,
-            Reg::Tctl => 0x00400,
-            Reg::Tipg => 0x00410,
-            Reg::Ledctl => 0x00E00,
-            Reg::Pba => 0x01000,
-            Reg::Rdbal => 0x02800,
-            Reg::Rdbah => 0x02804,
-            Reg::Rdlen => 0x02808,
-            Reg::Rdh => 0x02810,
-            Reg::Rdt => 0x02818,
-            Reg::Rdtr => 0x02820,
-            Reg::Rxdctl => 0x02828,
-            Reg::Radv => 0x0282C,
-            Reg::Tdbal => 0x03800,
-            Reg::Tdbah => 0x03804,
-            Reg::Tdlen => 0x03808,
-            Reg::Tdh => 0x03810,
-            Reg::Tdt => 0x03818,
-            Reg::Tidv => 0x03820,
-            Reg::Txdctl => 0x03828,
-            Reg::Tadv => 0x0382C,
-            Reg::Mpc => 0x04010,
-            Reg::Prc64 => 0x0405C,
-            Reg::Prc127 => 0x04060,
-            Reg::Prc255 => 0x04064,
-            Reg::Prc511 => 0x04068,
-            Reg::Prc1023 => 0x0406C,
-            Reg::Prc1522 => 0x04070,
-            Reg::Gprc => 0x04074,
-            Reg::Bprc => 0x04078,
-            Reg::Mprc => 0x0407C,
-            Reg::Gptc => 0x04080,
-            Reg::Gorcl => 0x04088,
-            Reg::Gorch => 0x0408C,
-            Reg::Gotcl => 0x04090,
-            Reg::Gotch => 0x04094,
-            Reg::Rnbc => 0x040A0,
-            Reg::Ruc => 0x040A4,
-            Reg::Roc => 0x040AC,
-            Reg::Ptc64 => 0x040D8,
-            Reg::Ptc127 => 0x040DC,
-            Reg::Ptc255 => 0x040E0,
-            Reg::Ptc511 => 0x040E4,
-            Reg::Ptc1023 => 0x040E8,
-            Reg::Ptc1522 => 0x040EC,
-            Reg::Mptc => 0x040F0,
-            Reg::Bptc => 0x040F4,
-            Reg::Rxcsum => 0x05000,
-            Reg::Mta(i) => 0x05200 + 4 * u32::from(i),
-            Reg::Ral(i) => 0x05400 + 8 * u32::from(i),
-            Reg::Rah(i) => 0x05404 + 8 * u32::from(i),
-            Reg::Vfta(i) => 0x05600 + 4 * u32::from(i),
+            Reg::Mta(i) | Reg::Ral(i) | Reg::Rah(i) | Reg::Vfta(i) => i,
+            _ => 0,
         }
     }
-}
 
-// The table is cut into its groups, since the check proves a `match` of so many arms and not a longer one.
-
-fn of_general(offset: u32) -> Option<Reg>
-    ensures { result ≡ find nat_cmp offset general }
-{
-    match offset {
-        0x00000 => Some(Reg::Ctrl),
-        0x00008 => Some(Reg::Status),
-        0x00014 => Some(Reg::Eerd),
-        0x00018 => Some(Reg::CtrlExt),
-        0x00028 => Some(Reg::Fcal),
-        0x0002C => Some(Reg::Fcah),
-        0x00030 => Some(Reg::Fct),
-        0x00038 => Some(Reg::Vet),
-        0x00170 => Some(Reg::Fcttv),
-        0x00E00 => Some(Reg::Ledctl),
-        0x01000 => Some(Reg::Pba),
-        _ => None,
-    }
-}
-
-fn of_interrupt(offset: u32) -> Option<Reg>
-    ensures { result ≡ find nat_cmp offset interrupt }
-{
-    match offset {
-        0x000C0 => Some(Reg::Icr),
-        0x000C4 => Some(Reg::Itr),
-        0x000C8 => Some(Reg::Ics),
-        0x000D0 => Some(Reg::Ims),
-        0x000D8 => Some(Reg::Imc),
-        _ => None,
-    }
-}
-
-fn of_receive(offset: u32) -> Option<Reg>
-    ensures { result ≡ find nat_cmp offset receive }
-{
-    match offset {
-        0x00100 => Some(Reg::Rctl),
-        0x02800 => Some(Reg::Rdbal),
-        0x02804 => Some(Reg::Rdbah),
-        0x02808 => Some(Reg::Rdlen),
-        0x02810 => Some(Reg::Rdh),
-        0x02818 => Some(Reg::Rdt),
-        0x02820 => Some(Reg::Rdtr),
-        0x02828 => Some(Reg::Rxdctl),
-        0x0282C => Some(Reg::Radv),
-        0x05000 => Some(Reg::Rxcsum),
-        _ => None,
-    }
-}
-
-fn of_transmit(offset: u32) -> Option<Reg>
-    ensures { result ≡ find nat_cmp offset transmit }
-{
-    match offset {
-        0x00400 => Some(Reg::Tctl),
-        0x00410 => Some(Reg::Tipg),
-        0x03800 => Some(Reg::Tdbal),
-        0x03804 => Some(Reg::Tdbah),
-        0x03808 => Some(Reg::Tdlen),
-        0x03810 => Some(Reg::Tdh),
-        0x03818 => Some(Reg::Tdt),
-        0x03820 => Some(Reg::Tidv),
-        0x03828 => Some(Reg::Txdctl),
-        0x0382C => Some(Reg::Tadv),
-        _ => None,
-    }
-}
-
-fn of_received(offset: u32) -> Option<Reg>
-    ensures { result ≡ find nat_cmp offset received }
-{
-    match offset {
-        0x04010 => Some(Reg::Mpc),
-        0x0405C => Some(Reg::Prc64),
-        0x04060 => Some(Reg::Prc127),
-        0x04064 => Some(Reg::Prc255),
-        0x04068 => Some(Reg::Prc511),
-        0x0406C => Some(Reg::Prc1023),
-        0x04070 => Some(Reg::Prc1522),
-        0x04074 => Some(Reg::Gprc),
-        0x04078 => Some(Reg::Bprc),
-        0x0407C => Some(Reg::Mprc),
-        0x04088 => Some(Reg::Gorcl),
-        0x0408C => Some(Reg::Gorch),
-        0x040A0 => Some(Reg::Rnbc),
-        0x040A4 => Some(Reg::Ruc),
-        0x040AC => Some(Reg::Roc),
-        _ => None,
-    }
-}
-
-fn of_sent(offset: u32) -> Option<Reg>
-    ensures { result ≡ find nat_cmp offset sent }
-{
-    match offset {
-        0x04080 => Some(Reg::Gptc),
-        0x04090 => Some(Reg::Gotcl),
-        0x04094 => Some(Reg::Gotch),
-        0x040D8 => Some(Reg::Ptc64),
-        0x040DC => Some(Reg::Ptc127),
-        0x040E0 => Some(Reg::Ptc255),
-        0x040E4 => Some(Reg::Ptc511),
-        0x040E8 => Some(Reg::Ptc1023),
-        0x040EC => Some(Reg::Ptc1522),
-        0x040F0 => Some(Reg::Mptc),
-        0x040F4 => Some(Reg::Bptc),
-        _ => None,
-    }
-}
-
-fn of_array(offset: u32) -> Option<Reg>
-    ensures { result ≡ array offset }
-{
-    match offset {
-        0x05200..0x05400 if offset % 4 == 0 => Some(Reg::Mta(((offset - 0x05200) / 4) as u8)),
-        0x05400..0x05480 if offset % 8 == 0 => Some(Reg::Ral(((offset - 0x05400) / 8) as u8)),
-        0x05400..0x05480 if offset % 8 == 4 => Some(Reg::Rah(((offset - 0x05404) / 8) as u8)),
-        0x05600..0x05800 if offset % 4 == 0 => Some(Reg::Vfta(((offset - 0x05600) / 4) as u8)),
-        _ => None,
+    /// The register of the same row with another index.
+    fn with_index(self, index: u8) -> Reg
+        ensures { result ≡ with_index self index }
+    {
+        match self {
+            Reg::Mta(_) => Reg::Mta(index),
+            Reg::Ral(_) => Reg::Ral(index),
+            Reg::Rah(_) => Reg::Rah(index),
+            Reg::Vfta(_) => Reg::Vfta(index),
+            _ => self,
+        }
     }
 }

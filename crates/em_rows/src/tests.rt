@@ -2,8 +2,6 @@
 ghost use Rattle.std.specs.Prelude.{Some};
 
 use em_journal::Settings;
-use em_latch::{Counter, Latches};
-use em_regs::Reg;
 use em_script::{BenchFault, Session, Summary, run};
 use std::io::{self, ErrorKind, Read, Write};
 use std::test::Fail;
@@ -195,23 +193,6 @@ fn counts_the_lines_of_a_script(rt: HostRuntime) -> Result<(), Fail> {
     assert_eq!(rt; summary, wanted);
     assert_eq!(rt; taken.as_slice(), b"0\nbad line 2\n0\n".as_slice());
     Ok(())
-}
-
-#[test]
-fn counters_stop_at_their_greatest_value(rt: HostRuntime) {
-    let mut latches = Latches::new();
-    let _ = latches.count(Counter::Mpc, 0xFFFF_FFFE);
-    let _ = latches.count(Counter::Mpc, 3);
-    let (value, _) = latches.read(Reg::Mpc);
-    assert_eq!(rt; value, 0xFFFF_FFFF);
-    let _ = latches.count(Counter::Gorc, 0xFFFF_FFFF);
-    let _ = latches.count(Counter::Gorc, 2);
-    let (low, _) = latches.read(Reg::Gorcl);
-    assert_eq!(rt; low, 1);
-    let (high, _) = latches.read(Reg::Gorch);
-    assert_eq!(rt; high, 1);
-    let (low, _) = latches.read(Reg::Gorcl);
-    assert_eq!(rt; low, 0);
 }
 
 /// For runs in which a growth is refused: the run says Memory, or the line does, and what was

@@ -1,3 +1,4 @@
 pub mod Registers
+pub mod ResetLaws
 pub mod MadePages
 pub mod CostLaws

@@ -1,52 +1,72 @@
 -- More made pages: what is shown stays, records go on fitting, and taking one back leaves more made pages again.
 use Rattle.std.proofs.Common.{◌≡◌, refl, ap, sym, subst}
 use Rattle.em_mem.proofs.MadePages as memory
-use Rattle.em_regs.specs.Registers as registers
+use Rattle.em_regs.specs.RegFile as registers
 use Rattle.em_latch.specs.Latches as latches
 use Rattle.em_step.specs.Cells.{Cells, shows, MorePages}
-use Rattle.em_step.specs.Undo.{Fits, undo}
+use Rattle.em_step.specs.Undo.{Fits, PartFits, undo, undo_part}
 use Rattle.em_step.specs.declared.undo.Undo.{Undo}
-use Rattle.em_step.specs.declared.undo.Undo.TheVariants.{Nothing, Register, Latch, Octets, Link, Reset}
+use Rattle.em_step.specs.declared.undo.Part.{Part}
+use Rattle.em_step.specs.declared.undo.Part.TheVariants.{Nothing, Register, Octets, Link, Reset}
 
 pub shows_after : (c d : Cells) → MorePages c d → shows d ≡ shows c
-shows_after c d more = λ i. record { registers = more.registers i; latches = more.latches i; memory = more.memory.octets i; eeprom = more.eeprom i; link = more.link i }
+shows_after c d more = λ i. record {
+  registers = more.registers i;
+  latches = more.latches i;
+  memory = more.memory.octets i;
+  eeprom = more.eeprom i;
+  link = more.link i;
+}
+
+part_fits_after : (c d : Cells) (p : Part) → MorePages c d → PartFits c p → PartFits d p
+part_fits_after c d Nothing more fits = tt
+part_fits_after c d (Register old) more fits = subst (λ m. registers.Fits m old) (sym more.registers) fits
+part_fits_after c d (Octets old) more fits = memory.fits_after c.memory d.memory old.value more.memory fits
+part_fits_after c d (Link old) more fits = tt
+part_fits_after c d (Reset old) more fits = tt
 
 pub fits_after : (c d : Cells) (r : Undo) → MorePages c d → Fits c r → Fits d r
-fits_after c d Nothing more fits = tt
-fits_after c d (Register cell) more fits = subst (λ m. registers.Fits m cell) (sym more.registers) fits
-fits_after c d (Latch cells) more fits = subst (λ m. latches.Fits m cells) (sym more.latches) fits
-fits_after c d (Octets patch) more fits = memory.fits_after c.memory d.memory patch more.memory fits
-fits_after c d (Link up cells) more fits = subst (λ m. latches.Fits m cells) (sym more.latches) fits
-fits_after c d (Reset kept) more fits = tt
+fits_after c d r more fits = record {
+  latches = subst (λ m. latches.Fits m r.latches) (sym more.latches) fits.latches;
+  part = part_fits_after c d r.part more fits.part;
+}
 
-pub undo_after : (c d : Cells) (r : Undo) → MorePages c d → MorePages (undo c r) (undo d r)
-undo_after c d Nothing more = more
-undo_after c d (Register cell) more = record {
-  registers = ap (λ m. registers.undo m cell) more.registers;
+part_after : (c d : Cells) (p : Part) → MorePages c d → MorePages (undo_part c p) (undo_part d p)
+part_after c d Nothing more = more
+part_after c d (Register old) more = record {
+  registers = ap (λ m. registers.undo m old) more.registers;
   latches = more.latches;
   memory = more.memory;
   eeprom = more.eeprom;
   link = more.link;
 }
-undo_after c d (Latch cells) more = record {
-  registers = more.registers;
-  latches = ap (λ m. latches.undo m cells) more.latches;
-  memory = more.memory;
-  eeprom = more.eeprom;
-  link = more.link;
-}
-undo_after c d (Octets patch) more = record {
+part_after c d (Octets old) more = record {
   registers = more.registers;
   latches = more.latches;
-  memory = memory.undo_after c.memory d.memory patch more.memory;
+  memory = memory.undo_after c.memory d.memory old.value more.memory;
   eeprom = more.eeprom;
   link = more.link;
 }
-undo_after c d (Link up cells) more = record {
+part_after c d (Link old) more = record {
   registers = more.registers;
-  latches = ap (λ m. latches.undo m cells) more.latches;
+  latches = more.latches;
   memory = more.memory;
   eeprom = more.eeprom;
   link = refl;
 }
-undo_after c d (Reset kept) more = record { registers = refl; latches = refl; memory = more.memory; eeprom = more.eeprom; link = more.link }
+part_after c d (Reset old) more = record {
+  registers = refl;
+  latches = refl;
+  memory = more.memory;
+  eeprom = more.eeprom;
+  link = more.link;
+}
+
+pub undo_after : (c d : Cells) (r : Undo) → MorePages c d → MorePages (undo c r) (undo d r)
+undo_after c d r more = part_after _ _ r.part record {
+  registers = more.registers;
+  latches = ap (λ m. latches.undo m r.latches) more.latches;
+  memory = more.memory;
+  eeprom = more.eeprom;
+  link = more.link;
+}

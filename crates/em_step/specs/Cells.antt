@@ -2,9 +2,10 @@
 use Rattle.std.specs.Prelude.{◌≡◌, ℕ, Bool, false, List, refl}
 use Rattle.std.specs.Coded.{Coded, code_by, coded×, coded_list, coded_ℕ, coded_bool}
 use Rattle.em_mem.specs.Memory as memory
-use Rattle.em_regs.specs.Registers.{Registers, registers_code}
-use Rattle.em_regs.specs.Layout as registers
-use Rattle.em_latch.specs.Layout as latches
+use Rattle.em_regs.specs.Storage.{Registers}
+use Rattle.em_regs.specs.RegFile.{registers_code}
+use Rattle.em_regs.specs.RegFile as registers
+use Rattle.em_latch.specs.Latches as latches
 use Rattle.em_eeprom.specs.Eeprom.{mac_of}
 use Rattle.em_step.specs.State.{State}
 
@@ -15,21 +16,39 @@ pub record Cells : Type 0 where
   pub eeprom : List ℕ
   pub link : Bool
 
+-- cells are stored as the tuple of their fields
 abbrev pub cells_code : Coded Cells
 cells_code =
-    code_by (Registers × (Registers × (memory.Cells × (List ℕ × Bool)))) (coded× registers_code (coded× registers_code (coded× memory.cells_code (coded× (coded_list coded_ℕ) coded_bool))))
+    code_by
+    (Registers × (Registers × (memory.Cells × (List ℕ × Bool))))
+    (coded× registers_code (coded× registers_code
+    (coded× memory.cells_code (coded× (coded_list coded_ℕ) coded_bool))))
     (λ c. (c.registers, (c.latches, (c.memory, (c.eeprom, c.link)))))
-    (λ p. record { registers = p.0; latches = p.1.0; memory = p.1.1.0; eeprom = p.1.1.1.0; link = p.1.1.1.1 }) (λ _. refl)
+    (λ p. record { registers = p.0; latches = p.1.0; memory = p.1.1.0; eeprom = p.1.1.1.0; link = p.1.1.1.1 })
+    (λ _. refl)
 
 -- all but which pages are made
 abbrev pub shows : Cells → State
-shows c = record { registers = c.registers; latches = c.latches; memory = c.memory.octets; eeprom = c.eeprom; link = c.link }
+shows c = record {
+  registers = c.registers;
+  latches = c.latches;
+  memory = c.memory.octets;
+  eeprom = c.eeprom;
+  link = c.link;
+}
 
--- a new adapter, over a memory of that size and with those words in its EEPROM: the state after a reset, with the link down
+-- a new adapter, over a memory of that size that is all zero and with those words in its EEPROM: as after a reset, and
+-- with the link down
 abbrev pub fresh : ℕ → List ℕ → Cells
-fresh size eeprom = record { registers = registers.reset (mac_of eeprom); latches = latches.fresh; memory = memory.fresh size; eeprom = eeprom; link = false }
+fresh size eeprom = record {
+  registers = registers.reset (mac_of eeprom);
+  latches = latches.fresh;
+  memory = memory.fresh size;
+  eeprom = eeprom;
+  link = false;
+}
 
--- the same, but that d may have more pages made
+-- d is c, but that d may have more pages made
 pub record MorePages (c d : Cells) : Type 0 where
   pub registers : d.registers ≡ c.registers
   pub latches : d.latches ≡ c.latches

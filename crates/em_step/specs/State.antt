@@ -1,22 +1,32 @@
 -- What an adapter shows, as data.
-use Rattle.std.specs.Prelude.{ℕ, Bool, List, refl}
+use Rattle.std.specs.Prelude.{ℕ, Bool, List, refl, if◌then◌else◌}
 use Rattle.std.specs.Coded.{Coded, code_by, coded×, coded_list, coded_ℕ, coded_bool}
-use Rattle.em_regs.specs.Registers.{Registers, registers_code}
+use Rattle.em_regs.specs.Storage.{Registers}
+use Rattle.em_regs.specs.RegFile.{registers_code}
 
 pub record State : Type 0 where
   -- the registers that keep what software writes
   pub registers : Registers
-  -- the interrupt causes and their mask
+  -- the interrupt causes, their mask, and the counters
   pub latches : Registers
   -- the octets of the guest's memory
   pub memory : List ℕ
-  -- the words of the EEPROM
+  -- the 64 words of the EEPROM
   pub eeprom : List ℕ
   -- whether the link is up
   pub link : Bool
 
+-- a state is stored as the tuple of its fields
 abbrev pub state_code : Coded State
 state_code =
-    code_by (Registers × (Registers × (List ℕ × (List ℕ × Bool)))) (coded× registers_code (coded× registers_code (coded× (coded_list coded_ℕ) (coded× (coded_list coded_ℕ) coded_bool))))
+    code_by
+    (Registers × (Registers × (List ℕ × (List ℕ × Bool))))
+    (coded× registers_code (coded× registers_code
+    (coded× (coded_list coded_ℕ) (coded× (coded_list coded_ℕ) coded_bool))))
     (λ s. (s.registers, (s.latches, (s.memory, (s.eeprom, s.link)))))
-    (λ p. record { registers = p.0; latches = p.1.0; memory = p.1.1.0; eeprom = p.1.1.1.0; link = p.1.1.1.1 }) (λ _. refl)
+    (λ p. record { registers = p.0; latches = p.1.0; memory = p.1.1.0; eeprom = p.1.1.1.0; link = p.1.1.1.1 })
+    (λ _. refl)
+
+-- STATUS follows the link: FD and SPEED 10b, and LU where it is up
+abbrev pub status : State → ℕ
+status s = if s.link then 0x83 else 0x81

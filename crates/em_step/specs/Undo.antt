@@ -1,25 +1,38 @@
--- What a record says, and when it can be said of an adapter.
+-- What a record puts back, and when it can be put back into an adapter.
 use Rattle.em_mem.specs.Memory as memory
-use Rattle.em_regs.specs.Registers as registers
+use Rattle.em_regs.specs.RegFile as registers
 use Rattle.em_latch.specs.Latches as latches
-use Rattle.em_step.specs.Cells.{Cells}
+use Rattle.em_step.specs.Cells.{Cells, MorePages}
 use Rattle.em_step.specs.declared.undo.Undo.{Undo}
-use Rattle.em_step.specs.declared.undo.Undo.TheVariants.{Nothing, Register, Latch, Octets, Link, Reset}
+use Rattle.em_step.specs.declared.undo.Part.{Part}
+use Rattle.em_step.specs.declared.undo.Part.TheVariants.{Nothing, Register, Octets, Link, Reset}
 
--- the record's cells lie in the adapter's
-abbrev pub Fits : Cells → Undo → Type 0
-Fits c Nothing = Unit {0}
-Fits c (Register cell) = registers.Fits c.registers cell
-Fits c (Latch cells) = latches.Fits c.latches cells
-Fits c (Octets patch) = memory.Fits c.memory patch
-Fits c (Link up cells) = latches.Fits c.latches cells
-Fits c (Reset kept) = Unit {0}
+-- what the part names is in the cells
+abbrev pub PartFits : Cells → Part → Type 0
+PartFits c Nothing = Unit {0}
+PartFits c (Register old) = registers.Fits c.registers old
+PartFits c (Octets old) = memory.Fits c.memory old.value
+PartFits c (Link old) = Unit {0}
+PartFits c (Reset old) = Unit {0}
 
--- the cells with those of the record put back
+-- what the record names is in the cells
+pub record Fits (c : Cells) (r : Undo) : Type 0 where
+  pub latches : latches.Fits c.latches r.latches
+  pub part : PartFits c r.part
+
+-- the cells with the part put back
+abbrev pub undo_part : Cells → Part → Cells
+undo_part c Nothing = c
+undo_part c (Register old) = record c { registers = registers.undo c.registers old }
+undo_part c (Octets old) = record c { memory = memory.undo c.memory old.value }
+undo_part c (Link old) = record c { link = old }
+undo_part c (Reset old) = record c { registers = old.value.registers; latches = old.value.latches }
+
+-- the cells with the record put back: the words of the latches, and then the part
 abbrev pub undo : Cells → Undo → Cells
-undo c Nothing = c
-undo c (Register cell) = record c { registers = registers.undo c.registers cell }
-undo c (Latch cells) = record c { latches = latches.undo c.latches cells }
-undo c (Octets patch) = record c { memory = memory.undo c.memory patch }
-undo c (Link up cells) = record c { link = up; latches = latches.undo c.latches cells }
-undo c (Reset kept) = record c { registers = kept.value.registers; latches = kept.value.latches }
+undo c r = undo_part (record c { latches = latches.undo c.latches r.latches }) r.part
+
+-- the record takes a change of the cells back, but that pages which were made stay made
+pub record Reverses (old new : Cells) (r : Undo) : Type 0 where
+  pub fits : Fits new r
+  pub restores : MorePages old (undo new r)

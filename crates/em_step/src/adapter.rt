@@ -1,44 +1,34 @@
 //! The adapter: its registers, its interrupt latches and the guest's memory.
-ghost use Rattle.std.specs.Prelude.{◌≡◌, ◌↔◌, ◌+◌, ◌<◌, ◌≤◌, ◌⊎◌, IfOk, IfErr, OnOk, OnErr, IsErrOf, IsTrue, length};
+ghost use Rattle.std.specs.Prelude.{◌≡◌, ◌↔◌, ◌+◌, ◌<◌, ◌≤◌, ◌⊎◌, if◌then◌else◌, IsTrue, length};
+ghost use Rattle.std.specs.Prelude.{IfOk, IfErr, OnOk, OnErr, IsErrOf};
 ghost use Rattle.std.specs.Option.{option_map};
-ghost use Rattle.em_mem.specs.Memory.{IsMemorySize, IsHeld, part};
+ghost use Rattle.em_mem.specs.Memory.{IsMemorySize, part};
 ghost use Rattle.em_regs.specs.Table.{IsReg, reg_at};
-ghost use Rattle.em_regs.specs.Registers.{IsStored};
+ghost use Rattle.em_regs.specs.RegFile.{IsStored};
 ghost use Rattle.em_latch.specs.Latches.{IsLatched, IsAsserted};
-ghost use Rattle.em_step.specs.Access.{gives, after_read, after_write, status_of, is_reset, after_store, after_eerd_write, reset, after_link};
+ghost use Rattle.em_eeprom.specs.Eeprom.{IsEeprom};
+ghost use Rattle.em_step.specs.State.{status};
+ghost use Rattle.em_step.specs.Access.{gives, after_read, after_write, after_store, after_eerd_write};
+ghost use Rattle.em_step.specs.Access.{is_reset, reset, after_link};
 ghost use Rattle.em_step.specs.Cells.{fresh, shows, MorePages};
 ghost use Rattle.em_step.specs.Event.{plain, pokes};
 ghost use Rattle.em_step.specs.Step.{step, Refuses};
-ghost use Rattle.em_step.specs.Undo.{Fits, undo};
-ghost use Rattle.em_step.specs.Cost.{cost, cost_of, write_cost};
+ghost use Rattle.em_step.specs.Undo.{Fits, PartFits, Reverses, undo, undo_part};
+ghost use Rattle.em_step.specs.Cost.{cost, cost_of, cost_of_part, least_cost, most_cost};
 
-use crate::event::{Answer, Event, Refusal};
-use crate::undo::{BeforeReset, LEAST_COST, MOST_COST, Undo};
+use crate::event::{Answer, Event};
+use crate::refusal::Refusal;
+use crate::undo::{BeforeReset, Part, Undo};
 use bitflags::Flags;
 use em_eeprom::Eeprom;
 use em_latch::Latches;
-use em_mem::{GuestMemory, MemRefusal, MemUndo, Reversible};
-use em_regs::{Ctrl, Reg, RegFile};
+use em_mem::{GuestMemory, MemRefusal, MemUndo};
+use em_regs::{Causes, Ctrl, Eerd, Reg, RegFile, Status};
 use std::alloc::Global;
 use std::marker::Model;
 
 /// The most octets that one memory write has.
-pub const MOST_POKE: usize = 16_384;
-
-/// STATUS while the link is down: FD, and SPEED 10b.
-pub const STATUS_DOWN: u32 = 0x0000_0081;
-
-/// STATUS while the link is up: LU too.
-pub const STATUS_UP: u32 = 0x0000_0083;
-
-/// CTRL's RST.
-pub const CTRL_RST: u32 = 0x0400_0000;
-
-/// EERD's START: a read of the EEPROM.
-pub const EERD_START: u32 = 0x0000_0001;
-
-/// The cause of a link change.
-pub const LSC: u32 = 0x0000_0004;
+const MOST_POKE: usize = 16_384;
 
 /// The adapter and the guest's memory.
 #[derive(Drop)]
@@ -58,7 +48,17 @@ impl Model for Adapter {
 
     ghost coded = { cells_code };
 
-    ghost view = { λ a. record { registers = a.registers; latches = a.latches; memory = a.memory; eeprom = a.eeprom; link = a.link } };
+    ghost view = { λ a. record {
+      registers = a.registers;
+      latches = a.latches;
+      memory = a.memory;
+      eeprom = a.eeprom;
+      link = a.link;
+    } };
+
+    ghost use Rattle.em_eeprom.specs.Eeprom.{IsEeprom};
+
+    ghost invariant = { λ a. IsEeprom a.eeprom };
 }
 
 impl Adapter {
@@ -118,6 +118,14 @@ impl Adapter {
         self.link
     }
 
+    /// The EEPROM.
+    pub(crate) fn eeprom(&self) -> &Eeprom
+        ensures words { result.now ≡ (shows self.now).eeprom }
+        ensures whole { IsEeprom (shows self.now).eeprom }
+    {
+        &self.eeprom
+    }
+
     /// How many octets the guest's memory has.
     pub fn memory_size(&self) -> u64
         ensures { result ≡ length (shows self.now).memory }
@@ -130,8 +138,7 @@ impl Adapter {
     pub fn apply(&mut self, event: Event<'_>) -> Result<(Answer, Undo), Refusal>
         ensures ok { IfOk result (λ r. step (shows self.old) (plain event.entry) ≡ Ok (r.0, shows self.new)) }
         ensures cost { IfOk result (λ r. cost_of r.1 ≡ cost (shows self.old) (plain event.entry)) }
-        ensures fits { IfOk result (λ r. Fits self.new r.1) }
-        ensures restores { IfOk result (λ r. MorePages self.old (undo self.new r.1)) }
+        ensures reverses { IfOk result (λ r. Reverses self.old self.new r.1) }
         ensures err { IfErr result (Refuses (shows self.old) (plain event.entry)) }
         ensures same { OnErr result (MorePages self.old self.new) }
     {
@@ -155,25 +162,51 @@ impl Adapter {
     }
 
     /// Takes an event back by its record.
-    pub fn take_back(&mut self, undo: Undo)
-        requires { Fits self.old undo }
-        ensures { self.new ≡ Rattle.em_step.specs.Undo.undo self.old undo }
+    pub fn take_back(&mut self, taken: Undo)
+        requires { Fits self.old taken }
+        ensures { self.new ≡ undo self.old taken }
     {
-        match undo {
-            Undo::Nothing => {}
-            Undo::Register(cell) => self.registers.take_back(cell),
-            Undo::Latch(cells) => self.latches.take_back(cells),
-            Undo::Octets(patch) => self.memory.take_back(patch),
-            Undo::Link(up, cells) => {
-                self.link = up;
-                self.latches.take_back(cells);
+        let _again = self.exchange(taken);
+    }
+
+    /// Takes an event back by its record, and gives the record that makes its change again. It takes
+    /// no memory.
+    pub fn exchange(&mut self, taken: Undo) -> Undo
+        requires { Fits self.old taken }
+        ensures state { self.new ≡ undo self.old taken }
+        ensures cost { cost_of result ≡ cost_of taken }
+        ensures reverses { Reverses self.old self.new result }
+    {
+        let Undo { latches, part } = taken;
+        let part = match part {
+            Part::Nothing => Part::Nothing,
+            Part::Register(old) => Part::Register(self.registers.exchange(old)),
+            Part::Octets(mut old) => {
+                // the box is kept for the other record, since this takes no memory
+                let none = MemUndo::new(0, Vec::new(self.alloc));
+                let taken = std::mem::replace(&mut *old, none);
+                *old = self.memory.exchange(taken);
+                Part::Octets(old)
             }
-            Undo::Reset(kept) => {
-                let BeforeReset { registers, latches } = Box::into_inner(kept);
-                self.registers = registers;
-                self.latches = latches;
-            }
+            Part::Link(old) => Part::Link(std::mem::replace(&mut self.link, old)),
+            // what it put aside has every word of the latches
+            Part::Reset(old) => return self.exchange_reset(old),
+        };
+        Undo {
+            latches: self.latches.exchange(latches),
+            part,
         }
+    }
+
+    fn exchange_reset(&mut self, mut old: Box<BeforeReset>) -> Undo
+        ensures state { self.new ≡ undo_part self.old (Part.Reset old) }
+        ensures cost { cost_of result ≡ most_cost }
+        ensures reverses { Reverses self.old self.new result }
+    {
+        let before = &mut *old;
+        std::mem::swap(&mut self.registers, &mut before.registers);
+        std::mem::swap(&mut self.latches, &mut before.latches);
+        Undo::of_part(Part::Reset(old))
     }
 
     /// What a read would give.
@@ -182,7 +215,7 @@ impl Adapter {
         ensures { result ≡ gives (shows self.now) reg }
     {
         if reg == Reg::Status {
-            status(self.link)
+            self.status()
         } else if self.latches.holds(reg) {
             self.latches.look(reg)
         } else {
@@ -190,28 +223,37 @@ impl Adapter {
         }
     }
 
+    /// What STATUS gives (this project's profile): full duplex, 1,000 Mb/s, and whether the link is up.
+    fn status(&self) -> u32
+        ensures { result ≡ status (shows self.now) }
+    {
+        let mut status = Status::FD.union(Status::SPEED_1000);
+        if self.link {
+            status.insert(Status::LU);
+        }
+        status.bits()
+    }
+
     fn read(&mut self, reg: Reg) -> (u32, Undo)
         requires { IsReg reg }
         ensures value { result.0 ≡ gives (shows self.old) reg }
         ensures state { shows self.new ≡ after_read (shows self.old) reg }
-        ensures cost { cost_of result.1 ≡ LEAST_COST }
-        ensures fits { Fits self.new result.1 }
-        ensures restores { MorePages self.old (undo self.new result.1) }
+        ensures cost { cost_of result.1 ≡ least_cost }
+        ensures reverses { Reverses self.old self.new result.1 }
     {
         if self.latches.holds(reg) {
             let (value, undo) = self.latches.read(reg);
-            (value, Undo::Latch(undo))
+            (value, Undo::of_latches(undo))
         } else {
-            (self.shown(reg), Undo::Nothing)
+            (self.shown(reg), Undo::of_part(Part::Nothing))
         }
     }
 
     fn write(&mut self, reg: Reg, value: u32) -> Result<Undo, Refusal>
         requires { IsReg reg }
         ensures state { OnOk result (shows self.new ≡ after_write (shows self.old) reg value) }
-        ensures cost { IfOk result (λ r. cost_of r ≡ write_cost reg value) }
-        ensures fits { IfOk result (λ r. Fits self.new r) }
-        ensures restores { IfOk result (λ r. MorePages self.old (undo self.new r)) }
+        ensures cost { IfOk result (λ r. cost_of r ≡ (if is_reset reg value then most_cost else least_cost)) }
+        ensures reverses { IfOk result (λ r. Reverses self.old self.new r) }
         ensures err { IfErr result (λ e. (e ≡ Refusal.Memory) × IsTrue (is_reset reg value)) }
         ensures same { OnErr result (self.new ≡ self.old) }
     {
@@ -220,53 +262,50 @@ impl Adapter {
                 if Ctrl::from_bits_retain(value).contains(Ctrl::RST) {
                     self.reset()
                 } else {
-                    Ok(Undo::Register(self.registers.put(Reg::Ctrl, value)))
+                    Ok(self.store(Reg::Ctrl, value))
                 }
             }
             Reg::Eerd => Ok(self.write_eerd(value)),
-            Reg::Status => Ok(Undo::Nothing),
+            Reg::Status => Ok(Undo::of_part(Part::Nothing)),
             _ => Ok(self.store(reg, value)),
         }
     }
 
-    /// Writes a register that is neither CTRL, EERD nor STATUS.
+    /// Stores what a register's row keeps of a value.
     fn store(&mut self, reg: Reg, value: u32) -> Undo
         requires reg { IsReg reg }
         requires kept { IsStored reg ⊎ IsLatched reg }
         ensures state { shows self.new ≡ after_store (shows self.old) reg value }
-        ensures cost { cost_of result ≡ LEAST_COST }
-        ensures fits { Fits self.new result }
-        ensures restores { MorePages self.old (undo self.new result) }
+        ensures cost { cost_of result ≡ least_cost }
+        ensures reverses { Reverses self.old self.new result }
     {
         if self.latches.holds(reg) {
-            Undo::Latch(self.latches.write(reg, value))
+            Undo::of_latches(self.latches.write(reg, value))
         } else {
-            Undo::Register(self.registers.put(reg, value))
+            Undo::of_part(Part::Register(self.registers.put(reg, value)))
         }
     }
 
     /// Writes EERD: with START the word at the address is there at once.
     fn write_eerd(&mut self, value: u32) -> Undo
         ensures state { shows self.new ≡ after_eerd_write (shows self.old) value }
-        ensures cost { cost_of result ≡ LEAST_COST }
-        ensures fits { Fits self.new result }
-        ensures restores { MorePages self.old (undo self.new result) }
+        ensures cost { cost_of result ≡ least_cost }
+        ensures reverses { Reverses self.old self.new result }
     {
-        if value & EERD_START == EERD_START {
-            let address = (value / 0x100 % 0x100) as u8;
+        if Eerd::from_bits_retain(value).contains(Eerd::START) {
+            let [_, address, _, _] = value.to_le_bytes();
             let word = self.eeprom.word(address);
-            Undo::Register(self.registers.put_eerd(address, word))
+            Undo::of_part(Part::Register(self.registers.put_eerd(address, word)))
         } else {
-            Undo::Register(self.registers.put(Reg::Eerd, value))
+            self.store(Reg::Eerd, value)
         }
     }
 
     /// Resets the registers and latches. The box that keeps the old ones is made first.
     fn reset(&mut self) -> Result<Undo, Refusal>
         ensures state { OnOk result (shows self.new ≡ reset (shows self.old)) }
-        ensures cost { IfOk result (λ r. cost_of r ≡ MOST_COST) }
-        ensures fits { IfOk result (λ r. Fits self.new r) }
-        ensures restores { IfOk result (λ r. MorePages self.old (undo self.new r)) }
+        ensures cost { IfOk result (λ r. cost_of r ≡ most_cost) }
+        ensures reverses { IfOk result (λ r. Reverses self.old self.new r) }
         ensures err { IfErr result (λ e. e ≡ Refusal.Memory) }
         ensures same { OnErr result (self.new ≡ self.old) }
     {
@@ -274,33 +313,29 @@ impl Adapter {
             registers: RegFile::reset(self.eeprom.mac()),
             latches: Latches::new(),
         };
-        let mut kept = Box::new(self.alloc, fresh)?;
-        let old = &mut *kept;
-        std::mem::swap(&mut self.registers, &mut old.registers);
-        std::mem::swap(&mut self.latches, &mut old.latches);
-        Ok(Undo::Reset(kept))
+        let kept = Box::new(self.alloc, fresh)?;
+        Ok(self.exchange_reset(kept))
     }
 
     /// Takes the link up or down; a change raises LSC.
     fn change_link(&mut self, up: bool) -> Undo
         ensures state { shows self.new ≡ after_link (shows self.old) up }
-        ensures cost { cost_of result ≡ LEAST_COST }
-        ensures fits { Fits self.new result }
-        ensures restores { MorePages self.old (undo self.new result) }
+        ensures cost { cost_of result ≡ least_cost }
+        ensures reverses { Reverses self.old self.new result }
     {
         if up == self.link {
-            return Undo::Nothing;
+            return Undo::of_part(Part::Nothing);
         }
-        let was = std::mem::replace(&mut self.link, up);
-        Undo::Link(was, self.latches.raise(LSC))
+        let latches = self.latches.raise(Causes::LSC.bits());
+        let part = Part::Link(std::mem::replace(&mut self.link, up));
+        Undo { latches, part }
     }
 
     /// Writes octets of guest memory. All that can be refused comes before the first change.
     fn poke(&mut self, addr: u64, octets: &[u8]) -> Result<Undo, Refusal>
         ensures ok { OnOk result (step (shows self.old) (pokes addr octets.now) ≡ Ok (Answer.Done, shows self.new)) }
         ensures cost { IfOk result (λ r. cost_of r ≡ cost (shows self.old) (pokes addr octets.now)) }
-        ensures fits { IfOk result (λ r. Fits self.new r) }
-        ensures restores { IfOk result (λ r. MorePages self.old (undo self.new r)) }
+        ensures reverses { IfOk result (λ r. Reverses self.old self.new r) }
         ensures err { IfErr result (Refuses (shows self.old) (pokes addr octets.now)) }
         ensures same { OnErr result (MorePages self.old self.new) }
     {
@@ -310,18 +345,11 @@ impl Adapter {
         if octets.is_empty() || octets.len() > MOST_POKE {
             return Err(Refusal::Length);
         }
-        let mut swapped = Vec::from_slice(self.alloc, octets)?;
+        let new = MemUndo::new(addr, Vec::from_slice(self.alloc, octets)?);
+        let new = Box::new(self.alloc, new)?;
         if self.memory.touch(addr, octets.len() as u64).is_err() {
             return Err(Refusal::Memory);
         }
-        self.memory.swap(addr, swapped.as_mut_slice());
-        Ok(Undo::Octets(MemUndo::new(addr, swapped)))
+        Ok(self.exchange(Undo::of_part(Part::Octets(new))))
     }
-}
-
-/// What STATUS gives (this project's profile): full duplex, 1,000 Mb/s, and whether the link is up.
-fn status(link: bool) -> u32
-    ensures { result ≡ status_of link }
-{
-    if link { STATUS_UP } else { STATUS_DOWN }
 }

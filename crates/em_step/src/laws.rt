@@ -1,15 +1,21 @@
 //! What the definitions of steps and records say together.
-ghost use Rattle.std.specs.Prelude.{◌≡◌, ◌≤◌, Ok};
-ghost use Rattle.em_step.specs.State.{State};
-ghost use Rattle.em_step.specs.Cells.{Cells, shows, MorePages};
+ghost use Rattle.std.specs.Prelude.{◌≡◌, ◌≢◌, ◌+◌, ◌≤◌, ℕ, List, Ok};
+ghost use Rattle.em_regs.specs.declared.reg.Reg.{Reg};
+ghost use Rattle.em_regs.specs.Table.{IsReg};
+ghost use Rattle.em_regs.specs.RegFile.{address_low, address_high, put_eerd};
+ghost use Rattle.em_eeprom.specs.Eeprom.{IsEeprom, mac_of};
+ghost use Rattle.em_step.specs.State.{State, status};
+ghost use Rattle.em_step.specs.Access.{gives, reset, after_eeprom_read};
+ghost use Rattle.em_step.specs.Cells.{Cells, fresh, shows, MorePages};
 ghost use Rattle.em_step.specs.Undo.{Fits, undo};
 ghost use Rattle.em_step.specs.Event.{Event};
 ghost use Rattle.em_step.specs.Step.{step};
-ghost use Rattle.em_step.specs.Cost.{cost};
+ghost use Rattle.em_step.specs.Cost.{cost, most_cost};
 ghost use Rattle.em_step.specs.declared.event.Answer.{Answer};
 ghost use Rattle.em_step.specs.declared.undo.Undo.{Undo};
 
-use crate::undo::MOST_COST;
+use crate::adapter::Adapter;
+use em_regs::Reg;
 
 /// More made pages show the same, and leave each record fitting.
 pub fn made_pages()
@@ -20,5 +26,34 @@ pub fn made_pages()
 
 /// No performed event costs more than the least budget of a journal.
 pub fn costs_are_small()
-    ensures { (s : State) (a : Event) (r : Answer × State) → step s a ≡ Ok r → cost s a ≤ MOST_COST }
+    ensures { (s : State) (e : Event) (r : Answer × State) → step s e ≡ Ok r → cost s e ≤ most_cost }
+{}
+
+/// After a reset every register reads 0 but STATUS, which follows the link, and the first receive
+/// address, which is the EEPROM's and valid.
+pub fn a_reset_leaves_zeros()
+    ensures zero { (s : State) (reg : Reg) → IsReg reg →
+        reg ≢ Reg.Status → reg ≢ Reg.Ral 0 → reg ≢ Reg.Rah 0 → gives (reset s) reg ≡ 0 }
+    ensures status { (s : State) → gives (reset s) Reg.Status ≡ status s }
+    ensures low { (s : State) → gives (reset s) (Reg.Ral 0) ≡ address_low (mac_of s.eeprom) }
+    ensures high { (s : State) → gives (reset s) (Reg.Rah 0) ≡ address_high (mac_of s.eeprom) + 0x8000_0000 }
+{}
+
+/// A new adapter is one that was reset.
+pub fn a_new_adapter_is_reset()
+    ensures { (size : ℕ) (eeprom : List ℕ) → shows (fresh size eeprom) ≡ reset (shows (fresh size eeprom)) }
+{}
+
+/// An adapter's EEPROM has 64 words of 16 bits.
+pub fn an_eeprom_is_whole(adapter: &Adapter)
+    ensures { IsEeprom (shows adapter.now).eeprom }
+{
+    let _words = adapter.eeprom();
+}
+
+/// No event changes a word of the EEPROM, and a read of it above address 63 gives 0.
+pub fn an_eeprom_stays()
+    ensures stays { (s : State) (e : Event) (r : Answer × State) → step s e ≡ Ok r → r.1.eeprom ≡ s.eeprom }
+    ensures above { (s : State) (a : ℕ) → IsEeprom s.eeprom → 64 ≤ a →
+        after_eeprom_read s a ≡ record s { registers = put_eerd s.registers a 0 } }
 {}

@@ -4,8 +4,10 @@
 mod adapter;
 mod event;
 pub mod laws;
+mod refusal;
 mod undo;
 
 pub use adapter::Adapter;
-pub use event::{Answer, Event, Refusal};
-pub use undo::{BeforeReset, LEAST_COST, MOST_COST, Undo};
+pub use event::{Answer, Event};
+pub use refusal::Refusal;
+pub use undo::{BeforeReset, LEAST_COST, MOST_COST, Part, Undo};

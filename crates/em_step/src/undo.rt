@@ -1,10 +1,40 @@
 //! What takes an event back.
-ghost use Rattle.std.specs.Prelude.{◌≡◌, ◌≤◌};
-ghost use Rattle.em_step.specs.Cost.{cost_of};
+ghost use Rattle.std.specs.Prelude.{◌≡◌, ◌≤◌, []};
+ghost use Rattle.em_step.specs.Cost.{least_cost, most_cost, cost_of};
 
 use em_latch::{LatchUndo, Latches};
 use em_mem::MemUndo;
 use em_regs::{RegFile, RegUndo};
+use std::mem::size_of;
+
+/// What a record costs that holds no octets.
+pub const LEAST_COST: u32 = 32;
+
+/// The most that a record costs: that of a reset.
+pub const MOST_COST: u32 = 65_536;
+
+/// What takes one event back: the words of the latches that it changed, as they were, and what else
+/// it changed.
+#[derive(Drop)]
+pub struct Undo {
+    pub latches: LatchUndo,
+    pub part: Part,
+}
+
+/// What an event changed beside words of the latches, as it was.
+#[derive(Drop)]
+pub enum Part {
+    /// Nothing else changed.
+    Nothing,
+    /// A register.
+    Register(RegUndo),
+    /// Octets of guest memory, in a box, so that records stay small: a journal has a place for each.
+    Octets(Box<MemUndo>),
+    /// The link.
+    Link(bool),
+    /// All that a reset put aside, the latches among it.
+    Reset(Box<BeforeReset>),
+}
 
 /// What a reset put aside: the registers and latches as they were.
 #[derive(Drop)]
@@ -13,36 +43,40 @@ pub struct BeforeReset {
     pub latches: Latches,
 }
 
-/// What takes one event back: the cells that it changed, as they were.
-#[derive(Drop)]
-pub enum Undo {
-    /// Nothing changed.
-    Nothing,
-    Register(RegUndo),
-    Latch(LatchUndo),
-    Octets(MemUndo),
-    /// The link, as it was, and the causes before its change was raised.
-    Link(bool, LatchUndo),
-    Reset(Box<BeforeReset>),
-}
-
-/// What a record costs that holds no octets.
-pub const LEAST_COST: u32 = 32;
-
-/// The most that a record costs: that of a reset.
-pub const MOST_COST: u32 = 65_536;
-
 impl Undo {
+    /// The record of an event that changed words of the latches alone.
+    pub(crate) fn of_latches(latches: LatchUndo) -> Undo
+        ensures { result ≡ record { latches = latches; part = Part.Nothing } }
+    {
+        Undo {
+            latches,
+            part: Part::Nothing,
+        }
+    }
+
+    /// The record of an event that changed no word of the latches beside its part.
+    pub(crate) fn of_part(part: Part) -> Undo
+        ensures { result ≡ record { latches = []; part = part } }
+    {
+        Undo {
+            latches: LatchUndo::none(),
+            part,
+        }
+    }
+
     /// What the record counts for in a journal's budget, in octets of cost.
     pub fn cost(&self) -> u32
         ensures cost { result ≡ cost_of self.now }
-        ensures least { LEAST_COST ≤ result }
-        ensures most { result ≤ MOST_COST }
+        ensures least { least_cost ≤ result }
+        ensures most { result ≤ most_cost }
     {
-        match self {
-            Undo::Nothing | Undo::Register(_) | Undo::Latch(_) | Undo::Link(_, _) => LEAST_COST,
-            Undo::Octets(patch) => LEAST_COST + patch.len(),
-            Undo::Reset(_) => MOST_COST,
+        match &self.part {
+            Part::Nothing | Part::Register(_) | Part::Link(_) => LEAST_COST,
+            Part::Octets(octets) => LEAST_COST + octets.len(),
+            Part::Reset(_) => MOST_COST,
         }
     }
 }
+
+// A journal makes a place for each 32 octets of its budget, so a record may not grow unseen.
+const _: () = prove!(size_of::<Undo>() == 48);

@@ -3,7 +3,8 @@ use Rattle.std.proofs.lemmas.List.{length-take-le}
 use Rattle.std.proofs.Math.Seq.{take-length}
 use Rattle.circular_buffer.specs.Buffer.{buffer}
 use Rattle.em_journal.specs.Records.{costs_of}
-use Rattle.em_journal.proofs.BudgetLaws.{sum_some, reach_length, length-costs_of, reach_less, left_after_drop, left_is_reach}
+use Rattle.em_journal.proofs.BudgetLaws.{sum_some, length-costs_of, reach_length, reach_less}
+use Rattle.em_journal.proofs.BudgetLaws.{left_after_drop, left_is_reach}
 use Rattle.em_journal.proofs.records.drop_oldest.Goals as goal
 
 pub drop_one-used-requires : goal.drop_one-used-requires
@@ -39,5 +40,5 @@ pub returns-clause-items : goal.returns-clause-items
 returns-clause-items c =
     let here = c.loop-used.invariant in
     let items = left_is_reach c.args.room c.args.records.now.items c.loop-used.records.items
-      here.kept here.reached here.short (omega arith) in
+    here.kept here.reached here.short (omega arith) in
     λ i. buffer (items i) (here.places i)

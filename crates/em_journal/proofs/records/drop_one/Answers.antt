@@ -6,5 +6,6 @@ use Rattle.em_journal.proofs.records.drop_one.Goals as goal
 
 pub returns-clause-cost : goal.returns-clause-cost
 returns-clause-cost c =
-    let left = sum_without_last c.args.records.now.items c.in-Some.oldest c.requires (sym c.pop_back.ensures.value ∙ c.in-Some.is) in
+    let last = sym c.pop_back.ensures.value ∙ c.in-Some.is in
+    let left = sum_without_last c.args.records.now.items c.in-Some.oldest c.requires last in
     omega (arith, left, ap (λ b. sum (costs_of b.items)) c.pop_back.ensures.items)

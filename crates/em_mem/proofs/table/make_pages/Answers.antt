@@ -9,4 +9,5 @@ returns-clause-only c =
 pub returns-in_err-make_page-clause-ready : goal.returns-in_err-make_page-clause-ready
 returns-in_err-make_page-clause-ready c =
     let index = c.loop-index.index in
-    λ all. absurd (false≢true (c.in_err-make_page.ensures.ready (c.loop-index.invariant.more index (all index (omega arith) (omega arith)))))
+    λ all. absurd (false≢true (c.in_err-make_page.ensures.ready
+    (c.loop-index.invariant.more index (all index (omega arith) (omega arith)))))

@@ -1,24 +1,17 @@
-use Rattle.std.proofs.Common.{◌∙◌, ◌<◌, ◌+◌, ◌*◌, ap, sym, arith}
-use Rattle.em_regs.specs.Table.{offset_of}
-use Rattle.em_regs.proofs.Words.{mta_place, address_place, vfta_place}
+use Rattle.std.proofs.Common.{◌+◌, ◌≡◌, ◌∙◌, ap, get_or, arith}
+use Rattle.em_regs.specs.declared.table.Row.{Row}
+use Rattle.em_regs.specs.Table.{row_of, place_of}
+use Rattle.em_regs.specs.Storage.{offsets}
+use Rattle.em_regs.proofs.PlaceLaws.{place_is, place_within, length-offsets}
 use Rattle.em_regs.proofs.reg_file.place_of.Goals as goal
 
-pub returns-in-Mta-clause-place : goal.returns-in-Mta-clause-place
-returns-in-Mta-clause-place c =
-    let h : c.in-Mta.i < 128 = (rw c.in-Mta.is at c.requires).0 in
-    mta_place c.in-Mta.i _ h (omega arith) ∙ sym (ap offset_of c.in-Mta.is)
+place : (c : goal.After-from) → c.row.result.now.place + c.from.result ≡ place_of c.args.reg
+place c =
+    ap (λ (r : Row). r.place + c.from.result) c.row.ensures
+    ∙ ap (λ i. (row_of c.args.reg).place + i) (c.from.ensures ∙ c.index.ensures)
 
-pub returns-in-Ral-clause-place : goal.returns-in-Ral-clause-place
-returns-in-Ral-clause-place c =
-    let h : c.in-Ral.i < 16 = (rw c.in-Ral.is at c.requires).0 in
-    address_place (2 * c.in-Ral.i) _ (omega arith) (omega arith) ∙ omega arith ∙ sym (ap offset_of c.in-Ral.is)
+pub returns-clause-place : goal.returns-clause-place
+returns-clause-place c = ap (λ n. get_or offsets n 0) (place c) ∙ place_is c.args.reg c.requires
 
-pub returns-in-Rah-clause-place : goal.returns-in-Rah-clause-place
-returns-in-Rah-clause-place c =
-    let h : c.in-Rah.i < 16 = (rw c.in-Rah.is at c.requires).0 in
-    address_place (2 * c.in-Rah.i + 1) _ (omega arith) (omega arith) ∙ omega arith ∙ sym (ap offset_of c.in-Rah.is)
-
-pub returns-in-Vfta-clause-place : goal.returns-in-Vfta-clause-place
-returns-in-Vfta-clause-place c =
-    let h : c.in-Vfta.i < 128 = (rw c.in-Vfta.is at c.requires).0 in
-    vfta_place c.in-Vfta.i _ h (omega arith) ∙ sym (ap offset_of c.in-Vfta.is)
+pub returns-clause-within : goal.returns-clause-within
+returns-clause-within c = omega (arith, place c, place_within c.args.reg c.requires, length-offsets)

@@ -14,7 +14,7 @@ loop-done-preserved c =
 pub returns-clause-run : goal.returns-clause-run
 returns-clause-run c =
     let is = all_back c.loop-done.done c.args.n c.args.self.now c.loop-done.self c.loop-done.invariant.view
-      c.loop-done.auto.done-end c.loop-done-test.false in
+    c.loop-done.auto.done-end c.loop-done-test.false in
     run_back c.args.n c.args.self.now c.loop-done.self (omega arith) is
 
 pub returns-in-Err-clause-count : goal.returns-in-Err-clause-count

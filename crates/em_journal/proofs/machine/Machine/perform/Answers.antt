@@ -2,7 +2,8 @@ use Rattle.std.proofs.Common.{sym, ap, ◌∙◌, arith, rules, length}
 use Rattle.std.specs.Prelude.{IfErr}
 use Rattle.em_step.specs.Event.{plain}
 use Rattle.em_step.specs.Step.{step, Refuses}
-use Rattle.em_journal.proofs.RecordsLaws.{view_event, journal_event, journal_same, view_same, refusal_does, length-back_through}
+use Rattle.em_journal.proofs.RecordsLaws.{view_event, journal_event, length-back_through}
+use Rattle.em_journal.proofs.RecordsLaws.{view_same, journal_same, refusal_does}
 use Rattle.em_journal.proofs.BudgetLaws.{newest_first, has_place}
 use Rattle.em_journal.proofs.machine.Machine.perform.Goals as goal
 
@@ -17,9 +18,9 @@ invariant_of-self-2 c =
     let new = ap (λ b. b.items) c.put_newest.ensures.items in
     let kept = newest_first c.self.inside.records.items (omega (arith, c.cost.ensures.cost)) (omega arith) mid new in
     let places = ap (λ b. b.capacity) c.put_newest.ensures.items ∙ ap (λ b. b.capacity) c.drop_oldest-kept.ensures.items
-      ∙ c.self.invariant.places in
+    ∙ c.self.invariant.places in
     journal_event c.drop_oldest-kept.new.records.items
-    (record { kept = kept; fits = c.in_ok-answer.ensures.fits; restores = c.in_ok-answer.ensures.restores })
+    (record { kept = kept; reverses = c.in_ok-answer.ensures.reverses })
     new c.self.invariant.fit (omega arith) (omega arith) places c.self.invariant.allowed
 
 pub returns-clause-ok : goal.returns-clause-ok
@@ -29,8 +30,8 @@ returns-clause-ok c =
     let kept = newest_first c.self.inside.records.items (omega (arith, c.cost.ensures.cost)) (omega arith) mid new in
     let answer = ap (λ v. step v.present (plain c.args.event)) (sym c.self.view_is) ∙ c.in_ok-answer.ensures.ok in
     let view = view_event (plain c.args.event)
-      (record { kept = kept; fits = c.in_ok-answer.ensures.fits; restores = c.in_ok-answer.ensures.restores })
-      c.in_ok-answer.ensures.cost c.self.view_is in
+    (record { kept = kept; reverses = c.in_ok-answer.ensures.reverses })
+    c.in_ok-answer.ensures.cost c.self.view_is in
     (answer, view)
 
 pub invariant_of-self : goal.invariant_of-self

@@ -4,4 +4,10 @@ use Rattle.em_mem.proofs.memory.GuestMemory.len.Goals as goal
 
 pub returns-clause-len : goal.returns-clause-len
 returns-clause-len c =
-    omega (arith, c.len.ensures, length-table_octets c.self.inside.pages.items c.self.invariant.whole, ap (λ v. length v.octets) c.self.view_is)
+    omega (
+      arith,
+      c.len.ensures,
+      length-table_octets c.self.inside.pages.items c.self.invariant.whole,
+      ap
+          (λ v. length v.octets) c.self.view_is,
+    )

@@ -19,5 +19,6 @@ pub returns-clause-ok : goal.returns-clause-ok
 returns-clause-ok c =
     let size : PAGE_OCTETS * (c.args.size / PAGE_OCTETS) ≡ c.args.size = omega arith in
     let octets = ap table_octets c.in_ok-pages.ensures ∙ unmade_octets (c.args.size / PAGE_OCTETS) ∙ ap zeros size in
-    let made = ap table_made c.in_ok-pages.ensures ∙ unmade_made (c.args.size / PAGE_OCTETS) ∙ sym (none_made_is c.args.size) in
+    let made = ap table_made c.in_ok-pages.ensures ∙ unmade_made (c.args.size / PAGE_OCTETS)
+    ∙ sym (none_made_is c.args.size) in
     λ i. record { octets = octets i; made = made i }

@@ -1,7 +1,7 @@
 use Rattle.std.proofs.Common.{◌≡◌, ◌∙◌, ◌+◌, ◌-◌, take, drop, ap, sym, length, arith, length-drop}
 use Rattle.std.proofs.lemmas.List.{take_all, length-take-le}
 use Rattle.em_mem.specs.Memory.{part, put}
-use Rattle.em_mem.proofs.PutLaws.{put_back, length-part}
+use Rattle.em_mem.proofs.PutLaws.{put_back, length-part, length-put}
 use Rattle.em_mem.proofs.PieceLaws.{wrote_step, old_step, read_step, rest_step}
 use Rattle.em_mem.proofs.memory.GuestMemory.swap.Goals as goal
 
@@ -14,25 +14,44 @@ loop-done-preserved c =
     let done = c.loop-done.done in
     let count = c.in_page-count.result in
     let same_count : done + count - done ≡ count = omega arith in
-    let piece : take (done + count - done) (drop done slice) ≡ take count (drop done written) = (λ i. take (same_count i) (c.loop-done.invariant.rest i)) in
+    let piece : take (done + count - done) (drop done slice) ≡ take count (drop done written) =
+    (λ i. take (same_count i) (c.loop-done.invariant.rest i)) in
     let size : length (take (done + count - done) (drop done slice)) ≡ count
-    = ap length (ap (λ j. take j (drop done slice)) same_count) ∙ length-take-le count (drop done slice) (omega (arith, length-drop done slice)) in
-    let old = old_step before so_far c.args.addr done count written c.swap_piece.new.swapped c.loop-done.invariant.wrote (c.swap_piece.ensures.old ∙ ap (part so_far (c.args.addr + done)) size) (omega arith) c.requires.held in
-    let old_size : length c.swap_piece.new.swapped ≡ count = ap length old ∙ length-part before (c.args.addr + done) count (omega (arith, c.requires.held)) in
+    = ap length (ap (λ j. take j (drop done slice)) same_count)
+    ∙ length-take-le count (drop done slice) (omega (arith, length-drop done slice)) in
+    let piece_old = c.swap_piece.ensures.old ∙ ap (part so_far (c.args.addr + done)) size in
+    let old = old_step before so_far c.args.addr done count written c.swap_piece.new.swapped
+    c.loop-done.invariant.wrote piece_old (omega arith) c.requires.held in
+    let old_size : length c.swap_piece.new.swapped ≡ count = ap length old
+    ∙ length-part before (c.args.addr + done) count (omega (arith, c.requires.held)) in
     record {
       within = omega arith;
-      wrote = wrote_step before so_far c.swap_piece.new.self.octets c.args.addr done count written _ c.loop-done.invariant.wrote piece c.swap_piece.ensures.octets (omega arith) c.requires.held;
+      wrote = wrote_step before so_far c.swap_piece.new.self.octets c.args.addr done count written _
+          c.loop-done.invariant.wrote piece c.swap_piece.ensures.octets (omega arith) c.requires.held;
       kept = c.swap_piece.ensures.made ∙ c.loop-done.invariant.kept;
-      old = read_step before c.args.addr done count _ slice c.swap_piece.new.swapped (omega arith) c.loop-done.invariant.old old_size old;
-      rest = rest_step done count _ slice written c.swap_piece.new.swapped c.loop-done.invariant.rest (omega arith) same_count (old_size ∙ sym same_count);
+      old = read_step before c.args.addr done count _ slice c.swap_piece.new.swapped
+          (omega arith) c.loop-done.invariant.old old_size old;
+      rest = rest_step done count _ slice written c.swap_piece.new.swapped c.loop-done.invariant.rest
+          (omega arith) same_count (old_size ∙ sym same_count);
     }
 
-pub returns-clause-restores : goal.returns-clause-restores
-returns-clause-restores c =
+pub returns-clause-reverses : goal.returns-clause-reverses
+returns-clause-reverses c =
     let before = c.args.self.now.octets in
     let written = c.args.swapped.now in
     let all : c.loop-done.done ≡ length written = omega arith in
-    let wrote = c.loop-done.invariant.wrote ∙ ap (put before c.args.addr) (take_all c.loop-done.done written (omega arith)) in
-    let old = sym (take_all c.loop-done.done c.loop-done.swapped (omega arith)) ∙ c.loop-done.invariant.old ∙ ap (part before c.args.addr) all in
-    let octets = put_back before c.loop-done.self.octets c.args.addr written c.loop-done.swapped wrote old c.requires.held in
-    λ i. record { octets = octets i; made = c.loop-done.invariant.kept i }
+    let wrote = c.loop-done.invariant.wrote ∙ ap (put before c.args.addr)
+    (take_all c.loop-done.done written (omega arith)) in
+    let old = sym (take_all c.loop-done.done c.loop-done.swapped (omega arith)) ∙ c.loop-done.invariant.old
+    ∙ ap (part before c.args.addr) all in
+    let octets = put_back before c.loop-done.self.octets c.args.addr written c.loop-done.swapped
+    wrote old c.requires.held in
+    let size = ap length old ∙ length-part before c.args.addr (length written) c.requires.held in
+    let same_size = ap length wrote ∙ length-put before c.args.addr written c.requires.held in
+    record {
+      fits = record {
+        held = omega (arith, size, same_size, c.requires.held);
+        made = λ i h. rw c.loop-done.invariant.kept (c.requires.made i (omega (arith, size)));
+      };
+      restores = λ i. record { octets = octets i; made = c.loop-done.invariant.kept i };
+    }

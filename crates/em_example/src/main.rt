@@ -1,0 +1,35 @@
+//! A driver's mistake, found by stepping back: the library by an example.
+#![tactic(auto)]
+
+use bitflags::Flags;
+use em_journal::{Machine, Settings};
+use em_regs::{Causes, Reg};
+use em_step::Event;
+
+fn main(rt: HostRuntime) -> Result<(), anyhow::Error> {
+    // 64 KiB of guest memory, a journal of 1 MiB, the link down
+    let mut machine = Settings::default().machine(rt.alloc())?;
+
+    // software lets link changes through to the interrupt line, and the link comes up
+    machine.perform(Event::Write(Reg::Ims.offset(), Causes::LSC.bits()))?;
+    machine.perform(Event::Link(true))?;
+    println!(rt; "the link is up:          {}", line(&machine))?;
+
+    // the routine acknowledges every cause before it asks which one it was
+    machine.perform(Event::Write(Reg::Icr.offset(), u32::MAX))?;
+    println!(rt; "after the routine:       {}", line(&machine))?;
+
+    // the newest event is taken back: it was that write that lost the cause
+    machine.back()?;
+    println!(rt; "before its first access: {}", line(&machine))?;
+    Ok(())
+}
+
+/// The interrupt line in a word.
+fn line(machine: &Machine) -> &'static str {
+    if machine.line() {
+        "interrupt"
+    } else {
+        "no interrupt"
+    }
+}

@@ -1,0 +1,5 @@
+pub mod Bits
+pub mod Kind
+pub mod Address
+pub mod Vlan
+pub mod Filters

@@ -1,0 +1,11 @@
+use Rattle.std.proofs.Common.{◌<◌, ◌/◌, arith}
+use Rattle.em_regs.proofs.TableLaws.{page_is_there, page_gives}
+use Rattle.em_regs.proofs.table.near.Goals as goal
+
+pub bounds-from : goal.bounds-from
+bounds-from c =
+    let at : c.args.offset / 64 < 352 = omega (arith, c.requires) in
+    rw c.from.ensures (page_is_there (c.args.offset / 64) at)
+
+pub returns : goal.returns
+returns c = page_gives c.args.offset c.from.result c.from.ensures

@@ -1,0 +1,86 @@
+-- Registers as a map from offset to number, and what a write does to it.
+use Rattle.std.specs.Prelude.{
+  ◌≡◌,
+  ℕ,
+  ◌+◌,
+  ◌*◌,
+  List,
+  [],
+  ◌∷◌,
+  IsTrue,
+  unwrap_or,
+  bit_and,
+  slice_index,
+  length,
+  replicate,
+}
+use Rattle.std.specs.FinMap as map
+use Rattle.std.specs.Coded.{Coded, coded_ℕ}
+use Rattle.std.specs.Int.{w16, w32, from_le_bytes}
+use Rattle.em_regs.specs.declared.reg.Reg.{Reg}
+use Rattle.em_regs.specs.declared.reg.Reg.TheVariants.{Eerd, Ral, Rah}
+use Rattle.em_regs.specs.Table.{IsReg, is_stored, offset_of, mask_of}
+use Rattle.em_regs.specs.Storage.{Registers, words_at, offsets}
+
+abbrev pub registers_code : Coded Registers
+registers_code = map.code coded_ℕ coded_ℕ
+
+-- the number at an offset
+abbrev pub at : Registers → ℕ → ℕ
+at m o = unwrap_or (map.get m o) 0
+
+-- a register of the table that keeps what software writes
+abbrev pub IsStored : Reg → Type 0
+IsStored reg = IsReg reg × IsTrue (is_stored reg)
+
+-- ---- writes
+-- the registers after a write of v
+abbrev pub put : Registers → Reg → ℕ → Registers
+put m reg v = map.insert m (offset_of reg) (bit_and v (mask_of reg))
+
+-- what EERD holds after a read of the EEPROM was started: DONE (bit 4), the address and the word there
+abbrev pub eerd_value : ℕ → ℕ → ℕ
+eerd_value address word = 0x10 + 0x100 * address + 0x1_0000 * word
+
+-- the registers after that
+abbrev pub put_eerd : Registers → ℕ → ℕ → Registers
+put_eerd m address word = map.insert m (offset_of Eerd) (eerd_value address word)
+
+-- ---- reset
+-- every register zero
+unfoldable pub zeroed : Registers
+zeroed = words_at offsets (replicate (length offsets) 0)
+
+-- octets 0 to 3 of an address, octet 0 the lowest
+abbrev pub address_low : List ℕ → ℕ
+address_low mac =
+    from_le_bytes w32 (slice_index mac 0 ∷ slice_index mac 1 ∷ slice_index mac 2 ∷ slice_index mac 3 ∷ [])
+
+-- octets 4 and 5 of an address
+abbrev pub address_high : List ℕ → ℕ
+address_high mac = from_le_bytes w16 (slice_index mac 4 ∷ slice_index mac 5 ∷ [])
+
+-- after a reset: all zero, but that the first receive address is the given one, and valid (AV, bit 31)
+abbrev pub reset : List ℕ → Registers
+reset mac =
+    map.insert (map.insert zeroed (offset_of (Ral 0)) (address_low mac)) (offset_of (Rah 0))
+    (address_high mac + 0x8000_0000)
+
+-- ---- what takes a write back
+-- what the word at an offset was
+pub record OldWord : Type 0 where
+  pub at : ℕ
+  pub old : ℕ
+
+-- the register is there
+abbrev pub Fits : Registers → OldWord → Type 0
+Fits m w = IsTrue (map.contains_key m w.at)
+
+-- the register holds what it held
+abbrev pub undo : Registers → OldWord → Registers
+undo m w = map.insert m w.at w.old
+
+-- the word takes the change from the old registers to the new ones back
+pub record Reverses (old new : Registers) (w : OldWord) : Type 0 where
+  pub fits : Fits new w
+  pub restores : undo new w ≡ old

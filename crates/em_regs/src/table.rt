@@ -1,0 +1,234 @@
+//! The table of the registers: where each lies, what an access does, and which word keeps it.
+ghost use Rattle.std.specs.Prelude.{◌≡◌, ◌<◌};
+ghost use Rattle.em_regs.specs.declared.reg.Reg.{Reg};
+ghost use Rattle.em_regs.specs.Table.{IsReg, row_of, first, offset_of};
+
+use crate::reg::Reg;
+
+/// What the adapter does at an access.
+#[derive(Clone, Copy, PartialEq, Eq, Debug)]
+pub enum Kind {
+    /// A write stores the bits of the row's mask, and a read gives them.
+    Stored,
+    /// STATUS: a read gives the link, and a write does nothing.
+    Status,
+    /// An interrupt register (manual, chapter on interrupt registers).
+    Interrupt,
+    /// A counter (manual, chapter on statistics registers).
+    Counter,
+}
+
+/// A row of the table: a register, or the registers of an array.
+#[derive(Clone, Copy, Debug)]
+pub struct Row {
+    /// Where the first of its words lies, in octets from the first register.
+    pub offset: u32,
+    /// How many words it has.
+    pub words: u8,
+    /// How far apart they lie: 4 octets, or 8.
+    pub spacing: u32,
+    /// What an access does.
+    pub kind: Kind,
+    /// The bits of a written value that are stored.
+    pub mask: u32,
+    /// Which word keeps the first of them, the others behind it: a word of the register file, or of
+    /// the counters. A new row takes the next free place of its kind.
+    pub place: usize,
+}
+
+/// The registers lie below this offset, each at a multiple of 4 octets.
+pub const SPACE: u32 = 0x05800;
+
+/// How many words the register file has: its next free place.
+pub const STORED_WORDS: usize = 319;
+
+/// How many counters there are: their next free place.
+pub const COUNTER_WORDS: usize = 26;
+
+/// A register that stores all 32 bits.
+const EVERY_BIT: u32 = 0xFFFF_FFFF;
+
+/// EERD: a write that starts no read keeps the address alone.
+const EERD_BITS: u32 = 0x0000_FF00;
+
+/// RDBAL and TDBAL: a ring's base is a multiple of 16 octets.
+const BASE_BITS: u32 = 0xFFFF_FFF0;
+
+/// RDLEN and TDLEN: a ring's length in octets is a multiple of 128, below 1 MiB.
+const LENGTH_BITS: u32 = 0x000F_FF80;
+
+/// Heads, tails and VET have 16 bits.
+const INDEX_BITS: u32 = 0x0000_FFFF;
+
+/// RAH: two octets of the address, AS and AV.
+const RAH_BITS: u32 = 0x8003_FFFF;
+
+/// One register: offset, kind, mask, place. An array: offset; words, spacing, and then the same.
+macro_rules! row {
+    ($offset:literal, $kind:ident, $mask:ident, $place:literal) => {
+        row!($offset; 1, 4, $kind, $mask, $place)
+    };
+    ($offset:literal; $words:literal, $spacing:literal, $kind:ident, $mask:ident, $place:literal) => {
+        &Row {
+            offset: $offset,
+            words: $words,
+            spacing: $spacing,
+            kind: Kind::$kind,
+            mask: $mask,
+            place: $place,
+        }
+    };
+}
+
+impl Reg {
+    /// The register's row of the table (manual, chapter on register descriptions).
+    #[rattlefmt::skip]
+    pub fn row(self) -> &'static Row
+        ensures { result.now ≡ row_of self }
+    {
+        match self {
+            Reg::Ctrl =>        row!(0x00000,          Stored,    EVERY_BIT,   0),
+            Reg::Status =>      row!(0x00008,          Status,    EVERY_BIT,   0),
+            Reg::Eerd =>        row!(0x00014,          Stored,    EERD_BITS,   1),
+            Reg::CtrlExt =>     row!(0x00018,          Stored,    EVERY_BIT,   2),
+            Reg::Fcal =>        row!(0x00028,          Stored,    EVERY_BIT,   3),
+            Reg::Fcah =>        row!(0x0002C,          Stored,    EVERY_BIT,   4),
+            Reg::Fct =>         row!(0x00030,          Stored,    EVERY_BIT,   5),
+            Reg::Vet =>         row!(0x00038,          Stored,    INDEX_BITS,  6),
+            Reg::Icr =>         row!(0x000C0,          Interrupt, EVERY_BIT,   0),
+            Reg::Itr =>         row!(0x000C4,          Stored,    EVERY_BIT,   7),
+            Reg::Ics =>         row!(0x000C8,          Interrupt, EVERY_BIT,   0),
+            Reg::Ims =>         row!(0x000D0,          Interrupt, EVERY_BIT,   0),
+            Reg::Imc =>         row!(0x000D8,          Interrupt, EVERY_BIT,   0),
+            Reg::Rctl =>        row!(0x00100,          Stored,    EVERY_BIT,   8),
+            Reg::Fcttv =>       row!(0x00170,          Stored,    EVERY_BIT,   9),
+            Reg::Tctl =>        row!(0x00400,          Stored,    EVERY_BIT,   10),
+            Reg::Tipg =>        row!(0x00410,          Stored,    EVERY_BIT,   11),
+            Reg::Ledctl =>      row!(0x00E00,          Stored,    EVERY_BIT,   12),
+            Reg::Pba =>         row!(0x01000,          Stored,    EVERY_BIT,   13),
+            Reg::Rdbal =>       row!(0x02800,          Stored,    BASE_BITS,   14),
+            Reg::Rdbah =>       row!(0x02804,          Stored,    EVERY_BIT,   15),
+            Reg::Rdlen =>       row!(0x02808,          Stored,    LENGTH_BITS, 16),
+            Reg::Rdh =>         row!(0x02810,          Stored,    INDEX_BITS,  17),
+            Reg::Rdt =>         row!(0x02818,          Stored,    INDEX_BITS,  18),
+            Reg::Rdtr =>        row!(0x02820,          Stored,    EVERY_BIT,   19),
+            Reg::Rxdctl =>      row!(0x02828,          Stored,    EVERY_BIT,   20),
+            Reg::Radv =>        row!(0x0282C,          Stored,    EVERY_BIT,   21),
+            Reg::Tdbal =>       row!(0x03800,          Stored,    BASE_BITS,   22),
+            Reg::Tdbah =>       row!(0x03804,          Stored,    EVERY_BIT,   23),
+            Reg::Tdlen =>       row!(0x03808,          Stored,    LENGTH_BITS, 24),
+            Reg::Tdh =>         row!(0x03810,          Stored,    INDEX_BITS,  25),
+            Reg::Tdt =>         row!(0x03818,          Stored,    INDEX_BITS,  26),
+            Reg::Tidv =>        row!(0x03820,          Stored,    EVERY_BIT,   27),
+            Reg::Txdctl =>      row!(0x03828,          Stored,    EVERY_BIT,   28),
+            Reg::Tadv =>        row!(0x0382C,          Stored,    EVERY_BIT,   29),
+            Reg::Mpc =>         row!(0x04010,          Counter,   EVERY_BIT,   0),
+            Reg::Prc64 =>       row!(0x0405C,          Counter,   EVERY_BIT,   1),
+            Reg::Prc127 =>      row!(0x04060,          Counter,   EVERY_BIT,   2),
+            Reg::Prc255 =>      row!(0x04064,          Counter,   EVERY_BIT,   3),
+            Reg::Prc511 =>      row!(0x04068,          Counter,   EVERY_BIT,   4),
+            Reg::Prc1023 =>     row!(0x0406C,          Counter,   EVERY_BIT,   5),
+            Reg::Prc1522 =>     row!(0x04070,          Counter,   EVERY_BIT,   6),
+            Reg::Gprc =>        row!(0x04074,          Counter,   EVERY_BIT,   7),
+            Reg::Bprc =>        row!(0x04078,          Counter,   EVERY_BIT,   8),
+            Reg::Mprc =>        row!(0x0407C,          Counter,   EVERY_BIT,   9),
+            Reg::Gptc =>        row!(0x04080,          Counter,   EVERY_BIT,   10),
+            Reg::Gorcl =>       row!(0x04088,          Counter,   EVERY_BIT,   11),
+            Reg::Gorch =>       row!(0x0408C,          Counter,   EVERY_BIT,   12),
+            Reg::Gotcl =>       row!(0x04090,          Counter,   EVERY_BIT,   13),
+            Reg::Gotch =>       row!(0x04094,          Counter,   EVERY_BIT,   14),
+            Reg::Rnbc =>        row!(0x040A0,          Counter,   EVERY_BIT,   15),
+            Reg::Ruc =>         row!(0x040A4,          Counter,   EVERY_BIT,   16),
+            Reg::Roc =>         row!(0x040AC,          Counter,   EVERY_BIT,   17),
+            Reg::Ptc64 =>       row!(0x040D8,          Counter,   EVERY_BIT,   18),
+            Reg::Ptc127 =>      row!(0x040DC,          Counter,   EVERY_BIT,   19),
+            Reg::Ptc255 =>      row!(0x040E0,          Counter,   EVERY_BIT,   20),
+            Reg::Ptc511 =>      row!(0x040E4,          Counter,   EVERY_BIT,   21),
+            Reg::Ptc1023 =>     row!(0x040E8,          Counter,   EVERY_BIT,   22),
+            Reg::Ptc1522 =>     row!(0x040EC,          Counter,   EVERY_BIT,   23),
+            Reg::Mptc =>        row!(0x040F0,          Counter,   EVERY_BIT,   24),
+            Reg::Bptc =>        row!(0x040F4,          Counter,   EVERY_BIT,   25),
+            Reg::Rxcsum =>      row!(0x05000,          Stored,    EVERY_BIT,   30),
+            Reg::Mta(_) =>      row!(0x05200; 128, 4,  Stored,    EVERY_BIT,   31),
+            Reg::Ral(_) =>      row!(0x05400; 16, 8,   Stored,    EVERY_BIT,   159),
+            Reg::Rah(_) =>      row!(0x05404; 16, 8,   Stored,    RAH_BITS,    175),
+            Reg::Vfta(_) =>     row!(0x05600; 128, 4,  Stored,    EVERY_BIT,   191),
+        }
+    }
+}
+
+// The table read by offset: the first register of the row that may lie there. The proof of `near`
+// names a register that these pages miss.
+
+macro_rules! page {
+    ($($word:tt)*) => { [$(at!($word)),*] };
+}
+
+/// A page is 16 words, and a `-` is a word with no register.
+macro_rules! at {
+    (-) => { Reg::Ctrl };
+    (Mta) => { Reg::Mta(0) };
+    (Ral) => { Reg::Ral(0) };
+    (Rah) => { Reg::Rah(0) };
+    (Vfta) => { Reg::Vfta(0) };
+    ($name:ident) => { Reg::$name };
+}
+
+/// The pages that differ, each at the first place where it lies.
+#[rattlefmt::skip]
+static PAGES: [[Reg; 16]; 18] = [
+    page![- - - - - - - - - - - - - - - -], // no register
+    page![Ctrl - Status - - Eerd CtrlExt - - - Fcal Fcah Fct - Vet -], // 0x00000
+    page![Icr Itr Ics - Ims - Imc - - - - - - - - -], // 0x000C0
+    page![Rctl - - - - - - - - - - - - - - -], // 0x00100
+    page![- - - - - - - - - - - - Fcttv - - -], // 0x00140
+    page![Tctl - - - Tipg - - - - - - - - - - -], // 0x00400
+    page![Ledctl - - - - - - - - - - - - - - -], // 0x00E00
+    page![Pba - - - - - - - - - - - - - - -], // 0x01000
+    page![Rdbal Rdbah Rdlen - Rdh - Rdt - Rdtr - Rxdctl Radv - - - -], // 0x02800
+    page![Tdbal Tdbah Tdlen - Tdh - Tdt - Tidv - Txdctl Tadv - - - -], // 0x03800
+    page![- - - - Mpc - - - - - - - - - - -], // 0x04000
+    page![- - - - - - - Prc64 Prc127 Prc255 Prc511 Prc1023 Prc1522 Gprc Bprc Mprc], // 0x04040
+    page![Gptc - Gorcl Gorch Gotcl Gotch - - Rnbc Ruc - Roc - - - -], // 0x04080
+    page![- - - - - - Ptc64 Ptc127 Ptc255 Ptc511 Ptc1023 Ptc1522 Mptc Bptc - -], // 0x040C0
+    page![Rxcsum - - - - - - - - - - - - - - -], // 0x05000
+    page![Mta Mta Mta Mta Mta Mta Mta Mta Mta Mta Mta Mta Mta Mta Mta Mta], // 0x05200
+    page![Ral Rah Ral Rah Ral Rah Ral Rah Ral Rah Ral Rah Ral Rah Ral Rah], // 0x05400
+    page![Vfta Vfta Vfta Vfta Vfta Vfta Vfta Vfta Vfta Vfta Vfta Vfta Vfta Vfta Vfta Vfta], // 0x05600
+];
+
+/// Which page lies at each 64 octets.
+#[rattlefmt::skip]
+static PAGE_AT: [u8; 352] = [
+    1, 0, 0, 2, 3, 4, 0, 0, 0, 0, 0, 0, 0, 0, 0, 0, // 0x00000
+    5, 0, 0, 0, 0, 0, 0, 0, 0, 0, 0, 0, 0, 0, 0, 0, // 0x00400
+    0, 0, 0, 0, 0, 0, 0, 0, 0, 0, 0, 0, 0, 0, 0, 0, // 0x00800
+    0, 0, 0, 0, 0, 0, 0, 0, 6, 0, 0, 0, 0, 0, 0, 0, // 0x00C00
+    7, 0, 0, 0, 0, 0, 0, 0, 0, 0, 0, 0, 0, 0, 0, 0, // 0x01000
+    0, 0, 0, 0, 0, 0, 0, 0, 0, 0, 0, 0, 0, 0, 0, 0, // 0x01400
+    0, 0, 0, 0, 0, 0, 0, 0, 0, 0, 0, 0, 0, 0, 0, 0, // 0x01800
+    0, 0, 0, 0, 0, 0, 0, 0, 0, 0, 0, 0, 0, 0, 0, 0, // 0x01C00
+    0, 0, 0, 0, 0, 0, 0, 0, 0, 0, 0, 0, 0, 0, 0, 0, // 0x02000
+    0, 0, 0, 0, 0, 0, 0, 0, 0, 0, 0, 0, 0, 0, 0, 0, // 0x02400
+    8, 0, 0, 0, 0, 0, 0, 0, 0, 0, 0, 0, 0, 0, 0, 0, // 0x02800
+    0, 0, 0, 0, 0, 0, 0, 0, 0, 0, 0, 0, 0, 0, 0, 0, // 0x02C00
+    0, 0, 0, 0, 0, 0, 0, 0, 0, 0, 0, 0, 0, 0, 0, 0, // 0x03000
+    0, 0, 0, 0, 0, 0, 0, 0, 0, 0, 0, 0, 0, 0, 0, 0, // 0x03400
+    9, 0, 0, 0, 0, 0, 0, 0, 0, 0, 0, 0, 0, 0, 0, 0, // 0x03800
+    0, 0, 0, 0, 0, 0, 0, 0, 0, 0, 0, 0, 0, 0, 0, 0, // 0x03C00
+    10, 11, 12, 13, 0, 0, 0, 0, 0, 0, 0, 0, 0, 0, 0, 0, // 0x04000
+    0, 0, 0, 0, 0, 0, 0, 0, 0, 0, 0, 0, 0, 0, 0, 0, // 0x04400
+    0, 0, 0, 0, 0, 0, 0, 0, 0, 0, 0, 0, 0, 0, 0, 0, // 0x04800
+    0, 0, 0, 0, 0, 0, 0, 0, 0, 0, 0, 0, 0, 0, 0, 0, // 0x04C00
+    14, 0, 0, 0, 0, 0, 0, 0, 15, 15, 15, 15, 15, 15, 15, 15, // 0x05000
+    16, 16, 0, 0, 0, 0, 0, 0, 17, 17, 17, 17, 17, 17, 17, 17, // 0x05400
+];
+
+/// The first register of the row that has the offset, if any has.
+pub(crate) fn near(offset: u32) -> Reg
+    requires { offset < SPACE }
+    ensures { (reg : Reg) → IsReg reg → offset_of reg ≡ offset → result ≡ first reg }
+{
+    let page = PAGE_AT[(offset / 64) as usize];
+    PAGES[usize::from(page)][(offset / 4 % 16) as usize]
+}

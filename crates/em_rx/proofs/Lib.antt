@@ -1,0 +1,7 @@
+pub mod RingLaws
+pub mod PatchLaws
+pub mod CutLaws
+pub mod ArrivalLaws
+pub mod DeliveryLaws
+pub mod StepLaws
+pub mod MadePages

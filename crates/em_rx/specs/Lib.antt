@@ -1,0 +1,9 @@
+pub mod Refusal
+pub mod Ring
+pub mod Frame
+pub mod Fifo
+pub mod FramePatch
+pub mod StepPatch
+pub mod Undo
+pub mod Descriptor
+pub mod Receive

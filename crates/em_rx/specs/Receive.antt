@@ -1,0 +1,81 @@
+-- The receive engine's step, over what the registers set up, the octets of guest memory and what the FIFO shows.
+use Rattle.std.specs.Prelude.{◌≡◌, ℕ, ◌+◌, ◌-◌, ◌*◌, ◌%◌, ◌==◌, ◌||◌, min, nat_lt, nat_le, if◌then◌else◌, Bool, not, List, length, Result, Ok, Err}
+use Rattle.em_mem.specs.Memory.{part, put}
+use Rattle.em_regs.specs.declared.setup.RxSetup.{RxSetup}
+use Rattle.em_rx.specs.Descriptor.{descriptor_of, written_back}
+use Rattle.em_rx.specs.Fifo.{Fifo, after_delivery, first, next, rest}
+use Rattle.em_rx.specs.declared.receive.RxAnswer.{RxAnswer}
+use Rattle.em_rx.specs.declared.receive.RxAnswer.TheVariants.{Idle, Wrote}
+use Rattle.em_rx.specs.declared.refusal.RxRefusal.{RxRefusal}
+use Rattle.em_rx.specs.declared.refusal.RxRefusal.TheVariants.{DmaRange, Memory}
+
+-- no descriptor belongs to the adapter: EN clear, RDH or RDT at the ring's count or past it, or RDH = RDT
+abbrev pub has_no_descriptor : RxSetup → Bool
+has_no_descriptor q = not q.enabled || nat_le q.count q.head || nat_le q.count q.tail || q.head == q.tail
+
+-- nothing is done
+abbrev pub is_idle : RxSetup → Fifo → Bool
+is_idle q fifo = has_no_descriptor q || length fifo.frames == 0
+
+-- where the descriptor lies
+abbrev pub descriptor_at : RxSetup → ℕ
+descriptor_at q = q.base + 16 * q.head
+
+-- where its buffer lies
+abbrev pub buffer_at : RxSetup → List ℕ → ℕ
+buffer_at q memory = (descriptor_of (part memory (descriptor_at q) 16)).address
+
+-- how many octets go into the buffer
+abbrev pub count_of : RxSetup → Fifo → ℕ
+count_of q fifo = min q.buffer (rest fifo)
+
+-- the frame's last octet is among them
+abbrev pub is_last : RxSetup → Fifo → Bool
+is_last q fifo = nat_le (rest fifo) q.buffer
+
+-- memory with those octets in the buffer, and then the descriptor written back
+abbrev pub after_write : RxSetup → List ℕ → Fifo → List ℕ
+after_write q memory fifo =
+    put (put memory (buffer_at q memory) (next fifo (count_of q fifo))) (descriptor_at q + 8)
+    (written_back (count_of q fifo) (is_last q fifo) (first fifo).tag)
+
+-- the descriptor after this one
+abbrev pub following : RxSetup → ℕ
+following q = if q.head + 1 == q.count then 0 else q.head + 1
+
+-- RXT0 with the last octet of a frame, and RXDMT0 where the adapter's descriptors are now as many as the threshold
+abbrev pub causes_of : RxSetup → Bool → ℕ
+causes_of q last =
+    (if last then 0x80 else 0)
+    + (if (q.tail + q.count - following q) % q.count == q.threshold then 0x10 else 0)
+
+-- what a step leaves: its answer, the octets of guest memory, and what the FIFO shows
+pub record Received : Type 0 where
+  pub answer : RxAnswer
+  pub memory : List ℕ
+  pub fifo : Fifo
+
+-- a step that writes
+abbrev pub delivery : RxSetup → List ℕ → Fifo → Received
+delivery q memory fifo = record {
+  answer = Wrote q.head (following q) (causes_of q (is_last q fifo));
+  memory = after_write q memory fifo;
+  fifo = after_delivery fifo (count_of q fifo);
+}
+
+-- the step: idle, or refused where the descriptor or then its buffer leaves memory, or a delivery
+abbrev pub receive : RxSetup → List ℕ → Fifo → Result Received RxRefusal
+receive q memory fifo =
+    if is_idle q fifo then Ok (record { answer = Idle; memory = memory; fifo = fifo })
+    else if nat_lt (length memory) (descriptor_at q + 16) then Err DmaRange
+    else if nat_lt (length memory) (buffer_at q memory + count_of q fifo) then Err DmaRange
+    else Ok (delivery q memory fifo)
+
+-- the step may be refused so: for want of memory only where it would write
+abbrev pub Refuses : RxSetup → List ℕ → Fifo → RxRefusal → Type 0
+Refuses q memory fifo DmaRange = receive q memory fifo ≡ Err DmaRange
+Refuses q memory fifo Memory = receive q memory fifo ≡ Ok (delivery q memory fifo)
+
+-- how many octets of memory the step writes: those of the piece, and 8 of the descriptor
+abbrev pub octets_written : RxSetup → Fifo → ℕ
+octets_written q fifo = if is_idle q fifo then 0 else count_of q fifo + 8

@@ -1,0 +1,298 @@
+//! The FIFO: frames that lie end to end in one packet buffer.
+ghost use Rattle.std.specs.Prelude.{◌≡◌, ◌↔◌, ◌+◌, ◌<◌, ◌≤◌, IfOk, IfErr, IsTrue, OnOk, OnErr, length};
+ghost use Rattle.em_mem.specs.Memory as memory;
+ghost use Rattle.em_rx.specs.Frame.{stored_frame};
+ghost use Rattle.em_rx.specs.Fifo.{after_arrival, empty, first, fresh, HasRoom, IsFirst, IsSound, next, rest, shows};
+ghost use Rattle.em_rx.specs.Descriptor.{written_back as octets_of};
+ghost use Rattle.em_rx.specs.Undo.{Fits, FitsFrame, FitsStep, IsMove, Reverses, octets_held, undo_fifo, undo_memory, with_both, with_patch};
+
+use crate::descriptor::written_back;
+use crate::frame::{stored_octets, stored_tag};
+use crate::places::{Entry, Places};
+use crate::ring::{copied, replace, replace_entry, wrap};
+use crate::{FramePatch, RxRefusal, RxUndo, StepPatch};
+use em_mem::{GuestMemory, MemUndo};
+use std::alloc::{AllocError, Global};
+use std::marker::Model;
+
+/// How many octets the packet buffer has (manual, chapter on packet buffer memory: 48 KB for receive).
+const OCTETS: u32 = 49_152;
+
+/// How many entries the ring has: so many frames of the least stored length, 56 octets, fill the buffer.
+const ENTRIES: u32 = 877;
+
+/// The frames that the wire brought and the receive engine has not delivered yet.
+#[derive(Drop)]
+pub struct Fifo {
+    alloc: Global,
+    octets: Vec<u8>,
+    entries: Vec<Entry>,
+    places: Places,
+}
+
+impl Model for Fifo {
+    ghost use Rattle.em_rx.specs.Fifo.{Cells, cells_code};
+
+    ghost Value = { Cells };
+
+    ghost coded = { cells_code };
+
+    ghost use Rattle.em_rx.specs.Fifo.{IsSound};
+
+    ghost view = { λ f. record { octets = f.octets.items; entries = f.entries.items; places = f.places } };
+
+    ghost invariant = { λ f.
+        IsSound (record { octets = f.octets.items; entries = f.entries.items; places = f.places }) };
+}
+
+impl Fifo {
+    /// A FIFO with no frame. It takes all its memory here; `Memory` where that is refused.
+    #[tactic(auto, unfolding(crate::specs::Fifo::fresh))]
+    pub fn new(alloc: Global) -> Result<Fifo, RxRefusal>
+        ensures ok { IfOk result (λ fifo. fifo ≡ fresh) }
+        ensures shown { IfOk result (λ fifo. shows fifo ≡ empty) }
+        ensures refused { IfErr result (λ refusal. refusal ≡ RxRefusal.Memory) }
+    {
+        let octets = vec![in alloc; 0; OCTETS as usize]?;
+        let entries = vec![in alloc; Entry { len: 0, tag: None }; ENTRIES as usize]?;
+        let places = Places {
+            head: 0,
+            first: 0,
+            count: 0,
+            taken: 0,
+            used: 0,
+        };
+        Ok(Fifo {
+            alloc,
+            octets,
+            entries,
+            places,
+        })
+    }
+
+    /// Whether a frame of `len` stored octets has room.
+    pub fn has_room(&self, len: usize) -> bool
+        ensures { IsTrue result ↔ HasRoom (shows self.now) len }
+    {
+        len <= (OCTETS - self.places.used) as usize
+    }
+
+    /// Stores a frame, which comes last: a tagged one without its octets 12 to 15. Refused for
+    /// `Memory` alone, where the record of what it overwrites finds none; the FIFO then stays.
+    pub fn accept(&mut self, frame: &[u8], tagged: bool) -> Result<RxUndo, RxRefusal>
+        requires least { 60 ≤ length frame.now }
+        requires most { length (stored_frame frame.now tagged).octets ≤ 16_384 }
+        requires room { HasRoom (shows self.old) (length (stored_frame frame.now tagged).octets) }
+        ensures ok { OnOk result (shows self.new ≡ after_arrival (shows self.old) (stored_frame frame.now tagged)) }
+        ensures held { IfOk result (λ r. octets_held r ≡ length (stored_frame frame.now tagged).octets) }
+        ensures reverses { IfOk result (λ r. (m : memory.Cells) → Reverses self.old self.new m m r) }
+        ensures refused { IfErr result (λ refusal. refusal ≡ RxRefusal.Memory) }
+        ensures same { OnErr result (self.new ≡ self.old) }
+    {
+        let octets = stored_octets(self.alloc, frame, tagged)?;
+        let patch = self.arrival(octets, stored_tag(frame, tagged));
+        Ok(RxUndo::Frame(self.exchange_frame(patch)))
+    }
+
+    /// All frames leave. Their octets stay in the buffer until arrivals overwrite them.
+    pub fn clear(&mut self) -> RxUndo
+        ensures shown { shows self.new ≡ empty }
+        ensures held { octets_held result ≡ 0 }
+        ensures reverses { (m : memory.Cells) → Reverses self.old self.new m m result }
+    {
+        let places = self.places;
+        self.places = Places {
+            count: 0,
+            taken: 0,
+            used: 0,
+            ..places
+        };
+        RxUndo::Places(places)
+    }
+
+    /// What puts stored octets behind the last frame.
+    fn arrival(&self, octets: Vec<u8>, tag: Option<u16>) -> FramePatch
+        requires least { 56 ≤ length octets.items }
+        requires most { length octets.items ≤ 16_384 }
+        requires room { HasRoom (shows self.now) (length octets.items) }
+        ensures arrives { FitsFrame self.now result × (shows (with_patch self.now result)
+            ≡ after_arrival (shows self.now) (record { octets = octets.items; tag = tag })) }
+        ensures octets { result.octets ≡ octets.items }
+    {
+        let places = self.places;
+        let len = octets.len();
+        FramePatch {
+            octets,
+            at: wrap(OCTETS, places.head + places.used),
+            entry: Entry {
+                len: len as u16,
+                tag,
+            },
+            index: wrap(ENTRIES, places.first + places.count),
+            places: Places {
+                count: places.count + 1,
+                used: places.used + len as u32,
+                ..places
+            },
+        }
+    }
+
+    /// Puts a patch in, and gives what it replaced.
+    fn exchange_frame(&mut self, patch: FramePatch) -> FramePatch
+        requires { FitsFrame self.old patch }
+        ensures state { self.new ≡ with_patch self.old patch }
+        ensures held { length result.octets ≡ length patch.octets }
+        ensures reverses { FitsFrame self.new result × (with_patch self.new result ≡ self.old) }
+    {
+        FramePatch {
+            octets: replace(&mut self.octets, patch.at as usize, patch.octets),
+            at: patch.at,
+            entry: replace_entry(&mut self.entries, patch.index as usize, patch.entry),
+            index: patch.index,
+            places: std::mem::replace(&mut self.places, patch.places),
+        }
+    }
+
+    /// Puts a step's patch in, and gives what it replaced: what was put in last is put back first.
+    pub(crate) fn exchange_step(&mut self, memory: &mut GuestMemory, patch: StepPatch) -> StepPatch
+        requires { FitsStep self.old memory.old patch }
+        ensures fifo { self.new ≡ record self.old { places = patch.places } }
+        ensures memory { memory.new ≡ with_both memory.old patch }
+        ensures held { octets_held (RxUndo.Step result) ≡ octets_held (RxUndo.Step patch) }
+        ensures reverses { Reverses self.old self.new memory.old memory.new (RxUndo.Step result) }
+    {
+        let older = memory.exchange(patch.first);
+        let newer = memory.exchange(patch.second);
+        StepPatch {
+            first: newer,
+            second: older,
+            places: std::mem::replace(&mut self.places, patch.places),
+        }
+    }
+
+    /// Whether no frame waits.
+    pub(crate) fn is_empty(&self) -> bool
+        ensures { IsTrue result ↔ (length (shows self.now).frames ≡ 0) }
+    {
+        self.places.count == 0
+    }
+
+    /// The entry of the first frame.
+    fn first_entry(&self) -> Entry
+        requires { 0 < length (shows self.now).frames }
+        ensures { IsFirst self.now result }
+    {
+        self.entries[self.places.first as usize]
+    }
+
+    /// How many octets of the first frame are not in guest memory yet.
+    pub(crate) fn rest(&self) -> u32
+        requires { 0 < length (shows self.now).frames }
+        ensures { result ≡ rest (shows self.now) }
+    {
+        self.first_entry().len as u32 - self.places.taken
+    }
+
+    /// A copy of the next octets of the first frame.
+    fn piece(&self, count: u32) -> Result<Vec<u8>, AllocError>
+        requires some { 0 < length (shows self.now).frames }
+        requires count { count ≤ rest (shows self.now) }
+        ensures octets { IfOk result (λ piece. piece.items ≡ next (shows self.now) count) }
+        ensures count { IfOk result (λ piece. length piece.items ≡ count) }
+    {
+        let at = wrap(OCTETS, self.places.head + self.places.taken);
+        copied(
+            self.alloc,
+            self.octets.as_slice(),
+            at as usize,
+            count as usize,
+        )
+    }
+
+    /// The places with `count` octets more of the first frame in guest memory.
+    fn places_after(&self, count: u32) -> Places
+        requires some { 0 < length (shows self.now).frames }
+        requires count { count ≤ rest (shows self.now) }
+        ensures { IsMove self.now result count }
+    {
+        let places = self.places;
+        let len = self.first_entry().len as u32;
+        if places.taken + count < len {
+            return Places {
+                taken: places.taken + count,
+                ..places
+            };
+        }
+        Places {
+            head: wrap(OCTETS, places.head + len),
+            first: wrap(ENTRIES, places.first + 1),
+            count: places.count - 1,
+            taken: 0,
+            used: places.used - len,
+        }
+    }
+
+    /// What puts the next octets of the first frame into their buffer, and then writes the descriptor
+    /// back.
+    pub(crate) fn delivery(
+        &self,
+        buffer: u64,
+        count: u32,
+        written_at: u64,
+        last: bool,
+    ) -> Result<StepPatch, AllocError>
+        requires some { 0 < length (shows self.now).frames }
+        requires count { count ≤ rest (shows self.now) }
+        requires most { count ≤ 16_384 }
+        ensures first { IfOk result (λ patch.
+            patch.first ≡ record { at = buffer; octets = next (shows self.now) count }) }
+        ensures second { IfOk result (λ patch.
+            patch.second ≡ record { at = written_at; octets = octets_of count last (first (shows self.now)).tag }) }
+        ensures count { IfOk result (λ patch. length patch.first.octets ≡ count) }
+        ensures moves { IfOk result (λ patch. IsMove self.now patch.places count) }
+    {
+        let piece = self.piece(count)?;
+        let octets = written_back(count as u16, last, self.first_entry().tag);
+        let written = Vec::from_slice(self.alloc, octets.as_slice())?;
+        Ok(StepPatch {
+            first: MemUndo::new(buffer, piece),
+            second: MemUndo::new(written_at, written),
+            places: self.places_after(count),
+        })
+    }
+
+    /// Takes back the change that gave out this record, and gives the record that makes it again. It
+    /// takes no memory.
+    pub fn exchange(&mut self, memory: &mut GuestMemory, taken: RxUndo) -> RxUndo
+        requires { Fits self.old memory.old taken }
+        ensures fifo { self.new ≡ undo_fifo self.old taken }
+        ensures memory { memory.new ≡ undo_memory memory.old taken }
+        ensures held { octets_held result ≡ octets_held taken }
+        ensures reverses { Reverses self.old self.new memory.old memory.new result }
+    {
+        match taken {
+            RxUndo::Nothing => RxUndo::Nothing,
+            RxUndo::Places(places) => RxUndo::Places(self.exchange_places(places)),
+            RxUndo::Frame(patch) => RxUndo::Frame(self.exchange_frame(patch)),
+            RxUndo::Step(patch) => RxUndo::Step(self.exchange_step(memory, patch)),
+        }
+    }
+
+    fn exchange_places(&mut self, places: Places) -> Places
+        requires { IsSound (record self.old { places = places }) }
+        ensures state { self.new ≡ record self.old { places = places } }
+        ensures fits { IsSound (record self.new { places = result }) }
+        ensures restores { record self.new { places = result } ≡ self.old }
+    {
+        std::mem::replace(&mut self.places, places)
+    }
+
+    /// Takes back the change that gave out this record. It takes no memory.
+    pub fn take_back(&mut self, memory: &mut GuestMemory, taken: RxUndo)
+        requires { Fits self.old memory.old taken }
+        ensures fifo { self.new ≡ undo_fifo self.old taken }
+        ensures memory { memory.new ≡ undo_memory memory.old taken }
+    {
+        let _again = self.exchange(memory, taken);
+    }
+}

@@ -1,0 +1,20 @@
+//! The receive side of a network adapter's software model: the FIFO, in which frames that the wire
+//! brought wait in one packet buffer, and the receive engine, which puts them into guest memory.
+#![tactic(auto)]
+
+pub use descriptor::RxDescriptor;
+pub use fifo::Fifo;
+pub use places::{Entry, Places};
+pub use receive::RxAnswer;
+pub use refusal::RxRefusal;
+pub use undo::{FramePatch, MOST_HELD, RxUndo, StepPatch};
+
+mod descriptor;
+mod fifo;
+mod frame;
+pub mod laws;
+mod places;
+mod receive;
+mod refusal;
+mod ring;
+mod undo;

@@ -1,0 +1,133 @@
+//! The receive engine: one step puts the next piece of the oldest frame into the buffer of the next
+//! descriptor (manual, chapter on packet reception).
+ghost use Rattle.std.specs.Prelude.{◌≡◌, ◌^◌, ◌+◌, ◌*◌, ◌≤◌, ◌<◌, IfOk, IfErr, OnErr, Ok, length};
+ghost use Rattle.em_mem.specs.Memory.{IsHeld, MorePages};
+ghost use Rattle.em_rx.specs.Fifo.{shows};
+ghost use Rattle.em_rx.specs.Receive as spec;
+ghost use Rattle.em_rx.specs.Receive.{receive, Refuses, octets_written};
+ghost use Rattle.em_rx.specs.Undo.{ReversesInPages, octets_held};
+
+use crate::descriptor::{DESCRIPTOR_OCTETS, RxDescriptor, WRITTEN_AT, WRITTEN_OCTETS};
+use crate::{Fifo, RxRefusal, RxUndo};
+use bitflags::Flags;
+use em_mem::GuestMemory;
+use em_regs::{Causes, RxSetup};
+
+/// What a receive step did.
+#[derive(Clone, Copy, Debug, PartialEq, Eq)]
+pub enum RxAnswer {
+    /// No descriptor is the adapter's, or no frame waits.
+    Idle,
+    /// Descriptor `index` was filled and written back. RDH is `next` from now on, and `causes` are
+    /// raised in ICR: RXT0, RXDMT0, both or none.
+    Wrote { index: u32, next: u32, causes: u32 },
+}
+
+/// Whether no descriptor is the adapter's.
+fn has_no_descriptor(setup: &RxSetup) -> bool
+    ensures { result ≡ spec.has_no_descriptor setup.now }
+{
+    !setup.enabled
+        || setup.count <= setup.head
+        || setup.count <= setup.tail
+        || setup.head == setup.tail
+}
+
+/// The descriptor after this one: behind the ring's last comes its first.
+fn following(setup: &RxSetup) -> u32
+    requires { setup.now.head < setup.now.count }
+    ensures place { result ≡ spec.following setup.now }
+    ensures within { result < setup.now.count }
+{
+    if setup.head + 1 == setup.count {
+        0
+    } else {
+        setup.head + 1
+    }
+}
+
+/// The causes that a step raises.
+fn causes_of(setup: &RxSetup, last: bool) -> u32
+    requires head { setup.now.head < setup.now.count }
+    requires tail { setup.now.tail < setup.now.count }
+    requires count { setup.now.count < 2 ^ 28 }
+    ensures { result ≡ spec.causes_of setup.now last }
+{
+    let delivered = if last { Causes::RXT0.bits() } else { 0 };
+    let left = (setup.tail + setup.count - following(setup)) % setup.count;
+    let low = if left == setup.threshold {
+        Causes::RXDMT0.bits()
+    } else {
+        0
+    };
+    delivered + low
+}
+
+/// Where the descriptor lies, and its buffer.
+fn fetch(memory: &GuestMemory, setup: &RxSetup) -> Result<(u64, u64), RxRefusal>
+    ensures at { IfOk result (λ found. found.0 ≡ spec.descriptor_at setup.now) }
+    ensures held { IfOk result (λ found. IsHeld memory.now.octets found.0 16) }
+    ensures low { IfOk result (λ found. found.0 + 16 < 2 ^ 64) }
+    ensures buffer { IfOk result (λ found. found.1 ≡ spec.buffer_at setup.now memory.now.octets) }
+    ensures refused { IfErr result (λ refusal. refusal ≡ RxRefusal.DmaRange) }
+    ensures outside { OnErr result (length memory.now.octets < spec.descriptor_at setup.now + 16) }
+{
+    // no place in memory lies past 2^64
+    let _size = memory.len();
+    let Some(at) = setup.base.checked_add(16 * setup.head as u64) else {
+        return Err(RxRefusal::DmaRange);
+    };
+    if !memory.holds(at, DESCRIPTOR_OCTETS as u64) {
+        return Err(RxRefusal::DmaRange);
+    }
+    let mut octets = [0; DESCRIPTOR_OCTETS];
+    memory.read_into(at, octets.as_mut_slice());
+    Ok((at, RxDescriptor::read(octets.as_slice()).address()))
+}
+
+impl Fifo {
+    /// One step of the receive engine.
+    ///
+    /// It is idle where no descriptor is the adapter's or no frame waits; it then takes no memory.
+    /// Else the next octets of the oldest frame go into the buffer of descriptor RDH, as many as
+    /// there is room for, and after them the descriptor is written back: the buffer may lie over the
+    /// ring. `DmaRange` where the descriptor leaves guest memory, and then where the buffer does;
+    /// sums of addresses do not wrap. `Memory` where a page, or the record of what is overwritten,
+    /// finds none. After a refusal all shows as before; pages may be left made.
+    pub fn step(
+        &mut self,
+        memory: &mut GuestMemory,
+        setup: RxSetup,
+    ) -> Result<(RxAnswer, RxUndo), RxRefusal>
+        requires buffer { setup.buffer ≤ 16_384 }
+        requires count { setup.count < 2 ^ 28 }
+        ensures ok { IfOk result (λ r. receive setup memory.old.octets (shows self.old)
+            ≡ Ok (record { answer = r.0; memory = memory.new.octets; fifo = shows self.new })) }
+        ensures held { IfOk result (λ r. octets_held r.1 ≡ octets_written setup (shows self.old)) }
+        ensures reverses { IfOk result (λ r. ReversesInPages self.old self.new memory.old memory.new r.1) }
+        ensures refused { IfErr result (Refuses setup memory.old.octets (shows self.old)) }
+        ensures same { OnErr result (self.new ≡ self.old) }
+        ensures pages { OnErr result (MorePages memory.old memory.new) }
+    {
+        if has_no_descriptor(&setup) || self.is_empty() {
+            return Ok((RxAnswer::Idle, RxUndo::Nothing));
+        }
+        let (descriptor, buffer) = fetch(memory, &setup)?;
+        let rest = self.rest();
+        let count = setup.buffer.min(rest);
+        if !memory.holds(buffer, count as u64) {
+            return Err(RxRefusal::DmaRange);
+        }
+        let last = rest <= setup.buffer;
+        let patch = self.delivery(buffer, count, descriptor + WRITTEN_AT, last)?;
+        memory.touch(buffer, count as u64)?;
+        memory.touch(descriptor + WRITTEN_AT, WRITTEN_OCTETS)?;
+        let undo = RxUndo::Step(self.exchange_step(memory, patch));
+        let answer = RxAnswer::Wrote {
+            index: setup.head,
+            next: following(&setup),
+            causes: causes_of(&setup, last),
+        };
+        Ok((answer, undo))
+    }
+}

@@ -1,0 +1,93 @@
+//! Slices whose end is followed by their beginning.
+ghost use Rattle.std.specs.Prelude.{◌≡◌, ◌+◌, ◌<◌, ◌≤◌, ◌++◌, IfOk, length, take, drop, set, get_or};
+ghost use Rattle.em_rx.specs.Ring.{ring_part, ring_put, wrap as place_in};
+
+use crate::places::Entry;
+use std::alloc::{AllocError, Global};
+
+/// The place `n` in a ring of the given size, where `n` may be past the end once.
+pub(crate) fn wrap(size: u32, n: u32) -> u32
+    ensures { result ≡ place_in size n }
+{
+    if n < size { n } else { n - size }
+}
+
+/// A copy of the `len` octets that lie in the ring from `at` on.
+pub(crate) fn copied(
+    alloc: Global,
+    ring: &[u8],
+    at: usize,
+    len: usize,
+) -> Result<Vec<u8>, AllocError>
+    requires at { at ≤ length ring.now }
+    requires size { len ≤ length ring.now }
+    ensures { IfOk result (λ octets. octets.items ≡ ring_part ring.now at len) }
+{
+    let (low, high) = ring.split_at(at);
+    if len <= high.len() {
+        return Vec::from_slice(alloc, &high[..len]);
+    }
+    let mut octets = Vec::with_capacity(alloc, len)?;
+    octets.extend_from_slice(high)?;
+    octets.extend_from_slice(&low[..len - high.len()])?;
+    Ok(octets)
+}
+
+/// Puts the octets into the ring from `at` on, and gives those that lay there.
+pub(crate) fn replace(ring: &mut Vec<u8>, at: usize, octets: Vec<u8>) -> Vec<u8>
+    requires at { at ≤ length ring.old.items }
+    requires size { length octets.items ≤ length ring.old.items }
+    ensures ring { ring.new.items ≡ ring_put ring.old.items at octets.items }
+    ensures octets { result.items ≡ ring_part ring.old.items at (length octets.items) }
+{
+    let mut octets = octets;
+    exchange(ring.as_mut_slice(), at, octets.as_mut_slice());
+    octets
+}
+
+/// Puts the entry into its place in the ring, and gives the one that lay there.
+pub(crate) fn replace_entry(ring: &mut Vec<Entry>, index: usize, entry: Entry) -> Entry
+    requires { index < length ring.old.items }
+    ensures ring { ring.new.items ≡ set ring.old.items index entry }
+    ensures entry { result ≡ get_or ring.old.items index entry }
+{
+    std::mem::replace(&mut ring[index], entry)
+}
+
+/// Exchanges the octets with those that lie in the ring from `at` on.
+fn exchange(ring: &mut [u8], at: usize, octets: &mut [u8])
+    requires at { at ≤ length ring.old }
+    requires size { length octets.old ≤ length ring.old }
+    ensures ring { ring.new ≡ ring_put ring.old at octets.old }
+    ensures octets { octets.new ≡ ring_part ring.old at (length octets.old) }
+{
+    let (low, high) = ring.split_at_mut(at);
+    exchange_over(high, low, octets);
+}
+
+/// The same where the ring's two parts are given, the one that comes first before the other.
+fn exchange_over(first: &mut [u8], second: &mut [u8], octets: &mut [u8])
+    requires size { length octets.old ≤ length first.old + length second.old }
+    ensures parts { first.new ++ second.new ≡ octets.old ++ drop (length octets.old) (first.old ++ second.old) }
+    ensures first { length first.new ≡ length first.old }
+    ensures octets { octets.new ≡ take (length octets.old) (first.old ++ second.old) }
+{
+    let size = first.len();
+    if octets.len() <= size {
+        exchange_front(first, octets);
+    } else {
+        let (before, after) = octets.split_at_mut(size);
+        first.swap_with_slice(before);
+        exchange_front(second, after);
+    }
+}
+
+/// Exchanges the octets with those at the front of the slice.
+fn exchange_front(slice: &mut [u8], octets: &mut [u8])
+    requires size { length octets.old ≤ length slice.old }
+    ensures slice { slice.new ≡ octets.old ++ drop (length octets.old) slice.old }
+    ensures octets { octets.new ≡ take (length octets.old) slice.old }
+{
+    let count = octets.len();
+    slice[..count].swap_with_slice(octets);
+}

@@ -1,0 +1,106 @@
+//! The record of a change of the FIFO.
+ghost use Rattle.std.specs.Prelude.{◌≡◌, ◌+◌, ◌≤◌, length};
+ghost use Rattle.em_rx.specs.Undo.{octets_held};
+
+use crate::places::{Entry, Places};
+use em_mem::MemUndo;
+use std::marker::Model;
+
+/// What an arrival exchanges with the FIFO: octets of the packet buffer, an entry of the ring, and the
+/// places.
+#[derive(Drop)]
+pub struct FramePatch {
+    pub(crate) octets: Vec<u8>,
+    pub(crate) at: u32,
+    pub(crate) entry: Entry,
+    pub(crate) index: u32,
+    pub(crate) places: Places,
+}
+
+impl Model for FramePatch {
+    ghost use Rattle.std.specs.Prelude.{◌≤◌, length};
+    ghost use Rattle.em_rx.specs.FramePatch.{FramePatch};
+
+    ghost Value = { FramePatch };
+
+    ghost view = { λ p. record {
+      octets = p.octets.items;
+      at = p.at;
+      entry = p.entry;
+      index = p.index;
+      places = p.places;
+    } };
+
+    ghost invariant = { λ p. length p.octets.items ≤ 16_384 };
+}
+
+impl FramePatch {
+    /// How many octets it holds.
+    fn len(&self) -> u32
+        ensures len { result ≡ length self.now.octets }
+        ensures most { result ≤ MOST_HELD }
+    {
+        self.octets.len() as u32
+    }
+}
+
+/// What a receive step exchanges with guest memory and the FIFO's places: octets that are put in first
+/// and octets that are put in after them, since they may lie over each other.
+#[derive(Drop)]
+pub struct StepPatch {
+    pub(crate) first: MemUndo,
+    pub(crate) second: MemUndo,
+    pub(crate) places: Places,
+}
+
+impl Model for StepPatch {
+    ghost use Rattle.std.specs.Prelude.{◌+◌, ◌≤◌, length};
+    ghost use Rattle.em_rx.specs.StepPatch.{StepPatch};
+
+    ghost Value = { StepPatch };
+
+    ghost view = { λ p. record { first = p.first; second = p.second; places = p.places } };
+
+    ghost invariant = { λ p. length p.first.octets + length p.second.octets ≤ 16_392 };
+}
+
+impl StepPatch {
+    /// How many octets it holds.
+    fn len(&self) -> u32
+        ensures len { result ≡ length self.now.first.octets + length self.now.second.octets }
+        ensures most { result ≤ MOST_HELD }
+    {
+        self.first.len() + self.second.len()
+    }
+}
+
+/// The most octets that a record holds: a piece of a frame, and 8 octets of a descriptor.
+pub const MOST_HELD: u32 = 16_392;
+
+/// What takes a change of the receive side back: the cells that it changed, as they were.
+#[derive(Drop)]
+pub enum RxUndo {
+    /// Nothing changed.
+    Nothing,
+    /// The places, of a FIFO that was cleared.
+    Places(Places),
+    /// What an arrival overwrote, and the places before it.
+    Frame(FramePatch),
+    /// What a receive step overwrote in guest memory, and the places before it.
+    Step(StepPatch),
+}
+
+impl RxUndo {
+    /// How many octets it holds: those that an arrival stored, or those that a receive step wrote, 8
+    /// of the descriptor among them. At most 16,392.
+    pub fn len(&self) -> u32
+        ensures len { result ≡ octets_held self.now }
+        ensures most { result ≤ MOST_HELD }
+    {
+        match self {
+            RxUndo::Nothing | RxUndo::Places(_) => 0,
+            RxUndo::Frame(patch) => patch.len(),
+            RxUndo::Step(patch) => patch.len(),
+        }
+    }
+}

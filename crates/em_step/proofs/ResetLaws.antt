@@ -1,0 +1,67 @@
+-- What registers give after a reset.
+use Rattle.std.proofs.Common.{◌≡◌, ◌≢◌, ℕ, ◌+◌, Bool, true, false, List, length, Some, refl, ◌∙◌, sym, ap, arith}
+use Rattle.std.specs.Prelude.{if◌then◌else◌}
+use Rattle.em_regs.specs.declared.reg.Reg.{Reg}
+use Rattle.em_regs.specs.declared.reg.Reg.TheVariants.{Status, Ics, Imc, Ral, Rah}
+use Rattle.em_regs.specs.Table.{IsReg, offset_of, reg_at}
+use Rattle.em_regs.specs.RegFile as registers
+use Rattle.em_regs.specs.RegFile.{zeroed, address_low, address_high}
+use Rattle.em_regs.specs.Storage as storage
+use Rattle.em_regs.specs.Storage.{Registers}
+use Rattle.em_regs.proofs.Entries.{at-insert_same, at-insert_other}
+use Rattle.em_regs.proofs.Words.{at-zeros}
+use Rattle.em_regs.proofs.TableLaws.{reg_at-offset_of}
+use Rattle.em_latch.specs.Latches as latches
+use Rattle.em_latch.specs.Latches.{is_latched, fresh}
+use Rattle.em_latch.specs.Storage.{offsets}
+use Rattle.em_eeprom.specs.Eeprom.{mac_of}
+use Rattle.em_step.specs.State.{State}
+use Rattle.em_step.specs.Access.{gives, reset}
+
+-- no latch holds anything
+fresh_at : (o : ℕ) → registers.at fresh o ≡ 0
+unfolding fresh
+fresh_at o = at-zeros offsets (length offsets) o
+
+fresh_gives : (reg : Reg) → latches.gives fresh reg ≡ 0
+fresh_gives Ics = refl
+fresh_gives Imc = refl
+fresh_gives reg = fresh_at (offset_of reg)
+
+-- registers apart lie apart
+apart : (p q : Reg) → IsReg p → IsReg q → p ≢ q → offset_of p ≢ offset_of q
+apart p q is_p is_q other =
+    λ same. let found : Some p ≡ Some q = sym (reg_at-offset_of p is_p) ∙ ap reg_at same ∙ reg_at-offset_of q is_q in
+    other cc
+
+chosen : (b : Bool) (x y : ℕ) → x ≡ 0 → y ≡ 0 → (if b then x else y) ≡ 0
+chosen true x y h k = h
+chosen false x y h k = k
+
+-- nor does any other register of the file
+stored_zero : (mac : List ℕ) (o : ℕ) → o ≢ 0x05400 → o ≢ 0x05404 → registers.at (registers.reset mac) o ≡ 0
+unfolding zeroed
+stored_zero mac o low high =
+    at-insert_other _ _ _ o high ∙ at-insert_other _ _ _ o low ∙ at-zeros storage.offsets (length storage.offsets) o
+
+pub zero_after_reset :
+    (s : State) (reg : Reg) → IsReg reg → reg ≢ Status → reg ≢ Ral 0 → reg ≢ Rah 0 → gives (reset s) reg ≡ 0
+zero_after_reset s Status is other low high = absurd (other refl)
+zero_after_reset s reg is other low high =
+    let after : Registers = registers.reset (mac_of s.eeprom) in
+    chosen
+    (is_latched reg)
+    (latches.gives fresh reg)
+    (registers.at after (offset_of reg))
+    (fresh_gives reg)
+    (stored_zero
+    (mac_of s.eeprom)
+    (offset_of reg)
+    (apart reg (Ral 0) is (omega arith) low)
+    (apart reg (Rah 0) is (omega arith) high))
+
+pub low_after_reset : (s : State) → gives (reset s) (Ral 0) ≡ address_low (mac_of s.eeprom)
+low_after_reset s = at-insert_other _ _ _ 0x05400 (λ e. absurd (omega arith)) ∙ at-insert_same _ _ _
+
+pub high_after_reset : (s : State) → gives (reset s) (Rah 0) ≡ address_high (mac_of s.eeprom) + 0x8000_0000
+high_after_reset s = at-insert_same _ _ _

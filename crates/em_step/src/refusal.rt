@@ -1,0 +1,80 @@
+//! Why an event is refused.
+ghost use Rattle.std.specs.Prelude.{◌≡◌};
+ghost use Rattle.em_step.specs.Refusal.{code_of, name_of};
+
+use std::alloc::{AllocError, AllocFailed};
+use thiserror::Error;
+
+/// Why an event was refused. Where several causes are there, the first of them is named.
+#[derive(Clone, Copy, PartialEq, Eq, Debug, Error)]
+#[error("{}", self.name())]
+pub enum Refusal {
+    /// No register lies at the offset.
+    NoRegister,
+    /// The range leaves guest memory.
+    Range,
+    /// A memory write outside 1 to 16,384 octets, or a frame outside 14 to 20,000.
+    Length,
+    /// A descriptor or its buffer leaves guest memory.
+    DmaRange,
+    /// A transmit descriptor is extended (DEXT).
+    Extended,
+    /// The gathered octets would exceed 16,380.
+    TooLong,
+    /// A growth was refused.
+    Memory,
+}
+
+impl Refusal {
+    /// The number of the refusal (this project's profile).
+    pub fn code(self) -> u32
+        ensures { result ≡ code_of self }
+    {
+        match self {
+            Refusal::NoRegister => 1,
+            Refusal::Range => 2,
+            Refusal::Length => 3,
+            Refusal::DmaRange => 4,
+            Refusal::Extended => 5,
+            Refusal::TooLong => 6,
+            Refusal::Memory => 9,
+        }
+    }
+
+    /// The name of the refusal, as it is printed.
+    pub fn name(self) -> &'static str
+        ensures { result.now ≡ name_of self }
+    {
+        match self {
+            Refusal::NoRegister => "NoRegister",
+            Refusal::Range => "Range",
+            Refusal::Length => "Length",
+            Refusal::DmaRange => "DmaRange",
+            Refusal::Extended => "Extended",
+            Refusal::TooLong => "TooLong",
+            Refusal::Memory => "Memory",
+        }
+    }
+}
+
+impl From<AllocError> for Refusal {
+    ghost use Rattle.std.specs.Prelude.{◌≡◌};
+    ghost use Rattle.em_step.specs.declared.refusal.Refusal.TheVariants.{Memory};
+
+    ghost from_gives = { λ _ e. e ≡ Memory };
+
+    fn from(_refused: AllocError) -> Refusal {
+        Refusal::Memory
+    }
+}
+
+impl<T: Drop> From<AllocFailed<T>> for Refusal {
+    ghost use Rattle.std.specs.Prelude.{◌≡◌};
+    ghost use Rattle.em_step.specs.declared.refusal.Refusal.TheVariants.{Memory};
+
+    ghost from_gives = { λ _ e. e ≡ Memory };
+
+    fn from(_refused: AllocFailed<T>) -> Refusal {
+        Refusal::Memory
+    }
+}

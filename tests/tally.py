@@ -1,0 +1,53 @@
+"""What the parts of ./check share: where things lie, one run of the program, and the count of what passed."""
+import subprocess
+import sys
+from pathlib import Path
+
+TOP = Path(__file__).resolve().parent.parent
+CRATES = TOP / "crates"
+PROGRAM = CRATES / "em_bench" / "out" / "em_bench"
+
+
+def program() -> str:
+    """The program that a part is told to run, or the one that was built last."""
+    named = sys.argv[1] if sys.argv[1:] else str(PROGRAM)
+    if not Path(named).is_file():
+        sys.exit(f"{named} is not there: ./em_bench builds it")
+    return named
+
+
+def run(words: list, script: bytes | None = None, **how) -> subprocess.CompletedProcess:
+    """Runs a program to its end, for at most a minute, with the script on its standard input."""
+    how = {"stdout": subprocess.PIPE, "stderr": subprocess.PIPE, "timeout": 60} | how
+    if script is not None:
+        how["input"] = script
+    return subprocess.run([str(word) for word in words], check=False, **how)
+
+
+def short(octets: bytes) -> str:
+    return repr(octets) if len(octets) < 100 else f"{octets[:80]!r}.. of {len(octets)} octets"
+
+
+class Tally:
+    """Counts the checks of one part, and names those that failed."""
+
+    def __init__(self) -> None:
+        self.passed = self.failed = 0
+
+    def check(self, name: str, faults: list[str]) -> None:
+        self.passed, self.failed = self.passed + (not faults), self.failed + bool(faults)
+        for fault in faults:
+            print(f"{name}: {fault}", flush=True)
+
+    def ended(self, name: str, ran: subprocess.CompletedProcess, status: int, out: bytes | None, err: bytes) -> None:
+        """Checks a run's status and what it wrote; None stands for an output that can't be seen."""
+        faults = [] if ran.returncode == status else [f"status {ran.returncode}, and not {status}"]
+        for what, is_there, wanted in (("standard output", ran.stdout, out), ("standard error", ran.stderr, err)):
+            if wanted is not None and is_there is not None and is_there != wanted:
+                faults.append(f"on {what} {short(is_there)}, and not {short(wanted)}")
+        self.check(name, faults)
+
+    def close(self) -> int:
+        """Prints the count on a line alone; the status of the part."""
+        print(f"{self.passed} passed, {self.failed} failed")
+        return 1 if self.failed else 0
