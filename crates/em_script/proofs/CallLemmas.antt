@@ -10,8 +10,8 @@ use Rattle.em_step.specs.State.{State}
 use Rattle.em_step.specs.Event.{Event}
 use Rattle.em_step.specs.Step.{step}
 use Rattle.em_step.specs.declared.event.Answer.{Answer}
-use Rattle.em_step.specs.declared.event.Refusal.{Refusal}
-use Rattle.em_step.specs.declared.event.Refusal.TheVariants.{Memory}
+use Rattle.em_step.specs.declared.refusal.Refusal.{Refusal}
+use Rattle.em_step.specs.declared.refusal.Refusal.TheVariants.{Memory}
 use Rattle.em_journal.specs.View.{after_backs}
 use Rattle.em_journal.specs.History.{Call, refuses, goes_back, Does, Run, Leads, state, after_step, kept_events}
 use Rattle.em_journal.specs.History.{without_last}

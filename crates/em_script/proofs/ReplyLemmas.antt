@@ -6,7 +6,7 @@ use Rattle.em_step.specs.Event.{Event}
 use Rattle.em_step.specs.Step.{step}
 use Rattle.em_step.specs.Cost.{cost}
 use Rattle.em_step.specs.declared.event.Answer.{Answer}
-use Rattle.em_step.specs.declared.event.Refusal.{Refusal}
+use Rattle.em_step.specs.declared.refusal.Refusal.{Refusal}
 use Rattle.em_journal.specs.View.{after_event}
 use Rattle.em_journal.specs.History.{Call, performs, refuses, goes_back, is_empty, Does, after_step}
 use Rattle.em_text.specs.declared.writer.WriteFailed.{WriteFailed}
