@@ -24,25 +24,32 @@ front_is w f = ap (λ n. take n (w ++ f ∷ [])) (before w f) ∙ take_at w (f �
 
 -- memory that is as it was has the same pages made
 same_pages : (m n : mem.Cells) → n ≡ m → mem.MorePages m n
-same_pages m n is = record { octets = ap (λ x. x.octets) is; made = λ p made. subst (λ x. mem.IsPageMade x p) (sym is) made }
+same_pages m n is = record {
+  octets = ap (λ x. x.octets) is;
+  made = λ p made. subst (λ x. mem.IsPageMade x p) (sym is) made;
+}
 
 -- a frame that was sent comes back as the octets that were gathered before
-pub send_reverses : (q : TxSetup) (d old new o g : List ℕ) (w v : List (List ℕ)) (m n : mem.Cells) (t : Transfer) (tagged : Bool)
-    (status : Option mem.Patch) → o ≡ old ++ new → v ≡ w ++ frame q d o ∷ [] → tagged ≡ is_some (tag_of q.vlan d (length o))
+pub send_reverses : (q : TxSetup) (d : List ℕ) {old o : List ℕ} (new g : List ℕ) {w v : List (List ℕ)}
+    (m n : mem.Cells) (t : Transfer) {tagged : Bool} {status : Option mem.Patch}
+    → o ≡ old ++ new → v ≡ w ++ frame q d o ∷ [] → tagged ≡ is_some (tag_of q.vlan d (length o))
     → t.count ≡ length old → t.status ≡ status → StatusReverses m n status
     → Reverses (cells old w m) (cells g v n) (Send t tagged)
-send_reverses q d old new o g w v m n t tagged status is_o is_v tag count same back =
+send_reverses q d {old = old} {o = o} new g {w = w} {v = v} m n t {tagged = tagged} {status = status}
+    is_o is_v tag count same back =
     let beside : Bool → ℕ = λ b. cond b 16 0 in
     let p = parts q d o in
     let f = frame q d o in
     let last : last_of v ≡ f = ap last_of is_v ∙ last_is w f in
     let front : front_of v ≡ w = ap front_of is_v ∙ front_is w f in
-    let bare : without_tag tagged (last_of v) ≡ without_tag (is_some (tag_of q.vlan d (length o))) f = λ i. without_tag (tag i) (last i) in
+    let bare : without_tag tagged (last_of v) ≡ without_tag (is_some (tag_of q.vlan d (length o))) f
+    = λ i. without_tag (tag i) (last i) in
     let body : without_tag tagged (last_of v) ≡ o ++ p.padding = bare ∙ p.rest in
     let fits : StatusFits n t.status = subst (StatusFits n) (sym same) back.fits in
     let restores : status_undo n t.status ≡ m = ap (status_undo n) same ∙ back.restores in
     let cut : take t.count (without_tag tagged (last_of v)) ≡ old
-    = ap (λ k. take k (without_tag tagged (last_of v))) count ∙ ap (take (length old)) bare ∙ cut_frame q d old new o is_o in
+    = ap (λ k. take k (without_tag tagged (last_of v))) count ∙ ap (take (length old)) bare
+    ∙ cut_frame q d old new o is_o in
     record {
       fits = (
         omega (arith, ap length is_v, length-append w (f ∷ [])),

@@ -1,5 +1,25 @@
 -- A frame as it is sent: with its VLAN tag, and padded.
-use Rattle.std.specs.Prelude.{ℕ, ◌+◌, ◌-◌, ◌&&◌, nat_le, nat_lt, max, Bool, List, ◌++◌, length, take, drop, replicate, if◌then◌else◌, Option, Some, None, is_some}
+use Rattle.std.specs.Prelude.{
+  ℕ,
+  ◌+◌,
+  ◌-◌,
+  ◌&&◌,
+  nat_le,
+  nat_lt,
+  max,
+  Bool,
+  List,
+  ◌++◌,
+  length,
+  take,
+  drop,
+  replicate,
+  if◌then◌else◌,
+  Option,
+  Some,
+  None,
+  is_some,
+}
 use Rattle.byteorder.specs.Endian.{big_bytes}
 use Rattle.em_regs.specs.declared.setup.TxSetup.{TxSetup}
 use Rattle.em_filter.specs.declared.kind.Kind.{Kind}

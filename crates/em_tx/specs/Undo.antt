@@ -1,5 +1,22 @@
 -- What a record of the transmit side says, and when it can be said.
-use Rattle.std.specs.Prelude.{◌≡◌, ◌≤◌, ◌<◌, ℕ, ◌+◌, ◌-◌, Bool, List, length, take, slice_index_or, if◌then◌else◌, Option, Some, None, []}
+use Rattle.std.specs.Prelude.{
+  ◌≡◌,
+  ◌≤◌,
+  ◌<◌,
+  ℕ,
+  ◌+◌,
+  ◌-◌,
+  Bool,
+  List,
+  length,
+  take,
+  slice_index_or,
+  if◌then◌else◌,
+  Option,
+  Some,
+  None,
+  [],
+}
 use Rattle.em_mem.specs.Memory as mem
 use Rattle.em_tx.specs.Cells.{Cells, MorePages, cells}
 use Rattle.em_tx.specs.Frame.{without_tag}

@@ -1,5 +1,6 @@
 //! Gathered octets made a frame.
-ghost use Rattle.std.specs.Prelude.{◌≡◌, ◌+◌, ◌≤◌, ◌++◌, IsTrue, is_some, length, take, drop, vec_len, vec_capacity, Some};
+ghost use Rattle.std.specs.Prelude.{◌≡◌, ◌+◌, ◌≤◌, ◌++◌, IsTrue, Some, is_some, length, take, drop};
+ghost use Rattle.std.specs.Prelude.{vec_len, vec_capacity};
 ghost use Rattle.em_tx.specs.Frame.{frame, frame_len, kind_sent, padded, tag_of, with_tag, without_tag};
 
 use crate::descriptor::TxDescriptor;

@@ -1,6 +1,5 @@
 use Rattle.std.proofs.Common.{◌≡◌, sym, true, false}
-use Rattle.em_mem.specs.Memory.{part}
-use Rattle.em_tx.specs.Ring.{is_idle, place}
+use Rattle.em_tx.specs.Ring.{is_idle}
 use Rattle.em_tx.proofs.EngineLaws.{idle, off_memory, refused}
 use Rattle.em_tx.proofs.engine.step.Goals as goal
 
@@ -17,4 +16,6 @@ returns-in_default-clause-err c =
 pub returns-in-Some-refusal_of-clause-err : goal.returns-in-Some-refusal_of-clause-err
 returns-in-Some-refusal_of-clause-err c =
     let some : is_idle c.args.setup ≡ false = cc in
-    refused c.args.setup _ c.in-Some.found.descriptor _ some c.in-Some.ensures.held c.in-Some.ensures.octets (sym c.in-Some-refusal_of.ensures.value)
+    let found = c.in-Some.found in
+    refused c.args.setup _ found.descriptor some c.in-Some.ensures.held c.in-Some.ensures.octets
+    (sym c.in-Some-refusal_of.ensures.value)

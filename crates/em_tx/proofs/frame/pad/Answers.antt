@@ -4,4 +4,5 @@ use Rattle.em_tx.proofs.frame.pad.Goals as goal
 
 pub returns-in-Ok : goal.returns-in-Ok
 returns-in-Ok c =
-    padded_by_resize c.args.octets.now.items _ _ c.args.wanted c.if-wanted.true (omega arith) (omega arith) c.in-Ok.ensures.items
+    padded_by_resize c.args.octets.now.items c.args.wanted c.if-wanted.true (omega arith) (omega arith)
+    c.in-Ok.ensures.items
