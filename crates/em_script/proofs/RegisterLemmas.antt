@@ -1,6 +1,6 @@
 -- The lines of registers, one after another.
-use Rattle.std.proofs.Common.{◌≡◌, ◌≢◌, ◌==◌, ◌≤◌, ◌<◌, ◌-◌, ◌/◌, ◌%◌, false, arith, ℕ, ◌+◌, ◌*◌, zero, suc, List, [], ◌++◌}
-use Rattle.std.proofs.Common.{Option, None, refl, ap, sym, ◌∙◌}
+use Rattle.std.proofs.Common.{◌≡◌, ◌≢◌, ◌==◌, ◌≤◌, ◌<◌, ◌+◌, ◌-◌, ◌*◌, ◌/◌, ◌%◌, false, arith, ℕ, zero, suc, refl, ap, sym}
+use Rattle.std.proofs.Common.{◌∙◌, List, [], ◌++◌, Option, None}
 use Rattle.std.specs.Prelude.{unwrap_or}
 use Rattle.std.specs.Option.{option_map}
 use Rattle.std.specs.Io.KnownBytes.{Appends}
