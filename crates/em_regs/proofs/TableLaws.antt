@@ -232,7 +232,7 @@ found_lies near row o past index found is made from low h whole =
 pub found_there : (o : ℕ) (found : Reg) → IsReg found × (offset_of found ≡ o) → Some found ≡ reg_at o
 found_there o found h = sym (reg_at-offset_of found h.0) ∙ ap reg_at h.1
 
--- ---- next_at
+-- ---- skip_bare
 -- a word that holds an offset where a register lies begins there
 abbrev pub lies_whole : Row → Bool
 lies_whole row = (row.offset % 4) == 0
@@ -272,19 +272,6 @@ none_on_page page bare o from below = sym (none_found o (λ reg has lies.
 none_given : (found : Option Reg) → is_some found ≡ false → found ≡ None
 none_given None none = refl
 none_given (Some reg) none = absurd (let f : true ≡ false = none in cc)
-
--- a stretch with no register is longer by a word with none
-pub none_more : {a at : ℕ} {found : Option Reg} → NoneFrom a at → at % 4 ≡ 0 → found ≡ reg_at at
-    → is_some found ≡ false → NoneFrom a (at + 4)
-none_more {at = at} {found = found} before whole is none o from below = elim (truth (nat_lt o at)) [
-  | inl t ↦ before o from (grind (arith, nat_tests, t))
-  | inr t ↦
-      let past : at ≤ o = grind (arith, nat_tests, t) in
-      elim (cases_eq o at) [
-        | inl same ↦ ap reg_at same ∙ sym is ∙ none_given found none
-        | inr apart ↦ sym (none_found o (λ reg has lies. omega (arith, whole_word reg)))
-      ]
-]
 
 -- a stretch with no register that ends behind their space has no end
 pub none_behind : {a end : ℕ} → NoneFrom a end → 0x05800 ≤ end → (o : ℕ) → a ≤ o → reg_at o ≡ None
