@@ -1,11 +1,11 @@
 -- What takes a step back.
-use Rattle.std.proofs.Common.{◌≡◌, ℕ, ◌+◌, ◌-◌, ◌<◌, ◌≤◌, Bool, true, false, cond, List, [], ◌∷◌, ◌++◌, length, get_or}
-use Rattle.std.proofs.Common.{take, Option, refl, sym, ap, ◌∙◌, subst, arith, length-append, append_assoc}
+use Rattle.std.proofs.Common.{◌≡◌, ℕ, ◌-◌, Bool, cond, List, [], ◌∷◌, ◌++◌, length, get_or}
+use Rattle.std.proofs.Common.{take, Option, refl, sym, ap, ◌∙◌, subst, arith, length-append}
 use Rattle.std.specs.Prelude.{is_some}
 use Rattle.std.proofs.lemmas.List.{take_at, get_or-append-add}
 use Rattle.em_mem.specs.Memory as mem
 use Rattle.em_regs.specs.declared.setup.TxSetup.{TxSetup}
-use Rattle.em_tx.specs.Cells.{Cells, cells}
+use Rattle.em_tx.specs.Cells.{cells}
 use Rattle.em_tx.specs.Frame.{tag_of, frame, without_tag}
 use Rattle.em_tx.specs.Transfer.{Transfer}
 use Rattle.em_tx.specs.Undo.{Reverses, StatusReverses, StatusFits, status_undo, last_of, front_of}
