@@ -9,7 +9,7 @@ use Rattle.em_step.specs.Step.{step, Refuses}
 use Rattle.em_step.specs.Cost.{cost}
 use Rattle.em_step.specs.declared.event.Answer.{Answer}
 use Rattle.em_step.specs.declared.refusal.Refusal.{Refusal}
-use Rattle.em_journal.specs.View.{View, opening, states, after_event, after_back, back_to, reach, costs_within}
+use Rattle.em_journal.specs.View.{View, opening, states, back_to, reach, costs_within}
 use Rattle.em_journal.specs.History.{Call, performs, refuses, goes_back, is_empty, Does, Run, Leads, without_last}
 use Rattle.em_journal.specs.History.{events_after, kept_events, after_step, state, costs_after, held_costs}
 

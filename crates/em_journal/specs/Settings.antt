@@ -1,5 +1,5 @@
 -- What settings make, and when they make nothing.
-use Rattle.std.specs.Prelude.{◌≡◌, ℕ, [], ◌∷◌}
+use Rattle.std.specs.Prelude.{◌≡◌, [], ◌∷◌}
 use Rattle.em_mem.specs.Memory.{IsMemorySize}
 use Rattle.em_eeprom.specs.Eeprom.{words_of_mac}
 use Rattle.em_step.specs.Cells.{fresh, shows}

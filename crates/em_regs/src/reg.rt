@@ -1,8 +1,8 @@
 //! The registers by name.
-ghost use Rattle.std.specs.Prelude.{◌≡◌, IfSome, IfNone};
-ghost use Rattle.em_regs.specs.Table.{IsReg, index_of, with_index, offset_of, is_counter, reg_at};
+ghost use Rattle.std.specs.Prelude.{◌≡◌, ◌≤◌, ◌<◌, ◌%◌, ℕ, Option, None, IfSome, IfNone, IsSome};
+ghost use Rattle.em_regs.specs.Table.{IsReg, index_of, with_index, offset_of, is_counter, reg_at, NoneFrom};
 
-use crate::table::{Kind, SPACE, near};
+use crate::table::{Kind, PAGE, SPACE, WORD, is_bare, near};
 
 /// A register of the table, by the manual's name (manual, chapter on register descriptions).
 ///
@@ -166,6 +166,28 @@ impl Reg {
             return None;
         }
         Some(near.with_index(index as u8))
+    }
+
+    /// Where the first register lies at or behind an offset, both in octets from the first register
+    /// and multiples of 4; none where none lies there.
+    pub fn next_at(offset: u32) -> Option<u32>
+        requires { offset % 4 ≡ 0 }
+        ensures found { IfSome result (λ next. (offset ≤ next) × (next < 0x05800) × (next % 4 ≡ 0)
+            × IsSome (reg_at next)) }
+        ensures first { IfSome result (NoneFrom offset) }
+        ensures last { IfNone result ((o : ℕ) → offset ≤ o → reg_at o ≡ None) }
+    {
+        let mut next = offset;
+        while next < SPACE {
+            if is_bare(next) {
+                next = PAGE * (next / PAGE + 1);
+            } else if Reg::of_offset(next).is_some() {
+                return Some(next);
+            } else {
+                next += WORD;
+            }
+        }
+        None
     }
 
     /// Where the register lies, in octets from the first register.

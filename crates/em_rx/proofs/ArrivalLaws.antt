@@ -1,11 +1,10 @@
 -- What cells show with a frame more, and that they are sound.
-use Rattle.std.proofs.Common.{◌≡◌, ℕ, ◌+◌, ◌≤◌, ◌<◌, List, [], ◌∷◌, ◌++◌, length, take, drop, set, refl, sym, ap, ap₂, subst, ◌∙◌, arith, length-set}
+use Rattle.std.proofs.Common.{◌≡◌, ℕ, ◌+◌, ◌≤◌, ◌<◌, List, [], ◌∷◌, ◌++◌, length, take, drop, set, sym, ap, ap₂, subst, ◌∙◌, arith, length-set}
 use Rattle.std.proofs.lemmas.List.{take_at, drop_at, length-take-le, take_more_set}
 use Rattle.std.proofs.lemmas.List.Sums.{sum_by_push}
 use Rattle.std.proofs.lemmas.List.Elements.{All-push, All-same}
-use Rattle.std.specs.Prelude.{Option}
 use Rattle.em_mem.specs.Memory.{put}
-use Rattle.em_rx.specs.Ring.{turn, ring_put, wrap}
+use Rattle.em_rx.specs.Ring.{turn, wrap}
 use Rattle.em_rx.specs.Frame.{Frame}
 use Rattle.em_rx.specs.Fifo.{Cells, IsSound, IsWithin, HasRoom, after_arrival, cut, live, octets_in, shows, total}
 use Rattle.em_rx.specs.FramePatch.{FramePatch}

@@ -8,7 +8,7 @@ use Rattle.std.specs.Prelude.{All, None}
 use Rattle.em_mem.specs.Memory.{part}
 use Rattle.em_rx.specs.Ring.{ring_part, turn, wrap}
 use Rattle.em_rx.specs.Frame.{Frame}
-use Rattle.em_rx.specs.Fifo.{Cells, Fifo, IsFirst, IsSound, IsWithin, after_delivery, cut, first, live, next, rest, shows, total}
+use Rattle.em_rx.specs.Fifo.{Cells, Fifo, IsFirst, IsSound, IsWithin, cut, first, live, next, rest, shows, total}
 use Rattle.em_rx.specs.Undo.{IsMove}
 use Rattle.em_rx.specs.declared.places.Entry.{Entry}
 use Rattle.em_rx.specs.declared.places.Places.{Places}
@@ -88,8 +88,9 @@ module _ (c : Cells) (sound : IsSound c) (e : Entry) (es : List Entry) (is : liv
       ring_part c.octets (wrap 49_152 (c.places.head + c.places.taken)) n ≡ next (shows c) n
   next_is n h =
       let t = c.places.taken in
+      let inside : t ≤ 49_152 = omega (arith, used_is, sound.room, taken_below) in
       let seen : turn (wrap 49_152 (c.places.head + t)) c.octets ≡ turn t T
-      = turn-wrap 49_152 c.places.head t c.octets sound.octets sound.head (omega (arith, used_is, sound.room, taken_below)) in
+      = turn-wrap 49_152 c.places.head t c.octets sound.octets sound.head inside in
       let here : take n (turn t T) ≡ take n (drop t T)
       = take-append-le n (drop t T) (take t T) (omega (arith, length-drop t T, length-T, used_is, sound.room)) in
       let cut_out : drop t (take e.len T) ≡ take (e.len - t) (drop t T)

@@ -1,7 +1,7 @@
 -- A patch that is put in twice.
-use Rattle.std.proofs.Common.{◌≡◌, length, set, get_or, sym, ap, ap₂, subst, ◌∙◌, arith, length-set}
+use Rattle.std.proofs.Common.{◌≡◌, length, get_or, sym, ap, ap₂, subst, ◌∙◌, arith, length-set}
 use Rattle.std.proofs.lemmas.List.{set-set, set-get_or}
-use Rattle.em_rx.specs.Ring.{ring_part, ring_put}
+use Rattle.em_rx.specs.Ring.{ring_part}
 use Rattle.em_rx.specs.Fifo.{Cells, IsSound}
 use Rattle.em_rx.specs.FramePatch.{FramePatch}
 use Rattle.em_rx.specs.Undo.{FitsFrame, with_patch}

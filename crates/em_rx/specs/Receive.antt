@@ -50,13 +50,13 @@ causes_of q last =
     + (if (q.tail + q.count - following q) % q.count == q.threshold then 0x10 else 0)
 
 -- what a step leaves: its answer, the octets of guest memory, and what the FIFO shows
-pub record Received : Type 0 where
+pub record Outcome : Type 0 where
   pub answer : RxAnswer
   pub memory : List ℕ
   pub fifo : Fifo
 
 -- a step that writes
-abbrev pub delivery : RxSetup → List ℕ → Fifo → Received
+abbrev pub delivery : RxSetup → List ℕ → Fifo → Outcome
 delivery q memory fifo = record {
   answer = Wrote q.head (following q) (causes_of q (is_last q fifo));
   memory = after_write q memory fifo;
@@ -64,7 +64,7 @@ delivery q memory fifo = record {
 }
 
 -- the step: idle, or refused where the descriptor or then its buffer leaves memory, or a delivery
-abbrev pub receive : RxSetup → List ℕ → Fifo → Result Received RxRefusal
+abbrev pub receive : RxSetup → List ℕ → Fifo → Result Outcome RxRefusal
 receive q memory fifo =
     if is_idle q fifo then Ok (record { answer = Idle; memory = memory; fifo = fifo })
     else if nat_lt (length memory) (descriptor_at q + 16) then Err DmaRange

@@ -1,5 +1,5 @@
 -- A list whose end is followed by its beginning.
-use Rattle.std.specs.Prelude.{ℕ, ◌+◌, ◌-◌, nat_lt, if◌then◌else◌, List, ◌++◌, length, take, drop}
+use Rattle.std.specs.Prelude.{ℕ, ◌-◌, nat_lt, if◌then◌else◌, List, ◌++◌, length, take, drop}
 
 -- the list seen from place k on
 abbrev pub turn : {A : Type 0} → ℕ → List A → List A

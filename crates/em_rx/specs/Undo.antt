@@ -17,7 +17,7 @@ with_patch c p = record {
   places = p.places;
 }
 
--- the patch lies in the buffer and in the ring, and with it the places agree with the entries
+-- the patch lies in the buffer and in the ring, and the cells with it are sound
 pub record FitsFrame (c : Cells) (p : FramePatch) : Type 0 where
   pub at : p.at ≤ length c.octets
   pub size : length p.octets ≤ length c.octets
@@ -28,7 +28,7 @@ pub record FitsFrame (c : Cells) (p : FramePatch) : Type 0 where
 abbrev pub with_both : memory.Cells → StepPatch → memory.Cells
 with_both m p = memory.undo (memory.undo m p.first) p.second
 
--- both patches lie in memory, in pages that are made, and with the places of the patch they agree with the entries
+-- both patches lie in memory, in pages that are made, and the cells with the patch's places are sound
 pub record FitsStep (c : Cells) (m : memory.Cells) (p : StepPatch) : Type 0 where
   pub first : memory.Fits m p.first
   pub second : memory.Fits (memory.undo m p.first) p.second

@@ -15,7 +15,8 @@ use em_mem::{GuestMemory, MemUndo};
 use std::alloc::{AllocError, Global};
 use std::marker::Model;
 
-/// How many octets the packet buffer has (manual, chapter on packet buffer memory: 48 KB for receive).
+/// How many octets the packet buffer has: the 48 KB that PBA gives to receiving after a reset (manual,
+/// chapter on register descriptions). A write of PBA does not change it (this project's profile).
 const OCTETS: u32 = 49_152;
 
 /// How many entries the ring has: so many frames of the least stored length, 56 octets, fill the buffer.

@@ -1,7 +1,7 @@
 -- The calls that the lines of a script make.
-use Rattle.std.proofs.Common.{◌≡◌, ℕ, ◌≤◌, ◌<◌, ◌-◌, List, [], ◌∷◌, ◌++◌, length, min, Some, None, Result, Ok, Err}
+use Rattle.std.proofs.Common.{◌≡◌, ℕ, ◌-◌, List, [], ◌∷◌, ◌++◌, length, min, Some, None, Result, Ok, Err}
 use Rattle.std.proofs.Common.{Option, Bool}
-use Rattle.std.proofs.Common.{refl, sym, ap, ◌∙◌, subst, inl, inr, arith}
+use Rattle.std.proofs.Common.{refl, sym, ap, ◌∙◌, inl, inr, arith}
 use Rattle.std.proofs.Common.{◌+◌, true, false, cond, nat_lt}
 use Rattle.std.specs.Prelude.{replicate}
 use Rattle.std.proofs.lemmas.List.{nil_from_length, take_all}
@@ -9,11 +9,10 @@ use Rattle.std.proofs.lemmas.Bool.{cases_lt}
 use Rattle.em_step.specs.State.{State}
 use Rattle.em_step.specs.Event.{Event}
 use Rattle.em_step.specs.Step.{step}
-use Rattle.em_step.specs.Cost.{cost}
 use Rattle.em_step.specs.declared.event.Answer.{Answer}
-use Rattle.em_step.specs.declared.event.Refusal.{Refusal}
-use Rattle.em_step.specs.declared.event.Refusal.TheVariants.{Memory}
-use Rattle.em_journal.specs.View.{after_event, after_backs}
+use Rattle.em_step.specs.declared.refusal.Refusal.{Refusal}
+use Rattle.em_step.specs.declared.refusal.Refusal.TheVariants.{Memory}
+use Rattle.em_journal.specs.View.{after_backs}
 use Rattle.em_journal.specs.History.{Call, refuses, goes_back, Does, Run, Leads, state, after_step, kept_events}
 use Rattle.em_journal.specs.History.{without_last}
 use Rattle.em_journal.proofs.BackLaws.{run_back, no_more_back, past_left}

@@ -30,7 +30,7 @@ not_refused (Some n) _ session allowed none = absurd allowed
 
 took_none : (all : List PlayedLine) (session : Session) → AreAllowed all session
     → AllByRecursion (λ line. line_takes_memory (parsed_line line) ≡ false)
-      (map (λ (played : PlayedLine). played.line) all)
+    (map (λ (played : PlayedLine). played.line) all)
     → HadMemory all
 took_none [] session allowed none = tt
 took_none (x ∷ xs) session allowed none = (

@@ -1,12 +1,12 @@
 -- What single commands do.
-use Rattle.std.proofs.Common.{◌≡◌, ℕ, ◌<◌, List, [], ◌∷◌, length, Option, Some, None, Result, Err, refl, sym, ap, ◌∙◌}
+use Rattle.std.proofs.Common.{◌≡◌, ℕ, ◌<◌, List, [], ◌∷◌, length, Option, Some, None, Result, refl, sym, ap, ◌∙◌}
 use Rattle.std.proofs.Common.{subst, inl, inr, arith}
 use Rattle.em_step.specs.State.{State}
 use Rattle.em_step.specs.Event.{Event}
 use Rattle.em_step.specs.Step.{step}
 use Rattle.em_step.specs.Cost.{cost}
 use Rattle.em_step.specs.declared.event.Answer.{Answer}
-use Rattle.em_step.specs.declared.event.Refusal.{Refusal}
+use Rattle.em_step.specs.declared.refusal.Refusal.{Refusal}
 use Rattle.em_journal.specs.View.{after_event}
 use Rattle.em_journal.specs.History.{Call, performs, refuses, goes_back, is_empty, Does, after_step}
 use Rattle.em_text.specs.declared.writer.WriteFailed.{WriteFailed}
@@ -16,7 +16,7 @@ use Rattle.em_script.specs.Session.{Session}
 use Rattle.em_script.specs.Command.{event}
 use Rattle.em_script.specs.ParsedLine.{says}
 use Rattle.em_script.specs.Output.{Prints, answer_text, refusal_text}
-use Rattle.em_script.specs.Reply.{Reply, step_call, event_call, back_call, call_reply, Gives, Performs}
+use Rattle.em_script.specs.Reply.{step_call, event_call, back_call, call_reply, Gives, Performs}
 
 -- ---- what prints one call's reply prints that of the same call
 

@@ -1,5 +1,5 @@
 -- Playing one line after another.
-use Rattle.std.proofs.Common.{◌≡◌, ℕ, ◌+◌, List, [], ◌∷◌, ◌++◌, length, take, map, count_by, cond, Option, Bool, true}
+use Rattle.std.proofs.Common.{◌≡◌, ℕ, ◌+◌, List, [], ◌∷◌, ◌++◌, length, take, count_by, cond, Option, Bool}
 use Rattle.std.proofs.Common.{refl, sym, ap, ◌∙◌, subst, arith, append_assoc, append-nil, length-append, add-zero}
 use Rattle.std.specs.Prelude.{IsTrue}
 use Rattle.std.specs.Io.KnownBytes.{Appends}
@@ -150,7 +150,8 @@ Ran-fails {behind = behind} {first = first} {now = now} {old = old} {mid = mid} 
       session = ea ∙ ap (after_played x) ran.session;
       octets = cut.octets;
       part = cut.part;
-      written = Appends-more old mid new (text_from 1 before first) (take cut.octets own) _ ran.written cut.written refl;
+      written = Appends-more old mid new (text_from 1 before first) (take cut.octets own) _ ran.written cut.written
+          refl;
     }
 
 -- the memory for a line's octets was refused

@@ -2,9 +2,8 @@
 use Rattle.std.specs.Prelude.{◌≡◌, ℕ, Bool, if◌then◌else◌, List, ◌++◌, codes, Option, Result, IfOk}
 use Rattle.em_step.specs.declared.event.Answer.{Answer}
 use Rattle.em_step.specs.declared.event.Answer.TheVariants as answer
-use Rattle.em_step.specs.declared.event.Refusal.{Refusal}
-use Rattle.em_step.specs.declared.event.Refusal.TheVariants.{NoRegister, Range, Length, DmaRange, Extended, TooLong}
-use Rattle.em_step.specs.declared.event.Refusal.TheVariants.{Memory}
+use Rattle.em_step.specs.declared.refusal.Refusal.{Refusal}
+use Rattle.em_step.specs.Refusal.{name_of}
 use Rattle.em_text.specs.Writer.{Writes, value_text, decimal_line_text}
 use Rattle.em_text.specs.declared.writer.WriteFailed.{WriteFailed}
 use Rattle.em_script.specs.declared.outcome.Outcome.{Outcome}
@@ -28,16 +27,10 @@ answer_text (answer.Value value) = value_text value
 
 -- what is refused prints its name
 abbrev pub named_refusal_text : List ℕ → List ℕ
-named_refusal_text name = codes "refused " ++ name ++ codes "\n"
+named_refusal_text name = codes "refused " ++ (name ++ codes "\n")
 
 abbrev pub refusal_text : Refusal → List ℕ
-refusal_text NoRegister = named_refusal_text (codes "NoRegister")
-refusal_text Range = named_refusal_text (codes "Range")
-refusal_text Length = named_refusal_text (codes "Length")
-refusal_text DmaRange = named_refusal_text (codes "DmaRange")
-refusal_text Extended = named_refusal_text (codes "Extended")
-refusal_text TooLong = named_refusal_text (codes "TooLong")
-refusal_text Memory = named_refusal_text (codes "Memory")
+refusal_text refusal = named_refusal_text (name_of refusal)
 
 -- of a step back where the journal is empty
 abbrev pub empty_text : List ℕ

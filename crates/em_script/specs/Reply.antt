@@ -8,8 +8,8 @@ use Rattle.em_step.specs.Event.{Event}
 use Rattle.em_step.specs.Step.{step, takes_memory}
 use Rattle.em_step.specs.Cost.{cost}
 use Rattle.em_step.specs.declared.event.Answer.{Answer}
-use Rattle.em_step.specs.declared.event.Refusal.{Refusal}
-use Rattle.em_step.specs.declared.event.Refusal.TheVariants.{Range, Memory}
+use Rattle.em_step.specs.declared.refusal.Refusal.{Refusal}
+use Rattle.em_step.specs.declared.refusal.Refusal.TheVariants.{Range, Memory}
 use Rattle.em_journal.specs.View.{after_event, after_back, after_backs}
 use Rattle.em_journal.specs.History.{Call, performs, refuses, goes_back, is_empty, after_step}
 use Rattle.em_text.specs.Writer.{hex_line_text}

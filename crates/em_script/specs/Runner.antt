@@ -8,7 +8,7 @@ use Rattle.em_text.specs.Lines.{lines_of}
 use Rattle.em_text.specs.Reader.{most_script}
 use Rattle.em_script.specs.declared.summary.Summary.{Summary}
 use Rattle.em_script.specs.declared.runner.BenchFault.{BenchFault}
-use Rattle.em_script.specs.declared.runner.BenchFault.TheVariants.{Read, Write, TooLarge, Memory}
+use Rattle.em_script.specs.declared.runner.BenchFault.TheVariants.{Write, Memory}
 use Rattle.em_script.specs.Session.{Session}
 use Rattle.em_script.specs.ParsedLine.{brings_octets}
 use Rattle.em_script.specs.Grammar.{parsed_line}

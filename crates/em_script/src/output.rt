@@ -6,7 +6,9 @@ ghost use Rattle.em_script.specs.Output.{refusal_text, empty_text};
 
 use crate::outcome::Outcome;
 use em_step::{Answer, Refusal};
-use em_text::{WriteFailed, write_decimal_line, write_octets_line, write_value, write_whole};
+use em_text::{
+    WriteFailed, write_decimal_line, write_octets_line, write_pieces, write_value, write_whole,
+};
 use std::io::Write;
 
 /// What a performed event answered.
@@ -67,7 +69,7 @@ pub fn write_bad_line<W: Write>(writer: &mut W, number: u32) -> Result<Outcome, 
 pub fn write_refusal<W: Write>(writer: &mut W, refusal: Refusal) -> Result<Outcome, WriteFailed>
     ensures { Prints (refusal_text refusal) Outcome.Refused (W.contents writer.old) (W.contents writer.new) result }
 {
-    write_whole(writer, refusal_line(refusal))?;
+    write_pieces(writer, &[b"refused ", refusal.name().as_bytes(), b"\n"])?;
     Ok(Outcome::Refused)
 }
 
@@ -85,18 +87,4 @@ fn write_numbered<W: Write>(writer: &mut W, words: &[u8], number: u32) -> Result
 {
     write_whole(writer, words)?;
     write_decimal_line(writer, number)
-}
-
-fn refusal_line(refusal: Refusal) -> &'static [u8]
-    ensures { result.now ≡ refusal_text refusal }
-{
-    match refusal {
-        Refusal::NoRegister => b"refused NoRegister\n",
-        Refusal::Range => b"refused Range\n",
-        Refusal::Length => b"refused Length\n",
-        Refusal::DmaRange => b"refused DmaRange\n",
-        Refusal::Extended => b"refused Extended\n",
-        Refusal::TooLong => b"refused TooLong\n",
-        Refusal::Memory => b"refused Memory\n",
-    }
 }

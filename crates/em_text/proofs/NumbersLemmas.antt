@@ -70,13 +70,13 @@ bad_digit base word i lt bad = rw (drop_more word i 0 lt, le-ltb _ _ bad) refl
 -- a place that is a digit
 pub good_digit : (base : ℕ) (word : List ℕ) (i : ℕ) → i < length word → digit_value (get_or word i 0) < base
     → list_all (λ octet. is_digit octet base) (drop i word)
-      ≡ list_all (λ octet. is_digit octet base) (drop (i + 1) word)
+    ≡ list_all (λ octet. is_digit octet base) (drop (i + 1) word)
 good_digit base word i lt good = rw (drop_more word i 0 lt, lt-ltb _ _ good) refl
 
 -- the value of one digit more
 pub value_digit : (base v : ℕ) (word : List ℕ) (i : ℕ) → i < length word
     → digits_value_after base v (drop i word)
-      ≡ digits_value_after base (v * base + digit_value (get_or word i 0)) (drop (i + 1) word)
+    ≡ digits_value_after base (v * base + digit_value (get_or word i 0)) (drop (i + 1) word)
 value_digit base v word i lt = rw (drop_more word i 0 lt) refl
 
 -- no digit writes no octets
@@ -119,19 +119,19 @@ digits-octets_of word some h =
     let written = decoded word (decode_of word) refl (rw (octets_of-some word some) at h) in
     λ k lt. value-hex_digit (get_or word k 0) (written k 0 lt)
   where
-  decoded : (word : List ℕ) (r : Result (List ℕ) FromHexError) → decode_of word ≡ r → IsSome (result_ok r)
-      → AllPass is_hex_digit word
-  decoded word (Ok bytes) e h = (decode_of-ok word bytes e).1
-  decoded word (Err x) e h = cc h
+    decoded : (word : List ℕ) (r : Result (List ℕ) FromHexError) → decode_of word ≡ r → IsSome (result_ok r)
+        → AllPass is_hex_digit word
+    decoded word (Ok bytes) e h = (decode_of-ok word bytes e).1
+    decoded word (Err x) e h = cc h
 
 -- a word that has some octet but digits writes no octets
 pub octets_of-no_digits : (word : List ℕ) → 0 < length word
     → (EachIndex word (λ k. digit_value (slice_index word k) < 16) → ⊥) → octets_of word ≡ None
 octets_of-no_digits word some not = none (octets_of word) (λ h. not (digits-octets_of word some h))
   where
-  none : (o : Option (List ℕ)) → (IsSome o → ⊥) → o ≡ None
-  none None h = refl
-  none (Some x) h = absurd (h refl)
+    none : (o : Option (List ℕ)) → (IsSome o → ⊥) → o ≡ None
+    none None h = refl
+    none (Some x) h = absurd (h refl)
 
 -- ---- two digits an octet
 

@@ -1,4 +1,4 @@
-use Rattle.std.proofs.Common.{◌≡◌, ◌%◌, ◌<◌, length, rules, arith}
+use Rattle.std.proofs.Common.{◌≡◌, ◌%◌, ◌<◌, length, rules}
 use Rattle.em_text.proofs.NumbersLemmas.{octets_of-empty, octets_of-odd, octets_of-digits, octets_of-no_digits}
 use Rattle.em_text.proofs.numbers.octets_into.Goals as goal
 use Rattle.em_text.proofs.numbers.octets_into.Goals.{then-is_empty-via-then-is_empty}

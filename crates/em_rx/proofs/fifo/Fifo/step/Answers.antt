@@ -8,8 +8,10 @@ pub exchange_step-requires : goal.exchange_step-requires
 exchange_step-requires c =
     let patch = c.in_ok-patch in
     step_fits c.args.self.now c.args.memory.now c.touch.new.self c.touch-2.new.self patch.patch
-    c.in_ok-descriptor.buffer c.min-count.result (c.in_ok-descriptor.descriptor + 8) c.touch.ensures.more c.touch-2.ensures.more (search rules)
-    (omega (arith, c.in_ok-descriptor.ensures.held)) c.in_ok-touch.ensures.made c.in_ok-touch-2.ensures.made
+    c.in_ok-descriptor.buffer c.min-count.result (c.in_ok-descriptor.descriptor + 8)
+    c.touch.ensures.more c.touch-2.ensures.more
+    (search rules) (omega (arith, c.in_ok-descriptor.ensures.held))
+    c.in_ok-touch.ensures.made c.in_ok-touch-2.ensures.made
     (ap (λ (p : Patch). p.at) patch.ensures.first) patch.ensures.count
     (ap (λ (p : Patch). p.at) patch.ensures.second) (ap (λ (p : Patch). length p.octets) patch.ensures.second)
     patch.ensures.moves.sound
