@@ -1,7 +1,8 @@
 //! The address filter: one function for each case in which it accepts a destination.
 ghost use Rattle.std.specs.Prelude.{◌≡◌, ◌<◌, ◌==◌};
 ghost use Rattle.em_filter.specs.Kind.{destination};
-ghost use Rattle.em_filter.specs.Address.{accepts, entry, has_hash, hash_of, is_entry_at, is_in_table, passes_bam, passes_hash, passes_mpe, passes_upe};
+ghost use Rattle.em_filter.specs.Address.{accepts, entry, has_hash, hash_of, is_entry_at, is_in_table};
+ghost use Rattle.em_filter.specs.Address.{passes_bam, passes_hash, passes_mpe, passes_upe};
 
 use crate::bits::{self, WORD_BITS};
 use crate::kind::{Kind, kind_of};

@@ -1,19 +1,15 @@
 -- What a step costs at most.
 use Rattle.std.proofs.Common.{
   ◌≡◌,
-  ◌⊎◌,
   ℕ,
   ◌+◌,
-  ◌<◌,
   ◌≤◌,
   Bool,
   true,
   false,
   cond,
-  ◌&&◌,
   List,
   length,
-  take,
   drop,
   Option,
   Some,
@@ -22,11 +18,9 @@ use Rattle.std.proofs.Common.{
   Ok,
   Err,
   refl,
-  ap,
-  ◌∙◌,
   arith,
 }
-use Rattle.std.specs.Prelude.{nat_lt, min}
+use Rattle.std.specs.Prelude.{nat_lt}
 use Rattle.std.proofs.Common.{length-append}
 use Rattle.std.proofs.lemmas.List.{length-take}
 use Rattle.std.proofs.lemmas.Bool.Decides.{nat_tests}

@@ -4,9 +4,7 @@ use Rattle.std.specs.Prelude.{
   ◌≤◌,
   ◌<◌,
   ℕ,
-  ◌+◌,
   ◌-◌,
-  Bool,
   List,
   length,
   take,
@@ -20,7 +18,6 @@ use Rattle.std.specs.Prelude.{
 use Rattle.em_mem.specs.Memory as mem
 use Rattle.em_tx.specs.Cells.{Cells, MorePages, cells}
 use Rattle.em_tx.specs.Frame.{without_tag}
-use Rattle.em_tx.specs.Transfer.{Transfer}
 use Rattle.em_tx.specs.declared.undo.TxUndo.{TxUndo}
 use Rattle.em_tx.specs.declared.undo.TxUndo.TheVariants.{Nothing, Fetch, Send, Clear}
 

@@ -3,7 +3,7 @@ ghost use Rattle.std.specs.Prelude.{◌≡◌, ◌+◌, ◌<◌, ◌≤◌, ◌+
 ghost use Rattle.std.specs.Prelude.{OnOk, false, is_some, length, vec_capacity, vec_len};
 ghost use Rattle.em_mem.specs.Memory as mem;
 ghost use Rattle.em_mem.specs.Memory.{IsHeld, IsMade, part};
-ghost use Rattle.em_tx.specs.Cells.{MorePages, cells, shown};
+ghost use Rattle.em_tx.specs.Cells.{MorePages, cells, shows};
 ghost use Rattle.em_tx.specs.Descriptor.{address, length_of, rs};
 ghost use Rattle.em_tx.specs.Engine.{Allows, Refuses, cost, handle, handling_cost, refusal, report, room, sends};
 ghost use Rattle.em_tx.specs.Engine.{transmit};
@@ -41,11 +41,12 @@ pub fn step(
     setup: TxSetup,
 ) -> Result<(TxAnswer, TxUndo), TxRefusal>
     ensures ok { IfOk result (λ r.
-        transmit setup (shown gather.old wire.old memory.old) ≡ Ok (r.0, shown gather.new wire.new memory.new)) }
-    ensures cost { IfOk result (λ r. cost_of r.1 ≡ cost setup (shown gather.old wire.old memory.old)) }
+        transmit setup (shows (cells gather.old wire.old memory.old))
+        ≡ Ok (r.0, shows (cells gather.new wire.new memory.new))) }
+    ensures cost { IfOk result (λ r. cost_of r.1 ≡ cost setup (shows (cells gather.old wire.old memory.old))) }
     ensures reverses { IfOk result (λ r.
         Reverses (cells gather.old wire.old memory.old) (cells gather.new wire.new memory.new) r.1) }
-    ensures err { IfErr result (Refuses setup (shown gather.old wire.old memory.old)) }
+    ensures err { IfErr result (Refuses setup (shows (cells gather.old wire.old memory.old))) }
     ensures same { OnErr result
         (MorePages (cells gather.old wire.old memory.old) (cells gather.new wire.new memory.new)) }
 {
@@ -77,11 +78,12 @@ fn perform(
     requires allowed { refusal gather.old memory.old.octets descriptor.now ≡ None }
     requires allows { Allows gather.old memory.old.octets descriptor.now }
     ensures ok { IfOk result (λ r.
-        transmit setup.now (shown gather.old wire.old memory.old) ≡ Ok (r.0, shown gather.new wire.new memory.new)) }
-    ensures cost { IfOk result (λ r. cost_of r.1 ≡ cost setup.now (shown gather.old wire.old memory.old)) }
+        transmit setup.now (shows (cells gather.old wire.old memory.old))
+        ≡ Ok (r.0, shows (cells gather.new wire.new memory.new))) }
+    ensures cost { IfOk result (λ r. cost_of r.1 ≡ cost setup.now (shows (cells gather.old wire.old memory.old))) }
     ensures reverses { IfOk result (λ r.
         Reverses (cells gather.old wire.old memory.old) (cells gather.new wire.new memory.new) r.1) }
-    ensures err { IfErr result (Refuses setup.now (shown gather.old wire.old memory.old)) }
+    ensures err { IfErr result (Refuses setup.now (shows (cells gather.old wire.old memory.old))) }
     ensures same { OnErr result
         (MorePages (cells gather.old wire.old memory.old) (cells gather.new wire.new memory.new)) }
 {
@@ -211,10 +213,10 @@ fn handle(
     requires frames { IsTrue (sends descriptor.now (vec_len octets.old + length_of descriptor.now))
         → vec_len frames.old < vec_capacity frames.old }
     requires made { IsTrue (rs descriptor.now) → IsMade memory.old (at + 12) 1 }
-    ensures state { (result.0, shown octets.new.items (plain frames.new.items) memory.new)
-        ≡ handle setup.now descriptor.now (shown octets.old.items (plain frames.old.items) memory.old) }
+    ensures state { (result.0, shows (cells octets.new.items (plain frames.new.items) memory.new))
+        ≡ handle setup.now descriptor.now (shows (cells octets.old.items (plain frames.old.items) memory.old)) }
     ensures cost { cost_of result.1
-        ≡ handling_cost setup.now descriptor.now (shown octets.old.items (plain frames.old.items) memory.old) }
+        ≡ handling_cost setup.now descriptor.now (shows (cells octets.old.items (plain frames.old.items) memory.old)) }
     ensures reverses { Reverses (cells octets.old.items (plain frames.old.items) memory.old)
         (cells octets.new.items (plain frames.new.items) memory.new) result.1 }
 {

@@ -1,6 +1,6 @@
 use Rattle.std.proofs.Common.{◌≡◌, ◌∙◌, ap, arith, length}
 use Rattle.em_tx.specs.Transfer.{Transfer}
-use Rattle.em_tx.proofs.ReverseLaws.{send_reverses}
+use Rattle.em_tx.proofs.ReverseLaws.{Reverses-send}
 use Rattle.em_tx.proofs.engine.handle.Goals as goal
 
 pub returns-then-not-is_empty-clause-reverses : goal.returns-then-not-is_empty-clause-reverses
@@ -11,5 +11,5 @@ returns-then-not-is_empty-clause-reverses c =
     let status = ap (λ (x : Transfer). x.status) c.new-transfer.ensures in
     let sent = c.send-sent in
     let memory = c.args.memory.now in
-    send_reverses c.args.setup.now c.args.descriptor.now _ sent.new.octets.items memory c.report-status.new.memory t
+    Reverses-send c.args.setup.now c.args.descriptor.now _ sent.new.octets.items memory c.report-status.new.memory t
     c.fetch.ensures.octets sent.ensures.wire sent.ensures.tagged count status c.report-status.ensures.reverses
