@@ -245,7 +245,8 @@ impl Fifo {
         ensures first { IfOk result (λ patch.
             patch.value.first ≡ record { at = buffer; octets = next (shows self.now) count }) }
         ensures second { IfOk result (λ patch.
-            patch.value.second ≡ record { at = written_at; octets = octets_of count last (first (shows self.now)).tag }) }
+            patch.value.second
+            ≡ record { at = written_at; octets = octets_of count last (first (shows self.now)).tag }) }
         ensures count { IfOk result (λ patch. length patch.value.first.octets ≡ count) }
         ensures moves { IfOk result (λ patch. IsMove self.now patch.value.places count) }
         ensures refused { IfErr result (λ refusal. refusal ≡ RxRefusal.Memory) }
