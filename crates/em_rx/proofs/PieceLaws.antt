@@ -1,5 +1,7 @@
 -- The pieces of one frame, step after step.
-use Rattle.std.proofs.Common.{◌≡◌, ℕ, suc, zero, ◌+◌, ◌-◌, ◌*◌, ◌≤◌, ◌<◌, ◌==◌, ◌||◌, not, Bool, true, false, nat_lt, nat_le, if◌then◌else◌, List, ◌∷◌, ◌++◌, length, take, drop, refl, sym, ap, ap₂, subst, ◌∙◌, inl, inr, arith, length-drop, Result, Ok, Err}
+use Rattle.std.proofs.Common.{◌≡◌, ℕ, suc, zero, ◌+◌, ◌-◌, ◌*◌, ◌≤◌, ◌<◌, ◌==◌, ◌||◌, not, Bool, true, false, nat_lt}
+use Rattle.std.proofs.Common.{nat_le, if◌then◌else◌, List, ◌∷◌, ◌++◌, length, take, drop, refl, sym, ap, ap₂, subst}
+use Rattle.std.proofs.Common.{◌∙◌, inl, inr, arith, length-drop, Result, Ok, Err}
 use Rattle.std.proofs.lemmas.List.{length-take-le, drop-append-le, take-append-le, drop-take, take-take, drop-drop}
 use Rattle.std.proofs.lemmas.Bool.{cases_eq, cases_lt}
 use Rattle.std.proofs.lemmas.Bool.Decides.{nat_tests}
@@ -12,7 +14,8 @@ use Rattle.em_rx.specs.Frame.{Frame}
 use Rattle.em_rx.specs.Fifo.{Fifo, after_delivery}
 use Rattle.em_rx.specs.Descriptor.{descriptor_of, written_back}
 use Rattle.em_rx.specs.Receive.{Outcome, after_write, buffer_at, delivery, is_idle, receive}
-use Rattle.em_rx.specs.Pieces.{AreApart, Engine, GoesInPieces, IsDelivered, after_step, after_steps, and_then, piece_at, piece_len, place, place_at, with_outcome}
+use Rattle.em_rx.specs.Pieces.{AreApart, Engine, GoesInPieces, IsDelivered, after_step, after_steps, and_then, piece_at}
+use Rattle.em_rx.specs.Pieces.{piece_len, place, place_at, with_outcome}
 use Rattle.em_rx.specs.declared.refusal.RxRefusal.{RxRefusal}
 use Rattle.em_rx.specs.declared.refusal.RxRefusal.TheVariants.{DmaRange}
 use Rattle.em_rx.proofs.RingLaws.{wrap-below}

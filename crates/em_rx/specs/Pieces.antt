@@ -1,5 +1,6 @@
 -- Receive steps one after another, with nothing between them, and the pieces of one frame.
-use Rattle.std.specs.Prelude.{◌≡◌, ℕ, suc, zero, ◌+◌, ◌-◌, ◌*◌, ◌<◌, ◌≤◌, ◌⊎◌, ◌==◌, min, true, List, length, Result, Ok, Err}
+use Rattle.std.specs.Prelude.{◌≡◌, ℕ, suc, zero, ◌+◌, ◌-◌, ◌*◌, ◌<◌, ◌≤◌, ◌⊎◌, ◌==◌, min, true, List, length, Result}
+use Rattle.std.specs.Prelude.{Ok, Err}
 use Rattle.em_mem.specs.Memory.{IsHeld, part}
 use Rattle.em_regs.specs.declared.setup.RxSetup.{RxSetup}
 use Rattle.em_rx.specs.Ring.{wrap}

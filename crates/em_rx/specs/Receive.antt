@@ -1,5 +1,6 @@
 -- The receive engine's step, over what the registers set up, the octets of guest memory and what the FIFO shows.
-use Rattle.std.specs.Prelude.{◌≡◌, ℕ, ◌+◌, ◌-◌, ◌*◌, ◌%◌, ◌==◌, ◌||◌, min, nat_lt, nat_le, if◌then◌else◌, Bool, not, List, length, Result, Ok, Err}
+use Rattle.std.specs.Prelude.{◌≡◌, ℕ, ◌+◌, ◌-◌, ◌*◌, ◌%◌, ◌==◌, ◌||◌, min, nat_lt, nat_le, if◌then◌else◌, Bool, not}
+use Rattle.std.specs.Prelude.{List, length, Result, Ok, Err}
 use Rattle.em_mem.specs.Memory.{part, put}
 use Rattle.em_regs.specs.declared.setup.RxSetup.{RxSetup}
 use Rattle.em_rx.specs.Descriptor.{descriptor_of, written_back}

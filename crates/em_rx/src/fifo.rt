@@ -4,7 +4,8 @@ ghost use Rattle.em_mem.specs.Memory as memory;
 ghost use Rattle.em_rx.specs.Frame.{stored_frame};
 ghost use Rattle.em_rx.specs.Fifo.{after_arrival, empty, first, fresh, HasRoom, IsFirst, IsSound, next, rest, shows};
 ghost use Rattle.em_rx.specs.Descriptor.{written_back as octets_of};
-ghost use Rattle.em_rx.specs.Undo.{Fits, FitsFrame, FitsStep, IsMove, Reverses, ReversesStep, octets_held, undo_fifo, undo_memory, with_both, with_patch};
+ghost use Rattle.em_rx.specs.Undo.{Fits, FitsFrame, FitsStep, IsMove, Reverses, ReversesStep, octets_held, undo_fifo};
+ghost use Rattle.em_rx.specs.Undo.{undo_memory, with_both, with_patch};
 
 use crate::descriptor::written_back;
 use crate::frame::{stored_octets, stored_tag};
