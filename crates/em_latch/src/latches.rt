@@ -61,6 +61,16 @@ impl Latches {
         }
     }
 
+    /// Latches whose counters all hold a value, which takes too many events to reach.
+    #[cfg(test)]
+    pub(crate) fn with_counters(value: u32) -> Latches {
+        Latches {
+            causes: 0,
+            mask: 0,
+            counters: [value; COUNTER_WORDS],
+        }
+    }
+
     /// Whether the register is one of these: the condition of `look`, `read` and `write`.
     pub fn holds(&self, reg: Reg) -> bool
         ensures { result ≡ is_latched reg }
