@@ -32,7 +32,7 @@ pub accepted_sizes : (s : Registers) (f : List ℕ) (kind : Kind) → verdict s 
 unfolding verdict
 accepted_sizes s f kind is =
     let known : (nat_lt (length f + 4) 64 ≡ false) × (nat_lt (longest s) (length f + 4) ≡ false) =
-            sizes (accepts s (destination f)) (nat_lt (length f + 4) 64) (nat_lt (longest s) (length f + 4)) (passes_vlan s f) _ kind is in
+    sizes (accepts s (destination f)) (nat_lt (length f + 4) 64) (nat_lt (longest s) (length f + 4)) (passes_vlan s f) _ kind is in
     let most : longest s ≤ 16384 = longest_most (lpe s) in
     (grind (arith, nat_tests), grind (arith, nat_tests))
 

@@ -41,14 +41,14 @@ module _ (s : State) (f : List ℕ) where
       nat_lt (length f + 4) 64 ≡ short → nat_lt (longest s.registers) (length f + 4) ≡ long →
       passes_vlan s.registers f ≡ vlan →
       IsFate s f (answer (
-        if not up then (Dropped Down, s)
-        else if not en then (Dropped Disabled, s)
-        else judgement s f (
-          if not acc then Reject
-          else if short then TooShort
-          else if long then TooLong
-          else if not vlan then Reject
-          else Accept (kind_of (destination f)))))
+      if not up then (Dropped Down, s)
+      else if not en then (Dropped Disabled, s)
+      else judgement s f (
+      if not acc then Reject
+      else if short then TooShort
+      else if long then TooLong
+      else if not vlan then Reject
+      else Accept (kind_of (destination f)))))
   by_tests false en acc short long vlan link enabled accepted few many passes = link
   by_tests true false acc short long vlan link enabled accepted few many passes = (link, enabled)
   by_tests true true false short long vlan link enabled accepted few many passes = ((link, enabled), inl accepted)

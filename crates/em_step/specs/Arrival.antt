@@ -1,22 +1,20 @@
 -- An arriving frame: what becomes of it, where the first line that holds decides, and what it changes.
-use Rattle.std.specs.Prelude.{ℕ, ◌+◌, ◌==◌, nat_le, nat_lt, Bool, not, if◌then◌else◌, List, length}
+use Rattle.std.specs.Prelude.{ℕ, ◌+◌, ◌==◌, nat_lt, Bool, not, if◌then◌else◌, List, length}
 use Rattle.em_regs.specs.declared.reg.Reg.TheVariants.{Rctl, Rdh, Rdt}
-use Rattle.em_regs.specs.Storage.{Registers}
 use Rattle.em_regs.specs.Setup.{value_of}
-use Rattle.em_latch.specs.Latches.{after_raise}
 use Rattle.em_latch.specs.Counter.{after_count}
 use Rattle.em_latch.specs.declared.counter.Counter.{Counter}
-use Rattle.em_latch.specs.declared.counter.Counter.TheVariants.{Mpc, Prc64, Prc127, Prc255, Prc511, Prc1023, Prc1522}
-use Rattle.em_latch.specs.declared.counter.Counter.TheVariants.{Gprc, Bprc, Mprc, Gorc, Rnbc, Ruc, Roc}
+use Rattle.em_latch.specs.declared.counter.Counter.TheVariants.{Ruc, Roc}
 use Rattle.em_filter.specs.declared.kind.Kind.{Kind}
-use Rattle.em_filter.specs.declared.kind.Kind.TheVariants.{Unicast, Multicast, Broadcast}
 use Rattle.em_filter.specs.declared.outcome.Verdict.{Verdict}
-use Rattle.em_filter.specs.declared.outcome.Verdict.TheVariants.{Reject, Undersize as TooShort, Oversize as TooLong, Accept}
+use Rattle.em_filter.specs.declared.outcome.Verdict.TheVariants.{Reject, Accept}
+use Rattle.em_filter.specs.declared.outcome.Verdict.TheVariants.{Undersize as TooShort, Oversize as TooLong}
 use Rattle.em_filter.specs.Filters.{verdict}
 use Rattle.em_filter.specs.Vlan.{tagged}
 use Rattle.em_rx.specs.Frame.{Frame, len_of, stored_frame}
 use Rattle.em_rx.specs.Fifo.{after_arrival, octets_in}
 use Rattle.em_step.specs.Access.{has}
+use Rattle.em_step.specs.Counts.{after_buffer_count, after_frame_count, after_miss_count}
 use Rattle.em_step.specs.State.{State}
 use Rattle.em_step.specs.declared.event.Answer.{Answer}
 use Rattle.em_step.specs.declared.event.Answer.TheVariants.{Stored, Dropped}
@@ -53,45 +51,14 @@ kept_frame s f = stored_frame f (tagged s.registers f)
 abbrev pub lacks_room : State → List ℕ → Bool
 lacks_room s f = nat_lt 49_152 (octets_in s.fifo + len_of (kept_frame s f))
 
--- ---- counters
--- the counter of the frames of a class, by their octets on the wire
-abbrev pub class_of : ℕ → Counter
-class_of n =
-    if nat_le n 64 then Prc64
-    else if nat_le n 127 then Prc127
-    else if nat_le n 255 then Prc255
-    else if nat_le n 511 then Prc511
-    else if nat_le n 1023 then Prc1023
-    else Prc1522
-
--- RNBC counts the frames for which no buffer is there
-abbrev pub after_buffer_count : Bool → Registers → Registers
-after_buffer_count lacks m = if lacks then after_count m Rnbc 1 else m
-
--- BPRC counts broadcasts where they are received, and MPRC other group addresses
-abbrev pub after_kind_count : Bool → Kind → Registers → Registers
-after_kind_count broadcasts Broadcast m = if broadcasts then after_count m Bprc 1 else m
-after_kind_count broadcasts Multicast m = after_count m Mprc 1
-after_kind_count broadcasts Unicast m = m
-
--- a frame of n octets on the wire is counted: one more frame, one more of its class, and n octets more
-abbrev pub after_size_count : ℕ → Registers → Registers
-after_size_count n m = after_count (after_count (after_count m Gprc 1) (class_of n) 1) Gorc n
-
--- and its kind
-abbrev pub after_frame_count : ℕ → Bool → Kind → Registers → Registers
-after_frame_count n broadcasts kind m = after_kind_count broadcasts kind (after_size_count n m)
-
 -- ---- what an arrival leaves
 -- one more in a counter
 abbrev pub after_one_more : State → Counter → State
 after_one_more s counter = record s { latches = after_count s.latches counter 1 }
 
--- a frame is missed: MPC counts it, and RXO is raised
+-- a frame is missed
 abbrev pub after_miss : State → State
-after_miss s = record s {
-  latches = after_buffer_count (lacks_buffer s) (after_raise (after_count s.latches Mpc 1) 0x40);
-}
+after_miss s = record s { latches = after_buffer_count (lacks_buffer s) (after_miss_count s.latches) }
 
 -- a frame is stored: it comes last in the FIFO; four octets, the frame check sequence, count with it
 abbrev pub after_accept : State → List ℕ → Kind → State

@@ -1,5 +1,5 @@
 //! The adapter: its registers, its interrupt latches and the guest's memory.
-ghost use Rattle.std.specs.Prelude.{◌≡◌, ◌↔◌, ◌+◌, ◌<◌, ◌≤◌, ◌⊎◌, if◌then◌else◌, IsTrue, length, not, false, []};
+ghost use Rattle.std.specs.Prelude.{◌≡◌, ◌↔◌, ◌+◌, ◌<◌, ◌≤◌, ◌⊎◌, if◌then◌else◌, IsTrue, length};
 ghost use Rattle.std.specs.Prelude.{IfOk, IfErr, OnOk, OnErr, IsErrOf};
 ghost use Rattle.std.specs.Option.{option_map};
 ghost use Rattle.em_mem.specs.Memory.{IsMemorySize, part};
@@ -11,25 +11,20 @@ ghost use Rattle.em_step.specs.State.{status};
 ghost use Rattle.em_step.specs.Access.{gives, after_read, after_write, after_store, after_eerd_write};
 ghost use Rattle.em_step.specs.Access.{is_reset, reset, after_link};
 ghost use Rattle.em_step.specs.Cells.{fresh, shows, MorePages};
-ghost use Rattle.em_step.specs.Arrival.{after_accept, after_miss, after_one_more, admission, arrival, judged};
-ghost use Rattle.em_step.specs.Arrival.{is_enabled, kept_frame, lacks_buffer, lacks_room, octets_stored, takes_broadcasts};
-ghost use Rattle.em_step.specs.Event.{plain, pokes, arrives};
+ghost use Rattle.em_step.specs.Event.{plain, pokes};
 ghost use Rattle.em_step.specs.Step.{step, Refuses};
 ghost use Rattle.em_step.specs.Undo.{Fits, PartFits, Reverses, undo, undo_part, undo_receive};
 ghost use Rattle.em_rx.specs.Undo as rx;
-ghost use Rattle.em_rx.specs.Frame.{len_of};
 ghost use Rattle.em_step.specs.Cost.{cost, cost_of, cost_of_part, least_cost, most_cost};
 
-use crate::arrival::{CHECK_OCTETS, TAG_OCTETS, count_frame, count_miss};
-use crate::event::{Answer, Event, Reason};
+use crate::event::{Answer, Event};
 use crate::refusal::Refusal;
 use crate::undo::{BeforeReset, Part, Undo};
 use bitflags::Flags;
 use em_eeprom::Eeprom;
-use em_filter::{Kind, Verdict, tagged, verdict};
-use em_latch::{Counter, Latches};
+use em_latch::Latches;
 use em_mem::{GuestMemory, MemRefusal, MemUndo};
-use em_regs::{Causes, Ctrl, Eerd, Rctl, Reg, RegFile, Status};
+use em_regs::{Causes, Ctrl, Eerd, Reg, RegFile, Status};
 use em_rx::{Fifo, RxUndo};
 use std::alloc::Global;
 use std::marker::Model;
@@ -37,21 +32,16 @@ use std::marker::Model;
 /// The most octets that one memory write has.
 const MOST_POKE: usize = 16_384;
 
-/// The fewest octets that a frame can arrive with, and the most.
-const LEAST_FRAME: usize = 14;
-
-const MOST_FRAME: usize = 20_000;
-
 /// The adapter and the guest's memory.
 #[derive(Drop)]
 pub struct Adapter {
-    alloc: Global,
+    pub(crate) alloc: Global,
     memory: GuestMemory,
-    registers: RegFile,
-    latches: Latches,
-    fifo: Fifo,
+    pub(crate) registers: RegFile,
+    pub(crate) latches: Latches,
+    pub(crate) fifo: Fifo,
     eeprom: Eeprom,
-    link: bool,
+    pub(crate) link: bool,
 }
 
 impl Model for Adapter {
@@ -396,157 +386,4 @@ impl Adapter {
         }
         Ok(self.exchange(Undo::of_part(Part::Octets(new))))
     }
-
-    /// A frame arrives. It is refused for its length alone, and for memory where it would be stored.
-    fn arrive(&mut self, frame: &[u8]) -> Result<(Answer, Undo), Refusal>
-        ensures ok { IfOk result (λ r. step (shows self.old) (arrives frame.now) ≡ Ok (r.0, shows self.new)) }
-        ensures cost { IfOk result (λ r. cost_of r.1 ≡ cost (shows self.old) (arrives frame.now)) }
-        ensures reverses { IfOk result (λ r. Reverses self.old self.new r.1) }
-        ensures err { IfErr result (Refuses (shows self.old) (arrives frame.now)) }
-        ensures same { OnErr result (self.new ≡ self.old) }
-    {
-        if frame.len() < LEAST_FRAME || frame.len() > MOST_FRAME {
-            return Err(Refusal::Length);
-        }
-        self.receive(frame)
-    }
-
-    /// What becomes of a frame: the first test that fails drops it.
-    fn receive(&mut self, frame: &[u8]) -> Result<(Answer, Undo), Refusal>
-        requires least { 14 ≤ length frame.now }
-        requires most { length frame.now ≤ 20_000 }
-        ensures ok { IfOk result (λ r. arrival (shows self.old) frame.now ≡ (r.0, shows self.new)) }
-        ensures cost { IfOk result (λ r. cost_of r.1 ≡ least_cost + octets_stored (shows self.old) frame.now r.0) }
-        ensures reverses { IfOk result (λ r. Reverses self.old self.new r.1) }
-        ensures err { IfErr result (λ e. (e ≡ Refusal.Memory) × ((arrival (shows self.old) frame.now).0 ≡ Answer.Stored)) }
-        ensures same { OnErr result (self.new ≡ self.old) }
-    {
-        if !self.link {
-            return Ok(unchanged(Reason::Down));
-        }
-        if !self.is_enabled() {
-            return Ok(unchanged(Reason::Disabled));
-        }
-        self.judge(frame)
-    }
-
-    /// What becomes of a frame by the verdict of the filters.
-    fn judge(&mut self, frame: &[u8]) -> Result<(Answer, Undo), Refusal>
-        requires least { 14 ≤ length frame.now }
-        requires most { length frame.now ≤ 20_000 }
-        ensures ok { IfOk result (λ r. judged (shows self.old) frame.now ≡ (r.0, shows self.new)) }
-        ensures cost { IfOk result (λ r. cost_of r.1 ≡ least_cost + octets_stored (shows self.old) frame.now r.0) }
-        ensures reverses { IfOk result (λ r. Reverses self.old self.new r.1) }
-        ensures err { IfErr result (λ e. (e ≡ Refusal.Memory) × ((judged (shows self.old) frame.now).0 ≡ Answer.Stored)) }
-        ensures same { OnErr result (self.new ≡ self.old) }
-    {
-        match verdict(&self.registers, frame) {
-            Verdict::Reject => Ok(unchanged(Reason::Rejected)),
-            Verdict::Undersize => Ok((Answer::Dropped(Reason::Undersize), self.count(Counter::Ruc))),
-            Verdict::Oversize => Ok((Answer::Dropped(Reason::Oversize), self.count(Counter::Roc))),
-            Verdict::Accept(kind) => self.admit(frame, kind),
-        }
-    }
-
-    /// Stores an accepted frame, or misses it where the FIFO has no room.
-    fn admit(&mut self, frame: &[u8], kind: Kind) -> Result<(Answer, Undo), Refusal>
-        requires least { 60 ≤ length frame.now }
-        requires most { length frame.now ≤ 16_380 }
-        ensures ok { IfOk result (λ r. admission (shows self.old) frame.now kind ≡ (r.0, shows self.new)) }
-        ensures cost { IfOk result (λ r. cost_of r.1 ≡ least_cost + octets_stored (shows self.old) frame.now r.0) }
-        ensures reverses { IfOk result (λ r. Reverses self.old self.new r.1) }
-        ensures err { IfErr result (λ e. (e ≡ Refusal.Memory)
-            × ((admission (shows self.old) frame.now kind).0 ≡ Answer.Stored)) }
-        ensures same { OnErr result (self.new ≡ self.old) }
-    {
-        if self.has_room(frame) {
-            Ok((Answer::Stored, self.accept(frame, kind)?))
-        } else {
-            Ok((Answer::Dropped(Reason::Missed), self.miss()))
-        }
-    }
-
-    /// RCTL.EN: frames are received.
-    fn is_enabled(&self) -> bool
-        ensures { result ≡ is_enabled (shows self.now) }
-    {
-        Rctl::from_bits_retain(self.registers.look(Reg::Rctl)).contains(Rctl::EN)
-    }
-
-    /// RCTL.BAM: broadcasts are received.
-    fn takes_broadcasts(&self) -> bool
-        ensures { result ≡ takes_broadcasts (shows self.now) }
-    {
-        Rctl::from_bits_retain(self.registers.look(Reg::Rctl)).contains(Rctl::BAM)
-    }
-
-    /// No descriptor of the receive ring is the adapter's.
-    fn lacks_buffer(&self) -> bool
-        ensures { result ≡ lacks_buffer (shows self.now) }
-    {
-        self.registers.look(Reg::Rdh) == self.registers.look(Reg::Rdt)
-    }
-
-    /// The FIFO has room for a frame as it is stored: a tagged one without its tag.
-    fn has_room(&self, frame: &[u8]) -> bool
-        requires { 60 ≤ length frame.now }
-        ensures { result ≡ not (lacks_room (shows self.now) frame.now) }
-    {
-        let taken = if tagged(&self.registers, frame) { TAG_OCTETS } else { 0 };
-        self.fifo.has_room(frame.len() - taken)
-    }
-
-    /// Steps a counter by one.
-    fn count(&mut self, counter: Counter) -> Undo
-        ensures state { shows self.new ≡ after_one_more (shows self.old) counter }
-        ensures cost { cost_of result ≡ least_cost }
-        ensures reverses { Reverses self.old self.new result }
-    {
-        Undo::of_latches(self.latches.count(counter, 1))
-    }
-
-    /// Misses a frame.
-    fn miss(&mut self) -> Undo
-        ensures state { shows self.new ≡ after_miss (shows self.old) }
-        ensures cost { cost_of result ≡ least_cost }
-        ensures reverses { Reverses self.old self.new result }
-    {
-        let lacks = self.lacks_buffer();
-        Undo::of_latches(count_miss(&mut self.latches, lacks))
-    }
-
-    /// Stores a frame, and counts it. The box of the record is made first.
-    fn accept(&mut self, frame: &[u8], kind: Kind) -> Result<Undo, Refusal>
-        requires least { 60 ≤ length frame.now }
-        requires most { length frame.now ≤ 16_380 }
-        requires room { lacks_room (shows self.old) frame.now ≡ false }
-        ensures state { OnOk result (shows self.new ≡ after_accept (shows self.old) frame.now kind) }
-        ensures cost { IfOk result (λ r. cost_of r ≡ least_cost + len_of (kept_frame (shows self.old) frame.now)) }
-        ensures reverses { IfOk result (λ r. Reverses self.old self.new r) }
-        ensures err { IfErr result (λ e. e ≡ Refusal.Memory) }
-        ensures same { OnErr result (self.new ≡ self.old) }
-    {
-        let mut kept = Box::new(self.alloc, RxUndo::Nothing)?;
-        let is_tagged = tagged(&self.registers, frame);
-        match self.fifo.accept(frame, is_tagged) {
-            Ok(taken) => *kept = taken,
-            Err(_) => return Err(Refusal::Memory),
-        }
-        let broadcasts = self.takes_broadcasts();
-        let lacks = self.lacks_buffer();
-        let octets = frame.len() as u32 + CHECK_OCTETS;
-        let latches = count_frame(&mut self.latches, octets, kind, broadcasts, lacks);
-        Ok(Undo {
-            latches,
-            part: Part::Arrival(kept),
-        })
-    }
-}
-
-/// A frame was dropped that left no trace.
-fn unchanged(reason: Reason) -> (Answer, Undo)
-    ensures answer { result.0 ≡ Answer.Dropped reason }
-    ensures undo { result.1 ≡ record { latches = []; part = Part.Nothing } }
-{
-    (Answer::Dropped(reason), Undo::of_part(Part::Nothing))
 }

@@ -3,6 +3,7 @@
 
 mod adapter;
 mod arrival;
+mod counts;
 mod event;
 pub mod laws;
 mod refusal;

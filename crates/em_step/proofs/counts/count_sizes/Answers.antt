@@ -1,6 +1,6 @@
 use Rattle.em_step.proofs.ReversalLaws.{reversed_words}
 use Rattle.em_latch.proofs.UndoLaws.{newer_words}
-use Rattle.em_step.proofs.arrival.count_sizes.Goals as goal
+use Rattle.em_step.proofs.counts.count_sizes.Goals as goal
 
 pub returns-clause-reverses : goal.returns-clause-reverses
 returns-clause-reverses c =
