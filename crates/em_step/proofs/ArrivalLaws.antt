@@ -1,5 +1,6 @@
 -- What is known of a frame that the filters accept, and of one as it is stored.
-use Rattle.std.proofs.Common.{◌≡◌, ℕ, ◌+◌, ◌-◌, ◌≤◌, Bool, true, false, List, length, take, drop, arith, refl, length-append, length-drop}
+use Rattle.std.proofs.Common.{◌≡◌, ℕ, ◌+◌, ◌-◌, ◌≤◌, Bool, true, false, List, length, take, drop}
+use Rattle.std.proofs.Common.{arith, refl, length-append, length-drop}
 use Rattle.std.specs.Prelude.{if◌then◌else◌, nat_lt, not}
 use Rattle.std.proofs.lemmas.List.{length-take}
 use Rattle.std.proofs.lemmas.Bool.Decides.{nat_tests}
@@ -16,8 +17,11 @@ use Rattle.em_rx.specs.Frame.{len_of, stored_frame}
 
 -- an accepted frame is neither too short nor too long
 sizes : (acc short long vlan : Bool) (k kind : Kind) →
-    (if not acc then Reject else if short then Undersize else if long then Oversize else if not vlan then Reject else Accept k)
-    ≡ Accept kind → (short ≡ false) × (long ≡ false)
+    (if not acc then Reject
+    else if short then Undersize
+    else if long then Oversize
+    else if not vlan then Reject
+    else Accept k) ≡ Accept kind → (short ≡ false) × (long ≡ false)
 sizes false short long vlan k kind is = cc
 sizes true true long vlan k kind is = cc
 sizes true false true vlan k kind is = cc
@@ -31,8 +35,10 @@ pub accepted_sizes : (s : Registers) (f : List ℕ) (kind : Kind) → verdict s 
     (60 ≤ length f) × (length f ≤ 16_380)
 unfolding verdict
 accepted_sizes s f kind is =
-    let known : (nat_lt (length f + 4) 64 ≡ false) × (nat_lt (longest s) (length f + 4) ≡ false) =
-    sizes (accepts s (destination f)) (nat_lt (length f + 4) 64) (nat_lt (longest s) (length f + 4)) (passes_vlan s f) _ kind is in
+    let short : Bool = nat_lt (length f + 4) 64 in
+    let long : Bool = nat_lt (longest s) (length f + 4) in
+    let known : (short ≡ false) × (long ≡ false) =
+    sizes (accepts s (destination f)) short long (passes_vlan s f) _ kind is in
     let most : longest s ≤ 16384 = longest_most (lpe s) in
     (grind (arith, nat_tests), grind (arith, nat_tests))
 

@@ -49,6 +49,8 @@ cost_most s (reads o) r is = omega arith
 cost_most s (writes o v) r is = if_most (resets (reg_at o) v)
 cost_most s (pokes a octets) r is = grind (arith, nat_tests)
 cost_most s (arrives f) r is =
-    let most : length f ≤ 20_000 = ltb-false _ _ (frame_most (nat_lt (length f) 14) (nat_lt 20_000 (length f)) (arrival s f) r is) in
+    let few : Bool = nat_lt (length f) 14 in
+    let many : Bool = nat_lt 20_000 (length f) in
+    let most : length f ≤ 20_000 = ltb-false _ _ (frame_most few many (arrival s f) r is) in
     omega (arith, most, stored_octets s f (arrival s f).0)
 cost_most s (links up) r is = omega arith

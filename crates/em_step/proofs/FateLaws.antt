@@ -4,7 +4,8 @@ use Rattle.std.specs.Prelude.{if◌then◌else◌, nat_lt, not}
 use Rattle.std.proofs.lemmas.Bool.{ltb-false, le-ltb}
 use Rattle.std.proofs.lemmas.Bool.Decides.{nat_tests}
 use Rattle.em_filter.specs.declared.kind.Kind.{Kind}
-use Rattle.em_filter.specs.declared.outcome.Verdict.TheVariants.{Reject, Undersize as TooShort, Oversize as TooLong, Accept}
+use Rattle.em_filter.specs.declared.outcome.Verdict.TheVariants.{Reject, Accept}
+use Rattle.em_filter.specs.declared.outcome.Verdict.TheVariants.{Undersize as TooShort, Oversize as TooLong}
 use Rattle.em_filter.specs.Address.{accepts}
 use Rattle.em_filter.specs.Bits.{lpe}
 use Rattle.em_filter.specs.Filters.{longest, verdict}

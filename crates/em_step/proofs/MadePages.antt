@@ -27,7 +27,8 @@ shows_after c d more = λ i. record {
 receive_fits_after :
     (c d : Cells) (r : RxUndo) → MorePages c d → rx_undo.Fits c.fifo c.memory r → rx_undo.Fits d.fifo d.memory r
 receive_fits_after c d r more fits =
-    subst (λ f. rx_undo.Fits f d.memory r) (sym more.fifo) (rx_laws.fits_after c.fifo c.memory d.memory r more.memory fits)
+    subst (λ f. rx_undo.Fits f d.memory r) (sym more.fifo)
+    (rx_laws.fits_after c.fifo c.memory d.memory r more.memory fits)
 
 receive_after : (c d : Cells) (r : RxUndo) → MorePages c d → MorePages (undo_receive c r) (undo_receive d r)
 receive_after c d r more = record {

@@ -74,7 +74,8 @@ fresh_fifo : rx.shows rx.fresh ≡ rx.empty
 unfolding rx.fresh
 fresh_fifo = refl
 
-pub new_is_reset : (size : ℕ) (eeprom : List ℕ) → shows (cells.fresh size eeprom) ≡ reset (shows (cells.fresh size eeprom))
+pub new_is_reset : (size : ℕ) (eeprom : List ℕ) →
+    shows (cells.fresh size eeprom) ≡ reset (shows (cells.fresh size eeprom))
 new_is_reset size eeprom =
     let c : Cells = cells.fresh size eeprom in
     λ i. record {

@@ -9,7 +9,7 @@ use Rattle.em_latch.specs.declared.counter.Counter.TheVariants.{Gprc, Bprc, Mprc
 use Rattle.em_filter.specs.declared.kind.Kind.{Kind}
 use Rattle.em_filter.specs.declared.kind.Kind.TheVariants.{Unicast, Multicast, Broadcast}
 
--- the counter of the frames of a class, by their octets on the wire
+-- the counter of the frames of a class, by their octets on the wire, of which a stored frame has at least 64
 abbrev pub class_of : ℕ → Counter
 class_of n =
     if nat_le n 64 then Prc64
