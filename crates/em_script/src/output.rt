@@ -1,8 +1,8 @@
 //! Writing answers.
 ghost use Rattle.std.specs.Prelude.{◌≡◌, ◌++◌};
 ghost use Rattle.em_text.specs.Writer.{Writes, hex_line_text, decimal_line_text};
-ghost use Rattle.em_script.specs.Output.{Prints, answer_text, reason_text, done_text, bit_text, back_text, bad_line_text};
-ghost use Rattle.em_script.specs.Output.{refusal_text, empty_text};
+ghost use Rattle.em_script.specs.Output.{Prints, answer_text, reason_text, done_text, bit_text, back_text};
+ghost use Rattle.em_script.specs.Output.{bad_line_text, refusal_text, empty_text};
 
 use crate::outcome::Outcome;
 use em_step::{Answer, Reason, Refusal};
@@ -31,9 +31,13 @@ pub fn write_answer<W: Write>(writer: &mut W, answer: Answer) -> Result<Outcome,
 
 /// That a frame was dropped, and why.
 fn write_dropped<W: Write>(writer: &mut W, reason: Reason) -> Result<Outcome, WriteFailed>
-    ensures { Prints (answer_text (Answer.Dropped reason)) Outcome.Done (W.contents writer.old) (W.contents writer.new) result }
+    ensures { Prints (answer_text (Answer.Dropped reason)) Outcome.Done
+        (W.contents writer.old) (W.contents writer.new) result }
 {
-    write_pieces(writer, &[b"dropped ", reason_name(reason).as_bytes(), b"\n"])?;
+    write_pieces(
+        writer,
+        &[b"dropped ", reason_name(reason).as_bytes(), b"\n"],
+    )?;
     Ok(Outcome::Done)
 }
 
