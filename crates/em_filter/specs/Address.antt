@@ -1,14 +1,31 @@
 -- The address filter: the five cases in which a destination is accepted.
-use Rattle.std.specs.Prelude.{ℕ, ◌+◌, ◌*◌, ◌/◌, ◌%◌, ◌^◌, ◌==◌, ◌&&◌, ◌||◌, Bool, List, [], ◌∷◌, map, filter, slice_index}
+use Rattle.std.specs.Prelude.{
+  ℕ,
+  ◌+◌,
+  ◌*◌,
+  ◌/◌,
+  ◌%◌,
+  ◌^◌,
+  ◌==◌,
+  ◌&&◌,
+  ◌||◌,
+  Bool,
+  List,
+  [],
+  ◌∷◌,
+  map,
+  filter,
+  slice_index,
+}
 use Rattle.std.specs.List.{list_any, range_with_len}
 use Rattle.em_regs.specs.Storage.{Registers}
 use Rattle.em_filter.specs.declared.kind.Kind.{Kind}
 use Rattle.em_filter.specs.Kind.{kind_of, is_unicast, is_group, is_broadcast}
-use Rattle.em_filter.specs.Bits.{bit, upe, mpe, bam, mo, mta, ral, rah}
+use Rattle.em_filter.specs.Bits.{bit, upe, mpe, bam, mo, mta, ral, rah, av, as_of}
 
 -- entry i is valid (AV is 1), and its address is compared with destinations (AS is 00)
 abbrev pub is_valid : Registers → ℕ → Bool
-is_valid s i = bit (rah s i) 31 && (rah s i / 2 ^ 16 % 4) == 0
+is_valid s i = av s i && as_of s i == 0
 
 -- the address of entry i as one number, octet 0 the lowest
 abbrev pub entry : Registers → ℕ → ℕ

@@ -1,50 +1,63 @@
 -- What the filters read of the registers, by the manual's names.
 use Rattle.std.specs.Prelude.{ℕ, ◌/◌, ◌%◌, ◌^◌, ◌==◌, Bool}
 use Rattle.em_regs.specs.declared.reg.Reg.TheVariants.{Ctrl, Vet, Rctl, Mta, Ral, Rah, Vfta}
-use Rattle.em_regs.specs.Table.{offset_of}
 use Rattle.em_regs.specs.Storage.{Registers}
-use Rattle.em_regs.specs.RegFile.{at}
+use Rattle.em_regs.specs.Setup.{value_of, has}
 
 -- bit k of a number is 1
 abbrev pub bit : ℕ → ℕ → Bool
 bit n k = n / 2 ^ k % 2 == 1
 
 abbrev pub rctl : Registers → ℕ
-rctl s = at s (offset_of Rctl)
+rctl s = value_of s Rctl
 
+-- bit 3
 abbrev pub upe : Registers → Bool
-upe s = bit (rctl s) 3
+upe s = has (rctl s) (2 ^ 3)
 
+-- bit 4
 abbrev pub mpe : Registers → Bool
-mpe s = bit (rctl s) 4
+mpe s = has (rctl s) (2 ^ 4)
 
+-- bit 5
 abbrev pub lpe : Registers → Bool
-lpe s = bit (rctl s) 5
+lpe s = has (rctl s) (2 ^ 5)
 
--- bits 13 and 12
+-- bits 13:12
 abbrev pub mo : Registers → ℕ
 mo s = rctl s / 2 ^ 12 % 4
 
+-- bit 15
 abbrev pub bam : Registers → Bool
-bam s = bit (rctl s) 15
+bam s = has (rctl s) (2 ^ 15)
 
+-- bit 18
 abbrev pub vfe : Registers → Bool
-vfe s = bit (rctl s) 18
+vfe s = has (rctl s) (2 ^ 18)
 
+-- bit 30
 abbrev pub vme : Registers → Bool
-vme s = bit (at s (offset_of Ctrl)) 30
+vme s = has (value_of s Ctrl) (2 ^ 30)
 
 abbrev pub vet : Registers → ℕ
-vet s = at s (offset_of Vet)
+vet s = value_of s Vet
 
 abbrev pub mta : Registers → ℕ → ℕ
-mta s i = at s (offset_of (Mta i))
+mta s i = value_of s (Mta i)
 
 abbrev pub vfta : Registers → ℕ → ℕ
-vfta s i = at s (offset_of (Vfta i))
+vfta s i = value_of s (Vfta i)
 
 abbrev pub ral : Registers → ℕ → ℕ
-ral s i = at s (offset_of (Ral i))
+ral s i = value_of s (Ral i)
 
 abbrev pub rah : Registers → ℕ → ℕ
-rah s i = at s (offset_of (Rah i))
+rah s i = value_of s (Rah i)
+
+-- bit 31
+abbrev pub av : Registers → ℕ → Bool
+av s i = has (rah s i) (2 ^ 31)
+
+-- bits 17:16; the field's name is a reserved word
+abbrev pub as_of : Registers → ℕ → ℕ
+as_of s i = rah s i / 2 ^ 16 % 4

@@ -1,22 +1,15 @@
 //! The address filter: one function for each case in which it accepts a destination.
 ghost use Rattle.std.specs.Prelude.{◌≡◌, ◌<◌, ◌==◌};
 ghost use Rattle.em_filter.specs.Kind.{destination};
-ghost use Rattle.em_filter.specs.Address.{accepts, entry, has_hash, hash_of, is_entry_at, is_in_table, is_valid, passes_bam, passes_hash, passes_mpe, passes_upe};
+ghost use Rattle.em_filter.specs.Address.{accepts, entry, has_hash, hash_of, is_entry_at, is_in_table};
+ghost use Rattle.em_filter.specs.Address.{passes_bam, passes_hash, passes_mpe, passes_upe};
 
 use crate::bits::{self, WORD_BITS};
 use crate::kind::{Kind, kind_of};
-use em_regs::{Reg, RegFile};
+use em_regs::RegFile;
 
 /// How many receive addresses there are.
 const ENTRIES: u8 = 16;
-
-/// RAH's AV and AS: the entry is valid, and to be compared with a source address.
-const AV: u32 = 0x8000_0000;
-
-const AS: u32 = 0x0003_0000;
-
-/// RAH holds octets 4 and 5 below this.
-const TWO_OCTETS: u32 = 0x1_0000;
 
 /// How many hashes there are.
 const HASHES: u16 = 4096;
@@ -46,17 +39,7 @@ fn is_entry_at(regs: &RegFile, address: &[u8; 6], index: u8) -> bool
     requires { index < ENTRIES }
     ensures { result ≡ is_entry_at regs.now (destination address.now) index }
 {
-    is_valid(regs, index) && is_entry(regs, address, index)
-}
-
-/// One entry is valid, and compared with destinations.
-#[tactic(auto, using(crate::proofs::BitLaws::av_is))]
-fn is_valid(regs: &RegFile, index: u8) -> bool
-    requires { index < ENTRIES }
-    ensures { result ≡ is_valid regs.now index }
-{
-    let high = regs.look(Reg::Rah(index));
-    high & AV == AV && high & AS == 0
+    bits::is_valid(regs, index) && is_entry(regs, address, index)
 }
 
 /// One entry has the octets of the address.
@@ -66,8 +49,7 @@ fn is_entry(regs: &RegFile, address: &[u8; 6], index: u8) -> bool
     ensures { result ≡ (entry regs.now index == destination address.now) }
 {
     let [a, b, c, d, e, f] = *address;
-    let low = regs.look(Reg::Ral(index));
-    let high = regs.look(Reg::Rah(index)) % TWO_OCTETS;
+    let (low, high) = bits::entry(regs, index);
     low == u32::from_le_bytes([a, b, c, d]) && high == u32::from(u16::from_le_bytes([e, f]))
 }
 

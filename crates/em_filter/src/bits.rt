@@ -1,20 +1,23 @@
 //! The bits and fields that the filters read of the registers.
-ghost use Rattle.std.specs.Prelude.{◌≡◌, ◌<◌};
-ghost use Rattle.em_filter.specs.Bits.{bam, bit, lpe, mo, mpe, mta, upe, vet, vfe, vfta, vme};
+ghost use Rattle.std.specs.Prelude.{◌≡◌, ◌<◌, ◌%◌, ◌^◌};
+ghost use Rattle.em_filter.specs.Bits.{bam, bit, lpe, mo, mpe, mta, rah, ral, upe, vet, vfe, vfta, vme};
+ghost use Rattle.em_filter.specs.Address.{is_valid};
 
 use bitflags::Flags;
-use em_regs::{Ctrl, Rctl, Reg, RegFile};
+use em_regs::{Ctrl, Rah, Rctl, Reg, RegFile};
 
-/// RCTL's MO begins at this bit, and has this many values.
-const MO: u32 = 12;
+/// The lowest bit of RCTL.MO and of RAH.AS, fields of two bits.
+const MO_BIT: u32 = 0x0000_1000;
 
-const MO_VALUES: u32 = 4;
+const AS_BIT: u32 = 0x0001_0000;
+
+/// RAH holds octets 4 and 5 below this.
+const TWO_OCTETS: u32 = 0x0001_0000;
 
 /// How many bits a word of the multicast table and of the VLAN filter table has.
 pub(crate) const WORD_BITS: u16 = 32;
 
 /// RCTL.UPE: every unicast frame is taken.
-#[tactic(auto, using(crate::proofs::BitLaws::control_bits))]
 pub(crate) fn upe(regs: &RegFile) -> bool
     ensures { result ≡ upe regs.now }
 {
@@ -22,7 +25,6 @@ pub(crate) fn upe(regs: &RegFile) -> bool
 }
 
 /// RCTL.MPE: every frame to a group address is taken.
-#[tactic(auto, using(crate::proofs::BitLaws::control_bits))]
 pub(crate) fn mpe(regs: &RegFile) -> bool
     ensures { result ≡ mpe regs.now }
 {
@@ -30,7 +32,6 @@ pub(crate) fn mpe(regs: &RegFile) -> bool
 }
 
 /// RCTL.LPE: long frames are taken.
-#[tactic(auto, using(crate::proofs::BitLaws::control_bits))]
 pub(crate) fn lpe(regs: &RegFile) -> bool
     ensures { result ≡ lpe regs.now }
 {
@@ -38,7 +39,6 @@ pub(crate) fn lpe(regs: &RegFile) -> bool
 }
 
 /// RCTL.BAM: broadcast frames are taken.
-#[tactic(auto, using(crate::proofs::BitLaws::control_bits))]
 pub(crate) fn bam(regs: &RegFile) -> bool
     ensures { result ≡ bam regs.now }
 {
@@ -46,7 +46,6 @@ pub(crate) fn bam(regs: &RegFile) -> bool
 }
 
 /// RCTL.VFE: the VLAN filter is on.
-#[tactic(auto, using(crate::proofs::BitLaws::control_bits))]
 pub(crate) fn vfe(regs: &RegFile) -> bool
     ensures { result ≡ vfe regs.now }
 {
@@ -55,14 +54,12 @@ pub(crate) fn vfe(regs: &RegFile) -> bool
 
 /// RCTL.MO: where in the address the hash lies.
 pub(crate) fn mo(regs: &RegFile) -> u32
-    ensures value { result ≡ mo regs.now }
-    ensures few { result < MO_VALUES }
+    ensures { result ≡ mo regs.now }
 {
-    (regs.look(Reg::Rctl) >> MO) % MO_VALUES
+    regs.look(Reg::Rctl) / MO_BIT % 4
 }
 
 /// CTRL.VME: VLAN tags are removed and inserted.
-#[tactic(auto, using(crate::proofs::BitLaws::control_bits))]
 pub(crate) fn vme(regs: &RegFile) -> bool
     ensures { result ≡ vme regs.now }
 {
@@ -74,6 +71,26 @@ pub(crate) fn vet(regs: &RegFile) -> u32
     ensures { result ≡ vet regs.now }
 {
     regs.look(Reg::Vet)
+}
+
+/// Whether a receive address is valid (RAH.AV), and one of destinations (RAH.AS).
+pub(crate) fn is_valid(regs: &RegFile, index: u8) -> bool
+    requires { index < 16 }
+    ensures { result ≡ is_valid regs.now index }
+{
+    let high = regs.look(Reg::Rah(index));
+    Rah::from_bits_retain(high).contains(Rah::AV) && high / AS_BIT % 4 == 0
+}
+
+/// Octets 0 to 3 of a receive address as one number, and octets 4 and 5.
+pub(crate) fn entry(regs: &RegFile, index: u8) -> (u32, u32)
+    requires { index < 16 }
+    ensures low { result.0 ≡ ral regs.now index }
+    ensures high { result.1 ≡ rah regs.now index % 2 ^ 16 }
+{
+    let low = regs.look(Reg::Ral(index));
+    let high = regs.look(Reg::Rah(index)) % TWO_OCTETS;
+    (low, high)
 }
 
 /// A word of the multicast table.

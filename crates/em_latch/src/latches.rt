@@ -151,6 +151,7 @@ impl Latches {
     }
 
     /// Takes back the changes that gave out this record, and gives the record that makes them again.
+    #[inline(always)]
     pub fn exchange(&mut self, taken: LatchUndo) -> LatchUndo
         ensures state { self.new ≡ undo self.old taken }
         ensures words { length result ≡ length taken }
@@ -177,6 +178,7 @@ impl Latches {
     }
 
     /// Puts an old word back, and gives the one that it replaces.
+    #[inline(always)]
     fn exchange_word(&mut self, taken: OldWord) -> OldWord
         ensures state { self.new ≡ registers.undo self.old taken }
         ensures reverses { registers.Reverses self.old self.new result }
@@ -187,6 +189,7 @@ impl Latches {
     }
 
     /// Stores the word at a place, and gives what it was.
+    #[inline(always)]
     fn swap(&mut self, place: u8, value: u32) -> u32
         requires { place < WORDS }
         ensures old { map.get self.old (slice_index offsets place) ≡ Some result }
@@ -200,6 +203,7 @@ impl Latches {
     }
 
     /// Stores a word.
+    #[inline(always)]
     fn replace(&mut self, reg: Reg, value: u32) -> LatchUndo
         requires { IsWord reg }
         ensures state { self.new ≡ map.insert self.old (offset_of reg) value }

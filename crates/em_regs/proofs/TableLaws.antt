@@ -2,7 +2,7 @@
 use Rattle.std.proofs.Common.{◌≡◌, ◌≢◌, ℕ, zero, suc, ◌+◌, ◌*◌, ◌<◌, ◌≤◌, ◌-◌, ◌/◌, ◌%◌, Bool, true, false, ◌&&◌, ◌==◌}
 use Rattle.std.proofs.Common.{◌⊎◌, inl, inr, List, [], ◌∷◌, Option, Some, None, refl, sym, ap, ◌∙◌, subst, arith}
 use Rattle.std.proofs.Common.{slice_index_or, nat_lt, nat_le, leb-true, eqb-true}
-use Rattle.std.specs.Prelude.{IfSome, IfNone}
+use Rattle.std.specs.Prelude.{IfSome, is_some}
 use Rattle.std.proofs.lemmas.Bool.{and_parts, cases_eq}
 use Rattle.std.proofs.lemmas.Bool.Decides.{nat_tests}
 use Rattle.em_regs.specs.declared.reg.Reg.{Reg}
@@ -10,7 +10,7 @@ use Rattle.em_regs.specs.declared.reg.Reg.TheVariants.{Ctrl, Mta, Ral, Rah, Vfta
 use Rattle.em_regs.specs.declared.table.Row.{Row}
 use Rattle.em_regs.specs.declared.table.TheConstants.{PAGES, PAGE_AT}
 use Rattle.em_regs.specs.Table.{IsReg, row_of, index_of, with_index, first, offset_of, has_word_at, reg_in, registers}
-use Rattle.em_regs.specs.Table.{reg_at}
+use Rattle.em_regs.specs.Table.{reg_at, NoneFrom}
 
 -- ---- two functions agree below n, where their first n values are computed and compared
 abbrev pub firsts : {X : Type 0} → (ℕ → X) → ℕ → List X
@@ -231,3 +231,53 @@ found_lies near row o past index found is made from low h whole =
 
 pub found_there : (o : ℕ) (found : Reg) → IsReg found × (offset_of found ≡ o) → Some found ≡ reg_at o
 found_there o found h = sym (reg_at-offset_of found h.0) ∙ ap reg_at h.1
+
+-- ---- skip_bare
+-- a word that holds an offset where a register lies begins there
+abbrev pub lies_whole : Row → Bool
+lies_whole row = (row.offset % 4) == 0
+
+each_lies_whole : (reg : Reg) → lies_whole (row_of reg) ≡ true
+each_lies_whole Ctrl = refl
+each_lies_whole _ = refl
+
+whole_at : (off s i : ℕ) → (s ≡ 4) ⊎ (s ≡ 8) → off % 4 ≡ 0 → (off + s * i) % 4 ≡ 0
+whole_at off s i (inl e) w = subst (λ t. (off + t * i) % 4 ≡ 0) (sym e) (omega arith)
+whole_at off s i (inr e) w = subst (λ t. (off + t * i) % 4 ≡ 0) (sym e) (omega arith)
+
+-- each register lies at a multiple of 4
+pub whole_word : (reg : Reg) → offset_of reg % 4 ≡ 0
+whole_word reg =
+    let row = row_of reg in
+    whole_at row.offset row.spacing (index_of reg) (spaced reg) (eqb-true _ _ (each_lies_whole reg))
+
+-- no register lies on the page with no register
+on_page : (reg : Reg) → IsReg reg → (page_at (offset_of reg) == 0) ≡ false
+on_page (Mta i) h = same_below (λ k. page_at (offset_of (Mta k)) == 0) (λ k. false) 128 refl i h
+on_page (Ral i) h = same_below (λ k. page_at (offset_of (Ral k)) == 0) (λ k. false) 16 refl i h
+on_page (Rah i) h = same_below (λ k. page_at (offset_of (Rah k)) == 0) (λ k. false) 16 refl i h
+on_page (Vfta i) h = same_below (λ k. page_at (offset_of (Vfta k)) == 0) (λ k. false) 128 refl i h
+on_page Ctrl h = refl
+on_page _ h = refl
+
+pub none_on_page : (page : ℕ) → slice_index_or PAGE_AT page 0 ≡ 0 → NoneFrom (64 * page) (64 * page + 64)
+none_on_page page bare o from below = sym (none_found o (λ reg has lies.
+    let same : offset_of reg / 64 ≡ page = omega arith in
+    let at : page_at (offset_of reg) ≡ 0 = ap (λ k. slice_index_or PAGE_AT k 0) same ∙ bare in
+    let test : (page_at (offset_of reg) == 0) ≡ true = ap (λ k. k == 0) at in
+    let apart = on_page reg has in
+    let wrong : false ≡ true = sym apart ∙ test in
+    cc))
+
+none_given : (found : Option Reg) → is_some found ≡ false → found ≡ None
+none_given None none = refl
+none_given (Some reg) none = absurd (let f : true ≡ false = none in cc)
+
+-- a stretch with no register that ends behind their space has no end
+pub none_behind : {a end : ℕ} → NoneFrom a end → 0x05800 ≤ end → (o : ℕ) → a ≤ o → reg_at o ≡ None
+none_behind {end = end} before ends o from = elim (truth (nat_lt o end)) [
+  | inl t ↦ before o from (grind (arith, nat_tests, t))
+  | inr t ↦
+      let past : end ≤ o = grind (arith, nat_tests, t) in
+      sym (none_found o (λ reg has lies. omega (arith, below_space reg has)))
+]

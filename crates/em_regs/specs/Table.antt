@@ -9,6 +9,8 @@ use Rattle.std.specs.Prelude.{
   ◌*◌,
   ◌/◌,
   ◌%◌,
+  ◌≡◌,
+  ◌≤◌,
   ◌<◌,
   ◌==◌,
   ◌&&◌,
@@ -246,3 +248,7 @@ reg_in (r ∷ rs) o =
 -- the register at an offset
 unfoldable pub reg_at : ℕ → Option Reg
 reg_at o = reg_in registers o
+
+-- no register lies from an offset on below another
+abbrev pub NoneFrom : ℕ → ℕ → Type 0
+NoneFrom from below = (o : ℕ) → from ≤ o → o < below → reg_at o ≡ None

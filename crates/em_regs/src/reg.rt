@@ -1,8 +1,8 @@
 //! The registers by name.
-ghost use Rattle.std.specs.Prelude.{◌≡◌, IfSome, IfNone};
-ghost use Rattle.em_regs.specs.Table.{IsReg, index_of, with_index, offset_of, is_counter, reg_at};
+ghost use Rattle.std.specs.Prelude.{◌≡◌, ◌≤◌, ◌<◌, ◌%◌, ℕ, Option, None, IfSome, IfNone, IsSome};
+ghost use Rattle.em_regs.specs.Table.{IsReg, index_of, with_index, offset_of, is_counter, reg_at, NoneFrom};
 
-use crate::table::{Kind, SPACE, near};
+use crate::table::{Kind, PAGE, SPACE, is_bare, near};
 
 /// A register of the table, by the manual's name (manual, chapter on register descriptions).
 ///
@@ -166,6 +166,24 @@ impl Reg {
             return None;
         }
         Some(near.with_index(index as u8))
+    }
+
+    /// The first offset at or behind an offset (a multiple of 4) in whose 64 octets a register lies;
+    /// none where the table ends before. No register lies between the two.
+    pub fn skip_bare(offset: u32) -> Option<u32>
+        requires { offset % 4 ≡ 0 }
+        ensures found { IfSome result (λ next. (offset ≤ next) × (next < 0x05800) × (next % 4 ≡ 0)) }
+        ensures first { IfSome result (NoneFrom offset) }
+        ensures last { IfNone result ((o : ℕ) → offset ≤ o → reg_at o ≡ None) }
+    {
+        let mut next = offset;
+        while next < SPACE {
+            if !is_bare(next) {
+                return Some(next);
+            }
+            next = PAGE * (next / PAGE + 1);
+        }
+        None
     }
 
     /// Where the register lies, in octets from the first register.

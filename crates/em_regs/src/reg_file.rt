@@ -81,6 +81,7 @@ impl RegFile {
     }
 
     /// Writes a register: the bits of the value that its row of the table keeps are stored.
+    #[inline(always)]
     pub fn put(&mut self, reg: Reg, value: u32) -> RegUndo
         requires { IsStored reg }
         ensures state { self.new ≡ put self.old reg value }
@@ -100,6 +101,7 @@ impl RegFile {
     }
 
     /// Takes back the write that gave out this record, and gives the record that makes it again.
+    #[inline(always)]
     pub fn exchange(&mut self, taken: RegUndo) -> RegUndo
         ensures state { self.new ≡ undo self.old taken }
         ensures reverses { Reverses self.old self.new result }

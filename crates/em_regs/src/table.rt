@@ -1,7 +1,7 @@
 //! The table of the registers: where each lies, what an access does, and which word keeps it.
-ghost use Rattle.std.specs.Prelude.{◌≡◌, ◌<◌};
+ghost use Rattle.std.specs.Prelude.{◌≡◌, ◌<◌, ◌+◌, ◌*◌, ◌/◌, IsTrue};
 ghost use Rattle.em_regs.specs.declared.reg.Reg.{Reg};
-ghost use Rattle.em_regs.specs.Table.{IsReg, row_of, first, offset_of};
+ghost use Rattle.em_regs.specs.Table.{IsReg, row_of, first, offset_of, NoneFrom};
 
 use crate::reg::Reg;
 
@@ -38,6 +38,12 @@ pub struct Row {
 
 /// The registers lie below this offset, each at a multiple of 4 octets.
 pub const SPACE: u32 = 0x05800;
+
+/// How many octets a word has.
+pub(crate) const WORD: u32 = 4;
+
+/// How many octets a page of the table by offset has.
+pub(crate) const PAGE: u32 = 64;
 
 /// How many words the register file has: its next free place.
 pub const STORED_WORDS: usize = 319;
@@ -177,7 +183,7 @@ macro_rules! at {
 /// The pages that differ, each at the first place where it lies.
 #[rattlefmt::skip]
 static PAGES: [[Reg; 16]; 18] = [
-    page![- - - - - - - - - - - - - - - -], // no register
+    page![- - - - - - - - - - - - - - - -], // BARE
     page![Ctrl - Status - - Eerd CtrlExt - - - Fcal Fcah Fct - Vet -], // 0x00000
     page![Icr Itr Ics - Ims - Imc - - - - - - - - -], // 0x000C0
     page![Rctl - - - - - - - - - - - - - - -], // 0x00100
@@ -196,6 +202,9 @@ static PAGES: [[Reg; 16]; 18] = [
     page![Ral Rah Ral Rah Ral Rah Ral Rah Ral Rah Ral Rah Ral Rah Ral Rah], // 0x05400
     page![Vfta Vfta Vfta Vfta Vfta Vfta Vfta Vfta Vfta Vfta Vfta Vfta Vfta Vfta Vfta Vfta], // 0x05600
 ];
+
+/// The page with no register.
+const BARE: u8 = 0;
 
 /// Which page lies at each 64 octets.
 #[rattlefmt::skip]
@@ -229,6 +238,15 @@ pub(crate) fn near(offset: u32) -> Reg
     requires { offset < SPACE }
     ensures { (reg : Reg) → IsReg reg → offset_of reg ≡ offset → result ≡ first reg }
 {
-    let page = PAGE_AT[(offset / 64) as usize];
-    PAGES[usize::from(page)][(offset / 4 % 16) as usize]
+    let page = PAGE_AT[(offset / PAGE) as usize];
+    PAGES[usize::from(page)][(offset / WORD % 16) as usize]
+}
+
+/// Whether the page of the offset is the one with no register.
+pub(crate) fn is_bare(offset: u32) -> bool
+    requires { offset < SPACE }
+    ensures { IsTrue result → NoneFrom (64 * (offset / 64)) (64 * (offset / 64) + 64) }
+{
+    let page = PAGE_AT[(offset / PAGE) as usize];
+    page == BARE
 }

@@ -1,5 +1,6 @@
 -- What cells show with a frame more, and that they are sound.
-use Rattle.std.proofs.Common.{◌≡◌, ℕ, ◌+◌, ◌≤◌, ◌<◌, List, [], ◌∷◌, ◌++◌, length, take, drop, set, sym, ap, ap₂, subst, ◌∙◌, arith, length-set}
+use Rattle.std.proofs.Common.{◌≡◌, ℕ, ◌+◌, ◌≤◌, ◌<◌, List, [], ◌∷◌, ◌++◌, length, take, drop, set, sym, ap, ap₂, subst}
+use Rattle.std.proofs.Common.{◌∙◌, arith, length-set}
 use Rattle.std.proofs.lemmas.List.{take_at, drop_at, length-take-le, take_more_set}
 use Rattle.std.proofs.lemmas.List.Sums.{sum_by_push}
 use Rattle.std.proofs.lemmas.List.Elements.{All-push, All-same}

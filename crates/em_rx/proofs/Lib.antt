@@ -5,3 +5,4 @@ pub mod ArrivalLaws
 pub mod DeliveryLaws
 pub mod StepLaws
 pub mod MadePages
+pub mod PieceLaws

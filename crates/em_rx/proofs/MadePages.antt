@@ -12,10 +12,10 @@ fits_after c m n Nothing more fits = fits
 fits_after c m n (Places places) more fits = fits
 fits_after c m n (Frame patch) more fits = fits
 fits_after c m n (Step patch) more fits = record {
-  first = memory_laws.fits_after m n patch.first more fits.first;
+  first = memory_laws.fits_after m n patch.value.first more fits.first;
   second =
-      memory_laws.fits_after (memory.undo m patch.first) (memory.undo n patch.first) patch.second
-      (memory_laws.undo_after m n patch.first more) fits.second;
+      memory_laws.fits_after (memory.undo m patch.value.first) (memory.undo n patch.value.first) patch.value.second
+      (memory_laws.undo_after m n patch.value.first more) fits.second;
   sound = fits.sound;
 }
 
@@ -26,5 +26,5 @@ undo_after m n Nothing more = more
 undo_after m n (Places places) more = more
 undo_after m n (Frame patch) more = more
 undo_after m n (Step patch) more =
-    memory_laws.undo_after (memory.undo m patch.first) (memory.undo n patch.first) patch.second
-    (memory_laws.undo_after m n patch.first more)
+    memory_laws.undo_after (memory.undo m patch.value.first) (memory.undo n patch.value.first) patch.value.second
+    (memory_laws.undo_after m n patch.value.first more)

@@ -1,5 +1,6 @@
 -- A frame as the FIFO keeps it.
-use Rattle.std.specs.Prelude.{ℕ, ◌+◌, ◌*◌, Bool, true, false, List, ◌++◌, length, take, drop, slice_index, Option, Some, None}
+use Rattle.std.specs.Prelude.{ℕ, ◌+◌, ◌*◌, Bool, true, false, List, ◌++◌, length, take, drop, slice_index, Option, Some}
+use Rattle.std.specs.Prelude.{None}
 
 -- its octets, and the tag where one was taken out of them
 pub record Frame : Type 0 where

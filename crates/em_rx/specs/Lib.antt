@@ -7,3 +7,4 @@ pub mod StepPatch
 pub mod Undo
 pub mod Descriptor
 pub mod Receive
+pub mod Pieces

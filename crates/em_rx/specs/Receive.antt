@@ -1,5 +1,6 @@
 -- The receive engine's step, over what the registers set up, the octets of guest memory and what the FIFO shows.
-use Rattle.std.specs.Prelude.{◌≡◌, ℕ, ◌+◌, ◌-◌, ◌*◌, ◌%◌, ◌==◌, ◌||◌, min, nat_lt, nat_le, if◌then◌else◌, Bool, not, List, length, Result, Ok, Err}
+use Rattle.std.specs.Prelude.{◌≡◌, ℕ, ◌+◌, ◌-◌, ◌*◌, ◌%◌, ◌==◌, ◌||◌, min, nat_lt, nat_le, if◌then◌else◌, Bool, not}
+use Rattle.std.specs.Prelude.{List, length, Result, Ok, Err}
 use Rattle.em_mem.specs.Memory.{part, put}
 use Rattle.em_regs.specs.declared.setup.RxSetup.{RxSetup}
 use Rattle.em_rx.specs.Descriptor.{descriptor_of, written_back}
@@ -50,13 +51,13 @@ causes_of q last =
     + (if (q.tail + q.count - following q) % q.count == q.threshold then 0x10 else 0)
 
 -- what a step leaves: its answer, the octets of guest memory, and what the FIFO shows
-pub record Received : Type 0 where
+pub record Outcome : Type 0 where
   pub answer : RxAnswer
   pub memory : List ℕ
   pub fifo : Fifo
 
 -- a step that writes
-abbrev pub delivery : RxSetup → List ℕ → Fifo → Received
+abbrev pub delivery : RxSetup → List ℕ → Fifo → Outcome
 delivery q memory fifo = record {
   answer = Wrote q.head (following q) (causes_of q (is_last q fifo));
   memory = after_write q memory fifo;
@@ -64,7 +65,7 @@ delivery q memory fifo = record {
 }
 
 -- the step: idle, or refused where the descriptor or then its buffer leaves memory, or a delivery
-abbrev pub receive : RxSetup → List ℕ → Fifo → Result Received RxRefusal
+abbrev pub receive : RxSetup → List ℕ → Fifo → Result Outcome RxRefusal
 receive q memory fifo =
     if is_idle q fifo then Ok (record { answer = Idle; memory = memory; fifo = fifo })
     else if nat_lt (length memory) (descriptor_at q + 16) then Err DmaRange

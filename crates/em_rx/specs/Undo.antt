@@ -43,29 +43,35 @@ pub record IsMove (c : Cells) (places : places.Places) (n : ℕ) : Type 0 where
 abbrev pub Fits : Cells → memory.Cells → RxUndo → Type 0
 Fits c m Nothing = Unit {0}
 Fits c m (Places places) = IsSound (record c { places = places })
-Fits c m (Frame patch) = FitsFrame c patch
-Fits c m (Step patch) = FitsStep c m patch
+Fits c m (Frame patch) = FitsFrame c patch.value
+Fits c m (Step patch) = FitsStep c m patch.value
+
+-- a step's patch takes back the change from the old cells and memory to the new ones
+pub record ReversesStep (old new : Cells) (before after : memory.Cells) (p : StepPatch) : Type 0 where
+  pub fits : FitsStep new after p
+  pub fifo : record new { places = p.places } ≡ old
+  pub memory : with_both after p ≡ before
 
 -- the FIFO's cells with those of the record put back
 abbrev pub undo_fifo : Cells → RxUndo → Cells
 undo_fifo c Nothing = c
 undo_fifo c (Places places) = record c { places = places }
-undo_fifo c (Frame patch) = with_patch c patch
-undo_fifo c (Step patch) = record c { places = patch.places }
+undo_fifo c (Frame patch) = with_patch c patch.value
+undo_fifo c (Step patch) = record c { places = patch.value.places }
 
 -- guest memory with the record's octets put back
 abbrev pub undo_memory : memory.Cells → RxUndo → memory.Cells
 undo_memory m Nothing = m
 undo_memory m (Places places) = m
 undo_memory m (Frame patch) = m
-undo_memory m (Step patch) = with_both m patch
+undo_memory m (Step patch) = with_both m patch.value
 
 -- how many octets the record holds
 abbrev pub octets_held : RxUndo → ℕ
 octets_held Nothing = 0
 octets_held (Places places) = 0
-octets_held (Frame patch) = length patch.octets
-octets_held (Step patch) = length patch.first.octets + length patch.second.octets
+octets_held (Frame patch) = length patch.value.octets
+octets_held (Step patch) = length patch.value.first.octets + length patch.value.second.octets
 
 -- the record takes back the change from the old cells and memory to the new ones
 pub record Reverses (old new : Cells) (before after : memory.Cells) (r : RxUndo) : Type 0 where

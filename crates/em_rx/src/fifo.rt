@@ -4,12 +4,13 @@ ghost use Rattle.em_mem.specs.Memory as memory;
 ghost use Rattle.em_rx.specs.Frame.{stored_frame};
 ghost use Rattle.em_rx.specs.Fifo.{after_arrival, empty, first, fresh, HasRoom, IsFirst, IsSound, next, rest, shows};
 ghost use Rattle.em_rx.specs.Descriptor.{written_back as octets_of};
-ghost use Rattle.em_rx.specs.Undo.{Fits, FitsFrame, FitsStep, IsMove, Reverses, octets_held, undo_fifo, undo_memory, with_both, with_patch};
+ghost use Rattle.em_rx.specs.Undo.{Fits, FitsFrame, FitsStep, IsMove, Reverses, ReversesStep, octets_held, undo_fifo};
+ghost use Rattle.em_rx.specs.Undo.{undo_memory, with_both, with_patch};
 
 use crate::descriptor::written_back;
 use crate::frame::{stored_octets, stored_tag};
 use crate::places::{Entry, Places};
-use crate::ring::{copied, replace, replace_entry, wrap};
+use crate::ring::{copied, exchange_entry, exchange_octets, wrap};
 use crate::{FramePatch, RxRefusal, RxUndo, StepPatch};
 use em_mem::{GuestMemory, MemUndo};
 use std::alloc::{AllocError, Global};
@@ -92,7 +93,9 @@ impl Fifo {
     {
         let octets = stored_octets(self.alloc, frame, tagged)?;
         let patch = self.arrival(octets, stored_tag(frame, tagged));
-        Ok(RxUndo::Frame(self.exchange_frame(patch)))
+        let mut patch = Box::new(self.alloc, patch)?;
+        self.exchange_frame(&mut patch);
+        Ok(RxUndo::Frame(patch))
     }
 
     /// All frames leave. Their octets stay in the buffer until arrivals overwrite them.
@@ -138,37 +141,32 @@ impl Fifo {
         }
     }
 
-    /// Puts a patch in, and gives what it replaced.
-    fn exchange_frame(&mut self, patch: FramePatch) -> FramePatch
-        requires { FitsFrame self.old patch }
-        ensures state { self.new ≡ with_patch self.old patch }
-        ensures held { length result.octets ≡ length patch.octets }
-        ensures reverses { FitsFrame self.new result × (with_patch self.new result ≡ self.old) }
+    /// Puts a patch in, and leaves what it replaced in the patch.
+    fn exchange_frame(&mut self, patch: &mut FramePatch)
+        requires { FitsFrame self.old patch.old }
+        ensures state { self.new ≡ with_patch self.old patch.old }
+        ensures held { length patch.new.octets ≡ length patch.old.octets }
+        ensures reverses { FitsFrame self.new patch.new × (with_patch self.new patch.new ≡ self.old) }
     {
-        FramePatch {
-            octets: replace(&mut self.octets, patch.at as usize, patch.octets),
-            at: patch.at,
-            entry: replace_entry(&mut self.entries, patch.index as usize, patch.entry),
-            index: patch.index,
-            places: std::mem::replace(&mut self.places, patch.places),
-        }
+        exchange_octets(&mut self.octets, patch.at as usize, &mut patch.octets);
+        exchange_entry(&mut self.entries, patch.index as usize, &mut patch.entry);
+        std::mem::swap(&mut self.places, &mut patch.places);
     }
 
-    /// Puts a step's patch in, and gives what it replaced: what was put in last is put back first.
-    pub(crate) fn exchange_step(&mut self, memory: &mut GuestMemory, patch: StepPatch) -> StepPatch
-        requires { FitsStep self.old memory.old patch }
-        ensures fifo { self.new ≡ record self.old { places = patch.places } }
-        ensures memory { memory.new ≡ with_both memory.old patch }
-        ensures held { octets_held (RxUndo.Step result) ≡ octets_held (RxUndo.Step patch) }
-        ensures reverses { Reverses self.old self.new memory.old memory.new (RxUndo.Step result) }
+    /// Puts a step's patch in, and leaves what it replaced in the patch: what was put in last is to be
+    /// put back first.
+    pub(crate) fn exchange_step(&mut self, memory: &mut GuestMemory, patch: &mut StepPatch)
+        requires { FitsStep self.old memory.old patch.old }
+        ensures fifo { self.new ≡ record self.old { places = patch.old.places } }
+        ensures memory { memory.new ≡ with_both memory.old patch.old }
+        ensures first { length patch.new.first.octets ≡ length patch.old.second.octets }
+        ensures second { length patch.new.second.octets ≡ length patch.old.first.octets }
+        ensures reverses { ReversesStep self.old self.new memory.old memory.new patch.new }
     {
-        let older = memory.exchange(patch.first);
-        let newer = memory.exchange(patch.second);
-        StepPatch {
-            first: newer,
-            second: older,
-            places: std::mem::replace(&mut self.places, patch.places),
-        }
+        exchange_memory(self.alloc, memory, &mut patch.first);
+        exchange_memory(self.alloc, memory, &mut patch.second);
+        std::mem::swap(&mut patch.first, &mut patch.second);
+        std::mem::swap(&mut self.places, &mut patch.places);
     }
 
     /// Whether no frame waits.
@@ -241,25 +239,28 @@ impl Fifo {
         count: u32,
         written_at: u64,
         last: bool,
-    ) -> Result<StepPatch, AllocError>
+    ) -> Result<Box<StepPatch>, RxRefusal>
         requires some { 0 < length (shows self.now).frames }
         requires count { count ≤ rest (shows self.now) }
         requires most { count ≤ 16_384 }
         ensures first { IfOk result (λ patch.
-            patch.first ≡ record { at = buffer; octets = next (shows self.now) count }) }
+            patch.value.first ≡ record { at = buffer; octets = next (shows self.now) count }) }
         ensures second { IfOk result (λ patch.
-            patch.second ≡ record { at = written_at; octets = octets_of count last (first (shows self.now)).tag }) }
-        ensures count { IfOk result (λ patch. length patch.first.octets ≡ count) }
-        ensures moves { IfOk result (λ patch. IsMove self.now patch.places count) }
+            patch.value.second
+            ≡ record { at = written_at; octets = octets_of count last (first (shows self.now)).tag }) }
+        ensures count { IfOk result (λ patch. length patch.value.first.octets ≡ count) }
+        ensures moves { IfOk result (λ patch. IsMove self.now patch.value.places count) }
+        ensures refused { IfErr result (λ refusal. refusal ≡ RxRefusal.Memory) }
     {
         let piece = self.piece(count)?;
         let octets = written_back(count as u16, last, self.first_entry().tag);
         let written = Vec::from_slice(self.alloc, octets.as_slice())?;
-        Ok(StepPatch {
+        let patch = StepPatch {
             first: MemUndo::new(buffer, piece),
             second: MemUndo::new(written_at, written),
             places: self.places_after(count),
-        })
+        };
+        Ok(Box::new(self.alloc, patch)?)
     }
 
     /// Takes back the change that gave out this record, and gives the record that makes it again. It
@@ -274,8 +275,14 @@ impl Fifo {
         match taken {
             RxUndo::Nothing => RxUndo::Nothing,
             RxUndo::Places(places) => RxUndo::Places(self.exchange_places(places)),
-            RxUndo::Frame(patch) => RxUndo::Frame(self.exchange_frame(patch)),
-            RxUndo::Step(patch) => RxUndo::Step(self.exchange_step(memory, patch)),
+            RxUndo::Frame(mut patch) => {
+                self.exchange_frame(&mut patch);
+                RxUndo::Frame(patch)
+            }
+            RxUndo::Step(mut patch) => {
+                self.exchange_step(memory, &mut patch);
+                RxUndo::Step(patch)
+            }
         }
     }
 
@@ -296,4 +303,16 @@ impl Fifo {
     {
         let _again = self.exchange(memory, taken);
     }
+}
+
+/// Puts octets into guest memory, and leaves those that lay there in their place.
+fn exchange_memory(alloc: Global, guest: &mut GuestMemory, octets: &mut MemUndo)
+    requires { memory.Fits guest.old octets.old }
+    ensures state { guest.new ≡ memory.undo guest.old octets.old }
+    ensures len { length octets.new.octets ≡ length octets.old.octets }
+    ensures reverses { memory.Reverses guest.old guest.new octets.new }
+{
+    let none = MemUndo::new(0, Vec::new(alloc));
+    let taken = std::mem::replace(octets, none);
+    *octets = guest.exchange(taken);
 }

@@ -119,15 +119,15 @@ impl Fifo {
             return Err(RxRefusal::DmaRange);
         }
         let last = rest <= setup.buffer;
-        let patch = self.delivery(buffer, count, descriptor + WRITTEN_AT, last)?;
+        let mut patch = self.delivery(buffer, count, descriptor + WRITTEN_AT, last)?;
         memory.touch(buffer, count as u64)?;
         memory.touch(descriptor + WRITTEN_AT, WRITTEN_OCTETS)?;
-        let undo = RxUndo::Step(self.exchange_step(memory, patch));
+        self.exchange_step(memory, &mut patch);
         let answer = RxAnswer::Wrote {
             index: setup.head,
             next: following(&setup),
             causes: causes_of(&setup, last),
         };
-        Ok((answer, undo))
+        Ok((answer, RxUndo::Step(patch)))
     }
 }

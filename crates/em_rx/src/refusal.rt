@@ -2,7 +2,7 @@
 ghost use Rattle.std.specs.Prelude.{◌≡◌};
 
 use em_mem::MemRefusal;
-use std::alloc::AllocError;
+use std::alloc::{AllocError, AllocFailed};
 
 /// Why a receive step was not made, or a frame not stored.
 #[derive(Clone, Copy, Debug, PartialEq, Eq)]
@@ -43,6 +43,17 @@ impl From<MemRefusal> for RxRefusal {
 
     /// A page that is not made is `Memory`: no step asks for memory of another size.
     fn from(_refusal: MemRefusal) -> RxRefusal {
+        RxRefusal::Memory
+    }
+}
+
+impl<T: Drop> From<AllocFailed<T>> for RxRefusal {
+    ghost use Rattle.std.specs.Prelude.{◌≡◌};
+    ghost use Rattle.em_rx.specs.declared.refusal.RxRefusal.TheVariants.{Memory};
+
+    ghost from_gives = { λ _ refusal. refusal ≡ Memory };
+
+    fn from(_failed: AllocFailed<T>) -> RxRefusal {
         RxRefusal::Memory
     }
 }

@@ -33,25 +33,23 @@ pub(crate) fn copied(
     Ok(octets)
 }
 
-/// Puts the octets into the ring from `at` on, and gives those that lay there.
-pub(crate) fn replace(ring: &mut Vec<u8>, at: usize, octets: Vec<u8>) -> Vec<u8>
+/// Exchanges the octets with those that lie in the ring from `at` on.
+pub(crate) fn exchange_octets(ring: &mut Vec<u8>, at: usize, octets: &mut Vec<u8>)
     requires at { at ≤ length ring.old.items }
-    requires size { length octets.items ≤ length ring.old.items }
-    ensures ring { ring.new.items ≡ ring_put ring.old.items at octets.items }
-    ensures octets { result.items ≡ ring_part ring.old.items at (length octets.items) }
+    requires size { length octets.old.items ≤ length ring.old.items }
+    ensures ring { ring.new.items ≡ ring_put ring.old.items at octets.old.items }
+    ensures octets { octets.new.items ≡ ring_part ring.old.items at (length octets.old.items) }
 {
-    let mut octets = octets;
     exchange(ring.as_mut_slice(), at, octets.as_mut_slice());
-    octets
 }
 
-/// Puts the entry into its place in the ring, and gives the one that lay there.
-pub(crate) fn replace_entry(ring: &mut Vec<Entry>, index: usize, entry: Entry) -> Entry
+/// Exchanges the entry with the one that lies at its place in the ring.
+pub(crate) fn exchange_entry(ring: &mut Vec<Entry>, index: usize, entry: &mut Entry)
     requires { index < length ring.old.items }
-    ensures ring { ring.new.items ≡ set ring.old.items index entry }
-    ensures entry { result ≡ get_or ring.old.items index entry }
+    ensures ring { ring.new.items ≡ set ring.old.items index entry.old }
+    ensures entry { entry.new ≡ get_or ring.old.items index entry.old }
 {
-    std::mem::replace(&mut ring[index], entry)
+    std::mem::swap(&mut ring[index], entry);
 }
 
 /// Exchanges the octets with those that lie in the ring from `at` on.

@@ -84,10 +84,11 @@ pub enum RxUndo {
     Nothing,
     /// The places, of a FIFO that was cleared.
     Places(Places),
-    /// What an arrival overwrote, and the places before it.
-    Frame(FramePatch),
+    /// What an arrival overwrote, and the places before it: in a box, as the next, so that records stay
+    /// small.
+    Frame(Box<FramePatch>),
     /// What a receive step overwrote in guest memory, and the places before it.
-    Step(StepPatch),
+    Step(Box<StepPatch>),
 }
 
 impl RxUndo {

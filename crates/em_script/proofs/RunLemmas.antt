@@ -150,7 +150,8 @@ Ran-fails {behind = behind} {first = first} {now = now} {old = old} {mid = mid} 
       session = ea ∙ ap (after_played x) ran.session;
       octets = cut.octets;
       part = cut.part;
-      written = Appends-more old mid new (text_from 1 before first) (take cut.octets own) _ ran.written cut.written refl;
+      written = Appends-more old mid new (text_from 1 before first) (take cut.octets own) _ ran.written cut.written
+          refl;
     }
 
 -- the memory for a line's octets was refused

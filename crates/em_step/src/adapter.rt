@@ -181,6 +181,7 @@ impl Adapter {
 
     /// Takes an event back by its record, and gives the record that makes its change again. It takes
     /// no memory.
+    #[inline(always)]
     pub fn exchange(&mut self, taken: Undo) -> Undo
         requires { Fits self.old taken }
         ensures state { self.new ≡ undo self.old taken }
@@ -300,6 +301,7 @@ impl Adapter {
     }
 
     /// Stores what a register's row keeps of a value.
+    #[inline(always)]
     fn store(&mut self, reg: Reg, value: u32) -> Undo
         requires reg { IsReg reg }
         requires kept { IsStored reg ⊎ IsLatched reg }

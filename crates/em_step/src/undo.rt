@@ -49,6 +49,7 @@ pub struct BeforeReset {
 
 impl Undo {
     /// The record of an event that changed words of the latches alone.
+    #[inline(always)]
     pub(crate) fn of_latches(latches: LatchUndo) -> Undo
         ensures { result ≡ record { latches = latches; part = Part.Nothing } }
     {
@@ -59,6 +60,7 @@ impl Undo {
     }
 
     /// The record of an event that changed no word of the latches beside its part.
+    #[inline(always)]
     pub(crate) fn of_part(part: Part) -> Undo
         ensures { result ≡ record { latches = []; part = part } }
     {

@@ -1,6 +1,26 @@
 -- What a step costs at most.
-use Rattle.std.proofs.Common.{◌≡◌, ◌⊎◌, ℕ, ◌+◌, ◌<◌, ◌≤◌, Bool, true, false, cond, ◌&&◌, List, length, take, drop, Option, Some, None, Result, Ok, Err, refl, ap, ◌∙◌, arith}
-use Rattle.std.specs.Prelude.{nat_lt, min}
+use Rattle.std.proofs.Common.{
+  ◌≡◌,
+  ℕ,
+  ◌+◌,
+  ◌≤◌,
+  Bool,
+  true,
+  false,
+  cond,
+  List,
+  length,
+  drop,
+  Option,
+  Some,
+  None,
+  Result,
+  Ok,
+  Err,
+  refl,
+  arith,
+}
+use Rattle.std.specs.Prelude.{nat_lt}
 use Rattle.std.proofs.Common.{length-append}
 use Rattle.std.proofs.lemmas.List.{length-take}
 use Rattle.std.proofs.lemmas.Bool.Decides.{nat_tests}
@@ -17,7 +37,8 @@ use Rattle.em_tx.specs.Frame.{frame}
 use Rattle.em_tx.specs.Ring.{is_idle, place}
 use Rattle.em_tx.proofs.FrameLaws.{parts, frame_len_most}
 
-few_by_test : (a b : Bool) (rest : Option TxRefusal) → cond a (Some Extended) (cond b (Some TooLong) rest) ≡ None → b ≡ false
+few_by_test : (a b : Bool) (rest : Option TxRefusal)
+    → cond a (Some Extended) (cond b (Some TooLong) rest) ≡ None → b ≡ false
 few_by_test true b rest is = cc
 few_by_test false true rest is = cc
 few_by_test false false rest is = refl
@@ -26,7 +47,8 @@ few_by_test false false rest is = refl
 few : (g m d : List ℕ) → refusal g m d ≡ None → length g + length_of d ≤ 16380
 unfolding refusal
 few g m d none =
-    let small : nat_lt 16380 (length g + length_of d) ≡ false = few_by_test (dext d) (nat_lt 16380 (length g + length_of d)) _ none in
+    let small : nat_lt 16380 (length g + length_of d) ≡ false
+    = few_by_test (dext d) (nat_lt 16380 (length g + length_of d)) _ none in
     grind (arith, nat_tests)
 
 of_flags : (b c : Bool) (n f : ℕ) → n ≤ 16380 → f ≤ 16384 → n + cond b 1 0 + cond c f 0 ≤ 32765
@@ -35,16 +57,20 @@ of_flags true false n f little short = omega arith
 of_flags false true n f little short = omega arith
 of_flags false false n f little short = omega arith
 
-pub handling_most : (q : TxSetup) (d : List ℕ) (s : Shown) → length s.gathered + length_of d ≤ 16380 → handling_cost q d s ≤ 32765
+pub handling_most : (q : TxSetup) (d : List ℕ) (s : Shown)
+    → length s.gathered + length_of d ≤ 16380 → handling_cost q d s ≤ 32765
 handling_most q d s small =
     let octets = gather s d in
-    let read : length (part s.memory (address d) (length_of d)) ≤ length_of d = omega (arith, length-take (length_of d) (drop (address d) s.memory)) in
-    let all : length octets ≤ 16380 = omega (arith, length-append s.gathered (part s.memory (address d) (length_of d))) in
-    let short : length (frame q d octets) ≤ 16384 = omega (arith, (parts q d octets).size, frame_len_most q d (length octets) all) in
+    let read : length (part s.memory (address d) (length_of d)) ≤ length_of d
+    = omega (arith, length-take (length_of d) (drop (address d) s.memory)) in
+    let all : length octets ≤ 16380
+    = omega (arith, length-append s.gathered (part s.memory (address d) (length_of d))) in
+    let short : length (frame q d octets) ≤ 16384
+    = omega (arith, (parts q d octets).size, frame_len_most q d (length octets) all) in
     of_flags (rs d) (sends d (length octets)) (length_of d) (length (frame q d octets)) (omega arith) short
 
-of_idle : (b : Bool) (x : Result (TxAnswer × Shown) TxRefusal) (s : Shown) (r : TxAnswer × Shown) (n : ℕ) → (x ≡ Ok r → n ≤ 32765)
-    → cond b (Ok (Idle, s)) x ≡ Ok r → cond b 0 n ≤ 32765
+of_idle : (b : Bool) (x : Result (TxAnswer × Shown) TxRefusal) (s : Shown) (r : TxAnswer × Shown) (n : ℕ)
+    → (x ≡ Ok r → n ≤ 32765) → cond b (Ok (Idle, s)) x ≡ Ok r → cond b 0 n ≤ 32765
 of_idle true x s r n then is = omega arith
 of_idle false x s r n then is = then is
 
@@ -53,7 +79,8 @@ of_range : (b : Bool) (x : Result (TxAnswer × Shown) TxRefusal) (r : TxAnswer �
 of_range true x r n then is = cc
 of_range false x r n then is = then is
 
-of_refusal : (o : Option TxRefusal) (y r : TxAnswer × Shown) (n : ℕ) → (o ≡ None → n ≤ 32765) → unless o y ≡ Ok r → n ≤ 32765
+of_refusal : (o : Option TxRefusal) (y r : TxAnswer × Shown) (n : ℕ)
+    → (o ≡ None → n ≤ 32765) → unless o y ≡ Ok r → n ≤ 32765
 of_refusal None y r n then is = then refl
 of_refusal (Some refused) y r n then is = cc
 
@@ -61,6 +88,8 @@ pub cost_most : (q : TxSetup) (s : Shown) (r : TxAnswer × Shown) → transmit q
 unfolding transmit
 cost_most q s r is =
     let d = part s.memory (place q) 16 in
-    of_idle (is_idle q) _ s r (handling_cost q d s)
-    (of_range (nat_lt (length s.memory) (place q + 16)) _ r (handling_cost q d s)
-    (of_refusal (refusal s.gathered s.memory d) (handle q d s) r (handling_cost q d s) (λ none. handling_most q d s (few s.gathered s.memory d none)))) is
+    let n = handling_cost q d s in
+    let small = λ (none : refusal s.gathered s.memory d ≡ None). handling_most q d s (few s.gathered s.memory d none) in
+    of_idle (is_idle q) _ s r n
+    (of_range (nat_lt (length s.memory) (place q + 16)) _ r n
+    (of_refusal (refusal s.gathered s.memory d) (handle q d s) r n small)) is

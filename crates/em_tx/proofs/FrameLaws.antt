@@ -1,6 +1,6 @@
 -- Frames made of gathered octets, and taken apart again.
-use Rattle.std.proofs.Common.{◌≡◌, ℕ, ◌+◌, ◌-◌, ◌<◌, ◌≤◌, Bool, true, false, cond, ◌&&◌, List, [], ◌∷◌, ◌++◌}
-use Rattle.std.proofs.Common.{length, take, drop, Option, Some, None, refl, sym, ap, ◌∙◌, subst, arith, length-append}
+use Rattle.std.proofs.Common.{◌≡◌, ℕ, ◌+◌, ◌-◌, ◌<◌, ◌≤◌, Bool, true, false, cond, ◌&&◌, List, [], ◌++◌}
+use Rattle.std.proofs.Common.{length, take, drop, Option, Some, None, refl, sym, ap, ◌∙◌, arith, length-append}
 use Rattle.std.proofs.Common.{append_assoc, append-nil}
 use Rattle.std.specs.Prelude.{replicate, max, is_some, nat_le}
 use Rattle.std.proofs.lemmas.List.{take_at, drop_at, take_all, length-take-le, take-append-drop, length-replicate}
@@ -8,34 +8,38 @@ use Rattle.std.proofs.lemmas.Bool.Decides.{nat_tests}
 use Rattle.byteorder.specs.Endian.{big_bytes}
 use Rattle.em_regs.specs.declared.setup.TxSetup.{TxSetup}
 use Rattle.em_tx.specs.Descriptor.{special, vle}
-use Rattle.em_tx.specs.Frame.{tag_of, with_tag, padded, frame, frame_len, without_tag}
+use Rattle.em_tx.specs.Frame.{tag_of, with_tag, with_padding, frame, frame_len, without_tag}
 
 -- octets that were filled up are padded
-pub padded_by_resize : (o r : List ℕ) (n : ℕ) (b : Bool) → b ≡ true → n ≡ length o → n < 60
-    → r ≡ take 60 o ++ replicate (60 - n) 0 → r ≡ padded b o
-padded_by_resize o r n b wanted size short is =
+pub with_padding-resize : (o : List ℕ) {r : List ℕ} {n : ℕ} (b : Bool) → b ≡ true → n ≡ length o → n < 60
+    → r ≡ take 60 o ++ replicate (60 - n) 0 → r ≡ with_padding b o
+with_padding-resize o {r = r} {n = n} b wanted size short is =
     let whole : take 60 o ≡ o = take_all 60 o (omega arith) in
-    is ∙ (λ i. whole i ++ replicate (60 - size i) 0) ∙ sym (ap (λ c. padded c o) wanted)
+    is ∙ (λ i. whole i ++ replicate (60 - size i) 0) ∙ sym (ap (λ c. with_padding c o) wanted)
 
 -- what padding adds
 abbrev zeros : Bool → ℕ → List ℕ
 zeros true n = replicate (60 - n) 0
 zeros false n = []
 
-padded_is : (b : Bool) (o : List ℕ) → padded b o ≡ o ++ zeros b (length o)
-padded_is true o = refl
-padded_is false o = sym (append-nil o)
+with_padding-is : (b : Bool) (o : List ℕ) → with_padding b o ≡ o ++ zeros b (length o)
+with_padding-is true o = refl
+with_padding-is false o = sym (append-nil o)
 
-length-padded : (b : Bool) (o : List ℕ) → length (padded b o) ≡ cond b (max (length o) 60) (length o)
-length-padded true o = omega (arith, length-append o (replicate (60 - length o) 0), length-replicate {A = ℕ} (60 - length o) 0)
-length-padded false o = refl
+length-with_padding : (b : Bool) (o : List ℕ) → length (with_padding b o) ≡ cond b (max (length o) 60) (length o)
+length-with_padding true o =
+    omega (arith, length-append o (replicate (60 - length o) 0), length-replicate {A = ℕ} (60 - length o) 0)
+length-with_padding false o = refl
 
 -- a tag has four octets, and lies among at least twelve
-tag_size : (vlan : Option ℕ) (d : List ℕ) (n : ℕ) (tag : List ℕ) → tag_of vlan d n ≡ Some tag → (length tag ≡ 4) × (12 ≤ n)
+tag_size : (vlan : Option ℕ) (d : List ℕ) (n : ℕ) (tag : List ℕ)
+    → tag_of vlan d n ≡ Some tag → (length tag ≡ 4) × (12 ≤ n)
 tag_size None d n tag is = cc
 tag_size (Some vet) d n tag is = of_test (vle d) (nat_le 12 n) refl is
   where
-    of_test : (b c : Bool) → nat_le 12 n ≡ c → cond (b && c) (Some (big_bytes 2 vet ++ big_bytes 2 (special d))) None ≡ Some tag → (length tag ≡ 4) × (12 ≤ n)
+    of_test : (b c : Bool) → nat_le 12 n ≡ c
+        → cond (b && c) (Some (big_bytes 2 vet ++ big_bytes 2 (special d))) None ≡ Some tag
+        → (length tag ≡ 4) × (12 ≤ n)
     of_test true true long e =
         let same : big_bytes 2 vet ++ big_bytes 2 (special d) ≡ tag = cc in
         (ap length (sym same), grind (arith, nat_tests))
@@ -48,10 +52,12 @@ untag o tag z four long =
     let front : length (take 12 o) ≡ 12 = length-take-le 12 o long in
     let all : with_tag (Some tag) o ++ z ≡ take 12 o ++ (tag ++ (drop 12 o ++ z))
     = append_assoc (take 12 o) (tag ++ drop 12 o) z ∙ ap (λ t. take 12 o ++ t) (append_assoc tag (drop 12 o) z) in
-    let head : take 12 (with_tag (Some tag) o ++ z) ≡ take 12 o = ap (take 12) all ∙ take_at (take 12 o) (tag ++ (drop 12 o ++ z)) 12 front in
+    let head : take 12 (with_tag (Some tag) o ++ z) ≡ take 12 o
+    = ap (take 12) all ∙ take_at (take 12 o) (tag ++ (drop 12 o ++ z)) 12 front in
     let sixteen : length (take 12 o ++ tag) ≡ 16 = length-append (take 12 o) tag ∙ omega arith in
     let tail : drop 16 (with_tag (Some tag) o ++ z) ≡ drop 12 o ++ z
-    = ap (drop 16) (all ∙ sym (append_assoc (take 12 o) tag (drop 12 o ++ z))) ∙ drop_at (take 12 o ++ tag) (drop 12 o ++ z) 16 sixteen in
+    = ap (drop 16) (all ∙ sym (append_assoc (take 12 o) tag (drop 12 o ++ z)))
+    ∙ drop_at (take 12 o ++ tag) (drop 12 o ++ z) 16 sixteen in
     (λ i. head i ++ tail i) ∙ sym (append_assoc (take 12 o) (drop 12 o) z) ∙ ap (λ t. t ++ z) (take-append-drop 12 o)
 
 -- a frame without its tag is the gathered octets and then the padding
@@ -65,8 +71,8 @@ parts_of : (q : TxSetup) (d o : List ℕ) (t : Option (List ℕ)) → tag_of q.v
 unfolding frame
 parts_of q d o None is = record {
   padding = zeros q.pad (length o);
-  rest = rw is (padded_is q.pad o);
-  size = rw is (length-padded q.pad o);
+  rest = rw is (with_padding-is q.pad o);
+  size = rw is (length-with_padding q.pad o);
   tagged = rw is (omega arith);
 }
 parts_of q d o (Some tag) is =
@@ -74,17 +80,26 @@ parts_of q d o (Some tag) is =
     let m = with_tag (Some tag) o in
     let front : length (take 12 o) ≡ 12 = length-take-le 12 o fits.1 in
     let size : length m ≡ length o + 4
-    = length-append (take 12 o) (tag ++ drop 12 o) ∙ omega (arith, length-append tag (drop 12 o), length-append (take 12 o) (drop 12 o), ap length (take-append-drop 12 o), fits.0) in
-    let whole : length (padded q.pad m) ≡ cond q.pad (max (length o + 4) 60) (length o + 4) = length-padded q.pad m ∙ ap (λ n. cond q.pad (max n 60) n) size in
+    = length-append (take 12 o) (tag ++ drop 12 o)
+    ∙ omega (
+      arith,
+      length-append tag (drop 12 o),
+      length-append (take 12 o) (drop 12 o),
+      ap length (take-append-drop 12 o),
+      fits.0,
+    ) in
+    let whole : length (with_padding q.pad m) ≡ cond q.pad (max (length o + 4) 60) (length o + 4)
+    = length-with_padding q.pad m ∙ ap (λ n. cond q.pad (max n 60) n) size in
     record {
       padding = zeros q.pad (length m);
-      rest = rw is (ap (without_tag true) (padded_is q.pad m) ∙ untag o tag (zeros q.pad (length m)) fits.0 fits.1);
+      rest = rw is (ap (without_tag true) (with_padding-is q.pad m)
+          ∙ untag o tag (zeros q.pad (length m)) fits.0 fits.1);
       size = rw is whole;
       tagged = rw is (at_least q.pad m (omega arith));
     }
   where
-    at_least : (b : Bool) (m : List ℕ) → 16 ≤ length m → 16 ≤ length (padded b m)
-    at_least b m long = omega (arith, ap length (padded_is b m), length-append m (zeros b (length m)))
+    at_least : (b : Bool) (m : List ℕ) → 16 ≤ length m → 16 ≤ length (with_padding b m)
+    at_least b m long = omega (arith, ap length (with_padding-is b m), length-append m (zeros b (length m)))
 
 pub parts : (q : TxSetup) (d o : List ℕ) → Parts q d o
 parts q d o = parts_of q d o (tag_of q.vlan d (length o)) refl

@@ -25,6 +25,3 @@ pub record MorePages (c d : Cells) : Type 0 where
   pub gathered : d.gathered ≡ c.gathered
   pub wire : d.wire ≡ c.wire
   pub memory : mem.MorePages c.memory d.memory
-
-abbrev pub shown : List ℕ → List (List ℕ) → mem.Cells → Shown
-shown g w m = shows (cells g w m)

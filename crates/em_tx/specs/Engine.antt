@@ -1,5 +1,30 @@
 -- One step of the transmit engine.
-use Rattle.std.specs.Prelude.{◌≡◌, ◌⊎◌, ◌≤◌, ◌<◌, ℕ, ◌+◌, ◌&&◌, nat_lt, not, Bool, List, [], ◌∷◌, ◌++◌, length, if◌then◌else◌, Option, Some, None, Result, Ok, Err, IsOk, IsTrue}
+use Rattle.std.specs.Prelude.{
+  ◌≡◌,
+  ◌⊎◌,
+  ◌≤◌,
+  ◌<◌,
+  ℕ,
+  ◌+◌,
+  ◌&&◌,
+  nat_lt,
+  not,
+  Bool,
+  List,
+  [],
+  ◌∷◌,
+  ◌++◌,
+  length,
+  if◌then◌else◌,
+  Option,
+  Some,
+  None,
+  Result,
+  Ok,
+  Err,
+  IsOk,
+  IsTrue,
+}
 use Rattle.em_mem.specs.Memory.{IsHeld, part, put}
 use Rattle.em_regs.specs.declared.setup.TxSetup.{TxSetup}
 use Rattle.em_tx.specs.declared.answer.TxAnswer.{TxAnswer}
@@ -39,8 +64,10 @@ sends d n = eop d && nat_lt 0 n
 
 -- the octets stay gathered
 abbrev pub fetch : TxSetup → List ℕ → Shown → List ℕ → TxAnswer × Shown
-fetch q d s octets =
-    (Fetched q.head (next q) (causes q d), record { gathered = octets; wire = s.wire; memory = report (place q) d s.memory })
+fetch q d s octets = (
+  Fetched q.head (next q) (causes q d),
+  record { gathered = octets; wire = s.wire; memory = report (place q) d s.memory },
+)
 
 -- a frame goes last to the wire, and nothing is gathered
 abbrev pub send : TxSetup → List ℕ → Shown → List ℕ → TxAnswer × Shown

@@ -1,5 +1,25 @@
--- A frame as it is sent: with its VLAN tag, and padded.
-use Rattle.std.specs.Prelude.{ℕ, ◌+◌, ◌-◌, ◌&&◌, nat_le, nat_lt, max, Bool, List, ◌++◌, length, take, drop, replicate, if◌then◌else◌, Option, Some, None, is_some}
+-- A frame as it is sent: with its VLAN tag, and with_padding.
+use Rattle.std.specs.Prelude.{
+  ℕ,
+  ◌+◌,
+  ◌-◌,
+  ◌&&◌,
+  nat_le,
+  nat_lt,
+  max,
+  Bool,
+  List,
+  ◌++◌,
+  length,
+  take,
+  drop,
+  replicate,
+  if◌then◌else◌,
+  Option,
+  Some,
+  None,
+  is_some,
+}
 use Rattle.byteorder.specs.Endian.{big_bytes}
 use Rattle.em_regs.specs.declared.setup.TxSetup.{TxSetup}
 use Rattle.em_filter.specs.declared.kind.Kind.{Kind}
@@ -19,12 +39,12 @@ with_tag None octets = octets
 with_tag (Some tag) octets = take 12 octets ++ (tag ++ drop 12 octets)
 
 -- zero octets are added up to 60
-abbrev pub padded : Bool → List ℕ → List ℕ
-padded pad octets = if pad then octets ++ replicate (60 - length octets) 0 else octets
+abbrev pub with_padding : Bool → List ℕ → List ℕ
+with_padding pad octets = if pad then octets ++ replicate (60 - length octets) 0 else octets
 
 -- the gathered octets as they are sent: the tag first, then the padding
 unfoldable pub frame : TxSetup → List ℕ → List ℕ → List ℕ
-frame q d octets = padded q.pad (with_tag (tag_of q.vlan d (length octets)) octets)
+frame q d octets = with_padding q.pad (with_tag (tag_of q.vlan d (length octets)) octets)
 
 -- the kind of the destination of a sent frame; one that is too short for a destination counts as unicast
 unfoldable pub kind_sent : List ℕ → Kind

@@ -1,9 +1,23 @@
 -- What a record of the transmit side says, and when it can be said.
-use Rattle.std.specs.Prelude.{◌≡◌, ◌≤◌, ◌<◌, ℕ, ◌+◌, ◌-◌, Bool, List, length, take, slice_index_or, if◌then◌else◌, Option, Some, None, []}
+use Rattle.std.specs.Prelude.{
+  ◌≡◌,
+  ◌≤◌,
+  ◌<◌,
+  ℕ,
+  ◌-◌,
+  List,
+  length,
+  take,
+  slice_index_or,
+  if◌then◌else◌,
+  Option,
+  Some,
+  None,
+  [],
+}
 use Rattle.em_mem.specs.Memory as mem
 use Rattle.em_tx.specs.Cells.{Cells, MorePages, cells}
 use Rattle.em_tx.specs.Frame.{without_tag}
-use Rattle.em_tx.specs.Transfer.{Transfer}
 use Rattle.em_tx.specs.declared.undo.TxUndo.{TxUndo}
 use Rattle.em_tx.specs.declared.undo.TxUndo.TheVariants.{Nothing, Fetch, Send, Clear}
 

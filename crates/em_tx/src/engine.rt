@@ -1,11 +1,13 @@
 //! One step of the transmit engine.
-ghost use Rattle.std.specs.Prelude.{◌≡◌, ◌+◌, ◌<◌, ◌≤◌, ◌++◌, ◌∷◌, [], IfErr, IfNone, IfOk, IsTrue, None, Ok, OnErr, OnOk, false, is_some, length, vec_capacity, vec_len};
+ghost use Rattle.std.specs.Prelude.{◌≡◌, ◌+◌, ◌<◌, ◌≤◌, ◌++◌, ◌∷◌, [], IfErr, IfNone, IfOk, IsTrue, None, Ok, OnErr};
+ghost use Rattle.std.specs.Prelude.{OnOk, false, is_some, length, vec_capacity, vec_len};
 ghost use Rattle.em_mem.specs.Memory as mem;
 ghost use Rattle.em_mem.specs.Memory.{IsHeld, IsMade, part};
-ghost use Rattle.em_tx.specs.Cells.{MorePages, cells, shown};
+ghost use Rattle.em_tx.specs.Cells.{MorePages, cells, shows};
 ghost use Rattle.em_tx.specs.Descriptor.{address, length_of, rs};
-ghost use Rattle.em_tx.specs.Engine.{Allows, Refuses, cost, handle, handling_cost, refusal, report, room, sends, transmit};
-ghost use Rattle.em_tx.specs.Frame.{frame, kind_sent, tag_of};
+ghost use Rattle.em_tx.specs.Engine.{Allows, Refuses, cost, handle, handling_cost, refusal, report, room, sends};
+ghost use Rattle.em_tx.specs.Engine.{transmit};
+ghost use Rattle.em_tx.specs.Frame.{frame, frame_len, kind_sent, tag_of};
 ghost use Rattle.em_tx.specs.Ring.{is_idle, place};
 ghost use Rattle.em_tx.specs.Undo.{Reverses, StatusReverses, cost_of};
 ghost use Rattle.em_tx.specs.Wire.{plain};
@@ -38,11 +40,15 @@ pub fn step(
     memory: &mut GuestMemory,
     setup: TxSetup,
 ) -> Result<(TxAnswer, TxUndo), TxRefusal>
-    ensures ok { IfOk result (λ r. transmit setup (shown gather.old wire.old memory.old) ≡ Ok (r.0, shown gather.new wire.new memory.new)) }
-    ensures cost { IfOk result (λ r. cost_of r.1 ≡ cost setup (shown gather.old wire.old memory.old)) }
-    ensures reverses { IfOk result (λ r. Reverses (cells gather.old wire.old memory.old) (cells gather.new wire.new memory.new) r.1) }
-    ensures err { IfErr result (Refuses setup (shown gather.old wire.old memory.old)) }
-    ensures same { OnErr result (MorePages (cells gather.old wire.old memory.old) (cells gather.new wire.new memory.new)) }
+    ensures ok { IfOk result (λ r.
+        transmit setup (shows (cells gather.old wire.old memory.old))
+        ≡ Ok (r.0, shows (cells gather.new wire.new memory.new))) }
+    ensures cost { IfOk result (λ r. cost_of r.1 ≡ cost setup (shows (cells gather.old wire.old memory.old))) }
+    ensures reverses { IfOk result (λ r.
+        Reverses (cells gather.old wire.old memory.old) (cells gather.new wire.new memory.new) r.1) }
+    ensures err { IfErr result (Refuses setup (shows (cells gather.old wire.old memory.old))) }
+    ensures same { OnErr result
+        (MorePages (cells gather.old wire.old memory.old) (cells gather.new wire.new memory.new)) }
 {
     if ring::is_idle(&setup) {
         return Ok((TxAnswer::Idle, TxUndo::Nothing));
@@ -71,11 +77,15 @@ fn perform(
     requires octets { descriptor.now ≡ part memory.old.octets (place setup.now) 16 }
     requires allowed { refusal gather.old memory.old.octets descriptor.now ≡ None }
     requires allows { Allows gather.old memory.old.octets descriptor.now }
-    ensures ok { IfOk result (λ r. transmit setup.now (shown gather.old wire.old memory.old) ≡ Ok (r.0, shown gather.new wire.new memory.new)) }
-    ensures cost { IfOk result (λ r. cost_of r.1 ≡ cost setup.now (shown gather.old wire.old memory.old)) }
-    ensures reverses { IfOk result (λ r. Reverses (cells gather.old wire.old memory.old) (cells gather.new wire.new memory.new) r.1) }
-    ensures err { IfErr result (Refuses setup.now (shown gather.old wire.old memory.old)) }
-    ensures same { OnErr result (MorePages (cells gather.old wire.old memory.old) (cells gather.new wire.new memory.new)) }
+    ensures ok { IfOk result (λ r.
+        transmit setup.now (shows (cells gather.old wire.old memory.old))
+        ≡ Ok (r.0, shows (cells gather.new wire.new memory.new))) }
+    ensures cost { IfOk result (λ r. cost_of r.1 ≡ cost setup.now (shows (cells gather.old wire.old memory.old))) }
+    ensures reverses { IfOk result (λ r.
+        Reverses (cells gather.old wire.old memory.old) (cells gather.new wire.new memory.new) r.1) }
+    ensures err { IfErr result (Refuses setup.now (shows (cells gather.old wire.old memory.old))) }
+    ensures same { OnErr result
+        (MorePages (cells gather.old wire.old memory.old) (cells gather.new wire.new memory.new)) }
 {
     let octets = &mut gather.octets;
     let frames = &mut wire.frames;
@@ -118,8 +128,11 @@ fn make_room(
     ensures octets { octets.new.items ≡ octets.old.items }
     ensures frames { frames.new.items ≡ frames.old.items }
     ensures memory { mem.MorePages memory.old memory.new }
-    ensures room { OnOk result (room setup.now descriptor.now (vec_len octets.old + length_of descriptor.now) ≤ vec_capacity octets.new) }
-    ensures place { OnOk result (IsTrue (sends descriptor.now (vec_len octets.old + length_of descriptor.now)) → vec_len frames.new < vec_capacity frames.new) }
+    ensures room { OnOk result
+        (room setup.now descriptor.now (vec_len octets.old + length_of descriptor.now) ≤ vec_capacity octets.new) }
+    ensures place { OnOk result
+        (IsTrue (sends descriptor.now (vec_len octets.old + length_of descriptor.now))
+        → vec_len frames.new < vec_capacity frames.new) }
     ensures made { OnOk result (IsTrue (rs descriptor.now) → IsMade memory.new (at + 12) 1) }
     ensures refused { IfErr result (λ e. e ≡ TxRefusal.Memory) }
 {
@@ -195,12 +208,17 @@ fn handle(
     requires place { at ≡ place setup.now }
     requires descriptor { IsHeld memory.old.octets at 16 }
     requires allows { Allows octets.old.items memory.old.octets descriptor.now }
-    requires room { room setup.now descriptor.now (vec_len octets.old + length_of descriptor.now) ≤ vec_capacity octets.old }
-    requires frames { IsTrue (sends descriptor.now (vec_len octets.old + length_of descriptor.now)) → vec_len frames.old < vec_capacity frames.old }
+    requires room { room setup.now descriptor.now (vec_len octets.old + length_of descriptor.now)
+        ≤ vec_capacity octets.old }
+    requires frames { IsTrue (sends descriptor.now (vec_len octets.old + length_of descriptor.now))
+        → vec_len frames.old < vec_capacity frames.old }
     requires made { IsTrue (rs descriptor.now) → IsMade memory.old (at + 12) 1 }
-    ensures state { (result.0, shown octets.new.items (plain frames.new.items) memory.new) ≡ handle setup.now descriptor.now (shown octets.old.items (plain frames.old.items) memory.old) }
-    ensures cost { cost_of result.1 ≡ handling_cost setup.now descriptor.now (shown octets.old.items (plain frames.old.items) memory.old) }
-    ensures reverses { Reverses (cells octets.old.items (plain frames.old.items) memory.old) (cells octets.new.items (plain frames.new.items) memory.new) result.1 }
+    ensures state { (result.0, shows (cells octets.new.items (plain frames.new.items) memory.new))
+        ≡ handle setup.now descriptor.now (shows (cells octets.old.items (plain frames.old.items) memory.old)) }
+    ensures cost { cost_of result.1
+        ≡ handling_cost setup.now descriptor.now (shows (cells octets.old.items (plain frames.old.items) memory.old)) }
+    ensures reverses { Reverses (cells octets.old.items (plain frames.old.items) memory.old)
+        (cells octets.new.items (plain frames.new.items) memory.new) result.1 }
 {
     let count = octets.len();
     fetch(octets, memory, descriptor);
@@ -232,9 +250,11 @@ fn handle(
 
 /// Gathers the octets of a buffer, straight from memory.
 fn fetch(octets: &mut Vec<u8>, memory: &GuestMemory, descriptor: &TxDescriptor)
-    requires held { 0 < length_of descriptor.now → IsHeld memory.now.octets (address descriptor.now) (length_of descriptor.now) }
+    requires held { 0 < length_of descriptor.now
+        → IsHeld memory.now.octets (address descriptor.now) (length_of descriptor.now) }
     requires room { vec_len octets.old + length_of descriptor.now ≤ vec_capacity octets.old }
-    ensures octets { octets.new.items ≡ octets.old.items ++ part memory.now.octets (address descriptor.now) (length_of descriptor.now) }
+    ensures octets { octets.new.items
+        ≡ octets.old.items ++ part memory.now.octets (address descriptor.now) (length_of descriptor.now) }
     ensures len { vec_len octets.new ≡ vec_len octets.old + length_of descriptor.now }
     ensures capacity { vec_capacity octets.old ≤ vec_capacity octets.new }
 {
@@ -282,10 +302,11 @@ fn send(
     descriptor: &TxDescriptor,
 ) -> Sending
     requires few { vec_len octets.old ≤ 16380 }
-    requires room { Rattle.em_tx.specs.Frame.frame_len setup.now descriptor.now (vec_len octets.old) ≤ vec_capacity octets.old }
+    requires room { frame_len setup.now descriptor.now (vec_len octets.old) ≤ vec_capacity octets.old }
     requires place { vec_len frames.old < vec_capacity frames.old }
     ensures gathered { octets.new.items ≡ [] }
-    ensures wire { plain frames.new.items ≡ plain frames.old.items ++ frame setup.now descriptor.now octets.old.items ∷ [] }
+    ensures wire { plain frames.new.items
+        ≡ plain frames.old.items ++ frame setup.now descriptor.now octets.old.items ∷ [] }
     ensures octets { result.octets ≡ length (frame setup.now descriptor.now octets.old.items) }
     ensures kind { result.kind ≡ kind_sent (frame setup.now descriptor.now octets.old.items) }
     ensures tagged { result.tagged ≡ is_some (tag_of setup.now.vlan descriptor.now (length octets.old.items)) }

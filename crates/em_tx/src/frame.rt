@@ -1,6 +1,7 @@
 //! Gathered octets made a frame.
-ghost use Rattle.std.specs.Prelude.{◌≡◌, ◌+◌, ◌≤◌, ◌++◌, IsTrue, is_some, length, take, drop, vec_len, vec_capacity, Some};
-ghost use Rattle.em_tx.specs.Frame.{frame, frame_len, kind_sent, padded, tag_of, with_tag, without_tag};
+ghost use Rattle.std.specs.Prelude.{◌≡◌, ◌+◌, ◌≤◌, ◌++◌, IsTrue, Some, is_some, length, take, drop};
+ghost use Rattle.std.specs.Prelude.{vec_len, vec_capacity};
+ghost use Rattle.em_tx.specs.Frame.{frame, frame_len, kind_sent, with_padding, tag_of, with_tag, without_tag};
 
 use crate::descriptor::TxDescriptor;
 use em_filter::{Kind, kind_of};
@@ -93,7 +94,7 @@ pub(crate) fn remove_tag(octets: &mut Vec<u8>)
 /// Adds zero octets up to the shortest length.
 fn pad(octets: &mut Vec<u8>, wanted: bool)
     requires { IsTrue wanted → 60 ≤ vec_capacity octets.old }
-    ensures { octets.new.items ≡ padded wanted octets.old.items }
+    ensures { octets.new.items ≡ with_padding wanted octets.old.items }
 {
     if wanted && octets.len() < SHORTEST {
         let Ok(()) = octets.resize(SHORTEST, 0) else {

@@ -39,7 +39,8 @@ impl Gather {
     /// Lets the gathered octets go, as a reset does. It takes no memory.
     pub fn clear(&mut self) -> TxUndo
         ensures state { self.new ≡ [] }
-        ensures reverses { (w : List (List ℕ)) (m : mem.Cells) → Reverses (cells self.old w m) (cells self.new w m) result }
+        ensures reverses { (w : List (List ℕ)) (m : mem.Cells)
+            → Reverses (cells self.old w m) (cells self.new w m) result }
     {
         let fresh = Gather::new(self.alloc);
         TxUndo::Clear(std::mem::replace(self, fresh))

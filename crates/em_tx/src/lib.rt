@@ -19,6 +19,6 @@ pub use descriptor::TxDescriptor;
 pub use engine::step;
 pub use gather::Gather;
 pub use refusal::TxRefusal;
-pub use transfer::Transfer;
+pub use transfer::{MOST_COST, Transfer};
 pub use undo::{TxUndo, take_back};
 pub use wire::Wire;

@@ -4,13 +4,12 @@ ghost use Rattle.em_mem.specs.Memory.{IsHeld, part};
 ghost use Rattle.em_tx.specs.Ring.{causes, is_idle, next, place};
 
 use crate::descriptor::{DESCRIPTOR_OCTETS, TxDescriptor};
+use bitflags::Flags;
 use em_mem::GuestMemory;
-use em_regs::TxSetup;
+use em_regs::{Causes, TxSetup};
 
-/// The causes of an interrupt: a descriptor's status was reported, and the ring is empty.
-const TXDW: u32 = 0x1;
-
-const TXQE: u32 = 0x2;
+/// The octets of a descriptor, as addresses count them.
+const DESCRIPTOR_SIZE: u64 = DESCRIPTOR_OCTETS as u64;
 
 /// Whether no descriptor is the adapter's.
 pub(crate) fn is_idle(setup: &TxSetup) -> bool
@@ -35,8 +34,16 @@ pub(crate) fn causes(setup: &TxSetup, descriptor: &TxDescriptor) -> u32
     requires { setup.now.head < setup.now.count }
     ensures { result ≡ causes setup.now descriptor.now }
 {
-    let reported = if descriptor.rs() { TXDW } else { 0 };
-    let empty = if next(setup) == setup.tail { TXQE } else { 0 };
+    let reported = if descriptor.rs() {
+        Causes::TXDW.bits()
+    } else {
+        0
+    };
+    let empty = if next(setup) == setup.tail {
+        Causes::TXQE.bits()
+    } else {
+        0
+    };
     reported + empty
 }
 
@@ -56,8 +63,10 @@ pub(crate) fn first(memory: &GuestMemory, setup: &TxSetup) -> Option<Found>
 {
     // memory is smaller than 2^64 octets, so that a sum past that leaves it
     let _size = memory.len();
-    let place = setup.base.checked_add(16 * u64::from(setup.head))?;
-    if !memory.holds(place, DESCRIPTOR_OCTETS as u64) {
+    let place = setup
+        .base
+        .checked_add(DESCRIPTOR_SIZE * u64::from(setup.head))?;
+    if !memory.holds(place, DESCRIPTOR_SIZE) {
         return None;
     }
     let mut octets = [0; DESCRIPTOR_OCTETS];

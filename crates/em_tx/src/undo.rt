@@ -40,6 +40,10 @@ impl TxUndo {
 
 /// Takes a change back by its record. It takes no memory: a frame's octets come back from the wire as
 /// the gathered ones, cut to those that there were.
+///
+/// A record is used up: there is no exchange for the record that makes the step again. What the step
+/// gathered is cut off, and to gather it anew, and to put a frame on the wire again, is growth, for which
+/// neither the record nor the gathered octets keep room. The step itself, done again, leads to the same.
 pub fn take_back(gather: &mut Gather, wire: &mut Wire, memory: &mut GuestMemory, taken: TxUndo)
     requires { Fits (cells gather.old wire.old memory.old) taken }
     ensures { cells gather.new wire.new memory.new ≡ undo (cells gather.old wire.old memory.old) taken }

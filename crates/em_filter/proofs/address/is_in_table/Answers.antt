@@ -10,5 +10,6 @@ pub returns : goal.returns
 returns c =
     let s = c.args.regs.now in
     let a = destination c.args.address.now in
-    any_from_yields_List (is_entry_at s a) _ _ _ c.any.ensures.ran (YieldsList-from_range 0 16 16 refl refl) (λ x b q k. search (rules, tests))
+    let entries = YieldsList-from_range 0 16 16 refl refl in
+    any_from_yields_List (is_entry_at s a) _ _ c.any.result c.any.ensures.ran entries (λ x b q k. search (rules, tests))
     ∙ sym (in_table_by_entry s a)

@@ -1,11 +1,17 @@
-use Rattle.std.proofs.Common.{◌-◌}
+use Rattle.std.proofs.Common.{◌≡◌, ◌-◌, ◌/◌, ◌%◌}
 use Rattle.em_text.proofs.WritingLemmas.{WroteFront}
 use Rattle.em_script.specs.Registers.{words_text, registers_text}
 use Rattle.em_script.proofs.registers.write_registers.Given as goal
 
 -- the lines of the words from here on are still to come
-abbrev pub invariant-loop-word : goal.invariant-loop-word
-invariant-loop-word g l =
+abbrev pub invariant-loop-offset : goal.invariant-loop-offset
+invariant-loop-offset g l =
     let contents = g.W.Write.contents in
-    WroteFront (contents l.fn.writer) (contents l.writer)
-    (words_text l.machine.present l.word (0x01600 - l.word)) (registers_text l.machine.present)
+    record {
+      whole : l.from % 4 ≡ 0;
+      wrote : WroteFront (contents l.fn.writer) (contents l.writer)
+          (words_text l.machine.present (l.from / 4) (0x01600 - l.from / 4)) (registers_text l.machine.present);
+    }
+
+abbrev pub decreases-loop-offset : goal.decreases-loop-offset
+decreases-loop-offset g l = 0x05800 - l.from

@@ -1,20 +1,21 @@
 use Rattle.std.proofs.Common.{◌≡◌, sym, true, false}
-use Rattle.em_mem.specs.Memory.{part}
-use Rattle.em_tx.specs.Ring.{is_idle, place}
-use Rattle.em_tx.proofs.EngineLaws.{idle, off_memory, refused}
+use Rattle.em_tx.specs.Ring.{is_idle}
+use Rattle.em_tx.proofs.EngineLaws.{transmit-idle, Refuses-off_memory, Refuses-refusal}
 use Rattle.em_tx.proofs.engine.step.Goals as goal
 
 pub returns-then-is_idle-clause-ok : goal.returns-then-is_idle-clause-ok
 returns-then-is_idle-clause-ok c =
     let none : is_idle c.args.setup ≡ true = cc in
-    idle c.args.setup _ none
+    transmit-idle c.args.setup _ none
 
 pub returns-in_default-clause-err : goal.returns-in_default-clause-err
 returns-in_default-clause-err c =
     let some : is_idle c.args.setup ≡ false = cc in
-    off_memory c.args.setup _ some c.in_default.ensures.none
+    Refuses-off_memory c.args.setup _ some c.in_default.ensures.none
 
 pub returns-in-Some-refusal_of-clause-err : goal.returns-in-Some-refusal_of-clause-err
 returns-in-Some-refusal_of-clause-err c =
     let some : is_idle c.args.setup ≡ false = cc in
-    refused c.args.setup _ c.in-Some.found.descriptor _ some c.in-Some.ensures.held c.in-Some.ensures.octets (sym c.in-Some-refusal_of.ensures.value)
+    let found = c.in-Some.found in
+    Refuses-refusal c.args.setup _ found.descriptor some c.in-Some.ensures.held c.in-Some.ensures.octets
+    (sym c.in-Some-refusal_of.ensures.value)

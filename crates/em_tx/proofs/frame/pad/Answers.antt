@@ -1,7 +1,8 @@
 use Rattle.std.proofs.Common.{arith}
-use Rattle.em_tx.proofs.FrameLaws.{padded_by_resize}
+use Rattle.em_tx.proofs.FrameLaws.{with_padding-resize}
 use Rattle.em_tx.proofs.frame.pad.Goals as goal
 
 pub returns-in-Ok : goal.returns-in-Ok
 returns-in-Ok c =
-    padded_by_resize c.args.octets.now.items _ _ c.args.wanted c.if-wanted.true (omega arith) (omega arith) c.in-Ok.ensures.items
+    with_padding-resize c.args.octets.now.items c.args.wanted c.if-wanted.true (omega arith) (omega arith)
+    c.in-Ok.ensures.items

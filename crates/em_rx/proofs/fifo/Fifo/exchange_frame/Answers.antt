@@ -15,31 +15,31 @@ returns-clause-reverses c =
     = record { octets = q.octets.items; at = q.at; entry = q.entry; index = q.index; places = q.places } in
     let new : Cells
     = record {
-      octets = c.replace.new.ring.items;
-      entries = c.replace_entry.new.ring.items;
-      places = c.replace-2.new.dest;
+      octets = c.exchange_octets.new.ring.items;
+      entries = c.exchange_entry.new.ring.items;
+      places = c.swap.new.x;
     } in
     let r : FramePatch
     = record {
-      octets = c.replace.result.items;
+      octets = c.exchange_octets.new.octets.items;
       at = q.at;
-      entry = c.replace_entry.result;
+      entry = c.exchange_entry.new.entry;
       index = q.index;
-      places = c.replace-2.result;
+      places = c.swap.new.y;
     } in
     let left : new ≡ with_patch old p
     = λ i. record {
-      octets = c.replace.ensures.ring i;
-      entries = c.replace_entry.ensures.ring i;
-      places = c.replace-2.ensures.after i;
+      octets = c.exchange_octets.ensures.ring i;
+      entries = c.exchange_entry.ensures.ring i;
+      places = c.swap.ensures.x_after i;
     } in
     let gives : r ≡ replaced old p
     = λ i. record {
-      octets = c.replace.ensures.octets i;
+      octets = c.exchange_octets.ensures.octets i;
       at = q.at;
-      entry = c.replace_entry.ensures.entry i;
+      entry = c.exchange_entry.ensures.entry i;
       index = q.index;
-      places = c.replace-2.ensures.value i;
+      places = c.swap.ensures.y_after i;
     } in
-    patch_reverses old c.args.self.now new p c.args.patch r c.self.view_is c.patch.view_is c.self.invariant
+    patch_reverses old c.args.self.now new p c.args.patch.now r c.self.view_is c.patch.view_is c.self.invariant
     c.requires left gives

@@ -1,13 +1,17 @@
 -- Both ranges lie in memory, and their pages were made.
-use Rattle.std.proofs.Common.{rules, ◌+◌, ap, length, arith}
+use Rattle.std.proofs.Common.{rules, ◌≡◌, ◌+◌, ap, length, arith, subst, sym}
 use Rattle.em_mem.specs.Memory.{Patch}
+use Rattle.em_rx.specs.Undo.{FitsStep}
 use Rattle.em_rx.proofs.StepLaws.{step_fits}
 use Rattle.em_rx.proofs.fifo.Fifo.step.Goals as goal
 
 pub exchange_step-requires : goal.exchange_step-requires
 exchange_step-requires c =
     let patch = c.in_ok-patch in
-    step_fits c.args.self.now c.args.memory.now c.touch.new.self c.touch-2.new.self patch.patch
+    let is : c.deref_mut.result.now ≡ patch.patch.value = search rules in
+    subst (FitsStep c.args.self.now c.touch-2.new.self) (sym is)
+    (
+    step_fits c.args.self.now c.args.memory.now c.touch.new.self c.touch-2.new.self patch.patch.value
     c.in_ok-descriptor.buffer c.min-count.result (c.in_ok-descriptor.descriptor + 8)
     c.touch.ensures.more c.touch-2.ensures.more
     (search rules) (omega (arith, c.in_ok-descriptor.ensures.held))
@@ -15,3 +19,4 @@ exchange_step-requires c =
     (ap (λ (p : Patch). p.at) patch.ensures.first) patch.ensures.count
     (ap (λ (p : Patch). p.at) patch.ensures.second) (ap (λ (p : Patch). length p.octets) patch.ensures.second)
     patch.ensures.moves.sound
+    )

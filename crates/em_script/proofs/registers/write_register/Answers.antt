@@ -1,12 +1,12 @@
 use Rattle.std.proofs.Common.{subst}
 use Rattle.em_text.specs.Writer.{Writes}
 use Rattle.em_script.proofs.RegisterLemmas.{zero_written, line_written}
-use Rattle.em_script.proofs.registers.write_word.Goals as goal
+use Rattle.em_script.proofs.registers.write_register.Goals as goal
 
 pub returns-then-value-eq0 : goal.returns-then-value-eq0
 returns-then-value-eq0 g c = record {
-  writes = zero_written c.args.machine.now.present c.args.word _ c.look.ensures c.unwrap_or-value.ensures
-      c.if-value-eq0.true;
+  writes = zero_written c.args.machine.now.present c.args.offset _ c.requires.whole c.look.ensures
+      c.unwrap_or-value.ensures c.if-value-eq0.true;
 }
 
 pub returns : goal.returns
@@ -15,7 +15,7 @@ returns g c =
     let line = c.write_register_line in
     record {
       writes = subst (λ text. Writes (contents c.args.writer.now) (contents line.new.writer) line.result text)
-          (line_written c.args.machine.now.present c.args.word c.look.ensures c.unwrap_or-value.ensures
-          c.if-value-eq0.false)
+          (line_written c.args.machine.now.present c.args.offset c.requires.whole c.look.ensures
+          c.unwrap_or-value.ensures c.if-value-eq0.false)
           line.ensures.writes;
     }

@@ -1,0 +1,13 @@
+use Rattle.std.proofs.Common.{◌≡◌, ◌≤◌, ◌-◌, ◌%◌}
+use Rattle.em_regs.specs.Table.{NoneFrom}
+use Rattle.em_regs.proofs.reg.Reg.skip_bare.Given as goal
+
+abbrev pub invariant-loop-next : goal.invariant-loop-next
+invariant-loop-next l = record {
+  behind : l.fn.offset ≤ l.next;
+  whole : l.next % 4 ≡ 0;
+  none : NoneFrom l.fn.offset l.next;
+}
+
+abbrev pub decreases-loop-next : goal.decreases-loop-next
+decreases-loop-next l = 0x05800 - l.next
