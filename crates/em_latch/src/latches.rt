@@ -6,7 +6,7 @@ ghost use Rattle.em_regs.specs.RegFile as registers;
 ghost use Rattle.em_latch.specs.Storage.{offsets};
 ghost use Rattle.em_latch.specs.Latches.{fresh, is_latched, IsLatched, IsWord, gives, after_read, after_write};
 ghost use Rattle.em_latch.specs.Latches.{after_raise, after_pair_write, IsAsserted, Fits, undo, Reverses};
-ghost use Rattle.em_latch.specs.Counter.{after_count, after_pair_count};
+ghost use Rattle.em_latch.specs.Counter.{after_count, after_pair_count, width_of};
 
 use crate::counter::Counter;
 use crate::undo::{LatchUndo, OldWord, WORDS};
@@ -139,7 +139,7 @@ impl Latches {
     /// Steps a counter by some number; it stops at its greatest value.
     pub fn count(&mut self, counter: Counter, by: u32) -> LatchUndo
         ensures state { self.new ≡ after_count self.old counter by }
-        ensures words { length result ≤ 2 }
+        ensures words { length result ≡ width_of counter }
         ensures reverses { Reverses self.old self.new result }
     {
         match counter {

@@ -2,6 +2,8 @@
 use Rattle.std.specs.Prelude.{◌≡◌, ℕ, Bool, if◌then◌else◌, List, ◌++◌, codes, Option, Result, IfOk}
 use Rattle.em_step.specs.declared.event.Answer.{Answer}
 use Rattle.em_step.specs.declared.event.Answer.TheVariants as answer
+use Rattle.em_step.specs.declared.event.Reason.{Reason}
+use Rattle.em_step.specs.declared.event.Reason.TheVariants.{Down, Disabled, Rejected, Undersize, Oversize, Missed}
 use Rattle.em_step.specs.declared.refusal.Refusal.{Refusal}
 use Rattle.em_step.specs.Refusal.{name_of}
 use Rattle.em_text.specs.Writer.{Writes, value_text, decimal_line_text}
@@ -20,10 +22,21 @@ back_text count = codes "back " ++ decimal_line_text count
 abbrev pub bad_line_text : ℕ → List ℕ
 bad_line_text number = codes "bad line " ++ decimal_line_text number
 
+-- why a frame was dropped
+abbrev pub reason_text : Reason → List ℕ
+reason_text Down = codes "down"
+reason_text Disabled = codes "disabled"
+reason_text Rejected = codes "rejected"
+reason_text Undersize = codes "undersize"
+reason_text Oversize = codes "oversize"
+reason_text Missed = codes "missed"
+
 -- what a performed event prints
 abbrev pub answer_text : Answer → List ℕ
 answer_text answer.Done = done_text
 answer_text (answer.Value value) = value_text value
+answer_text answer.Stored = codes "stored\n"
+answer_text (answer.Dropped reason) = codes "dropped " ++ (reason_text reason ++ codes "\n")
 
 -- what is refused prints its name
 abbrev pub named_refusal_text : List ℕ → List ℕ

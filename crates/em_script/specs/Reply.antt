@@ -1,11 +1,11 @@
 -- What a command prints, how its line counts, what it leaves, and which calls it makes.
 use Rattle.std.specs.Prelude.{◌≡◌, ℕ, ◌+◌, ◌==◌, Bool, false, not, nat_lt, min, if◌then◌else◌, List, [], ◌∷◌, length}
-use Rattle.std.specs.Prelude.{replicate, bit_and, Option, Some, None, Result, Ok, Err, IsOk, IsTrue}
+use Rattle.std.specs.Prelude.{replicate, bit_and, Option, Some, None, Result, Ok, Err, IsTrue}
 use Rattle.em_mem.specs.Memory.{part}
 use Rattle.em_latch.specs.Latches.{causes, mask}
 use Rattle.em_step.specs.State.{State}
 use Rattle.em_step.specs.Event.{Event}
-use Rattle.em_step.specs.Step.{step, takes_memory}
+use Rattle.em_step.specs.Step.{step, takes_memory, needs_memory}
 use Rattle.em_step.specs.Cost.{cost}
 use Rattle.em_step.specs.declared.event.Answer.{Answer}
 use Rattle.em_step.specs.declared.refusal.Refusal.{Refusal}
@@ -108,9 +108,10 @@ abbrev pub command_takes_memory : Command → Bool
 command_takes_memory (event e) = takes_memory e
 command_takes_memory _ = false
 
--- a command can be refused for memory before its event, which nothing else refuses
+-- a command can be refused for memory before its event, which nothing else refuses and which drops no frame
 abbrev pub MayBeRefused : ℕ → Command → Session → Type 0
-MayBeRefused events (event e) session = (events ≡ 0) × IsTrue (takes_memory e) × IsOk (step session.present e)
+MayBeRefused events (event e) session =
+    (events ≡ 0) × IsTrue (takes_memory e) × IsTrue (needs_memory (step session.present e))
 MayBeRefused events _ session = ⊥
 
 -- ---- what a line says, by whether memory was refused to it, and after how many of its events

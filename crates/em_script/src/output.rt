@@ -1,11 +1,11 @@
 //! Writing answers.
 ghost use Rattle.std.specs.Prelude.{◌≡◌, ◌++◌};
 ghost use Rattle.em_text.specs.Writer.{Writes, hex_line_text, decimal_line_text};
-ghost use Rattle.em_script.specs.Output.{Prints, answer_text, done_text, bit_text, back_text, bad_line_text};
-ghost use Rattle.em_script.specs.Output.{refusal_text, empty_text};
+ghost use Rattle.em_script.specs.Output.{Prints, answer_text, reason_text, done_text, bit_text, back_text};
+ghost use Rattle.em_script.specs.Output.{bad_line_text, refusal_text, empty_text};
 
 use crate::outcome::Outcome;
-use em_step::{Answer, Refusal};
+use em_step::{Answer, Reason, Refusal};
 use em_text::{
     WriteFailed, write_decimal_line, write_octets_line, write_pieces, write_value, write_whole,
 };
@@ -21,6 +21,37 @@ pub fn write_answer<W: Write>(writer: &mut W, answer: Answer) -> Result<Outcome,
             write_value(writer, value)?;
             Ok(Outcome::Done)
         }
+        Answer::Stored => {
+            write_whole(writer, b"stored\n")?;
+            Ok(Outcome::Done)
+        }
+        Answer::Dropped(reason) => write_dropped(writer, reason),
+    }
+}
+
+/// That a frame was dropped, and why.
+fn write_dropped<W: Write>(writer: &mut W, reason: Reason) -> Result<Outcome, WriteFailed>
+    ensures { Prints (answer_text (Answer.Dropped reason)) Outcome.Done
+        (W.contents writer.old) (W.contents writer.new) result }
+{
+    write_pieces(
+        writer,
+        &[b"dropped ", reason_name(reason).as_bytes(), b"\n"],
+    )?;
+    Ok(Outcome::Done)
+}
+
+/// Why a frame was dropped, as it is printed.
+fn reason_name(reason: Reason) -> &'static str
+    ensures { result.now ≡ reason_text reason }
+{
+    match reason {
+        Reason::Down => "down",
+        Reason::Disabled => "disabled",
+        Reason::Rejected => "rejected",
+        Reason::Undersize => "undersize",
+        Reason::Oversize => "oversize",
+        Reason::Missed => "missed",
     }
 }
 

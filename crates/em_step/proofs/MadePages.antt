@@ -3,27 +3,50 @@ use Rattle.std.proofs.Common.{◌≡◌, refl, ap, sym, subst}
 use Rattle.em_mem.proofs.MadePages as memory
 use Rattle.em_regs.specs.RegFile as registers
 use Rattle.em_latch.specs.Latches as latches
+use Rattle.em_rx.specs.Fifo as rx
+use Rattle.em_rx.specs.Undo as rx_undo
+use Rattle.em_rx.specs.declared.undo.RxUndo.{RxUndo}
+use Rattle.em_rx.proofs.MadePages as rx_laws
 use Rattle.em_step.specs.Cells.{Cells, shows, MorePages}
-use Rattle.em_step.specs.Undo.{Fits, PartFits, undo, undo_part}
+use Rattle.em_step.specs.Undo.{Fits, PartFits, undo, undo_part, undo_receive}
 use Rattle.em_step.specs.declared.undo.Undo.{Undo}
 use Rattle.em_step.specs.declared.undo.Part.{Part}
-use Rattle.em_step.specs.declared.undo.Part.TheVariants.{Nothing, Register, Octets, Link, Reset}
+use Rattle.em_step.specs.declared.undo.Part.TheVariants.{Nothing, Register, Octets, Arrival, Link, Reset}
 
 pub shows_after : (c d : Cells) → MorePages c d → shows d ≡ shows c
 shows_after c d more = λ i. record {
   registers = more.registers i;
   latches = more.latches i;
+  fifo = rx.shows (more.fifo i);
   memory = more.memory.octets i;
   eeprom = more.eeprom i;
   link = more.link i;
+}
+
+-- a record of the receive side
+receive_fits_after :
+    (c d : Cells) (r : RxUndo) → MorePages c d → rx_undo.Fits c.fifo c.memory r → rx_undo.Fits d.fifo d.memory r
+receive_fits_after c d r more fits =
+    subst (λ f. rx_undo.Fits f d.memory r) (sym more.fifo)
+    (rx_laws.fits_after c.fifo c.memory d.memory r more.memory fits)
+
+receive_after : (c d : Cells) (r : RxUndo) → MorePages c d → MorePages (undo_receive c r) (undo_receive d r)
+receive_after c d r more = record {
+  registers = more.registers;
+  latches = more.latches;
+  fifo = ap (λ f. rx_undo.undo_fifo f r) more.fifo;
+  memory = rx_laws.undo_after c.memory d.memory r more.memory;
+  eeprom = more.eeprom;
+  link = more.link;
 }
 
 part_fits_after : (c d : Cells) (p : Part) → MorePages c d → PartFits c p → PartFits d p
 part_fits_after c d Nothing more fits = tt
 part_fits_after c d (Register old) more fits = subst (λ m. registers.Fits m old) (sym more.registers) fits
 part_fits_after c d (Octets old) more fits = memory.fits_after c.memory d.memory old.value more.memory fits
+part_fits_after c d (Arrival old) more fits = receive_fits_after c d old.value more fits
 part_fits_after c d (Link old) more fits = tt
-part_fits_after c d (Reset old) more fits = tt
+part_fits_after c d (Reset old) more fits = receive_fits_after c d old.value.fifo more fits
 
 pub fits_after : (c d : Cells) (r : Undo) → MorePages c d → Fits c r → Fits d r
 fits_after c d r more fits = record {
@@ -36,6 +59,7 @@ part_after c d Nothing more = more
 part_after c d (Register old) more = record {
   registers = ap (λ m. registers.undo m old) more.registers;
   latches = more.latches;
+  fifo = more.fifo;
   memory = more.memory;
   eeprom = more.eeprom;
   link = more.link;
@@ -43,20 +67,24 @@ part_after c d (Register old) more = record {
 part_after c d (Octets old) more = record {
   registers = more.registers;
   latches = more.latches;
+  fifo = more.fifo;
   memory = memory.undo_after c.memory d.memory old.value more.memory;
   eeprom = more.eeprom;
   link = more.link;
 }
+part_after c d (Arrival old) more = receive_after c d old.value more
 part_after c d (Link old) more = record {
   registers = more.registers;
   latches = more.latches;
+  fifo = more.fifo;
   memory = more.memory;
   eeprom = more.eeprom;
   link = refl;
 }
-part_after c d (Reset old) more = record {
+part_after c d (Reset old) more = receive_after _ _ old.value.fifo record {
   registers = refl;
   latches = refl;
+  fifo = more.fifo;
   memory = more.memory;
   eeprom = more.eeprom;
   link = more.link;
@@ -66,6 +94,7 @@ pub undo_after : (c d : Cells) (r : Undo) → MorePages c d → MorePages (undo 
 undo_after c d r more = part_after _ _ r.part record {
   registers = more.registers;
   latches = ap (λ m. latches.undo m r.latches) more.latches;
+  fifo = more.fifo;
   memory = more.memory;
   eeprom = more.eeprom;
   link = more.link;

@@ -15,6 +15,9 @@ use Rattle.em_latch.specs.Latches as latches
 use Rattle.em_latch.specs.Latches.{is_latched, fresh}
 use Rattle.em_latch.specs.Storage.{offsets}
 use Rattle.em_eeprom.specs.Eeprom.{mac_of}
+use Rattle.em_rx.specs.Fifo as rx
+use Rattle.em_step.specs.Cells as cells
+use Rattle.em_step.specs.Cells.{Cells, shows}
 use Rattle.em_step.specs.State.{State}
 use Rattle.em_step.specs.Access.{gives, reset}
 
@@ -65,3 +68,21 @@ low_after_reset s = at-insert_other _ _ _ 0x05400 (λ e. absurd (omega arith)) �
 
 pub high_after_reset : (s : State) → gives (reset s) (Rah 0) ≡ address_high (mac_of s.eeprom) + 0x8000_0000
 high_after_reset s = at-insert_same _ _ _
+
+-- a new FIFO shows no frame
+fresh_fifo : rx.shows rx.fresh ≡ rx.empty
+unfolding rx.fresh
+fresh_fifo = refl
+
+pub new_is_reset : (size : ℕ) (eeprom : List ℕ) →
+    shows (cells.fresh size eeprom) ≡ reset (shows (cells.fresh size eeprom))
+new_is_reset size eeprom =
+    let c : Cells = cells.fresh size eeprom in
+    λ i. record {
+      registers = c.registers;
+      latches = c.latches;
+      fifo = fresh_fifo i;
+      memory = c.memory.octets;
+      eeprom = eeprom;
+      link = false;
+    }

@@ -7,6 +7,7 @@ use Rattle.em_regs.specs.RegFile as registers
 use Rattle.em_latch.specs.Latches as latches
 use Rattle.em_latch.specs.Latches.{is_latched}
 use Rattle.em_eeprom.specs.Eeprom.{mac_of, word_at}
+use Rattle.em_rx.specs.Fifo.{empty}
 use Rattle.em_step.specs.State.{State, status}
 
 -- what a read gives
@@ -20,10 +21,10 @@ gives s reg =
 abbrev pub after_read : State → Reg → State
 after_read s reg = if is_latched reg then record s { latches = latches.after_read s.latches reg } else s
 
--- a reset leaves every register zero but STATUS and the first receive address, which is the EEPROM's; memory, EEPROM
--- and link stay
+-- a reset leaves every register zero but STATUS and the first receive address, which is the EEPROM's, and the FIFO
+-- empty; memory, EEPROM and link stay
 abbrev pub reset : State → State
-reset s = record s { registers = registers.reset (mac_of s.eeprom); latches = latches.fresh }
+reset s = record s { registers = registers.reset (mac_of s.eeprom); latches = latches.fresh; fifo = empty }
 
 -- v has the bit
 abbrev pub has : ℕ → ℕ → Bool

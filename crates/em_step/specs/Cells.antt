@@ -7,11 +7,13 @@ use Rattle.em_regs.specs.RegFile.{registers_code}
 use Rattle.em_regs.specs.RegFile as registers
 use Rattle.em_latch.specs.Latches as latches
 use Rattle.em_eeprom.specs.Eeprom.{mac_of}
+use Rattle.em_rx.specs.Fifo as rx
 use Rattle.em_step.specs.State.{State}
 
 pub record Cells : Type 0 where
   pub registers : Registers
   pub latches : Registers
+  pub fifo : rx.Cells
   pub memory : memory.Cells
   pub eeprom : List ℕ
   pub link : Bool
@@ -20,18 +22,26 @@ pub record Cells : Type 0 where
 abbrev pub cells_code : Coded Cells
 cells_code =
     code_by
-    (Registers × (Registers × (memory.Cells × (List ℕ × Bool))))
-    (coded× registers_code (coded× registers_code
-    (coded× memory.cells_code (coded× (coded_list coded_ℕ) coded_bool))))
-    (λ c. (c.registers, (c.latches, (c.memory, (c.eeprom, c.link)))))
-    (λ p. record { registers = p.0; latches = p.1.0; memory = p.1.1.0; eeprom = p.1.1.1.0; link = p.1.1.1.1 })
+    (Registers × (Registers × (rx.Cells × (memory.Cells × (List ℕ × Bool)))))
+    (coded× registers_code (coded× registers_code (coded× rx.cells_code
+    (coded× memory.cells_code (coded× (coded_list coded_ℕ) coded_bool)))))
+    (λ c. (c.registers, (c.latches, (c.fifo, (c.memory, (c.eeprom, c.link))))))
+    (λ p. record {
+      registers = p.0;
+      latches = p.1.0;
+      fifo = p.1.1.0;
+      memory = p.1.1.1.0;
+      eeprom = p.1.1.1.1.0;
+      link = p.1.1.1.1.1;
+    })
     (λ _. refl)
 
--- all but which pages are made
+-- all but which pages are made, and what the FIFO keeps beside its frames
 abbrev pub shows : Cells → State
 shows c = record {
   registers = c.registers;
   latches = c.latches;
+  fifo = rx.shows c.fifo;
   memory = c.memory.octets;
   eeprom = c.eeprom;
   link = c.link;
@@ -43,6 +53,7 @@ abbrev pub fresh : ℕ → List ℕ → Cells
 fresh size eeprom = record {
   registers = registers.reset (mac_of eeprom);
   latches = latches.fresh;
+  fifo = rx.fresh;
   memory = memory.fresh size;
   eeprom = eeprom;
   link = false;
@@ -52,6 +63,7 @@ fresh size eeprom = record {
 pub record MorePages (c d : Cells) : Type 0 where
   pub registers : d.registers ≡ c.registers
   pub latches : d.latches ≡ c.latches
+  pub fifo : d.fifo ≡ c.fifo
   pub memory : memory.MorePages c.memory d.memory
   pub eeprom : d.eeprom ≡ c.eeprom
   pub link : d.link ≡ c.link

@@ -2,11 +2,13 @@
 use Rattle.std.specs.Prelude.{ℕ, ◌+◌, length, if◌then◌else◌}
 use Rattle.em_regs.specs.Table.{reg_at}
 use Rattle.em_step.specs.State.{State}
-use Rattle.em_step.specs.Event.{Event, reads, writes, pokes, links}
+use Rattle.em_step.specs.Event.{Event, reads, writes, pokes, arrives, links}
+use Rattle.em_rx.specs.Undo.{octets_held}
+use Rattle.em_step.specs.Arrival.{arrival, octets_stored}
 use Rattle.em_step.specs.Step.{resets}
 use Rattle.em_step.specs.declared.undo.Undo.{Undo}
 use Rattle.em_step.specs.declared.undo.Part.{Part}
-use Rattle.em_step.specs.declared.undo.Part.TheVariants.{Nothing, Register, Octets, Link, Reset}
+use Rattle.em_step.specs.declared.undo.Part.TheVariants.{Nothing, Register, Octets, Arrival, Link, Reset}
 
 -- of an event whose record holds no octets
 abbrev pub least_cost : ℕ
@@ -21,6 +23,7 @@ abbrev pub cost : State → Event → ℕ
 cost s (reads o) = least_cost
 cost s (writes o v) = if resets (reg_at o) v then most_cost else least_cost
 cost s (pokes a octets) = least_cost + length octets
+cost s (arrives f) = least_cost + octets_stored s f (arrival s f).0
 cost s (links up) = least_cost
 
 -- of the record that the event left
@@ -28,6 +31,7 @@ abbrev pub cost_of_part : Part → ℕ
 cost_of_part Nothing = least_cost
 cost_of_part (Register old) = least_cost
 cost_of_part (Octets old) = least_cost + length old.value.octets
+cost_of_part (Arrival old) = least_cost + octets_held old.value
 cost_of_part (Link old) = least_cost
 cost_of_part (Reset old) = most_cost
 

@@ -10,6 +10,8 @@ pub data Event : Type 0 where
   writes : ℕ → ℕ → Event
   -- software writes octets to guest memory, from an address on
   pokes : ℕ → List ℕ → Event
+  -- a frame arrives from the wire
+  arrives : List ℕ → Event
   -- the link goes up, or down
   links : Bool → Event
 
@@ -18,4 +20,5 @@ abbrev pub plain : Lent → Event
 plain (lent.Read o) = reads o
 plain (lent.Write o v) = writes o v
 plain (lent.Poke a octets) = pokes a octets.now
+plain (lent.Arrive octets) = arrives octets.now
 plain (lent.Link up) = links up

@@ -3,6 +3,9 @@ pub mod Refusal
 pub mod State
 pub mod Access
 pub mod Cells
+pub mod Counts
+pub mod Arrival
+pub mod Fate
 pub mod Step
 pub mod Undo
 pub mod Cost

@@ -1,14 +1,18 @@
 -- What an adapter shows, as data.
-use Rattle.std.specs.Prelude.{ℕ, Bool, List, refl, if◌then◌else◌}
-use Rattle.std.specs.Coded.{Coded, code_by, coded×, coded_list, coded_ℕ, coded_bool}
+use Rattle.std.specs.Prelude.{ℕ, Bool, List, Option, refl, if◌then◌else◌}
+use Rattle.std.specs.Coded.{Coded, code_by, coded×, coded_list, coded_ℕ, coded_bool, coded_option}
 use Rattle.em_regs.specs.Storage.{Registers}
 use Rattle.em_regs.specs.RegFile.{registers_code}
+use Rattle.em_rx.specs.Frame.{Frame}
+use Rattle.em_rx.specs.Fifo.{Fifo}
 
 pub record State : Type 0 where
   -- the registers that keep what software writes
   pub registers : Registers
   -- the interrupt causes, their mask, and the counters
   pub latches : Registers
+  -- the frames that arrived and are not in memory yet
+  pub fifo : Fifo
   -- the octets of the guest's memory
   pub memory : List ℕ
   -- the 64 words of the EEPROM
@@ -16,15 +20,32 @@ pub record State : Type 0 where
   -- whether the link is up
   pub link : Bool
 
+abbrev pub frame_code : Coded Frame
+frame_code =
+    code_by (List ℕ × Option ℕ) (coded× (coded_list coded_ℕ) (coded_option coded_ℕ))
+    (λ f. (f.octets, f.tag)) (λ p. record { octets = p.0; tag = p.1 }) (λ _. refl)
+
+abbrev pub fifo_code : Coded Fifo
+fifo_code =
+    code_by (List Frame × ℕ) (coded× (coded_list frame_code) coded_ℕ)
+    (λ f. (f.frames, f.taken)) (λ p. record { frames = p.0; taken = p.1 }) (λ _. refl)
+
 -- a state is stored as the tuple of its fields
 abbrev pub state_code : Coded State
 state_code =
     code_by
-    (Registers × (Registers × (List ℕ × (List ℕ × Bool))))
-    (coded× registers_code (coded× registers_code
-    (coded× (coded_list coded_ℕ) (coded× (coded_list coded_ℕ) coded_bool))))
-    (λ s. (s.registers, (s.latches, (s.memory, (s.eeprom, s.link)))))
-    (λ p. record { registers = p.0; latches = p.1.0; memory = p.1.1.0; eeprom = p.1.1.1.0; link = p.1.1.1.1 })
+    (Registers × (Registers × (Fifo × (List ℕ × (List ℕ × Bool)))))
+    (coded× registers_code (coded× registers_code (coded× fifo_code
+    (coded× (coded_list coded_ℕ) (coded× (coded_list coded_ℕ) coded_bool)))))
+    (λ s. (s.registers, (s.latches, (s.fifo, (s.memory, (s.eeprom, s.link))))))
+    (λ p. record {
+      registers = p.0;
+      latches = p.1.0;
+      fifo = p.1.1.0;
+      memory = p.1.1.1.0;
+      eeprom = p.1.1.1.1.0;
+      link = p.1.1.1.1.1;
+    })
     (λ _. refl)
 
 -- STATUS follows the link: FD and SPEED 10b, and LU where it is up

@@ -1,14 +1,15 @@
 -- One event: the refusal whose cause comes first, or the answer and the next state.
-use Rattle.std.specs.Prelude.{◌≡◌, ◌⊎◌, ℕ, ◌+◌, ◌==◌, ◌||◌, nat_lt, Bool, true, false, IsTrue, if◌then◌else◌}
-use Rattle.std.specs.Prelude.{List, length, Option, Some, None, Result, Ok, Err, IsOk}
+use Rattle.std.specs.Prelude.{◌≡◌, ◌⊎◌, ℕ, ◌+◌, ◌==◌, ◌||◌, nat_lt, Bool, true, false, not, IsTrue, if◌then◌else◌}
+use Rattle.std.specs.Prelude.{List, length, Option, Some, None, Result, Ok, Err}
 use Rattle.em_mem.specs.Memory.{put}
 use Rattle.em_regs.specs.Table.{reg_at}
 use Rattle.em_regs.specs.declared.reg.Reg.{Reg}
-use Rattle.em_step.specs.Event.{Event, reads, writes, pokes, links}
+use Rattle.em_step.specs.Event.{Event, reads, writes, pokes, arrives, links}
 use Rattle.em_step.specs.State.{State}
+use Rattle.em_step.specs.Arrival.{arrival}
 use Rattle.em_step.specs.Access.{gives, after_read, after_write, is_reset, after_link}
 use Rattle.em_step.specs.declared.event.Answer.{Answer}
-use Rattle.em_step.specs.declared.event.Answer.TheVariants.{Done, Value}
+use Rattle.em_step.specs.declared.event.Answer.TheVariants.{Done, Value, Dropped}
 use Rattle.em_step.specs.declared.refusal.Refusal.{Refusal}
 use Rattle.em_step.specs.declared.refusal.Refusal.TheVariants.{NoRegister, Range, Length, Memory}
 
@@ -24,11 +25,16 @@ poke s a octets =
     else if length octets == 0 || nat_lt 16_384 (length octets) then Err Length
     else Ok (Done, record s { memory = put s.memory a octets })
 
+-- a frame has 14 to 20,000 octets, whatever becomes of it
+abbrev pub arrive : State → List ℕ → Result (Answer × State) Refusal
+arrive s f = if nat_lt (length f) 14 || nat_lt 20_000 (length f) then Err Length else Ok (arrival s f)
+
 -- the answer and the next state, or why there is none
 abbrev pub step : State → Event → Result (Answer × State) Refusal
 step s (reads o) = at_register (reg_at o) (λ reg. (Value (gives s reg), after_read s reg))
 step s (writes o v) = at_register (reg_at o) (λ reg. (Done, after_write s reg v))
 step s (pokes a octets) = poke s a octets
+step s (arrives f) = arrive s f
 step s (links up) = Ok (Done, after_link s up)
 
 -- a write that resets
@@ -36,14 +42,25 @@ abbrev pub resets : Option Reg → ℕ → Bool
 resets None v = false
 resets (Some reg) v = is_reset reg v
 
--- the events that take memory: a memory write, and a reset
+-- the events that take memory: a memory write, a reset, and the arrival of a frame
 abbrev pub takes_memory : Event → Bool
 takes_memory (reads o) = false
 takes_memory (writes o v) = resets (reg_at o) v
 takes_memory (pokes a octets) = true
+takes_memory (arrives f) = true
 takes_memory (links up) = false
+
+-- a frame that is dropped takes none
+abbrev pub is_dropped : Answer → Bool
+is_dropped (Dropped reason) = true
+is_dropped answer = false
+
+-- something comes of the event, for which memory may be wanting
+abbrev pub needs_memory : Result (Answer × State) Refusal → Bool
+needs_memory (Ok r) = not (is_dropped r.0)
+needs_memory (Err refusal) = false
 
 -- what refuses an event: its first cause, or, where it has none and takes memory, the want of memory
 abbrev pub Refuses : State → Event → Refusal → Type 0
 Refuses s e refusal =
-    ((refusal ≡ Memory) × IsTrue (takes_memory e) × IsOk (step s e)) ⊎ (step s e ≡ Err refusal)
+    ((refusal ≡ Memory) × IsTrue (takes_memory e) × IsTrue (needs_memory (step s e))) ⊎ (step s e ≡ Err refusal)

@@ -13,7 +13,8 @@ ghost use Rattle.em_step.specs.Access.{is_reset, reset, after_link};
 ghost use Rattle.em_step.specs.Cells.{fresh, shows, MorePages};
 ghost use Rattle.em_step.specs.Event.{plain, pokes};
 ghost use Rattle.em_step.specs.Step.{step, Refuses};
-ghost use Rattle.em_step.specs.Undo.{Fits, PartFits, Reverses, undo, undo_part};
+ghost use Rattle.em_step.specs.Undo.{Fits, PartFits, Reverses, undo, undo_part, undo_receive};
+ghost use Rattle.em_rx.specs.Undo as rx;
 ghost use Rattle.em_step.specs.Cost.{cost, cost_of, cost_of_part, least_cost, most_cost};
 
 use crate::event::{Answer, Event};
@@ -24,6 +25,7 @@ use em_eeprom::Eeprom;
 use em_latch::Latches;
 use em_mem::{GuestMemory, MemRefusal, MemUndo};
 use em_regs::{Causes, Ctrl, Eerd, Reg, RegFile, Status};
+use em_rx::{Fifo, RxUndo};
 use std::alloc::Global;
 use std::marker::Model;
 
@@ -33,12 +35,13 @@ const MOST_POKE: usize = 16_384;
 /// The adapter and the guest's memory.
 #[derive(Drop)]
 pub struct Adapter {
-    alloc: Global,
+    pub(crate) alloc: Global,
     memory: GuestMemory,
-    registers: RegFile,
-    latches: Latches,
+    pub(crate) registers: RegFile,
+    pub(crate) latches: Latches,
+    pub(crate) fifo: Fifo,
     eeprom: Eeprom,
-    link: bool,
+    pub(crate) link: bool,
 }
 
 impl Model for Adapter {
@@ -51,6 +54,7 @@ impl Model for Adapter {
     ghost view = { λ a. record {
       registers = a.registers;
       latches = a.latches;
+      fifo = a.fifo;
       memory = a.memory;
       eeprom = a.eeprom;
       link = a.link;
@@ -70,11 +74,16 @@ impl Adapter {
         ensures size { OnOk result (IsMemorySize size) }
         ensures refused { IfErr result (λ e. (e ≡ MemRefusal.Size) ↔ (IsMemorySize size → ⊥)) }
     {
+        let memory = GuestMemory::new(alloc, size)?;
+        let Ok(fifo) = Fifo::new(alloc) else {
+            return Err(MemRefusal::Memory);
+        };
         Ok(Adapter {
             alloc,
-            memory: GuestMemory::new(alloc, size)?,
+            memory,
             registers: RegFile::reset(eeprom.mac()),
             latches: Latches::new(),
+            fifo,
             eeprom,
             link: false,
         })
@@ -157,6 +166,7 @@ impl Adapter {
                 Ok((Answer::Done, self.write(reg, value)?))
             }
             Event::Poke(addr, octets) => Ok((Answer::Done, self.poke(addr, octets)?)),
+            Event::Arrive(frame) => self.arrive(frame),
             Event::Link(up) => Ok((Answer::Done, self.change_link(up))),
         }
     }
@@ -189,6 +199,10 @@ impl Adapter {
                 *old = self.memory.exchange(taken);
                 Part::Octets(old)
             }
+            Part::Arrival(mut old) => {
+                self.exchange_frames(&mut old);
+                Part::Arrival(old)
+            }
             Part::Link(old) => Part::Link(std::mem::replace(&mut self.link, old)),
             // what it put aside has every word of the latches
             Part::Reset(old) => return self.exchange_reset(old),
@@ -199,7 +213,20 @@ impl Adapter {
         }
     }
 
+    /// Takes a change of the FIFO back; the record that makes it again takes the place of the other.
+    fn exchange_frames(&mut self, old: &mut RxUndo)
+        requires { rx.Fits self.old.fifo self.old.memory old.old }
+        ensures state { self.new ≡ undo_receive self.old old.old }
+        ensures held { rx.octets_held old.new ≡ rx.octets_held old.old }
+        ensures reverses { rx.Reverses self.old.fifo self.new.fifo self.old.memory self.new.memory old.new }
+    {
+        let taken = std::mem::replace(old, RxUndo::Nothing);
+        *old = self.fifo.exchange(&mut self.memory, taken);
+    }
+
+    /// Takes a reset back; what the adapter held is put aside in its place.
     fn exchange_reset(&mut self, mut old: Box<BeforeReset>) -> Undo
+        requires { PartFits self.old (Part.Reset old) }
         ensures state { self.new ≡ undo_part self.old (Part.Reset old) }
         ensures cost { cost_of result ≡ most_cost }
         ensures reverses { Reverses self.old self.new result }
@@ -207,6 +234,7 @@ impl Adapter {
         let before = &mut *old;
         std::mem::swap(&mut self.registers, &mut before.registers);
         std::mem::swap(&mut self.latches, &mut before.latches);
+        self.exchange_frames(&mut before.fifo);
         Undo::of_part(Part::Reset(old))
     }
 
@@ -303,7 +331,8 @@ impl Adapter {
         }
     }
 
-    /// Resets the registers and latches. The box that keeps the old ones is made first.
+    /// Resets the registers and latches, and empties the FIFO. The box that keeps the old ones is made
+    /// first.
     fn reset(&mut self) -> Result<Undo, Refusal>
         ensures state { OnOk result (shows self.new ≡ reset (shows self.old)) }
         ensures cost { IfOk result (λ r. cost_of r ≡ most_cost) }
@@ -314,9 +343,14 @@ impl Adapter {
         let fresh = BeforeReset {
             registers: RegFile::reset(self.eeprom.mac()),
             latches: Latches::new(),
+            fifo: RxUndo::Nothing,
         };
-        let kept = Box::new(self.alloc, fresh)?;
-        Ok(self.exchange_reset(kept))
+        let mut kept = Box::new(self.alloc, fresh)?;
+        let before = &mut *kept;
+        std::mem::swap(&mut self.registers, &mut before.registers);
+        std::mem::swap(&mut self.latches, &mut before.latches);
+        before.fifo = self.fifo.clear();
+        Ok(Undo::of_part(Part::Reset(kept)))
     }
 
     /// Takes the link up or down; a change raises LSC.

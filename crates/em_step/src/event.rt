@@ -9,6 +9,9 @@ pub enum Event<'a> {
     Write(u32, u32),
     /// Software writes 1 to 16,384 octets to guest memory, from an address on.
     Poke(u64, &'a [u8]),
+    /// The wire brings a frame of 14 to 20,000 octets: from its destination to the last octet before
+    /// the frame check sequence.
+    Arrive(&'a [u8]),
     /// The link goes up, or down.
     Link(bool),
 }
@@ -18,4 +21,26 @@ pub enum Event<'a> {
 pub enum Answer {
     Done,
     Value(u32),
+    /// The frame that arrived is in the FIFO.
+    Stored,
+    /// The frame that arrived is lost.
+    Dropped(Reason),
+}
+
+/// Why a frame was dropped. Where several reasons are there, the first of them is named (this
+/// project's profile).
+#[derive(Clone, Copy, PartialEq, Eq, Debug)]
+pub enum Reason {
+    /// The link is down.
+    Down,
+    /// RCTL.EN is clear.
+    Disabled,
+    /// Its destination is not accepted, or the VLAN filter does not let it pass.
+    Rejected,
+    /// It is shorter than a frame can be.
+    Undersize,
+    /// It is longer than RCTL.LPE allows.
+    Oversize,
+    /// The FIFO has no room for it.
+    Missed,
 }

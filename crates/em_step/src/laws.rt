@@ -9,6 +9,8 @@ ghost use Rattle.em_step.specs.Access.{gives, reset, after_eeprom_read};
 ghost use Rattle.em_step.specs.Cells.{Cells, fresh, shows, MorePages};
 ghost use Rattle.em_step.specs.Undo.{Fits, undo};
 ghost use Rattle.em_step.specs.Event.{Event};
+ghost use Rattle.em_step.specs.Arrival.{arrival};
+ghost use Rattle.em_step.specs.Fate.{IsFate};
 ghost use Rattle.em_step.specs.Step.{step};
 ghost use Rattle.em_step.specs.Cost.{cost, most_cost};
 ghost use Rattle.em_step.specs.declared.event.Answer.{Answer};
@@ -42,6 +44,12 @@ pub fn a_reset_leaves_zeros()
 /// A new adapter is one that was reset.
 pub fn a_new_adapter_is_reset()
     ensures { (size : ℕ) (eeprom : List ℕ) → shows (fresh size eeprom) ≡ reset (shows (fresh size eeprom)) }
+{}
+
+/// Each arrival has one fate: the conditions of its answer hold, and those of no other answer do.
+pub fn fates()
+    ensures one { (s : State) (f : List ℕ) → IsFate s f (arrival s f).0 }
+    ensures alone { (s : State) (f : List ℕ) (a : Answer) → IsFate s f a → (arrival s f).0 ≡ a }
 {}
 
 /// An adapter's EEPROM has 64 words of 16 bits.

@@ -2,12 +2,14 @@
 #![tactic(auto)]
 
 mod adapter;
+mod arrival;
+mod counts;
 mod event;
 pub mod laws;
 mod refusal;
 mod undo;
 
 pub use adapter::Adapter;
-pub use event::{Answer, Event};
+pub use event::{Answer, Event, Reason};
 pub use refusal::Refusal;
 pub use undo::{BeforeReset, LEAST_COST, MOST_COST, Part, Undo};

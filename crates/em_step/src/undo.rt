@@ -5,6 +5,7 @@ ghost use Rattle.em_step.specs.Cost.{least_cost, most_cost, cost_of};
 use em_latch::{LatchUndo, Latches};
 use em_mem::MemUndo;
 use em_regs::{RegFile, RegUndo};
+use em_rx::RxUndo;
 use std::mem::size_of;
 
 /// What a record costs that holds no octets.
@@ -30,17 +31,20 @@ pub enum Part {
     Register(RegUndo),
     /// Octets of guest memory, in a box, so that records stay small: a journal has a place for each.
     Octets(Box<MemUndo>),
+    /// What a frame overwrote in the FIFO, in a box like the octets.
+    Arrival(Box<RxUndo>),
     /// The link.
     Link(bool),
     /// All that a reset put aside, the latches among it.
     Reset(Box<BeforeReset>),
 }
 
-/// What a reset put aside: the registers and latches as they were.
+/// What a reset put aside: the registers and latches as they were, and where the FIFO's frames lay.
 #[derive(Drop)]
 pub struct BeforeReset {
     pub registers: RegFile,
     pub latches: Latches,
+    pub fifo: RxUndo,
 }
 
 impl Undo {
@@ -75,6 +79,7 @@ impl Undo {
         match &self.part {
             Part::Nothing | Part::Register(_) | Part::Link(_) => LEAST_COST,
             Part::Octets(octets) => LEAST_COST + octets.len(),
+            Part::Arrival(frame) => LEAST_COST + frame.len(),
             Part::Reset(_) => MOST_COST,
         }
     }

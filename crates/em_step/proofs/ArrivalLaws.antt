@@ -1,0 +1,53 @@
+-- What is known of a frame that the filters accept, and of one as it is stored.
+use Rattle.std.proofs.Common.{◌≡◌, ℕ, ◌+◌, ◌-◌, ◌≤◌, Bool, true, false, List, length, take, drop}
+use Rattle.std.proofs.Common.{arith, refl, length-append, length-drop}
+use Rattle.std.specs.Prelude.{if◌then◌else◌, nat_lt, not}
+use Rattle.std.proofs.lemmas.List.{length-take}
+use Rattle.std.proofs.lemmas.Bool.Decides.{nat_tests}
+use Rattle.em_regs.specs.Storage.{Registers}
+use Rattle.em_filter.specs.declared.kind.Kind.{Kind}
+use Rattle.em_filter.specs.declared.outcome.Verdict.{Verdict}
+use Rattle.em_filter.specs.declared.outcome.Verdict.TheVariants.{Reject, Undersize, Oversize, Accept}
+use Rattle.em_filter.specs.Address.{accepts}
+use Rattle.em_filter.specs.Bits.{lpe}
+use Rattle.em_filter.specs.Filters.{longest, verdict}
+use Rattle.em_filter.specs.Kind.{destination, kind_of}
+use Rattle.em_filter.specs.Vlan.{passes_vlan}
+use Rattle.em_rx.specs.Frame.{len_of, stored_frame}
+
+-- an accepted frame is neither too short nor too long
+sizes : (acc short long vlan : Bool) (k kind : Kind) →
+    (if not acc then Reject
+    else if short then Undersize
+    else if long then Oversize
+    else if not vlan then Reject
+    else Accept k) ≡ Accept kind → (short ≡ false) × (long ≡ false)
+sizes false short long vlan k kind is = cc
+sizes true true long vlan k kind is = cc
+sizes true false true vlan k kind is = cc
+sizes true false false vlan k kind is = (refl, refl)
+
+longest_most : (b : Bool) → (if b then 16384 else 1522) ≤ 16384
+longest_most true = omega arith
+longest_most false = omega arith
+
+pub accepted_sizes : (s : Registers) (f : List ℕ) (kind : Kind) → verdict s f ≡ Accept kind →
+    (60 ≤ length f) × (length f ≤ 16_380)
+unfolding verdict
+accepted_sizes s f kind is =
+    let short : Bool = nat_lt (length f + 4) 64 in
+    let long : Bool = nat_lt (longest s) (length f + 4) in
+    let known : (short ≡ false) × (long ≡ false) =
+    sizes (accepts s (destination f)) short long (passes_vlan s f) _ kind is in
+    let most : longest s ≤ 16384 = longest_most (lpe s) in
+    (grind (arith, nat_tests), grind (arith, nat_tests))
+
+-- a tagged frame is stored without four octets
+pub stored_len : (f : List ℕ) (t : Bool) → 16 ≤ length f →
+    len_of (stored_frame f t) ≡ length f - (if t then 4 else 0)
+stored_len f false h = omega arith
+stored_len f true h = grind (arith, refl, length-append, length-take, length-drop)
+
+pub stored_most : (f : List ℕ) (t : Bool) → len_of (stored_frame f t) ≤ length f
+stored_most f false = omega arith
+stored_most f true = grind (arith, refl, length-append, length-take, length-drop)

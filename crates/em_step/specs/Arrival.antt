@@ -1,0 +1,96 @@
+-- An arriving frame: what becomes of it, where the first line that holds decides, and what it changes.
+use Rattle.std.specs.Prelude.{ℕ, ◌+◌, ◌==◌, nat_lt, Bool, not, if◌then◌else◌, List, length}
+use Rattle.em_regs.specs.declared.reg.Reg.TheVariants.{Rctl, Rdh, Rdt}
+use Rattle.em_regs.specs.Setup.{value_of}
+use Rattle.em_latch.specs.Counter.{after_count}
+use Rattle.em_latch.specs.declared.counter.Counter.{Counter}
+use Rattle.em_latch.specs.declared.counter.Counter.TheVariants.{Ruc, Roc}
+use Rattle.em_filter.specs.declared.kind.Kind.{Kind}
+use Rattle.em_filter.specs.declared.outcome.Verdict.{Verdict}
+use Rattle.em_filter.specs.declared.outcome.Verdict.TheVariants.{Reject, Accept}
+use Rattle.em_filter.specs.declared.outcome.Verdict.TheVariants.{Undersize as TooShort, Oversize as TooLong}
+use Rattle.em_filter.specs.Filters.{verdict}
+use Rattle.em_filter.specs.Vlan.{tagged}
+use Rattle.em_rx.specs.Frame.{Frame, len_of, stored_frame}
+use Rattle.em_rx.specs.Fifo.{after_arrival, octets_in}
+use Rattle.em_step.specs.Access.{has}
+use Rattle.em_step.specs.Counts.{after_buffer_count, after_frame_count, after_miss_count}
+use Rattle.em_step.specs.State.{State}
+use Rattle.em_step.specs.declared.event.Answer.{Answer}
+use Rattle.em_step.specs.declared.event.Answer.TheVariants.{Stored, Dropped}
+use Rattle.em_step.specs.declared.event.Reason.TheVariants.{Down, Disabled, Rejected, Undersize, Oversize, Missed}
+
+-- ---- the registers that it goes by
+abbrev pub rctl : State → ℕ
+rctl s = value_of s.registers Rctl
+
+abbrev pub rdh : State → ℕ
+rdh s = value_of s.registers Rdh
+
+abbrev pub rdt : State → ℕ
+rdt s = value_of s.registers Rdt
+
+-- RCTL.EN: frames are received
+abbrev pub is_enabled : State → Bool
+is_enabled s = has (rctl s) 0x2
+
+-- RCTL.BAM: broadcasts are received
+abbrev pub takes_broadcasts : State → Bool
+takes_broadcasts s = has (rctl s) 0x8000
+
+-- no descriptor is the adapter's, so no buffer is there for the frame
+abbrev pub lacks_buffer : State → Bool
+lacks_buffer s = rdh s == rdt s
+
+-- ---- the frame in the FIFO
+-- the frame as it is stored
+abbrev pub kept_frame : State → List ℕ → Frame
+kept_frame s f = stored_frame f (tagged s.registers f)
+
+-- so many stored octets would be too many
+abbrev pub lacks_room : State → List ℕ → Bool
+lacks_room s f = nat_lt 49_152 (octets_in s.fifo + len_of (kept_frame s f))
+
+-- ---- what an arrival leaves
+-- one more in a counter
+abbrev pub after_one_more : State → Counter → State
+after_one_more s counter = record s { latches = after_count s.latches counter 1 }
+
+-- a frame is missed
+abbrev pub after_miss : State → State
+after_miss s = record s { latches = after_buffer_count (lacks_buffer s) (after_miss_count s.latches) }
+
+-- a frame is stored: it comes last in the FIFO; four octets, the frame check sequence, count with it
+abbrev pub after_accept : State → List ℕ → Kind → State
+after_accept s f kind = record s {
+  latches = after_buffer_count (lacks_buffer s) (after_frame_count (length f + 4) (takes_broadcasts s) kind s.latches);
+  fifo = after_arrival s.fifo (kept_frame s f);
+}
+
+-- an accepted frame is missed where the FIFO has no room for it, and stored otherwise
+abbrev pub admission : State → List ℕ → Kind → Answer × State
+admission s f kind =
+    if lacks_room s f then (Dropped Missed, after_miss s)
+    else (Stored, after_accept s f kind)
+
+-- by the verdict of the filters
+abbrev pub judgement : State → List ℕ → Verdict → Answer × State
+judgement s f Reject = (Dropped Rejected, s)
+judgement s f TooShort = (Dropped Undersize, after_one_more s Ruc)
+judgement s f TooLong = (Dropped Oversize, after_one_more s Roc)
+judgement s f (Accept kind) = admission s f kind
+
+abbrev pub judged : State → List ℕ → Answer × State
+judged s f = judgement s f (verdict s.registers f)
+
+-- the answer and the next state
+abbrev pub arrival : State → List ℕ → Answer × State
+arrival s f =
+    if not s.link then (Dropped Down, s)
+    else if not (is_enabled s) then (Dropped Disabled, s)
+    else judged s f
+
+-- the octets that an arrival puts into the FIFO, by its answer
+abbrev pub octets_stored : State → List ℕ → Answer → ℕ
+octets_stored s f Stored = len_of (kept_frame s f)
+octets_stored s f answer = 0

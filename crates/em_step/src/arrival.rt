@@ -1,0 +1,197 @@
+//! What becomes of a frame that arrives (manual, chapter on receive description).
+ghost use Rattle.std.specs.Prelude.{◌≡◌, ◌+◌, ◌≤◌, IfOk, IfErr, OnOk, OnErr, Ok, length, not, false, []};
+ghost use Rattle.em_rx.specs.Frame.{len_of};
+ghost use Rattle.em_step.specs.Arrival.{after_accept, after_miss, after_one_more, admission, arrival, judged};
+ghost use Rattle.em_step.specs.Arrival.{is_enabled, kept_frame, lacks_buffer, lacks_room, octets_stored};
+ghost use Rattle.em_step.specs.Arrival.{takes_broadcasts};
+ghost use Rattle.em_step.specs.Cells.{shows};
+ghost use Rattle.em_step.specs.Cost.{cost, cost_of, least_cost};
+ghost use Rattle.em_step.specs.Event.{arrives};
+ghost use Rattle.em_step.specs.Step.{step, Refuses};
+ghost use Rattle.em_step.specs.Undo.{Reverses};
+
+use crate::adapter::Adapter;
+use crate::counts::{count_frame, count_miss};
+use crate::event::{Answer, Reason};
+use crate::refusal::Refusal;
+use crate::undo::{Part, Undo};
+use bitflags::Flags;
+use em_filter::{Kind, Verdict, tagged, verdict};
+use em_latch::Counter;
+use em_regs::{Rctl, Reg};
+use em_rx::RxUndo;
+
+/// The fewest octets that a frame can arrive with, and the most.
+const LEAST_FRAME: usize = 14;
+
+const MOST_FRAME: usize = 20_000;
+
+/// The octets of the frame check sequence, which count with a frame.
+const CHECK_OCTETS: u32 = 4;
+
+/// The octets of a tagged frame that are not stored: its type and its tag.
+const TAG_OCTETS: usize = 4;
+
+impl Adapter {
+    /// A frame arrives. It is refused for its length alone, and for memory where it would be stored.
+    pub(crate) fn arrive(&mut self, frame: &[u8]) -> Result<(Answer, Undo), Refusal>
+        ensures ok { IfOk result (λ r. step (shows self.old) (arrives frame.now) ≡ Ok (r.0, shows self.new)) }
+        ensures cost { IfOk result (λ r. cost_of r.1 ≡ cost (shows self.old) (arrives frame.now)) }
+        ensures reverses { IfOk result (λ r. Reverses self.old self.new r.1) }
+        ensures err { IfErr result (Refuses (shows self.old) (arrives frame.now)) }
+        ensures same { OnErr result (self.new ≡ self.old) }
+    {
+        if frame.len() < LEAST_FRAME || frame.len() > MOST_FRAME {
+            return Err(Refusal::Length);
+        }
+        self.receive(frame)
+    }
+
+    /// What becomes of a frame: the first test that fails drops it.
+    fn receive(&mut self, frame: &[u8]) -> Result<(Answer, Undo), Refusal>
+        requires least { 14 ≤ length frame.now }
+        requires most { length frame.now ≤ 20_000 }
+        ensures ok { IfOk result (λ r. arrival (shows self.old) frame.now ≡ (r.0, shows self.new)) }
+        ensures cost { IfOk result (λ r. cost_of r.1 ≡ least_cost + octets_stored (shows self.old) frame.now r.0) }
+        ensures reverses { IfOk result (λ r. Reverses self.old self.new r.1) }
+        ensures err { IfErr result (λ e. (e ≡ Refusal.Memory)
+            × ((arrival (shows self.old) frame.now).0 ≡ Answer.Stored)) }
+        ensures same { OnErr result (self.new ≡ self.old) }
+    {
+        if !self.link {
+            return Ok(unchanged(Reason::Down));
+        }
+        if !self.is_enabled() {
+            return Ok(unchanged(Reason::Disabled));
+        }
+        self.judge(frame)
+    }
+
+    /// What becomes of a frame by the verdict of the filters.
+    fn judge(&mut self, frame: &[u8]) -> Result<(Answer, Undo), Refusal>
+        requires least { 14 ≤ length frame.now }
+        requires most { length frame.now ≤ 20_000 }
+        ensures ok { IfOk result (λ r. judged (shows self.old) frame.now ≡ (r.0, shows self.new)) }
+        ensures cost { IfOk result (λ r. cost_of r.1 ≡ least_cost + octets_stored (shows self.old) frame.now r.0) }
+        ensures reverses { IfOk result (λ r. Reverses self.old self.new r.1) }
+        ensures err { IfErr result (λ e. (e ≡ Refusal.Memory)
+            × ((judged (shows self.old) frame.now).0 ≡ Answer.Stored)) }
+        ensures same { OnErr result (self.new ≡ self.old) }
+    {
+        match verdict(&self.registers, frame) {
+            Verdict::Reject => Ok(unchanged(Reason::Rejected)),
+            Verdict::Undersize => Ok((
+                Answer::Dropped(Reason::Undersize),
+                self.count(Counter::Ruc),
+            )),
+            Verdict::Oversize => Ok((Answer::Dropped(Reason::Oversize), self.count(Counter::Roc))),
+            Verdict::Accept(kind) => self.admit(frame, kind),
+        }
+    }
+
+    /// Stores an accepted frame, or misses it where the FIFO has no room.
+    fn admit(&mut self, frame: &[u8], kind: Kind) -> Result<(Answer, Undo), Refusal>
+        requires least { 60 ≤ length frame.now }
+        requires most { length frame.now ≤ 16_380 }
+        ensures ok { IfOk result (λ r. admission (shows self.old) frame.now kind ≡ (r.0, shows self.new)) }
+        ensures cost { IfOk result (λ r. cost_of r.1 ≡ least_cost + octets_stored (shows self.old) frame.now r.0) }
+        ensures reverses { IfOk result (λ r. Reverses self.old self.new r.1) }
+        ensures err { IfErr result (λ e. (e ≡ Refusal.Memory)
+            × ((admission (shows self.old) frame.now kind).0 ≡ Answer.Stored)) }
+        ensures same { OnErr result (self.new ≡ self.old) }
+    {
+        if self.has_room(frame) {
+            Ok((Answer::Stored, self.accept(frame, kind)?))
+        } else {
+            Ok((Answer::Dropped(Reason::Missed), self.miss()))
+        }
+    }
+
+    /// RCTL.EN: frames are received.
+    fn is_enabled(&self) -> bool
+        ensures { result ≡ is_enabled (shows self.now) }
+    {
+        Rctl::from_bits_retain(self.registers.look(Reg::Rctl)).contains(Rctl::EN)
+    }
+
+    /// RCTL.BAM: broadcasts are received.
+    fn takes_broadcasts(&self) -> bool
+        ensures { result ≡ takes_broadcasts (shows self.now) }
+    {
+        Rctl::from_bits_retain(self.registers.look(Reg::Rctl)).contains(Rctl::BAM)
+    }
+
+    /// No descriptor of the receive ring is the adapter's.
+    fn lacks_buffer(&self) -> bool
+        ensures { result ≡ lacks_buffer (shows self.now) }
+    {
+        self.registers.look(Reg::Rdh) == self.registers.look(Reg::Rdt)
+    }
+
+    /// The FIFO has room for a frame as it is stored: a tagged one without its tag.
+    fn has_room(&self, frame: &[u8]) -> bool
+        requires { 60 ≤ length frame.now }
+        ensures { result ≡ not (lacks_room (shows self.now) frame.now) }
+    {
+        let taken = if tagged(&self.registers, frame) {
+            TAG_OCTETS
+        } else {
+            0
+        };
+        self.fifo.has_room(frame.len() - taken)
+    }
+
+    /// Steps a counter by one.
+    fn count(&mut self, counter: Counter) -> Undo
+        ensures state { shows self.new ≡ after_one_more (shows self.old) counter }
+        ensures cost { cost_of result ≡ least_cost }
+        ensures reverses { Reverses self.old self.new result }
+    {
+        Undo::of_latches(self.latches.count(counter, 1))
+    }
+
+    /// Misses a frame.
+    fn miss(&mut self) -> Undo
+        ensures state { shows self.new ≡ after_miss (shows self.old) }
+        ensures cost { cost_of result ≡ least_cost }
+        ensures reverses { Reverses self.old self.new result }
+    {
+        let lacks = self.lacks_buffer();
+        Undo::of_latches(count_miss(&mut self.latches, lacks))
+    }
+
+    /// Stores a frame, and counts it. The box of the record is made first.
+    fn accept(&mut self, frame: &[u8], kind: Kind) -> Result<Undo, Refusal>
+        requires least { 60 ≤ length frame.now }
+        requires most { length frame.now ≤ 16_380 }
+        requires room { lacks_room (shows self.old) frame.now ≡ false }
+        ensures state { OnOk result (shows self.new ≡ after_accept (shows self.old) frame.now kind) }
+        ensures cost { IfOk result (λ r. cost_of r ≡ least_cost + len_of (kept_frame (shows self.old) frame.now)) }
+        ensures reverses { IfOk result (λ r. Reverses self.old self.new r) }
+        ensures err { IfErr result (λ e. e ≡ Refusal.Memory) }
+        ensures same { OnErr result (self.new ≡ self.old) }
+    {
+        let mut kept = Box::new(self.alloc, RxUndo::Nothing)?;
+        let is_tagged = tagged(&self.registers, frame);
+        match self.fifo.accept(frame, is_tagged) {
+            Ok(taken) => *kept = taken,
+            Err(_) => return Err(Refusal::Memory),
+        }
+        let broadcasts = self.takes_broadcasts();
+        let lacks = self.lacks_buffer();
+        let octets = frame.len() as u32 + CHECK_OCTETS;
+        let latches = count_frame(&mut self.latches, octets, kind, broadcasts, lacks);
+        Ok(Undo {
+            latches,
+            part: Part::Arrival(kept),
+        })
+    }
+}
+
+/// A frame was dropped that left no trace.
+fn unchanged(reason: Reason) -> (Answer, Undo)
+    ensures answer { result.0 ≡ Answer.Dropped reason }
+    ensures undo { result.1 ≡ record { latches = []; part = Part.Nothing } }
+{
+    (Answer::Dropped(reason), Undo::of_part(Part::Nothing))
+}
