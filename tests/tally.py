@@ -13,7 +13,8 @@ def program() -> str:
     named = sys.argv[1] if sys.argv[1:] else str(PROGRAM)
     if not Path(named).is_file():
         sys.exit(f"{named} is not there: ./em_bench builds it")
-    return named
+    # a part may run it from another folder
+    return str(Path(named).resolve())
 
 
 def run(words: list, script: bytes | None = None, **how) -> subprocess.CompletedProcess:
