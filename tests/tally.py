@@ -40,8 +40,10 @@ class Tally:
         for fault in faults:
             print(f"{name}: {fault}", flush=True)
 
-    def ended(self, name: str, ran: subprocess.CompletedProcess, status: int, out: bytes | None, err: bytes) -> None:
-        """Checks a run's status and what it wrote; None stands for an output that can't be seen."""
+    def ended(
+        self, name: str, ran: subprocess.CompletedProcess, status: int, out: bytes | None, err: bytes | None
+    ) -> None:
+        """Checks a run's status and what it wrote; None stands for what can't be seen, or is not compared."""
         faults = [] if ran.returncode == status else [f"status {ran.returncode}, and not {status}"]
         for what, is_there, wanted in (("standard output", ran.stdout, out), ("standard error", ran.stderr, err)):
             if wanted is not None and is_there is not None and is_there != wanted:

@@ -1,6 +1,6 @@
 //! The machine: an adapter with a journal of its latest events.
 ghost use Rattle.std.specs.Prelude.{◌≡◌, ◌+◌, ◌<◌, ◌↔◌, IfOk, IfErr, OnOk, OnErr, IsErrOf, IsTrue};
-ghost use Rattle.std.specs.Prelude.{length, min, replicate};
+ghost use Rattle.std.specs.Prelude.{length, min, replicate, slice_get};
 ghost use Rattle.std.specs.Option.{option_map};
 ghost use Rattle.em_mem.specs.Memory.{part};
 ghost use Rattle.em_regs.specs.Table.{reg_at};
@@ -171,6 +171,20 @@ impl Machine {
         ensures { result ≡ self.now.present.link }
     {
         self.adapter.link()
+    }
+
+    /// How many frames were sent.
+    pub fn wire_len(&self) -> usize
+        ensures { result ≡ length self.now.present.wire }
+    {
+        self.adapter.wire_len()
+    }
+
+    /// The octets of a frame that was sent, the first one at 0; none where so many were not sent.
+    pub fn wire_frame(&self, index: usize) -> Option<&[u8]>
+        ensures { option_map (λ frame. frame.now) result ≡ slice_get self.now.present.wire index }
+    {
+        self.adapter.wire_frame(index)
     }
 
     /// How many octets the guest's memory has.

@@ -49,6 +49,16 @@ impl Model for RegUndo {
     ghost invariant = { λ u. IsStored u.reg };
 }
 
+impl RegUndo {
+    /// What the register held.
+    #[inline(always)]
+    pub fn old(&self) -> u32
+        ensures { result ≡ self.now.old }
+    {
+        self.old
+    }
+}
+
 impl RegFile {
     /// The registers after a reset, with the Ethernet address as the first receive address.
     pub fn reset(mac: [u8; 6]) -> RegFile
@@ -85,6 +95,7 @@ impl RegFile {
     pub fn put(&mut self, reg: Reg, value: u32) -> RegUndo
         requires { IsStored reg }
         ensures state { self.new ≡ put self.old reg value }
+        ensures at { result.at ≡ offset_of reg }
         ensures reverses { Reverses self.old self.new result }
     {
         self.replace(reg, value & reg.row().mask)
@@ -98,6 +109,16 @@ impl RegFile {
     {
         let value = Eerd::DONE.bits() + 0x100 * u32::from(address) + 0x1_0000 * u32::from(word);
         self.replace(Reg::Eerd, value)
+    }
+
+    /// Puts back what a register held, and gives what it held instead.
+    #[inline(always)]
+    pub fn restore(&mut self, reg: Reg, old: u32) -> u32
+        requires { IsStored reg }
+        ensures state { self.new ≡ undo self.old (record { at = offset_of reg; old = old }) }
+        ensures reverses { Reverses self.old self.new (record { at = offset_of reg; old = result }) }
+    {
+        self.replace(reg, old).old
     }
 
     /// Takes back the write that gave out this record, and gives the record that makes it again.
@@ -128,6 +149,7 @@ impl RegFile {
     fn replace(&mut self, reg: Reg, value: u32) -> RegUndo
         requires { IsStored reg }
         ensures state { self.new ≡ map.insert self.old (offset_of reg) value }
+        ensures at { result.at ≡ offset_of reg }
         ensures reverses { Reverses self.old self.new result }
     {
         let old = self.word(reg);

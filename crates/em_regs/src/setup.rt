@@ -1,5 +1,5 @@
 //! What the registers say of the two rings.
-ghost use Rattle.std.specs.Prelude.{◌≡◌};
+ghost use Rattle.std.specs.Prelude.{◌≡◌, ◌<◌, ◌≤◌, ◌^◌};
 ghost use Rattle.em_regs.specs.Storage.{Registers};
 ghost use Rattle.em_regs.specs.Setup.{pair, buffer_size, few_of};
 ghost use Rattle.em_regs.specs.RegFile.{IsStored};
@@ -66,7 +66,9 @@ impl RegFile {
 
     /// The receive ring as the registers say it.
     pub fn ring_rx(&self) -> RxSetup
-        ensures { result ≡ rx_setup self.now }
+        ensures setup { result ≡ rx_setup self.now }
+        ensures count { result.count < 2 ^ 28 }
+        ensures buffer { result.buffer ≤ 16_384 }
     {
         let rctl = self.look(Reg::Rctl);
         let count = self.look(Reg::Rdlen) / DESCRIPTOR;
@@ -110,7 +112,8 @@ impl RegFile {
 }
 
 fn buffer_size(rctl: u32) -> u32
-    ensures { result ≡ buffer_size rctl }
+    ensures size { result ≡ buffer_size rctl }
+    ensures most { result ≤ 16_384 }
 {
     let bsize = (rctl / BSIZE_BIT % 4) as usize;
     if Rctl::from_bits_retain(rctl).contains(Rctl::BSEX) {

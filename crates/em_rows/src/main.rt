@@ -1,23 +1,29 @@
 //! Runs the worked rows of `data/` and prints a line for each.
 //!
-//! A row is a folder: a script, the text that it must print, the status that the program must end
-//! with where it is not 0, and where the row has options of its own their words, a line each.
-//! `data/rows` names the rows, a line each; a row is run on a new machine of its own.
+//! A row is a folder: a script, the text that it must print, and where they are not none, 0 and
+//! nothing the words of a command line, a line each, the status that the program must end with, and
+//! its line on standard error. `data/rows` names the rows, a line each; a row is run on a new
+//! machine of its own.
 #![tactic(auto)]
 
 use anyhow::{Context, Result};
-use em_journal::{Machine, Settings};
-use em_script::{Session, run};
+use em_options::{Ending, options};
+use em_script::{BenchFault, Session, run};
 use std::alloc::Global;
 use std::rt::Files;
 use std::{fs, io};
 
+#[cfg(test)]
+mod filters;
 #[cfg(test)]
 mod refusals;
 #[cfg(test)]
 mod registers;
 #[cfg(test)]
 mod tests;
+
+/// The file of a row that holds its script.
+const SCRIPT: &str = "script";
 
 fn main(rt: HostRuntime) -> Result<()> {
     let rows = fs::read_to_string(&rt, "rows").context("reading the names of the rows")?;
@@ -28,26 +34,64 @@ fn main(rt: HostRuntime) -> Result<()> {
     Ok(())
 }
 
-/// Whether the row's script prints its text, and leaves its status.
+/// Whether the row prints its text, and ends with its status and its line on standard error.
 fn row(rt: &(impl Files + AllocGlobal), name: &str) -> Result<&'static str> {
     let alloc = rt.alloc();
-    let script = fs::read(rt, format!(in alloc; "{name}/script")?).context("reading a script")?;
     let wanted = fs::read(rt, format!(in alloc; "{name}/stdout")?).context("reading a text")?;
     let status = text_of(rt, name, "status")?;
-    let args = text_of(rt, name, "args")?;
-    let mut session = Session::new(machine(alloc, args.as_str())?);
+    let error_line = text_of(rt, name, "stderr")?;
     let mut printed = Vec::new(alloc);
-    let mut reader = script.as_slice();
-    let summary = run(alloc, &mut reader, &mut printed, &mut session)?;
+    let ending = play(rt, name, &mut printed)?;
     if printed.as_slice() != wanted.as_slice() {
         return Ok("DIFFERS");
     }
-    let ended = if summary.bad == 0 { "" } else { "1\n" };
-    if status.as_str() == ended {
+    let is_ended = is_status(status.trim_end(), ending.status());
+    if is_ended && ending.error_line() == error_line.trim_end() {
         Ok("passed")
     } else {
         Ok("ENDS OTHERWISE")
     }
+}
+
+/// Whether the text of a file names the status; without one it is 0.
+fn is_status(text: &str, status: u8) -> bool {
+    if text.is_empty() {
+        status == 0
+    } else {
+        text.parse() == Ok(status)
+    }
+}
+
+/// Runs the row's script as its words say, and tells how the program would end.
+fn play(rt: &(impl Files + AllocGlobal), name: &str, printed: &mut Vec<u8>) -> Result<Ending> {
+    let alloc = rt.alloc();
+    let args = text_of(rt, name, "args")?;
+    let words = command_line(alloc, args.as_str())?;
+    let options = match options(alloc, words.as_slice()) {
+        Ok(options) => options,
+        Err(refused) => return Ok(refused.ending()),
+    };
+    let machine = match options.settings().machine(alloc) {
+        Ok(machine) => machine,
+        Err(refusal) => return Ok(refusal.into()),
+    };
+    let file = options.script.unwrap_or(SCRIPT);
+    let Ok(script) = fs::read(rt, format!(in alloc; "{name}/{file}")?) else {
+        return Ok(Ending::Fault(BenchFault::Read));
+    };
+    let mut session = Session::new(alloc, machine);
+    let mut reader = script.as_slice();
+    Ok(run(alloc, &mut reader, printed, &mut session).into())
+}
+
+/// The words of a command line: the program's name, and the row's words.
+fn command_line(alloc: Global, args: &str) -> Result<Vec<String>> {
+    let mut words = Vec::new(alloc);
+    words.push(String::from_str(alloc, "em_bench")?)?;
+    for word in args.lines() {
+        words.push(String::from_str(alloc, word)?)?;
+    }
+    Ok(words)
 }
 
 /// The text of a file that the row may have; empty where it has none.
@@ -56,25 +100,6 @@ fn text_of(rt: &(impl Files + AllocGlobal), name: &str, file: &str) -> Result<St
     match fs::read_to_string(rt, format!(in alloc; "{name}/{file}")?) {
         Ok(text) => Ok(text),
         Err(error) if error.kind() == io::ErrorKind::NotFound => Ok(String::new(alloc)),
-        Err(error) => Err(error).context("reading a status or options"),
-    }
-}
-
-/// A new machine, with the size of memory or the budget that the row's words ask for.
-fn machine(alloc: Global, args: &str) -> Result<Machine> {
-    let usual = Settings::default();
-    let settings = Settings {
-        memory: number(args, "--memory\n", usual.memory)?,
-        budget: number(args, "--budget\n", usual.budget)?,
-        mac: usual.mac,
-    };
-    Ok(settings.machine(alloc)?)
-}
-
-/// The number after the option where the words are that option and its number.
-fn number(args: &str, option: &str, otherwise: u64) -> Result<u64> {
-    match args.strip_prefix(option) {
-        Some(rest) => rest.trim_end().parse().context("reading a number"),
-        None => Ok(otherwise),
+        Err(error) => Err(error).context("reading a file of a row"),
     }
 }

@@ -98,7 +98,7 @@ const COUNTS: Summary = Summary {
 #[test]
 fn writes_the_text_however_it_is_cut(rt: HostRuntime) -> Result<(), Fail> {
     for at_once in 1..80usize {
-        let mut session = Session::new(Settings::default().machine(rt.alloc())?);
+        let mut session = Session::new(rt.alloc(), Settings::default().machine(rt.alloc())?);
         let mut source = Source::new(SCRIPT, at_once, None);
         let mut sink = Sink::new(Vec::new(rt.alloc()), at_once, None, false);
         let summary = run(rt.alloc(), &mut source, &mut sink, &mut session)?;
@@ -111,12 +111,12 @@ fn writes_the_text_however_it_is_cut(rt: HostRuntime) -> Result<(), Fail> {
 #[test]
 fn stops_at_each_write(rt: HostRuntime) -> Result<(), Fail> {
     let mut whole = Sink::new(Vec::new(rt.alloc()), 5, None, false);
-    let mut session = Session::new(Settings::default().machine(rt.alloc())?);
+    let mut session = Session::new(rt.alloc(), Settings::default().machine(rt.alloc())?);
     let mut source = SCRIPT;
     let _ = run(rt.alloc(), &mut source, &mut whole, &mut session)?;
     for takes_none in [false, true] {
         for fails_at in 1..whole.writes.saturating_add(1) {
-            let mut session = Session::new(Settings::default().machine(rt.alloc())?);
+            let mut session = Session::new(rt.alloc(), Settings::default().machine(rt.alloc())?);
             let mut source = SCRIPT;
             let mut sink = Sink::new(Vec::new(rt.alloc()), 5, Some(fails_at), takes_none);
             let result = run(rt.alloc(), &mut source, &mut sink, &mut session);
@@ -133,7 +133,7 @@ fn stops_at_each_write(rt: HostRuntime) -> Result<(), Fail> {
 #[test]
 fn stops_at_each_read(rt: HostRuntime) -> Result<(), Fail> {
     for fails_at in 1..14u32 {
-        let mut session = Session::new(Settings::default().machine(rt.alloc())?);
+        let mut session = Session::new(rt.alloc(), Settings::default().machine(rt.alloc())?);
         let mut source = Source::new(b"poke 0 11\nw D0 4\n", 2, Some(fails_at));
         let mut taken = Vec::new(rt.alloc());
         let result = run(rt.alloc(), &mut source, &mut taken, &mut session);
@@ -158,7 +158,7 @@ fn takes_so_many_octets(rt: HostRuntime) -> Result<(), Fail> {
         (4_194_304, 1_000_000, 65, true),
     ] {
         let octets = vec![in rt.alloc(); b'\n'; count]?;
-        let mut session = Session::new(Settings::default().machine(rt.alloc())?);
+        let mut session = Session::new(rt.alloc(), Settings::default().machine(rt.alloc())?);
         let mut source = Source::new(octets.as_slice(), at_once, None);
         let mut taken = Vec::new(rt.alloc());
         let result = run(rt.alloc(), &mut source, &mut taken, &mut session);
@@ -181,7 +181,7 @@ fn takes_so_many_octets(rt: HostRuntime) -> Result<(), Fail> {
 
 #[test]
 fn counts_the_lines_of_a_script(rt: HostRuntime) -> Result<(), Fail> {
-    let mut session = Session::new(Settings::default().machine(rt.alloc())?);
+    let mut session = Session::new(rt.alloc(), Settings::default().machine(rt.alloc())?);
     let mut source = b"line\n\xff\nline\n".as_slice();
     let mut taken = Vec::new(rt.alloc());
     let summary = run(rt.alloc(), &mut source, &mut taken, &mut session)?;
@@ -203,7 +203,7 @@ fn a_refused_growth_is_named(rt: HostRuntime) -> Result<(), Fail> {
     let Ok(machine) = Settings::default().machine(rt.alloc()) else {
         return Ok(());
     };
-    let mut session = Session::new(machine);
+    let mut session = Session::new(rt.alloc(), machine);
     let Ok(mut taken) = Vec::with_capacity(rt.alloc(), 64) else {
         return Ok(());
     };

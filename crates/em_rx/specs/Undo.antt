@@ -1,11 +1,13 @@
 -- What a record says, when it can be said of cells, and what it puts back.
-use Rattle.std.specs.Prelude.{◌≡◌, ℕ, ◌+◌, ◌<◌, ◌≤◌, length, set}
+use Rattle.std.specs.Prelude.{◌≡◌, ℕ, ◌+◌, ◌<◌, ◌≤◌, length, set, Bool, true, false}
 use Rattle.em_mem.specs.Memory as memory
 use Rattle.em_rx.specs.Ring.{ring_put}
 use Rattle.em_rx.specs.Fifo.{Cells, IsSound, after_delivery, shows}
 use Rattle.em_rx.specs.FramePatch.{FramePatch}
 use Rattle.em_rx.specs.StepPatch.{StepPatch}
 use Rattle.em_rx.specs.declared.places.Places as places
+use Rattle.em_rx.specs.declared.receive.RxAnswer.{RxAnswer}
+use Rattle.em_rx.specs.declared.receive.RxAnswer.TheVariants.{Idle, Wrote}
 use Rattle.em_rx.specs.declared.undo.RxUndo.{RxUndo}
 use Rattle.em_rx.specs.declared.undo.RxUndo.TheVariants.{Nothing, Places, Frame, Step}
 
@@ -72,6 +74,21 @@ octets_held Nothing = 0
 octets_held (Places places) = 0
 octets_held (Frame patch) = length patch.value.octets
 octets_held (Step patch) = length patch.value.first.octets + length patch.value.second.octets
+
+-- which change the record is of
+abbrev pub is_frame : RxUndo → Bool
+is_frame (Frame patch) = true
+is_frame r = false
+
+abbrev pub is_step : RxUndo → Bool
+is_step (Step patch) = true
+is_step r = false
+
+-- a receive step that was idle leaves nothing, and one that wrote leaves what it overwrote
+abbrev pub IsRecordOf : RxAnswer → RxUndo → Type 0
+IsRecordOf Idle Nothing = Unit {0}
+IsRecordOf (Wrote index next causes) (Step patch) = Unit {0}
+IsRecordOf answer r = ⊥
 
 -- the record takes back the change from the old cells and memory to the new ones
 pub record Reverses (old new : Cells) (before after : memory.Cells) (r : RxUndo) : Type 0 where

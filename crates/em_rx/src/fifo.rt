@@ -5,7 +5,7 @@ ghost use Rattle.em_rx.specs.Frame.{stored_frame};
 ghost use Rattle.em_rx.specs.Fifo.{after_arrival, empty, first, fresh, HasRoom, IsFirst, IsSound, next, rest, shows};
 ghost use Rattle.em_rx.specs.Descriptor.{written_back as octets_of};
 ghost use Rattle.em_rx.specs.Undo.{Fits, FitsFrame, FitsStep, IsMove, Reverses, ReversesStep, octets_held, undo_fifo};
-ghost use Rattle.em_rx.specs.Undo.{undo_memory, with_both, with_patch};
+ghost use Rattle.em_rx.specs.Undo.{is_frame, is_step, undo_memory, with_both, with_patch};
 
 use crate::descriptor::written_back;
 use crate::frame::{stored_octets, stored_tag};
@@ -87,6 +87,7 @@ impl Fifo {
         requires room { HasRoom (shows self.old) (length (stored_frame frame.now tagged).octets) }
         ensures ok { OnOk result (shows self.new ≡ after_arrival (shows self.old) (stored_frame frame.now tagged)) }
         ensures held { IfOk result (λ r. octets_held r ≡ length (stored_frame frame.now tagged).octets) }
+        ensures frame { IfOk result (λ r. IsTrue (is_frame r)) }
         ensures reverses { IfOk result (λ r. (m : memory.Cells) → Reverses self.old self.new m m r) }
         ensures refused { IfErr result (λ refusal. refusal ≡ RxRefusal.Memory) }
         ensures same { OnErr result (self.new ≡ self.old) }
@@ -270,6 +271,8 @@ impl Fifo {
         ensures fifo { self.new ≡ undo_fifo self.old taken }
         ensures memory { memory.new ≡ undo_memory memory.old taken }
         ensures held { octets_held result ≡ octets_held taken }
+        ensures frame { is_frame result ≡ is_frame taken }
+        ensures step { is_step result ≡ is_step taken }
         ensures reverses { Reverses self.old self.new memory.old memory.new result }
     {
         match taken {

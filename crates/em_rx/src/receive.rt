@@ -5,7 +5,7 @@ ghost use Rattle.em_mem.specs.Memory.{IsHeld, MorePages};
 ghost use Rattle.em_rx.specs.Fifo.{shows};
 ghost use Rattle.em_rx.specs.Receive as spec;
 ghost use Rattle.em_rx.specs.Receive.{receive, Refuses, octets_written};
-ghost use Rattle.em_rx.specs.Undo.{ReversesInPages, octets_held};
+ghost use Rattle.em_rx.specs.Undo.{IsRecordOf, ReversesInPages, octets_held};
 
 use crate::descriptor::{DESCRIPTOR_OCTETS, RxDescriptor, WRITTEN_AT, WRITTEN_OCTETS};
 use crate::{Fifo, RxRefusal, RxUndo};
@@ -86,6 +86,13 @@ fn fetch(memory: &GuestMemory, setup: &RxSetup) -> Result<(u64, u64), RxRefusal>
 }
 
 impl Fifo {
+    /// Whether a step would be idle: no descriptor is the adapter's, or no frame waits.
+    pub fn is_idle(&self, setup: &RxSetup) -> bool
+        ensures { result ≡ spec.is_idle setup.now (shows self.now) }
+    {
+        has_no_descriptor(setup) || self.is_empty()
+    }
+
     /// One step of the receive engine.
     ///
     /// It is idle where no descriptor is the adapter's or no frame waits; it then takes no memory.
@@ -104,12 +111,13 @@ impl Fifo {
         ensures ok { IfOk result (λ r. receive setup memory.old.octets (shows self.old)
             ≡ Ok (record { answer = r.0; memory = memory.new.octets; fifo = shows self.new })) }
         ensures held { IfOk result (λ r. octets_held r.1 ≡ octets_written setup (shows self.old)) }
+        ensures kind { IfOk result (λ r. IsRecordOf r.0 r.1) }
         ensures reverses { IfOk result (λ r. ReversesInPages self.old self.new memory.old memory.new r.1) }
         ensures refused { IfErr result (Refuses setup memory.old.octets (shows self.old)) }
         ensures same { OnErr result (self.new ≡ self.old) }
         ensures pages { OnErr result (MorePages memory.old memory.new) }
     {
-        if has_no_descriptor(&setup) || self.is_empty() {
+        if self.is_idle(&setup) {
             return Ok((RxAnswer::Idle, RxUndo::Nothing));
         }
         let (descriptor, buffer) = fetch(memory, &setup)?;

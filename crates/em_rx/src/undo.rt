@@ -36,7 +36,7 @@ impl Model for FramePatch {
 
 impl FramePatch {
     /// How many octets it holds.
-    fn len(&self) -> u32
+    pub fn len(&self) -> u32
         ensures len { result ≡ length self.now.octets }
         ensures most { result ≤ MOST_HELD }
     {
@@ -66,7 +66,7 @@ impl Model for StepPatch {
 
 impl StepPatch {
     /// How many octets it holds.
-    fn len(&self) -> u32
+    pub fn len(&self) -> u32
         ensures len { result ≡ length self.now.first.octets + length self.now.second.octets }
         ensures most { result ≤ MOST_HELD }
     {

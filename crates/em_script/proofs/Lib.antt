@@ -3,3 +3,9 @@ pub mod RunLemmas
 pub mod MemoryLemmas
 pub mod CallLemmas
 pub mod RegisterLemmas
+pub mod FrameLemmas
+pub mod WireLemmas
+pub mod RequestLemmas
+pub mod ResponseLemmas
+pub mod TurnLemmas
+pub mod CallingLemmas

@@ -5,7 +5,7 @@ use Rattle.em_step.specs.Event.{Event}
 use Rattle.em_script.specs.declared.command.Command.{Command as Lent}
 use Rattle.em_script.specs.declared.command.Command.TheVariants as lent
 
--- an event, a look at memory, at the interrupt line or at the registers, or steps back
+-- an event, a look at memory, at the interrupt line, at the registers or at the wire, or steps back
 pub data Command : Type 0 where
   event : Event → Command
   peek : ℕ → ℕ → Command
@@ -13,6 +13,7 @@ pub data Command : Type 0 where
   back : Command
   back_by : ℕ → Command
   registers : Command
+  wire : Command
 
 -- a command of the code without where its octets lie in memory
 abbrev pub plain : Lent → Command
@@ -22,3 +23,4 @@ plain lent.InterruptLine = interrupt_line
 plain lent.Back = back
 plain (lent.BackBy most) = back_by most
 plain lent.Registers = registers
+plain lent.Wire = wire

@@ -2,12 +2,13 @@
 use Rattle.std.specs.Prelude.{ℕ, Bool, true, false, codes, ◌==◌, ◌&&◌, nat_le, if◌then◌else◌, List, [], ◌∷◌, Option}
 use Rattle.std.specs.Prelude.{Some, None}
 use Rattle.std.specs.Str.{bytes_eq}
-use Rattle.em_step.specs.Event.{reads, writes, pokes, links}
+use Rattle.em_step.specs.Event.{reads, writes, pokes, arrives, links, receives, transmits}
 use Rattle.em_text.specs.Words.{words_of}
 use Rattle.em_text.specs.Numbers.{hex_number, hex_address, decimal_number, octets_of}
 use Rattle.em_script.specs.Arguments.{Arguments, zero, one, two, arguments_of}
-use Rattle.em_script.specs.Command.{event, peek, interrupt_line, back, back_by, registers}
+use Rattle.em_script.specs.Command.{Command, event, peek, interrupt_line, back, back_by, registers, wire}
 use Rattle.em_script.specs.ParsedLine.{ParsedLine, silent, bad, says}
+use Rattle.em_script.specs.Frame.{frame_of}
 
 -- what a value completes, if there is one
 abbrev pub with : {T : Type 0} → Option T → (T → ParsedLine) → ParsedLine
@@ -22,6 +23,11 @@ from_one_to most (Some n) = if nat_le 1 n && nat_le n most then Some n else None
 -- how many: a decimal number from 1 to `most`
 abbrev pub count_to : ℕ → List ℕ → Option ℕ
 count_to most word = from_one_to most (decimal_number word)
+
+-- a name with no word behind it
+abbrev pub alone : Command → Arguments → ParsedLine
+alone command zero = says command
+alone command _ = bad
 
 -- r OFF
 abbrev pub read_form : Arguments → ParsedLine
@@ -45,10 +51,9 @@ abbrev pub peek_form : Arguments → ParsedLine
 peek_form (two addr len) = with (hex_address addr) (λ a. with (count_to 16384 len) (λ n. says (peek a n)))
 peek_form _ = bad
 
--- line
-abbrev pub interrupt_line_form : Arguments → ParsedLine
-interrupt_line_form zero = says interrupt_line
-interrupt_line_form _ = bad
+-- arrive DATA, or arrive DATA LEN
+abbrev pub arrive_form : Arguments → ParsedLine
+arrive_form arguments = with (frame_of arguments) (λ octets. says (event (arrives octets)))
 
 -- back, or back N
 abbrev pub back_form : Arguments → ParsedLine
@@ -68,23 +73,27 @@ abbrev pub link_form : Arguments → ParsedLine
 link_form (one way) = with (way_of way) (λ up. says (event (links up)))
 link_form _ = bad
 
--- regs
-abbrev pub registers_form : Arguments → ParsedLine
-registers_form zero = says registers
-registers_form _ = bad
+-- a look, or steps back, by its name
+abbrev pub look_form : List ℕ → Arguments → ParsedLine
+look_form name arguments =
+    if bytes_eq name (codes "peek") then peek_form arguments else
+    if bytes_eq name (codes "line") then alone interrupt_line arguments else
+    if bytes_eq name (codes "regs") then alone registers arguments else
+    if bytes_eq name (codes "wire") then alone wire arguments else
+    if bytes_eq name (codes "back") then back_form arguments else
+    bad
 
--- a command, by its name
+-- a command, by its name: an event, or another
 abbrev pub command_form : List ℕ → Arguments → ParsedLine
 command_form name arguments =
     if bytes_eq name (codes "r") then read_form arguments else
     if bytes_eq name (codes "w") then write_form arguments else
     if bytes_eq name (codes "poke") then poke_form arguments else
-    if bytes_eq name (codes "peek") then peek_form arguments else
-    if bytes_eq name (codes "line") then interrupt_line_form arguments else
-    if bytes_eq name (codes "back") then back_form arguments else
+    if bytes_eq name (codes "arrive") then arrive_form arguments else
+    if bytes_eq name (codes "rx") then alone (event receives) arguments else
+    if bytes_eq name (codes "tx") then alone (event transmits) arguments else
     if bytes_eq name (codes "link") then link_form arguments else
-    if bytes_eq name (codes "regs") then registers_form arguments else
-    bad
+    look_form name arguments
 
 -- a comment begins with a hash
 abbrev pub is_comment : List ℕ → Bool

@@ -6,7 +6,7 @@ use Rattle.em_step.specs.declared.event.Reason.{Reason}
 use Rattle.em_step.specs.declared.event.Reason.TheVariants.{Down, Disabled, Rejected, Undersize, Oversize, Missed}
 use Rattle.em_step.specs.declared.refusal.Refusal.{Refusal}
 use Rattle.em_step.specs.Refusal.{name_of}
-use Rattle.em_text.specs.Writer.{Writes, value_text, decimal_line_text}
+use Rattle.em_text.specs.Writer.{Writes, value_text, decimal_text, decimal_line_text}
 use Rattle.em_text.specs.declared.writer.WriteFailed.{WriteFailed}
 use Rattle.em_script.specs.declared.outcome.Outcome.{Outcome}
 
@@ -31,10 +31,18 @@ reason_text Undersize = codes "undersize"
 reason_text Oversize = codes "oversize"
 reason_text Missed = codes "missed"
 
+-- the transmit engine handled the descriptor of an index, and sent a frame of so many octets
+abbrev pub sent_text : ℕ → ℕ → List ℕ
+sent_text index octets = codes "sent " ++ (decimal_text index ++ (codes " " ++ decimal_line_text octets))
+
 -- what a performed event prints
 abbrev pub answer_text : Answer → List ℕ
 answer_text answer.Done = done_text
 answer_text (answer.Value value) = value_text value
+answer_text answer.Idle = codes "idle\n"
+answer_text (answer.Wrote index) = codes "wrote " ++ decimal_line_text index
+answer_text (answer.Fetched index) = codes "fetched " ++ decimal_line_text index
+answer_text (answer.Sent index octets) = sent_text index octets
 answer_text answer.Stored = codes "stored\n"
 answer_text (answer.Dropped reason) = codes "dropped " ++ (reason_text reason ++ codes "\n")
 

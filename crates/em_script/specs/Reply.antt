@@ -10,18 +10,19 @@ use Rattle.em_step.specs.Cost.{cost}
 use Rattle.em_step.specs.declared.event.Answer.{Answer}
 use Rattle.em_step.specs.declared.refusal.Refusal.{Refusal}
 use Rattle.em_step.specs.declared.refusal.Refusal.TheVariants.{Range, Memory}
-use Rattle.em_journal.specs.View.{after_event, after_back, after_backs}
+use Rattle.em_journal.specs.View.{View, after_event, after_back, after_backs}
 use Rattle.em_journal.specs.History.{Call, performs, refuses, goes_back, is_empty, after_step}
 use Rattle.em_text.specs.Writer.{hex_line_text}
 use Rattle.em_text.specs.declared.writer.WriteFailed.{WriteFailed}
 use Rattle.em_script.specs.declared.outcome.Outcome.{Outcome}
 use Rattle.em_script.specs.declared.outcome.Outcome.TheVariants as outcome
 use Rattle.em_script.specs.Session.{Session}
-use Rattle.em_script.specs.Command.{Command, event, peek, interrupt_line, back, back_by, registers}
+use Rattle.em_script.specs.Command.{Command, event, peek, interrupt_line, back, back_by, registers, wire}
 use Rattle.em_script.specs.ParsedLine.{ParsedLine, silent, bad, says}
 use Rattle.em_script.specs.Output.{done_text, bit_text, back_text, bad_line_text, answer_text, refusal_text, empty_text}
 use Rattle.em_script.specs.Output.{Prints}
 use Rattle.em_script.specs.Registers.{registers_text}
+use Rattle.em_script.specs.Wire.{wire_text}
 
 -- ---- the calls
 
@@ -31,9 +32,9 @@ step_call e (Ok r) = performs e r.0
 step_call e (Err refusal) = refuses e refusal
 
 -- an event, by whether memory was refused to it
-abbrev pub event_call : Option ℕ → Event → Session → Call
-event_call None e session = step_call e (step session.present e)
-event_call (Some events) e session = refuses e Memory
+abbrev pub event_call : Option ℕ → Event → View → Call
+event_call None e machine = step_call e (step machine.present e)
+event_call (Some events) e machine = refuses e Memory
 
 -- a step back, by the states that there are to go back to
 abbrev pub back_call : List State → Call
@@ -41,65 +42,70 @@ back_call [] = is_empty
 back_call (s ∷ older) = goes_back
 
 -- those that a command makes, by whether memory was refused, and after how many of its events
-abbrev pub calls_of : Option ℕ → Command → Session → List Call
-calls_of memory (event e) session = event_call memory e session ∷ []
-calls_of memory back session = back_call session.past ∷ []
-calls_of memory (back_by most) session = replicate (min most (length session.past)) goes_back
-calls_of memory _ session = []
+abbrev pub calls_of : Option ℕ → Command → View → List Call
+calls_of memory (event e) machine = event_call memory e machine ∷ []
+calls_of memory back machine = back_call machine.past ∷ []
+calls_of memory (back_by most) machine = replicate (min most (length machine.past)) goes_back
+calls_of memory _ machine = []
 
 -- ---- replies
 
 pub record Reply : Type 0 where
   pub text : List ℕ
   pub outcome : Outcome
-  pub session : Session
+  pub machine : View
 
 -- what was asked for was done
-abbrev pub done_reply : List ℕ → Session → Reply
-done_reply text session = record { text = text; outcome = outcome.Done; session = session }
+abbrev pub done_reply : List ℕ → View → Reply
+done_reply text machine = record { text = text; outcome = outcome.Done; machine = machine }
 
 -- what was refused changed nothing
-abbrev pub refusal_reply : List ℕ → Session → Reply
-refusal_reply text session = record { text = text; outcome = outcome.Refused; session = session }
+abbrev pub refusal_reply : List ℕ → View → Reply
+refusal_reply text machine = record { text = text; outcome = outcome.Refused; machine = machine }
 
 -- to a single call: a performed event prints its answer
-abbrev pub call_reply : Call → Session → Reply
-call_reply (performs e answer) session =
-    let s = session.present in
-    done_reply (answer_text answer) (after_event session (after_step s (step s e)) (cost s e))
-call_reply (refuses e refusal) session = refusal_reply (refusal_text refusal) session
-call_reply goes_back session = done_reply done_text (after_back session)
-call_reply is_empty session = refusal_reply empty_text session
+abbrev pub call_reply : Call → View → Reply
+call_reply (performs e answer) machine =
+    let s = machine.present in
+    done_reply (answer_text answer) (after_event machine (after_step s (step s e)) (cost s e))
+call_reply (refuses e refusal) machine = refusal_reply (refusal_text refusal) machine
+call_reply goes_back machine = done_reply done_text (after_back machine)
+call_reply is_empty machine = refusal_reply empty_text machine
 
 -- to a look at n octets of memory, from an address on
-abbrev pub peek_reply : ℕ → ℕ → Session → Reply
-peek_reply addr n session =
-    if nat_lt (length session.present.memory) (addr + n) then refusal_reply (refusal_text Range) session
-    else done_reply (hex_line_text (part session.present.memory addr n)) session
+abbrev pub peek_reply : ℕ → ℕ → View → Reply
+peek_reply addr n machine =
+    if nat_lt (length machine.present.memory) (addr + n) then refusal_reply (refusal_text Range) machine
+    else done_reply (hex_line_text (part machine.present.memory addr n)) machine
 
 -- to a look at the interrupt line
-abbrev pub interrupt_line_reply : Session → Reply
-interrupt_line_reply session =
-    let latches = session.present.latches in
-    done_reply (bit_text (not (bit_and (causes latches) (mask latches) == 0))) session
+abbrev pub interrupt_line_reply : View → Reply
+interrupt_line_reply machine =
+    let latches = machine.present.latches in
+    done_reply (bit_text (not (bit_and (causes latches) (mask latches) == 0))) machine
 
 -- to a look at the registers
-abbrev pub registers_reply : Session → Reply
-registers_reply session = done_reply (registers_text session.present) session
+abbrev pub registers_reply : View → Reply
+registers_reply machine = done_reply (registers_text machine.present) machine
+
+-- to a look at the wire
+abbrev pub wire_reply : View → Reply
+wire_reply machine = done_reply (wire_text machine.present.wire) machine
 
 -- to steps back: as many are taken as can be, at most so many
-abbrev pub back_by_reply : ℕ → Session → Reply
-back_by_reply most session =
-    done_reply (back_text (min most (length session.past))) (after_backs most session)
+abbrev pub back_by_reply : ℕ → View → Reply
+back_by_reply most machine =
+    done_reply (back_text (min most (length machine.past))) (after_backs most machine)
 
 -- to a command, by whether memory was refused, and after how many of its events
-abbrev pub reply : Option ℕ → Command → Session → Reply
-reply memory (event e) session = call_reply (event_call memory e session) session
-reply memory (peek addr n) session = peek_reply addr n session
-reply memory interrupt_line session = interrupt_line_reply session
-reply memory back session = call_reply (back_call session.past) session
-reply memory (back_by most) session = back_by_reply most session
-reply memory registers session = registers_reply session
+abbrev pub reply : Option ℕ → Command → View → Reply
+reply memory (event e) machine = call_reply (event_call memory e machine) machine
+reply memory (peek addr n) machine = peek_reply addr n machine
+reply memory interrupt_line machine = interrupt_line_reply machine
+reply memory back machine = call_reply (back_call machine.past) machine
+reply memory (back_by most) machine = back_by_reply most machine
+reply memory registers machine = registers_reply machine
+reply memory wire machine = wire_reply machine
 
 -- ---- memory
 
@@ -109,10 +115,15 @@ command_takes_memory (event e) = takes_memory e
 command_takes_memory _ = false
 
 -- a command can be refused for memory before its event, which nothing else refuses and which drops no frame
-abbrev pub MayBeRefused : ℕ → Command → Session → Type 0
-MayBeRefused events (event e) session =
-    (events ≡ 0) × IsTrue (takes_memory e) × IsTrue (needs_memory (step session.present e))
-MayBeRefused events _ session = ⊥
+abbrev pub MayBeRefused : ℕ → Command → View → Type 0
+MayBeRefused events (event e) machine =
+    (events ≡ 0) × IsTrue (takes_memory e) × IsTrue (needs_memory (step machine.present e))
+MayBeRefused events _ machine = ⊥
+
+-- Memory is refused to a command only where it may be.
+abbrev pub IsAllowedTo : Option ℕ → Command → View → Type 0
+IsAllowedTo None command machine = Unit {0}
+IsAllowedTo (Some events) command machine = MayBeRefused events command machine
 
 -- ---- what a line says, by whether memory was refused to it, and after how many of its events
 
@@ -120,20 +131,20 @@ MayBeRefused events _ session = ⊥
 abbrev pub line_text : ℕ → Option ℕ → ParsedLine → Session → List ℕ
 line_text number memory silent session = []
 line_text number memory bad session = bad_line_text number
-line_text number memory (says command) session = (reply memory command session).text
+line_text number memory (says command) session = (reply memory command session.machine).text
 
 abbrev pub line_outcome : Option ℕ → ParsedLine → Session → Outcome
 line_outcome memory silent session = outcome.Silent
 line_outcome memory bad session = outcome.Bad
-line_outcome memory (says command) session = (reply memory command session).outcome
+line_outcome memory (says command) session = (reply memory command session.machine).outcome
 
 abbrev pub after_line : Option ℕ → ParsedLine → Session → Session
-after_line memory (says command) session = (reply memory command session).session
+after_line memory (says command) session = record session { machine = (reply memory command session.machine).machine }
 after_line memory _ session = session
 
 -- the calls that it makes
 abbrev pub line_calls : Option ℕ → ParsedLine → Session → List Call
-line_calls memory (says command) session = calls_of memory command session
+line_calls memory (says command) session = calls_of memory command session.machine
 line_calls memory _ session = []
 
 abbrev pub line_takes_memory : ParsedLine → Bool
@@ -142,17 +153,24 @@ line_takes_memory _ = false
 
 -- memory is refused only to what takes memory and is refused for nothing else
 abbrev pub IsAllowed : Option ℕ → ParsedLine → Session → Type 0
-IsAllowed None parsed session = Unit {0}
-IsAllowed (Some events) (says command) session = MayBeRefused events command session
+IsAllowed memory (says command) session = IsAllowedTo memory command session.machine
+IsAllowed None _ session = Unit {0}
 IsAllowed (Some events) _ session = ⊥
 
 -- ---- what a call does
 
--- the reply was printed, and its session is left
-pub record Gives (r : Reply) (now : Session) (old new : Option (List ℕ)) (result : Result Outcome WriteFailed)
+-- the reply was printed, and its machine is left
+pub record Gives (r : Reply) (now : View) (old new : Option (List ℕ)) (result : Result Outcome WriteFailed)
     : Type 0 where
   pub prints : Prints r.text r.outcome old new result
-  pub session : now ≡ r.session
+  pub machine : now ≡ r.machine
+
+-- what the command says was done, and its text printed
+pub record Obeys (command : Command) (first now : View) (old new : Option (List ℕ))
+    (result : Result Outcome WriteFailed) : Type 0 where
+  pub memory : Option ℕ
+  pub allowed : IsAllowedTo memory command first
+  pub gives : Gives (reply memory command first) now old new result
 
 -- what the line of this number says was done, and its text printed
 pub record Performs (number : ℕ) (parsed : ParsedLine) (first now : Session) (old new : Option (List ℕ))

@@ -37,8 +37,8 @@ ReadsWhole old new script = Consumes old new script × IsAtEnd new × (length sc
 -- not taken back
 abbrev pub IsFold : List PlayedLine → Session → Session → Type 0
 IsFold all first now =
-    (budget : ℕ) (s : State) (before : List Call) → Leads budget s before first
-    → now.present ≡ state s (kept_events (before ++ calls all first))
+    (budget : ℕ) (s : State) (before : List Call) → Leads budget s before first.machine
+    → now.machine.present ≡ state s (kept_events (before ++ calls all first))
 
 -- the script was played: its text was written, its lines were counted, and its commands' calls were made
 pub record Answers (script : List ℕ) (first now : Session) (old new : Option (List ℕ)) (summary : Summary)
@@ -48,7 +48,7 @@ pub record Answers (script : List ℕ) (first now : Session) (old new : Option (
   pub written : Appends old new (text_from 1 all first)
   pub session : now ≡ after_all all first
   pub count : summary ≡ counts (outcomes all first)
-  pub run : Run first (calls all first) now
+  pub run : Run first.machine (calls all first) now.machine
   pub fold : IsFold all first now
 
 -- the text of one line was written in part: that of the lines before it is written, and what the line did stands

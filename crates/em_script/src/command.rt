@@ -17,4 +17,6 @@ pub enum Command<'a> {
     BackBy(u32),
     /// Show every register that is not zero.
     Registers,
+    /// Show the frames that were sent.
+    Wire,
 }

@@ -3,14 +3,15 @@ ghost use Rattle.std.specs.Prelude.{◌≡◌, ◌≤◌, IfOk, IfSome, OnErr, I
 ghost use Rattle.em_step.specs.Event.{pokes};
 ghost use Rattle.em_text.specs.Numbers.{octets_of};
 ghost use Rattle.em_script.specs.Arguments.{plain as plain_arguments};
-ghost use Rattle.em_script.specs.Command.{event};
+ghost use Rattle.em_script.specs.Command.{plain as plain_command, event};
 ghost use Rattle.em_script.specs.ParsedLine.{plain, says, brings_octets};
-ghost use Rattle.em_script.specs.Grammar.{parsed_line, with, command_form, read_form, write_form, poke_form};
-ghost use Rattle.em_script.specs.Grammar.{peek_form, interrupt_line_form, back_form, link_form, registers_form};
-ghost use Rattle.em_script.specs.Grammar.{way_of, count_to, is_comment};
+ghost use Rattle.em_script.specs.Grammar.{parsed_line, command_form, look_form, alone, with, read_form, write_form};
+ghost use Rattle.em_script.specs.Grammar.{poke_form, arrive_form, link_form, peek_form, back_form, way_of, count_to};
+ghost use Rattle.em_script.specs.Grammar.{is_comment};
 
 use crate::arguments::{Arguments, arguments_of};
 use crate::command::Command;
+use crate::frame::frame_into;
 use crate::parsed_line::ParsedLine;
 use crate::peek_len::{MOST_PEEK, PeekLen};
 use em_step::Event;
@@ -23,8 +24,8 @@ const HASH: u8 = b'#';
 /// The most events that one `back` takes back.
 const MOST_BACK: u32 = 65_536;
 
-/// What a line says. The octets that it writes to guest memory are left in `octets`, which alone
-/// takes memory.
+/// What a line says. The octets that it writes to guest memory, or of the frame that arrives, are
+/// left in `octets`, which alone takes memory.
 #[tactic(auto, unfolding(crate::specs::Grammar::parsed_line))]
 pub fn parse_line<'a>(line: &[u8], octets: &'a mut Vec<u8>) -> Result<ParsedLine<'a>, AllocError>
     ensures value { IfOk result (λ parsed. plain parsed ≡ parsed_line line.now) }
@@ -63,22 +64,51 @@ fn command_form<'a>(
     if name == b"poke".as_slice() {
         return poke_form(arguments, octets);
     }
-    if name == b"peek".as_slice() {
-        return Ok(peek_form(arguments));
+    if name == b"arrive".as_slice() {
+        return arrive_form(arguments, octets);
     }
-    if name == b"line".as_slice() {
-        return Ok(interrupt_line_form(arguments));
+    if name == b"rx".as_slice() {
+        return Ok(alone(Command::Event(Event::RxStep), arguments));
     }
-    if name == b"back".as_slice() {
-        return Ok(back_form(arguments));
+    if name == b"tx".as_slice() {
+        return Ok(alone(Command::Event(Event::TxStep), arguments));
     }
     if name == b"link".as_slice() {
         return Ok(link_form(arguments));
     }
-    if name == b"regs".as_slice() {
-        return Ok(registers_form(arguments));
+    Ok(look_form(name, arguments))
+}
+
+/// A look, or steps back.
+fn look_form(name: &[u8], arguments: Arguments<'_>) -> ParsedLine<'static>
+    ensures { plain result ≡ look_form name.now (plain_arguments arguments.entry) }
+{
+    if name == b"peek".as_slice() {
+        return peek_form(arguments);
     }
-    Ok(ParsedLine::Bad)
+    if name == b"line".as_slice() {
+        return alone(Command::InterruptLine, arguments);
+    }
+    if name == b"regs".as_slice() {
+        return alone(Command::Registers, arguments);
+    }
+    if name == b"wire".as_slice() {
+        return alone(Command::Wire, arguments);
+    }
+    if name == b"back".as_slice() {
+        return back_form(arguments);
+    }
+    ParsedLine::Bad
+}
+
+/// A command whose name has no word behind it.
+fn alone(command: Command<'static>, arguments: Arguments<'_>) -> ParsedLine<'static>
+    ensures { plain result ≡ alone (plain_command command.entry) (plain_arguments arguments.entry) }
+{
+    match arguments {
+        Arguments::Zero => ParsedLine::Command(command),
+        _ => ParsedLine::Bad,
+    }
 }
 
 fn read_form(arguments: Arguments<'_>) -> ParsedLine<'static>
@@ -157,12 +187,17 @@ fn peek_form(arguments: Arguments<'_>) -> ParsedLine<'static>
     }
 }
 
-fn interrupt_line_form(arguments: Arguments<'_>) -> ParsedLine<'static>
-    ensures { plain result ≡ interrupt_line_form (plain_arguments arguments.entry) }
+fn arrive_form<'a>(
+    arguments: Arguments<'_>,
+    octets: &'a mut Vec<u8>,
+) -> Result<ParsedLine<'a>, AllocError>
+    ensures value { IfOk result (λ parsed. plain parsed ≡ arrive_form (plain_arguments arguments.entry)) }
+    ensures memory { OnErr result (IsTrue (brings_octets (arrive_form (plain_arguments arguments.entry)))) }
 {
-    match arguments {
-        Arguments::Zero => ParsedLine::Command(Command::InterruptLine),
-        _ => ParsedLine::Bad,
+    if frame_into(octets, arguments)? {
+        Ok(ParsedLine::Command(Command::Event(Event::Arrive(octets.as_slice()))))
+    } else {
+        Ok(ParsedLine::Bad)
     }
 }
 
@@ -187,15 +222,6 @@ fn link_form(arguments: Arguments<'_>) -> ParsedLine<'static>
             Some(up) => ParsedLine::Command(Command::Event(Event::Link(up))),
             None => ParsedLine::Bad,
         },
-        _ => ParsedLine::Bad,
-    }
-}
-
-fn registers_form(arguments: Arguments<'_>) -> ParsedLine<'static>
-    ensures { plain result ≡ registers_form (plain_arguments arguments.entry) }
-{
-    match arguments {
-        Arguments::Zero => ParsedLine::Command(Command::Registers),
         _ => ParsedLine::Bad,
     }
 }

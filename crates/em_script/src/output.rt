@@ -2,12 +2,13 @@
 ghost use Rattle.std.specs.Prelude.{◌≡◌, ◌++◌};
 ghost use Rattle.em_text.specs.Writer.{Writes, hex_line_text, decimal_line_text};
 ghost use Rattle.em_script.specs.Output.{Prints, answer_text, reason_text, done_text, bit_text, back_text};
-ghost use Rattle.em_script.specs.Output.{bad_line_text, refusal_text, empty_text};
+ghost use Rattle.em_script.specs.Output.{bad_line_text, refusal_text, empty_text, sent_text};
 
 use crate::outcome::Outcome;
 use em_step::{Answer, Reason, Refusal};
 use em_text::{
-    WriteFailed, write_decimal_line, write_octets_line, write_pieces, write_value, write_whole,
+    WriteFailed, write_decimal, write_decimal_line, write_octets_line, write_pieces, write_value,
+    write_whole,
 };
 use std::io::Write;
 
@@ -21,12 +22,37 @@ pub fn write_answer<W: Write>(writer: &mut W, answer: Answer) -> Result<Outcome,
             write_value(writer, value)?;
             Ok(Outcome::Done)
         }
+        Answer::Idle => {
+            write_whole(writer, b"idle\n")?;
+            Ok(Outcome::Done)
+        }
+        Answer::Wrote { index } => {
+            write_numbered(writer, b"wrote ", u64::from(index))?;
+            Ok(Outcome::Done)
+        }
+        Answer::Fetched { index } => {
+            write_numbered(writer, b"fetched ", u64::from(index))?;
+            Ok(Outcome::Done)
+        }
+        Answer::Sent { index, octets } => {
+            write_sent(writer, u64::from(index), u64::from(octets))?;
+            Ok(Outcome::Done)
+        }
         Answer::Stored => {
             write_whole(writer, b"stored\n")?;
             Ok(Outcome::Done)
         }
         Answer::Dropped(reason) => write_dropped(writer, reason),
     }
+}
+
+/// That the descriptor of an index was handled, and a frame of so many octets sent.
+fn write_sent<W: Write>(writer: &mut W, index: u64, octets: u64) -> Result<(), WriteFailed>
+    ensures writes { Writes (W.contents writer.old) (W.contents writer.new) result (sent_text index octets) }
+{
+    write_whole(writer, b"sent ")?;
+    write_decimal(writer, index)?;
+    write_numbered(writer, b" ", octets)
 }
 
 /// That a frame was dropped, and why.
@@ -84,7 +110,7 @@ pub fn write_bit<W: Write>(writer: &mut W, bit: bool) -> Result<Outcome, WriteFa
 pub fn write_back<W: Write>(writer: &mut W, count: u32) -> Result<Outcome, WriteFailed>
     ensures { Prints (back_text count) Outcome.Done (W.contents writer.old) (W.contents writer.new) result }
 {
-    write_numbered(writer, b"back ", count)?;
+    write_numbered(writer, b"back ", u64::from(count))?;
     Ok(Outcome::Done)
 }
 
@@ -92,7 +118,7 @@ pub fn write_back<W: Write>(writer: &mut W, count: u32) -> Result<Outcome, Write
 pub fn write_bad_line<W: Write>(writer: &mut W, number: u32) -> Result<Outcome, WriteFailed>
     ensures { Prints (bad_line_text number) Outcome.Bad (W.contents writer.old) (W.contents writer.new) result }
 {
-    write_numbered(writer, b"bad line ", number)?;
+    write_numbered(writer, b"bad line ", u64::from(number))?;
     Ok(Outcome::Bad)
 }
 
@@ -113,7 +139,11 @@ pub fn write_empty<W: Write>(writer: &mut W) -> Result<Outcome, WriteFailed>
 }
 
 /// A line that ends in a number.
-fn write_numbered<W: Write>(writer: &mut W, words: &[u8], number: u32) -> Result<(), WriteFailed>
+pub fn write_numbered<W: Write>(
+    writer: &mut W,
+    words: &[u8],
+    number: u64,
+) -> Result<(), WriteFailed>
     ensures { Writes (W.contents writer.old) (W.contents writer.new) result (words.now ++ decimal_line_text number) }
 {
     write_whole(writer, words)?;

@@ -4,7 +4,7 @@ ghost use Rattle.em_step.specs.Event.{plain as plain_event};
 ghost use Rattle.em_script.specs.Command.{plain as plain_command, event as event_command};
 ghost use Rattle.em_script.specs.ParsedLine.{plain, says};
 ghost use Rattle.em_script.specs.Reply.{peek_reply, interrupt_line_reply, registers_reply, back_call, call_reply};
-ghost use Rattle.em_script.specs.Reply.{back_by_reply, Gives, Performs};
+ghost use Rattle.em_script.specs.Reply.{back_by_reply, wire_reply, Gives, Obeys, Performs};
 
 use crate::command::Command;
 use crate::outcome::Outcome;
@@ -15,6 +15,9 @@ use crate::output::{
 use crate::parsed_line::ParsedLine;
 use crate::peek_len::{MOST_PEEK, PeekLen};
 use crate::registers::write_registers;
+use crate::seat::Seat;
+use crate::session::Session;
+use crate::wire::write_wire;
 use em_journal::{Empty, Machine};
 use em_step::Event;
 use em_text::WriteFailed;
@@ -25,18 +28,36 @@ use std::io::Write;
 /// `room` is for the octets that a look at guest memory shows.
 pub fn reply<W: Write>(
     writer: &mut W,
-    machine: &mut Machine,
+    session: &mut Session,
     number: u32,
     line: ParsedLine<'_>,
     room: &mut [u8; MOST_PEEK],
 ) -> Result<Outcome, WriteFailed>
     ensures { Performs number (plain line.entry)
-        machine.old machine.new (W.contents writer.old) (W.contents writer.new) result }
+        session.old session.new (W.contents writer.old) (W.contents writer.new) result }
 {
     match line {
         ParsedLine::Silent => Ok(Outcome::Silent),
         ParsedLine::Bad => write_bad_line(writer, number),
-        ParsedLine::Command(command) => perform(writer, machine, command, room),
+        ParsedLine::Command(command) => obey(writer, session, command, room),
+    }
+}
+
+/// Does what a command says with the session's machine, which may be under a driver.
+#[tactic(auto, using(crate::proofs::ReplyLemmas::obeyed))]
+fn obey<W: Write>(
+    writer: &mut W,
+    session: &mut Session,
+    command: Command<'_>,
+    room: &mut [u8; MOST_PEEK],
+) -> Result<Outcome, WriteFailed>
+    ensures { (number : ℕ) → Performs number (says (plain_command command.entry))
+        session.old session.new (W.contents writer.old) (W.contents writer.new) result }
+{
+    match &mut session.seat {
+        Seat::Bare(turns) => perform(writer, turns.machine_mut(), command, room),
+        Seat::Driven(driver) => perform(writer, driver.bus().machine_mut(), command, room),
+        Seat::Moved => unreachable!(),
     }
 }
 
@@ -46,7 +67,7 @@ fn perform<W: Write>(
     command: Command<'_>,
     room: &mut [u8; MOST_PEEK],
 ) -> Result<Outcome, WriteFailed>
-    ensures { (number : ℕ) → Performs number (says (plain_command command.entry))
+    ensures { Obeys (plain_command command.entry)
         machine.old machine.new (W.contents writer.old) (W.contents writer.new) result }
 {
     match command {
@@ -56,6 +77,7 @@ fn perform<W: Write>(
         Command::Back => back(writer, machine),
         Command::BackBy(most) => back_by(writer, machine, most),
         Command::Registers => registers(writer, machine),
+        Command::Wire => wire(writer, machine),
     }
 }
 
@@ -64,7 +86,7 @@ fn perform_event<W: Write>(
     machine: &mut Machine,
     event: Event<'_>,
 ) -> Result<Outcome, WriteFailed>
-    ensures { (number : ℕ) → Performs number (says (event_command (plain_event event.entry)))
+    ensures { Obeys (event_command (plain_event event.entry))
         machine.old machine.new (W.contents writer.old) (W.contents writer.new) result }
 {
     match machine.perform(event) {
@@ -102,6 +124,14 @@ fn registers<W: Write>(writer: &mut W, machine: &Machine) -> Result<Outcome, Wri
         machine.now (W.contents writer.old) (W.contents writer.new) result }
 {
     write_registers(writer, machine)?;
+    Ok(Outcome::Done)
+}
+
+fn wire<W: Write>(writer: &mut W, machine: &Machine) -> Result<Outcome, WriteFailed>
+    ensures { Gives (wire_reply machine.now)
+        machine.now (W.contents writer.old) (W.contents writer.new) result }
+{
+    write_wire(writer, machine)?;
     Ok(Outcome::Done)
 }
 

@@ -10,7 +10,6 @@ use crate::peek_len::MOST_PEEK;
 use crate::reply::reply;
 use crate::session::Session;
 use crate::summary::{Summary, count};
-use em_journal::Machine;
 use em_text::{ReadFault, WriteFailed, next_line, read_script};
 use std::alloc::Global;
 use std::io::{Read, Write};
@@ -36,8 +35,8 @@ pub enum BenchFault {
 /// Reads a whole script, plays its lines one after another, and writes their answers.
 ///
 /// It reads by at most 4,194,305 calls of `read`, and writes by calls of `write` alone. A write
-/// that takes no octet is a Write fault. Memory is taken for the script and for the octets that a
-/// `poke` writes.
+/// that takes no octet is a Write fault. Memory is taken for the script and for the octets of a
+/// `poke` or an `arrive`.
 pub fn run<R: Read, W: Write>(
     alloc: Global,
     reader: &mut R,
@@ -83,13 +82,7 @@ pub fn run<R: Read, W: Write>(
     };
     let mut octets = Vec::new(alloc);
     let mut room = [0u8; MOST_PEEK];
-    run_lines(
-        writer,
-        &mut session.machine,
-        script.as_slice(),
-        &mut octets,
-        &mut room,
-    )
+    run_lines(writer, session, script.as_slice(), &mut octets, &mut room)
 }
 
 /// Plays each line of a script.
@@ -97,20 +90,20 @@ pub fn run<R: Read, W: Write>(
 /// `octets` and `room` hold what one line says and shows, so that each is made once.
 fn run_lines<W: Write>(
     writer: &mut W,
-    machine: &mut Machine,
+    session: &mut Session,
     script: &[u8],
     octets: &mut Vec<u8>,
     room: &mut [u8; MOST_PEEK],
 ) -> Result<Summary, BenchFault>
     requires { length script.now ≤ most_script }
     ensures text { OnOk result (TakesNoMemory script.now
-        → Appends (W.contents writer.old) (W.contents writer.new) (text script.now machine.old)) }
+        → Appends (W.contents writer.old) (W.contents writer.new) (text script.now session.old)) }
     ensures full { OnOk result ((written : List ℕ)
         → Appends (W.contents writer.old) (W.contents writer.new) written → (SaysMemory written → ⊥)
-        → Appends (W.contents writer.old) (W.contents writer.new) (text script.now machine.old)) }
-    ensures ok { IfOk result (Answers script.now machine.old machine.new
+        → Appends (W.contents writer.old) (W.contents writer.new) (text script.now session.old)) }
+    ensures ok { IfOk result (Answers script.now session.old session.new
         (W.contents writer.old) (W.contents writer.new)) }
-    ensures err { IfErr result (StopsInScript script.now machine.old machine.new
+    ensures err { IfErr result (StopsInScript script.now session.old session.new
         (W.contents writer.old) (W.contents writer.new)) }
 {
     let mut summary = Summary {
@@ -125,7 +118,7 @@ fn run_lines<W: Write>(
         let Ok(parsed) = parse_line(line, octets) else {
             return Err(BenchFault::Memory);
         };
-        let outcome = match reply(writer, machine, number, parsed, room) {
+        let outcome = match reply(writer, session, number, parsed, room) {
             Ok(outcome) => outcome,
             Err(WriteFailed) => return Err(BenchFault::Write),
         };

@@ -1,37 +1,54 @@
 //! What a script is run on.
 ghost use Rattle.std.specs.Prelude.{◌≡◌};
+ghost use Rattle.em_script.specs.Session.{bare};
 
+use crate::seat::Seat;
+use em_driver::Turns;
 use em_journal::Machine;
+use std::alloc::Global;
 use std::marker::Model;
 
-/// A machine, and what scripts keep beside it. Contracts see it as the machine.
+/// A machine, and what scripts keep beside it: whether a driver stands on it, and a plan of turns
+/// for the next call of a driver.
 #[derive(Drop)]
 pub struct Session {
-    pub(crate) machine: Machine,
+    pub(crate) seat: Seat,
+    // whether a plan was set since the last call of a driver
+    pub(crate) planned: bool,
 }
 
 impl Model for Session {
-    ghost use Rattle.em_journal.specs.View.{View, view_code};
+    ghost use Rattle.em_script.specs.Session.{Session, session_code};
+    ghost use Rattle.em_script.specs.Seat.{session_of, IsSeated};
 
-    ghost Value = { View };
+    ghost Value = { Session };
 
-    ghost coded = { view_code };
+    ghost coded = { session_code };
 
-    ghost view = { λ s. s.machine };
+    ghost view = { λ s. session_of s.seat s.planned };
+
+    ghost invariant = { λ s. IsSeated s.seat s.planned };
 }
 
 impl Session {
     /// A session over a machine, which stays as it is.
-    pub fn new(machine: Machine) -> Session
-        ensures { result ≡ machine }
+    pub fn new(alloc: Global, machine: Machine) -> Session
+        ensures { result ≡ bare machine }
     {
-        Session { machine }
+        Session {
+            seat: Seat::Bare(Turns::new(alloc, machine)),
+            planned: false,
+        }
     }
 
     /// The machine as the scripts so far left it.
     pub fn machine(&self) -> &Machine
-        ensures { result.now ≡ self.now }
+        ensures { result.now ≡ self.now.machine }
     {
-        &self.machine
+        match &self.seat {
+            Seat::Bare(turns) => turns.machine(),
+            Seat::Driven(driver) => driver.look_bus().machine(),
+            Seat::Moved => unreachable!(),
+        }
     }
 }

@@ -1,29 +1,43 @@
 -- What events and records cost at least and at most.
-use Rattle.std.proofs.Common.{◌≡◌, ◌≤◌, ℕ, List, length, refl, arith, Ok, Err, Bool, true, false}
+use Rattle.std.proofs.Common.{◌≡◌, ◌≤◌, ◌+◌, ℕ, zero, suc, List, [], ◌∷◌, length, refl, arith, Result, Ok, Err, Bool}
+use Rattle.std.proofs.Common.{true}
+use Rattle.std.proofs.Common.{false}
 use Rattle.std.proofs.lemmas.Bool.{ltb-false}
 use Rattle.std.proofs.lemmas.Bool.Decides.{nat_tests}
-use Rattle.std.specs.Prelude.{if◌then◌else◌, nat_lt, ◌||◌}
+use Rattle.std.specs.Prelude.{if◌then◌else◌, nat_lt, ◌||◌, slice_index, ◌/◌, ◌%◌, ◌^◌}
+use Rattle.em_regs.specs.declared.reg.Reg.TheVariants.{Rctl}
+use Rattle.em_regs.specs.Setup.{has, rx_setup, tx_setup, value_of}
 use Rattle.em_regs.specs.Table.{reg_at}
+use Rattle.em_rx.specs.Receive as rx
+use Rattle.em_rx.specs.Receive.{octets_written}
+use Rattle.em_tx.specs.Cells.{Shown}
+use Rattle.em_tx.specs.Engine as tx
+use Rattle.em_tx.specs.declared.answer.TxAnswer.{TxAnswer}
+use Rattle.em_tx.specs.declared.refusal.TxRefusal.{TxRefusal}
+use Rattle.em_tx.proofs.CostLaws as tx_laws
+use Rattle.em_step.specs.Engines.{sending, transmitted, tx_stepped}
 use Rattle.em_filter.specs.Vlan.{tagged}
 use Rattle.em_step.specs.State.{State}
 use Rattle.em_step.specs.Arrival.{arrival, octets_stored}
 use Rattle.em_step.proofs.ArrivalLaws.{stored_most}
-use Rattle.em_step.specs.declared.refusal.Refusal.{Refusal}
 use Rattle.em_step.specs.declared.refusal.Refusal.TheVariants.{Length}
-use Rattle.em_step.specs.Event.{Event, reads, writes, pokes, arrives, links}
+use Rattle.em_step.specs.Event.{Event, reads, writes, pokes, arrives, links, receives, transmits}
 use Rattle.em_step.specs.Step.{resets, step}
 use Rattle.em_step.specs.Cost.{least_cost, most_cost, cost, cost_of_part, cost_of}
 use Rattle.em_step.specs.declared.event.Answer.{Answer}
 use Rattle.em_step.specs.declared.event.Answer.TheVariants.{Stored}
 use Rattle.em_step.specs.declared.undo.Undo.{Undo}
 use Rattle.em_step.specs.declared.undo.Part.{Part}
-use Rattle.em_step.specs.declared.undo.Part.TheVariants.{Nothing, Register, Octets, Arrival, Link, Reset}
+use Rattle.em_step.specs.declared.undo.Part.TheVariants.{Nothing, Register, Octets, Arrival}
+use Rattle.em_step.specs.declared.undo.Part.TheVariants.{RxStep, TxStep, Link, Reset}
 
 part_least : (p : Part) → least_cost ≤ cost_of_part p
 part_least Nothing = omega arith
 part_least (Register old) = omega arith
 part_least (Octets old) = omega arith
 part_least (Arrival old) = omega arith
+part_least (RxStep head old) = omega arith
+part_least (TxStep head old) = omega arith
 part_least (Link old) = omega arith
 part_least (Reset old) = omega arith
 
@@ -44,6 +58,44 @@ stored_octets : (s : State) (f : List ℕ) (a : Answer) → octets_stored s f a 
 stored_octets s f Stored = stored_most f (tagged s.registers f)
 stored_octets s f a = omega arith
 
+-- a receive buffer has at most 16,384 octets
+sizes_most : (n : ℕ) → slice_index (2048 ∷ 1024 ∷ 512 ∷ 256 ∷ []) n ≤ 16_384
+sizes_most zero = omega arith
+sizes_most (suc zero) = omega arith
+sizes_most (suc (suc zero)) = omega arith
+sizes_most (suc (suc (suc zero))) = omega arith
+sizes_most (suc (suc (suc (suc n)))) = omega arith
+
+greater_sizes_most : (n : ℕ) → slice_index (2048 ∷ 16384 ∷ 8192 ∷ 4096 ∷ []) n ≤ 16_384
+greater_sizes_most zero = omega arith
+greater_sizes_most (suc zero) = omega arith
+greater_sizes_most (suc (suc zero)) = omega arith
+greater_sizes_most (suc (suc (suc zero))) = omega arith
+greater_sizes_most (suc (suc (suc (suc n)))) = omega arith
+
+of_bsex : (bsex : Bool) (n : ℕ) →
+    (if bsex then slice_index (2048 ∷ 16384 ∷ 8192 ∷ 4096 ∷ []) n
+    else slice_index (2048 ∷ 1024 ∷ 512 ∷ 256 ∷ []) n) ≤ 16_384
+of_bsex true n = greater_sizes_most n
+of_bsex false n = sizes_most n
+
+written_most : (idle : Bool) (n b : ℕ) → n ≤ b → b ≤ 16_384 → (if idle then 0 else n + 8) ≤ 16_392
+written_most true n b few most = omega arith
+written_most false n b few most = omega arith
+
+piece_most : (s : State) → octets_written (rx_setup s.registers) s.fifo ≤ 16_392
+piece_most s =
+    let q = rx_setup s.registers in
+    let rctl = value_of s.registers Rctl in
+    written_most (rx.is_idle q s.fifo) (rx.count_of q s.fifo) q.buffer (omega arith)
+    (of_bsex (has rctl 0x0200_0000) (rctl / 2 ^ 16 % 4))
+
+-- a transmit step that is not refused
+sent_by_engine : (s : State) (x : Result (TxAnswer × Shown) TxRefusal) (r : Answer × State) (n : ℕ)
+    → ((t : TxAnswer × Shown) → x ≡ Ok t → n ≤ 32_765) → tx_stepped s x ≡ Ok r → n ≤ 32_765
+sent_by_engine s (Ok t) r n most is = most t refl
+sent_by_engine s (Err refusal) r n most is = cc
+
 pub cost_most : (s : State) (e : Event) (r : Answer × State) → step s e ≡ Ok r → cost s e ≤ most_cost
 cost_most s (reads o) r is = omega arith
 cost_most s (writes o v) r is = if_most (resets (reg_at o) v)
@@ -54,3 +106,8 @@ cost_most s (arrives f) r is =
     let most : length f ≤ 20_000 = ltb-false _ _ (frame_most few many (arrival s f) r is) in
     omega (arith, most, stored_octets s f (arrival s f).0)
 cost_most s (links up) r is = omega arith
+cost_most s receives r is = omega (arith, piece_most s)
+cost_most s transmits r is =
+    let q = tx_setup s.registers in
+    let most = sent_by_engine s (transmitted s) r (tx.cost q (sending s)) (tx_laws.cost_most q (sending s)) is in
+    omega (arith, most)

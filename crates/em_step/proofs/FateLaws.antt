@@ -11,11 +11,11 @@ use Rattle.em_filter.specs.Bits.{lpe}
 use Rattle.em_filter.specs.Filters.{longest, verdict}
 use Rattle.em_filter.specs.Kind.{destination, kind_of}
 use Rattle.em_filter.specs.Vlan.{passes_vlan}
-use Rattle.em_step.specs.Arrival.{is_enabled, lacks_room, judgement, admission, after_miss, after_accept, arrival}
+use Rattle.em_step.specs.Arrival.{is_enabled, lacks_room, judgement, after_miss, after_accept, arrival}
 use Rattle.em_step.specs.Fate.{IsFate, IsTaken}
 use Rattle.em_step.specs.State.{State}
 use Rattle.em_step.specs.declared.event.Answer.{Answer}
-use Rattle.em_step.specs.declared.event.Answer.TheVariants.{Done, Value, Stored, Dropped}
+use Rattle.em_step.specs.declared.event.Answer.TheVariants.{Done, Value, Stored, Dropped, Idle, Wrote, Fetched, Sent}
 use Rattle.em_step.specs.declared.event.Reason.TheVariants.{Down, Disabled, Rejected, Undersize, Oversize, Missed}
 
 -- what is too long is not too short
@@ -96,3 +96,7 @@ module _ (s : State) (f : List ℕ) where
       simp (link, enabled, accepted, few, many, passes, room) refl
   no_other Done is = absurd is
   no_other (Value v) is = absurd is
+  no_other Idle is = absurd is
+  no_other (Wrote index) is = absurd is
+  no_other (Fetched index) is = absurd is
+  no_other (Sent index octets) is = absurd is

@@ -5,3 +5,6 @@ pub mod ReversalLaws
 pub mod ArrivalLaws
 pub mod FateLaws
 pub mod CostLaws
+pub mod EngineLaws
+pub mod SetupLaws
+pub mod PieceLaws

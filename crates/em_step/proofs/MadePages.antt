@@ -1,17 +1,26 @@
 -- More made pages: what is shown stays, records go on fitting, and taking one back leaves more made pages again.
 use Rattle.std.proofs.Common.{◌≡◌, refl, ap, sym, subst}
 use Rattle.em_mem.proofs.MadePages as memory
+use Rattle.em_regs.specs.declared.reg.Reg.TheVariants.{Rdh, Tdh}
 use Rattle.em_regs.specs.RegFile as registers
 use Rattle.em_latch.specs.Latches as latches
 use Rattle.em_rx.specs.Fifo as rx
 use Rattle.em_rx.specs.Undo as rx_undo
 use Rattle.em_rx.specs.declared.undo.RxUndo.{RxUndo}
+use Rattle.em_rx.specs.declared.undo.RxUndo.TheVariants as rx_record
+use Rattle.em_rx.specs.declared.undo.RxUndo.TheVariants.{Frame}
 use Rattle.em_rx.proofs.MadePages as rx_laws
+use Rattle.em_tx.specs.Cells as tx_cells
+use Rattle.em_tx.specs.declared.undo.TxUndo.{TxUndo}
+use Rattle.em_tx.specs.declared.undo.TxUndo.TheVariants as tx_record
+use Rattle.em_tx.proofs.MadePages as tx_laws
 use Rattle.em_step.specs.Cells.{Cells, shows, MorePages}
-use Rattle.em_step.specs.Undo.{Fits, PartFits, undo, undo_part, undo_receive}
+use Rattle.em_step.specs.Undo.{Fits, PartFits, tx_cells_of, undo, undo_part, undo_receive, undo_register}
+use Rattle.em_step.specs.Undo.{undo_transmit, word}
 use Rattle.em_step.specs.declared.undo.Undo.{Undo}
 use Rattle.em_step.specs.declared.undo.Part.{Part}
-use Rattle.em_step.specs.declared.undo.Part.TheVariants.{Nothing, Register, Octets, Arrival, Link, Reset}
+use Rattle.em_step.specs.declared.undo.Part.TheVariants.{Nothing, Register, Octets, Arrival}
+use Rattle.em_step.specs.declared.undo.Part.TheVariants.{RxStep, TxStep, Link, Reset}
 
 pub shows_after : (c d : Cells) → MorePages c d → shows d ≡ shows c
 shows_after c d more = λ i. record {
@@ -19,6 +28,8 @@ shows_after c d more = λ i. record {
   latches = more.latches i;
   fifo = rx.shows (more.fifo i);
   memory = more.memory.octets i;
+  gathered = more.gathered i;
+  wire = more.wire i;
   eeprom = more.eeprom i;
   link = more.link i;
 }
@@ -36,15 +47,59 @@ receive_after c d r more = record {
   latches = more.latches;
   fifo = ap (λ f. rx_undo.undo_fifo f r) more.fifo;
   memory = rx_laws.undo_after c.memory d.memory r more.memory;
+  gathered = more.gathered;
+  wire = more.wire;
   eeprom = more.eeprom;
   link = more.link;
 }
 
+-- a register that is put back
+register_after : (c d : Cells) (old : registers.OldWord) → MorePages c d
+    → MorePages (undo_register c old) (undo_register d old)
+register_after c d old more = record {
+  registers = ap (λ m. registers.undo m old) more.registers;
+  latches = more.latches;
+  fifo = more.fifo;
+  memory = more.memory;
+  gathered = more.gathered;
+  wire = more.wire;
+  eeprom = more.eeprom;
+  link = more.link;
+}
+
+register_fits_after : (c d : Cells) (old : registers.OldWord) → MorePages c d → registers.Fits c.registers old
+    → registers.Fits d.registers old
+register_fits_after c d old more fits = subst (λ m. registers.Fits m old) (sym more.registers) fits
+
+-- a record of the transmit side
+sending_cells : (c d : Cells) → MorePages c d → tx_cells.MorePages (tx_cells_of c) (tx_cells_of d)
+sending_cells c d more = record { gathered = more.gathered; wire = more.wire; memory = more.memory }
+
+transmit_after : (c d : Cells) (r : TxUndo) → MorePages c d → MorePages (undo_transmit c r) (undo_transmit d r)
+transmit_after c d r more =
+    let after = tx_laws.undo_after (tx_cells_of c) (tx_cells_of d) r (sending_cells c d more) in
+    record {
+      registers = more.registers;
+      latches = more.latches;
+      fifo = more.fifo;
+      memory = after.memory;
+      gathered = after.gathered;
+      wire = after.wire;
+      eeprom = more.eeprom;
+      link = more.link;
+    }
+
 part_fits_after : (c d : Cells) (p : Part) → MorePages c d → PartFits c p → PartFits d p
 part_fits_after c d Nothing more fits = tt
-part_fits_after c d (Register old) more fits = subst (λ m. registers.Fits m old) (sym more.registers) fits
+part_fits_after c d (Register old) more fits = register_fits_after c d old more fits
 part_fits_after c d (Octets old) more fits = memory.fits_after c.memory d.memory old.value more.memory fits
-part_fits_after c d (Arrival old) more fits = receive_fits_after c d old.value more fits
+part_fits_after c d (Arrival old) more fits = receive_fits_after c d (Frame old) more fits
+part_fits_after c d (RxStep head old) more fits =
+    (register_fits_after c d (word Rdh head) more fits.0, receive_fits_after c d (rx_record.Step old) more fits.1)
+part_fits_after c d (TxStep head old) more fits = (
+  register_fits_after c d (word Tdh head) more fits.0,
+  tx_laws.fits_after (tx_cells_of c) (tx_cells_of d) (tx_record.Step old) (sending_cells c d more) fits.1,
+)
 part_fits_after c d (Link old) more fits = tt
 part_fits_after c d (Reset old) more fits = receive_fits_after c d old.value.fifo more fits
 
@@ -56,28 +111,31 @@ fits_after c d r more fits = record {
 
 part_after : (c d : Cells) (p : Part) → MorePages c d → MorePages (undo_part c p) (undo_part d p)
 part_after c d Nothing more = more
-part_after c d (Register old) more = record {
-  registers = ap (λ m. registers.undo m old) more.registers;
-  latches = more.latches;
-  fifo = more.fifo;
-  memory = more.memory;
-  eeprom = more.eeprom;
-  link = more.link;
-}
+part_after c d (Register old) more = register_after c d old more
 part_after c d (Octets old) more = record {
   registers = more.registers;
   latches = more.latches;
   fifo = more.fifo;
   memory = memory.undo_after c.memory d.memory old.value more.memory;
+  gathered = more.gathered;
+  wire = more.wire;
   eeprom = more.eeprom;
   link = more.link;
 }
-part_after c d (Arrival old) more = receive_after c d old.value more
+part_after c d (Arrival old) more = receive_after c d (Frame old) more
+part_after c d (RxStep head old) more =
+    receive_after (undo_register c (word Rdh head)) (undo_register d (word Rdh head)) (rx_record.Step old)
+    (register_after c d (word Rdh head) more)
+part_after c d (TxStep head old) more =
+    transmit_after (undo_register c (word Tdh head)) (undo_register d (word Tdh head)) (tx_record.Step old)
+    (register_after c d (word Tdh head) more)
 part_after c d (Link old) more = record {
   registers = more.registers;
   latches = more.latches;
   fifo = more.fifo;
   memory = more.memory;
+  gathered = more.gathered;
+  wire = more.wire;
   eeprom = more.eeprom;
   link = refl;
 }
@@ -86,6 +144,8 @@ part_after c d (Reset old) more = receive_after _ _ old.value.fifo record {
   latches = refl;
   fifo = more.fifo;
   memory = more.memory;
+  gathered = refl;
+  wire = more.wire;
   eeprom = more.eeprom;
   link = more.link;
 }
@@ -96,6 +156,8 @@ undo_after c d r more = part_after _ _ r.part record {
   latches = ap (λ m. latches.undo m r.latches) more.latches;
   fifo = more.fifo;
   memory = more.memory;
+  gathered = more.gathered;
+  wire = more.wire;
   eeprom = more.eeprom;
   link = more.link;
 }

@@ -1,5 +1,5 @@
 -- What registers give after a reset.
-use Rattle.std.proofs.Common.{◌≡◌, ◌≢◌, ℕ, ◌+◌, Bool, true, false, List, length, Some, refl, ◌∙◌, sym, ap, arith}
+use Rattle.std.proofs.Common.{◌≡◌, ◌≢◌, ℕ, ◌+◌, Bool, true, false, List, [], length, Some, refl, ◌∙◌, sym, ap, arith}
 use Rattle.std.specs.Prelude.{if◌then◌else◌}
 use Rattle.em_regs.specs.declared.reg.Reg.{Reg}
 use Rattle.em_regs.specs.declared.reg.Reg.TheVariants.{Status, Ics, Imc, Ral, Rah}
@@ -83,6 +83,8 @@ new_is_reset size eeprom =
       latches = c.latches;
       fifo = fresh_fifo i;
       memory = c.memory.octets;
+      gathered = [];
+      wire = [];
       eeprom = eeprom;
       link = false;
     }

@@ -1,5 +1,5 @@
 -- What reversed changes have in common.
-use Rattle.std.proofs.Common.{◌≡◌, ℕ, ap, sym, subst, ◌∙◌, refl}
+use Rattle.std.proofs.Common.{◌≡◌, ap, sym, subst}
 use Rattle.em_mem.specs.Memory as memory
 use Rattle.em_latch.specs.Latches as latches
 use Rattle.em_regs.specs.Storage.{Registers}

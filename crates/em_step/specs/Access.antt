@@ -1,5 +1,5 @@
 -- An access of a register: what a read gives, and the state after a read or a write. A reset, and a change of the link.
-use Rattle.std.specs.Prelude.{ℕ, ◌/◌, ◌%◌, ◌==◌, Bool, true, false, bit_and, if◌then◌else◌}
+use Rattle.std.specs.Prelude.{ℕ, ◌/◌, ◌%◌, ◌==◌, Bool, true, false, bit_and, if◌then◌else◌, []}
 use Rattle.em_regs.specs.declared.reg.Reg.{Reg}
 use Rattle.em_regs.specs.declared.reg.Reg.TheVariants.{Ctrl, Status, Eerd}
 use Rattle.em_regs.specs.Table.{offset_of}
@@ -21,10 +21,15 @@ gives s reg =
 abbrev pub after_read : State → Reg → State
 after_read s reg = if is_latched reg then record s { latches = latches.after_read s.latches reg } else s
 
--- a reset leaves every register zero but STATUS and the first receive address, which is the EEPROM's, and the FIFO
--- empty; memory, EEPROM and link stay
+-- a reset leaves every register zero but STATUS and the first receive address, which is the EEPROM's, the FIFO empty
+-- and nothing gathered; memory, EEPROM, link and wire stay
 abbrev pub reset : State → State
-reset s = record s { registers = registers.reset (mac_of s.eeprom); latches = latches.fresh; fifo = empty }
+reset s = record s {
+  registers = registers.reset (mac_of s.eeprom);
+  latches = latches.fresh;
+  fifo = empty;
+  gathered = [];
+}
 
 -- v has the bit
 abbrev pub has : ℕ → ℕ → Bool

@@ -1,5 +1,5 @@
 -- What an adapter keeps, and what of it the model shows.
-use Rattle.std.specs.Prelude.{◌≡◌, ℕ, Bool, false, List, refl}
+use Rattle.std.specs.Prelude.{◌≡◌, ℕ, Bool, false, List, [], refl}
 use Rattle.std.specs.Coded.{Coded, code_by, coded×, coded_list, coded_ℕ, coded_bool}
 use Rattle.em_mem.specs.Memory as memory
 use Rattle.em_regs.specs.Storage.{Registers}
@@ -15,6 +15,8 @@ pub record Cells : Type 0 where
   pub latches : Registers
   pub fifo : rx.Cells
   pub memory : memory.Cells
+  pub gathered : List ℕ
+  pub wire : List (List ℕ)
   pub eeprom : List ℕ
   pub link : Bool
 
@@ -22,17 +24,20 @@ pub record Cells : Type 0 where
 abbrev pub cells_code : Coded Cells
 cells_code =
     code_by
-    (Registers × (Registers × (rx.Cells × (memory.Cells × (List ℕ × Bool)))))
+    (Registers × (Registers × (rx.Cells × (memory.Cells × (List ℕ × (List (List ℕ) × (List ℕ × Bool)))))))
     (coded× registers_code (coded× registers_code (coded× rx.cells_code
-    (coded× memory.cells_code (coded× (coded_list coded_ℕ) coded_bool)))))
-    (λ c. (c.registers, (c.latches, (c.fifo, (c.memory, (c.eeprom, c.link))))))
+    (coded× memory.cells_code (coded× (coded_list coded_ℕ) (coded× (coded_list (coded_list coded_ℕ))
+    (coded× (coded_list coded_ℕ) coded_bool)))))))
+    (λ c. (c.registers, (c.latches, (c.fifo, (c.memory, (c.gathered, (c.wire, (c.eeprom, c.link))))))))
     (λ p. record {
       registers = p.0;
       latches = p.1.0;
       fifo = p.1.1.0;
       memory = p.1.1.1.0;
-      eeprom = p.1.1.1.1.0;
-      link = p.1.1.1.1.1;
+      gathered = p.1.1.1.1.0;
+      wire = p.1.1.1.1.1.0;
+      eeprom = p.1.1.1.1.1.1.0;
+      link = p.1.1.1.1.1.1.1;
     })
     (λ _. refl)
 
@@ -43,18 +48,22 @@ shows c = record {
   latches = c.latches;
   fifo = rx.shows c.fifo;
   memory = c.memory.octets;
+  gathered = c.gathered;
+  wire = c.wire;
   eeprom = c.eeprom;
   link = c.link;
 }
 
--- a new adapter, over a memory of that size that is all zero and with those words in its EEPROM: as after a reset, and
--- with the link down
+-- a new adapter, over a memory of that size that is all zero and with those words in its EEPROM: as after a reset, with
+-- the link down and no frame on the wire
 abbrev pub fresh : ℕ → List ℕ → Cells
 fresh size eeprom = record {
   registers = registers.reset (mac_of eeprom);
   latches = latches.fresh;
   fifo = rx.fresh;
   memory = memory.fresh size;
+  gathered = [];
+  wire = [];
   eeprom = eeprom;
   link = false;
 }
@@ -65,5 +74,7 @@ pub record MorePages (c d : Cells) : Type 0 where
   pub latches : d.latches ≡ c.latches
   pub fifo : d.fifo ≡ c.fifo
   pub memory : memory.MorePages c.memory d.memory
+  pub gathered : d.gathered ≡ c.gathered
+  pub wire : d.wire ≡ c.wire
   pub eeprom : d.eeprom ≡ c.eeprom
   pub link : d.link ≡ c.link

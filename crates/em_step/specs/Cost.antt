@@ -2,13 +2,20 @@
 use Rattle.std.specs.Prelude.{ℕ, ◌+◌, length, if◌then◌else◌}
 use Rattle.em_regs.specs.Table.{reg_at}
 use Rattle.em_step.specs.State.{State}
-use Rattle.em_step.specs.Event.{Event, reads, writes, pokes, arrives, links}
+use Rattle.em_step.specs.Event.{Event, reads, writes, pokes, arrives, links, receives, transmits}
+use Rattle.em_regs.specs.Setup.{rx_setup, tx_setup}
+use Rattle.em_rx.specs.Receive.{octets_written}
 use Rattle.em_rx.specs.Undo.{octets_held}
+use Rattle.em_tx.specs.Engine as tx
+use Rattle.em_rx.specs.declared.undo.RxUndo.TheVariants.{Frame, Step}
+use Rattle.em_tx.specs.Undo.{cost_of_change}
+use Rattle.em_step.specs.Engines.{sending}
 use Rattle.em_step.specs.Arrival.{arrival, octets_stored}
 use Rattle.em_step.specs.Step.{resets}
 use Rattle.em_step.specs.declared.undo.Undo.{Undo}
 use Rattle.em_step.specs.declared.undo.Part.{Part}
-use Rattle.em_step.specs.declared.undo.Part.TheVariants.{Nothing, Register, Octets, Arrival, Link, Reset}
+use Rattle.em_step.specs.declared.undo.Part.TheVariants.{Nothing, Register, Octets, Arrival}
+use Rattle.em_step.specs.declared.undo.Part.TheVariants.{RxStep, TxStep, Link, Reset}
 
 -- of an event whose record holds no octets
 abbrev pub least_cost : ℕ
@@ -25,13 +32,17 @@ cost s (writes o v) = if resets (reg_at o) v then most_cost else least_cost
 cost s (pokes a octets) = least_cost + length octets
 cost s (arrives f) = least_cost + octets_stored s f (arrival s f).0
 cost s (links up) = least_cost
+cost s receives = least_cost + octets_written (rx_setup s.registers) s.fifo
+cost s transmits = least_cost + tx.cost (tx_setup s.registers) (sending s)
 
 -- of the record that the event left
 abbrev pub cost_of_part : Part → ℕ
 cost_of_part Nothing = least_cost
 cost_of_part (Register old) = least_cost
 cost_of_part (Octets old) = least_cost + length old.value.octets
-cost_of_part (Arrival old) = least_cost + octets_held old.value
+cost_of_part (Arrival old) = least_cost + octets_held (Frame old)
+cost_of_part (RxStep head old) = least_cost + octets_held (Step old)
+cost_of_part (TxStep head old) = least_cost + cost_of_change old.value
 cost_of_part (Link old) = least_cost
 cost_of_part (Reset old) = most_cost
 

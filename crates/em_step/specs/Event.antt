@@ -14,6 +14,10 @@ pub data Event : Type 0 where
   arrives : List ℕ → Event
   -- the link goes up, or down
   links : Bool → Event
+  -- the receive engine handles a descriptor
+  receives : Event
+  -- the transmit engine handles a descriptor
+  transmits : Event
 
 -- an event of the code without where its octets lie in memory
 abbrev pub plain : Lent → Event
@@ -22,3 +26,5 @@ plain (lent.Write o v) = writes o v
 plain (lent.Poke a octets) = pokes a octets.now
 plain (lent.Arrive octets) = arrives octets.now
 plain (lent.Link up) = links up
+plain lent.RxStep = receives
+plain lent.TxStep = transmits

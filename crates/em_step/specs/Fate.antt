@@ -9,7 +9,7 @@ use Rattle.em_rx.specs.Frame.{len_of}
 use Rattle.em_step.specs.Arrival.{is_enabled, kept_frame}
 use Rattle.em_step.specs.State.{State}
 use Rattle.em_step.specs.declared.event.Answer.{Answer}
-use Rattle.em_step.specs.declared.event.Answer.TheVariants.{Done, Value, Stored, Dropped}
+use Rattle.em_step.specs.declared.event.Answer.TheVariants.{Done, Value, Stored, Dropped, Idle, Wrote, Fetched, Sent}
 use Rattle.em_step.specs.declared.event.Reason.TheVariants.{Down, Disabled, Rejected, Undersize, Oversize, Missed}
 
 -- the link is up and RCTL.EN set
@@ -54,3 +54,7 @@ IsFate s f (Dropped Missed) = IsTaken s f × (FindsRoom s f → ⊥)
 IsFate s f Stored = IsTaken s f × FindsRoom s f
 IsFate s f Done = ⊥
 IsFate s f (Value v) = ⊥
+IsFate s f Idle = ⊥
+IsFate s f (Wrote index) = ⊥
+IsFate s f (Fetched index) = ⊥
+IsFate s f (Sent index octets) = ⊥

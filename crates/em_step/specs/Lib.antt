@@ -6,6 +6,8 @@ pub mod Cells
 pub mod Counts
 pub mod Arrival
 pub mod Fate
+pub mod Engines
 pub mod Step
+pub mod Pieces
 pub mod Undo
 pub mod Cost

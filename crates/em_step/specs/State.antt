@@ -15,6 +15,10 @@ pub record State : Type 0 where
   pub fifo : Fifo
   -- the octets of the guest's memory
   pub memory : List ℕ
+  -- the octets that are gathered for the next frame to be sent
+  pub gathered : List ℕ
+  -- the frames that were sent, the first one first
+  pub wire : List (List ℕ)
   -- the 64 words of the EEPROM
   pub eeprom : List ℕ
   -- whether the link is up
@@ -34,17 +38,20 @@ fifo_code =
 abbrev pub state_code : Coded State
 state_code =
     code_by
-    (Registers × (Registers × (Fifo × (List ℕ × (List ℕ × Bool)))))
+    (Registers × (Registers × (Fifo × (List ℕ × (List ℕ × (List (List ℕ) × (List ℕ × Bool)))))))
     (coded× registers_code (coded× registers_code (coded× fifo_code
-    (coded× (coded_list coded_ℕ) (coded× (coded_list coded_ℕ) coded_bool)))))
-    (λ s. (s.registers, (s.latches, (s.fifo, (s.memory, (s.eeprom, s.link))))))
+    (coded× (coded_list coded_ℕ) (coded× (coded_list coded_ℕ) (coded× (coded_list (coded_list coded_ℕ))
+    (coded× (coded_list coded_ℕ) coded_bool)))))))
+    (λ s. (s.registers, (s.latches, (s.fifo, (s.memory, (s.gathered, (s.wire, (s.eeprom, s.link))))))))
     (λ p. record {
       registers = p.0;
       latches = p.1.0;
       fifo = p.1.1.0;
       memory = p.1.1.1.0;
-      eeprom = p.1.1.1.1.0;
-      link = p.1.1.1.1.1;
+      gathered = p.1.1.1.1.0;
+      wire = p.1.1.1.1.1.0;
+      eeprom = p.1.1.1.1.1.1.0;
+      link = p.1.1.1.1.1.1.1;
     })
     (λ _. refl)
 

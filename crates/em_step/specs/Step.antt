@@ -4,12 +4,13 @@ use Rattle.std.specs.Prelude.{List, length, Option, Some, None, Result, Ok, Err}
 use Rattle.em_mem.specs.Memory.{put}
 use Rattle.em_regs.specs.Table.{reg_at}
 use Rattle.em_regs.specs.declared.reg.Reg.{Reg}
-use Rattle.em_step.specs.Event.{Event, reads, writes, pokes, arrives, links}
+use Rattle.em_step.specs.Event.{Event, reads, writes, pokes, arrives, links, receives, transmits}
 use Rattle.em_step.specs.State.{State}
 use Rattle.em_step.specs.Arrival.{arrival}
+use Rattle.em_step.specs.Engines.{rx_step, tx_step}
 use Rattle.em_step.specs.Access.{gives, after_read, after_write, is_reset, after_link}
 use Rattle.em_step.specs.declared.event.Answer.{Answer}
-use Rattle.em_step.specs.declared.event.Answer.TheVariants.{Done, Value, Dropped}
+use Rattle.em_step.specs.declared.event.Answer.TheVariants.{Done, Value, Dropped, Idle}
 use Rattle.em_step.specs.declared.refusal.Refusal.{Refusal}
 use Rattle.em_step.specs.declared.refusal.Refusal.TheVariants.{NoRegister, Range, Length, Memory}
 
@@ -36,28 +37,33 @@ step s (writes o v) = at_register (reg_at o) (λ reg. (Done, after_write s reg v
 step s (pokes a octets) = poke s a octets
 step s (arrives f) = arrive s f
 step s (links up) = Ok (Done, after_link s up)
+step s receives = rx_step s
+step s transmits = tx_step s
 
 -- a write that resets
 abbrev pub resets : Option Reg → ℕ → Bool
 resets None v = false
 resets (Some reg) v = is_reset reg v
 
--- the events that take memory: a memory write, a reset, and the arrival of a frame
+-- the events that take memory: a memory write, a reset, the arrival of a frame, and a step of an engine
 abbrev pub takes_memory : Event → Bool
 takes_memory (reads o) = false
 takes_memory (writes o v) = resets (reg_at o) v
 takes_memory (pokes a octets) = true
 takes_memory (arrives f) = true
 takes_memory (links up) = false
+takes_memory receives = true
+takes_memory transmits = true
 
--- a frame that is dropped takes none
-abbrev pub is_dropped : Answer → Bool
-is_dropped (Dropped reason) = true
-is_dropped answer = false
+-- a frame that is dropped takes none, nor does an idle step
+abbrev pub takes_none : Answer → Bool
+takes_none (Dropped reason) = true
+takes_none Idle = true
+takes_none answer = false
 
 -- something comes of the event, for which memory may be wanting
 abbrev pub needs_memory : Result (Answer × State) Refusal → Bool
-needs_memory (Ok r) = not (is_dropped r.0)
+needs_memory (Ok r) = not (takes_none r.0)
 needs_memory (Err refusal) = false
 
 -- what refuses an event: its first cause, or, where it has none and takes memory, the want of memory

@@ -1,20 +1,41 @@
 -- What a record puts back, and when it can be put back into an adapter.
+use Rattle.std.specs.Prelude.{ℕ, Bool, true, false}
 use Rattle.em_mem.specs.Memory as memory
+use Rattle.em_regs.specs.declared.reg.Reg.{Reg}
+use Rattle.em_regs.specs.declared.reg.Reg.TheVariants.{Rdh, Tdh}
+use Rattle.em_regs.specs.Table.{offset_of}
 use Rattle.em_regs.specs.RegFile as registers
 use Rattle.em_latch.specs.Latches as latches
 use Rattle.em_rx.specs.Undo as rx
 use Rattle.em_rx.specs.declared.undo.RxUndo.{RxUndo}
+use Rattle.em_rx.specs.declared.undo.RxUndo.TheVariants as rx_undo
+use Rattle.em_rx.specs.declared.undo.RxUndo.TheVariants.{Frame}
+use Rattle.em_tx.specs.Cells as tx_cells
+use Rattle.em_tx.specs.Undo as tx
+use Rattle.em_tx.specs.declared.undo.TxUndo.{TxUndo}
+use Rattle.em_tx.specs.declared.undo.TxUndo.TheVariants as tx_undo
 use Rattle.em_step.specs.Cells.{Cells, MorePages}
 use Rattle.em_step.specs.declared.undo.Undo.{Undo}
 use Rattle.em_step.specs.declared.undo.Part.{Part}
-use Rattle.em_step.specs.declared.undo.Part.TheVariants.{Nothing, Register, Octets, Arrival, Link, Reset}
+use Rattle.em_step.specs.declared.undo.Part.TheVariants.{Nothing, Register, Octets, Arrival}
+use Rattle.em_step.specs.declared.undo.Part.TheVariants.{RxStep, TxStep, Link, Reset}
+
+-- a register that held so much
+abbrev pub word : Reg → ℕ → registers.OldWord
+word reg old = record { at = offset_of reg; old = old }
+
+-- what the transmit engine works on
+abbrev pub tx_cells_of : Cells → tx_cells.Cells
+tx_cells_of c = tx_cells.cells c.gathered c.wire c.memory
 
 -- what the part names is in the cells
 abbrev pub PartFits : Cells → Part → Type 0
 PartFits c Nothing = Unit {0}
 PartFits c (Register old) = registers.Fits c.registers old
 PartFits c (Octets old) = memory.Fits c.memory old.value
-PartFits c (Arrival old) = rx.Fits c.fifo c.memory old.value
+PartFits c (Arrival old) = rx.Fits c.fifo c.memory (Frame old)
+PartFits c (RxStep head old) = registers.Fits c.registers (word Rdh head) × rx.Fits c.fifo c.memory (rx_undo.Step old)
+PartFits c (TxStep head old) = registers.Fits c.registers (word Tdh head) × tx.Fits (tx_cells_of c) (tx_undo.Step old)
 PartFits c (Link old) = Unit {0}
 PartFits c (Reset old) = rx.Fits c.fifo c.memory old.value.fifo
 
@@ -23,19 +44,39 @@ pub record Fits (c : Cells) (r : Undo) : Type 0 where
   pub latches : latches.Fits c.latches r.latches
   pub part : PartFits c r.part
 
+-- a step of the transmit engine, which has no record that makes it again
+abbrev pub is_sending : Part → Bool
+is_sending (TxStep head old) = true
+is_sending part = false
+
 -- the cells with a record of the receive side put back
 abbrev pub undo_receive : Cells → RxUndo → Cells
 undo_receive c r = record c { fifo = rx.undo_fifo c.fifo r; memory = rx.undo_memory c.memory r }
 
+-- the cells with a record of the transmit side put back
+abbrev pub with_tx_cells : Cells → tx_cells.Cells → Cells
+with_tx_cells c t = record c { gathered = t.gathered; wire = t.wire; memory = t.memory }
+
+abbrev pub undo_transmit : Cells → TxUndo → Cells
+undo_transmit c r = with_tx_cells c (tx.undo (tx_cells_of c) r)
+
+-- the cells with the register put back
+abbrev pub undo_register : Cells → registers.OldWord → Cells
+undo_register c old = record c { registers = registers.undo c.registers old }
+
 -- the cells with the part put back
 abbrev pub undo_part : Cells → Part → Cells
 undo_part c Nothing = c
-undo_part c (Register old) = record c { registers = registers.undo c.registers old }
+undo_part c (Register old) = undo_register c old
 undo_part c (Octets old) = record c { memory = memory.undo c.memory old.value }
-undo_part c (Arrival old) = undo_receive c old.value
+undo_part c (Arrival old) = undo_receive c (Frame old)
+undo_part c (RxStep head old) = undo_receive (undo_register c (word Rdh head)) (rx_undo.Step old)
+undo_part c (TxStep head old) = undo_transmit (undo_register c (word Tdh head)) (tx_undo.Step old)
 undo_part c (Link old) = record c { link = old }
 undo_part c (Reset old) =
-    undo_receive (record c { registers = old.value.registers; latches = old.value.latches }) old.value.fifo
+    undo_receive
+    (record c { registers = old.value.registers; latches = old.value.latches; gathered = old.value.gathered })
+    old.value.fifo
 
 -- the cells with the record put back: the words of the latches, and then the part
 abbrev pub undo : Cells → Undo → Cells

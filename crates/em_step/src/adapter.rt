@@ -1,5 +1,5 @@
 //! The adapter: its registers, its interrupt latches and the guest's memory.
-ghost use Rattle.std.specs.Prelude.{◌≡◌, ◌↔◌, ◌+◌, ◌<◌, ◌≤◌, ◌⊎◌, if◌then◌else◌, IsTrue, length};
+ghost use Rattle.std.specs.Prelude.{◌≡◌, ◌↔◌, ◌+◌, ◌<◌, ◌≤◌, ◌⊎◌, if◌then◌else◌, IsTrue, false, length, slice_get};
 ghost use Rattle.std.specs.Prelude.{IfOk, IfErr, OnOk, OnErr, IsErrOf};
 ghost use Rattle.std.specs.Option.{option_map};
 ghost use Rattle.em_mem.specs.Memory.{IsMemorySize, part};
@@ -13,7 +13,7 @@ ghost use Rattle.em_step.specs.Access.{is_reset, reset, after_link};
 ghost use Rattle.em_step.specs.Cells.{fresh, shows, MorePages};
 ghost use Rattle.em_step.specs.Event.{plain, pokes};
 ghost use Rattle.em_step.specs.Step.{step, Refuses};
-ghost use Rattle.em_step.specs.Undo.{Fits, PartFits, Reverses, undo, undo_part, undo_receive};
+ghost use Rattle.em_step.specs.Undo.{Fits, PartFits, Reverses, is_sending, undo, undo_part, undo_receive};
 ghost use Rattle.em_rx.specs.Undo as rx;
 ghost use Rattle.em_step.specs.Cost.{cost, cost_of, cost_of_part, least_cost, most_cost};
 
@@ -22,10 +22,11 @@ use crate::refusal::Refusal;
 use crate::undo::{BeforeReset, Part, Undo};
 use bitflags::Flags;
 use em_eeprom::Eeprom;
-use em_latch::Latches;
+use em_latch::{LatchUndo, Latches};
 use em_mem::{GuestMemory, MemRefusal, MemUndo};
 use em_regs::{Causes, Ctrl, Eerd, Reg, RegFile, Status};
-use em_rx::{Fifo, RxUndo};
+use em_rx::{Fifo, FramePatch, RxUndo, StepPatch};
+use em_tx::{Change, Gather, TxUndo, Wire, take_back};
 use std::alloc::Global;
 use std::marker::Model;
 
@@ -36,10 +37,12 @@ const MOST_POKE: usize = 16_384;
 #[derive(Drop)]
 pub struct Adapter {
     pub(crate) alloc: Global,
-    memory: GuestMemory,
+    pub(crate) memory: GuestMemory,
     pub(crate) registers: RegFile,
     pub(crate) latches: Latches,
     pub(crate) fifo: Fifo,
+    pub(crate) gather: Gather,
+    pub(crate) wire: Wire,
     eeprom: Eeprom,
     pub(crate) link: bool,
 }
@@ -56,6 +59,8 @@ impl Model for Adapter {
       latches = a.latches;
       fifo = a.fifo;
       memory = a.memory;
+      gathered = a.gather;
+      wire = a.wire;
       eeprom = a.eeprom;
       link = a.link;
     } };
@@ -84,6 +89,8 @@ impl Adapter {
             registers: RegFile::reset(eeprom.mac()),
             latches: Latches::new(),
             fifo,
+            gather: Gather::new(alloc),
+            wire: Wire::new(alloc),
             eeprom,
             link: false,
         })
@@ -127,6 +134,20 @@ impl Adapter {
         self.link
     }
 
+    /// How many frames were sent.
+    pub fn wire_len(&self) -> usize
+        ensures { result ≡ length (shows self.now).wire }
+    {
+        self.wire.len()
+    }
+
+    /// The octets of a frame that was sent, the first one at 0; none where so many were not sent.
+    pub fn wire_frame(&self, index: usize) -> Option<&[u8]>
+        ensures { option_map (λ frame. frame.now) result ≡ slice_get (shows self.now).wire index }
+    {
+        self.wire.frame(index)
+    }
+
     /// The EEPROM.
     pub(crate) fn eeprom(&self) -> &Eeprom
         ensures words { result.now ≡ (shows self.now).eeprom }
@@ -168,22 +189,35 @@ impl Adapter {
             Event::Poke(addr, octets) => Ok((Answer::Done, self.poke(addr, octets)?)),
             Event::Arrive(frame) => self.arrive(frame),
             Event::Link(up) => Ok((Answer::Done, self.change_link(up))),
+            Event::RxStep => self.receive_step(),
+            Event::TxStep => self.transmit_step(),
         }
     }
 
-    /// Takes an event back by its record.
+    /// Takes an event back by its record. It takes no memory.
+    #[inline(always)]
     pub fn take_back(&mut self, taken: Undo)
         requires { Fits self.old taken }
         ensures { self.new ≡ undo self.old taken }
     {
-        let _again = self.exchange(taken);
+        match taken {
+            Undo {
+                latches,
+                part: Part::TxStep(head, change),
+            } => self.take_back_sending(latches, head, change),
+            other => {
+                let _again = self.exchange(other);
+            }
+        }
     }
 
     /// Takes an event back by its record, and gives the record that makes its change again. It takes
-    /// no memory.
+    /// no memory, and so has no record of a step of the transmit engine: to send a frame again is
+    /// growth.
     #[inline(always)]
     pub fn exchange(&mut self, taken: Undo) -> Undo
-        requires { Fits self.old taken }
+        requires fits { Fits self.old taken }
+        requires again { is_sending taken.part ≡ false }
         ensures state { self.new ≡ undo self.old taken }
         ensures cost { cost_of result ≡ cost_of taken }
         ensures reverses { Reverses self.old self.new result }
@@ -199,10 +233,12 @@ impl Adapter {
                 *old = self.memory.exchange(taken);
                 Part::Octets(old)
             }
-            Part::Arrival(mut old) => {
-                self.exchange_frames(&mut old);
-                Part::Arrival(old)
+            Part::Arrival(old) => Part::Arrival(self.exchange_frame(old)),
+            Part::RxStep(head, old) => {
+                let old = self.exchange_piece(old);
+                Part::RxStep(self.registers.restore(Reg::Rdh, head), old)
             }
+            Part::TxStep(..) => unreachable!(),
             Part::Link(old) => Part::Link(std::mem::replace(&mut self.link, old)),
             // what it put aside has every word of the latches
             Part::Reset(old) => return self.exchange_reset(old),
@@ -210,6 +246,49 @@ impl Adapter {
         Undo {
             latches: self.latches.exchange(latches),
             part,
+        }
+    }
+
+    /// Takes a step of the transmit engine back.
+    fn take_back_sending(&mut self, words: LatchUndo, head: u32, change: Box<Change>)
+        requires { Fits self.old (record { latches = words; part = Part.TxStep head change }) }
+        ensures { self.new ≡ undo self.old (record { latches = words; part = Part.TxStep head change }) }
+    {
+        let _words = self.latches.exchange(words);
+        let _head = self.registers.restore(Reg::Tdh, head);
+        take_back(
+            &mut self.gather,
+            &mut self.wire,
+            &mut self.memory,
+            TxUndo::Step(change),
+        );
+    }
+
+    /// Takes an arrival back; the result is what makes it again.
+    fn exchange_frame(&mut self, old: Box<FramePatch>) -> Box<FramePatch>
+        requires { rx.Fits self.old.fifo self.old.memory (RxUndo.Frame old) }
+        ensures state { self.new ≡ undo_receive self.old (RxUndo.Frame old) }
+        ensures held { rx.octets_held (RxUndo.Frame result) ≡ rx.octets_held (RxUndo.Frame old) }
+        ensures reverses { rx.Reverses self.old.fifo self.new.fifo
+            self.old.memory self.new.memory (RxUndo.Frame result) }
+    {
+        match self.fifo.exchange(&mut self.memory, RxUndo::Frame(old)) {
+            RxUndo::Frame(again) => again,
+            _ => unreachable!(),
+        }
+    }
+
+    /// Takes a piece of a frame out of guest memory; the result is what puts it there again.
+    fn exchange_piece(&mut self, old: Box<StepPatch>) -> Box<StepPatch>
+        requires { rx.Fits self.old.fifo self.old.memory (RxUndo.Step old) }
+        ensures state { self.new ≡ undo_receive self.old (RxUndo.Step old) }
+        ensures held { rx.octets_held (RxUndo.Step result) ≡ rx.octets_held (RxUndo.Step old) }
+        ensures reverses { rx.Reverses self.old.fifo self.new.fifo
+            self.old.memory self.new.memory (RxUndo.Step result) }
+    {
+        match self.fifo.exchange(&mut self.memory, RxUndo::Step(old)) {
+            RxUndo::Step(again) => again,
+            _ => unreachable!(),
         }
     }
 
@@ -234,6 +313,7 @@ impl Adapter {
         let before = &mut *old;
         std::mem::swap(&mut self.registers, &mut before.registers);
         std::mem::swap(&mut self.latches, &mut before.latches);
+        std::mem::swap(&mut self.gather, &mut before.gathered);
         self.exchange_frames(&mut before.fifo);
         Undo::of_part(Part::Reset(old))
     }
@@ -331,8 +411,8 @@ impl Adapter {
         }
     }
 
-    /// Resets the registers and latches, and empties the FIFO. The box that keeps the old ones is made
-    /// first.
+    /// Resets the registers and latches, and empties the FIFO and the gathered octets. The box that keeps
+    /// the old ones is made first.
     fn reset(&mut self) -> Result<Undo, Refusal>
         ensures state { OnOk result (shows self.new ≡ reset (shows self.old)) }
         ensures cost { IfOk result (λ r. cost_of r ≡ most_cost) }
@@ -344,11 +424,13 @@ impl Adapter {
             registers: RegFile::reset(self.eeprom.mac()),
             latches: Latches::new(),
             fifo: RxUndo::Nothing,
+            gathered: Gather::new(self.alloc),
         };
         let mut kept = Box::new(self.alloc, fresh)?;
         let before = &mut *kept;
         std::mem::swap(&mut self.registers, &mut before.registers);
         std::mem::swap(&mut self.latches, &mut before.latches);
+        std::mem::swap(&mut self.gather, &mut before.gathered);
         before.fifo = self.fifo.clear();
         Ok(Undo::of_part(Part::Reset(kept)))
     }

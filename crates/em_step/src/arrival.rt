@@ -160,7 +160,7 @@ impl Adapter {
         Undo::of_latches(count_miss(&mut self.latches, lacks))
     }
 
-    /// Stores a frame, and counts it. The box of the record is made first.
+    /// Stores a frame, and counts it.
     fn accept(&mut self, frame: &[u8], kind: Kind) -> Result<Undo, Refusal>
         requires least { 60 ≤ length frame.now }
         requires most { length frame.now ≤ 16_380 }
@@ -171,12 +171,12 @@ impl Adapter {
         ensures err { IfErr result (λ e. e ≡ Refusal.Memory) }
         ensures same { OnErr result (self.new ≡ self.old) }
     {
-        let mut kept = Box::new(self.alloc, RxUndo::Nothing)?;
         let is_tagged = tagged(&self.registers, frame);
-        match self.fifo.accept(frame, is_tagged) {
-            Ok(taken) => *kept = taken,
+        let kept = match self.fifo.accept(frame, is_tagged) {
+            Ok(RxUndo::Frame(kept)) => kept,
+            Ok(_) => unreachable!(),
             Err(_) => return Err(Refusal::Memory),
-        }
+        };
         let broadcasts = self.takes_broadcasts();
         let lacks = self.lacks_buffer();
         let octets = frame.len() as u32 + CHECK_OCTETS;

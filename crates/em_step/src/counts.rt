@@ -1,18 +1,20 @@
-//! How the latches count a frame that arrives (manual, chapter on statistics registers).
+//! How the latches count frames that arrive and frames that are sent (manual, chapter on statistics registers).
 ghost use Rattle.std.specs.Prelude.{◌≡◌, ◌≤◌, length};
-ghost use Rattle.em_latch.specs.Latches.{Reverses};
+ghost use Rattle.em_latch.specs.Latches.{Reverses, after_raise};
 ghost use Rattle.em_latch.specs.Counter.{width_of};
 ghost use Rattle.em_step.specs.Counts.{after_buffer_count, after_frame_count, after_kind_count, after_miss_count};
-ghost use Rattle.em_step.specs.Counts.{after_size_count, class_of as class};
+ghost use Rattle.em_step.specs.Counts.{after_sent_count, after_sent_kind, after_sent_sizes, after_size_count};
+ghost use Rattle.em_step.specs.Counts.{class_of, sent_counter, stored_counter};
 
 use bitflags::Flags;
 use em_filter::Kind;
 use em_latch::{Counter, LatchUndo, Latches};
 use em_regs::Causes;
 
-/// The most octets on the wire of each class but the last.
+/// The fewest octets on the wire of a frame that is counted by its size: those of the first class.
 const LEAST: u32 = 64;
 
+/// The most octets of each further class but the last.
 const BELOW_128: u32 = 127;
 
 const BELOW_256: u32 = 255;
@@ -59,24 +61,63 @@ fn count_sizes(latches: &mut Latches, octets: u32) -> LatchUndo
     ensures reverses { Reverses latches.old latches.new result }
 {
     let frames = latches.count(Counter::Gprc, 1);
-    let class = latches.count(class_of(octets), 1);
+    let class = latches.count(stored_counter(class_of(octets)), 1);
     let both = frames.and(class);
     let sum = latches.count(Counter::Gorc, octets);
     both.and(sum)
 }
 
-/// The counter of a frame's class, by its octets on the wire.
-fn class_of(octets: u32) -> Counter
-    ensures class { result ≡ class octets }
-    ensures word { width_of result ≡ 1 }
+/// The size classes of frames, by their octets on the wire.
+#[derive(Clone, Copy)]
+enum SizeClass {
+    Upto64,
+    Upto127,
+    Upto255,
+    Upto511,
+    Upto1023,
+    Above1023,
+}
+
+fn class_of(octets: u32) -> SizeClass
+    ensures { result ≡ class_of octets }
 {
     match octets {
-        0..=LEAST => Counter::Prc64,
-        ..=BELOW_128 => Counter::Prc127,
-        ..=BELOW_256 => Counter::Prc255,
-        ..=BELOW_512 => Counter::Prc511,
-        ..=BELOW_1024 => Counter::Prc1023,
-        _ => Counter::Prc1522,
+        0..=LEAST => SizeClass::Upto64,
+        ..=BELOW_128 => SizeClass::Upto127,
+        ..=BELOW_256 => SizeClass::Upto255,
+        ..=BELOW_512 => SizeClass::Upto511,
+        ..=BELOW_1024 => SizeClass::Upto1023,
+        _ => SizeClass::Above1023,
+    }
+}
+
+/// The counter of the frames of a class that are stored.
+fn stored_counter(class: SizeClass) -> Counter
+    ensures counter { result ≡ stored_counter class }
+    ensures word { width_of result ≡ 1 }
+{
+    match class {
+        SizeClass::Upto64 => Counter::Prc64,
+        SizeClass::Upto127 => Counter::Prc127,
+        SizeClass::Upto255 => Counter::Prc255,
+        SizeClass::Upto511 => Counter::Prc511,
+        SizeClass::Upto1023 => Counter::Prc1023,
+        SizeClass::Above1023 => Counter::Prc1522,
+    }
+}
+
+/// The counter of the frames of a class that are sent.
+fn sent_counter(class: SizeClass) -> Counter
+    ensures counter { result ≡ sent_counter class }
+    ensures word { width_of result ≡ 1 }
+{
+    match class {
+        SizeClass::Upto64 => Counter::Ptc64,
+        SizeClass::Upto127 => Counter::Ptc127,
+        SizeClass::Upto255 => Counter::Ptc255,
+        SizeClass::Upto511 => Counter::Ptc511,
+        SizeClass::Upto1023 => Counter::Ptc1023,
+        SizeClass::Above1023 => Counter::Ptc1522,
     }
 }
 
@@ -103,5 +144,46 @@ fn count_buffer(latches: &mut Latches, lacks_buffer: bool) -> LatchUndo
         latches.count(Counter::Rnbc, 1)
     } else {
         LatchUndo::none()
+    }
+}
+
+/// Counts a frame that was sent, of so many octets on the wire, and raises causes.
+pub(crate) fn count_sent(latches: &mut Latches, octets: u32, kind: Kind, causes: u32) -> LatchUndo
+    ensures state { latches.new ≡ after_raise (after_sent_count octets kind latches.old) causes }
+    ensures reverses { Reverses latches.old latches.new result }
+{
+    let sizes = count_sent_sizes(latches, octets);
+    let kinds = count_sent_kind(latches, kind);
+    let both = sizes.and(kinds);
+    let raised = latches.raise(causes);
+    both.and(raised)
+}
+
+/// Counts a frame that was sent, its class and its octets, if it is not too short to be counted.
+fn count_sent_sizes(latches: &mut Latches, octets: u32) -> LatchUndo
+    ensures state { latches.new ≡ after_sent_sizes octets latches.old }
+    ensures words { length result ≤ 4 }
+    ensures reverses { Reverses latches.old latches.new result }
+{
+    if octets < LEAST {
+        return LatchUndo::none();
+    }
+    let frames = latches.count(Counter::Gptc, 1);
+    let class = latches.count(sent_counter(class_of(octets)), 1);
+    let both = frames.and(class);
+    let sum = latches.count(Counter::Gotc, octets);
+    both.and(sum)
+}
+
+/// Counts a broadcast that was sent, or a frame to another group address.
+fn count_sent_kind(latches: &mut Latches, kind: Kind) -> LatchUndo
+    ensures state { latches.new ≡ after_sent_kind kind latches.old }
+    ensures words { length result ≤ 1 }
+    ensures reverses { Reverses latches.old latches.new result }
+{
+    match kind {
+        Kind::Broadcast => latches.count(Counter::Bptc, 1),
+        Kind::Multicast => latches.count(Counter::Mptc, 1),
+        Kind::Unicast => LatchUndo::none(),
     }
 }

@@ -14,6 +14,10 @@ pub enum Event<'a> {
     Arrive(&'a [u8]),
     /// The link goes up, or down.
     Link(bool),
+    /// The receive engine handles one descriptor.
+    RxStep,
+    /// The transmit engine handles one descriptor.
+    TxStep,
 }
 
 /// What a performed event answers.
@@ -25,6 +29,15 @@ pub enum Answer {
     Stored,
     /// The frame that arrived is lost.
     Dropped(Reason),
+    /// The engine had nothing to do.
+    Idle,
+    /// The receive engine put a piece of a frame into the buffer of a descriptor, the one of this
+    /// index in the ring.
+    Wrote { index: u32 },
+    /// The transmit engine fetched the buffer of a descriptor, and sent no frame.
+    Fetched { index: u32 },
+    /// The transmit engine fetched the buffer of a descriptor, and sent a frame of so many octets.
+    Sent { index: u32, octets: u32 },
 }
 
 /// Why a frame was dropped. Where several reasons are there, the first of them is named (this

@@ -1,9 +1,13 @@
 //! What the definitions of steps and records say together.
-ghost use Rattle.std.specs.Prelude.{◌≡◌, ◌≢◌, ◌+◌, ◌≤◌, ℕ, List, Ok};
+ghost use Rattle.std.specs.Prelude.{◌≡◌, ◌≢◌, ◌+◌, ◌<◌, ◌≤◌, ◌∷◌, ℕ, List, Ok};
 ghost use Rattle.em_regs.specs.declared.reg.Reg.{Reg};
 ghost use Rattle.em_regs.specs.Table.{IsReg};
-ghost use Rattle.em_regs.specs.RegFile.{address_low, address_high, put_eerd};
+ghost use Rattle.em_regs.specs.Storage.{Registers};
+ghost use Rattle.em_regs.specs.RegFile.{address_low, address_high, put, put_eerd};
+ghost use Rattle.em_regs.specs.Setup.{rx_setup};
 ghost use Rattle.em_eeprom.specs.Eeprom.{IsEeprom, mac_of};
+ghost use Rattle.em_rx.specs.Frame.{Frame};
+ghost use Rattle.em_rx.specs.Pieces.{GoesInPieces, IsDelivered};
 ghost use Rattle.em_step.specs.State.{State, status};
 ghost use Rattle.em_step.specs.Access.{gives, reset, after_eeprom_read};
 ghost use Rattle.em_step.specs.Cells.{Cells, fresh, shows, MorePages};
@@ -12,6 +16,7 @@ ghost use Rattle.em_step.specs.Event.{Event};
 ghost use Rattle.em_step.specs.Arrival.{arrival};
 ghost use Rattle.em_step.specs.Fate.{IsFate};
 ghost use Rattle.em_step.specs.Step.{step};
+ghost use Rattle.em_step.specs.Pieces.{AreReceived};
 ghost use Rattle.em_step.specs.Cost.{cost, most_cost};
 ghost use Rattle.em_step.specs.declared.event.Answer.{Answer};
 ghost use Rattle.em_step.specs.declared.undo.Undo.{Undo};
@@ -50,6 +55,20 @@ pub fn a_new_adapter_is_reset()
 pub fn fates()
     ensures one { (s : State) (f : List ℕ) → IsFate s f (arrival s f).0 }
     ensures alone { (s : State) (f : List ℕ) (a : Answer) → IsFate s f a → (arrival s f).0 ≡ a }
+{}
+
+/// A frame that goes in j pieces is in its buffers after j receive steps with nothing between them:
+/// each piece in its own, as its descriptor says, and the frame has left the FIFO. The ring may have
+/// as many descriptors as any write of RDLEN gives it.
+pub fn pieces()
+    ensures delivered { (s : State) (frame : Frame) (frames : List Frame) (j : ℕ) →
+        GoesInPieces (rx_setup s.registers) s.memory frame j →
+        s.fifo ≡ record { frames = frame ∷ frames; taken = 0 } →
+        (rx_setup s.registers).count ≤ 65_536 →
+        (t : State) × AreReceived j s t
+        × (t.fifo ≡ record { frames = frames; taken = 0 })
+        × ((i : ℕ) → i < j → IsDelivered (rx_setup s.registers) s.memory t.memory frame j i) }
+    ensures count { (m : Registers) (v : ℕ) → (rx_setup (put m Reg.Rdlen v)).count ≤ 65_536 }
 {}
 
 /// An adapter's EEPROM has 64 words of 16 bits.

@@ -4,6 +4,7 @@
 mod adapter;
 mod arrival;
 mod counts;
+mod engines;
 mod event;
 pub mod laws;
 mod refusal;

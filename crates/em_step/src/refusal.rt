@@ -2,6 +2,8 @@
 ghost use Rattle.std.specs.Prelude.{◌≡◌};
 ghost use Rattle.em_step.specs.Refusal.{code_of, name_of};
 
+use em_rx::RxRefusal;
+use em_tx::TxRefusal;
 use std::alloc::{AllocError, AllocFailed};
 use thiserror::Error;
 
@@ -76,5 +78,35 @@ impl<T: Drop> From<AllocFailed<T>> for Refusal {
 
     fn from(_refused: AllocFailed<T>) -> Refusal {
         Refusal::Memory
+    }
+}
+
+impl From<RxRefusal> for Refusal {
+    ghost use Rattle.std.specs.Prelude.{◌≡◌};
+    ghost use Rattle.em_step.specs.Engines.{rx_refused};
+
+    ghost from_gives = { λ refusal e. e ≡ rx_refused refusal };
+
+    fn from(refused: RxRefusal) -> Refusal {
+        match refused {
+            RxRefusal::DmaRange => Refusal::DmaRange,
+            RxRefusal::Memory => Refusal::Memory,
+        }
+    }
+}
+
+impl From<TxRefusal> for Refusal {
+    ghost use Rattle.std.specs.Prelude.{◌≡◌};
+    ghost use Rattle.em_step.specs.Engines.{tx_refused};
+
+    ghost from_gives = { λ refusal e. e ≡ tx_refused refusal };
+
+    fn from(refused: TxRefusal) -> Refusal {
+        match refused {
+            TxRefusal::DmaRange => Refusal::DmaRange,
+            TxRefusal::Extended => Refusal::Extended,
+            TxRefusal::TooLong => Refusal::TooLong,
+            TxRefusal::Memory => Refusal::Memory,
+        }
     }
 }

@@ -5,7 +5,8 @@ ghost use Rattle.em_step.specs.Cost.{least_cost, most_cost, cost_of};
 use em_latch::{LatchUndo, Latches};
 use em_mem::MemUndo;
 use em_regs::{RegFile, RegUndo};
-use em_rx::RxUndo;
+use em_rx::{FramePatch, RxUndo, StepPatch};
+use em_tx::{Change, Gather};
 use std::mem::size_of;
 
 /// What a record costs that holds no octets.
@@ -32,19 +33,25 @@ pub enum Part {
     /// Octets of guest memory, in a box, so that records stay small: a journal has a place for each.
     Octets(Box<MemUndo>),
     /// What a frame overwrote in the FIFO, in a box like the octets.
-    Arrival(Box<RxUndo>),
+    Arrival(Box<FramePatch>),
+    /// RDH, and what a step of the receive engine overwrote in guest memory and in the FIFO.
+    RxStep(u32, Box<StepPatch>),
+    /// TDH, and what a step of the transmit engine gathered, sent and overwrote in guest memory.
+    TxStep(u32, Box<Change>),
     /// The link.
     Link(bool),
     /// All that a reset put aside, the latches among it.
     Reset(Box<BeforeReset>),
 }
 
-/// What a reset put aside: the registers and latches as they were, and where the FIFO's frames lay.
+/// What a reset put aside: the registers and latches as they were, where the FIFO's frames lay, and
+/// the gathered octets.
 #[derive(Drop)]
 pub struct BeforeReset {
     pub registers: RegFile,
     pub latches: Latches,
     pub fifo: RxUndo,
+    pub gathered: Gather,
 }
 
 impl Undo {
@@ -80,6 +87,8 @@ impl Undo {
             Part::Nothing | Part::Register(_) | Part::Link(_) => LEAST_COST,
             Part::Octets(octets) => LEAST_COST + octets.len(),
             Part::Arrival(frame) => LEAST_COST + frame.len(),
+            Part::RxStep(_, piece) => LEAST_COST + piece.len(),
+            Part::TxStep(_, change) => LEAST_COST + change.cost(),
             Part::Reset(_) => MOST_COST,
         }
     }

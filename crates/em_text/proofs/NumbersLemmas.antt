@@ -1,9 +1,9 @@
 -- The number and the octets of a word, by cases.
 use Rattle.std.proofs.Common.{◌≡◌, ◌≢◌, ◌%◌, ℕ, ◌+◌, ◌*◌, ◌^◌, ◌<◌, ◌≤◌, true, false, List, length, drop, get_or}
-use Rattle.std.proofs.Common.{Option, Some, None, refl, arith, add-one, take, Result, Ok, Err, ap, ◌∙◌}
+use Rattle.std.proofs.Common.{Option, Some, None, refl, sym, arith, add-one, take, Result, Ok, Err, ap, ◌∙◌, inl, inr}
 use Rattle.std.specs.List.{list_all, AllPass}
 use Rattle.std.proofs.lemmas.List.{drop_more, get_or_default}
-use Rattle.std.proofs.lemmas.Bool.{lt-ltb, le-ltb}
+use Rattle.std.proofs.lemmas.Bool.{lt-ltb, le-ltb, cases_lt}
 use Rattle.std.proofs.lemmas.Bool.Decides.{nat_tests}
 use Rattle.std.proofs.Math.Nat.{pow-le-pow_right, pow-suc, mul-le-mul_right}
 use Rattle.std.specs.Char.{is_digit, digit_value}
@@ -132,6 +132,21 @@ octets_of-no_digits word some not = none (octets_of word) (λ h. not (digits-oct
     none : (o : Option (List ℕ)) → (IsSome o → ⊥) → o ≡ None
     none None h = refl
     none (Some x) h = absurd (h refl)
+
+-- octets are half as many as the digits that write them
+pub octets_of-length : (word octets : List ℕ) → octets_of word ≡ Some octets → length word ≡ 2 * length octets
+octets_of-length word octets h =
+    elim (cases_lt 0 (length word)) [
+      | inl some ↦ written word octets (decode_of word) refl (sym (octets_of-some word some) ∙ h)
+      | inr none ↦ cc (sym (octets_of-empty word (omega arith)) ∙ h)
+    ]
+  where
+    written : (word octets : List ℕ) (r : Result (List ℕ) FromHexError) → decode_of word ≡ r
+        → result_ok r ≡ Some octets → length word ≡ 2 * length octets
+    written word octets (Ok bytes) e h =
+        let same : bytes ≡ octets = cc in
+        rw (← same) (decode_of-ok word bytes e).2
+    written word octets (Err x) e h = cc h
 
 -- ---- two digits an octet
 

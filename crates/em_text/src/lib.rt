@@ -18,6 +18,6 @@ pub use numbers::{decimal_number, hex_address, hex_number, octets_into, octets_o
 pub use reader::{MOST_SCRIPT, ReadFault, read_script};
 pub use words::Words;
 pub use writer::{
-    WriteFailed, write_decimal, write_decimal_line, write_octets, write_octets_line, write_pieces,
-    write_register_line, write_value, write_whole,
+    WriteFailed, octet_digits, write_decimal, write_decimal_line, write_octets, write_octets_line,
+    write_pieces, write_register_line, write_value, write_whole,
 };

@@ -109,13 +109,13 @@ fn write_all_forms(text: &mut Vec<u8>) -> Result<(), WriteFailed> {
     write_value(text, 0xDEAD_0042)?;
     write_register_line(text, 0x5_28FC, 0xABCD)?;
     write_decimal(text, 0)?;
-    write_decimal_line(text, u32::MAX)
+    write_decimal_line(text, u64::MAX)
 }
 
 #[test]
 fn writes_texts(rt: HostRuntime) -> Result<(), Fail> {
     let start = b"ok\nrefused Range\n009ABCFF".as_slice();
-    let end = b"DE\nDEAD0042\n528FC 0000ABCD\n04294967295\n".as_slice();
+    let end = b"DE\nDEAD0042\n528FC 0000ABCD\n018446744073709551615\n".as_slice();
     let mut text = Vec::new(rt.alloc());
     assert_eq!(rt; write_all_forms(&mut text), Ok(()));
     assert!(rt; text.as_slice().starts_with(start));

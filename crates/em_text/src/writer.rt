@@ -1,5 +1,5 @@
 //! Texts to a writer, by calls of its `write` alone.
-ghost use Rattle.std.specs.Prelude.{◌≡◌, ◌*◌, ◌^◌, ◌<◌, length};
+ghost use Rattle.std.specs.Prelude.{◌≡◌, ◌*◌, ◌^◌, ◌<◌, length, [], ◌∷◌};
 ghost use Rattle.std.specs.List.{flat_map};
 ghost use Rattle.em_text.specs.Writer.{Writes, hex_text, hex_line_text, value_digits, value_text, register_line_text};
 ghost use Rattle.em_text.specs.Writer.{decimal_text, decimal_line_text};
@@ -99,7 +99,7 @@ pub fn write_register_line<W: Write>(
 }
 
 /// Writes a number in decimal digits.
-pub fn write_decimal<W: Write>(writer: &mut W, number: u32) -> Result<(), WriteFailed>
+pub fn write_decimal<W: Write>(writer: &mut W, number: u64) -> Result<(), WriteFailed>
     ensures writes { Writes (W.contents writer.old) (W.contents writer.new) result (decimal_text number) }
 {
     let mut buffer = Buffer::new();
@@ -107,11 +107,21 @@ pub fn write_decimal<W: Write>(writer: &mut W, number: u32) -> Result<(), WriteF
 }
 
 /// Writes a number in decimal digits, and a newline.
-pub fn write_decimal_line<W: Write>(writer: &mut W, number: u32) -> Result<(), WriteFailed>
+pub fn write_decimal_line<W: Write>(writer: &mut W, number: u64) -> Result<(), WriteFailed>
     ensures writes { Writes (W.contents writer.old) (W.contents writer.new) result (decimal_line_text number) }
 {
     write_decimal(writer, number)?;
     write_whole(writer, b"\n")
+}
+
+/// The two digits of an octet, in upper case.
+#[inline]
+pub fn octet_digits(octet: u8) -> [u8; 2]
+    ensures { result ≡ hex_text (octet ∷ []) }
+{
+    let mut digits = [0; 2];
+    fill_digits(&[octet], &mut digits);
+    digits
 }
 
 /// The 8 digits of a value.

@@ -2,3 +2,4 @@ pub mod FrameLaws
 pub mod CostLaws
 pub mod ReverseLaws
 pub mod EngineLaws
+pub mod MadePages

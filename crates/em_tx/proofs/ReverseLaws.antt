@@ -8,8 +8,8 @@ use Rattle.em_regs.specs.declared.setup.TxSetup.{TxSetup}
 use Rattle.em_tx.specs.Cells.{cells}
 use Rattle.em_tx.specs.Frame.{tag_of, frame, without_tag}
 use Rattle.em_tx.specs.Transfer.{Transfer}
-use Rattle.em_tx.specs.Undo.{Reverses, StatusReverses, StatusFits, status_undo, last_of, front_of}
-use Rattle.em_tx.specs.declared.undo.TxUndo.TheVariants.{Send}
+use Rattle.em_tx.specs.Undo.{ChangeReverses, StatusReverses, StatusFits, status_undo, last_of, front_of}
+use Rattle.em_tx.specs.declared.undo.Change.TheVariants.{Send}
 use Rattle.em_tx.proofs.FrameLaws.{parts, cut_frame}
 
 -- the frame that went last to the wire is the last one
@@ -35,7 +35,7 @@ pub Reverses-send : (q : TxSetup) (d : List ℕ) {old o : List ℕ} (new g : Lis
     (m n : mem.Cells) (t : Transfer) {tagged : Bool} {status : Option mem.Patch}
     → o ≡ old ++ new → v ≡ w ++ frame q d o ∷ [] → tagged ≡ is_some (tag_of q.vlan d (length o))
     → t.count ≡ length old → t.status ≡ status → StatusReverses m n status
-    → Reverses (cells old w m) (cells g v n) (Send t tagged)
+    → ChangeReverses (cells old w m) (cells g v n) (Send t tagged)
 Reverses-send q d {old = old} {o = o} new g {w = w} {v = v} m n t {tagged = tagged} {status = status}
     is_o is_v tag count same back =
     let beside : Bool → ℕ = λ b. cond b 16 0 in

@@ -112,3 +112,8 @@ handling_cost q d s =
 -- what a step that is not refused costs beyond the least
 abbrev pub cost : TxSetup → Shown → ℕ
 cost q s = if is_idle q then 0 else handling_cost q (part s.memory (place q) 16) s
+
+-- how many octets the frame has that the step sent, if it did
+abbrev pub octets_sent : TxAnswer → ℕ
+octets_sent (Sent index next causes octets kind) = octets
+octets_sent answer = 0

@@ -6,10 +6,11 @@ ghost use Rattle.em_mem.specs.Memory.{IsHeld, IsMade, part};
 ghost use Rattle.em_tx.specs.Cells.{MorePages, cells, shows};
 ghost use Rattle.em_tx.specs.Descriptor.{address, length_of, rs};
 ghost use Rattle.em_tx.specs.Engine.{Allows, Refuses, cost, handle, handling_cost, refusal, report, room, sends};
-ghost use Rattle.em_tx.specs.Engine.{transmit};
+ghost use Rattle.em_tx.specs.Engine.{octets_sent, transmit};
 ghost use Rattle.em_tx.specs.Frame.{frame, frame_len, kind_sent, tag_of};
 ghost use Rattle.em_tx.specs.Ring.{is_idle, place};
-ghost use Rattle.em_tx.specs.Undo.{Reverses, StatusReverses, cost_of};
+ghost use Rattle.em_tx.specs.Undo.{ChangeReverses, Reverses, StatusReverses, cost_of, cost_of_change};
+ghost use Rattle.em_tx.specs.Undo.{IsHandled, IsRecordOf};
 ghost use Rattle.em_tx.specs.Wire.{plain};
 
 use crate::answer::TxAnswer;
@@ -17,7 +18,7 @@ use crate::descriptor::{STATUS, TxDescriptor};
 use crate::gather::Gather;
 use crate::refusal::TxRefusal;
 use crate::transfer::{Status, Transfer};
-use crate::undo::TxUndo;
+use crate::undo::{Change, TxUndo};
 use crate::wire::Wire;
 use crate::{frame, ring};
 use em_filter::Kind;
@@ -44,6 +45,8 @@ pub fn step(
         transmit setup (shows (cells gather.old wire.old memory.old))
         ≡ Ok (r.0, shows (cells gather.new wire.new memory.new))) }
     ensures cost { IfOk result (λ r. cost_of r.1 ≡ cost setup (shows (cells gather.old wire.old memory.old))) }
+    ensures kind { IfOk result (λ r. IsRecordOf r.0 r.1) }
+    ensures most { IfOk result (λ r. octets_sent r.0 ≤ 16384) }
     ensures reverses { IfOk result (λ r.
         Reverses (cells gather.old wire.old memory.old) (cells gather.new wire.new memory.new) r.1) }
     ensures err { IfErr result (Refuses setup (shows (cells gather.old wire.old memory.old))) }
@@ -81,6 +84,8 @@ fn perform(
         transmit setup.now (shows (cells gather.old wire.old memory.old))
         ≡ Ok (r.0, shows (cells gather.new wire.new memory.new))) }
     ensures cost { IfOk result (λ r. cost_of r.1 ≡ cost setup.now (shows (cells gather.old wire.old memory.old))) }
+    ensures kind { IfOk result (λ r. IsRecordOf r.0 r.1) }
+    ensures most { IfOk result (λ r. octets_sent r.0 ≤ 16384) }
     ensures reverses { IfOk result (λ r.
         Reverses (cells gather.old wire.old memory.old) (cells gather.new wire.new memory.new) r.1) }
     ensures err { IfErr result (Refuses setup.now (shows (cells gather.old wire.old memory.old))) }
@@ -92,7 +97,12 @@ fn perform(
     if let Err(refused) = make_room(octets, frames, memory, at, setup, descriptor) {
         return Err(refused);
     }
-    Ok(handle(gather.alloc, octets, frames, memory, at, setup, descriptor))
+    let Ok(mut kept) = Box::new(gather.alloc, Change::Fetch(Transfer::new(0, 0, None))) else {
+        return Err(TxRefusal::Memory);
+    };
+    let (answer, change) = handle(gather.alloc, octets, frames, memory, at, setup, descriptor);
+    *kept = change;
+    Ok((answer, TxUndo::Step(kept)))
 }
 
 /// Why a descriptor is refused, if it is.
@@ -203,7 +213,7 @@ fn handle(
     at: u64,
     setup: &TxSetup,
     descriptor: &TxDescriptor,
-) -> (TxAnswer, TxUndo)
+) -> (TxAnswer, Change)
     requires first { setup.now.head < setup.now.count }
     requires place { at ≡ place setup.now }
     requires descriptor { IsHeld memory.old.octets at 16 }
@@ -215,9 +225,11 @@ fn handle(
     requires made { IsTrue (rs descriptor.now) → IsMade memory.old (at + 12) 1 }
     ensures state { (result.0, shows (cells octets.new.items (plain frames.new.items) memory.new))
         ≡ handle setup.now descriptor.now (shows (cells octets.old.items (plain frames.old.items) memory.old)) }
-    ensures cost { cost_of result.1
+    ensures handled { IsHandled result.0 }
+    ensures most { octets_sent result.0 ≤ 16384 }
+    ensures cost { cost_of_change result.1
         ≡ handling_cost setup.now descriptor.now (shows (cells octets.old.items (plain frames.old.items) memory.old)) }
-    ensures reverses { Reverses (cells octets.old.items (plain frames.old.items) memory.old)
+    ensures reverses { ChangeReverses (cells octets.old.items (plain frames.old.items) memory.old)
         (cells octets.new.items (plain frames.new.items) memory.new) result.1 }
 {
     let count = octets.len();
@@ -237,14 +249,14 @@ fn handle(
             kind: sent.kind,
         };
         let transfer = Transfer::new(count, cost + sent.octets, status);
-        (answer, TxUndo::Send(transfer, sent.tagged))
+        (answer, Change::Send(transfer, sent.tagged))
     } else {
         let answer = TxAnswer::Fetched {
             index,
             next,
             causes,
         };
-        (answer, TxUndo::Fetch(Transfer::new(count, cost, status)))
+        (answer, Change::Fetch(Transfer::new(count, cost, status)))
     }
 }
 

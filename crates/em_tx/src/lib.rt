@@ -19,6 +19,7 @@ pub use descriptor::TxDescriptor;
 pub use engine::step;
 pub use gather::Gather;
 pub use refusal::TxRefusal;
+pub use ring::is_idle;
 pub use transfer::{MOST_COST, Transfer};
-pub use undo::{TxUndo, take_back};
+pub use undo::{Change, TxUndo, take_back};
 pub use wire::Wire;

@@ -11,8 +11,8 @@ use em_regs::{Causes, TxSetup};
 /// The octets of a descriptor, as addresses count them.
 const DESCRIPTOR_SIZE: u64 = DESCRIPTOR_OCTETS as u64;
 
-/// Whether no descriptor is the adapter's.
-pub(crate) fn is_idle(setup: &TxSetup) -> bool
+/// Whether no descriptor is the adapter's, so that a step would be idle.
+pub fn is_idle(setup: &TxSetup) -> bool
     ensures { result ≡ is_idle setup.now }
 {
     !setup.enabled

@@ -31,7 +31,7 @@ pub returns-clause-ok : goal.returns-clause-ok
 returns-clause-ok g c =
     let ran = c.loop-rest.invariant.ran in
     let played = Ran-all ran (none_left _ (search rules)) in
-    let run = rw (← ran.session) at (all_run ran.before c.args.machine.now played.allowed) in
+    let run = rw (← ran.session) at (all_run ran.before c.args.session.now played.allowed) in
     record {
       all = ran.before;
       played = played;
@@ -39,7 +39,7 @@ returns-clause-ok g c =
       session = ran.session;
       count = ran.count;
       run = run;
-      fold = run_is_fold ran.before _ _ run;
+      fold = run_is_fold ran.before c.args.session.now c.loop-rest.session run;
     }
 
 pub returns-clause-text : goal.returns-clause-text

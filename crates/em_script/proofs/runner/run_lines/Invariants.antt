@@ -8,7 +8,7 @@ abbrev pub invariant-loop-rest : goal.invariant-loop-rest
 invariant-loop-rest g l =
     let contents = g.W.Write.contents in
     record {
-      ran : Ran (lines_of l.script) (lines_of l.rest) l.fn.machine l.machine (contents l.fn.writer)
+      ran : Ran (lines_of l.script) (lines_of l.rest) l.fn.session l.session (contents l.fn.writer)
           (contents l.writer) l.number l.summary;
       bad : l.summary.bad ≤ l.summary.lines;
       refused : l.summary.refused ≤ l.summary.lines;

@@ -1,4 +1,4 @@
-use Rattle.std.proofs.Common.{◌≡◌, ◌∙◌, ap}
+use Rattle.std.proofs.Common.{◌≡◌, ◌∙◌, ap, refl}
 use Rattle.em_tx.specs.Cells.{cells, shows}
 use Rattle.em_tx.specs.Engine.{handle}
 use Rattle.em_tx.specs.Wire.{plain}
@@ -10,6 +10,11 @@ returns-in-Err-clause-err c =
     let r = c.requires in
     Refuses-memory c.args.setup.now _ c.args.descriptor.now r.turn r.held r.octets r.allowed c.in-Err.ensures.refused
 
+pub returns-in_default-new-clause-err : goal.returns-in_default-new-clause-err
+returns-in_default-new-clause-err c =
+    let r = c.requires in
+    Refuses-memory c.args.setup.now _ c.args.descriptor.now r.turn r.held r.octets r.allowed refl
+
 pub returns-clause-ok : goal.returns-clause-ok
 returns-clause-ok c =
     let r = c.requires in
@@ -19,4 +24,4 @@ returns-clause-ok c =
     = shows-same made.new.memory c.args.memory.now (made.ensures.octets ∙ c.gather.view_is)
     (ap plain made.ensures.frames ∙ c.wire.view_is) made.ensures.memory.octets in
     transmit-handle c.args.setup.now _ c.args.descriptor.now r.turn r.held r.octets r.allowed
-    (c.handle.ensures.state ∙ ap (handle c.args.setup.now c.args.descriptor.now) room)
+    (c.handle-answer.ensures.state ∙ ap (handle c.args.setup.now c.args.descriptor.now) room)

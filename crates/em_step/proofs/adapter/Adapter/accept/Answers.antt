@@ -1,5 +1,6 @@
 -- The words of the latches and the cells of the FIFO that changed are in the record.
-use Rattle.std.proofs.Common.{ap, ◌∙◌}
+use Rattle.std.proofs.Common.{ap, subst, ◌∙◌}
+use Rattle.em_rx.specs.Undo.{Reverses}
 use Rattle.em_step.specs.Cells.{Cells}
 use Rattle.em_step.proofs.ReversalLaws.{more_same}
 use Rattle.em_step.proofs.adapter.Adapter.accept.Goals as goal
@@ -7,7 +8,9 @@ use Rattle.em_step.proofs.adapter.Adapter.accept.Goals as goal
 pub returns-clause-reverses : goal.returns-clause-reverses
 returns-clause-reverses c =
     let words = c.count_frame-latches.ensures.reverses in
-    let frames = c.in-Ok.ensures.reverses c.self.inside.memory in
+    let memory = c.self.inside.memory in
+    let frames = subst (λ r. Reverses c.self.inside.fifo c.accept.new.self memory memory r) c.in-Ok-Frame.field-0-is
+    (c.in-Ok-Frame.ensures.reverses memory) in
     record {
       fits = record { latches = words.fits; part = frames.fits };
       restores = record {
@@ -15,6 +18,8 @@ returns-clause-reverses c =
         latches = words.restores ∙ ap (λ (x : Cells). x.latches) c.self.view_is;
         fifo = frames.fifo ∙ ap (λ (x : Cells). x.fifo) c.self.view_is;
         memory = more_same _ _ (frames.memory ∙ ap (λ (x : Cells). x.memory) c.self.view_is);
+        gathered = ap (λ (x : Cells). x.gathered) c.self.view_is;
+        wire = ap (λ (x : Cells). x.wire) c.self.view_is;
         eeprom = ap (λ (x : Cells). x.eeprom) c.self.view_is;
         link = ap (λ (x : Cells). x.link) c.self.view_is;
       };

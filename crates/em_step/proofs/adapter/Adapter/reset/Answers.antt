@@ -15,6 +15,8 @@ returns-clause-reverses c =
         latches = c.swap-2.ensures.y_after ∙ ap (λ (x : Cells). x.latches) c.self.view_is;
         fifo = frames.fifo ∙ ap (λ (x : Cells). x.fifo) c.self.view_is;
         memory = more_same _ _ (frames.memory ∙ ap (λ (x : Cells). x.memory) c.self.view_is);
+        gathered = c.swap-3.ensures.y_after ∙ ap (λ (x : Cells). x.gathered) c.self.view_is;
+        wire = ap (λ (x : Cells). x.wire) c.self.view_is;
         eeprom = ap (λ (x : Cells). x.eeprom) c.self.view_is;
         link = ap (λ (x : Cells). x.link) c.self.view_is;
       };

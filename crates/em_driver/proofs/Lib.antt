@@ -1,0 +1,14 @@
+pub mod CourseLaws
+pub mod AnswerLaws
+pub mod QuietLaws
+pub mod PlayLaws
+pub mod CallLaws
+pub mod AnsweringLaws
+pub mod HappenedLaws
+pub mod TakingLaws
+pub mod PassLaws
+pub mod CountLaws
+pub mod ReceiveLaws
+pub mod TransmitLaws
+pub mod TellsLaws
+pub mod StartLaws

@@ -1,0 +1,24 @@
+use Rattle.std.proofs.Common.{subst, arith}
+use Rattle.em_driver.specs.Layout.{IsGoodLayout}
+use Rattle.em_driver.proofs.StartLaws.{placed}
+use Rattle.em_driver.proofs.driver.E1000.start.Goals as goal
+
+pub invariant_of-driver : goal.invariant_of-driver
+invariant_of-driver g c = record {
+  placed = placed c.size.result c.args.layout (c.is_good.ensures.0 c.if-is_good.true) (omega (arith, c.size.type_inv));
+}
+
+pub returns-in-Ok-clause-good : goal.returns-in-Ok-clause-good
+returns-in-Ok-clause-good g c =
+    subst (λ n. IsGoodLayout n c.args.layout) c.size.ensures (c.is_good.ensures.0 c.if-is_good.true)
+
+pub returns-in-Err-clause-untouched : goal.returns-in-Err-clause-untouched
+returns-in-Err-clause-untouched g c = λ bad.
+    absurd (bad (subst (λ n. IsGoodLayout n c.args.layout) c.size.ensures (c.is_good.ensures.0 c.if-is_good.true)))
+
+pub returns-in-Err-clause-stopped : goal.returns-in-Err-clause-stopped
+returns-in-Err-clause-stopped g c = λ _. rw c.into_bus.ensures c.in-Err.ensures.err
+
+pub returns-else-is_good-clause-stopped : goal.returns-else-is_good-clause-stopped
+returns-else-is_good-clause-stopped g c = λ good.
+    let yes = c.is_good.ensures.1 (rw c.size.ensures good) in let no = c.if-is_good.false in absurd cc

@@ -1,0 +1,16 @@
+use Rattle.std.proofs.Common.{◌≡◌, ◌-◌, ◌≤◌, ◌<◌}
+use Rattle.em_driver.specs.Receive.{lists}
+use Rattle.em_driver.proofs.TransmitLaws.{Going}
+use Rattle.em_driver.proofs.driver.E1000.transmit.Given as goal
+
+abbrev pub invariant-loop-i : goal.invariant-loop-i
+invariant-loop-i g l =
+    let world = g.B.Bus.world in
+    record {
+      layout : l.self.layout ≡ l.fn.self.layout;
+      few : l.count ≤ l.i;
+      small : l.free < 4096;
+      within : l.index < l.fn.self.layout.tx_count;
+      going : Going (world l.fn.self.bus) l.fn.self.layout l.queue (l.free - l.i) l.index l.count
+          (world l.self.bus) (lists l.fn.buffer.items) (lists l.buffer.items);
+    }

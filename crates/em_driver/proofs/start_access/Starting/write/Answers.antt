@@ -1,0 +1,5 @@
+use Rattle.em_driver.proofs.CourseLaws.{comes_write}
+use Rattle.em_driver.proofs.start_access.Starting.write.Goals as goal
+
+pub returns-clause-performs : goal.returns-clause-performs
+returns-clause-performs g c = λ more. comes_write _ _ _ _ _ c.set.ensures.event

@@ -1,0 +1,5 @@
+use Rattle.em_driver.proofs.TakingLaws.{refused_as}
+use Rattle.em_driver.proofs.taking.not_performed.Goals as goal
+
+pub returns-in_default : goal.returns-in_default
+returns-in_default c = refused_as c.args.refusal c.in_default.not-Memory

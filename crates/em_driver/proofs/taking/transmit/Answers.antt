@@ -1,0 +1,13 @@
+use Rattle.std.proofs.Common.{refl}
+use Rattle.em_driver.proofs.TakingLaws.{engine_performed, engine_refused}
+use Rattle.em_driver.specs.declared.turn.Turn.TheVariants.{TxStep}
+use Rattle.em_driver.proofs.taking.transmit.Goals as goal
+
+pub returns-in-Ok : goal.returns-in-Ok
+returns-in-Ok c =
+    engine_performed c.args.machine.now c.perform.new.self TxStep c.in-Ok.field-0 refl c.in-Ok.ensures.ok
+
+pub returns-in-Err : goal.returns-in-Err
+returns-in-Err c =
+    engine_refused c.args.machine.now c.perform.new.self TxStep c.in-Err.refusal c.not_performed.result
+    c.not_performed.ensures c.in-Err.ensures.err

@@ -1,0 +1,16 @@
+use Rattle.std.proofs.Common.{sym, subst}
+use Rattle.em_step.specs.Event.{pokes}
+use Rattle.em_step.specs.declared.event.Answer.TheVariants.{Done}
+use Rattle.em_driver.specs.Planned.{planned}
+use Rattle.em_driver.specs.Taking.{world_with}
+use Rattle.em_driver.specs.World.{World, Passes}
+use Rattle.em_driver.proofs.PassLaws.{planning, passed_access, on_ok}
+use Rattle.em_driver.proofs.turns.TurnsBus.poke.Goals as goal
+
+pub returns-clause-ok : goal.returns-clause-ok
+returns-clause-ok c =
+    let i = c.self.inside in
+    let here = planning (planned i.plan.items) i.starved (world_with i.machine i.stored.items i.counts) in
+    on_ok c.poke.result (λ a. passed_access c.args.self.now here c.poke.new.self (pokes c.args.addr
+    c.args.octets.now) Done
+    (subst (λ (w : World). Passes c.args.self.now w) (sym c.self.view_is) c.pass.ensures) a) c.poke.ensures.ok

@@ -1,0 +1,16 @@
+use Rattle.std.proofs.Common.{sym, subst}
+use Rattle.em_regs.specs.Table.{offset_of}
+use Rattle.em_step.specs.Event.{reads}
+use Rattle.em_step.specs.declared.event.Answer.TheVariants.{Value}
+use Rattle.em_driver.specs.Planned.{planned}
+use Rattle.em_driver.specs.Taking.{world_with}
+use Rattle.em_driver.specs.World.{World, Passes}
+use Rattle.em_driver.proofs.PassLaws.{planning, passed_access}
+use Rattle.em_driver.proofs.turns.TurnsBus.read.Goals as goal
+
+pub returns : goal.returns
+returns c =
+    let i = c.self.inside in
+    let here = planning (planned i.plan.items) i.starved (world_with i.machine i.stored.items i.counts) in
+    passed_access c.args.self.now here c.read.new.self (reads (offset_of c.args.reg)) (Value c.read.result)
+    (subst (λ (w : World). Passes c.args.self.now w) (sym c.self.view_is) c.pass.ensures) c.read.ensures

@@ -1,0 +1,17 @@
+pub mod Turn
+pub mod World
+pub mod Course
+pub mod Layout
+pub mod Outcome
+pub mod Calls
+pub mod Play
+pub mod CourseCalls
+pub mod Answering
+pub mod Happened
+pub mod Taking
+pub mod Planned
+pub mod Descriptor
+pub mod Receive
+pub mod Transmit
+pub mod Told
+pub mod Start

@@ -1,0 +1,64 @@
+//! The descriptors of the two rings, as a driver reads and writes them.
+ghost use Rattle.std.specs.Prelude.{◌≡◌, true, false, MatchOption};
+ghost use Rattle.em_driver.specs.Descriptor.{is_done as has_dd, is_whole, length_of, transmit_descriptor};
+
+use byteorder::{ByteOrder, LittleEndian};
+
+/// How many octets a descriptor has.
+pub(crate) const DESCRIPTOR_OCTETS: usize = 16;
+
+/// Where the length lies in a descriptor.
+const LENGTH: usize = 8;
+
+/// Where CMD lies in a transmit descriptor.
+const COMMAND: usize = 11;
+
+/// Where the status octet lies in a receive descriptor.
+pub(crate) const STATUS: usize = 12;
+
+/// DD of a receive descriptor's status: the adapter wrote it back.
+const DD: u8 = 0;
+
+/// EOP of a receive descriptor's status: the buffer has the last octet of the frame.
+const EOP: u8 = 1;
+
+/// CMD of a whole packet: EOP, IFCS and RS.
+const WHOLE_PACKET: u8 = 0x0B;
+
+/// The most octets of a buffer.
+const BUFFER_OCTETS: u16 = 2048;
+
+/// Whether the adapter wrote a receive descriptor back.
+#[tactic(auto, unfolding(crate::specs::Descriptor::is_done))]
+pub(crate) fn is_done(descriptor: &[u8; DESCRIPTOR_OCTETS]) -> bool
+    ensures { result ≡ has_dd descriptor.now }
+{
+    (descriptor[STATUS] >> DD) % 2 == 1
+}
+
+/// How many octets the packet of a receive descriptor has; None where its buffer does not have a
+/// whole packet.
+#[tactic(auto, unfolding(crate::specs::Descriptor::is_last, crate::specs::Descriptor::length_of))]
+pub(crate) fn packet_length(descriptor: &[u8; DESCRIPTOR_OCTETS]) -> Option<u16>
+    ensures { MatchOption result (is_whole descriptor.now ≡ false)
+        (λ octets. (is_whole descriptor.now ≡ true) × (octets ≡ length_of descriptor.now)) }
+{
+    let is_last = (descriptor[STATUS] >> EOP) % 2 == 1;
+    let length = LittleEndian::read_u16(&descriptor[LENGTH..]);
+    if is_last && 0 < length && length <= BUFFER_OCTETS {
+        Some(length)
+    } else {
+        None
+    }
+}
+
+/// The transmit descriptor of a packet of `length` octets at `address`.
+pub(crate) fn of_packet(address: u64, length: u16) -> [u8; DESCRIPTOR_OCTETS]
+    ensures { result ≡ transmit_descriptor address length }
+{
+    let mut octets = [0; DESCRIPTOR_OCTETS];
+    LittleEndian::write_u64(&mut octets, address);
+    LittleEndian::write_u16(&mut octets[LENGTH..], length);
+    octets[COMMAND] = WHOLE_PACKET;
+    octets
+}

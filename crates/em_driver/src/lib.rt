@@ -1,0 +1,40 @@
+//! A polled driver of the adapter, one access at a time.
+#![tactic(auto)]
+
+mod address;
+mod bus;
+mod counting;
+mod descriptor;
+mod device;
+mod driver;
+mod frame;
+mod laws;
+mod layout;
+mod link;
+mod machine;
+mod outcome;
+mod receive;
+mod seat;
+mod set;
+mod start;
+mod start_access;
+mod start_parts;
+mod stats;
+mod taking;
+mod transmit;
+mod turn;
+mod turns;
+
+pub use bus::Bus;
+pub use device::IxyDevice;
+pub use driver::E1000;
+pub use frame::Frame;
+pub use laws::{
+    a_call_happens, a_call_is_a_run, a_fed_call_is_played, answers_are_put_otherwise,
+    calls_tell_of_memory,
+};
+pub use layout::Layout;
+pub use outcome::{Batch, Cause, StartRefused, Stopped};
+pub use stats::DeviceStats;
+pub use turn::{PlanRefused, Turn};
+pub use turns::Turns;

@@ -1,0 +1,41 @@
+//! A machine on which nobody else acts.
+use crate::bus::Bus;
+use em_journal::Machine;
+use em_regs::Reg;
+use em_step::{Answer, Event, Refusal};
+
+impl Bus for Machine {
+    ghost use Rattle.em_driver.specs.World.{quiet};
+
+    ghost world = { quiet };
+
+    fn read(&mut self, reg: Reg) -> u32 {
+        let Ok(answer) = self.perform(Event::Read(reg.offset())) else {
+            unreachable!();
+        };
+        let Answer::Value(value) = answer else {
+            unreachable!();
+        };
+        value
+    }
+
+    fn write(&mut self, reg: Reg, value: u32) -> Result<(), Refusal> {
+        match self.perform(Event::Write(reg.offset(), value)) {
+            Ok(_) => Ok(()),
+            Err(refusal) => Err(refusal),
+        }
+    }
+
+    fn peek(&mut self, addr: u64, out: &mut [u8]) -> Result<(), Refusal> {
+        Machine::peek(self, addr, out)
+    }
+
+    fn poke(&mut self, addr: u64, octets: &[u8]) -> Result<(), Refusal> {
+        self.perform(Event::Poke(addr, octets))?;
+        Ok(())
+    }
+
+    fn size(&self) -> u64 {
+        self.memory_size()
+    }
+}

@@ -1,0 +1,209 @@
+//! A machine on which other actors act by a plan.
+ghost use Rattle.std.specs.Prelude.{◌≡◌, ◌<◌, [], false, length, slice_get, IfErr, IsOk, OnErr, OnOk};
+ghost use Rattle.std.specs.Option.{option_map};
+ghost use Rattle.std.specs.Borrow.{Lends, sem};
+ghost use Rattle.em_journal.specs.contracts.machine.Machine.{the_row as machine-row};
+ghost use Rattle.em_driver.specs.contracts.turns.Turns.{the_row as turns-row};
+ghost use Rattle.em_driver.specs.Planned.{planned};
+ghost use Rattle.em_driver.specs.Turn.{plan_arrivals, plan_turns};
+ghost use Rattle.em_driver.specs.World.{Passes, quiet};
+
+use crate::bus::Bus;
+use crate::counting::arrivals_of_plan;
+use crate::frame::Frame;
+use crate::taking::{Counts, take_all};
+use crate::turn::{PlanRefused, Turn};
+use em_journal::Machine;
+use em_regs::Reg;
+use em_step::Refusal;
+use std::alloc::Global;
+use std::collections::VecDeque;
+use std::marker::Model;
+
+/// A machine with a plan: before each access of a driver, the plan's first list is taken and its
+/// turns happen, in order.
+#[derive(Drop)]
+pub struct Turns {
+    machine: Machine,
+    alloc: Global,
+    plan: VecDeque<Vec<Turn>>,
+    // has room for every arrival of the plan
+    stored: Vec<Frame>,
+    counts: Counts,
+    starved: bool,
+}
+
+impl Model for Turns {
+    ghost use Rattle.std.specs.Prelude.{◌+◌, ◌<◌, ◌≤◌, vec_len, vec_capacity, map};
+    ghost use Rattle.em_driver.specs.Turn.{plan_arrivals, plan_turns};
+    ghost use Rattle.em_driver.specs.World.{World, world_code};
+    ghost use Rattle.em_driver.specs.Planned.{planned};
+
+    ghost Value = { World };
+
+    ghost coded = { world_code };
+
+    ghost view = { λ t. record {
+      machine = t.machine;
+      stored = t.stored.items;
+      plan = planned t.plan.items;
+      performed = t.counts.performed;
+      refused = t.counts.refused;
+      starved = t.starved;
+    } };
+
+    ghost invariant = { λ t. (vec_len t.stored + plan_arrivals (planned t.plan.items) ≤ vec_capacity t.stored)
+        × (t.counts.performed + t.counts.refused + plan_turns (planned t.plan.items) < 0x1_0000_0000) };
+}
+
+impl Turns {
+    /// A machine with no plan.
+    pub fn new(alloc: Global, machine: Machine) -> Turns
+        ensures { result ≡ quiet machine }
+    {
+        Turns {
+            machine,
+            alloc,
+            plan: VecDeque::new(alloc),
+            stored: Vec::new(alloc),
+            counts: Counts {
+                performed: 0,
+                refused: 0,
+            },
+            starved: false,
+        }
+    }
+
+    /// The machine.
+    pub fn machine(&self) -> &Machine
+        ensures { result.now ≡ self.now.machine }
+    {
+        &self.machine
+    }
+
+    /// The machine, on which its holder acts between two calls of a driver; no turn happens then.
+    pub fn machine_mut(&mut self) -> &mut Machine
+        ensures value { result.now ≡ self.old.machine }
+        ensures* writes_back { sem 𝓛 (Lends turns-row machine-row self.entry result (λ machine. record self.entry.now {
+          machine = machine;
+        })) }
+    {
+        &mut self.machine
+    }
+
+    /// The machine, without the plan.
+    pub fn into_machine(self) -> Machine
+        ensures { result ≡ self.machine }
+    {
+        self.machine
+    }
+
+    /// How many frames the turns of the plan stored.
+    pub fn stored_len(&self) -> usize
+        ensures { result ≡ length self.now.stored }
+    {
+        self.stored.len()
+    }
+
+    /// A stored frame's octets, as it arrived; none where so many were not stored.
+    pub fn stored(&self, index: usize) -> Option<&[u8]>
+        ensures { option_map (λ frame. frame.now) result ≡ slice_get self.now.stored index }
+    {
+        let frame = self.stored.get(index)?;
+        Some(frame.octets())
+    }
+
+    /// How many turns of the plan were performed.
+    pub fn performed(&self) -> u32
+        ensures { result ≡ self.now.performed }
+    {
+        self.counts.performed
+    }
+
+    /// How many turns of the plan were refused, but for one that found no memory.
+    pub fn refused(&self) -> u32
+        ensures { result ≡ self.now.refused }
+    {
+        self.counts.refused
+    }
+
+    /// Whether memory was refused to a turn. It and the turns behind it were dropped.
+    pub fn starved(&self) -> bool
+        ensures { result ≡ self.now.starved }
+    {
+        self.starved
+    }
+
+    /// Sets the plan: a list of turns for each access to come. What the plan before it stored and
+    /// counted is let go. Where memory is refused the plan comes back, and all is as before.
+    ///
+    /// A plan without arrivals takes no memory.
+    pub fn set_plan(&mut self, plan: VecDeque<Vec<Turn>>) -> Result<(), PlanRefused>
+        requires { plan_turns (planned plan.items) < 0x1_0000_0000 }
+        ensures ok { OnOk result (self.new ≡ record self.old {
+          stored = [];
+          plan = planned plan.items;
+          performed = 0;
+          refused = 0;
+          starved = false;
+        }) }
+        ensures err { IfErr result (λ e. e.plan ≡ plan) }
+        ensures same { OnErr result (self.new ≡ self.old) }
+        ensures still { plan_arrivals (planned plan.items) ≡ 0 → IsOk result }
+    {
+        match Vec::with_capacity(self.alloc, arrivals_of_plan(&plan)) {
+            Ok(stored) => {
+                self.stored = stored;
+                self.plan = plan;
+                self.counts = Counts {
+                    performed: 0,
+                    refused: 0,
+                };
+                self.starved = false;
+                Ok(())
+            }
+            Err(_) => Err(PlanRefused { plan }),
+        }
+    }
+
+    /// The others take the turns that the plan has here.
+    fn pass(&mut self)
+        ensures { Passes self.old self.new }
+    {
+        let Some(turns) = self.plan.pop_front() else {
+            return;
+        };
+        if !take_all(turns, &mut self.machine, &mut self.stored, &mut self.counts) {
+            self.plan.clear();
+            self.starved = true;
+        }
+    }
+}
+
+impl Bus for Turns {
+    ghost world = { λ turns. turns };
+
+    fn read(&mut self, reg: Reg) -> u32 {
+        self.pass();
+        self.machine.read(reg)
+    }
+
+    fn write(&mut self, reg: Reg, value: u32) -> Result<(), Refusal> {
+        self.pass();
+        self.machine.write(reg, value)
+    }
+
+    fn peek(&mut self, addr: u64, out: &mut [u8]) -> Result<(), Refusal> {
+        self.pass();
+        Machine::peek(&self.machine, addr, out)
+    }
+
+    fn poke(&mut self, addr: u64, octets: &[u8]) -> Result<(), Refusal> {
+        self.pass();
+        self.machine.poke(addr, octets)
+    }
+
+    fn size(&self) -> u64 {
+        self.machine.memory_size()
+    }
+}

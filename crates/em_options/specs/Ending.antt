@@ -1,0 +1,64 @@
+-- How the program ends: its status and its line on standard error, for each ending.
+use Rattle.std.specs.Prelude.{ℕ, List, [], ◌==◌, if◌then◌else◌, codes, Result, Ok, Err}
+use Rattle.clap.specs.Words.{kind_of}
+use Rattle.clap.specs.declared.error.kind.ErrorKind.{ErrorKind}
+use Rattle.clap.specs.declared.error.kind.ErrorKind.TheVariants as kind
+use Rattle.em_journal.specs.declared.settings.SettingsRefusal.{SettingsRefusal}
+use Rattle.em_journal.specs.declared.settings.SettingsRefusal.TheVariants as settings
+use Rattle.em_script.specs.declared.runner.BenchFault.{BenchFault}
+use Rattle.em_script.specs.declared.runner.BenchFault.TheVariants as fault
+use Rattle.em_script.specs.declared.summary.Summary.{Summary}
+use Rattle.em_options.specs.declared.ending.Ending.{Ending}
+use Rattle.em_options.specs.declared.ending.Ending.TheVariants.{Ran, Help, Parser, Mac, Size, Budget, Fault}
+use Rattle.em_options.specs.declared.settings.OptionsRefused.{OptionsRefused}
+use Rattle.em_options.specs.declared.settings.OptionsRefused.TheVariants as refused
+
+-- 0 where all is well, 1 where a line was bad, 2 where the command line is, 3 where the run stopped
+abbrev pub status_of : Ending → ℕ
+status_of (Ran summary) = if summary.bad == 0 then 0 else 1
+status_of Help = 0
+status_of Parser = 2
+status_of Mac = 2
+status_of Size = 2
+status_of Budget = 2
+status_of (Fault why) = 3
+
+-- the name of the fault after that of the program
+abbrev pub fault_line_of : BenchFault → List ℕ
+fault_line_of fault.Read = codes "em_bench: Read"
+fault_line_of fault.Write = codes "em_bench: Write"
+fault_line_of fault.TooLarge = codes "em_bench: TooLarge"
+fault_line_of fault.Memory = codes "em_bench: Memory"
+
+-- what the program says of its own on standard error; nothing where the parser has said it
+abbrev pub error_line_of : Ending → List ℕ
+error_line_of (Ran summary) = []
+error_line_of Help = []
+error_line_of Parser = []
+error_line_of Mac = codes "em_bench: Mac"
+error_line_of Size = codes "em_bench: Size"
+error_line_of Budget = codes "em_bench: Budget"
+error_line_of (Fault why) = fault_line_of why
+
+-- help and the version end well, and want of memory is no fault of the words
+abbrev pub ending_of_kind : ErrorKind → Ending
+ending_of_kind kind.DisplayHelp = Help
+ending_of_kind kind.DisplayVersion = Help
+ending_of_kind kind.OutOfMemory = Fault fault.Memory
+ending_of_kind other = Parser
+
+-- a command line that is refused
+abbrev pub ending_of_refusal : OptionsRefused → Ending
+ending_of_refusal (refused.Parser error) = ending_of_kind (kind_of error)
+ending_of_refusal refused.Mac = Mac
+
+-- settings of which no machine was made
+abbrev pub ending_of_settings : SettingsRefusal → Ending
+ending_of_settings settings.Size = Size
+ending_of_settings settings.Budget = Budget
+ending_of_settings settings.Memory = Fault fault.Memory
+
+-- a script that was run, or stopped
+abbrev pub ending_of_run : Result Summary BenchFault → Ending
+ending_of_run (Ok summary) = Ran summary
+ending_of_run (Err why) = Fault why

@@ -1,0 +1,89 @@
+-- What a line asks of a driver, what the driver then does, what is printed and what is left.
+use Rattle.std.specs.Prelude.{ℕ, nat_le, Bool, true, if◌then◌else◌, List, [], ◌∷◌, length}
+use Rattle.std.specs.Prelude.{Option, Some, None}
+use Rattle.em_driver.specs.World.{World}
+use Rattle.em_driver.specs.Course.{Course, done}
+use Rattle.em_driver.specs.Play.{Played}
+use Rattle.em_driver.specs.Answering.{answering}
+use Rattle.em_driver.specs.Happened.{happened, CanHappen}
+use Rattle.em_driver.specs.Start.{start as start_of}
+use Rattle.em_driver.specs.Receive.{rx_batch}
+use Rattle.em_driver.specs.Transmit.{tx_batch}
+use Rattle.em_driver.specs.Calls.{read_stats, get_mac_addr, set_mac_addr}
+use Rattle.em_driver.specs.declared.layout.Layout.{Layout}
+use Rattle.em_driver.specs.declared.outcome.Cause.TheVariants as cause
+use Rattle.em_driver.specs.declared.stats.DeviceStats.{DeviceStats}
+use Rattle.em_script.specs.declared.outcome.Outcome.{Outcome}
+use Rattle.em_script.specs.declared.outcome.Outcome.TheVariants.{Refused}
+use Rattle.em_script.specs.Session.{Session}
+use Rattle.em_script.specs.Request as request
+use Rattle.em_script.specs.Request.{Request}
+use Rattle.em_script.specs.Response.{Response, start, batch, stats, address, set, response_outcome, is_started}
+use Rattle.em_script.specs.Response.{says_memory, world_of, call_text}
+use Rattle.em_script.specs.DriverText.{no_driver_text}
+
+-- ---- what is asked
+
+-- where init puts rings and buffers
+abbrev pub init_layout : Layout
+init_layout = record {
+  rx_ring = 0x0;
+  rx_count = 8;
+  rx_buffers = 0x1000;
+  tx_ring = 0x80;
+  tx_count = 8;
+  tx_buffers = 0x5000;
+}
+
+-- of a memory of so many octets, which is large enough, or not
+abbrev pub init_course : ℕ → Course Response
+init_course size =
+    if nat_le 0x9000 size then answering (λ answer. start answer) (start_of init_layout)
+    else done (start (Some cause.Layout))
+
+abbrev pub no_stats : DeviceStats
+no_stats = record { rx_pkts = 0; tx_pkts = 0; rx_bytes = 0; tx_bytes = 0 }
+
+-- the course of a request to a driver over this world
+abbrev pub course_of : Request → World → Course Response
+course_of request.starts w = init_course (length w.machine.present.memory)
+course_of (request.sends packet) w =
+    answering (λ answer. batch [] answer.1) (tx_batch init_layout 0 (packet ∷ []))
+course_of (request.receives most) w =
+    answering (λ answer. batch answer.0 answer.1) (rx_batch init_layout 0 most [])
+course_of request.stats w = answering (λ answer. stats answer) (read_stats no_stats)
+course_of request.address w = answering (λ answer. address answer) get_mac_addr
+course_of (request.sets_address octets) w = answering (λ answer. set) (set_mac_addr octets)
+
+-- a start needs no driver
+abbrev pub has_driver : Request → Session → Bool
+has_driver request.starts session = true
+has_driver _ session = session.started
+
+-- ---- what is done, by what is named where memory was refused
+
+abbrev pub world_at : Session → World
+world_at session = world_of session.machine session.plan
+
+abbrev pub done_by : Option (Played Response) → Request → Session → Played Response
+done_by named request session = happened named (world_at session) (course_of request (world_at session))
+
+abbrev pub CanBeDone : Option (Played Response) → Request → Session → Type 0
+CanBeDone named request session = CanHappen says_memory named (world_at session) (course_of request (world_at session))
+
+-- ---- what is printed and left; without a driver the plan stays
+
+abbrev pub asked_text : Option (Played Response) → Request → Session → List ℕ
+asked_text named request session =
+    if has_driver request session then call_text session.plan (done_by named request session) else no_driver_text
+
+abbrev pub asked_outcome : Option (Played Response) → Request → Session → Outcome
+asked_outcome named request session =
+    if has_driver request session then response_outcome (done_by named request session).answer else Refused
+
+abbrev pub after_call : Played Response → Session
+after_call did = record { machine = did.world.machine; started = is_started did.answer; plan = None }
+
+abbrev pub after_asked : Option (Played Response) → Request → Session → Session
+after_asked named request session =
+    if has_driver request session then after_call (done_by named request session) else session

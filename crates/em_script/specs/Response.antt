@@ -1,0 +1,76 @@
+-- What a line that calls a driver prints, and what it leaves.
+use Rattle.std.specs.Prelude.{ℕ, Bool, true, false, List, [], ◌++◌, Option, Some, None, Result, Ok, Err, unwrap_or}
+use Rattle.em_journal.specs.View.{View}
+use Rattle.em_driver.specs.declared.turn.Turn.{Turn}
+use Rattle.em_driver.specs.World.{World, quiet}
+use Rattle.em_driver.specs.Play.{Played}
+use Rattle.em_driver.specs.Told.{start_says, result_says}
+use Rattle.em_driver.specs.declared.outcome.Batch.{Batch}
+use Rattle.em_driver.specs.declared.outcome.Stopped.{Stopped}
+use Rattle.em_driver.specs.declared.outcome.Cause.{Cause}
+use Rattle.em_driver.specs.declared.stats.DeviceStats.{DeviceStats}
+use Rattle.em_script.specs.declared.outcome.Outcome.{Outcome}
+use Rattle.em_script.specs.declared.outcome.Outcome.TheVariants.{Done, Refused}
+use Rattle.em_script.specs.Output.{done_text}
+use Rattle.em_script.specs.Wire.{frames_text}
+use Rattle.em_script.specs.DriverText.{started_text, batch_text, stopped_text, stats_text, address_text, turns_text}
+
+-- what a driver answers to a line
+pub data Response : Type 0 where
+  -- to a start: why it stopped, if it did
+  start : Option Cause → Response
+  -- to a call that moves packets: those that came, and how many were moved or why it stopped
+  batch : List (List ℕ) → Result Batch Stopped → Response
+  -- what was counted
+  stats : DeviceStats → Response
+  -- the Ethernet address; and that it was set
+  address : List ℕ → Response
+  set : Response
+
+-- ---- the answer
+
+abbrev pub result_text : Result Batch Stopped → List ℕ
+result_text (Ok moved) = batch_text moved.count moved.events
+result_text (Err stopped) = stopped_text stopped.count stopped.events stopped.cause
+
+-- with so many events
+abbrev pub response_text : ℕ → Response → List ℕ
+response_text events (start None) = started_text events
+response_text events (start (Some cause)) = stopped_text 0 events cause
+response_text events (batch packets result) = result_text result ++ frames_text packets
+response_text events (stats counted) = stats_text counted
+response_text events (address octets) = address_text octets
+response_text events set = done_text
+
+abbrev pub response_outcome : Response → Outcome
+response_outcome (start (Some cause)) = Refused
+response_outcome (batch packets (Err stopped)) = Refused
+response_outcome _ = Done
+
+-- whether a driver stands afterwards
+abbrev pub is_started : Response → Bool
+is_started (start (Some cause)) = false
+is_started _ = true
+
+-- the answers that say that memory was refused
+abbrev pub says_memory : Response → Bool
+says_memory (start cause) = start_says cause
+says_memory (batch packets result) = result_says result
+says_memory _ = false
+
+-- ---- the plan
+
+-- the world that a call begins in: the machine, and the plan, if one was set
+abbrev pub world_of : View → Option (List (List Turn)) → World
+world_of machine plan = record (quiet machine) { plan = unwrap_or plan [] }
+
+-- a plan that was set is told of
+abbrev pub plan_text : Option (List (List Turn)) → World → List ℕ
+plan_text None w = []
+plan_text (Some plan) w = turns_text w.performed w.refused w.starved
+
+-- ---- the whole line
+
+-- what a call that did so prints
+abbrev pub call_text : Option (List (List Turn)) → Played Response → List ℕ
+call_text plan did = response_text did.events did.answer ++ plan_text plan did.world

@@ -1,0 +1,116 @@
+-- How the steps of the two engines come out.
+use Rattle.std.proofs.Common.{◌≡◌, inl, inr, Bool, true, false, cond, IsTrue, List, length, ℕ, Option, Some, None}
+use Rattle.std.proofs.Common.{Result, Ok, Err}
+use Rattle.std.proofs.Common.{refl, sym, ap, ◌∙◌, subst}
+use Rattle.std.specs.Prelude.{IsOk, not, nat_lt, ◌+◌}
+use Rattle.em_mem.specs.Memory.{part}
+use Rattle.em_regs.specs.declared.reg.Reg.TheVariants.{Rdh}
+use Rattle.em_regs.specs.declared.setup.RxSetup.{RxSetup}
+use Rattle.em_regs.specs.declared.setup.TxSetup.{TxSetup}
+use Rattle.em_regs.specs.RegFile.{put}
+use Rattle.em_regs.specs.Setup.{rx_setup, tx_setup}
+use Rattle.em_latch.specs.Latches.{after_raise}
+use Rattle.em_rx.specs.Receive.{Outcome, receive}
+use Rattle.em_rx.specs.declared.receive.RxAnswer.{RxAnswer}
+use Rattle.em_rx.specs.declared.receive.RxAnswer.TheVariants as rx_answer
+use Rattle.em_tx.specs.Cells.{Shown}
+use Rattle.em_tx.specs.Engine.{gather, handle, refusal, sends, transmit, unless}
+use Rattle.em_tx.specs.Engine as tx
+use Rattle.em_tx.specs.Frame.{frame}
+use Rattle.em_tx.specs.Ring.{is_idle, place}
+use Rattle.em_tx.specs.Undo.{IsHandled}
+use Rattle.em_tx.specs.declared.answer.TxAnswer.{TxAnswer}
+use Rattle.em_tx.specs.declared.answer.TxAnswer.TheVariants as tx_answer
+use Rattle.em_tx.specs.declared.refusal.TxRefusal.{TxRefusal}
+use Rattle.em_tx.specs.declared.refusal.TxRefusal.TheVariants as tx_refusal
+use Rattle.em_step.specs.Engines.{after_tx_answer, rx_step, rx_stepped, sending, tx_refused, tx_step, tx_stepped}
+use Rattle.em_step.specs.Engines.{with_shown}
+use Rattle.em_step.specs.Event.{transmits}
+use Rattle.em_step.specs.State.{State}
+use Rattle.em_step.specs.Step.{Refuses, needs_memory, takes_none}
+use Rattle.em_step.specs.declared.event.Answer.TheVariants.{Wrote}
+
+-- ---- receiving
+-- what a step that wrote leaves, part by part
+pub rx_wrote : (s t : State) {q : RxSetup} {a : RxAnswer} {index next causes : ℕ}
+    → q ≡ rx_setup s.registers
+    → receive q s.memory s.fifo ≡ Ok (record { answer = a; memory = t.memory; fifo = t.fifo })
+    → a ≡ rx_answer.Wrote index next causes
+    → t.registers ≡ put s.registers Rdh next → t.latches ≡ after_raise s.latches causes
+    → t.gathered ≡ s.gathered → t.wire ≡ s.wire → t.eeprom ≡ s.eeprom → t.link ≡ s.link
+    → rx_step s ≡ Ok (Wrote index, t)
+rx_wrote s t {q = q} {a = a} {index = index} {next = next} {causes = causes}
+    setup is answer registers latches gathered wire eeprom link =
+    let left : RxAnswer → Outcome = λ x. record { answer = x; memory = t.memory; fifo = t.fifo } in
+    let by_setup : receive (rx_setup s.registers) s.memory s.fifo ≡ Ok (left (rx_answer.Wrote index next causes))
+    = ap (λ p. receive p s.memory s.fifo) (sym setup) ∙ is ∙ ap (λ x. Ok (left x)) answer in
+    let same : Path State _ _ = λ i. record {
+      registers = sym registers i;
+      latches = sym latches i;
+      fifo = t.fifo;
+      memory = t.memory;
+      gathered = sym gathered i;
+      wire = sym wire i;
+      eeprom = sym eeprom i;
+      link = sym link i;
+    } in
+    ap (rx_stepped s) by_setup ∙ ap (λ x. Ok (Wrote index, x)) same
+
+-- ---- sending
+-- a descriptor that is handled is fetched, or its frame sent
+of_sends : (b : Bool) (q : TxSetup) (d : List ℕ) (s : Shown) (f octets : List ℕ)
+    → IsHandled (cond b (tx.send q d s f) (tx.fetch q d s octets)).0
+of_sends true q d s f octets = tt
+of_sends false q d s f octets = tt
+
+handled : (q : TxSetup) (d : List ℕ) (s : Shown) → IsHandled (handle q d s).0
+unfolding handle
+handled q d s =
+    let octets = gather s d in of_sends (sends d (length octets)) q d s (frame q d octets) octets
+
+by_tests : (range : Bool) (why : Option TxRefusal) (x r : TxAnswer × Shown) → IsHandled x.0
+    → cond range (Err tx_refusal.DmaRange) (unless why x) ≡ Ok r → IsHandled r.0
+by_tests true why x r is same = cc
+by_tests false None x r is same = let found : x ≡ r = cc in subst (λ y. IsHandled y.0) found is
+by_tests false (Some refused) x r is same = cc
+
+busy_step : (idle : Bool) (x : Result (TxAnswer × Shown) TxRefusal) (s : Shown) (r : TxAnswer × Shown) → idle ≡ false
+    → cond idle (Ok (tx_answer.Idle, s)) x ≡ Ok r → x ≡ Ok r
+busy_step true x s r busy is = cc
+busy_step false x s r busy is = is
+
+-- a step that is not idle and not refused handles a descriptor
+transmit_handles : (q : TxSetup) (s : Shown) (r : TxAnswer × Shown) → is_idle q ≡ false → transmit q s ≡ Ok r
+    → IsHandled r.0
+unfolding transmit
+transmit_handles q s r busy is =
+    let d = part s.memory (place q) 16 in
+    by_tests (nat_lt (length s.memory) (place q + 16)) (refusal s.gathered s.memory d) (handle q d s) r (handled q d s)
+    (busy_step (is_idle q) _ s r busy is)
+
+needs_answer : (s : State) (a : TxAnswer) → IsHandled a → IsTrue (not (takes_none (after_tx_answer s a).0))
+needs_answer s tx_answer.Idle is = absurd is
+needs_answer s (tx_answer.Fetched index next causes) is = refl
+needs_answer s (tx_answer.Sent index next causes octets kind) is = refl
+
+needs : (s : State) (x : Result (TxAnswer × Shown) TxRefusal) → IsOk x → ((r : TxAnswer × Shown) → x ≡ Ok r
+    → IsHandled r.0)
+    → IsTrue (needs_memory (tx_stepped s x))
+needs s (Ok r) ok handles = needs_answer (with_shown s r.1) r.0 (handles r refl)
+needs s (Err refusal) ok handles = cc
+
+not_true : (b : Bool) → IsTrue (not b) → b ≡ false
+not_true true is = cc
+not_true false is = refl
+
+pub tx_refuses : (s : State) (q : TxSetup) (e : TxRefusal) → q ≡ tx_setup s.registers → tx.Refuses q (sending s) e
+    → Refuses s transmits (tx_refused e)
+tx_refuses s q e setup (inl (memory, busy, ok)) =
+    let handles = λ (r : TxAnswer × Shown) (is : transmit q (sending s) ≡ Ok r).
+    transmit_handles q (sending s) r (not_true (is_idle q) busy) is in
+    let wanted : IsTrue (needs_memory (tx_step s))
+    = subst (λ p. IsTrue (needs_memory (tx_stepped s (transmit p (sending s))))) setup
+    (needs s (transmit q (sending s)) ok handles) in
+    inl (ap tx_refused memory, refl, wanted)
+tx_refuses s q e setup (inr is) =
+    inr (ap (λ p. tx_stepped s (transmit p (sending s))) (sym setup) ∙ ap (tx_stepped s) is)

@@ -1,0 +1,12 @@
+-- A piece of a frame was written.
+use Rattle.std.proofs.Common.{refl, ap, sym, ◌∙◌}
+use Rattle.em_step.specs.Cells.{Cells, shows}
+use Rattle.em_step.specs.Engines.{rx_step}
+use Rattle.em_step.proofs.EngineLaws.{rx_wrote}
+use Rattle.em_step.proofs.adapter.Adapter.receive_step.Goals as goal
+
+pub returns-in-Wrote-Step-clause-ok : goal.returns-in-Wrote-Step-clause-ok
+returns-in-Wrote-Step-clause-ok c =
+    ap (λ (x : Cells). rx_step (shows x)) (sym c.self.view_is)
+    ∙ rx_wrote _ _ c.ring_rx.ensures.setup c.in_ok-answer.ensures.ok c.in-Wrote-Step.is-0 c.put.ensures.state
+    c.raise-latches.ensures.state refl refl refl refl

@@ -1,0 +1,91 @@
+-- The two engines, each of which handles one descriptor of its ring at a time: what a step of one answers and leaves.
+use Rattle.std.specs.Prelude.{ℕ, ◌+◌, Result, Ok, Err}
+use Rattle.em_regs.specs.declared.reg.Reg.TheVariants.{Rdh, Tdh}
+use Rattle.em_regs.specs.RegFile.{put}
+use Rattle.em_regs.specs.Setup.{rx_setup, tx_setup}
+use Rattle.em_latch.specs.Latches.{after_raise}
+use Rattle.em_rx.specs.Receive as rx
+use Rattle.em_rx.specs.declared.receive.RxAnswer.{RxAnswer}
+use Rattle.em_rx.specs.declared.receive.RxAnswer.TheVariants as rx_answer
+use Rattle.em_rx.specs.declared.refusal.RxRefusal.{RxRefusal}
+use Rattle.em_rx.specs.declared.refusal.RxRefusal.TheVariants as rx_refusal
+use Rattle.em_tx.specs.Cells.{Shown}
+use Rattle.em_tx.specs.Engine as tx
+use Rattle.em_tx.specs.declared.answer.TxAnswer.{TxAnswer}
+use Rattle.em_tx.specs.declared.answer.TxAnswer.TheVariants as tx_answer
+use Rattle.em_tx.specs.declared.refusal.TxRefusal.{TxRefusal}
+use Rattle.em_tx.specs.declared.refusal.TxRefusal.TheVariants as tx_refusal
+use Rattle.em_step.specs.Counts.{after_sent_count}
+use Rattle.em_step.specs.State.{State}
+use Rattle.em_step.specs.declared.event.Answer.{Answer}
+use Rattle.em_step.specs.declared.event.Answer.TheVariants.{Idle, Wrote, Fetched, Sent}
+use Rattle.em_step.specs.declared.refusal.Refusal.{Refusal}
+use Rattle.em_step.specs.declared.refusal.Refusal.TheVariants.{DmaRange, Extended, TooLong, Memory}
+
+-- ---- receiving
+-- the receive engine's step, by the registers of its ring
+abbrev pub received : State → Result rx.Outcome RxRefusal
+received s = rx.receive (rx_setup s.registers) s.memory s.fifo
+
+-- memory and the FIFO as the receive engine leaves them
+abbrev pub with_outcome : State → rx.Outcome → State
+with_outcome s o = record s { fifo = o.fifo; memory = o.memory }
+
+-- and where a piece of a frame was written RDH goes on to the next descriptor, and causes are raised
+abbrev pub after_rx_answer : State → RxAnswer → Answer × State
+after_rx_answer s rx_answer.Idle = (Idle, s)
+after_rx_answer s (rx_answer.Wrote index next causes) = (
+  Wrote index,
+  record s { registers = put s.registers Rdh next; latches = after_raise s.latches causes },
+)
+
+abbrev pub rx_refused : RxRefusal → Refusal
+rx_refused rx_refusal.DmaRange = DmaRange
+rx_refused rx_refusal.Memory = Memory
+
+abbrev pub rx_stepped : State → Result rx.Outcome RxRefusal → Result (Answer × State) Refusal
+rx_stepped s (Ok o) = Ok (after_rx_answer (with_outcome s o) o.answer)
+rx_stepped s (Err refusal) = Err (rx_refused refusal)
+
+abbrev pub rx_step : State → Result (Answer × State) Refusal
+rx_step s = rx_stepped s (received s)
+
+-- ---- sending
+-- what the transmit engine works on
+abbrev pub sending : State → Shown
+sending s = record { gathered = s.gathered; wire = s.wire; memory = s.memory }
+
+-- the transmit engine's step, by the registers of its ring
+abbrev pub transmitted : State → Result (TxAnswer × Shown) TxRefusal
+transmitted s = tx.transmit (tx_setup s.registers) (sending s)
+
+-- memory, gathered octets and wire as the transmit engine leaves them
+abbrev pub with_shown : State → Shown → State
+with_shown s t = record s { gathered = t.gathered; wire = t.wire; memory = t.memory }
+
+-- and where a descriptor was handled TDH goes on to the next one, and causes are raised
+abbrev pub after_descriptor : State → ℕ → ℕ → State
+after_descriptor s next causes =
+    record s { registers = put s.registers Tdh next; latches = after_raise s.latches causes }
+
+-- a frame that was sent is counted, with four octets more, the frame check sequence
+abbrev pub after_tx_answer : State → TxAnswer → Answer × State
+after_tx_answer s tx_answer.Idle = (Idle, s)
+after_tx_answer s (tx_answer.Fetched index next causes) = (Fetched index, after_descriptor s next causes)
+after_tx_answer s (tx_answer.Sent index next causes octets kind) = (
+  Sent index octets,
+  after_descriptor (record s { latches = after_sent_count (octets + 4) kind s.latches }) next causes,
+)
+
+abbrev pub tx_refused : TxRefusal → Refusal
+tx_refused tx_refusal.DmaRange = DmaRange
+tx_refused tx_refusal.Extended = Extended
+tx_refused tx_refusal.TooLong = TooLong
+tx_refused tx_refusal.Memory = Memory
+
+abbrev pub tx_stepped : State → Result (TxAnswer × Shown) TxRefusal → Result (Answer × State) Refusal
+tx_stepped s (Ok r) = Ok (after_tx_answer (with_shown s r.1) r.0)
+tx_stepped s (Err refusal) = Err (tx_refused refusal)
+
+abbrev pub tx_step : State → Result (Answer × State) Refusal
+tx_step s = tx_stepped s (transmitted s)

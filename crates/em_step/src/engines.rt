@@ -1,0 +1,98 @@
+//! The two engines, one descriptor at a time (manual, chapters on receive and transmit description).
+ghost use Rattle.std.specs.Prelude.{◌≡◌, ◌+◌, IfOk, IfErr, OnErr, Ok};
+ghost use Rattle.em_step.specs.Cells.{shows, MorePages};
+ghost use Rattle.em_step.specs.Cost.{cost, cost_of};
+ghost use Rattle.em_step.specs.Event.{receives, transmits};
+ghost use Rattle.em_step.specs.Step.{step, Refuses};
+ghost use Rattle.em_step.specs.Undo.{Reverses};
+
+use crate::adapter::Adapter;
+use crate::counts::count_sent;
+use crate::event::Answer;
+use crate::refusal::Refusal;
+use crate::undo::{Part, Undo};
+use em_regs::Reg;
+use em_rx::{RxAnswer, RxUndo};
+use em_tx::{TxAnswer, TxUndo, step};
+
+/// The octets of the frame check sequence, which count with a frame.
+const CHECK_OCTETS: u32 = 4;
+
+impl Adapter {
+    /// The receive engine handles the descriptor at RDH. An idle step takes no memory.
+    pub(crate) fn receive_step(&mut self) -> Result<(Answer, Undo), Refusal>
+        ensures ok { IfOk result (λ r. step (shows self.old) receives ≡ Ok (r.0, shows self.new)) }
+        ensures cost { IfOk result (λ r. cost_of r.1 ≡ cost (shows self.old) receives) }
+        ensures reverses { IfOk result (λ r. Reverses self.old self.new r.1) }
+        ensures err { IfErr result (Refuses (shows self.old) receives) }
+        ensures same { OnErr result (MorePages self.old self.new) }
+    {
+        let (answer, taken) = self.fifo.step(&mut self.memory, self.registers.ring_rx())?;
+        match (answer, taken) {
+            (
+                RxAnswer::Wrote {
+                    index,
+                    next,
+                    causes,
+                },
+                RxUndo::Step(piece),
+            ) => {
+                let latches = self.latches.raise(causes);
+                let head = self.registers.put(Reg::Rdh, next).old();
+                let part = Part::RxStep(head, piece);
+                Ok((Answer::Wrote { index }, Undo { latches, part }))
+            }
+            (RxAnswer::Idle, RxUndo::Nothing) => {
+                Ok((Answer::Idle, Undo::of_part(Part::Nothing)))
+            }
+            _ => unreachable!(),
+        }
+    }
+
+    /// The transmit engine handles the descriptor at TDH. An idle step takes no memory.
+    #[tactic(auto, using(crate::proofs::EngineLaws::tx_refuses))]
+    pub(crate) fn transmit_step(&mut self) -> Result<(Answer, Undo), Refusal>
+        ensures ok { IfOk result (λ r. step (shows self.old) transmits ≡ Ok (r.0, shows self.new)) }
+        ensures cost { IfOk result (λ r. cost_of r.1 ≡ cost (shows self.old) transmits) }
+        ensures reverses { IfOk result (λ r. Reverses self.old self.new r.1) }
+        ensures err { IfErr result (Refuses (shows self.old) transmits) }
+        ensures same { OnErr result (MorePages self.old self.new) }
+    {
+        let setup = self.registers.ring_tx();
+        let (answer, taken) = step(&mut self.gather, &mut self.wire, &mut self.memory, setup)?;
+        match (answer, taken) {
+            (
+                TxAnswer::Fetched {
+                    index,
+                    next,
+                    causes,
+                },
+                TxUndo::Step(change),
+            ) => {
+                let latches = self.latches.raise(causes);
+                let head = self.registers.put(Reg::Tdh, next).old();
+                let part = Part::TxStep(head, change);
+                Ok((Answer::Fetched { index }, Undo { latches, part }))
+            }
+            (
+                TxAnswer::Sent {
+                    index,
+                    next,
+                    causes,
+                    octets,
+                    kind,
+                },
+                TxUndo::Step(change),
+            ) => {
+                let latches = count_sent(&mut self.latches, octets + CHECK_OCTETS, kind, causes);
+                let head = self.registers.put(Reg::Tdh, next).old();
+                let part = Part::TxStep(head, change);
+                Ok((Answer::Sent { index, octets }, Undo { latches, part }))
+            }
+            (TxAnswer::Idle, TxUndo::Nothing) => {
+                Ok((Answer::Idle, Undo::of_part(Part::Nothing)))
+            }
+            _ => unreachable!(),
+        }
+    }
+}

@@ -1,0 +1,405 @@
+"""A second reading of the rules: slow, plain, and apart from the code and its definitions.
+
+`text(script)` is what the bench program must print. Each event makes a new state out of the present one, and the older
+states are kept: a reverse step is the state before. A rule is read from the manual and from this project's profile.
+"""
+import copy
+import re
+
+PAGE = 4096
+LEAST, MOST = 14, 20_000
+ROOM = 49_152
+GREATEST = 0xFFFFFFFF
+CTRL, STATUS, EERD, VET = 0x0, 0x8, 0x14, 0x38
+ICR, ICS, IMS, IMC = 0xC0, 0xC8, 0xD0, 0xD8
+RCTL, TCTL = 0x100, 0x400
+RECEIVE, TRANSMIT = 0x2800, 0x3800  # the rings: base low, base high +4, length +8, head +10h, tail +18h
+TXDW, TXQE, LSC, RXDMT0, RXO, RXT0 = 1, 2, 4, 0x10, 0x40, 0x80
+MPC, RNBC, RUC, ROC = 0x4010, 0x40A0, 0x40A4, 0x40AC
+GPRC, BPRC, MPRC, GPTC, GORC, GOTC, MPTC, BPTC = 0x4074, 0x4078, 0x407C, 0x4080, 0x4088, 0x4090, 0x40F0, 0x40F4
+COUNTERS = {MPC, GPRC, BPRC, MPRC, GPTC, RNBC, RUC, ROC, MPTC, BPTC}
+COUNTERS |= {*range(0x405C, 0x4074, 4), *range(0x40D8, 0x40F0, 4)}
+ARRAYS = {*range(0x5200, 0x5480, 4), *range(0x5600, 0x5800, 4)}
+PLAIN = {0x18, 0x28, 0x2C, 0x30, 0xC4, RCTL, 0x170, TCTL, 0x410, 0xE00, 0x1000, 0x2804, 0x2820, 0x2828, 0x282C, 0x3804}
+PLAIN |= {0x3820, 0x3828, 0x382C, 0x5000, CTRL} | ARRAYS
+MASKS = {VET: 0xFFFF} | {ring + at: mask for ring in (RECEIVE, TRANSMIT)
+                         for at, mask in ((0, 0xFFFFFFF0), (8, 0xFFF80), (0x10, 0xFFFF), (0x18, 0xFFFF))}
+MASKS |= {0x5404 + 8 * i: 0x8003FFFF for i in range(16)}
+REGISTERS = PLAIN | {*MASKS} | COUNTERS | {STATUS, EERD, ICR, ICS, IMS, IMC, GORC, GORC + 4, GOTC, GOTC + 4}
+
+
+class Refused(Exception):
+    """The event is refused, by this name."""
+
+
+class State:
+    """All that the table speaks of; every part is replaced and never changed in its place."""
+
+    def __init__(self, size: int, mac: bytes) -> None:
+        self.link, self.wire = False, ()
+        self.pages = (bytes(PAGE),) * (size // PAGE)
+        words = [mac[0] | mac[1] << 8, mac[2] | mac[3] << 8, mac[4] | mac[5] << 8] + [0] * 60
+        self.words = (*words, (0xBABA - sum(words)) % 65536)
+        self.reset()
+
+    def reset(self) -> None:
+        a, b, c = self.words[:3]
+        self.kept = {0x5400: a | b << 16, 0x5404: c | 1 << 31}
+        self.fifo, self.taken, self.gathered = (), 0, b""
+
+    def at(self, offset: int) -> int:
+        return self.kept.get(offset, 0)
+
+    def put(self, offset: int, value: int) -> None:
+        self.kept = self.kept | {offset: value}
+
+    def count(self, offset: int, by: int = 1) -> None:
+        most = 2**64 - 1 if offset in (GORC, GOTC) else GREATEST
+        self.put(offset, min(self.at(offset) + by, most))
+
+    def raises(self, causes: int) -> None:
+        self.put(ICR, self.at(ICR) | causes)
+
+    def size(self) -> int:
+        return len(self.pages) * PAGE
+
+    def octets(self, at: int, count: int) -> bytes:
+        first, last = at // PAGE, (at + count - 1) // PAGE
+        return b"".join(self.pages[first : last + 1])[at - first * PAGE :][:count]
+
+    def store(self, at: int, octets: bytes) -> None:
+        if octets:
+            first, last = at // PAGE, (at + len(octets) - 1) // PAGE
+            there = bytearray(b"".join(self.pages[first : last + 1]))
+            there[at - first * PAGE : at - first * PAGE + len(octets)] = octets
+            made = tuple(bytes(there[i : i + PAGE]) for i in range(0, len(there), PAGE))
+            self.pages = self.pages[:first] + made + self.pages[last + 1 :]
+
+    def look(self, offset: int) -> int:
+        if offset == STATUS:
+            return 0x83 if self.link else 0x81
+        if offset in (ICS, IMC):
+            return 0
+        if offset in (GORC, GOTC):
+            return self.at(offset) & GREATEST
+        if offset in (GORC + 4, GOTC + 4):
+            return self.at(offset - 4) >> 32
+        return self.at(offset)
+
+
+def read(s: State, offset: int) -> int:
+    if offset not in REGISTERS:
+        raise Refused("NoRegister")
+    value = s.look(offset)
+    if offset == ICR or offset in COUNTERS:
+        s.put(offset, 0)
+    if offset in (GORC + 4, GOTC + 4):
+        s.put(offset - 4, 0)
+    return value
+
+
+def write(s: State, offset: int, value: int) -> bool:
+    """Performs the write; whether it was a reset."""
+    if offset not in REGISTERS:
+        raise Refused("NoRegister")
+    if offset == CTRL and value >> 26 & 1:
+        s.reset()
+        return True
+    if offset == EERD:
+        at = value >> 8 & 0xFF
+        word = s.words[at] if at < 64 else 0
+        s.put(EERD, word << 16 | at << 8 | 0x10 if value & 1 else value & 0xFF00)
+    elif offset == ICR:
+        s.put(ICR, s.at(ICR) & ~value)
+    elif offset == ICS:
+        s.put(ICR, s.at(ICR) | value & 0x1FFFF)
+    elif offset == IMS:
+        s.put(IMS, s.at(IMS) | value & 0x1FFFF)
+    elif offset == IMC:
+        s.put(IMS, s.at(IMS) & ~value)
+    elif offset in MASKS:
+        s.put(offset, value & MASKS[offset])
+    elif offset in PLAIN:
+        s.put(offset, value)
+    return False
+
+
+def size_class(first: int, counted: int) -> int:
+    """The counter of six, from the first one on, for a frame that counts as this many octets."""
+    return first + 4 * sum(counted > top for top in (64, 127, 255, 511, 1023))
+
+
+def accepts(s: State, frame: bytes) -> bool:
+    rctl = s.at(RCTL)
+    address = int.from_bytes(frame[:6], "little")
+    table = set()
+    for i in range(16):
+        high = s.at(0x5404 + 8 * i)
+        if high >> 31 and not high >> 16 & 3:
+            table.add(s.at(0x5400 + 8 * i) | (high & 0xFFFF) << 32)
+    is_group, is_broadcast = frame[0] & 1, address == 2**48 - 1
+    hashed = address >> (36, 35, 34, 32)[rctl >> 12 & 3] & 0xFFF
+    in_hash = s.at(0x5200 + 4 * (hashed >> 5)) >> (hashed & 31) & 1
+    return bool(address in table or (not is_group and rctl >> 3 & 1) or (is_group and rctl >> 4 & 1)
+                or (is_broadcast and rctl >> 15 & 1) or (is_group and in_hash))
+
+
+def has_vlan_type(s: State, frame: bytes) -> bool:
+    return len(frame) >= 16 and int.from_bytes(frame[12:14], "big") == s.at(VET)
+
+
+def passes_vlan(s: State, frame: bytes) -> bool:
+    if not s.at(RCTL) >> 18 & 1 or not has_vlan_type(s, frame):
+        return True
+    identifier = int.from_bytes(frame[14:16], "big") & 0xFFF
+    return bool(s.at(0x5600 + 4 * (identifier // 32)) >> identifier % 32 & 1)
+
+
+def arrive(s: State, frame: bytes) -> tuple[str, int]:
+    """The answer, and how many octets were stored."""
+    if not LEAST <= len(frame) <= MOST:
+        raise Refused("Length")
+    rctl, counted = s.at(RCTL), len(frame) + 4
+    if not s.link:
+        return "dropped down", 0
+    if not rctl & 2:
+        return "dropped disabled", 0
+    if not accepts(s, frame):
+        return "dropped rejected", 0
+    if counted < 64:
+        s.count(RUC)
+        return "dropped undersize", 0
+    if counted > (16384 if rctl & 0x20 else 1522):
+        s.count(ROC)
+        return "dropped oversize", 0
+    if not passes_vlan(s, frame):
+        return "dropped rejected", 0
+    stored, tag = frame, None
+    if s.at(CTRL) >> 30 & 1 and has_vlan_type(s, frame):
+        stored, tag = frame[:12] + frame[16:], int.from_bytes(frame[14:16], "big")
+    is_empty_ring = s.at(RECEIVE + 0x10) == s.at(RECEIVE + 0x18)
+    if sum(len(octets) for octets, _ in s.fifo) + len(stored) > ROOM:
+        s.count(MPC)
+        s.raises(RXO)
+        if is_empty_ring:
+            s.count(RNBC)
+        return "dropped missed", 0
+    s.fifo = (*s.fifo, (stored, tag))
+    s.count(GPRC)
+    s.count(size_class(0x405C, counted))
+    s.count(GORC, counted)
+    if frame[:6] == b"\xFF" * 6:
+        if rctl >> 15 & 1:
+            s.count(BPRC)
+    elif frame[0] & 1:
+        s.count(MPRC)
+    if is_empty_ring:
+        s.count(RNBC)
+    return "stored", len(stored)
+
+
+def work_of(s: State, ring: int, control: int) -> tuple[int, int, int, int] | None:
+    """None where the engine is idle; else how many descriptors there are, head, tail, and where the head's lies."""
+    n, head, tail = s.at(ring + 8) // 16, s.at(ring + 0x10), s.at(ring + 0x18)
+    if not s.at(control) & 2 or n == 0 or head >= n or tail >= n or head == tail:
+        return None
+    return n, head, tail, s.at(ring + 4) * 2**32 + s.at(ring) + 16 * head
+
+
+def receive(s: State) -> tuple[str, int]:
+    """The answer, and its cost."""
+    there = work_of(s, RECEIVE, RCTL)
+    if there is None or not s.fifo:
+        return "idle", 32
+    n, head, tail, at = there
+    if at + 16 > s.size():
+        raise Refused("DmaRange")
+    to = int.from_bytes(s.octets(at, 8), "little")
+    rctl = s.at(RCTL)
+    buffer = ((2048, 1024, 512, 256), (2048, 16384, 8192, 4096))[rctl >> 25 & 1][rctl >> 16 & 3]
+    frame, tag = s.fifo[0]
+    piece = frame[s.taken : s.taken + buffer]
+    if to + len(piece) > s.size():
+        raise Refused("DmaRange")
+    s.store(to, piece)
+    is_last = s.taken + len(piece) == len(frame)
+    status, special = (0x05, 0) if not is_last else (0x07, 0) if tag is None else (0x0F, tag)
+    s.store(at + 8, len(piece).to_bytes(2, "little") + b"\0\0" + bytes([status, 0]) + special.to_bytes(2, "little"))
+    s.put(RECEIVE + 0x10, (head + 1) % n)
+    s.taken += len(piece)
+    if is_last:
+        s.fifo, s.taken = s.fifo[1:], 0
+        s.raises(RXT0)
+    if (tail - s.at(RECEIVE + 0x10)) % n == n // (2, 4, 8, 8)[rctl >> 8 & 3]:
+        s.raises(RXDMT0)
+    return f"wrote {head}", 40 + len(piece)
+
+
+def transmit(s: State) -> tuple[str, int]:
+    """The answer, and its cost."""
+    there = work_of(s, TRANSMIT, TCTL)
+    if there is None:
+        return "idle", 32
+    n, head, tail, at = there
+    if at + 16 > s.size():
+        raise Refused("DmaRange")
+    descriptor = s.octets(at, 16)
+    of, length = int.from_bytes(descriptor[:8], "little"), int.from_bytes(descriptor[8:10], "little")
+    command, special = descriptor[11], descriptor[14:16][::-1]
+    if command & 0x20:
+        raise Refused("Extended")
+    if len(s.gathered) + length > 16380:
+        raise Refused("TooLong")
+    if length > 0 and of + length > s.size():
+        raise Refused("DmaRange")
+    if length > 0:
+        s.gathered += s.octets(of, length)
+    cost = 32 + length
+    if command & 8:
+        s.store(at + 12, b"\x01")
+        s.raises(TXDW)
+        cost += 1
+    answer = f"fetched {head}"
+    if command & 1 and s.gathered:
+        frame = s.gathered
+        if s.at(CTRL) >> 30 & 1 and command & 0x40 and len(frame) >= 12:
+            frame = frame[:12] + s.at(VET).to_bytes(2, "big") + special + frame[12:]
+        if s.at(TCTL) & 8:
+            frame = frame.ljust(60, b"\0")
+        s.wire, s.gathered = (*s.wire, frame), b""
+        if len(frame) + 4 >= 64:
+            s.count(GPTC)
+            s.count(GOTC, len(frame) + 4)
+            s.count(size_class(0x40D8, len(frame) + 4))
+        if len(frame) >= 6 and frame[0] & 1:
+            s.count(BPTC if frame[:6] == b"\xFF" * 6 else MPTC)
+        answer, cost = f"sent {head} {len(frame)}", cost + len(frame)
+    s.put(TRANSMIT + 0x10, (head + 1) % n)
+    if s.at(TRANSMIT + 0x10) == tail:
+        s.raises(TXQE)
+    return answer, cost
+
+
+class Session:
+    """A machine, run line by line."""
+
+    def __init__(self, memory: int = 65536, budget: int = 1_048_576, mac: str = "525400123456") -> None:
+        self.now, self.budget = State(memory, bytes.fromhex(mac)), budget
+        self.past, self.held = [], 0
+
+    def event(self, action) -> str:
+        """Performs an event that answers (text, cost), or is refused."""
+        state = copy.copy(self.now)
+        try:
+            text, cost = action(state)
+        except Refused as refusal:
+            return f"refused {refusal}"
+        self.past.append((self.now, cost))
+        self.now, self.held = state, self.held + cost
+        dropped = 0
+        while self.held > self.budget:
+            self.held -= self.past[dropped][1]
+            dropped += 1
+        del self.past[:dropped]
+        return text
+
+    def back(self) -> bool:
+        if not self.past:
+            return False
+        self.now, cost = self.past.pop()
+        self.held -= cost
+        return True
+
+    def poke(self, at: int, octets: bytes) -> str:
+        def action(s: State):
+            if at + len(octets) > s.size():
+                raise Refused("Range")
+            if not 1 <= len(octets) <= 16384:
+                raise Refused("Length")
+            s.store(at, octets)
+            return "ok", 32 + len(octets)
+        return self.event(action)
+
+    def written(self, offset: int, value: int) -> str:
+        return self.event(lambda s: ("ok", 65536 if write(s, offset, value) else 32))
+
+    def linked(self, up: bool) -> str:
+        def action(s: State):
+            if s.link != up:
+                s.raises(LSC)
+            s.link = up
+            return "ok", 32
+        return self.event(action)
+
+    def arrived(self, frame: bytes) -> str:
+        def action(s: State):
+            text, stored = arrive(s, frame)
+            return text, 32 + stored
+        return self.event(action)
+
+    def line(self, words: list[str]) -> list[str] | None:
+        """What a line of words prints; None where it is of no form."""
+        name = words[0]
+        shape = FORMS.get(name)
+        if shape is None or not shape.fullmatch(" ".join(words[1:])):
+            return None
+        args = words[1:]
+        if name in ("peek", "line", "regs", "wire"):
+            return self.look(name, args)
+        if name == "back":
+            return self.taken_back(args)
+        if name == "r":
+            return [self.event(lambda state: (f"{read(state, int(args[0], 16)):08X}", 32))]
+        if name == "w":
+            return [self.written(int(args[0], 16), int(args[1], 16))]
+        if name == "poke":
+            return [self.poke(int(args[0], 16), bytes.fromhex(args[1]))]
+        if name == "link":
+            return [self.linked(args[0] == "up")]
+        if name in ("rx", "tx"):
+            return [self.event(receive if name == "rx" else transmit)]
+        frame = bytes.fromhex(args[0])
+        if args[1:]:
+            if not len(frame) <= int(args[1]) <= 32768:
+                return None
+            frame = frame.ljust(int(args[1]), b"\0")
+        return [self.arrived(frame)]
+
+    def look(self, name: str, args: list[str]) -> list[str] | None:
+        s = self.now
+        if name == "peek":
+            at, count = int(args[0], 16), int(args[1])
+            if not 1 <= count <= 16384:
+                return None
+            return ["refused Range"] if at + count > s.size() else [s.octets(at, count).hex().upper()]
+        if name == "line":
+            return ["1" if s.at(ICR) & s.at(IMS) else "0"]
+        if name == "regs":
+            return [f"{offset:05X} {s.look(offset):08X}" for offset in sorted(REGISTERS) if s.look(offset)]
+        return [f"wire {len(s.wire)}"] + [frame.hex().upper() for frame in s.wire]
+
+    def taken_back(self, args: list[str]) -> list[str] | None:
+        if not args:
+            return ["ok" if self.back() else "refused Empty"]
+        if not 1 <= int(args[0]) <= 65536:
+            return None
+        return [f"back {sum(self.back() for _ in range(int(args[0])))}"]
+
+
+HEX, DATA = "[0-9a-fA-F]", "(?:[0-9a-fA-F]{2})+"
+FORMS = {name: re.compile(form) for name, form in {
+    "r": f"{HEX}{{1,8}}", "w": f"{HEX}{{1,8}} {HEX}{{1,8}}", "poke": f"{HEX}{{1,16}} {DATA}",
+    "peek": f"{HEX}{{1,16}} [0-9]{{1,7}}", "link": "up|down", "arrive": f"{DATA}(?: [0-9]{{1,7}})?",
+    "rx": "", "tx": "", "wire": "", "line": "", "regs": "", "back": "(?:[0-9]{1,7})?"}.items()}
+
+
+def text(script: str, **settings) -> str:
+    """The text of a whole script, by one character for each octet."""
+    session, printed = Session(**settings), []
+    lines = script.split("\n")
+    for number, line in enumerate(lines if lines[-1] else lines[:-1], 1):
+        words = [word for word in re.split("[ \t\r]+", line) if word]
+        if words and not words[0].startswith("#"):
+            said = session.line(words)
+            printed += [f"bad line {number}"] if said is None else said
+    return "".join(line + "\n" for line in printed)
