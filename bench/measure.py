@@ -99,6 +99,18 @@ def transmit_1500(r: random.Random) -> list[str]:
     return transmit_ring(r, 1500) + [line for i in range(1, 50_000) for line in (f"w 03818 {i % 64:08X}", "tx")]
 
 
+def driver_calls(r: random.Random) -> list[str]:
+    """A driver is started; a packet is sent, a frame arrives and is taken: 60 to 1,500 octets, half of them by LEN."""
+    lines = ["link up", "init"]
+    for _ in range(17_000):
+        head = f"{BROADCAST}{hexadecimal(r, 6)}0800"
+        for name, step in (("send", "tx"), ("arrive", "rx")):
+            octets = hexadecimal(r, 46) if r.random() < 0.5 else f" {r.choice([60, 128, 256, 576, 1024, 1500])}"
+            lines += [f"{name} {head}{octets}", step]
+        lines.append("recv 4")
+    return lines
+
+
 def mixed_event(r: random.Random) -> str:
     kind = r.random()
     if kind < 0.20:
@@ -141,7 +153,7 @@ def resets(r: random.Random) -> list[str]:
 
 WORKLOADS = (
     registers, pokes, steps_back, small_frames, large_frames, large_frames_in_three, transmit_60, transmit_1500,
-    hundreds_back, resets,
+    driver_calls, hundreds_back, resets,
 )
 
 

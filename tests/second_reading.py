@@ -1,7 +1,8 @@
 """A second reading of the rules: slow, plain, and apart from the code and its definitions.
 
-`text(script)` is what the bench program must print. Each event makes a new state out of the present one, and the older
-states are kept: a reverse step is the state before. A rule is read from the manual and from this project's profile.
+`text(script)` is what the bench program must print, and `answers(script)` the same line by line. Each event makes a new
+state out of the present one, and the older states are kept: a reverse step is the state before. A rule is read from the
+manual and from this project's profile.
 """
 import copy
 import re
@@ -12,7 +13,7 @@ ROOM = 49_152
 GREATEST = 0xFFFFFFFF
 CTRL, STATUS, EERD, VET = 0x0, 0x8, 0x14, 0x38
 ICR, ICS, IMS, IMC = 0xC0, 0xC8, 0xD0, 0xD8
-RCTL, TCTL = 0x100, 0x400
+RCTL, TCTL, TIPG = 0x100, 0x400, 0x410
 RECEIVE, TRANSMIT = 0x2800, 0x3800  # the rings: base low, base high +4, length +8, head +10h, tail +18h
 TXDW, TXQE, LSC, RXDMT0, RXO, RXT0 = 1, 2, 4, 0x10, 0x40, 0x80
 MPC, RNBC, RUC, ROC = 0x4010, 0x40A0, 0x40A4, 0x40AC
@@ -20,11 +21,13 @@ GPRC, BPRC, MPRC, GPTC, GORC, GOTC, MPTC, BPTC = 0x4074, 0x4078, 0x407C, 0x4080,
 COUNTERS = {MPC, GPRC, BPRC, MPRC, GPTC, RNBC, RUC, ROC, MPTC, BPTC}
 COUNTERS |= {*range(0x405C, 0x4074, 4), *range(0x40D8, 0x40F0, 4)}
 ARRAYS = {*range(0x5200, 0x5480, 4), *range(0x5600, 0x5800, 4)}
-PLAIN = {0x18, 0x28, 0x2C, 0x30, 0xC4, RCTL, 0x170, TCTL, 0x410, 0xE00, 0x1000, 0x2804, 0x2820, 0x2828, 0x282C, 0x3804}
+PLAIN = {0x18, 0x28, 0x2C, 0x30, 0xC4, RCTL, 0x170, TCTL, TIPG, 0xE00, 0x1000, 0x2804, 0x2820, 0x2828, 0x282C, 0x3804}
 PLAIN |= {0x3820, 0x3828, 0x382C, 0x5000, CTRL} | ARRAYS
 MASKS = {VET: 0xFFFF} | {ring + at: mask for ring in (RECEIVE, TRANSMIT)
                          for at, mask in ((0, 0xFFFFFFF0), (8, 0xFFF80), (0x10, 0xFFFF), (0x18, 0xFFFF))}
 MASKS |= {0x5404 + 8 * i: 0x8003FFFF for i in range(16)}
+# where the driver that a script starts keeps its rings and buffers
+RX_RING, TX_RING, RX_BUFFERS, TX_BUFFERS, DESCRIPTORS, BUFFER = 0, 0x80, 0x1000, 0x5000, 8, 2048
 REGISTERS = PLAIN | {*MASKS} | COUNTERS | {STATUS, EERD, ICR, ICS, IMS, IMC, GORC, GORC + 4, GOTC, GOTC + 4}
 
 
@@ -283,9 +286,22 @@ def transmit(s: State) -> tuple[str, int]:
 class Session:
     """A machine, run line by line."""
 
-    def __init__(self, memory: int = 65536, budget: int = 1_048_576, mac: str = "525400123456") -> None:
+    def __init__(
+        self, memory: int = 65536, budget: int = 1_048_576, mac: str = "525400123456", refused: tuple[int, int] = (0, 0)
+    ) -> None:
         self.now, self.budget = State(memory, bytes.fromhex(mac)), budget
         self.past, self.held = [], 0
+        # memory is refused in the line of a number, where that line takes memory for the nth time
+        self.refused, self.number, self.taken = refused, 0, 0
+        # the plan is a list of turns for each access of the driver; None where no line gave one
+        self.has_driver, self.plan = False, None
+
+    def begins(self, number: int) -> None:
+        self.number, self.taken = number, 0
+
+    def has_memory(self) -> bool:
+        self.taken += 1
+        return self.refused != (self.number, self.taken)
 
     def event(self, action) -> str:
         """Performs an event that answers (text, cost), or is refused."""
@@ -294,6 +310,9 @@ class Session:
             text, cost = action(state)
         except Refused as refusal:
             return f"refused {refusal}"
+        # any other event of the least cost takes none
+        if (cost > 32 or text.startswith(("fetched", "sent"))) and not self.has_memory():
+            return "refused Memory"
         self.past.append((self.now, cost))
         self.now, self.held = state, self.held + cost
         dropped = 0
@@ -319,6 +338,9 @@ class Session:
             s.store(at, octets)
             return "ok", 32 + len(octets)
         return self.event(action)
+
+    def got(self, offset: int) -> str:
+        return self.event(lambda s: (f"{read(s, offset):08X}", 32))
 
     def written(self, offset: int, value: int) -> str:
         return self.event(lambda s: ("ok", 65536 if write(s, offset, value) else 32))
@@ -349,7 +371,7 @@ class Session:
         if name == "back":
             return self.taken_back(args)
         if name == "r":
-            return [self.event(lambda state: (f"{read(state, int(args[0], 16)):08X}", 32))]
+            return [self.got(int(args[0], 16))]
         if name == "w":
             return [self.written(int(args[0], 16), int(args[1], 16))]
         if name == "poke":
@@ -358,12 +380,56 @@ class Session:
             return [self.linked(args[0] == "up")]
         if name in ("rx", "tx"):
             return [self.event(receive if name == "rx" else transmit)]
-        frame = bytes.fromhex(args[0])
-        if args[1:]:
-            if not len(frame) <= int(args[1]) <= 32768:
-                return None
-            frame = frame.ljust(int(args[1]), b"\0")
-        return [self.arrived(frame)]
+        if name == "turns":
+            return self.planned(args)
+        if name == "arrive":
+            frame = lengthened(*args)
+            return None if frame is None else [self.arrived(frame)]
+        return self.called(name, args)
+
+    def planned(self, turns: list[str]) -> list[str] | None:
+        if any(turn.startswith("arrive:") and lengthened(*turn.split(":")[1:]) is None for turn in turns):
+            return None
+        if not self.has_memory():
+            return ["refused Memory"]
+        self.plan = [[]]
+        for turn in turns:
+            if turn == ".":
+                self.plan.append([])
+            else:
+                self.plan[-1].append(turn)
+        return ["ok"]
+
+    def called(self, name: str, args: list[str]) -> list[str] | None:
+        """A line that calls the driver: its form, whether there is a driver, the call with its turns."""
+        packet = lengthened(*args) if name == "send" else b""
+        if packet is None or name == "recv" and int(args[0]) > 1024:
+            return None
+        if name != "init" and not self.has_driver:
+            return ["refused NoDriver"]
+        call, has_plan = Call(self, self.plan or []), self.plan is not None
+        self.plan = None
+        try:
+            if name == "init":
+                self.has_driver = False
+                start(call)
+                self.has_driver = True
+                said = [f"started {call.events}"]
+            elif name == "stats":
+                said = [statistics(call)]
+            elif name == "mac":
+                said = [address(call) if not args else new_address(call, bytes.fromhex(args[0]))]
+            else:
+                if name == "send":
+                    send(call, packet)
+                else:
+                    take(call, int(args[0]))
+                said = [f"batch {call.count} {call.events}"]
+        except Stopped as stop:
+            said = [f"stopped {call.count} {call.events} {stop}"]
+        said += [packet.hex().upper() for packet in call.packets]
+        told = f"turns {call.performed} {call.refused}" + (" Memory" if call.is_starved else "")
+        return said + ([told] if has_plan else [])
 
     def look(self, name: str, args: list[str]) -> list[str] | None:
         s = self.now
@@ -386,20 +452,173 @@ class Session:
         return [f"back {sum(self.back() for _ in range(int(args[0])))}"]
 
 
+class Stopped(Exception):
+    """The driver stops, for this reason."""
+
+
+class Call:
+    """A call of the driver, whose accesses are events; before each of them, and each look, turns of the plan fall."""
+
+    def __init__(self, session: Session, plan: list[list[str]]) -> None:
+        self.session, self.plan = session, plan
+        self.events = self.count = self.performed = self.refused = 0
+        self.packets, self.is_starved = [], False
+
+    def turns(self) -> None:
+        first, self.plan = self.plan[:1], self.plan[1:]
+        for turn in [turn for turns in first for turn in turns]:
+            if turn.startswith("arrive:"):
+                said = self.session.arrived(lengthened(*turn.split(":")[1:]))
+            else:
+                said = self.session.event(receive if turn == "rx" else transmit)
+            if said == "refused Memory":
+                self.plan, self.is_starved = [], True
+                return
+            if said.startswith("refused"):
+                self.refused += 1
+            else:
+                self.performed += 1
+
+    def access(self, perform, *what) -> str:
+        self.turns()
+        said = perform(*what)
+        if said == "refused Memory":
+            raise Stopped("Memory")
+        assert not said.startswith("refused"), "no access of a driver that a script starts is refused"
+        self.events += 1
+        return said
+
+    def r(self, offset: int) -> int:
+        return int(self.access(self.session.got, offset), 16)
+
+    def w(self, offset: int, value: int) -> None:
+        self.access(self.session.written, offset, value)
+
+    def p(self, at: int, octets: bytes) -> None:
+        self.access(self.session.poke, at, octets)
+
+    def peek(self, at: int, count: int) -> bytes:
+        self.turns()
+        return self.session.now.octets(at, count)
+
+
+def start(call: Call) -> None:
+    if TX_BUFFERS + BUFFER * DESCRIPTORS > call.session.now.size():
+        raise Stopped("Layout")
+    for offset, value in ((IMC, GREATEST), (CTRL, 0x04000000), (IMC, GREATEST), (CTRL, 0x00000041)):
+        call.w(offset, value)
+    # the sum of the words is not asked: a script can't make it another
+    words = []
+    for at in range(64):
+        call.w(EERD, 256 * at + 1)
+        words.append(call.r(EERD) >> 16)
+    new_address(call, b"".join(word.to_bytes(2, "little") for word in words[:3]))
+    for i in range(128):
+        call.w(0x5200 + 4 * i, 0)
+    ring(call, RECEIVE, RX_RING, RX_BUFFERS, DESCRIPTORS - 1)
+    call.w(RCTL, 0x0000801A)
+    ring(call, TRANSMIT, TX_RING, TX_BUFFERS, 0)
+    call.w(TIPG, 0x0060200A)
+    call.w(TCTL, 0x0004010A)
+
+
+def ring(call: Call, registers: int, at: int, buffers: int, tail: int) -> None:
+    for i in range(DESCRIPTORS):
+        call.p(at + 16 * i, (buffers + BUFFER * i).to_bytes(16, "little"))
+    for offset, value in ((0, at), (4, 0), (8, 16 * DESCRIPTORS), (0x10, 0), (0x18, tail)):
+        call.w(registers + offset, value)
+
+
+def take(call: Call, most: int) -> None:
+    """Takes at most so many packets from the receive ring."""
+    if most == 0:
+        return
+    tail = call.r(RECEIVE + 0x18)
+    if tail >= DESCRIPTORS:
+        raise Stopped("Broken")
+    while call.count < most:
+        tail = (tail + 1) % DESCRIPTORS
+        at = RX_RING + 16 * tail
+        descriptor = call.peek(at, 16)
+        length, status = int.from_bytes(descriptor[8:10], "little"), descriptor[12]
+        if not status & 1:
+            return
+        if not status & 2 or not 1 <= length <= BUFFER:
+            raise Stopped("Broken")
+        if not call.session.has_memory():
+            raise Stopped("Memory")
+        packet = call.peek(RX_BUFFERS + BUFFER * tail, length)
+        call.p(at + 12, b"\0")
+        call.w(RECEIVE + 0x18, tail)
+        call.packets.append(packet)
+        call.count += 1
+
+
+def send(call: Call, packet: bytes) -> None:
+    """Puts the packet into the transmit ring where a descriptor is free; one always stays so."""
+    tail, head = call.r(TRANSMIT + 0x18), call.r(TRANSMIT + 0x10)
+    if tail >= DESCRIPTORS or head >= DESCRIPTORS:
+        raise Stopped("Broken")
+    if (head - tail - 1) % DESCRIPTORS == 0:
+        return
+    if not 14 <= len(packet) <= 1518:
+        raise Stopped("PacketLength")
+    to = TX_BUFFERS + BUFFER * tail
+    call.p(to, packet)
+    call.p(TX_RING + 16 * tail, to.to_bytes(8, "little") + len(packet).to_bytes(2, "little") + b"\0\x0B\0\0\0\0")
+    call.w(TRANSMIT + 0x18, (tail + 1) % DESCRIPTORS)
+    call.count += 1
+
+
+def statistics(call: Call) -> str:
+    received, sent = call.r(GPRC), call.r(GPTC)
+    low, high = call.r(GORC), call.r(GORC + 4)
+    sent_low, sent_high = call.r(GOTC), call.r(GOTC + 4)
+    return f"stats {received} {sent} {high << 32 | low} {sent_high << 32 | sent_low}"
+
+
+def address(call: Call) -> str:
+    octets = call.r(0x5400).to_bytes(4, "little") + call.r(0x5404).to_bytes(4, "little")
+    return ":".join(f"{octet:02X}" for octet in octets[:6])
+
+
+def new_address(call: Call, octets: bytes) -> str:
+    call.w(0x5400, int.from_bytes(octets[:4], "little"))
+    call.w(0x5404, int.from_bytes(octets[4:], "little") | 1 << 31)
+    return "ok"
+
+
+def lengthened(data: str, length: str = "") -> bytes | None:
+    """The octets, with zero octets up to the length where there is one; None where it does not fit them."""
+    octets = bytes.fromhex(data)
+    if not length:
+        return octets
+    return octets.ljust(int(length), b"\0") if len(octets) <= int(length) <= 32768 else None
+
+
 HEX, DATA = "[0-9a-fA-F]", "(?:[0-9a-fA-F]{2})+"
+TURN = rf"(?:rx|tx|\.|arrive:{DATA}(?::[0-9]{{1,7}})?)"
 FORMS = {name: re.compile(form) for name, form in {
     "r": f"{HEX}{{1,8}}", "w": f"{HEX}{{1,8}} {HEX}{{1,8}}", "poke": f"{HEX}{{1,16}} {DATA}",
     "peek": f"{HEX}{{1,16}} [0-9]{{1,7}}", "link": "up|down", "arrive": f"{DATA}(?: [0-9]{{1,7}})?",
-    "rx": "", "tx": "", "wire": "", "line": "", "regs": "", "back": "(?:[0-9]{1,7})?"}.items()}
+    "rx": "", "tx": "", "wire": "", "line": "", "regs": "", "back": "(?:[0-9]{1,7})?",
+    "init": "", "send": f"{DATA}(?: [0-9]{{1,7}})?", "recv": "[0-9]{1,7}", "stats": "", "mac": f"(?:{HEX}{{12}})?",
+    "turns": f"{TURN}(?: {TURN})*"}.items()}
+
+
+def answers(script: str, **settings) -> list[tuple[int, str, list[str]]]:
+    """The number, the octets and the printed lines of each line of a script, by one character for each octet."""
+    session, played = Session(**settings), []
+    lines = script.split("\n")
+    for number, line in enumerate(lines if lines[-1] else lines[:-1], 1):
+        words, said = [word for word in re.split("[ \t\r]+", line) if word], []
+        if words and not words[0].startswith("#"):
+            session.begins(number)
+            said = session.line(words)
+        played.append((number, line, [f"bad line {number}"] if said is None else said))
+    return played
 
 
 def text(script: str, **settings) -> str:
-    """The text of a whole script, by one character for each octet."""
-    session, printed = Session(**settings), []
-    lines = script.split("\n")
-    for number, line in enumerate(lines if lines[-1] else lines[:-1], 1):
-        words = [word for word in re.split("[ \t\r]+", line) if word]
-        if words and not words[0].startswith("#"):
-            said = session.line(words)
-            printed += [f"bad line {number}"] if said is None else said
-    return "".join(line + "\n" for line in printed)
+    """The text of a whole script."""
+    return "".join(f"{line}\n" for _, _, said in answers(script, **settings) for line in said)

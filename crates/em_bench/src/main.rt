@@ -7,11 +7,11 @@
 use em_journal::Machine;
 use em_options::{Ending, Options, OptionsRefused, options};
 use em_script::{BenchFault, Session, run};
-use std::env;
 use std::fs::File;
 use std::io::{self, BufReader, BufWriter, ErrorKind, Read, Write};
 use std::process::ExitCode;
 use std::rt::{Env, Files};
+use std::{env, mem};
 
 /// How many octets of a script are read at a time.
 const READ_AT_ONCE: usize = 65_536;
@@ -100,6 +100,8 @@ fn play(rt: &(impl Print + AllocGlobal), script: impl Read + Drop, machine: Mach
         return Ending::Fault(BenchFault::Memory);
     };
     let ran = run(rt.alloc(), &mut reader, &mut writer, &mut session);
+    // The system takes its memory back when the program ends, all at once.
+    mem::forget(session);
     if writer.flush().is_err() {
         return Ending::Fault(BenchFault::Write);
     }

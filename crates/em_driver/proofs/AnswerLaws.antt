@@ -1,6 +1,6 @@
 -- What the accesses of a driver are answered, and when they are refused.
-use Rattle.std.proofs.Common.{◌≡◌, ◌∙◌, ℕ, Bool, true, false, List, Option, Some, Result, Ok, Err, refl, sym, ap}
-use Rattle.std.proofs.Common.{subst, IsTrue, inl, inr}
+use Rattle.std.proofs.Common.{◌≡◌, ◌∙◌, ℕ, Bool, true, false, List, Result, Ok, Err, sym, ap}
+use Rattle.std.proofs.Common.{inl, inr}
 use Rattle.std.proofs.Common.{if◌then◌else◌}
 use Rattle.em_regs.specs.Table.{IsReg, offset_of, reg_at}
 use Rattle.em_regs.specs.declared.reg.Reg.{Reg}

@@ -1,5 +1,5 @@
 -- How a course is followed, one access at a time.
-use Rattle.std.proofs.Common.{◌≡◌, ◌∙◌, ℕ, ◌+◌, List, refl, sym, ap, subst, inl, inr, arith}
+use Rattle.std.proofs.Common.{◌≡◌, ℕ, ◌+◌, List, refl, sym, subst, inl, inr, arith}
 use Rattle.em_regs.specs.Table.{offset_of}
 use Rattle.em_regs.specs.declared.reg.Reg.{Reg}
 use Rattle.em_regs.specs.declared.reg.Reg.TheVariants.{Ctrl}
@@ -8,7 +8,7 @@ use Rattle.em_step.specs.declared.event.Answer.TheVariants.{Value, Done}
 use Rattle.em_step.specs.declared.refusal.Refusal.{Refusal}
 use Rattle.em_step.specs.declared.refusal.Refusal.TheVariants.{Memory}
 use Rattle.em_driver.specs.World.{World, Accesses, IsRefused, Peeks, PeeksPast}
-use Rattle.em_driver.specs.Course.{Course, done, read, write, reset, peek, poke, room, Ends, Then, Follows, Comes}
+use Rattle.em_driver.specs.Course.{Course, done, read, write, reset, peek, poke, room, Follows, Comes}
 
 -- ---- the end
 

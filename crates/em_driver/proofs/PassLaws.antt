@@ -1,7 +1,7 @@
 -- How a plan's first list passes, and what an access is after it.
-use Rattle.std.proofs.Common.{◌≡◌, ◌∙◌, ℕ, Bool, true, false, List, [], ◌∷◌, ◌++◌, Ok, Err, Result, refl, sym, ap}
+use Rattle.std.proofs.Common.{◌≡◌, ◌∙◌, Bool, true, false, List, [], ◌∷◌, ◌++◌, Ok, Err, Result, refl, sym, ap}
 use Rattle.std.proofs.Common.{subst}
-use Rattle.std.proofs.Common.{◌+◌, inl, inr, length, arith}
+use Rattle.std.proofs.Common.{inl, inr, length, arith}
 use Rattle.std.specs.Prelude.{OnOk}
 use Rattle.std.proofs.lemmas.List.{length-append}
 use Rattle.em_step.specs.Event.{Event}
@@ -12,12 +12,11 @@ use Rattle.em_step.specs.declared.refusal.Refusal.{Refusal}
 use Rattle.em_step.specs.declared.refusal.Refusal.TheVariants.{Memory}
 use Rattle.em_journal.specs.History.{performs, Does}
 use Rattle.em_journal.specs.View.{View}
-use Rattle.em_driver.specs.Taking.{TakesAll, AreTaken, world_with}
+use Rattle.em_driver.specs.Taking.{TakesAll}
 use Rattle.em_driver.specs.Turn.{event_of}
 use Rattle.em_driver.specs.World.{World, Accesses, IsRefused, Passes, quiet, first, rest}
 use Rattle.em_driver.specs.World.{after_outcome, after_turn, after_turns}
 use Rattle.em_driver.specs.declared.turn.Turn.{Turn}
-use Rattle.em_driver.specs.declared.taking.Counts.{Counts}
 
 -- ---- a plan beside the turns
 

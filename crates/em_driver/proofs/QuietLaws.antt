@@ -1,5 +1,5 @@
 -- The accesses of a machine on which nobody else acts.
-use Rattle.std.proofs.Common.{◌≡◌, ◌∙◌, ℕ, List, [], refl, sym, ap, subst, inl}
+use Rattle.std.proofs.Common.{◌≡◌, ℕ, List, [], refl, sym, subst, inl}
 use Rattle.em_regs.specs.Table.{IsReg, offset_of}
 use Rattle.em_regs.specs.declared.reg.Reg.{Reg}
 use Rattle.em_step.specs.Event.{Event, reads, writes, pokes}
@@ -8,8 +8,8 @@ use Rattle.em_step.specs.declared.event.Answer.TheVariants.{Value, Done}
 use Rattle.em_step.specs.declared.refusal.Refusal.{Refusal}
 use Rattle.em_journal.specs.History.{performs, refuses, Does}
 use Rattle.em_journal.specs.View.{View}
-use Rattle.em_driver.specs.World.{World, quiet, Passes, Accesses, IsRefused}
-use Rattle.em_driver.proofs.AnswerLaws.{read_answer, read_goes, write_answer, poke_answer}
+use Rattle.em_driver.specs.World.{quiet, Passes, Accesses, IsRefused}
+use Rattle.em_driver.proofs.AnswerLaws.{write_answer, poke_answer}
 
 pub quiet_passes : (m : View) → Passes (quiet m) (quiet m)
 quiet_passes m = record { turns = []; taken = inl (refl, refl, refl); is = refl }

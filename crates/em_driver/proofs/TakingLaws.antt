@@ -1,5 +1,5 @@
 -- How the turns of a list are taken, one after the other.
-use Rattle.std.proofs.Common.{◌≡◌, ◌∙◌, ℕ, ◌+◌, List, [], ◌∷◌, ◌++◌, Ok, Err, Result, refl, sym, ap, subst}
+use Rattle.std.proofs.Common.{◌≡◌, ◌∙◌, ℕ, ◌+◌, List, [], ◌∷◌, ◌++◌, Err, refl, sym, ap, subst}
 use Rattle.std.proofs.Common.{inl, inr, append-nil}
 use Rattle.em_step.specs.Event.{Event, arrives}
 use Rattle.em_step.specs.Cost.{cost}
@@ -19,7 +19,7 @@ use Rattle.em_driver.specs.declared.turn.Turn.{Turn}
 use Rattle.em_driver.specs.declared.turn.Turn.TheVariants.{Arrive}
 use Rattle.em_driver.specs.declared.taking.Counts.{Counts}
 use Rattle.em_driver.specs.declared.taking.Taken.{Taken}
-use Rattle.em_driver.specs.declared.taking.Taken.TheVariants.{Performed, Refused, Starved}
+use Rattle.em_driver.specs.declared.taking.Taken.TheVariants.{Performed, Refused}
 
 -- ---- one turn
 

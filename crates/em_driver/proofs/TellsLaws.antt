@@ -1,5 +1,5 @@
 -- The courses of the driver's calls tell of memory: wherever it is refused to one, the answer says so.
-use Rattle.std.proofs.Common.{ℕ, zero, suc, ◌+◌, ◌-◌, ◌/◌, ◌%◌, ◌==◌, Bool, true, false, not, cond, List, [], ◌∷◌}
+use Rattle.std.proofs.Common.{ℕ, zero, suc, ◌+◌, ◌/◌, ◌%◌, ◌==◌, Bool, true, false, not, cond, List, [], ◌∷◌}
 use Rattle.std.proofs.Common.{◌++◌, min, nat_lt, Some, None, refl}
 use Rattle.std.specs.Prelude.{sum, ⊤}
 use Rattle.em_step.specs.Access.{has}
@@ -11,7 +11,7 @@ use Rattle.em_driver.specs.Descriptor.{is_done, is_whole, length_of}
 use Rattle.em_driver.specs.Receive.{Answered, rx_from, rx_packet, rx_batch, following, received, stopped}
 use Rattle.em_driver.specs.Transmit.{tx_from, tx_batch, is_packet, free_from, are_indices}
 use Rattle.em_driver.specs.Start.{Start, Part, each_from, global_reset, eeprom_word, words_from, summed, eeprom}
-use Rattle.em_driver.specs.Start.{receive_address, multicast_table, memory, descriptors, receive_ring}
+use Rattle.em_driver.specs.Start.{receive_address, multicast_table, descriptors, receive_ring}
 use Rattle.em_driver.specs.Start.{transmit_ring, start}
 use Rattle.em_driver.specs.declared.layout.Layout.{Layout}
 use Rattle.em_driver.specs.declared.outcome.Cause.TheVariants.{Broken, Checksum}

@@ -15,3 +15,8 @@ pub mod Receive
 pub mod Transmit
 pub mod Told
 pub mod Start
+pub mod Places
+pub mod Driven
+pub mod Order
+pub mod Off
+pub mod Spans

@@ -72,6 +72,7 @@ impl Latches {
     }
 
     /// Whether the register is one of these: the condition of `look`, `read` and `write`.
+    #[inline(always)]
     pub fn holds(&self, reg: Reg) -> bool
         ensures { result ≡ is_latched reg }
     {
@@ -79,6 +80,7 @@ impl Latches {
     }
 
     /// What a read of the register gives, with nothing cleared.
+    #[inline(always)]
     pub fn look(&self, reg: Reg) -> u32
         requires { IsLatched reg }
         ensures { result ≡ gives self.now reg }
@@ -91,6 +93,7 @@ impl Latches {
 
     /// Reads a register. A read of ICR or of a counter clears it; of GORC and GOTC, the read of the
     /// high half clears both halves, and that of the low half none.
+    #[inline(always)]
     pub fn read(&mut self, reg: Reg) -> (u32, LatchUndo)
         requires { IsLatched reg }
         ensures value { result.0 ≡ gives self.old reg }
@@ -109,6 +112,7 @@ impl Latches {
     }
 
     /// Writes a register: ICS and IMS set bits, ICR and IMC clear them, and a counter stays.
+    #[inline(always)]
     pub fn write(&mut self, reg: Reg, value: u32) -> LatchUndo
         requires { IsLatched reg }
         ensures state { self.new ≡ after_write self.old reg value }
@@ -127,6 +131,7 @@ impl Latches {
     }
 
     /// Sets causes in ICR.
+    #[inline(always)]
     pub fn raise(&mut self, causes: u32) -> LatchUndo
         ensures state { self.new ≡ after_raise self.old causes }
         ensures words { length result ≤ 1 }
@@ -137,6 +142,7 @@ impl Latches {
     }
 
     /// Steps a counter by some number; it stops at its greatest value.
+    #[inline(always)]
     pub fn count(&mut self, counter: Counter, by: u32) -> LatchUndo
         ensures state { self.new ≡ after_count self.old counter by }
         ensures words { length result ≡ width_of counter }
@@ -176,6 +182,7 @@ impl Latches {
         again
     }
 
+    #[inline(always)]
     fn word(&self, reg: Reg) -> u32
         requires { IsWord reg }
         ensures { result ≡ registers.at self.now (offset_of reg) }
@@ -226,6 +233,7 @@ impl Latches {
     }
 
     /// Stores two words, the low half of a pair and the high one.
+    #[inline(always)]
     fn replace_both(&mut self, low: Reg, high: Reg, low_value: u32, high_value: u32) -> LatchUndo
         requires low { IsWord low }
         requires high { IsWord high }
@@ -239,6 +247,7 @@ impl Latches {
     }
 
     /// Steps a pair as one number.
+    #[inline(always)]
     fn count_pair(&mut self, low: Reg, high: Reg, by: u32) -> LatchUndo
         requires low { IsWord low }
         requires high { IsWord high }
@@ -267,6 +276,7 @@ impl Reversible for Latches {
 }
 
 /// The place of the register's word, as an old word names it.
+#[inline(always)]
 fn place_of(reg: Reg) -> u8
     requires { IsWord reg }
     ensures within { result < WORDS }

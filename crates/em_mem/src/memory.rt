@@ -179,9 +179,19 @@ impl GuestMemory {
         ensures len { length result.octets ≡ length taken.octets }
         ensures reverses { Reverses self.old self.new result }
     {
-        let (addr, mut octets) = taken.into_parts();
-        self.swap(addr, octets.as_mut_slice());
-        MemUndo::new(addr, octets)
+        let mut again = taken;
+        self.exchange_in_place(&mut again);
+        again
+    }
+
+    /// The same, where the record becomes the one that makes the write again.
+    pub fn exchange_in_place(&mut self, kept: &mut MemUndo)
+        requires { Fits self.old kept.old }
+        ensures state { self.new ≡ undo self.old kept.old }
+        ensures len { length kept.new.octets ≡ length kept.old.octets }
+        ensures reverses { Reverses self.old self.new kept.new }
+    {
+        self.swap(kept.addr, kept.octets.as_mut_slice());
     }
 
     fn swap_piece(&mut self, addr: u64, swapped: &mut [u8])

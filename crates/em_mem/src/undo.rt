@@ -7,8 +7,8 @@ use std::marker::Model;
 /// Old octets of guest memory, and the address where they lay.
 #[derive(Drop)]
 pub struct MemUndo {
-    addr: u64,
-    octets: Vec<u8>,
+    pub(crate) addr: u64,
+    pub(crate) octets: Vec<u8>,
 }
 
 impl Model for MemUndo {
@@ -38,14 +38,5 @@ impl MemUndo {
         ensures most { result ≤ MOST_RECORD }
     {
         self.octets.len() as u32
-    }
-
-    /// The address and the octets.
-    pub(crate) fn into_parts(self) -> (u64, Vec<u8>)
-        ensures at { result.0 ≡ self.at }
-        ensures octets { result.1.items ≡ self.octets }
-        ensures most { vec_len result.1 ≤ MOST_RECORD }
-    {
-        (self.addr, self.octets)
     }
 }

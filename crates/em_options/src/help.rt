@@ -35,6 +35,14 @@ A line of a script, and what it does:
   line, regs, wire
                  look at the interrupt line, the registers and the sent frames
   back, back N   take the newest event back, and the newest N
+  init           starts a driver
+  send DATA, send DATA LEN
+                 gives the driver a packet to send
+  recv N         takes at most N packets from it
+  stats, mac, mac DATA
+                 read its counters and its address, and set the address
+  turns WORD ..  what falls between the accesses of its next call: rx, tx, arrive:DATA, arrive:DATA:LEN,
+                 and a dot that ends what falls before one access
 Registers, addresses and octets are hexadecimal, LEN and N decimal; a line that begins with # is a comment.
 
 For example, `printf 'w D0 4\\nlink up\\nline\\nback\\nline\\n' | em_bench` prints ok, ok, 1, ok, 0.

@@ -61,6 +61,7 @@ impl RegUndo {
 
 impl RegFile {
     /// The registers after a reset, with the Ethernet address as the first receive address.
+    #[inline(never)]
     pub fn reset(mac: [u8; 6]) -> RegFile
         ensures { result ≡ reset mac }
     {
@@ -83,6 +84,7 @@ impl RegFile {
     }
 
     /// What a read of the register gives.
+    #[inline(always)]
     pub fn look(&self, reg: Reg) -> u32
         requires { IsStored reg }
         ensures { result ≡ at self.now (offset_of reg) }
@@ -131,6 +133,7 @@ impl RegFile {
         self.replace(reg, old)
     }
 
+    #[inline(always)]
     fn word(&self, reg: Reg) -> u32
         requires { IsStored reg }
         ensures { map.get self.now (offset_of reg) ≡ Some result }
@@ -138,6 +141,7 @@ impl RegFile {
         self.words[place_of(reg)]
     }
 
+    #[inline(always)]
     fn store(&mut self, reg: Reg, value: u32)
         requires { IsStored reg }
         ensures { self.new ≡ map.insert self.old (offset_of reg) value }
@@ -146,6 +150,7 @@ impl RegFile {
     }
 
     /// Stores a word, and keeps what it was.
+    #[inline(always)]
     fn replace(&mut self, reg: Reg, value: u32) -> RegUndo
         requires { IsStored reg }
         ensures state { self.new ≡ map.insert self.old (offset_of reg) value }
@@ -173,6 +178,7 @@ impl Reversible for RegFile {
 }
 
 /// Which word of a file keeps the register.
+#[inline(always)]
 fn place_of(reg: Reg) -> usize
     requires { IsStored reg }
     ensures within { result < STORED_WORDS }

@@ -88,6 +88,7 @@ macro_rules! row {
 
 impl Reg {
     /// The register's row of the table (manual, chapter on register descriptions).
+    #[inline(always)]
     #[rattlefmt::skip]
     pub fn row(self) -> &'static Row
         ensures { result.now ≡ row_of self }
@@ -234,6 +235,7 @@ static PAGE_AT: [u8; 352] = [
 ];
 
 /// The first register of the row that has the offset, if any has.
+#[inline(always)]
 pub(crate) fn near(offset: u32) -> Reg
     requires { offset < SPACE }
     ensures { (reg : Reg) → IsReg reg → offset_of reg ≡ offset → result ≡ first reg }

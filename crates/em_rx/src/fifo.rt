@@ -1,16 +1,17 @@
 //! The FIFO: frames that lie end to end in one packet buffer.
-ghost use Rattle.std.specs.Prelude.{◌≡◌, ◌↔◌, ◌+◌, ◌<◌, ◌≤◌, IfOk, IfErr, IsTrue, OnOk, OnErr, length};
+ghost use Rattle.std.specs.Prelude.{◌≡◌, ◌↔◌, ◌+◌, ◌<◌, ◌≤◌, IfOk, IfErr, IsTrue, OnOk, OnErr, List, ℕ, length};
 ghost use Rattle.em_mem.specs.Memory as memory;
 ghost use Rattle.em_rx.specs.Frame.{stored_frame};
 ghost use Rattle.em_rx.specs.Fifo.{after_arrival, empty, first, fresh, HasRoom, IsFirst, IsSound, next, rest, shows};
 ghost use Rattle.em_rx.specs.Descriptor.{written_back as octets_of};
 ghost use Rattle.em_rx.specs.Undo.{Fits, FitsFrame, FitsStep, IsMove, Reverses, ReversesStep, octets_held, undo_fifo};
 ghost use Rattle.em_rx.specs.Undo.{is_frame, is_step, undo_memory, with_both, with_patch};
+ghost use Rattle.em_rx.specs.Ring.{ring_part};
 
 use crate::descriptor::written_back;
-use crate::frame::{stored_octets, stored_tag};
+use crate::frame::{stored_octets, tag_of};
 use crate::places::{Entry, Places};
-use crate::ring::{copied, exchange_entry, exchange_octets, wrap};
+use crate::ring::{copied, exchange_entry, exchange_octets, put_octets, wrap};
 use crate::{FramePatch, RxRefusal, RxUndo, StepPatch};
 use em_mem::{GuestMemory, MemUndo};
 use std::alloc::{AllocError, Global};
@@ -92,10 +93,30 @@ impl Fifo {
         ensures refused { IfErr result (λ refusal. refusal ≡ RxRefusal.Memory) }
         ensures same { OnErr result (self.new ≡ self.old) }
     {
-        let octets = stored_octets(self.alloc, frame, tagged)?;
-        let patch = self.arrival(octets, stored_tag(frame, tagged));
+        if tagged {
+            let octets = stored_octets(self.alloc, frame)?;
+            self.store(octets.as_slice(), Some(tag_of(frame)))
+        } else {
+            self.store(frame, None)
+        }
+    }
+
+    /// Stores the octets and the tag of a frame, which comes last.
+    fn store(&mut self, octets: &[u8], tag: Option<u16>) -> Result<RxUndo, RxRefusal>
+        requires least { 56 ≤ length octets.now }
+        requires most { length octets.now ≤ 16_384 }
+        requires room { HasRoom (shows self.old) (length octets.now) }
+        ensures ok { OnOk result (shows self.new
+            ≡ after_arrival (shows self.old) (record { octets = octets.now; tag = tag })) }
+        ensures held { IfOk result (λ r. octets_held r ≡ length octets.now) }
+        ensures frame { IfOk result (λ r. IsTrue (is_frame r)) }
+        ensures reverses { IfOk result (λ r. (m : memory.Cells) → Reverses self.old self.new m m r) }
+        ensures refused { IfErr result (λ refusal. refusal ≡ RxRefusal.Memory) }
+        ensures same { OnErr result (self.new ≡ self.old) }
+    {
+        let patch = self.arrival(octets.len(), tag)?;
         let mut patch = Box::new(self.alloc, patch)?;
-        self.exchange_frame(&mut patch);
+        self.put_frame(octets, &mut patch);
         Ok(RxUndo::Frame(patch))
     }
 
@@ -115,20 +136,24 @@ impl Fifo {
         RxUndo::Places(places)
     }
 
-    /// What puts stored octets behind the last frame.
-    fn arrival(&self, octets: Vec<u8>, tag: Option<u16>) -> FramePatch
-        requires least { 56 ≤ length octets.items }
-        requires most { length octets.items ≤ 16_384 }
-        requires room { HasRoom (shows self.now) (length octets.items) }
-        ensures arrives { FitsFrame self.now result × (shows (with_patch self.now result)
-            ≡ after_arrival (shows self.now) (record { octets = octets.items; tag = tag })) }
-        ensures octets { result.octets ≡ octets.items }
+    /// What puts so many octets behind the last frame, but that it has those which they overwrite.
+    fn arrival(&self, len: usize, tag: Option<u16>) -> Result<FramePatch, AllocError>
+        requires least { 56 ≤ len }
+        requires most { len ≤ 16_384 }
+        requires room { HasRoom (shows self.now) len }
+        ensures arrives { IfOk result (λ patch. (octets : List ℕ) → length octets ≡ len
+            → FitsFrame self.now (record patch { octets = octets })
+            × (shows (with_patch self.now (record patch { octets = octets }))
+            ≡ after_arrival (shows self.now) (record { octets = octets; tag = tag }))) }
+        ensures octets { IfOk result (λ patch. patch.octets ≡ ring_part self.now.octets patch.at len) }
+        ensures held { IfOk result (λ patch. length patch.octets ≡ len) }
     {
         let places = self.places;
-        let len = octets.len();
-        FramePatch {
+        let at = wrap(OCTETS, places.head + places.used);
+        let octets = copied(self.alloc, self.octets.as_slice(), at as usize, len)?;
+        Ok(FramePatch {
             octets,
-            at: wrap(OCTETS, places.head + places.used),
+            at,
             entry: Entry {
                 len: len as u16,
                 tag,
@@ -139,7 +164,21 @@ impl Fifo {
                 used: places.used + len as u32,
                 ..places
             },
-        }
+        })
+    }
+
+    /// Puts a frame in where a patch says, and leaves what it replaced in the patch, whose octets are
+    /// those that the frame overwrites.
+    fn put_frame(&mut self, octets: &[u8], patch: &mut FramePatch)
+        requires fits { FitsFrame self.old (record patch.old { octets = octets.now }) }
+        requires old { patch.old.octets ≡ ring_part self.old.octets patch.old.at (length octets.now) }
+        ensures state { self.new ≡ with_patch self.old (record patch.old { octets = octets.now }) }
+        ensures held { patch.new.octets ≡ patch.old.octets }
+        ensures reverses { FitsFrame self.new patch.new × (with_patch self.new patch.new ≡ self.old) }
+    {
+        put_octets(&mut self.octets, patch.at as usize, octets);
+        exchange_entry(&mut self.entries, patch.index as usize, &mut patch.entry);
+        std::mem::swap(&mut self.places, &mut patch.places);
     }
 
     /// Puts a patch in, and leaves what it replaced in the patch.
@@ -164,8 +203,8 @@ impl Fifo {
         ensures second { length patch.new.second.octets ≡ length patch.old.first.octets }
         ensures reverses { ReversesStep self.old self.new memory.old memory.new patch.new }
     {
-        exchange_memory(self.alloc, memory, &mut patch.first);
-        exchange_memory(self.alloc, memory, &mut patch.second);
+        memory.exchange_in_place(&mut patch.first);
+        memory.exchange_in_place(&mut patch.second);
         std::mem::swap(&mut patch.first, &mut patch.second);
         std::mem::swap(&mut self.places, &mut patch.places);
     }
@@ -306,16 +345,4 @@ impl Fifo {
     {
         let _again = self.exchange(memory, taken);
     }
-}
-
-/// Puts octets into guest memory, and leaves those that lay there in their place.
-fn exchange_memory(alloc: Global, guest: &mut GuestMemory, octets: &mut MemUndo)
-    requires { memory.Fits guest.old octets.old }
-    ensures state { guest.new ≡ memory.undo guest.old octets.old }
-    ensures len { length octets.new.octets ≡ length octets.old.octets }
-    ensures reverses { memory.Reverses guest.old guest.new octets.new }
-{
-    let none = MemUndo::new(0, Vec::new(alloc));
-    let taken = std::mem::replace(octets, none);
-    *octets = guest.exchange(taken);
 }

@@ -1,5 +1,5 @@
 //! A frame as the FIFO keeps it.
-ghost use Rattle.std.specs.Prelude.{◌≡◌, ◌≤◌, IfOk, length};
+ghost use Rattle.std.specs.Prelude.{◌≡◌, ◌≤◌, IfOk, Some, length, true};
 ghost use Rattle.em_rx.specs.Frame.{stored_frame};
 
 use std::alloc::{AllocError, Global};
@@ -13,31 +13,21 @@ const TAG_AT: usize = 14;
 /// Where the frame goes on behind them.
 const TAG_END: usize = 16;
 
-/// The octets of a frame as they are stored.
-pub(crate) fn stored_octets(
-    alloc: Global,
-    frame: &[u8],
-    tagged: bool,
-) -> Result<Vec<u8>, AllocError>
+/// The octets of a tagged frame as they are stored.
+pub(crate) fn stored_octets(alloc: Global, frame: &[u8]) -> Result<Vec<u8>, AllocError>
     requires { 60 ≤ length frame.now }
-    ensures { IfOk result (λ octets. octets.items ≡ (stored_frame frame.now tagged).octets) }
+    ensures { IfOk result (λ octets. octets.items ≡ (stored_frame frame.now true).octets) }
 {
-    if !tagged {
-        return Vec::from_slice(alloc, frame);
-    }
     let mut octets = Vec::with_capacity(alloc, frame.len() - (TAG_END - TYPE_AT))?;
     octets.extend_from_slice(&frame[..TYPE_AT])?;
     octets.extend_from_slice(&frame[TAG_END..])?;
     Ok(octets)
 }
 
-/// The tag of a frame as it is stored: its higher octet comes first.
-pub(crate) fn stored_tag(frame: &[u8], tagged: bool) -> Option<u16>
+/// The tag of a tagged frame: its higher octet comes first.
+pub(crate) fn tag_of(frame: &[u8]) -> u16
     requires { 60 ≤ length frame.now }
-    ensures { result ≡ (stored_frame frame.now tagged).tag }
+    ensures { (stored_frame frame.now true).tag ≡ Some result }
 {
-    if !tagged {
-        return None;
-    }
-    Some(256 * frame[TAG_AT] as u16 + frame[TAG_AT + 1] as u16)
+    256 * frame[TAG_AT] as u16 + frame[TAG_AT + 1] as u16
 }

@@ -80,6 +80,10 @@ fn fetch(memory: &GuestMemory, setup: &RxSetup) -> Result<(u64, u64), RxRefusal>
     if !memory.holds(at, DESCRIPTOR_OCTETS as u64) {
         return Err(RxRefusal::DmaRange);
     }
+    if let Some(octets) = memory.slice(at, DESCRIPTOR_OCTETS) {
+        return Ok((at, RxDescriptor::read(octets).address()));
+    }
+    // it lies over the end of a page
     let mut octets = [0; DESCRIPTOR_OCTETS];
     memory.read_into(at, octets.as_mut_slice());
     Ok((at, RxDescriptor::read(octets.as_slice()).address()))

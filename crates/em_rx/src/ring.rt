@@ -43,6 +43,49 @@ pub(crate) fn exchange_octets(ring: &mut Vec<u8>, at: usize, octets: &mut Vec<u8
     exchange(ring.as_mut_slice(), at, octets.as_mut_slice());
 }
 
+/// Writes the octets over those that lie in the ring from `at` on.
+pub(crate) fn put_octets(ring: &mut Vec<u8>, at: usize, octets: &[u8])
+    requires at { at ≤ length ring.old.items }
+    requires size { length octets.now ≤ length ring.old.items }
+    ensures ring { ring.new.items ≡ ring_put ring.old.items at octets.now }
+{
+    put(ring.as_mut_slice(), at, octets);
+}
+
+/// Writes the octets over those that lie in the ring from `at` on.
+fn put(ring: &mut [u8], at: usize, octets: &[u8])
+    requires at { at ≤ length ring.old }
+    requires size { length octets.now ≤ length ring.old }
+    ensures ring { ring.new ≡ ring_put ring.old at octets.now }
+{
+    let (low, high) = ring.split_at_mut(at);
+    put_over(high, low, octets);
+}
+
+/// The same where the ring's two parts are given, the one that comes first before the other.
+fn put_over(first: &mut [u8], second: &mut [u8], octets: &[u8])
+    requires size { length octets.now ≤ length first.old + length second.old }
+    ensures parts { first.new ++ second.new ≡ octets.now ++ drop (length octets.now) (first.old ++ second.old) }
+    ensures first { length first.new ≡ length first.old }
+{
+    let size = first.len();
+    if octets.len() <= size {
+        put_front(first, octets);
+    } else {
+        let (before, after) = octets.split_at(size);
+        first.copy_from_slice(before);
+        put_front(second, after);
+    }
+}
+
+/// Writes the octets over those at the front of the slice.
+fn put_front(slice: &mut [u8], octets: &[u8])
+    requires size { length octets.now ≤ length slice.old }
+    ensures slice { slice.new ≡ octets.now ++ drop (length octets.now) slice.old }
+{
+    slice[..octets.len()].copy_from_slice(octets);
+}
+
 /// Exchanges the entry with the one that lies at its place in the ring.
 pub(crate) fn exchange_entry(ring: &mut Vec<Entry>, index: usize, entry: &mut Entry)
     requires { index < length ring.old.items }

@@ -19,9 +19,15 @@ use Rattle.em_journal.proofs.BackLaws.{run_back, no_more_back, past_left}
 use Rattle.em_journal.proofs.HistoryLaws.{run_join, item_is}
 use Rattle.em_script.specs.Session.{Session}
 use Rattle.em_script.specs.Command.{Command, event, peek, back, back_by}
-use Rattle.em_script.specs.ParsedLine.{ParsedLine, says}
+use Rattle.em_script.specs.ParsedLine.{ParsedLine, says, asks, plans}
+use Rattle.em_script.specs.Lack.{Lack, before, within, named_of}
+use Rattle.em_script.specs.Request.{Request}
+use Rattle.em_script.specs.Calling.{has_driver, course_of, world_at, done_by, after_call, after_asked, made_calls}
+use Rattle.em_script.specs.Calling.{asked_calls, MayLack}
+use Rattle.em_driver.specs.declared.turn.Turn.{Turn}
+use Rattle.em_driver.proofs.CallLaws.{play_runs}
 use Rattle.em_script.specs.Reply.{step_call, back_call, call_reply, done_reply, refusal_reply, calls_of, reply}
-use Rattle.em_script.specs.Reply.{line_calls, after_line, IsAllowed, IsAllowedTo}
+use Rattle.em_script.specs.Reply.{line_calls, after_line, after_plan, IsAllowed, IsAllowedTo}
 use Rattle.em_script.specs.PlayedLine.{PlayedLine, AreAllowed, played_calls, after_played, calls, after_all}
 use Rattle.em_script.specs.Grammar.{parsed_line}
 use Rattle.em_script.specs.Runner.{IsFold}
@@ -67,12 +73,13 @@ look_leaves : (b : Bool) (machine : View) (text other : List ℕ)
 look_leaves true machine text other = refl
 look_leaves false machine text other = refl
 
-command_runs : (memory : Option ℕ) (command : Command) (machine : View) → IsAllowedTo memory command machine
+command_runs : (memory : Option Lack) (command : Command) (machine : View) → IsAllowedTo memory command machine
     → Run machine (calls_of memory command machine) (reply memory command machine).machine
 command_runs None (event e) machine allowed =
     run_one machine _ (step_call e (step machine.present e)) (step_does e machine (step machine.present e) refl)
-command_runs (Some n) (event e) machine allowed =
-    run_one machine machine (refuses e Memory) (inl (refl, allowed.1, allowed.2), refl)
+command_runs (Some before) (event e) machine allowed =
+    run_one machine machine (refuses e Memory) (inl (refl, allowed.0, allowed.1), refl)
+command_runs (Some (within did calls)) (event e) machine allowed = absurd allowed
 command_runs memory back machine allowed =
     run_one machine _ (back_call machine.past) (back_does machine machine.past refl)
 command_runs memory (back_by most) machine allowed = backs_run most machine
@@ -80,9 +87,33 @@ command_runs memory (peek addr n) machine allowed =
     look_leaves (nat_lt (length machine.present.memory) (addr + n)) machine _ _
 command_runs memory _ machine allowed = refl
 
-line_runs : (memory : Option ℕ) (parsed : ParsedLine) (session : Session) → IsAllowed memory parsed session
+-- what is asked of a driver
+call_runs : (memory : Option Lack) (request : Request) (session : Session) → MayLack memory request session
+    → Run session.machine (made_calls memory request session)
+    (after_call (done_by (named_of memory) request session)).machine
+call_runs None request session allowed =
+    play_runs (course_of request (world_at session)) (world_at session)
+call_runs (Some before) request session allowed = absurd allowed
+call_runs (Some (within did calls)) request session allowed = allowed.2
+
+request_runs : (memory : Option Lack) (request : Request) (session : Session) (stands : Bool)
+    → has_driver request session ≡ stands → MayLack memory request session
+    → Run session.machine (asked_calls memory request session) (after_asked (named_of memory) request session).machine
+request_runs memory request session true is allowed = rw is (call_runs memory request session allowed)
+request_runs memory request session false is allowed = rw is refl
+
+-- a plan is set, or not
+plan_runs : (memory : Option Lack) (plan : List (List Turn)) (session : Session)
+    → Run session.machine [] (after_plan memory plan session).machine
+plan_runs None plan session = refl
+plan_runs (Some lack) plan session = refl
+
+line_runs : (memory : Option Lack) (parsed : ParsedLine) (session : Session) → IsAllowed memory parsed session
     → Run session.machine (line_calls memory parsed session) (after_line memory parsed session).machine
 line_runs memory (says command) session allowed = command_runs memory command session.machine allowed
+line_runs memory (asks request) session allowed =
+    request_runs memory request session (has_driver request session) refl allowed
+line_runs memory (plans plan) session allowed = plan_runs memory plan session
 line_runs memory _ session allowed = refl
 
 -- ---- what the calls of a script's lines do

@@ -1,5 +1,7 @@
 -- What a line asks of a driver tells of memory.
-use Rattle.std.proofs.Common.{ℕ, nat_le, Bool, true, false, cond, [], ◌∷◌, length, Some, ap}
+use Rattle.std.proofs.Common.{◌≡◌, ℕ, ◌≤◌, nat_le, Bool, true, false, cond, List, [], length, Option, Some, None, ap}
+use Rattle.std.proofs.Common.{refl}
+use Rattle.std.proofs.Common.{inl, inr, arith}
 use Rattle.std.specs.Prelude.{unwrap_or}
 use Rattle.em_driver.specs.World.{World}
 use Rattle.em_driver.specs.Course.{done, Follows}
@@ -10,7 +12,12 @@ use Rattle.em_driver.specs.Start.{start as start_of}
 use Rattle.em_driver.specs.Receive.{rx_batch}
 use Rattle.em_driver.specs.Transmit.{tx_batch}
 use Rattle.em_driver.specs.Calls.{read_stats, get_mac_addr, set_mac_addr}
-use Rattle.em_driver.proofs.AnsweringLaws.{answering_tells}
+use Rattle.em_driver.specs.Receive.{Answered}
+use Rattle.em_driver.specs.Layout.{IsCount, IsGoodLayout}
+use Rattle.em_driver.specs.declared.outcome.Cause.{Cause}
+use Rattle.std.proofs.lemmas.Bool.{cases_lt, le-leb, lt-leb}
+use Rattle.em_driver.specs.declared.stats.DeviceStats.{DeviceStats}
+use Rattle.em_driver.proofs.AnsweringLaws.{answering_tells, answering_follows}
 use Rattle.em_driver.proofs.HappenedLaws.{call_happens, unplanned_fed}
 use Rattle.em_driver.proofs.TellsLaws.{start_tells, rx_batch_tells, tx_batch_tells, get_mac_addr_tells}
 use Rattle.em_driver.proofs.TellsLaws.{set_mac_addr_tells, read_stats_tells}
@@ -35,9 +42,9 @@ init_tells false = tells_done (response.start (Some cause.Layout))
 
 pub request_tells : (request : Request) (w : World) → Tells says_memory (course_of request w)
 request_tells starts w = init_tells (nat_le 0x9000 (length w.machine.present.memory))
-request_tells (sends packet) w =
-    answering_tells (λ answer. response.batch [] answer.1) says_memory (tx_batch init_layout 0 (packet ∷ []))
-    (tx_batch_tells init_layout 0 (packet ∷ []))
+request_tells (sends packets) w =
+    answering_tells (λ answer. response.batch [] answer.1) says_memory (tx_batch init_layout 0 packets)
+    (tx_batch_tells init_layout 0 packets)
 request_tells (receives most) w =
     answering_tells (λ answer. response.batch answer.0 answer.1) says_memory (rx_batch init_layout 0 most [])
     (rx_batch_tells init_layout 0 most [])
@@ -67,3 +74,106 @@ named_says named request session can =
     (λ none. unplanned_fed (course_of request w) w named.world named.events named.answer can.0
     (ap (λ plan. unwrap_or plan []) none))
     can.1
+
+-- ---- calls whose answers are put as responses
+
+-- nothing was counted
+pub is_no_stats : (s : DeviceStats) → s.rx_pkts ≡ 0 → s.tx_pkts ≡ 0 → s.rx_bytes ≡ 0 → s.tx_bytes ≡ 0 → s ≡ no_stats
+is_no_stats s a b c d = four s.rx_pkts s.tx_pkts s.rx_bytes s.tx_bytes a b c d
+  where
+    four : (rx tx received sent : ℕ) → rx ≡ 0 → tx ≡ 0 → received ≡ 0 → sent ≡ 0
+        → record { rx_pkts = rx; tx_pkts = tx; rx_bytes = received; tx_bytes = sent } ≡ no_stats
+    four rx tx received sent a b c d = rw (a, b, c, d) refl
+
+pub counted : (w v : World) (now : DeviceStats) → Follows w (read_stats no_stats) 6 now v
+    → Follows w (course_of stats w) 6 (response.stats now) v
+counted w v now follows = answering_follows (λ answer. response.stats answer) (read_stats no_stats) w v 6 now follows
+
+pub received : (w v : World) (most events : ℕ) (answer : Answered) → Follows w (rx_batch init_layout 0 most []) events
+    answer v
+    → Follows w (course_of (receives most) w) events (response.batch answer.0 answer.1) v
+received w v most events answer follows =
+    answering_follows (λ (a : Answered). response.batch a.0 a.1) (rx_batch init_layout 0 most []) w v events answer
+    follows
+
+pub sent : (w v : World) (packets : List (List ℕ)) (events : ℕ) (answer : Answered)
+    → Follows w (tx_batch init_layout 0 packets) events answer v
+    → Follows w (course_of (sends packets) w) events (response.batch [] answer.1) v
+sent w v packets events answer follows =
+    answering_follows (λ (a : Answered). response.batch [] a.1) (tx_batch init_layout 0 packets) w v events answer
+    follows
+
+pub told_address : (w v : World) (octets : List ℕ) → Follows w get_mac_addr 2 octets v
+    → Follows w (course_of address w) 2 (response.address octets) v
+told_address w v octets follows =
+    answering_follows (λ answer. response.address answer) get_mac_addr w v 2 octets follows
+
+pub set_address : (w v : World) (octets : List ℕ) → Follows w (set_mac_addr octets) 2 tt v
+    → Follows w (course_of (sets_address octets) w) 2 response.set v
+set_address w v octets follows = answering_follows (λ answer. response.set) (set_mac_addr octets) w v 2 tt follows
+
+-- ---- a start
+
+-- the memory in which the layout of a line is good
+good_size : (size : ℕ) → 0x9000 ≤ size → IsGoodLayout size init_layout
+good_size size le =
+    let eight : IsCount 8 = record { eights = refl; least = omega arith; most = omega arith } in
+    record {
+      rx_count = eight;
+      tx_count = eight;
+      rx_ring = refl;
+      tx_ring = refl;
+      inside = record {
+        rx_ring = omega arith;
+        rx_buffers = omega arith;
+        tx_ring = omega arith;
+        tx_buffers = omega arith;
+      };
+      disjoint = record {
+        receive = inl (omega arith);
+        transmit = inl (omega arith);
+        rings = inl (omega arith);
+        buffers = inl (omega arith);
+        rx_ring = inl (omega arith);
+        tx_ring = inl (omega arith);
+      };
+    }
+
+good_layout : (size : ℕ) → IsGoodLayout size init_layout → 0x9000 ≤ size
+good_layout size good = omega (arith, good.inside.tx_buffers)
+
+-- a start on a memory that is large enough
+on_good : (w v : World) (events : ℕ) (answer : Option Cause) → 0x9000 ≤ length w.machine.present.memory
+    → Follows w (start_of init_layout) events answer v → Follows w (course_of starts w) events (response.start answer) v
+on_good w v events answer le follows =
+    rw (le-leb 0x9000 (length w.machine.present.memory) le)
+    (answering_follows (λ a. response.start a) (start_of init_layout) w v events answer follows)
+
+-- a driver was started
+pub started : (w v : World) (events : ℕ) → IsGoodLayout (length w.machine.present.memory) init_layout
+    → Follows w (start_of init_layout) events None v → Follows w (course_of starts w) events (response.start None) v
+started w v events good follows = on_good w v events None (good_layout _ good) follows
+
+-- nothing was done
+nothing : (w v : World) (events : ℕ) (answer answered : Response) → answered ≡ answer → events ≡ 0 → v ≡ w
+    → Follows w (done answer) events answered v
+unfolding Follows
+nothing w v events answer answered same none left = record { events_are = none; answer_is = same; world_is = left }
+
+-- a start stopped, or found too little memory for the layout
+pub not_started : (w v : World) (events : ℕ) (why : Cause)
+    → ((IsGoodLayout (length w.machine.present.memory) init_layout → ⊥)
+    → (why ≡ cause.Layout) × (events ≡ 0) × (v ≡ w))
+    → (IsGoodLayout (length w.machine.present.memory) init_layout
+    → Follows w (start_of init_layout) events (Some why) v)
+    → Follows w (course_of starts w) events (response.start (Some why)) v
+not_started w v events why untouched stopped =
+    let size = length w.machine.present.memory in
+    elim (cases_lt size 0x9000) [
+      | inl small ↦
+          let left = untouched (λ good. omega (arith, good_layout size good, small)) in
+          rw (lt-leb 0x9000 size small)
+          (nothing w v events (response.start (Some cause.Layout)) (response.start (Some why))
+          (ap (λ c. response.start (Some c)) left.0) left.1 left.2)
+      | inr le ↦ on_good w v events (Some why) le (stopped (good_size size le))
+    ]

@@ -55,3 +55,8 @@ is_lengthened word n some most few = by_octets word n most few (octets_of word) 
     by_octets word n most few (Some octets) e some =
         let le : length octets ≤ n = omega (arith, octets_of-length word octets e) in
         rw (lengthened-good n octets most le) refl
+
+-- what is made of an option is there only where the option is
+pub some_before : {A B : Type 0} (f : A → Option B) (o : Option A) → IsSome (option_and_then f o) → IsSome o
+some_before f None some = cc some
+some_before f (Some a) some = refl

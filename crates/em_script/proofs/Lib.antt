@@ -1,3 +1,6 @@
+pub mod PrintLemmas
+pub mod PlanLemmas
+pub mod SeatLemmas
 pub mod ReplyLemmas
 pub mod RunLemmas
 pub mod MemoryLemmas

@@ -1,7 +1,8 @@
 -- Scripts to which memory was refused nowhere.
-use Rattle.std.proofs.Common.{◌≡◌, ◌⊎◌, inl, inr, ℕ, ◌+◌, false, List, [], ◌∷◌, ◌++◌, map, Option, Some, None}
+use Rattle.std.proofs.Common.{◌≡◌, ◌⊎◌, inl, inr, ℕ, ◌+◌, Bool, true, false, List, [], ◌∷◌, ◌++◌, map, Option, Some}
+use Rattle.std.proofs.Common.{None}
 use Rattle.std.proofs.Common.{refl, sym, ap, ap₂, ◌∙◌, subst, append_assoc}
-use Rattle.std.specs.Prelude.{codes}
+use Rattle.std.specs.Prelude.{codes, IsTrue}
 use Rattle.std.specs.Io.KnownBytes.{Appends}
 use Rattle.std.specs.List.{AllByRecursion}
 use Rattle.std.proofs.lemmas.Bool.{false≢true}
@@ -9,7 +10,14 @@ use Rattle.std.proofs.lemmas.List.{append_cancel_left}
 use Rattle.em_text.specs.Lines.{lines_of}
 use Rattle.em_script.specs.Session.{Session}
 use Rattle.em_script.specs.Command.{event}
-use Rattle.em_script.specs.ParsedLine.{ParsedLine, says}
+use Rattle.em_script.specs.ParsedLine.{ParsedLine, says, asks, plans}
+use Rattle.em_driver.specs.Play.{Played}
+use Rattle.em_script.specs.Response.{Response}
+use Rattle.em_script.specs.Request.{Request}
+use Rattle.em_script.specs.Lack.{Lack, before, within}
+use Rattle.em_script.specs.Calling.{has_driver, asked_text, CanBeDone}
+use Rattle.em_script.proofs.ResponseLemmas.{says_before, says_behind}
+use Rattle.em_script.proofs.CallingLemmas.{named_says}
 use Rattle.em_script.specs.Grammar.{parsed_line}
 use Rattle.em_script.specs.Reply.{line_text, line_takes_memory, IsAllowed as IsLineAllowed}
 use Rattle.em_script.specs.PlayedLine.{PlayedLine, played_text, after_played, AreAllowed, text_from, ArePlayed}
@@ -22,11 +30,13 @@ HadMemory all = AllByRecursion (λ (played : PlayedLine). played.refused ≡ Non
 
 -- ---- where no line takes memory
 
-not_refused : (memory : Option ℕ) (parsed : ParsedLine) (session : Session) → IsLineAllowed memory parsed session
+not_refused : (memory : Option Lack) (parsed : ParsedLine) (session : Session) → IsLineAllowed memory parsed session
     → line_takes_memory parsed ≡ false → memory ≡ None
 not_refused None parsed session allowed none = refl
-not_refused (Some n) (says (event e)) session allowed none = absurd (false≢true (sym none ∙ allowed.1))
-not_refused (Some n) _ session allowed none = absurd allowed
+not_refused (Some before) (says (event e)) session allowed none = absurd (false≢true (sym none ∙ allowed.0))
+not_refused (Some lack) (asks request) session allowed none = absurd (false≢true (sym none))
+not_refused (Some lack) (plans plan) session allowed none = absurd (false≢true (sym none))
+not_refused (Some lack) _ session allowed none = absurd allowed
 
 took_none : (all : List PlayedLine) (session : Session) → AreAllowed all session
     → AllByRecursion (λ line. line_takes_memory (parsed_line line) ≡ false)
@@ -40,21 +50,26 @@ took_none (x ∷ xs) session allowed none = (
 
 -- ---- where no line that is written ends in ` Memory`
 
--- a line to which memory was refused says so
-refused_says : (number : ℕ) (memory : Option ℕ) (parsed : ParsedLine) (session : Session)
-    → IsLineAllowed memory parsed session
-    → (memory ≡ None) ⊎ (line_text number memory parsed session ≡ codes "refused" ++ codes " Memory\n")
-refused_says number None parsed session allowed = inl refl
-refused_says number (Some n) (says (event e)) session allowed = inr refl
-refused_says number (Some n) _ session allowed = absurd allowed
+-- a call to which memory was refused says so
+asked_says : (did : Played Response) (request : Request) (session : Session) (stands : Bool)
+    → has_driver request session ≡ stands → IsTrue stands → CanBeDone (Some did) request session
+    → SaysMemory (asked_text (Some did) request session)
+asked_says did request session true is stands can = rw is (named_says did request session can)
+asked_says did request session false is stands can = absurd (false≢true stands)
 
--- more text before it
-SaysMemory-behind : (front behind : List ℕ) → SaysMemory behind → SaysMemory (front ++ behind)
-SaysMemory-behind front behind h =
-    let word = codes " Memory\n" in
-    let whole = ap (λ l. front ++ l) h.2 ∙ sym (append_assoc front (h.0 ++ word) h.1)
-    ∙ ap (λ l. l ++ h.1) (sym (append_assoc front h.0 word)) in
-    (front ++ h.0, h.1, whole)
+refusal_says : SaysMemory (codes "refused Memory\n")
+refusal_says = (codes "refused", [], refl)
+
+-- a line to which memory was refused says so
+refused_says : (number : ℕ) (memory : Option Lack) (parsed : ParsedLine) (session : Session)
+    → IsLineAllowed memory parsed session
+    → (memory ≡ None) ⊎ SaysMemory (line_text number memory parsed session)
+refused_says number None parsed session allowed = inl refl
+refused_says number (Some before) (says (event e)) session allowed = inr refusal_says
+refused_says number (Some (within did calls)) (asks request) session allowed =
+    inr (asked_says did request session (has_driver request session) refl allowed.0 allowed.1)
+refused_says number (Some before) (plans plan) session allowed = inr refusal_says
+refused_says number (Some lack) _ session allowed = absurd allowed
 
 said_none : (number : ℕ) (all : List PlayedLine) (session : Session) → AreAllowed all session
     → (SaysMemory (text_from number all session) → ⊥) → HadMemory all
@@ -64,8 +79,8 @@ said_none number (x ∷ xs) session allowed none =
     let own = played_text number x session in
     let rest = text_from (number + 1) xs after in
     elim (refused_says number x.refused (parsed_line x.line) session allowed.0) [
-      | inl had ↦ (had, said_none (number + 1) xs after allowed.1 (λ h. none (SaysMemory-behind own rest h)))
-      | inr is ↦ absurd (none (codes "refused", rest, ap (λ l. l ++ rest) is))
+      | inl had ↦ (had, said_none (number + 1) xs after allowed.1 (λ h. none (says_behind own rest h)))
+      | inr told ↦ absurd (none (says_before own rest told))
     ]
 
 -- ---- the script's own text
@@ -74,7 +89,7 @@ had_memory : (all : List PlayedLine) → HadMemory all
     → all ≡ with_memory (map (λ (played : PlayedLine). played.line) all)
 had_memory [] h = refl
 had_memory (x ∷ xs) h =
-    let make : Option ℕ → PlayedLine = λ r. record { line = x.line; refused = r } in
+    let make : Option Lack → PlayedLine = λ r. record { line = x.line; refused = r } in
     ap₂ (λ (p : PlayedLine) ps. p ∷ ps) (ap make h.0) (had_memory xs h.1)
 
 own_text : {all : List PlayedLine} {first : Session} (script : List ℕ) → ArePlayed all (lines_of script) first

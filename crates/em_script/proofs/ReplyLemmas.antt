@@ -1,6 +1,8 @@
 -- What single commands do.
-use Rattle.std.proofs.Common.{◌≡◌, ℕ, ◌<◌, List, [], ◌∷◌, length, Option, Some, None, Result, refl, sym, ap, ◌∙◌}
+use Rattle.std.proofs.Common.{◌≡◌, ℕ, ◌<◌, Bool, true, false, ◌++◌, List, [], ◌∷◌, length, Option, Some, None, Result}
+use Rattle.std.proofs.Common.{refl, sym, ap, ◌∙◌}
 use Rattle.std.proofs.Common.{subst, inl, inr, arith}
+use Rattle.std.proofs.lemmas.Bool.{false≢true}
 use Rattle.em_step.specs.State.{State}
 use Rattle.em_step.specs.Event.{Event}
 use Rattle.em_step.specs.Step.{step}
@@ -13,9 +15,27 @@ use Rattle.em_text.specs.declared.writer.WriteFailed.{WriteFailed}
 use Rattle.em_script.specs.declared.outcome.Outcome.{Outcome}
 use Rattle.em_script.specs.declared.outcome.Outcome.TheVariants as outcome
 use Rattle.em_script.specs.Command.{Command, event}
-use Rattle.em_script.specs.ParsedLine.{says}
+use Rattle.em_step.specs.declared.refusal.Refusal.TheVariants.{Memory}
+use Rattle.em_driver.specs.declared.turn.Turn.{Turn}
+use Rattle.em_script.specs.ParsedLine.{says, asks, plan_line}
+use Rattle.em_script.specs.Request.{Request, plain_call}
+use Rattle.em_script.specs.declared.call.Call.{Call as Asked}
+use Rattle.em_script.specs.declared.call.Call.TheVariants as asked
+use Rattle.em_script.specs.Response.{Response, called_text, call_text, counts_text, plan_text, response_text}
+use Rattle.em_script.specs.Response.{response_outcome, plain as plain_response}
+use Rattle.em_script.specs.Calling.{has_driver, IsCalled, CanBeDone, done_by, did_of, after_call, plan_counts}
+use Rattle.em_script.specs.Calling.{world_at, course_of}
+use Rattle.em_journal.specs.History.{Run}
+use Rattle.em_driver.specs.Play.{Played}
+use Rattle.em_driver.specs.World.{World}
+use Rattle.em_driver.proofs.CallLaws.{follows_run}
+use Rattle.em_script.proofs.CallingLemmas.{request_happens}
+use Rattle.em_script.specs.DriverText.{no_driver_text}
+use Rattle.em_script.specs.declared.called.Called.{Called}
+use Rattle.std.specs.Prelude.{IsSome, IsTrue}
 use Rattle.em_script.specs.Session.{Session}
-use Rattle.em_script.specs.Output.{Prints, answer_text, refusal_text}
+use Rattle.em_script.specs.Lack.{before, within}
+use Rattle.em_script.specs.Output.{Prints, answer_text, refusal_text, done_text}
 use Rattle.em_script.specs.Reply.{step_call, event_call, back_call, call_reply, Gives, Obeys, Performs}
 
 -- ---- what prints one call's reply prints that of the same call
@@ -52,8 +72,8 @@ pub event_refused : {e : Event} {first now : View} {old new : Option (List ℕ)}
 event_refused {e = e} {first = first} refusal did prints =
     elim did.0 [
       | inl lack ↦ record {
-        memory = Some 0;
-        allowed = (refl, lack.1, lack.2);
+        memory = Some before;
+        allowed = (lack.1, lack.2);
         gives = record { prints = rw lack.0 at prints; machine = did.1 };
       }
       | inr is ↦ by_step (gives_of first (sym (ap (step_call e) is)) record { prints = prints; machine = did.1 })
@@ -89,3 +109,98 @@ obeyed number first m obeys = record {
   prints = obeys.gives.prints;
   session = ap (λ machine. record first { machine = machine }) obeys.gives.machine;
 }
+
+-- ---- plans
+
+-- a plan was set
+pub plan_set : {first now : Session} {old new : Option (List ℕ)} {result : Result Outcome WriteFailed} (number : ℕ)
+    (said : Option (List (List Turn))) (plan : List (List Turn)) → said ≡ Some plan
+    → now ≡ record first { plan = Some plan } → Prints done_text outcome.Done old new result
+    → Performs number (plan_line said) first now old new result
+plan_set number None plan is after prints = cc is
+plan_set {first = first} number (Some said) plan is after prints = record {
+  memory = None;
+  allowed = tt;
+  prints = prints;
+  session = after ∙ sym (ap (λ (p : Option (List (List Turn))). record first { plan = p }) is);
+}
+
+-- a plan found no memory
+pub plan_lacks : {first now : Session} {old new : Option (List ℕ)} {result : Result Outcome WriteFailed} (number : ℕ)
+    (said : Option (List (List Turn))) → IsSome said → now ≡ first
+    → Prints (refusal_text Memory) outcome.Refused old new result
+    → Performs number (plan_line said) first now old new result
+plan_lacks number None some same prints = cc some
+plan_lacks number (Some said) some same prints =
+    record { memory = Some before; allowed = tt; prints = prints; session = same }
+
+-- ---- calls of a driver
+
+-- the counts of the plan's turns are told as the world has them
+told : (plan : Option (List (List Turn))) (called : Called) (w : World) → called.plan ≡ plan_counts plan w
+    → called_text called ≡ call_text plan (did_of called w)
+told plan called w is =
+    ap (λ line. response_text called.events (plain_response called.response) ++ line)
+    (ap counts_text is ∙ by_plan plan w)
+  where
+    by_plan : (plan : Option (List (List Turn))) (w : World) → counts_text (plan_counts plan w) ≡ plan_text plan w
+    by_plan None w = refl
+    by_plan (Some plan) w = refl
+
+-- a call that did so was made, with memory or named
+by_named : {first now : Session} {old new : Option (List ℕ)} {result : Result Outcome WriteFailed} (number : ℕ)
+    (request : Request) (did : Played Response) (stand : Bool) → has_driver request first ≡ stand → IsTrue stand
+    → (calls : List Call) → Run first.machine calls did.world.machine
+    → (named : Option (Played Response)) → CanBeDone named request first → did ≡ done_by named request first
+    → now ≡ after_call did
+    → Prints (call_text first.plan did) (response_outcome did.answer) old new result
+    → Performs number (asks request) first now old new result
+by_named number request did false is stands calls run named can same after prints = absurd (false≢true stands)
+by_named {first = first} number request did true is stands calls run None can same after prints = record {
+  memory = None;
+  allowed = tt;
+  prints = rw is (rw same at prints);
+  session = rw is (after ∙ ap after_call same);
+}
+by_named {first = first} number request did true is stands calls run (Some named) can same after prints = record {
+  memory = Some (within named calls);
+  allowed = (rw is stands, can, rw same at run);
+  prints = rw is (rw same at prints);
+  session = rw is (after ∙ ap after_call same);
+}
+
+-- what a call printed and left
+pub call_made : {first now : Session} {old new : Option (List ℕ)} {result : Result Outcome WriteFailed} (number : ℕ)
+    (request : Request) (called : Called) → IsTrue (has_driver request first) → IsCalled request first now called
+    → Prints (called_text called) (response_outcome (plain_response called.response)) old new result
+    → Performs number (asks request) first now old new result
+call_made {first = first} {now = now} {old = old} {new = new} {result = result} number request called stands made
+    prints =
+    let w = world_at first in
+    let course = course_of request w in
+    let did = did_of called made.world in
+    let happens = request_happens request w made.world called.events (plain_response called.response) made.follows in
+    let runs = follows_run course w made.world called.events (plain_response called.response) made.follows in
+    let text : called_text called ≡ call_text first.plan did = told first.plan called made.world made.plan in
+    by_named number request did (has_driver request first) refl stands runs.calls runs.is happens.named happens.can
+    happens.is made.session (rw text at prints)
+
+-- without a driver
+pub no_call : {first now : Session} {old new : Option (List ℕ)} {result : Result Outcome WriteFailed} (number : ℕ)
+    (request : Request) → has_driver request first ≡ false → now ≡ first
+    → Prints no_driver_text outcome.Refused old new result
+    → Performs number (asks request) first now old new result
+no_call {first = first} number request none same prints = record {
+  memory = None;
+  allowed = tt;
+  prints = rw none prints;
+  session = rw none same;
+}
+
+-- a call needs a driver that stands
+pub has_driver_call : (call : Asked) (session : Session) → has_driver (plain_call call) session ≡ session.started
+has_driver_call (asked.Send packets) session = refl
+has_driver_call (asked.Receive most) session = refl
+has_driver_call asked.Stats session = refl
+has_driver_call asked.Address session = refl
+has_driver_call (asked.SetAddress octets) session = refl

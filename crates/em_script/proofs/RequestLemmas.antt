@@ -1,10 +1,12 @@
 -- The octets of an Ethernet address, by what DATA is.
 use Rattle.std.proofs.Common.{◌≡◌, ◌*◌, ℕ, List, length, Option, Some, None, refl, ap, ◌∙◌, arith}
-use Rattle.std.specs.Prelude.{option_and_then, IsSome}
+use Rattle.std.specs.Prelude.{option_and_then, IsSome, IsTrue}
+use Rattle.std.specs.Option.{option_map}
 use Rattle.std.proofs.lemmas.Bool.Decides.{nat_tests}
 use Rattle.em_text.specs.Numbers.{octets_of}
 use Rattle.em_text.proofs.NumbersLemmas.{octets_of-length}
-use Rattle.em_script.specs.Request.{address_of}
+use Rattle.em_script.specs.Request.{address_of, sets_address}
+use Rattle.em_script.specs.ParsedLine.{brings_octets, request_line}
 
 six : (octets : List ℕ) → length octets ≡ 6 → address_of octets ≡ Some octets
 six octets e = grind (arith, nat_tests)
@@ -30,11 +32,12 @@ pub is_address : (word octets : List ℕ) → octets_of word ≡ Some octets →
     → option_and_then address_of (octets_of word) ≡ Some octets
 is_address word octets e long = ap (option_and_then address_of) e ∙ six octets (octets_are_six word octets e long)
 
+-- an address brings its octets
 pub some_address : (word : List ℕ) → IsSome (octets_of word) → length word ≡ 12
-    → IsSome (option_and_then address_of (octets_of word))
+    → IsTrue (brings_octets (request_line (option_map sets_address (option_and_then address_of (octets_of word)))))
 some_address word some long = by_octets word long (octets_of word) refl some
   where
     by_octets : (word : List ℕ) → length word ≡ 12 → (o : Option (List ℕ)) → octets_of word ≡ o → IsSome o
-        → IsSome (option_and_then address_of o)
+        → IsTrue (brings_octets (request_line (option_map sets_address (option_and_then address_of o))))
     by_octets word long None e some = cc some
     by_octets word long (Some octets) e some = rw (six octets (octets_are_six word octets e long)) refl

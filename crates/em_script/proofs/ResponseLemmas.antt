@@ -18,7 +18,7 @@ use Rattle.em_script.specs.Response.{plan_text, call_text}
 -- ---- texts that say it
 
 -- more text behind it
-says_before : (front behind : List ℕ) → SaysMemory front → SaysMemory (front ++ behind)
+pub says_before : (front behind : List ℕ) → SaysMemory front → SaysMemory (front ++ behind)
 says_before front behind h =
     let word = codes " Memory\n" in (
       h.0,
@@ -27,7 +27,7 @@ says_before front behind h =
     )
 
 -- more text before it
-says_behind : (front behind : List ℕ) → SaysMemory behind → SaysMemory (front ++ behind)
+pub says_behind : (front behind : List ℕ) → SaysMemory behind → SaysMemory (front ++ behind)
 says_behind front behind h =
     let word = codes " Memory\n" in (
       front ++ h.0,

@@ -1,8 +1,11 @@
 -- What a line asks of a driver, what the driver then does, what is printed and what is left.
-use Rattle.std.specs.Prelude.{ℕ, nat_le, Bool, true, if◌then◌else◌, List, [], ◌∷◌, length}
+use Rattle.std.specs.Prelude.{◌≡◌, ℕ, nat_le, Bool, true, if◌then◌else◌, List, [], length, IsTrue}
 use Rattle.std.specs.Prelude.{Option, Some, None}
 use Rattle.em_driver.specs.World.{World}
-use Rattle.em_driver.specs.Course.{Course, done}
+use Rattle.em_journal.specs.History.{Call, Run}
+use Rattle.em_driver.specs.Course.{Course, done, Follows}
+use Rattle.em_driver.specs.CourseCalls.{course_calls}
+use Rattle.em_driver.specs.declared.turn.Turn.{Turn}
 use Rattle.em_driver.specs.Play.{Played}
 use Rattle.em_driver.specs.Answering.{answering}
 use Rattle.em_driver.specs.Happened.{happened, CanHappen}
@@ -20,7 +23,11 @@ use Rattle.em_script.specs.Request as request
 use Rattle.em_script.specs.Request.{Request}
 use Rattle.em_script.specs.Response.{Response, start, batch, stats, address, set, response_outcome, is_started}
 use Rattle.em_script.specs.Response.{says_memory, world_of, call_text}
+use Rattle.em_script.specs.Response as responses
 use Rattle.em_script.specs.DriverText.{no_driver_text}
+use Rattle.em_script.specs.Lack.{Lack, before, within, named_of}
+use Rattle.em_script.specs.declared.called.Called.{Called}
+use Rattle.em_script.specs.declared.called.PlanCounts.{PlanCounts}
 
 -- ---- what is asked
 
@@ -47,8 +54,7 @@ no_stats = record { rx_pkts = 0; tx_pkts = 0; rx_bytes = 0; tx_bytes = 0 }
 -- the course of a request to a driver over this world
 abbrev pub course_of : Request → World → Course Response
 course_of request.starts w = init_course (length w.machine.present.memory)
-course_of (request.sends packet) w =
-    answering (λ answer. batch [] answer.1) (tx_batch init_layout 0 (packet ∷ []))
+course_of (request.sends packets) w = answering (λ answer. batch [] answer.1) (tx_batch init_layout 0 packets)
 course_of (request.receives most) w =
     answering (λ answer. batch answer.0 answer.1) (rx_batch init_layout 0 most [])
 course_of request.stats w = answering (λ answer. stats answer) (read_stats no_stats)
@@ -87,3 +93,39 @@ after_call did = record { machine = did.world.machine; started = is_started did.
 abbrev pub after_asked : Option (Played Response) → Request → Session → Session
 after_asked named request session =
     if has_driver request session then after_call (done_by named request session) else session
+
+-- ---- the calls of the machine, by where memory was refused
+
+abbrev pub made_calls : Option Lack → Request → Session → List Call
+made_calls (Some (within did calls)) request session = calls
+made_calls _ request session = course_calls (world_at session) (course_of request (world_at session))
+
+abbrev pub asked_calls : Option Lack → Request → Session → List Call
+asked_calls memory request session = if has_driver request session then made_calls memory request session else []
+
+-- Memory is refused to a call of a driver as the call can have it; and the calls of the machine lead where it does.
+abbrev pub MayLack : Option Lack → Request → Session → Type 0
+MayLack None request session = Unit {0}
+MayLack (Some before) request session = ⊥
+MayLack (Some (within did calls)) request session =
+    IsTrue (has_driver request session) × CanBeDone (Some did) request session
+    × Run session.machine calls did.world.machine
+
+-- ---- a call, as the code makes it
+
+-- how many turns of the plan were performed and refused, where one was set
+abbrev pub plan_counts : Option (List (List Turn)) → World → Option PlanCounts
+plan_counts None w = None
+plan_counts (Some plan) w = Some record { performed = w.performed; refused = w.refused; starved = w.starved }
+
+-- the call did so, and left this world
+abbrev pub did_of : Called → World → Played Response
+did_of called w = record { events = called.events; answer = responses.plain called.response; world = w }
+
+-- what was asked for was done, and the plan is used up
+pub record IsCalled (request : Request) (first now : Session) (called : Called) : Type 0 where
+  pub world : World
+  pub follows : Follows (world_at first) (course_of request (world_at first)) called.events
+      (responses.plain called.response) world
+  pub plan : called.plan ≡ plan_counts first.plan world
+  pub session : now ≡ after_call (did_of called world)

@@ -7,7 +7,9 @@ use Rattle.em_text.specs.Words.{words_of}
 use Rattle.em_text.specs.Numbers.{hex_number, hex_address, decimal_number, octets_of}
 use Rattle.em_script.specs.Arguments.{Arguments, zero, one, two, arguments_of}
 use Rattle.em_script.specs.Command.{Command, event, peek, interrupt_line, back, back_by, registers, wire}
-use Rattle.em_script.specs.ParsedLine.{ParsedLine, silent, bad, says}
+use Rattle.em_script.specs.ParsedLine.{ParsedLine, silent, bad, says, request_line, plan_line}
+use Rattle.em_script.specs.Plan.{plan_of}
+use Rattle.em_script.specs.Request.{request_form}
 use Rattle.em_script.specs.Frame.{frame_of}
 
 -- what a value completes, if there is one
@@ -73,7 +75,7 @@ abbrev pub link_form : Arguments → ParsedLine
 link_form (one way) = with (way_of way) (λ up. says (event (links up)))
 link_form _ = bad
 
--- a look, or steps back, by its name
+-- a look, steps back, or what is asked of a driver, by its name
 abbrev pub look_form : List ℕ → Arguments → ParsedLine
 look_form name arguments =
     if bytes_eq name (codes "peek") then peek_form arguments else
@@ -81,7 +83,7 @@ look_form name arguments =
     if bytes_eq name (codes "regs") then alone registers arguments else
     if bytes_eq name (codes "wire") then alone wire arguments else
     if bytes_eq name (codes "back") then back_form arguments else
-    bad
+    request_line (request_form name arguments)
 
 -- a command, by its name: an event, or another
 abbrev pub command_form : List ℕ → Arguments → ParsedLine
@@ -100,9 +102,19 @@ abbrev pub is_comment : List ℕ → Bool
 is_comment [] = false
 is_comment (octet ∷ octets) = octet == 35
 
+-- turns WORD .., one word or more
+abbrev pub turns_form : List (List ℕ) → ParsedLine
+turns_form [] = bad
+turns_form (word ∷ words) = plan_line (plan_of (word ∷ words))
+
+-- a line of this name and the words behind it
+abbrev pub named_form : List ℕ → List (List ℕ) → ParsedLine
+named_form name words =
+    if bytes_eq name (codes "turns") then turns_form words else command_form name (arguments_of words)
+
 abbrev pub words_form : List (List ℕ) → ParsedLine
 words_form [] = silent
-words_form (first ∷ words) = if is_comment first then silent else command_form first (arguments_of words)
+words_form (first ∷ words) = if is_comment first then silent else named_form first words
 
 -- what a line says
 unfoldable pub parsed_line : List ℕ → ParsedLine

@@ -1,9 +1,10 @@
 pub mod Arguments
 pub mod Command
-pub mod ParsedLine
 pub mod Frame
 pub mod Request
 pub mod TurnWord
+pub mod Plan
+pub mod ParsedLine
 pub mod Grammar
 pub mod Session
 pub mod Seat
@@ -12,6 +13,7 @@ pub mod Wire
 pub mod Output
 pub mod DriverText
 pub mod Response
+pub mod Lack
 pub mod Calling
 pub mod Reply
 pub mod PlayedLine

@@ -1,5 +1,6 @@
 -- What a command prints, how its line counts, what it leaves, and which calls it makes.
-use Rattle.std.specs.Prelude.{◌≡◌, ℕ, ◌+◌, ◌==◌, Bool, false, not, nat_lt, min, if◌then◌else◌, List, [], ◌∷◌, length}
+use Rattle.std.specs.Prelude.{◌≡◌, ℕ, ◌+◌, ◌==◌, Bool, true, false, not, nat_lt, min, if◌then◌else◌, List, [], ◌∷◌}
+use Rattle.std.specs.Prelude.{length}
 use Rattle.std.specs.Prelude.{replicate, bit_and, Option, Some, None, Result, Ok, Err, IsTrue}
 use Rattle.em_mem.specs.Memory.{part}
 use Rattle.em_latch.specs.Latches.{causes, mask}
@@ -18,7 +19,10 @@ use Rattle.em_script.specs.declared.outcome.Outcome.{Outcome}
 use Rattle.em_script.specs.declared.outcome.Outcome.TheVariants as outcome
 use Rattle.em_script.specs.Session.{Session}
 use Rattle.em_script.specs.Command.{Command, event, peek, interrupt_line, back, back_by, registers, wire}
-use Rattle.em_script.specs.ParsedLine.{ParsedLine, silent, bad, says}
+use Rattle.em_script.specs.ParsedLine.{ParsedLine, silent, bad, says, asks, plans}
+use Rattle.em_script.specs.Lack.{Lack, before, within, named_of}
+use Rattle.em_script.specs.Calling.{asked_text, asked_outcome, after_asked, asked_calls, MayLack}
+use Rattle.em_driver.specs.declared.turn.Turn.{Turn}
 use Rattle.em_script.specs.Output.{done_text, bit_text, back_text, bad_line_text, answer_text, refusal_text, empty_text}
 use Rattle.em_script.specs.Output.{Prints}
 use Rattle.em_script.specs.Registers.{registers_text}
@@ -32,17 +36,17 @@ step_call e (Ok r) = performs e r.0
 step_call e (Err refusal) = refuses e refusal
 
 -- an event, by whether memory was refused to it
-abbrev pub event_call : Option ℕ → Event → View → Call
+abbrev pub event_call : Option Lack → Event → View → Call
 event_call None e machine = step_call e (step machine.present e)
-event_call (Some events) e machine = refuses e Memory
+event_call (Some lack) e machine = refuses e Memory
 
 -- a step back, by the states that there are to go back to
 abbrev pub back_call : List State → Call
 back_call [] = is_empty
 back_call (s ∷ older) = goes_back
 
--- those that a command makes, by whether memory was refused, and after how many of its events
-abbrev pub calls_of : Option ℕ → Command → View → List Call
+-- those that a command makes, by where memory was refused
+abbrev pub calls_of : Option Lack → Command → View → List Call
 calls_of memory (event e) machine = event_call memory e machine ∷ []
 calls_of memory back machine = back_call machine.past ∷ []
 calls_of memory (back_by most) machine = replicate (min most (length machine.past)) goes_back
@@ -97,8 +101,8 @@ abbrev pub back_by_reply : ℕ → View → Reply
 back_by_reply most machine =
     done_reply (back_text (min most (length machine.past))) (after_backs most machine)
 
--- to a command, by whether memory was refused, and after how many of its events
-abbrev pub reply : Option ℕ → Command → View → Reply
+-- to a command, by where memory was refused
+abbrev pub reply : Option Lack → Command → View → Reply
 reply memory (event e) machine = call_reply (event_call memory e machine) machine
 reply memory (peek addr n) machine = peek_reply addr n machine
 reply memory interrupt_line machine = interrupt_line_reply machine
@@ -114,48 +118,73 @@ abbrev pub command_takes_memory : Command → Bool
 command_takes_memory (event e) = takes_memory e
 command_takes_memory _ = false
 
--- a command can be refused for memory before its event, which nothing else refuses and which drops no frame
-abbrev pub MayBeRefused : ℕ → Command → View → Type 0
-MayBeRefused events (event e) machine =
-    (events ≡ 0) × IsTrue (takes_memory e) × IsTrue (needs_memory (step machine.present e))
-MayBeRefused events _ machine = ⊥
-
--- Memory is refused to a command only where it may be.
-abbrev pub IsAllowedTo : Option ℕ → Command → View → Type 0
+-- memory is refused to a command only before its event, which nothing else refuses and which drops no frame
+abbrev pub IsAllowedTo : Option Lack → Command → View → Type 0
 IsAllowedTo None command machine = Unit {0}
-IsAllowedTo (Some events) command machine = MayBeRefused events command machine
+IsAllowedTo (Some before) (event e) machine = IsTrue (takes_memory e) × IsTrue (needs_memory (step machine.present e))
+IsAllowedTo (Some lack) command machine = ⊥
 
--- ---- what a line says, by whether memory was refused to it, and after how many of its events
+-- ---- a line that sets the plan
+
+abbrev pub plan_reply : Option Lack → List ℕ
+plan_reply None = done_text
+plan_reply (Some lack) = refusal_text Memory
+
+abbrev pub plan_outcome : Option Lack → Outcome
+plan_outcome None = outcome.Done
+plan_outcome (Some lack) = outcome.Refused
+
+-- a plan that finds no memory leaves the one before it
+abbrev pub after_plan : Option Lack → List (List Turn) → Session → Session
+after_plan None plan session = record session { plan = Some plan }
+after_plan (Some lack) plan session = session
+
+abbrev pub MayLackPlan : Option Lack → Type 0
+MayLackPlan (Some (within did calls)) = ⊥
+MayLackPlan _ = Unit {0}
+
+-- ---- what a line says, by where memory was refused to it
 
 -- what it prints, where it has this number
-abbrev pub line_text : ℕ → Option ℕ → ParsedLine → Session → List ℕ
+abbrev pub line_text : ℕ → Option Lack → ParsedLine → Session → List ℕ
 line_text number memory silent session = []
 line_text number memory bad session = bad_line_text number
 line_text number memory (says command) session = (reply memory command session.machine).text
+line_text number memory (asks request) session = asked_text (named_of memory) request session
+line_text number memory (plans plan) session = plan_reply memory
 
-abbrev pub line_outcome : Option ℕ → ParsedLine → Session → Outcome
+abbrev pub line_outcome : Option Lack → ParsedLine → Session → Outcome
 line_outcome memory silent session = outcome.Silent
 line_outcome memory bad session = outcome.Bad
 line_outcome memory (says command) session = (reply memory command session.machine).outcome
+line_outcome memory (asks request) session = asked_outcome (named_of memory) request session
+line_outcome memory (plans plan) session = plan_outcome memory
 
-abbrev pub after_line : Option ℕ → ParsedLine → Session → Session
+abbrev pub after_line : Option Lack → ParsedLine → Session → Session
 after_line memory (says command) session = record session { machine = (reply memory command session.machine).machine }
+after_line memory (asks request) session = after_asked (named_of memory) request session
+after_line memory (plans plan) session = after_plan memory plan session
 after_line memory _ session = session
 
 -- the calls that it makes
-abbrev pub line_calls : Option ℕ → ParsedLine → Session → List Call
+abbrev pub line_calls : Option Lack → ParsedLine → Session → List Call
 line_calls memory (says command) session = calls_of memory command session.machine
+line_calls memory (asks request) session = asked_calls memory request session
 line_calls memory _ session = []
 
 abbrev pub line_takes_memory : ParsedLine → Bool
 line_takes_memory (says command) = command_takes_memory command
+line_takes_memory (asks request) = true
+line_takes_memory (plans plan) = true
 line_takes_memory _ = false
 
 -- memory is refused only to what takes memory and is refused for nothing else
-abbrev pub IsAllowed : Option ℕ → ParsedLine → Session → Type 0
+abbrev pub IsAllowed : Option Lack → ParsedLine → Session → Type 0
 IsAllowed memory (says command) session = IsAllowedTo memory command session.machine
+IsAllowed memory (asks request) session = MayLack memory request session
+IsAllowed memory (plans plan) session = MayLackPlan memory
 IsAllowed None _ session = Unit {0}
-IsAllowed (Some events) _ session = ⊥
+IsAllowed (Some lack) _ session = ⊥
 
 -- ---- what a call does
 
@@ -168,14 +197,14 @@ pub record Gives (r : Reply) (now : View) (old new : Option (List ℕ)) (result 
 -- what the command says was done, and its text printed
 pub record Obeys (command : Command) (first now : View) (old new : Option (List ℕ))
     (result : Result Outcome WriteFailed) : Type 0 where
-  pub memory : Option ℕ
+  pub memory : Option Lack
   pub allowed : IsAllowedTo memory command first
   pub gives : Gives (reply memory command first) now old new result
 
 -- what the line of this number says was done, and its text printed
 pub record Performs (number : ℕ) (parsed : ParsedLine) (first now : Session) (old new : Option (List ℕ))
     (result : Result Outcome WriteFailed) : Type 0 where
-  pub memory : Option ℕ
+  pub memory : Option Lack
   pub allowed : IsAllowed memory parsed first
   pub prints : Prints (line_text number memory parsed first) (line_outcome memory parsed first) old new result
   pub session : now ≡ after_line memory parsed first

@@ -1,19 +1,22 @@
 -- What a line asks of a driver, as data, and the words that ask for it.
-use Rattle.std.specs.Prelude.{ℕ, ◌==◌, nat_le, if◌then◌else◌, List, length, codes, Option, Some, None}
+use Rattle.std.specs.Prelude.{ℕ, ◌==◌, nat_le, if◌then◌else◌, List, [], ◌∷◌, length, codes, Option, Some, None}
 use Rattle.std.specs.Option.{option_map}
 use Rattle.std.specs.Prelude.{option_and_then}
 use Rattle.std.specs.Str.{bytes_eq}
 use Rattle.em_text.specs.Numbers.{decimal_number, octets_of}
 use Rattle.em_script.specs.Arguments.{Arguments, zero, one}
 use Rattle.em_script.specs.Frame.{frame_of}
+use Rattle.em_driver.specs.Receive.{lists}
+use Rattle.em_script.specs.declared.call.Call.{Call}
+use Rattle.em_script.specs.declared.call.Call.TheVariants as call
 use Rattle.em_script.specs.declared.request.Request.{Request as Lent}
 use Rattle.em_script.specs.declared.request.Request.TheVariants as lent
 
 pub data Request : Type 0 where
   -- a driver is started
   starts : Request
-  -- one packet is sent
-  sends : List ℕ → Request
+  -- packets are sent
+  sends : List (List ℕ) → Request
   -- at most so many packets are received
   receives : ℕ → Request
   -- packets and octets are counted
@@ -23,13 +26,16 @@ pub data Request : Type 0 where
   sets_address : List ℕ → Request
 
 -- a request of the code without where its octets lie in memory
+abbrev pub plain_call : Call → Request
+plain_call (call.Send packets) = sends (lists packets.items)
+plain_call (call.Receive most) = receives most
+plain_call call.Stats = stats
+plain_call call.Address = address
+plain_call (call.SetAddress octets) = sets_address octets
+
 abbrev pub plain : Lent → Request
 plain lent.Start = starts
-plain (lent.Send octets) = sends octets.now
-plain (lent.Receive most) = receives most
-plain lent.Stats = stats
-plain lent.Address = address
-plain (lent.SetAddress octets) = sets_address octets
+plain (lent.Call c) = plain_call c
 
 -- ---- the words
 
@@ -38,9 +44,9 @@ abbrev pub alone : Request → Arguments → Option Request
 alone request zero = Some request
 alone request _ = None
 
--- send DATA, or send DATA LEN
+-- send DATA, or send DATA LEN: one packet
 abbrev pub send_form : Arguments → Option Request
-send_form arguments = option_map sends (frame_of arguments)
+send_form arguments = option_map (λ packet. sends (packet ∷ [])) (frame_of arguments)
 
 -- a number up to `most`
 abbrev pub up_to : ℕ → ℕ → Option ℕ

@@ -9,6 +9,11 @@ use Rattle.em_driver.specs.declared.outcome.Batch.{Batch}
 use Rattle.em_driver.specs.declared.outcome.Stopped.{Stopped}
 use Rattle.em_driver.specs.declared.outcome.Cause.{Cause}
 use Rattle.em_driver.specs.declared.stats.DeviceStats.{DeviceStats}
+use Rattle.em_driver.specs.Receive.{lists}
+use Rattle.em_script.specs.declared.called.Called.{Called}
+use Rattle.em_script.specs.declared.called.PlanCounts.{PlanCounts}
+use Rattle.em_script.specs.declared.response.Response.{Response as Code}
+use Rattle.em_script.specs.declared.response.Response.TheVariants as code
 use Rattle.em_script.specs.declared.outcome.Outcome.{Outcome}
 use Rattle.em_script.specs.declared.outcome.Outcome.TheVariants.{Done, Refused}
 use Rattle.em_script.specs.Output.{done_text}
@@ -27,6 +32,14 @@ pub data Response : Type 0 where
   address : List ℕ → Response
   set : Response
 
+-- a response of the code without where its packets lie in memory
+abbrev pub plain : Code → Response
+plain (code.Start cause) = start cause
+plain (code.Batch packets result) = batch (lists packets.items) result
+plain (code.Stats counted) = stats counted
+plain (code.Address octets) = address octets
+plain code.Set = set
+
 -- ---- the answer
 
 abbrev pub result_text : Result Batch Stopped → List ℕ
@@ -42,9 +55,13 @@ response_text events (stats counted) = stats_text counted
 response_text events (address octets) = address_text octets
 response_text events set = done_text
 
+abbrev pub result_outcome : Result Batch Stopped → Outcome
+result_outcome (Ok moved) = Done
+result_outcome (Err stopped) = Refused
+
 abbrev pub response_outcome : Response → Outcome
 response_outcome (start (Some cause)) = Refused
-response_outcome (batch packets (Err stopped)) = Refused
+response_outcome (batch packets result) = result_outcome result
 response_outcome _ = Done
 
 -- whether a driver stands afterwards
@@ -74,3 +91,12 @@ plan_text (Some plan) w = turns_text w.performed w.refused w.starved
 -- what a call that did so prints
 abbrev pub call_text : Option (List (List Turn)) → Played Response → List ℕ
 call_text plan did = response_text did.events did.answer ++ plan_text plan did.world
+
+-- ---- a call, as the code made it
+
+abbrev pub counts_text : Option PlanCounts → List ℕ
+counts_text None = []
+counts_text (Some counts) = turns_text counts.performed counts.refused counts.starved
+
+abbrev pub called_text : Called → List ℕ
+called_text called = response_text called.events (plain called.response) ++ counts_text called.plan

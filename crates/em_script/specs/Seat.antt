@@ -4,6 +4,7 @@ use Rattle.em_step.specs.Cells.{fresh, shows}
 use Rattle.em_journal.specs.View.{opening}
 use Rattle.em_driver.specs.World.{World, quiet}
 use Rattle.em_script.specs.Session.{Session}
+use Rattle.em_script.specs.Calling.{init_layout}
 use Rattle.em_script.specs.declared.seat.Seat.{Seat}
 use Rattle.em_script.specs.declared.seat.Seat.TheVariants.{Bare, Driven, Moved}
 
@@ -32,8 +33,8 @@ pub record IsReady (w : World) (planned : Bool) : Type 0 where
   pub fed : w.starved ≡ false
   pub none : planned ≡ false → w.plan ≡ []
 
--- between two lines no seat is moved
+-- between two lines no seat is moved, and a driver is one that a line started
 abbrev pub IsSeated : Seat → Bool → Type 0
 IsSeated (Bare turns) planned = IsReady turns planned
-IsSeated (Driven driver) planned = IsReady driver.bus planned
+IsSeated (Driven driver) planned = IsReady driver.bus planned × (driver.layout ≡ init_layout)
 IsSeated Moved planned = ⊥

@@ -1,19 +1,103 @@
 //! Writing what calls of a driver answer.
-ghost use Rattle.std.specs.Prelude.{◌≡◌};
+ghost use Rattle.std.specs.Prelude.{◌≡◌, ◌++◌};
 ghost use Rattle.em_text.specs.Writer.{Writes};
+ghost use Rattle.em_driver.specs.Receive.{lists};
+ghost use Rattle.em_script.specs.Wire.{frames_text};
+ghost use Rattle.em_script.specs.Response.{plain, called_text, counts_text, response_text, response_outcome};
+ghost use Rattle.em_script.specs.Response.{result_text, result_outcome};
 ghost use Rattle.em_script.specs.Output.{Prints};
 ghost use Rattle.em_script.specs.DriverText.{started_text, batch_text, stopped_text, stats_text, address_text};
 ghost use Rattle.em_script.specs.DriverText.{turns_text, turns_end, no_driver_text};
 
+use crate::called::{Called, PlanCounts};
 use crate::outcome::Outcome;
-use crate::output::write_numbered;
-use em_driver::{Cause, DeviceStats};
-use em_text::{WriteFailed, octet_digits, write_pieces, write_whole};
+use crate::output::{write_done, write_numbered};
+use crate::response::Response;
+use em_driver::{Batch, Cause, DeviceStats, Stopped};
+use em_text::{WriteFailed, octet_digits, write_octets_line, write_pieces, write_whole};
 use itoa::Buffer;
+use std::collections::VecDeque;
 use std::io::Write;
 
+/// What a driver did on a line.
+pub fn write_called<W: Write>(writer: &mut W, called: Called) -> Result<Outcome, WriteFailed>
+    ensures { Prints (called_text called) (response_outcome (plain called.response))
+        (W.contents writer.old) (W.contents writer.new) result }
+{
+    let outcome = write_response(writer, called.events, called.response)?;
+    write_plan(writer, called.plan)?;
+    Ok(outcome)
+}
+
+/// The counts of a plan, where one was set.
+fn write_plan<W: Write>(writer: &mut W, plan: Option<PlanCounts>) -> Result<(), WriteFailed>
+    ensures { Writes (W.contents writer.old) (W.contents writer.new) result (counts_text plan) }
+{
+    match plan {
+        Some(counts) => write_turns(writer, counts),
+        None => Ok(()),
+    }
+}
+
+/// What a driver answered, with so many events.
+fn write_response<W: Write>(
+    writer: &mut W,
+    events: u32,
+    response: Response,
+) -> Result<Outcome, WriteFailed>
+    ensures { Prints (response_text events (plain response)) (response_outcome (plain response))
+        (W.contents writer.old) (W.contents writer.new) result }
+{
+    match response {
+        Response::Start(None) => write_started(writer, events),
+        Response::Start(Some(cause)) => write_stopped(writer, 0, events, cause),
+        Response::Batch(packets, result) => write_moved(writer, &packets, result),
+        Response::Stats(stats) => write_stats(writer, stats),
+        Response::Address(address) => write_address(writer, address),
+        Response::Set => write_done(writer),
+    }
+}
+
+/// How a call that moves packets ended, and then the packets that came.
+fn write_moved<W: Write>(
+    writer: &mut W,
+    packets: &VecDeque<Vec<u8>>,
+    moved: Result<Batch, Stopped>,
+) -> Result<Outcome, WriteFailed>
+    ensures { Prints (result_text moved ++ frames_text (lists packets.now.items)) (result_outcome moved)
+        (W.contents writer.old) (W.contents writer.new) result }
+{
+    let outcome = write_result(writer, moved)?;
+    write_packets(writer, packets)?;
+    Ok(outcome)
+}
+
+/// How a call that moves packets ended.
+fn write_result<W: Write>(
+    writer: &mut W,
+    moved: Result<Batch, Stopped>,
+) -> Result<Outcome, WriteFailed>
+    ensures { Prints (result_text moved) (result_outcome moved) (W.contents writer.old) (W.contents writer.new) result }
+{
+    match moved {
+        Ok(batch) => write_batch(writer, batch.count, batch.events),
+        Err(stopped) => write_stopped(writer, stopped.count, stopped.events, stopped.cause),
+    }
+}
+
+/// The octets of each packet on a line of its own.
+fn write_packets<W: Write>(writer: &mut W, packets: &VecDeque<Vec<u8>>) -> Result<(), WriteFailed>
+    ensures writes { Writes (W.contents writer.old) (W.contents writer.new) result
+        (frames_text (lists packets.now.items)) }
+{
+    for packet in packets {
+        write_octets_line(writer, packet)?;
+    }
+    Ok(())
+}
+
 /// That a driver was started, with so many events.
-pub fn write_started<W: Write>(writer: &mut W, events: u32) -> Result<Outcome, WriteFailed>
+fn write_started<W: Write>(writer: &mut W, events: u32) -> Result<Outcome, WriteFailed>
     ensures { Prints (started_text events) Outcome.Done (W.contents writer.old) (W.contents writer.new) result }
 {
     write_numbered(writer, b"started ", u64::from(events))?;
@@ -21,11 +105,7 @@ pub fn write_started<W: Write>(writer: &mut W, events: u32) -> Result<Outcome, W
 }
 
 /// That so many packets were moved, with so many events.
-pub fn write_batch<W: Write>(
-    writer: &mut W,
-    count: u32,
-    events: u32,
-) -> Result<Outcome, WriteFailed>
+fn write_batch<W: Write>(writer: &mut W, count: u32, events: u32) -> Result<Outcome, WriteFailed>
     ensures { Prints (batch_text count events) Outcome.Done (W.contents writer.old) (W.contents writer.new) result }
 {
     let mut packets = Buffer::new();
@@ -37,7 +117,7 @@ pub fn write_batch<W: Write>(
 }
 
 /// That a call stopped after so many packets and events, and why.
-pub fn write_stopped<W: Write>(
+fn write_stopped<W: Write>(
     writer: &mut W,
     count: u32,
     events: u32,
@@ -59,7 +139,7 @@ pub fn write_stopped<W: Write>(
 }
 
 /// The packets and octets that a driver counted.
-pub fn write_stats<W: Write>(writer: &mut W, stats: DeviceStats) -> Result<Outcome, WriteFailed>
+fn write_stats<W: Write>(writer: &mut W, stats: DeviceStats) -> Result<Outcome, WriteFailed>
     ensures { Prints (stats_text stats) Outcome.Done (W.contents writer.old) (W.contents writer.new) result }
 {
     let mut rx_pkts = Buffer::new();
@@ -80,7 +160,7 @@ pub fn write_stats<W: Write>(writer: &mut W, stats: DeviceStats) -> Result<Outco
 }
 
 /// An Ethernet address.
-pub fn write_address<W: Write>(writer: &mut W, address: [u8; 6]) -> Result<Outcome, WriteFailed>
+fn write_address<W: Write>(writer: &mut W, address: [u8; 6]) -> Result<Outcome, WriteFailed>
     ensures { Prints (address_text address) Outcome.Done (W.contents writer.old) (W.contents writer.new) result }
 {
     let first = octet_digits(address[0]);
@@ -100,21 +180,17 @@ pub fn write_address<W: Write>(writer: &mut W, address: [u8; 6]) -> Result<Outco
 
 /// How many turns of a plan were performed and how many refused, and whether memory was refused to
 /// one.
-pub fn write_turns<W: Write>(
-    writer: &mut W,
-    performed: u32,
-    refused: u32,
-    starved: bool,
-) -> Result<(), WriteFailed>
-    ensures { Writes (W.contents writer.old) (W.contents writer.new) result (turns_text performed refused starved) }
+fn write_turns<W: Write>(writer: &mut W, counts: PlanCounts) -> Result<(), WriteFailed>
+    ensures { Writes (W.contents writer.old) (W.contents writer.new) result
+        (turns_text counts.performed counts.refused counts.starved) }
 {
     let mut first = Buffer::new();
     let mut second = Buffer::new();
-    let first = first.format(performed).as_bytes();
-    let second = second.format(refused).as_bytes();
+    let first = first.format(counts.performed).as_bytes();
+    let second = second.format(counts.refused).as_bytes();
     write_pieces(
         writer,
-        &[b"turns ", first, b" ", second, turns_end(starved)],
+        &[b"turns ", first, b" ", second, turns_end(counts.starved)],
     )
 }
 

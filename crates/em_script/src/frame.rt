@@ -1,11 +1,12 @@
 //! The octets of a frame, or of a packet, that words write.
-ghost use Rattle.std.specs.Prelude.{◌≡◌, ◌≤◌, if◌then◌else◌, Some, None, IfOk, OnErr, IsSome, option_and_then};
+ghost use Rattle.std.specs.Prelude.{◌≡◌, ◌≤◌, ◌↔◌, if◌then◌else◌, Some, None, IfOk, OnErr, IsSome, IsTrue};
+ghost use Rattle.std.specs.Prelude.{◌/◌, ◌<◌, ◌⊎◌, false, length, option_and_then};
 ghost use Rattle.em_text.specs.Numbers.{octets_of};
 ghost use Rattle.em_script.specs.Arguments.{plain};
 ghost use Rattle.em_script.specs.Frame.{frame_of, lengthened_data, lengthened};
 
 use crate::arguments::Arguments;
-use em_text::{decimal_number, octets_into};
+use em_text::{decimal_number, is_octets, octets_into};
 use std::alloc::AllocError;
 
 /// The most octets that LEN asks for.
@@ -31,6 +32,38 @@ pub fn frame_into(octets: &mut Vec<u8>, arguments: Arguments<'_>) -> Result<bool
     }
 }
 
+/// Whether DATA, or DATA and LEN, stand there. It takes no memory.
+pub fn is_frame(arguments: Arguments<'_>) -> bool
+    ensures { IsTrue result ↔ IsSome (frame_of (plain arguments.entry)) }
+{
+    match arguments {
+        Arguments::One(digits) => is_octets(digits),
+        Arguments::Two(digits, len) => match decimal_number(len) {
+            Some(len) => is_lengthened(digits, len as usize),
+            None => false,
+        },
+        _ => false,
+    }
+}
+
+/// Whether DATA stands there and may have `len` octets.
+fn is_lengthened(digits: &[u8], len: usize) -> bool
+    ensures { IsTrue result ↔ IsSome (option_and_then (lengthened len) (octets_of digits.now)) }
+{
+    if !may_have(digits, len) {
+        return false;
+    }
+    is_octets(digits)
+}
+
+/// Whether digits, if they write octets, may have zero octets behind them up to `len` octets.
+fn may_have(digits: &[u8], len: usize) -> bool
+    ensures may { IsTrue result → (len ≤ 32_768) × (length digits.now / 2 ≤ len) }
+    ensures not { result ≡ false → (32_768 < len) ⊎ (len < length digits.now / 2) }
+{
+    len <= MOST_LEN && digits.len() / DIGITS_OF_OCTET <= len
+}
+
 /// Whether DATA and LEN stand there, and if so, leaves their octets in `octets`.
 fn lengthened_data_into(octets: &mut Vec<u8>, digits: &[u8], len: &[u8]) -> Result<bool, AllocError>
     ensures value { IfOk result (λ found.
@@ -50,7 +83,7 @@ fn lengthened_into(octets: &mut Vec<u8>, digits: &[u8], len: usize) -> Result<bo
     ensures memory { OnErr result (IsSome (option_and_then (lengthened len) (octets_of digits.now))) }
 {
     // Digits of more octets are not read: they are no line's, whatever they are.
-    if len > MOST_LEN || digits.len() / DIGITS_OF_OCTET > len {
+    if !may_have(digits, len) {
         return Ok(false);
     }
     if !octets_into(octets, digits)? {

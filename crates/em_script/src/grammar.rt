@@ -1,5 +1,5 @@
 //! What a line says.
-ghost use Rattle.std.specs.Prelude.{◌≡◌, ◌≤◌, IfOk, IfSome, OnErr, IsSome, IsTrue};
+ghost use Rattle.std.specs.Prelude.{◌≡◌, ◌≤◌, ◌<◌, length, IfOk, IfSome, OnErr, IsSome, IsTrue};
 ghost use Rattle.em_step.specs.Event.{pokes};
 ghost use Rattle.em_text.specs.Numbers.{octets_of};
 ghost use Rattle.em_script.specs.Arguments.{plain as plain_arguments};
@@ -7,16 +7,19 @@ ghost use Rattle.em_script.specs.Command.{plain as plain_command, event};
 ghost use Rattle.em_script.specs.ParsedLine.{plain, says, brings_octets};
 ghost use Rattle.em_script.specs.Grammar.{parsed_line, command_form, look_form, alone, with, read_form, write_form};
 ghost use Rattle.em_script.specs.Grammar.{poke_form, arrive_form, link_form, peek_form, back_form, way_of, count_to};
-ghost use Rattle.em_script.specs.Grammar.{is_comment};
+ghost use Rattle.em_script.specs.Grammar.{is_comment, named_form, turns_form};
+ghost use Rattle.em_text.specs.Words.{words_of};
 
 use crate::arguments::{Arguments, arguments_of};
 use crate::command::Command;
 use crate::frame::frame_into;
 use crate::parsed_line::ParsedLine;
 use crate::peek_len::{MOST_PEEK, PeekLen};
+use crate::plan::plan_words;
+use crate::request::request_form;
 use em_step::Event;
 use em_text::{Words, decimal_number, hex_address, hex_number, octets_into};
-use std::alloc::AllocError;
+use std::alloc::{AllocError, Global};
 
 /// What a comment begins with.
 const HASH: u8 = b'#';
@@ -25,9 +28,14 @@ const HASH: u8 = b'#';
 const MOST_BACK: u32 = 65_536;
 
 /// What a line says. The octets that it writes to guest memory, or of the frame that arrives, are
-/// left in `octets`, which alone takes memory.
+/// left in `octets`. Memory is taken for them, for a packet to send and for an address.
 #[tactic(auto, unfolding(crate::specs::Grammar::parsed_line))]
-pub fn parse_line<'a>(line: &[u8], octets: &'a mut Vec<u8>) -> Result<ParsedLine<'a>, AllocError>
+pub fn parse_line<'a>(
+    alloc: Global,
+    line: &'a [u8],
+    octets: &'a mut Vec<u8>,
+) -> Result<ParsedLine<'a>, AllocError>
+    requires { length line.now < 0xFFFF_FFFF }
     ensures value { IfOk result (λ parsed. plain parsed ≡ parsed_line line.now) }
     ensures memory { OnErr result (IsTrue (brings_octets (parsed_line line.now))) }
 {
@@ -38,7 +46,38 @@ pub fn parse_line<'a>(line: &[u8], octets: &'a mut Vec<u8>) -> Result<ParsedLine
     if is_comment(first) {
         return Ok(ParsedLine::Silent);
     }
-    command_form(first, arguments_of(words), octets)
+    named_form(alloc, first, words, octets)
+}
+
+fn named_form<'a>(
+    alloc: Global,
+    name: &[u8],
+    words: Words<'a>,
+    octets: &'a mut Vec<u8>,
+) -> Result<ParsedLine<'a>, AllocError>
+    requires { length (words_of words.0.now) < 0x1_0000_0000 }
+    ensures value { IfOk result (λ parsed. plain parsed ≡ named_form name.now (words_of words.entry.0.now)) }
+    ensures memory { OnErr result (IsTrue (brings_octets (named_form name.now (words_of words.entry.0.now)))) }
+{
+    if name == b"turns".as_slice() {
+        return Ok(turns_form(words));
+    }
+    command_form(alloc, name, arguments_of(words), octets)
+}
+
+/// A plan of one word or more.
+fn turns_form(words: Words<'_>) -> ParsedLine<'_>
+    requires { length (words_of words.0.now) < 0x1_0000_0000 }
+    ensures { plain result ≡ turns_form (words_of words.entry.0.now) }
+{
+    let mut others = words;
+    if others.next().is_none() {
+        return ParsedLine::Bad;
+    }
+    match plan_words(words) {
+        Some(plan) => ParsedLine::Plan(plan),
+        None => ParsedLine::Bad,
+    }
 }
 
 fn is_comment(word: &[u8]) -> bool
@@ -48,6 +87,7 @@ fn is_comment(word: &[u8]) -> bool
 }
 
 fn command_form<'a>(
+    alloc: Global,
     name: &[u8],
     arguments: Arguments<'_>,
     octets: &'a mut Vec<u8>,
@@ -76,29 +116,38 @@ fn command_form<'a>(
     if name == b"link".as_slice() {
         return Ok(link_form(arguments));
     }
-    Ok(look_form(name, arguments))
+    look_form(alloc, name, arguments, octets)
 }
 
-/// A look, or steps back.
-fn look_form(name: &[u8], arguments: Arguments<'_>) -> ParsedLine<'static>
-    ensures { plain result ≡ look_form name.now (plain_arguments arguments.entry) }
+/// A look, steps back, or what is asked of a driver.
+fn look_form(
+    alloc: Global,
+    name: &[u8],
+    arguments: Arguments<'_>,
+    octets: &mut Vec<u8>,
+) -> Result<ParsedLine<'static>, AllocError>
+    ensures value { IfOk result (λ parsed. plain parsed ≡ look_form name.now (plain_arguments arguments.entry)) }
+    ensures memory { OnErr result (IsTrue (brings_octets (look_form name.now (plain_arguments arguments.entry)))) }
 {
     if name == b"peek".as_slice() {
-        return peek_form(arguments);
+        return Ok(peek_form(arguments));
     }
     if name == b"line".as_slice() {
-        return alone(Command::InterruptLine, arguments);
+        return Ok(alone(Command::InterruptLine, arguments));
     }
     if name == b"regs".as_slice() {
-        return alone(Command::Registers, arguments);
+        return Ok(alone(Command::Registers, arguments));
     }
     if name == b"wire".as_slice() {
-        return alone(Command::Wire, arguments);
+        return Ok(alone(Command::Wire, arguments));
     }
     if name == b"back".as_slice() {
-        return back_form(arguments);
+        return Ok(back_form(arguments));
     }
-    ParsedLine::Bad
+    match request_form(alloc, name, arguments, octets)? {
+        Some(request) => Ok(ParsedLine::Request(request)),
+        None => Ok(ParsedLine::Bad),
+    }
 }
 
 /// A command whose name has no word behind it.

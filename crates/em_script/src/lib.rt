@@ -26,6 +26,9 @@
 #![tactic(auto)]
 
 mod arguments;
+mod call;
+mod called;
+mod calling;
 mod command;
 mod driver_output;
 mod frame;
@@ -35,9 +38,11 @@ mod outcome;
 mod output;
 mod parsed_line;
 mod peek_len;
+mod plan;
 mod registers;
 mod reply;
 mod request;
+mod response;
 mod runner;
 mod seat;
 mod session;

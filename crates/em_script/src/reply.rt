@@ -2,11 +2,16 @@
 ghost use Rattle.std.specs.Prelude.{ℕ};
 ghost use Rattle.em_step.specs.Event.{plain as plain_event};
 ghost use Rattle.em_script.specs.Command.{plain as plain_command, event as event_command};
-ghost use Rattle.em_script.specs.ParsedLine.{plain, says};
+ghost use Rattle.em_text.specs.Words.{words_of};
+ghost use Rattle.em_script.specs.ParsedLine.{plain, says, asks, plan_line};
+ghost use Rattle.em_script.specs.Plan.{plan_of};
+ghost use Rattle.em_script.specs.Request.{plain as plain_request};
 ghost use Rattle.em_script.specs.Reply.{peek_reply, interrupt_line_reply, registers_reply, back_call, call_reply};
 ghost use Rattle.em_script.specs.Reply.{back_by_reply, wire_reply, Gives, Obeys, Performs};
 
+use crate::calling::{call_driver, start_driver};
 use crate::command::Command;
+use crate::driver_output::{write_called, write_no_driver};
 use crate::outcome::Outcome;
 use crate::output::{
     write_answer, write_back, write_bad_line, write_bit, write_done, write_empty, write_octets,
@@ -14,19 +19,23 @@ use crate::output::{
 };
 use crate::parsed_line::ParsedLine;
 use crate::peek_len::{MOST_PEEK, PeekLen};
+use crate::plan::{PlanWords, plan_of};
 use crate::registers::write_registers;
+use crate::request::Request;
 use crate::seat::Seat;
 use crate::session::Session;
 use crate::wire::write_wire;
 use em_journal::{Empty, Machine};
-use em_step::Event;
+use em_step::{Event, Refusal};
 use em_text::WriteFailed;
+use std::alloc::Global;
 use std::io::Write;
 
 /// Does what the line of a number says, and writes its answer.
 ///
 /// `room` is for the octets that a look at guest memory shows.
 pub fn reply<W: Write>(
+    alloc: Global,
     writer: &mut W,
     session: &mut Session,
     number: u32,
@@ -40,7 +49,47 @@ pub fn reply<W: Write>(
         ParsedLine::Silent => Ok(Outcome::Silent),
         ParsedLine::Bad => write_bad_line(writer, number),
         ParsedLine::Command(command) => obey(writer, session, command, room),
+        ParsedLine::Request(request) => ask(alloc, writer, session, request),
+        ParsedLine::Plan(words) => set_plan(alloc, writer, session, words),
     }
+}
+
+/// Does what is asked of a driver.
+fn ask<W: Write>(
+    alloc: Global,
+    writer: &mut W,
+    session: &mut Session,
+    request: Request,
+) -> Result<Outcome, WriteFailed>
+    ensures { (number : ℕ) → Performs number (asks (plain_request request))
+        session.old session.new (W.contents writer.old) (W.contents writer.new) result }
+{
+    match request {
+        Request::Start => write_called(writer, start_driver(alloc, session)),
+        Request::Call(call) => match call_driver(alloc, session, call) {
+            Some(called) => write_called(writer, called),
+            None => write_no_driver(writer),
+        },
+    }
+}
+
+/// Sets the plan for the next call of a driver.
+fn set_plan<W: Write>(
+    alloc: Global,
+    writer: &mut W,
+    session: &mut Session,
+    words: PlanWords<'_>,
+) -> Result<Outcome, WriteFailed>
+    ensures { (number : ℕ) → Performs number (plan_line (plan_of (words_of words.entry.words.0.now)))
+        session.old session.new (W.contents writer.old) (W.contents writer.new) result }
+{
+    let Ok(plan) = plan_of(alloc, words) else {
+        return write_refusal(writer, Refusal::Memory);
+    };
+    if session.set_plan(plan).is_err() {
+        return write_refusal(writer, Refusal::Memory);
+    }
+    write_done(writer)
 }
 
 /// Does what a command says with the session's machine, which may be under a driver.

@@ -82,13 +82,21 @@ pub fn run<R: Read, W: Write>(
     };
     let mut octets = Vec::new(alloc);
     let mut room = [0u8; MOST_PEEK];
-    run_lines(writer, session, script.as_slice(), &mut octets, &mut room)
+    run_lines(
+        alloc,
+        writer,
+        session,
+        script.as_slice(),
+        &mut octets,
+        &mut room,
+    )
 }
 
 /// Plays each line of a script.
 ///
 /// `octets` and `room` hold what one line says and shows, so that each is made once.
 fn run_lines<W: Write>(
+    alloc: Global,
     writer: &mut W,
     session: &mut Session,
     script: &[u8],
@@ -115,10 +123,10 @@ fn run_lines<W: Write>(
     let mut number = 1;
     while !rest.is_empty() {
         let (line, behind) = next_line(rest);
-        let Ok(parsed) = parse_line(line, octets) else {
+        let Ok(parsed) = parse_line(alloc, line, octets) else {
             return Err(BenchFault::Memory);
         };
-        let outcome = match reply(writer, session, number, parsed, room) {
+        let outcome = match reply(alloc, writer, session, number, parsed, room) {
             Ok(outcome) => outcome,
             Err(WriteFailed) => return Err(BenchFault::Write),
         };

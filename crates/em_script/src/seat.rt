@@ -1,4 +1,6 @@
 //! Where the machine of a session is.
+ghost use Rattle.std.specs.Prelude.{◌≡◌, ◌≢◌};
+ghost use Rattle.em_script.specs.Seat.{world_in};
 
 use em_driver::{E1000, Turns};
 
@@ -9,4 +11,18 @@ pub enum Seat {
     Driven(E1000<Turns>),
     /// While a driver is started; never between two lines.
     Moved,
+}
+
+impl Seat {
+    /// The machine with its plan, without the driver.
+    pub fn into_turns(self) -> Turns
+        requires { self ≢ Seat.Moved }
+        ensures { result ≡ world_in self }
+    {
+        match self {
+            Seat::Bare(turns) => turns,
+            Seat::Driven(driver) => driver.into_bus(),
+            Seat::Moved => unreachable!(),
+        }
+    }
 }

@@ -1,11 +1,14 @@
 //! What a script is run on.
-ghost use Rattle.std.specs.Prelude.{◌≡◌};
+ghost use Rattle.std.specs.Prelude.{◌≡◌, ◌<◌, Some, OnOk, OnErr};
+ghost use Rattle.em_driver.specs.Planned.{planned};
+ghost use Rattle.em_driver.specs.Turn.{plan_turns};
 ghost use Rattle.em_script.specs.Session.{bare};
 
 use crate::seat::Seat;
-use em_driver::Turns;
+use em_driver::{PlanRefused, Turn, Turns};
 use em_journal::Machine;
 use std::alloc::Global;
+use std::collections::VecDeque;
 use std::marker::Model;
 
 /// A machine, and what scripts keep beside it: whether a driver stands on it, and a plan of turns
@@ -39,6 +42,21 @@ impl Session {
             seat: Seat::Bare(Turns::new(alloc, machine)),
             planned: false,
         }
+    }
+
+    /// Sets the plan for the next call of a driver. Where memory is refused the plan before it stays.
+    pub(crate) fn set_plan(&mut self, plan: VecDeque<Vec<Turn>>) -> Result<(), PlanRefused>
+        requires { plan_turns (planned plan.items) < 0x1_0000_0000 }
+        ensures ok { OnOk result (self.new ≡ record self.old { plan = Some (planned plan.items) }) }
+        ensures err { OnErr result (self.new ≡ self.old) }
+    {
+        match &mut self.seat {
+            Seat::Bare(turns) => turns.set_plan(plan)?,
+            Seat::Driven(driver) => driver.bus().set_plan(plan)?,
+            Seat::Moved => unreachable!(),
+        }
+        self.planned = true;
+        Ok(())
     }
 
     /// The machine as the scripts so far left it.

@@ -8,3 +8,4 @@ pub mod CostLaws
 pub mod EngineLaws
 pub mod SetupLaws
 pub mod PieceLaws
+pub mod WholeLaws

@@ -9,5 +9,6 @@ pub mod Fate
 pub mod Engines
 pub mod Step
 pub mod Pieces
+pub mod Whole
 pub mod Undo
 pub mod Cost

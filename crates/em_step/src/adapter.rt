@@ -228,9 +228,7 @@ impl Adapter {
             Part::Register(old) => Part::Register(self.registers.exchange(old)),
             Part::Octets(mut old) => {
                 // the box is kept for the other record, since this takes no memory
-                let none = MemUndo::new(0, Vec::new(self.alloc));
-                let taken = std::mem::replace(&mut *old, none);
-                *old = self.memory.exchange(taken);
+                self.memory.exchange_in_place(&mut old);
                 Part::Octets(old)
             }
             Part::Arrival(old) => Part::Arrival(self.exchange_frame(old)),
@@ -250,6 +248,7 @@ impl Adapter {
     }
 
     /// Takes a step of the transmit engine back.
+    #[inline(never)]
     fn take_back_sending(&mut self, words: LatchUndo, head: u32, change: Box<Change>)
         requires { Fits self.old (record { latches = words; part = Part.TxStep head change }) }
         ensures { self.new ≡ undo self.old (record { latches = words; part = Part.TxStep head change }) }
@@ -413,6 +412,7 @@ impl Adapter {
 
     /// Resets the registers and latches, and empties the FIFO and the gathered octets. The box that keeps
     /// the old ones is made first.
+    #[inline(never)]
     fn reset(&mut self) -> Result<Undo, Refusal>
         ensures state { OnOk result (shows self.new ≡ reset (shows self.old)) }
         ensures cost { IfOk result (λ r. cost_of r ≡ most_cost) }
@@ -450,6 +450,7 @@ impl Adapter {
     }
 
     /// Writes octets of guest memory. All that can be refused comes before the first change.
+    #[inline(never)]
     fn poke(&mut self, addr: u64, octets: &[u8]) -> Result<Undo, Refusal>
         ensures ok { OnOk result (step (shows self.old) (pokes addr octets.now) ≡ Ok (Answer.Done, shows self.new)) }
         ensures cost { IfOk result (λ r. cost_of r ≡ cost (shows self.old) (pokes addr octets.now)) }

@@ -34,6 +34,7 @@ const TAG_OCTETS: usize = 4;
 
 impl Adapter {
     /// A frame arrives. It is refused for its length alone, and for memory where it would be stored.
+    #[inline(never)]
     pub(crate) fn arrive(&mut self, frame: &[u8]) -> Result<(Answer, Undo), Refusal>
         ensures ok { IfOk result (λ r. step (shows self.old) (arrives frame.now) ≡ Ok (r.0, shows self.new)) }
         ensures cost { IfOk result (λ r. cost_of r.1 ≡ cost (shows self.old) (arrives frame.now)) }

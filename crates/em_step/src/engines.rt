@@ -20,6 +20,7 @@ const CHECK_OCTETS: u32 = 4;
 
 impl Adapter {
     /// The receive engine handles the descriptor at RDH. An idle step takes no memory.
+    #[inline(never)]
     pub(crate) fn receive_step(&mut self) -> Result<(Answer, Undo), Refusal>
         ensures ok { IfOk result (λ r. step (shows self.old) receives ≡ Ok (r.0, shows self.new)) }
         ensures cost { IfOk result (λ r. cost_of r.1 ≡ cost (shows self.old) receives) }
@@ -50,6 +51,7 @@ impl Adapter {
     }
 
     /// The transmit engine handles the descriptor at TDH. An idle step takes no memory.
+    #[inline(never)]
     #[tactic(auto, using(crate::proofs::EngineLaws::tx_refuses))]
     pub(crate) fn transmit_step(&mut self) -> Result<(Answer, Undo), Refusal>
         ensures ok { IfOk result (λ r. step (shows self.old) transmits ≡ Ok (r.0, shows self.new)) }

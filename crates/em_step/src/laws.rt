@@ -1,21 +1,23 @@
 //! What the definitions of steps and records say together.
-ghost use Rattle.std.specs.Prelude.{◌≡◌, ◌≢◌, ◌+◌, ◌<◌, ◌≤◌, ◌∷◌, ℕ, List, Ok};
+ghost use Rattle.std.specs.Prelude.{◌≡◌, ◌≢◌, ◌⊎◌, ◌+◌, ◌<◌, ◌≤◌, [], ◌∷◌, ℕ, true, false, All, List, None, Ok};
 ghost use Rattle.em_regs.specs.declared.reg.Reg.{Reg};
 ghost use Rattle.em_regs.specs.Table.{IsReg};
 ghost use Rattle.em_regs.specs.Storage.{Registers};
 ghost use Rattle.em_regs.specs.RegFile.{address_low, address_high, put, put_eerd};
-ghost use Rattle.em_regs.specs.Setup.{rx_setup};
+ghost use Rattle.em_regs.specs.Setup.{rx_setup, tx_setup, value_of};
 ghost use Rattle.em_eeprom.specs.Eeprom.{IsEeprom, mac_of};
+ghost use Rattle.em_filter.specs.Bits.{lpe, vme};
 ghost use Rattle.em_rx.specs.Frame.{Frame};
 ghost use Rattle.em_rx.specs.Pieces.{GoesInPieces, IsDelivered};
 ghost use Rattle.em_step.specs.State.{State, status};
 ghost use Rattle.em_step.specs.Access.{gives, reset, after_eeprom_read};
 ghost use Rattle.em_step.specs.Cells.{Cells, fresh, shows, MorePages};
 ghost use Rattle.em_step.specs.Undo.{Fits, undo};
-ghost use Rattle.em_step.specs.Event.{Event};
+ghost use Rattle.em_step.specs.Event.{Event, arrives, receives, transmits};
 ghost use Rattle.em_step.specs.Arrival.{arrival};
 ghost use Rattle.em_step.specs.Fate.{IsFate};
 ghost use Rattle.em_step.specs.Step.{step};
+ghost use Rattle.em_step.specs.Whole.{Admits, IsPlain, IsWhole, KeepsAllButFifo, ReceivesWhole, SendsWhole};
 ghost use Rattle.em_step.specs.Pieces.{AreReceived};
 ghost use Rattle.em_step.specs.Cost.{cost, most_cost};
 ghost use Rattle.em_step.specs.declared.event.Answer.{Answer};
@@ -69,6 +71,21 @@ pub fn pieces()
         × (t.fifo ≡ record { frames = frames; taken = 0 })
         × ((i : ℕ) → i < j → IsDelivered (rx_setup s.registers) s.memory t.memory frame j i) }
     ensures count { (m : Registers) (v : ℕ) → (rx_setup (put m Reg.Rdlen v)).count ≤ 65_536 }
+{}
+
+/// Where each frame has one descriptor and lies whole in its buffer of 2,048 octets, with no VLAN tag:
+/// an arrival puts the frame as it is at the FIFO's end or drops it, a receive step takes the FIFO's
+/// first frame whole into its buffer, and a transmit step sends the packet of its descriptor, padded.
+pub fn whole_frames()
+    ensures arrives { (s : State) (f : List ℕ) (r : Answer × State) → step s (arrives f) ≡ Ok r →
+        lpe s.registers ≡ false → vme s.registers ≡ false → KeepsAllButFifo s r.1 × Admits s f r.0 r.1 }
+    ensures receives { (s : State) (r : Answer × State) → step s receives ≡ Ok r →
+        (rx_setup s.registers).buffer ≡ 2048 → s.fifo.taken ≡ 0 → All IsPlain s.fifo.frames →
+        (r.1 ≡ s) ⊎ ((f : List ℕ) × (frames : List Frame) × ReceivesWhole s f frames r.1) }
+    ensures transmits { (s : State) (r : Answer × State) → step s transmits ≡ Ok r →
+        (tx_setup s.registers).vlan ≡ None → (tx_setup s.registers).pad ≡ true → s.gathered ≡ [] →
+        (value_of s.registers Reg.Tdh ≢ value_of s.registers Reg.Tdt → IsWhole s) →
+        (r.1 ≡ s) ⊎ SendsWhole s r.1 }
 {}
 
 /// An adapter's EEPROM has 64 words of 16 bits.

@@ -9,10 +9,10 @@ use Rattle.std.proofs.Math.Nat.{pow-le-pow_right, pow-suc, mul-le-mul_right}
 use Rattle.std.specs.Char.{is_digit, digit_value}
 use Rattle.std.specs.Str.Parse.{digits_value, digits_value_after}
 use Rattle.std.specs.Result.{result_ok}
-use Rattle.std.specs.Prelude.{EachIndex, IsSome, slice_index}
+use Rattle.std.specs.Prelude.{EachIndex, IsSome, slice_index, slice_set, min, max, nat_lt, if◌then◌else◌}
 use Rattle.hex.specs.Hex.{decode_of, is_hex_digit, decode_pairs, hex_digit_value, digit_or_error, value_at, pair_value}
 use Rattle.hex.specs.declared.error.FromHexError.TheVariants.{InvalidHexCharacter}
-use Rattle.hex.proofs.Pairs.{prepend, decode_err, decode_done}
+use Rattle.hex.proofs.Pairs.{prepend, decode_err, decode_done, decode_step}
 use Rattle.hex.proofs.HexLemmas.{decode_of-even, decode_pairs-digits, decode_of-ok}
 use Rattle.hex.specs.declared.error.FromHexError.{FromHexError}
 use Rattle.em_text.specs.Numbers.{number, octets_of}
@@ -207,3 +207,49 @@ pub octets_of-good : (word octets : List ℕ) (i : ℕ) → 0 < length word → 
 octets_of-good word octets i some room end so_far =
     octets_of-some word some
     ∙ ap result_ok (decode_of-even word (omega arith) ∙ decode_done word octets i end (omega arith) so_far)
+
+-- ---- as long as all were digits, the octets so far stand before what the digits behind write
+pub record Decodes (word octets : List ℕ) (i greatest : ℕ) : Type 0 where
+  pub good : greatest < 16
+      → decode_pairs 0 word ≡ prepend (take i octets) (decode_pairs (2 * i) (drop (2 * i) word))
+  pub bad : 16 ≤ greatest → octets_of word ≡ None
+
+-- one octet more
+pub Decodes-more : (word octets : List ℕ) (i greatest high low next : ℕ) → length word % 2 ≡ 0
+    → 2 * i + 1 < length word → i < length octets → next ≡ max (max high low) greatest
+    → min high 16 ≡ min (digit_value (slice_index word (2 * i))) 16
+    → min low 16 ≡ min (digit_value (slice_index word (2 * i + 1))) 16 → Decodes word octets i greatest
+    → Decodes word (slice_set octets i (high % 16 * 16 + low % 16)) (i + 1) next
+Decodes-more word octets i greatest high low next even here room is_next is_high is_low before =
+    let a = digit_value (slice_index word (2 * i)) in
+    let b = digit_value (slice_index word (2 * i + 1)) in
+    record {
+      good = λ small.
+          let one : a < 16 = omega (arith, small, is_next, is_high) in
+          let two : b < 16 = omega (arith, small, is_next, is_low) in
+          let value : a * 16 + b ≡ high % 16 * 16 + low % 16 = omega (arith, small, is_next, is_high, is_low) in
+          let pair = pair_value-good (slice_index word (2 * i)) (slice_index word (2 * i + 1)) (2 * i) one two
+          ∙ ap Ok value in
+          decode_step word octets i _ here room pair (before.good (omega (arith, small, is_next)));
+      bad = λ great.
+          elim (cases_lt greatest 16) [
+            | inr none ↦ before.bad none
+            | inl all ↦
+                elim (cases_lt a 16) [
+                  | inr none ↦ octets_of-bad_high word octets i even here none (before.good all)
+                  | inl one ↦
+                      octets_of-bad_low word octets i even here one (omega (arith, great, is_next, is_high, is_low))
+                      (before.good all)
+                ]
+          ];
+    }
+
+-- all octets
+pub Decodes-all : (word octets : List ℕ) (i greatest : ℕ) → 0 < length word → length word ≡ 2 * length octets
+    → length octets ≤ i → Decodes word octets i greatest
+    → octets_of word ≡ (if nat_lt greatest 16 then Some octets else None)
+Decodes-all word octets i greatest some room end so_far =
+    elim (cases_lt greatest 16) [
+      | inl small ↦ rw (lt-ltb _ _ small) (octets_of-good word octets i some room end (so_far.good small))
+      | inr great ↦ rw (le-ltb _ _ great) (so_far.bad great)
+    ]

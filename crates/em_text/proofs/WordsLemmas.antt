@@ -3,8 +3,9 @@ use Rattle.std.proofs.Common.{one-add, ◌≡◌, ℕ, ◌+◌, ◌<◌, ◌≤�
 use Rattle.std.proofs.Common.{drop, get_or, refl, sym, ap, ◌∙◌, arith, nat_lt, filter, inl, inr}
 use Rattle.std.specs.List.{slice_split, position_or_len, prefix_len, before_first, after_first, All}
 use Rattle.std.proofs.lemmas.List.{length-take-le, drop_more, drop_all, take_all}
-use Rattle.std.proofs.lemmas.List.Splits.{slice_split-cons_yes, slice_split_none, slice_split_first}
+use Rattle.std.proofs.lemmas.List.Splits.{slice_split-cons_yes, slice_split_none, slice_split_first, length-slice_split}
 use Rattle.std.proofs.lemmas.List.Sums.{fails_before_first, passes_at_first, prefix_len-le-length, prefix_len_stops}
+use Rattle.std.proofs.lemmas.List.Sums.{length-filter, count_by-le-length}
 use Rattle.std.proofs.lemmas.Bool.{cases_lt, lt-ltb}
 use Rattle.em_text.specs.Words.{words_of, is_blank}
 
@@ -103,3 +104,16 @@ first_word line n len word rest e lt el ew er =
     sym (words_of-blanks line) ∙ ap (λ k. words_of (drop k line)) (sym e) ∙ words_of_first from long
     ∙ ap (λ k. take k from ∷ words_of (drop k from)) (sym el)
     ∙ ap (λ l. l ∷ words_of (drop len from)) (sym ew) ∙ ap (λ l. word ∷ words_of l) (sym er)
+
+-- a line of n octets has at most n + 1 words
+pub words_of-few : (line : List ℕ) → length (words_of line) ≤ length line + 1
+unfolding words_of
+words_of-few line =
+    let parts = slice_split is_blank line in
+    omega (
+      arith,
+      length-filter (λ word. nat_lt 0 (length word)) parts,
+      count_by-le-length (λ word. nat_lt 0 (length word)) parts,
+      length-slice_split is_blank line,
+      count_by-le-length is_blank line,
+    )

@@ -1,6 +1,6 @@
 //! The values of digits, by a table: digits are most of a script, and their letters and numerals
 //! are mixed too well for a branch to be foreseen.
-ghost use Rattle.std.specs.Prelude.{◌≡◌};
+ghost use Rattle.std.specs.Prelude.{◌≡◌, min};
 ghost use Rattle.std.specs.Char.{digit_value};
 
 /// The value of each octet as a digit, letters in either case; 36 where it is none.
@@ -30,4 +30,18 @@ pub fn value_of(octet: u8) -> u8
     ensures { result ≡ digit_value octet }
 {
     VALUES[usize::from(octet)]
+}
+
+/// The value of a hexadecimal digit in either case; 16 for any other octet. By comparisons in place
+/// of the table, so that a loop over many octets takes several at once.
+#[inline(always)]
+pub fn hex_value_of(octet: u8) -> u8
+    ensures { result ≡ min (digit_value octet) 16 }
+{
+    match octet {
+        b'0'..=b'9' => octet - b'0',
+        b'A'..=b'F' => octet - b'A' + 10,
+        b'a'..=b'f' => octet - b'a' + 10,
+        _ => 16,
+    }
 }

@@ -15,6 +15,7 @@ const NEWLINE: u8 = b'\n';
 pub fn next_line(script: &[u8]) -> (&[u8], &[u8])
     requires { 0 < length script.now }
     ensures lines { lines_of script.now ≡ result.0.now ∷ lines_of result.1.now }
+    ensures within { length result.0.now ≤ length script.now }
     ensures shorter { length result.1.now < length script.now }
 {
     let end = line_len(script);

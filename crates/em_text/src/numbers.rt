@@ -5,7 +5,7 @@ ghost use Rattle.std.specs.Char.{digit_value};
 ghost use Rattle.std.specs.Vec.{vec_capacity};
 ghost use Rattle.em_text.specs.Numbers.{number, hex_number, hex_address, decimal_number, octets_of};
 
-use crate::digits::value_of;
+use crate::digits::{hex_value_of, value_of};
 use std::alloc::{AllocError, Global};
 
 const HEX: u8 = 16;
@@ -117,6 +117,16 @@ pub fn octets_into(octets: &mut Vec<u8>, word: &[u8]) -> Result<bool, AllocError
     Ok(false)
 }
 
+/// Whether an even number of hexadecimal digits stands there, 2 digits or more.
+pub fn is_octets(word: &[u8]) -> bool
+    ensures { IsTrue result ↔ IsSome (octets_of word.now) }
+{
+    if word.is_empty() || word.len() % 2 == 1 {
+        return false;
+    }
+    has_digits_alone(word)
+}
+
 /// Whether each octet of a word is a hexadecimal digit.
 fn has_digits_alone(word: &[u8]) -> bool
     ensures { IsTrue result ↔ EachIndex word.now (λ k. digit_value (slice_index word.now k) < 16) }
@@ -124,19 +134,30 @@ fn has_digits_alone(word: &[u8]) -> bool
     word.iter().all(|octet| value_of(*octet) < HEX)
 }
 
+/// How many octets a loop without branches takes at a time.
+const AT_ONCE: usize = 16;
+
 /// Whether the word is of digits, and if so, writes the octets that they write.
+///
+/// It goes on behind an octet that is no digit, so that the compiler can take several at a time.
 fn decode(word: &[u8], octets: &mut [u8]) -> bool
     requires some { 0 < length word.now }
     requires room { length word.now ≡ 2 * length octets.old }
     ensures value { octets_of word.now ≡ (if result then Some octets.new else None) }
 {
-    for i in 0..octets.len() {
+    let mut greatest = 0;
+    let even = octets.len() / AT_ONCE * AT_ONCE;
+    for i in 0..even {
+        let high = hex_value_of(word[2 * i]);
+        let low = hex_value_of(word[2 * i + 1]);
+        greatest = high.max(low).max(greatest);
+        octets[i] = high % HEX * HEX + low % HEX;
+    }
+    for i in even..octets.len() {
         let high = value_of(word[2 * i]);
         let low = value_of(word[2 * i + 1]);
-        if high >= HEX || low >= HEX {
-            return false;
-        }
-        octets[i] = high * HEX + low;
+        greatest = high.max(low).max(greatest);
+        octets[i] = high % HEX * HEX + low % HEX;
     }
-    true
+    greatest < HEX
 }

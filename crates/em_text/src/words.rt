@@ -4,11 +4,16 @@ ghost use Rattle.std.specs.List.{prefix_len, position_or_len};
 ghost use Rattle.std.specs.Iterator.{YieldsFirstRef, item_count};
 ghost use Rattle.em_text.specs.Words.{words_of, is_blank};
 
+use memchr::memchr3;
+
 const SPACE: u8 = b' ';
 
 const TAB: u8 = b'\t';
 
 const CARRIAGE_RETURN: u8 = b'\r';
+
+/// From so many octets on, a line is searched many octets at a time.
+const LONG: usize = 64;
 
 /// The words of a line that are still to come: its parts between spaces, tabs and carriage
 /// returns, less the empty ones.
@@ -48,6 +53,31 @@ fn blanks_len(line: &[u8]) -> usize
 /// How many octets a line has before its first blank.
 #[inline]
 fn word_len(line: &[u8]) -> usize
+    ensures value { result ≡ position_or_len is_blank line.now }
+    ensures within { result ≤ length line.now }
+{
+    if line.len() < LONG {
+        short_word_len(line)
+    } else {
+        long_word_len(line)
+    }
+}
+
+/// The same, many octets at a time.
+#[inline(never)]
+fn long_word_len(line: &[u8]) -> usize
+    ensures value { result ≡ position_or_len is_blank line.now }
+    ensures within { result ≤ length line.now }
+{
+    match memchr3(SPACE, TAB, CARRIAGE_RETURN, line) {
+        Some(len) => len,
+        None => line.len(),
+    }
+}
+
+/// The same, octet by octet.
+#[inline(always)]
+fn short_word_len(line: &[u8]) -> usize
     ensures value { result ≡ position_or_len is_blank line.now }
     ensures within { result ≤ length line.now }
 {

@@ -26,7 +26,23 @@ const HIGH_DIGITS: usize = 3;
 pub struct WriteFailed;
 
 /// Writes the text whole. A write that takes no octet is a fault.
+#[inline(always)]
 pub fn write_whole<W: Write>(writer: &mut W, text: &[u8]) -> Result<(), WriteFailed>
+    ensures writes { Writes (W.contents writer.old) (W.contents writer.new) result text.now }
+{
+    if text.is_empty() {
+        return Ok(());
+    }
+    match writer.write(text) {
+        // all at once, as a buffer with room takes it
+        Ok(count) if count == text.len() => Ok(()),
+        Ok(count) if count > 0 => write_in_parts(writer, &text[count..]),
+        _ => Err(WriteFailed),
+    }
+}
+
+/// Writes the text whole, by as many writes as it takes.
+fn write_in_parts<W: Write>(writer: &mut W, text: &[u8]) -> Result<(), WriteFailed>
     ensures writes { Writes (W.contents writer.old) (W.contents writer.new) result text.now }
 {
     let mut done = 0;
@@ -99,6 +115,7 @@ pub fn write_register_line<W: Write>(
 }
 
 /// Writes a number in decimal digits.
+#[inline(always)]
 pub fn write_decimal<W: Write>(writer: &mut W, number: u64) -> Result<(), WriteFailed>
     ensures writes { Writes (W.contents writer.old) (W.contents writer.new) result (decimal_text number) }
 {
@@ -107,6 +124,7 @@ pub fn write_decimal<W: Write>(writer: &mut W, number: u64) -> Result<(), WriteF
 }
 
 /// Writes a number in decimal digits, and a newline.
+#[inline(always)]
 pub fn write_decimal_line<W: Write>(writer: &mut W, number: u64) -> Result<(), WriteFailed>
     ensures writes { Writes (W.contents writer.old) (W.contents writer.new) result (decimal_line_text number) }
 {

@@ -1,4 +1,4 @@
-use Rattle.std.proofs.Common.{◌≡◌, ◌+◌, ap, arith}
+use Rattle.std.proofs.Common.{ap, arith}
 use Rattle.em_driver.specs.Planned.{planned}
 use Rattle.em_driver.specs.Turn.{arrivals, plan_arrivals, plan_turns}
 use Rattle.em_driver.proofs.CountLaws.{arrivals_least}

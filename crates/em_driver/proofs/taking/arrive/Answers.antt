@@ -1,4 +1,4 @@
-use Rattle.std.proofs.Common.{◌≡◌, ◌∙◌, [], ◌++◌, arith, refl, sym, ap, append-nil}
+use Rattle.std.proofs.Common.{◌∙◌, ◌++◌, arith, refl, sym, ap, append-nil}
 use Rattle.em_driver.proofs.TakingLaws.{takes_arrival, stored_one, stored_none}
 use Rattle.em_driver.proofs.taking.arrive.Goals as goal
 

@@ -59,3 +59,7 @@ returns-in-Err-clause-err g c =
     let printed = rw c.in-Err.is at replied.prints in
     Ran-fails c.args.script.now failed c.loop-rest.invariant.ran c.next_line.ensures.lines replied.allowed
     replied.session printed.written
+
+pub parse_line-requires : goal.parse_line-requires
+parse_line-requires g c =
+    omega (arith, c.next_line.ensures.within, c.requires, c.loop-rest.invariant.few, c.loop-rest.invariant.room)

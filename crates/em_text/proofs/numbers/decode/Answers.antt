@@ -1,39 +1,32 @@
-use Rattle.std.proofs.Common.{ℕ, ◌+◌, ◌*◌, arith, ◌∙◌, sym, ap₂, Ok, slice_index}
-use Rattle.hex.proofs.Pairs.{decode_step, decode_start}
-use Rattle.em_text.proofs.NumbersLemmas.{pair_value-good, octets_of-bad_high, octets_of-bad_low, octets_of-good}
+use Rattle.std.proofs.Common.{ℕ, ◌≤◌, ◌≡◌, arith, subst}
+use Rattle.hex.proofs.Pairs.{decode_start}
+use Rattle.em_text.proofs.NumbersLemmas.{Decodes, Decodes-more, Decodes-all}
 use Rattle.em_text.proofs.numbers.decode.Goals as goal
-use Rattle.em_text.proofs.numbers.decode.Goals.{then-high-ge-HEX-via-then-high-ge-HEX}
-use Rattle.em_text.proofs.numbers.decode.Goals.{then-high-ge-HEX-via-else-high-ge-HEX+then-low-ge-HEX}
-
-pub returns-then-high-ge-HEX : goal.returns-then-high-ge-HEX
-returns-then-high-ge-HEX c =
-    let word = c.args.word.now in
-    let octets = c.loop-i.octets in
-    let i = c.loop-i.i in
-    record {
-      value = elim c.then-high-ge-HEX.branch [
-        | then-high-ge-HEX-via-then-high-ge-HEX w ↦
-            octets_of-bad_high word octets i (omega arith) (omega arith) (omega arith) c.loop-i.invariant
-        | then-high-ge-HEX-via-else-high-ge-HEX+then-low-ge-HEX w ↦
-            octets_of-bad_low word octets i (omega arith) (omega arith) (omega arith) (omega arith) c.loop-i.invariant
-      ];
-    }
 
 pub loop-i-init : goal.loop-i-init
-loop-i-init c = decode_start c.args.word.now c.args.octets.now
+loop-i-init c = record {
+  good = λ _. decode_start c.args.word.now c.args.octets.now;
+  bad = λ (h : 16 ≤ 0). absurd (omega arith);
+}
 
 pub loop-i-preserved : goal.loop-i-preserved
 loop-i-preserved c =
-    let word = c.args.word.now in
-    let octets = c.loop-i.octets in
-    let i = c.loop-i.i in
-    let pair = pair_value-good (slice_index word (2 * i)) (slice_index word (2 * i + 1)) (2 * i)
-    (omega arith) (omega arith)
-    ∙ ap₂ (λ (a b : ℕ). Ok (a * 16 + b)) (sym c.value_of-high.ensures) (sym c.value_of-low.ensures) in
-    decode_step word octets i _ (omega arith) (omega arith) pair c.loop-i.invariant
+    Decodes-more c.args.word.now c.loop-i.octets c.loop-i.i c.loop-i.greatest c.hex_value_of-high.result
+    c.hex_value_of-low.result c.max-greatest.result (omega arith) (omega arith) (omega arith) (omega arith)
+    (omega arith) (omega arith) c.loop-i.invariant
+
+pub loop-i-2-init : goal.loop-i-2-init
+loop-i-2-init c =
+    subst (λ i. Decodes c.args.word.now c.loop-i.octets i c.loop-i.greatest) (omega arith) c.loop-i.invariant
+
+pub loop-i-2-preserved : goal.loop-i-2-preserved
+loop-i-2-preserved c =
+    Decodes-more c.args.word.now c.loop-i-2.octets c.loop-i-2.i c.loop-i-2.greatest c.value_of-high.result
+    c.value_of-low.result c.max-greatest-in-loop-i-2.result (omega arith) (omega arith) (omega arith) (omega arith)
+    (omega arith) (omega arith) c.loop-i-2.invariant
 
 pub returns : goal.returns
 returns c = record {
-  value = octets_of-good c.args.word.now c.loop-i.octets c.loop-i.i c.requires.some (omega arith) (omega arith)
-      c.loop-i.invariant;
+  value = Decodes-all c.args.word.now c.loop-i-2.octets c.loop-i-2.i c.loop-i-2.greatest c.requires.some
+      (omega arith) (omega arith) c.loop-i-2.invariant;
 }

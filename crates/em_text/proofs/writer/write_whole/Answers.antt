@@ -1,20 +1,15 @@
-use Rattle.std.proofs.Common.{◌-◌, ◌≤◌, ◌++◌, take, drop, length, arith, sym, ap, ◌∙◌}
+use Rattle.std.proofs.Common.{◌++◌, take, sym, ap, ◌∙◌, take-append-drop}
 use Rattle.std.proofs.lemmas.List.{take_rest}
-use Rattle.std.proofs.lemmas.Grind.{common_steps}
-use Rattle.std.proofs.Math.Seq.{take-add}
-use Rattle.em_text.proofs.WritingLemmas.{Appends-more}
+use Rattle.em_text.proofs.WritingLemmas.{Writes-more}
 use Rattle.em_text.proofs.writer.write_whole.Goals as goal
 
-pub loop-done-preserved : goal.loop-done-preserved
-loop-done-preserved g c =
+-- the front that was taken at once, and the rest by parts
+pub returns-in-Ok-2 : goal.returns-in-Ok-2
+returns-in-Ok-2 g c =
     let text = c.args.text.now in
-    let rest = drop c.loop-done.done text in
-    let bound : c.in-Ok.count ≤ length (take (length text - c.loop-done.done) rest) = c.in-Ok.ensures.bound in
-    let piece = take c.in-Ok.count (take (length text - c.loop-done.done) rest) in
-    let all = take-add c.loop-done.done c.in-Ok.count text
-    ∙ ap (λ l. take c.loop-done.done text ++ take c.in-Ok.count l) (sym (take_rest text c.loop-done.done)) in
+    let count = c.in-Ok.count in
     record {
-      within = grind (arith, common_steps);
-      written = Appends-more _ _ _ (take c.loop-done.done text) piece _ c.loop-done.invariant.written
-          c.in-Ok.ensures.bytes all;
+      writes = Writes-more _ _ _ c.write_in_parts.result (take count text) _ text c.in-Ok.ensures.bytes
+          c.write_in_parts.ensures.writes
+          (sym (take-append-drop count text) ∙ ap (λ l. take count text ++ l) (sym (take_rest text count)));
     }

@@ -1,6 +1,6 @@
 use Rattle.std.proofs.Common.{length, ◌-◌, ◌≤◌, take}
 use Rattle.std.specs.Io.KnownBytes.{Appends}
-use Rattle.em_text.proofs.writer.write_whole.Given as goal
+use Rattle.em_text.proofs.writer.write_in_parts.Given as goal
 
 -- the front that was written so far
 abbrev pub invariant-loop-done : goal.invariant-loop-done

@@ -1,0 +1,32 @@
+//! Calls of the driver under random turns of other actors, and prints a line for each course of them.
+//!
+//! Frames arrive and engines step before any access of the driver, and some calls are taken back. However
+//! they fall, the packets received must be the stored frames, in order, and the sent frames the packets
+//! that the driver took.
+#![tactic(auto)]
+
+use anyhow::Result;
+
+mod digest;
+#[cfg(test)]
+mod driven;
+mod plan;
+#[cfg(test)]
+mod refusals;
+mod setup;
+#[cfg(test)]
+mod tests;
+mod traffic;
+
+/// How many courses there are, each of sixty calls by the random numbers of its own seed.
+const COURSES: u64 = 20;
+
+fn main(rt: HostRuntime) -> Result<()> {
+    for seed in 0..COURSES {
+        match traffic::course(rt.alloc(), seed) {
+            Ok(()) => println!(rt; "passed {seed}")?,
+            Err(error) => println!(rt; "{error} {seed}")?,
+        }
+    }
+    Ok(())
+}

@@ -1,0 +1,408 @@
+-- What waits, through arrivals and receive steps.
+use Rattle.std.proofs.Common.{◌≡◌, ◌≢◌, ◌∙◌, ℕ, ◌+◌, ◌*◌, ◌/◌, ◌<◌, ◌≤◌, Bool, true, false, List, [], ◌∷◌}
+use Rattle.std.proofs.Common.{◌++◌}
+use Rattle.std.proofs.Common.{length, take, drop, refl, sym, ap, subst, inl, inr, arith, append_assoc, append-nil}
+use Rattle.std.specs.Prelude.{All, slice_index, ◌==◌, if◌then◌else◌, bit_and}
+use Rattle.std.proofs.lemmas.Bool.{cases_eq}
+use Rattle.std.proofs.lemmas.Bool.Decides.{nat_tests}
+use Rattle.std.proofs.lemmas.List.{map-append, take_at}
+use Rattle.std.proofs.lemmas.List.Elements.{All-append, All-rest}
+use Rattle.std.proofs.lemmas.Nat.{and_mask}
+use Rattle.std.proofs.Math.Nat.{mod-eq_of_lt}
+use Rattle.byteorder.specs.Endian.{little_number}
+use Rattle.em_mem.specs.Memory.{part, put}
+use Rattle.em_regs.specs.declared.reg.Reg.{Reg}
+use Rattle.em_regs.specs.declared.reg.Reg.TheVariants.{Ctrl, Rctl, Rdbal, Rdbah, Rdlen, Rdh, Rdt}
+use Rattle.em_regs.specs.RegFile as registers
+use Rattle.em_regs.specs.Setup.{value_of, pair, rx_setup, buffer_size}
+use Rattle.em_regs.specs.Storage.{Registers}
+use Rattle.em_regs.specs.Table.{offset_of}
+use Rattle.em_filter.specs.Bits.{lpe, vme}
+use Rattle.em_rx.specs.Frame.{Frame}
+use Rattle.em_rx.specs.Receive as rx
+use Rattle.em_step.specs.State.{State}
+use Rattle.em_step.specs.Whole.{IsUsual, IsPlain, plain, ReceivesWhole}
+use Rattle.em_step.proofs.SetupLaws.{put_same, put_other}
+use Rattle.em_driver.specs.Descriptor.{length_of}
+use Rattle.em_driver.specs.Driven.{rdh, rdt, rx_at, first, is_filled, IsMarked, IsUsualLength, IsReceivingBut}
+use Rattle.em_driver.specs.Driven.{IsFirstMarked, IsLaidOut}
+use Rattle.em_driver.specs.Layout.{IsGoodLayout}
+use Rattle.em_driver.specs.Order.{rx_packet_at, octets_of, waiting}
+use Rattle.em_driver.specs.Places.{is_among, between}
+use Rattle.em_driver.specs.Receive.{following, rx_buffer, rx_descriptor}
+use Rattle.em_driver.specs.declared.layout.Layout.{Layout}
+use Rattle.em_driver.proofs.DescriptorLaws.{address_stays, filled_back, filled_length, filled_mark}
+use Rattle.em_driver.proofs.PlaceLaws.{following_in, following_apart, among_end, grow_here, grow_other}
+use Rattle.em_driver.proofs.PlaceLaws.{between_grow, between_same}
+use Rattle.em_driver.proofs.UnitLaws.{Region, rx_ring, rx_buffers, AreTwo, count_of, size_of, unit, unit_at, unit_apart}
+use Rattle.em_driver.proofs.UnitLaws.{unit_within, unit_size, unit_long, part_front}
+
+-- ---- one write to memory
+
+-- octets were written into a unit of memory
+pub record Writes (l : Layout) (m n : List ℕ) (k : Region) (j o : ℕ) (d : List ℕ) : Type 0 where
+  pub good : IsGoodLayout (length n) l
+  pub size : length n ≡ length m
+  pub here : unit l n k j ≡ put (unit l m k j) o d
+  pub long : length (unit l m k j) ≡ size_of k
+  pub other : (r : Region) (i : ℕ) → i < count_of l r → AreTwo r i k j → unit l n r i ≡ unit l m r i
+
+pub writes : (l : Layout) (m n : List ℕ) (k : Region) (j o : ℕ) (d : List ℕ) → IsGoodLayout (length m) l
+    → j < count_of l k → o + length d ≤ size_of k → n ≡ put m (unit_at l k j + o) d → Writes l m n k j o d
+writes l m n k j o d good below inside is =
+    let size : length n ≡ length m = ap length is ∙ unit_size l m good k j o d below inside in
+    record {
+      good = subst (λ x. IsGoodLayout x l) (sym size) good;
+      size = size;
+      here = ap (λ x. unit l x k j) is ∙ unit_within l m good k j o d below inside;
+      long = unit_long l m good k j below;
+      other = λ r i low two. ap (λ x. unit l x r i) is ∙ unit_apart l m good r k i j o d low below inside two;
+    }
+
+-- ---- registers
+
+-- an offset of no register that the receive side goes by
+pub record NotReceiving (o : ℕ) : Type 0 where
+  pub ctrl : o ≢ 0
+  pub rctl : o ≢ 0x100
+  pub ring : 0x2800 ≤ o → 0x2818 < o
+
+-- the registers that the receive side goes by, but for RDH and RDT
+pub record SameRxSetup (m n : Registers) : Type 0 where
+  pub rctl : value_of n Rctl ≡ value_of m Rctl
+  pub base : pair n Rdbah Rdbal ≡ pair m Rdbah Rdbal
+  pub len : value_of n Rdlen ≡ value_of m Rdlen
+  pub vme : vme n ≡ vme m
+
+-- all of them
+pub record SameRx (m n : Registers) : Type 0 where
+  pub setup : SameRxSetup m n
+  pub head : value_of n Rdh ≡ value_of m Rdh
+  pub tail : value_of n Rdt ≡ value_of m Rdt
+
+pub same_rx : (m n : Registers) → n ≡ m → SameRx m n
+same_rx m n is = record {
+  setup = record {
+    rctl = ap (λ x. value_of x Rctl) is;
+    base = ap (λ x. pair x Rdbah Rdbal) is;
+    len = ap (λ x. value_of x Rdlen) is;
+    vme = ap vme is;
+  };
+  head = ap (λ x. value_of x Rdh) is;
+  tail = ap (λ x. value_of x Rdt) is;
+}
+
+vme_by : (m n : Registers) → value_of n Ctrl ≡ value_of m Ctrl → vme n ≡ vme m
+vme_by m n is = ap (λ v. bit_and v 0x4000_0000 == 0x4000_0000) is
+
+pair_by : (m n : Registers) → value_of n Rdbah ≡ value_of m Rdbah → value_of n Rdbal ≡ value_of m Rdbal
+    → pair n Rdbah Rdbal ≡ pair m Rdbah Rdbal
+pair_by m n high low = λ i. high i * 0x1_0000_0000 + low i
+
+-- a write of another register
+pub other_rx : (m : Registers) (reg : Reg) (v : ℕ) → NotReceiving (offset_of reg) → SameRx m (registers.put m reg v)
+other_rx m reg v out = record {
+  setup = record {
+    rctl = put_other m reg Rctl v (λ e. out.rctl (sym e));
+    base = pair_by m (registers.put m reg v) (put_other m reg Rdbah v (λ e. omega (arith, out.ring)))
+        (put_other m reg Rdbal v (λ e. omega (arith, out.ring)));
+    len = put_other m reg Rdlen v (λ e. omega (arith, out.ring));
+    vme = vme_by m (registers.put m reg v) (put_other m reg Ctrl v (λ e. out.ctrl (sym e)));
+  };
+  head = put_other m reg Rdh v (λ e. omega (arith, out.ring));
+  tail = put_other m reg Rdt v (λ e. omega (arith, out.ring));
+}
+
+-- an index is kept whole
+pub index_kept : (m : Registers) (reg : Reg) (v : ℕ) → value_of (registers.put m reg v) reg ≡ bit_and v 0xFFFF
+    → v < 65_536 → value_of (registers.put m reg v) reg ≡ v
+index_kept m reg v is less = is ∙ and_mask v 16 ∙ mod-eq_of_lt less
+
+pub setup_rdh : (m : Registers) (v : ℕ) → SameRxSetup m (registers.put m Rdh v)
+setup_rdh m v = record {
+  rctl = put_other m Rdh Rctl v (λ e. omega arith);
+  base = pair_by m (registers.put m Rdh v) (put_other m Rdh Rdbah v (λ e. omega arith))
+      (put_other m Rdh Rdbal v (λ e. omega arith));
+  len = put_other m Rdh Rdlen v (λ e. omega arith);
+  vme = vme_by m (registers.put m Rdh v) (put_other m Rdh Ctrl v (λ e. omega arith));
+}
+
+pub setup_rdt : (m : Registers) (v : ℕ) → SameRxSetup m (registers.put m Rdt v)
+setup_rdt m v = record {
+  rctl = put_other m Rdt Rctl v (λ e. omega arith);
+  base = pair_by m (registers.put m Rdt v) (put_other m Rdt Rdbah v (λ e. omega arith))
+      (put_other m Rdt Rdbal v (λ e. omega arith));
+  len = put_other m Rdt Rdlen v (λ e. omega arith);
+  vme = vme_by m (registers.put m Rdt v) (put_other m Rdt Ctrl v (λ e. omega arith));
+}
+
+-- ---- what an event of others leaves of the receive side
+
+-- the packets that it added to what waits; the first descriptor, once it is filled, stays
+pub record RxMoves (l : Layout) (s t : State) (added : List (List ℕ)) : Type 0 where
+  pub but : IsReceivingBut l t
+  pub tail : rdt t ≡ rdt s
+  pub waiting : waiting l t ≡ waiting l s ++ added
+  pub filled : is_filled l s (first l s) ≡ true → is_filled l t (first l s) ≡ true
+  pub descriptor : is_filled l s (first l s) ≡ true → rx_at l t (first l s) ≡ rx_at l s (first l s)
+  pub buffer : is_filled l s (first l s) ≡ true
+      → unit l t.memory rx_buffers (first l s) ≡ unit l s.memory rx_buffers (first l s)
+  pub mark : IsFirstMarked l s → IsFirstMarked l t
+
+pub first_same : (l : Layout) (s t : State) → rdt t ≡ rdt s → first l t ≡ first l s
+first_same l s t tail = ap (following l.rx_count) tail
+
+pub rx_moves_on : (l : Layout) (s t u : State) (a b : List (List ℕ)) → RxMoves l s t a → RxMoves l t u b
+    → RxMoves l s u (a ++ b)
+rx_moves_on l s t u a b h k =
+    let there : first l t ≡ first l s = first_same l s t h.tail in
+    let filled = λ (e : is_filled l s (first l s) ≡ true). ap (is_filled l t) there ∙ h.filled e in
+    record {
+      but = k.but;
+      tail = k.tail ∙ h.tail;
+      waiting = k.waiting ∙ ap (λ xs. xs ++ b) h.waiting ∙ append_assoc (waiting l s) a b;
+      filled = λ e. ap (is_filled l u) (sym there) ∙ k.filled (filled e);
+      descriptor = λ e. ap (rx_at l u) (sym there) ∙ k.descriptor (filled e) ∙ ap (rx_at l t) there ∙ h.descriptor e;
+      buffer = λ e. ap (unit l u.memory rx_buffers) (sym there) ∙ k.buffer (filled e)
+          ∙ ap (unit l t.memory rx_buffers) there ∙ h.buffer e;
+      mark = λ m. k.mark (h.mark m);
+    }
+
+-- the ring and the buffers are as they were
+pub record SameRing (l : Layout) (s t : State) : Type 0 where
+  pub registers : SameRx s.registers t.registers
+  pub descriptors : (i : ℕ) → i < l.rx_count → rx_at l t i ≡ rx_at l s i
+  pub buffers : (i : ℕ) → i < l.rx_count → unit l t.memory rx_buffers i ≡ unit l s.memory rx_buffers i
+
+pub same_ring : (l : Layout) (s t : State) → SameRx s.registers t.registers → t.memory ≡ s.memory → SameRing l s t
+same_ring l s t regs is = record {
+  registers = regs;
+  descriptors = λ i low. ap (λ m. unit l m rx_ring i) is;
+  buffers = λ i low. ap (λ m. unit l m rx_buffers i) is;
+}
+
+-- a packet by the units that it lies in
+pub packet_same : (l : Layout) (s t : State) (i : ℕ) → length_of (rx_at l s i) ≤ 2048 → rx_at l t i ≡ rx_at l s i
+    → unit l t.memory rx_buffers i ≡ unit l s.memory rx_buffers i → rx_packet_at l t i ≡ rx_packet_at l s i
+packet_same l s t i few same buffer =
+    let n : ℕ = length_of (rx_at l s i) in
+    ap (λ d. part t.memory (rx_buffer l i) (length_of d)) same
+    ∙ part_front t.memory (rx_buffer l i) n 2048 few
+    ∙ ap (take n) buffer
+    ∙ sym (part_front s.memory (rx_buffer l i) n 2048 few)
+
+mark_as : (a b : Bool) (d e : List ℕ) → a ≡ b → d ≡ e → IsMarked b e → IsMarked a d
+mark_as a b d e is same h = subst (λ x. IsMarked x d) (sym is) (subst (IsMarked b) (sym same) h)
+
+-- frames came to the FIFO's end, or none did
+pub rx_kept : (l : Layout) (s t : State) (more : List Frame) → IsReceivingBut l s → SameRing l s t
+    → t.fifo ≡ record { frames = s.fifo.frames ++ more; taken = s.fifo.taken } → All IsPlain more
+    → RxMoves l s t (octets_of more)
+rx_kept l s t more h same fifo plain =
+    let n : ℕ = l.rx_count in
+    let a : first l t ≡ first l s = first_same l s t same.registers.tail in
+    let filled : (i : ℕ) → is_filled l t i ≡ is_filled l s i = λ i p. is_among n (a p) (same.registers.head p) i in
+    let below : first l s < n = following_in n (rdt s) h.tail in
+    let packets : between n (first l t) (rdh t) (rx_packet_at l t) ≡ between n (first l s) (rdh s) (rx_packet_at l s)
+    = (λ p. between n (a p) (same.registers.head p) (rx_packet_at l t))
+    ∙ between_same n (first l s) (rdh s) (rx_packet_at l t) (rx_packet_at l s) below h.head
+    (λ i low e. packet_same l s t i (omega (arith, (h.lengths i low e).most)) (same.descriptors i low)
+    (same.buffers i low)) in
+    record {
+      but = record {
+        rctl = same.registers.setup.rctl ∙ h.rctl;
+        base = same.registers.setup.base ∙ h.base;
+        len = same.registers.setup.len ∙ h.len;
+        head = subst (λ x. x < n) (sym same.registers.head) h.head;
+        tail = subst (λ x. x < n) (sym same.registers.tail) h.tail;
+        untagged = same.registers.setup.vme ∙ h.untagged;
+        addresses = λ i low. ap (little_number 8) (same.descriptors i low) ∙ h.addresses i low;
+        lengths = λ i low e. subst (λ d. IsUsualLength (length_of d)) (sym (same.descriptors i low))
+            (h.lengths i low (sym (filled i) ∙ e));
+        marks = λ i low other. mark_as _ _ _ _ (filled i) (same.descriptors i low)
+            (h.marks i low (λ e. other (e ∙ sym a)));
+        frames = subst (All IsPlain) (sym (ap (λ f. f.frames) fifo))
+            (All-append IsPlain s.fifo.frames more h.frames plain);
+        taken = ap (λ f. f.taken) fifo ∙ h.taken;
+      };
+      tail = same.registers.tail;
+      waiting = (λ p. packets p ++ octets_of (fifo p).frames)
+          ∙ ap (λ x. between n (first l s) (rdh s) (rx_packet_at l s) ++ x)
+          (map-append (λ f. f.octets) s.fifo.frames more)
+          ∙ sym (append_assoc (between n (first l s) (rdh s) (rx_packet_at l s)) (octets_of s.fifo.frames)
+          (octets_of more));
+      filled = λ e. filled (first l s) ∙ e;
+      descriptor = λ e. same.descriptors (first l s) below;
+      buffer = λ e. same.buffers (first l s) below;
+      mark = λ m. mark_as _ _ _ _ (ap (is_filled l t) a ∙ filled (first l s))
+          (ap (rx_at l t) a ∙ same.descriptors (first l s) below) m;
+    }
+
+-- nothing of the receive side changed
+pub rx_same : (l : Layout) (s t : State) → IsReceivingBut l s → SameRing l s t → t.fifo ≡ s.fifo → RxMoves l s t []
+rx_same l s t h same fifo =
+    let none : t.fifo ≡ record { frames = s.fifo.frames ++ []; taken = s.fifo.taken }
+    = fifo ∙ λ i. record { frames = sym (append-nil s.fifo.frames) i; taken = s.fifo.taken } in
+    rx_kept l s t [] h same none (λ k d low. absurd (omega arith))
+
+-- ---- a frame that goes into the ring
+
+-- the frame f went into the descriptor at RDH
+pub record Fills (l : Layout) (s t : State) (f : List ℕ) (frames : List Frame) : Type 0 where
+  pub setup : SameRxSetup s.registers t.registers
+  pub head : rdh t ≡ following l.rx_count (rdh s)
+  pub tail : rdt t ≡ rdt s
+  pub apart : rdh s ≢ rdt s
+  pub usual : IsUsual f
+  pub was : s.fifo.frames ≡ plain f ∷ frames
+  pub fifo : t.fifo ≡ record { frames = frames; taken = 0 }
+  pub descriptors : (i : ℕ) → i < l.rx_count → i ≢ rdh s → rx_at l t i ≡ rx_at l s i
+  pub buffers : (i : ℕ) → i < l.rx_count → i ≢ rdh s → unit l t.memory rx_buffers i ≡ unit l s.memory rx_buffers i
+  pub address : little_number 8 (rx_at l t (rdh s)) ≡ rx_buffer l (rdh s)
+  pub length : length_of (rx_at l t (rdh s)) ≡ length f
+  pub mark : slice_index (rx_at l t (rdh s)) 12 ≡ 0x07
+  pub packet : rx_packet_at l t (rdh s) ≡ f
+
+pub moves_fill : (l : Layout) (s t : State) (f : List ℕ) (frames : List Frame) → IsReceivingBut l s
+    → Fills l s t f frames → RxMoves l s t []
+moves_fill l s t f frames h k =
+    let n : ℕ = l.rx_count in
+    let b : ℕ = rdh s in
+    let a : ℕ = first l s in
+    let low_a : a < n = following_in n (rdt s) h.tail in
+    let a_is : first l t ≡ a = first_same l s t k.tail in
+    let room : following n b ≢ a = following_apart n b (rdt s) h.head h.tail k.apart in
+    let now : (i : ℕ) → is_filled l t i ≡ is_among n a (following n b) i = λ i p. is_among n (a_is p) (k.head p) i in
+    let here : is_filled l t b ≡ true = now b ∙ grow_here n a b low_a h.head room in
+    let there : (i : ℕ) → i < n → i ≢ b → is_filled l t i ≡ is_filled l s i
+    = λ i low other. now i ∙ grow_other n a b i low_a h.head room low other in
+    let not_end : is_filled l s a ≡ true → a ≢ b
+    = λ e is. absurd (let no : true ≡ false = sym e ∙ ap (λ x. is_among n a b x) is ∙ among_end n a b in cc) in
+    let marked_here : IsMarked (is_filled l t b) (rx_at l t b)
+    = subst (λ x. IsMarked x (rx_at l t b)) (sym here) k.mark in
+    let each : (i : ℕ) → i < n → IsMarked (is_filled l s i) (rx_at l s i) → IsMarked (is_filled l t i) (rx_at l t i)
+    = λ i low m. elim (cases_eq i b) [
+      | inl e ↦ subst (λ x. IsMarked (is_filled l t x) (rx_at l t x)) (sym e) marked_here
+      | inr e ↦ mark_as _ _ _ _ (there i low e) (k.descriptors i low e) m
+    ] in
+    let old : between n a b (rx_packet_at l t) ≡ between n a b (rx_packet_at l s)
+    = between_same n a b (rx_packet_at l t) (rx_packet_at l s) low_a h.head (λ i low e.
+    let other : i ≢ b = λ is. absurd (let no : true ≡ false = sym e ∙ ap (λ x. is_among n a b x) is
+    ∙ among_end n a b in cc) in
+    packet_same l s t i (omega (arith, (h.lengths i low e).most)) (k.descriptors i low other)
+    (k.buffers i low other)) in
+    let packets : between n (first l t) (rdh t) (rx_packet_at l t) ≡ between n a b (rx_packet_at l s) ++ f ∷ []
+    = (λ p. between n (a_is p) (k.head p) (rx_packet_at l t))
+    ∙ between_grow n a b (rx_packet_at l t) low_a h.head room
+    ∙ (λ p. old p ++ k.packet p ∷ []) in
+    record {
+      but = record {
+        rctl = k.setup.rctl ∙ h.rctl;
+        base = k.setup.base ∙ h.base;
+        len = k.setup.len ∙ h.len;
+        head = subst (λ x. x < n) (sym k.head) (following_in n b h.head);
+        tail = subst (λ x. x < n) (sym k.tail) h.tail;
+        untagged = k.setup.vme ∙ h.untagged;
+        addresses = λ i low. elim (cases_eq i b) [
+          | inl e ↦ subst (λ x. little_number 8 (rx_at l t x) ≡ rx_buffer l x) (sym e) k.address
+          | inr e ↦ ap (little_number 8) (k.descriptors i low e) ∙ h.addresses i low
+        ];
+        lengths = λ i low e. elim (cases_eq i b) [
+          | inl is ↦ subst (λ x. IsUsualLength (length_of (rx_at l t x))) (sym is)
+              (subst IsUsualLength (sym k.length) (record { least = k.usual.least; most = k.usual.most }))
+          | inr is ↦ subst (λ d. IsUsualLength (length_of d)) (sym (k.descriptors i low is))
+              (h.lengths i low (sym (there i low is) ∙ e))
+        ];
+        marks = λ i low other. each i low (h.marks i low (λ e. other (e ∙ sym a_is)));
+        frames = subst (All IsPlain) (sym (ap (λ x. x.frames) k.fifo))
+            (All-rest IsPlain (plain f) frames s.fifo.frames k.was h.frames);
+        taken = ap (λ x. x.taken) k.fifo;
+      };
+      tail = k.tail;
+      waiting = (λ p. packets p ++ octets_of (k.fifo p).frames)
+          ∙ append_assoc (between n a b (rx_packet_at l s)) (f ∷ []) (octets_of frames)
+          ∙ ap (λ x. between n a b (rx_packet_at l s) ++ octets_of x) (sym k.was)
+          ∙ sym (append-nil (waiting l s));
+      filled = λ e. there a low_a (not_end e) ∙ e;
+      descriptor = λ e. k.descriptors a low_a (not_end e);
+      buffer = λ e. k.buffers a low_a (not_end e);
+      mark = λ m. subst (λ x. IsMarked (is_filled l t x) (rx_at l t x)) (sym a_is) (each a low_a m);
+    }
+
+-- ---- a receive step
+
+-- a step of the engine goes to the next descriptor as the driver does
+next_is : (n c h : ℕ) → h < n → c ≡ n → (if h + 1 == c then 0 else h + 1) ≡ following n h
+next_is n c h low same = grind (arith, nat_tests)
+
+-- the two writes of a receive step
+pub record RxWrites (l : Layout) (s t : State) (f : List ℕ) : Type 0 where
+  pub mid : List ℕ
+  pub packet : Writes l s.memory mid rx_buffers (rdh s) 0 f
+  pub back : Writes l mid t.memory rx_ring (rdh s) 8 (filled_back (length f))
+
+pub rx_writes : (l : Layout) (s t : State) (f : List ℕ) (frames : List Frame) → IsLaidOut l s → IsReceivingBut l s
+    → ReceivesWhole s f frames t → RxWrites l s t f
+rx_writes l s t f frames laid h r =
+    let q = rx_setup s.registers in
+    let b : ℕ = rdh s in
+    let at : rx.descriptor_at q ≡ rx_descriptor l b = ap (λ x. x + 16 * b) h.base in
+    let buffer : rx.buffer_at q s.memory ≡ rx_buffer l b
+    = ap (λ x. little_number 8 (part s.memory x 16)) at ∙ h.addresses b h.head in
+    let zero : rx_buffer l b ≡ unit_at l rx_buffers b + 0 = omega arith in
+    let mid : List ℕ = put s.memory (unit_at l rx_buffers b + 0) f in
+    let one = writes l s.memory mid rx_buffers b 0 f laid.good h.head (omega (arith, r.usual.most)) refl in
+    record {
+      mid = mid;
+      packet = one;
+      back = writes l mid t.memory rx_ring b 8 (filled_back (length f)) one.good h.head (omega arith)
+          (r.memory ∙ λ p. put (put s.memory ((buffer ∙ zero) p) f) (at p + 8) (filled_back (length f)));
+    }
+
+pub fills : (l : Layout) (s t : State) (f : List ℕ) (frames : List Frame) → IsLaidOut l s → IsReceivingBut l s
+    → ReceivesWhole s f frames t → Fills l s t f frames
+fills l s t f frames laid h r =
+    let n : ℕ = l.rx_count in
+    let b : ℕ = rdh s in
+    let q = rx_setup s.registers in
+    let w = rx_writes l s t f frames laid h r in
+    let count : q.count ≡ n = ap (λ v. v / 16) h.len ∙ omega arith in
+    let next : rx.following q ≡ following n b = next_is n q.count b h.head count in
+    let low : following n b < 65_536 = omega (arith, following_in n b h.head, laid.good.rx_count.most) in
+    let regs : t.registers ≡ registers.put s.registers Rdh (following n b)
+    = r.registers ∙ ap (registers.put s.registers Rdh) next in
+    let here : rx_at l t b ≡ put (rx_at l s b) 8 (filled_back (length f))
+    = w.back.here ∙ ap (λ d. put d 8 (filled_back (length f))) (w.packet.other rx_ring b h.head tt) in
+    let long : length (rx_at l s b) ≡ 16 = unit_long l s.memory laid.good rx_ring b h.head in
+    let is_long : length_of (rx_at l t b) ≡ length f = ap length_of here ∙ filled_length (rx_at l s b)
+    (length f) long in
+    let buffer : unit l t.memory rx_buffers b ≡ put (unit l s.memory rx_buffers b) 0 f
+    = w.back.other rx_buffers b h.head tt ∙ w.packet.here in
+    record {
+      setup = subst (SameRxSetup s.registers) (sym regs) (setup_rdh s.registers (following n b));
+      head = ap (λ m. value_of m Rdh) regs
+          ∙ index_kept s.registers Rdh (following n b) (put_same s.registers Rdh (following n b)) low;
+      tail = ap (λ m. value_of m Rdt) regs ∙ put_other s.registers Rdh Rdt (following n b) (λ e. omega arith);
+      apart = r.apart;
+      usual = r.usual;
+      was = r.first;
+      fifo = r.fifo;
+      descriptors = λ i inside other. w.back.other rx_ring i inside other ∙ w.packet.other rx_ring i inside tt;
+      buffers = λ i inside other. w.back.other rx_buffers i inside tt ∙ w.packet.other rx_buffers i inside other;
+      address = ap (little_number 8) here ∙ address_stays (rx_at l s b) 8 (filled_back (length f)) (omega arith)
+          (omega (arith, long))
+          ∙ h.addresses b h.head;
+      length = is_long;
+      mark = ap (λ d. slice_index d 12) here ∙ filled_mark (rx_at l s b) (length f) long;
+      packet = ap (part t.memory (rx_buffer l b)) is_long
+          ∙ part_front t.memory (rx_buffer l b) (length f) 2048 (omega (arith, r.usual.most))
+          ∙ ap (take (length f)) buffer
+          ∙ take_at f (drop (0 + length f) (unit l s.memory rx_buffers b)) (length f) refl;
+    }
+
+-- the receive ring's setup
+pub buffer_whole : (l : Layout) (s : State) → IsReceivingBut l s → (rx_setup s.registers).buffer ≡ 2048
+buffer_whole l s h = ap buffer_size h.rctl
+
+pub no_long_frames : (l : Layout) (s : State) → IsReceivingBut l s → lpe s.registers ≡ false
+no_long_frames l s h = ap (λ v. bit_and v 0x20 == 0x20) h.rctl

@@ -1,0 +1,171 @@
+-- One turn of another actor, in a state as a driver keeps it.
+use Rattle.std.proofs.Common.{◌≡◌, ◌∙◌, ◌⊎◌, ℕ, Bool, true, false, List, [], ◌∷◌, ◌++◌, length, refl, sym, ap}
+use Rattle.std.proofs.Common.{subst}
+use Rattle.std.proofs.Common.{append-nil, if◌then◌else◌, inl, inr, arith, Ok}
+use Rattle.em_regs.specs.declared.reg.Reg.TheVariants.{Rdh, Tdh}
+use Rattle.em_regs.specs.Setup.{rx_setup, tx_setup}
+use Rattle.em_rx.specs.Frame.{Frame}
+use Rattle.em_rx.specs.Receive as rx
+use Rattle.em_tx.specs.Ring as tx
+use Rattle.em_latch.specs.Latches.{after_raise}
+use Rattle.em_step.specs.Access.{after_link, differ}
+use Rattle.em_step.specs.State.{State}
+use Rattle.em_step.specs.Step.{step}
+use Rattle.em_step.specs.Whole.{IsPlain, plain, KeepsAllButFifo, Admits, ReceivesWhole, SendsWhole}
+use Rattle.em_step.specs.declared.event.Answer.{Answer}
+use Rattle.em_step.proofs.WholeLaws.{arrived, received_whole, sent_whole}
+use Rattle.std.proofs.lemmas.List.Elements.{All-cons, All-nil}
+use Rattle.em_driver.specs.Driven.{IsLaidOut, IsDrivenBut, IsDriven}
+use Rattle.em_driver.specs.Layout.{IsGoodLayout}
+use Rattle.em_driver.specs.Order.{queued, waiting}
+use Rattle.em_driver.specs.Turn.{event_of, stored_by}
+use Rattle.em_driver.specs.declared.layout.Layout.{Layout}
+use Rattle.em_driver.specs.declared.turn.Turn.{Turn}
+use Rattle.em_driver.specs.declared.turn.Turn.TheVariants.{Arrive, RxStep, TxStep}
+use Rattle.em_driver.proofs.ReceivingLaws.{RxMoves, rx_moves_on, rx_kept, rx_same, same_ring, same_rx, other_rx}
+use Rattle.em_driver.proofs.ReceivingLaws.{rx_writes, fills}
+use Rattle.em_driver.proofs.ReceivingLaws.{moves_fill, buffer_whole, no_long_frames, SameRx}
+use Rattle.em_driver.proofs.SendingLaws.{TxMoves, tx_moves_on, tx_same, same_tx_ring, same_tx, other_tx, sends}
+use Rattle.em_driver.proofs.SendingLaws.{moves_send, is_whole}
+use Rattle.em_driver.proofs.SendingLaws.{no_tags, pads, SameTx}
+use Rattle.em_driver.proofs.UnitLaws.{rx_ring, rx_buffers, tx_ring, tx_buffers}
+
+-- what a turn leaves, and the packets that it added to what waits
+pub record Moves (l : Layout) (s t : State) (added : List (List ℕ)) : Type 0 where
+  pub layout : IsLaidOut l t
+  pub receiving : RxMoves l s t added
+  pub sending : TxMoves l s t
+
+pub laid_same : (l : Layout) (s t : State) → length t.memory ≡ length s.memory → IsLaidOut l s → IsLaidOut l t
+laid_same l s t size h = record { good = subst (λ n. IsGoodLayout n l) (sym size) h.good; placed = h.placed }
+
+-- neither side's ring changed, nor what is on the wire
+pub moves_same : (l : Layout) (s t : State) → IsDrivenBut l s → t.registers ≡ s.registers → t.memory ≡ s.memory
+    → t.fifo ≡ s.fifo → t.gathered ≡ s.gathered → t.wire ≡ s.wire → Moves l s t []
+moves_same l s t h regs memory fifo gathered wire = record {
+  layout = laid_same l s t (ap length memory) h.layout;
+  receiving = rx_same l s t h.receiving (same_ring l s t (same_rx s.registers t.registers regs) memory) fifo;
+  sending = tx_same l s t h.sending (same_tx_ring l s t (same_tx s.registers t.registers regs) memory gathered wire);
+}
+
+pub moves_none : (l : Layout) (s : State) → IsDrivenBut l s → Moves l s s []
+moves_none l s h = moves_same l s s h refl refl refl refl refl
+
+moves_as : (l : Layout) (s t : State) (a b : List (List ℕ)) → a ≡ b → Moves l s t b → Moves l s t a
+moves_as l s t a b e h = subst (Moves l s t) (sym e) h
+
+admitted : (l : Layout) (s t : State) (f : List ℕ) (answer : Answer) → IsDrivenBut l s → KeepsAllButFifo s t
+    → Admits s f answer t → Moves l s t (stored_by (Arrive f) answer)
+admitted l s t f answer h k (inl dropped) =
+    moves_as l s t _ [] (ap (stored_by (Arrive f)) dropped.1)
+    (moves_same l s t h k.registers k.memory dropped.2 k.gathered k.wire)
+admitted l s t f answer h k (inr stored) =
+    moves_as l s t _ (f ∷ []) (ap (stored_by (Arrive f)) stored.0)
+    (record {
+      layout = laid_same l s t (ap length k.memory) h.layout;
+      receiving = rx_kept l s t (plain f ∷ []) h.receiving
+          (same_ring l s t (same_rx s.registers t.registers k.registers) k.memory) stored.3
+          (All-cons IsPlain (plain f) [] (record { usual = stored.2; untagged = refl }) (All-nil IsPlain));
+      sending = tx_same l s t h.sending
+          (same_tx_ring l s t (same_tx s.registers t.registers k.registers) k.memory k.gathered k.wire);
+    })
+
+stays : (l : Layout) (s t : State) → IsDrivenBut l s → t ≡ s → Moves l s t []
+stays l s t h is = subst (λ x. Moves l s x []) (sym is) (moves_none l s h)
+
+received : (l : Layout) (s t : State) (f : List ℕ) (frames : List Frame) → IsDrivenBut l s
+    → ReceivesWhole s f frames t → Moves l s t []
+received l s t f frames h r =
+    let w = rx_writes l s t f frames h.layout h.receiving r in
+    record {
+      layout = laid_same l s t (w.back.size ∙ w.packet.size) h.layout;
+      receiving = moves_fill l s t f frames h.receiving (fills l s t f frames h.layout h.receiving r);
+      sending = tx_same l s t h.sending record {
+        registers = subst (SameTx s.registers) (sym r.registers)
+            (other_tx s.registers Rdh (rx.following (rx_setup s.registers))
+            (record { ctrl = λ e. omega arith; tctl = λ e. omega arith; ring = λ e. omega arith }));
+        descriptors = λ i low. w.back.other tx_ring i low tt ∙ w.packet.other tx_ring i low tt;
+        buffers = λ i low. w.back.other tx_buffers i low tt ∙ w.packet.other tx_buffers i low tt;
+        gathered = r.gathered;
+        wire = r.wire;
+      };
+    }
+
+received_or_not : (l : Layout) (s t : State) → IsDrivenBut l s
+    → (t ≡ s) ⊎ ((f : List ℕ) × (frames : List Frame) × ReceivesWhole s f frames t) → Moves l s t []
+received_or_not l s t h (inl same) = stays l s t h same
+received_or_not l s t h (inr r) = received l s t r.0 r.1 h r.2
+
+sent : (l : Layout) (s t : State) → IsDrivenBut l s → SendsWhole s t → Moves l s t []
+sent l s t h r =
+    let k = sends l s t h.layout h.sending r in
+    let w = k.0 in
+    record {
+      layout = laid_same l s t w.size h.layout;
+      receiving = rx_same l s t h.receiving (record {
+        registers = subst (SameRx s.registers) (sym r.registers)
+            (other_rx s.registers Tdh (tx.next (tx_setup s.registers))
+            (record { ctrl = λ e. omega arith; rctl = λ e. omega arith; ring = λ e. omega arith }));
+        descriptors = λ i low. w.other rx_ring i low tt;
+        buffers = λ i low. w.other rx_buffers i low tt;
+      }) r.fifo;
+      sending = moves_send l s t h.sending k.1;
+    }
+
+sent_or_not : (l : Layout) (s t : State) → IsDrivenBut l s → (t ≡ s) ⊎ SendsWhole s t → Moves l s t []
+sent_or_not l s t h (inl same) = stays l s t h same
+sent_or_not l s t h (inr r) = sent l s t h r
+
+-- a turn that is performed
+pub turn_moves : (l : Layout) (s : State) (t : Turn) (r : Answer × State) → IsDrivenBut l s
+    → step s (event_of t) ≡ Ok r → Moves l s r.1 (stored_by t r.0)
+turn_moves l s (Arrive f) r h is =
+    let a = arrived s f r is (no_long_frames l s h.receiving) h.receiving.untagged in
+    admitted l s r.1 f r.0 h a.0 a.1
+turn_moves l s RxStep r h is =
+    received_or_not l s r.1 h
+    (received_whole s r is (buffer_whole l s h.receiving) h.receiving.taken h.receiving.frames)
+turn_moves l s TxStep r h is =
+    sent_or_not l s r.1 h
+    (sent_whole s r is (no_tags l s h.sending) (pads l s h.sending) h.sending.gathered
+    (is_whole l s h.layout h.sending))
+
+-- ---- what is driven stays so
+
+pub but_moves : (l : Layout) (s t : State) (a : List (List ℕ)) → Moves l s t a → IsDrivenBut l t
+but_moves l s t a m = record { layout = m.layout; receiving = m.receiving.but; sending = m.sending.sending }
+
+pub driven_moves : (l : Layout) (s t : State) (a : List (List ℕ)) → Moves l s t a → IsDriven l s → IsDriven l t
+driven_moves l s t a m h = record { but = but_moves l s t a m; marked = m.receiving.mark h.marked }
+
+pub moves_on : (l : Layout) (s t u : State) (a b : List (List ℕ)) → Moves l s t a → Moves l t u b → Moves l s u (a ++ b)
+moves_on l s t u a b h k = record {
+  layout = k.layout;
+  receiving = rx_moves_on l s t u a b h.receiving k.receiving;
+  sending = tx_moves_on l s t u h.sending k.sending;
+}
+
+-- ---- the link
+
+link_moves : (l : Layout) (s : State) (up b : Bool) → IsDrivenBut l s
+    → Moves l s (if b then record s { link = up; latches = after_raise s.latches 0x4 } else s) []
+link_moves l s up true h = moves_same l s _ h refl refl refl refl refl
+link_moves l s up false h = moves_none l s h
+
+abbrev wire_of : State → List (List ℕ)
+wire_of s = s.wire
+
+link_queued : (l : Layout) (s : State) (up b : Bool)
+    → (queued l (if b then record s { link = up; latches = after_raise s.latches 0x4 } else s) ≡ queued l s)
+    × (wire_of (if b then record s { link = up; latches = after_raise s.latches 0x4 } else s) ≡ s.wire)
+link_queued l s up true = (refl, refl)
+link_queued l s up false = (refl, refl)
+
+pub link_driven : (l : Layout) (s : State) (up : Bool) → IsDriven l s
+    → IsDriven l (after_link s up) × (waiting l (after_link s up) ≡ waiting l s)
+    × (queued l (after_link s up) ≡ queued l s) × ((after_link s up).wire ≡ s.wire)
+link_driven l s up h =
+    let b : Bool = differ up s.link in
+    let m : Moves l s (after_link s up) [] = link_moves l s up b h.but in
+    let same = link_queued l s up b in
+    (driven_moves l s (after_link s up) [] m h, m.receiving.waiting ∙ append-nil (waiting l s), same.0, same.1)

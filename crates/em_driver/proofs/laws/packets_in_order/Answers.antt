@@ -1,0 +1,17 @@
+use Rattle.em_driver.proofs.RunLaws.{call_span, turn_span, handed_prefix, sent_prefix, wire_grows}
+use Rattle.em_driver.proofs.laws.packets_in_order.Goals as goal
+
+pub returns-clause-calls : goal.returns-clause-calls
+returns-clause-calls c = call_span
+
+pub returns-clause-turns : goal.returns-clause-turns
+returns-clause-turns c = turn_span
+
+pub returns-clause-received : goal.returns-clause-received
+returns-clause-received c = handed_prefix
+
+pub returns-clause-sent : goal.returns-clause-sent
+returns-clause-sent c = sent_prefix
+
+pub returns-clause-wire : goal.returns-clause-wire
+returns-clause-wire c = wire_grows

@@ -1,0 +1,96 @@
+-- Calls of a driver, from one session to the next.
+use Rattle.std.proofs.Common.{◌≡◌, ◌≢◌, ◌∙◌, ℕ, Bool, true, false, cond, List, [], Option, Some, None, refl, sym, ap}
+use Rattle.std.proofs.Common.{subst}
+use Rattle.em_journal.specs.View.{View}
+use Rattle.em_driver.specs.declared.turn.Turn.{Turn}
+use Rattle.em_driver.specs.World.{World, quiet}
+use Rattle.em_driver.specs.Course.{Follows}
+use Rattle.em_script.specs.Session.{Session}
+use Rattle.em_script.specs.Seat.{IsReady, IsSeated, world_in, is_driven, session_of}
+use Rattle.em_script.specs.declared.seat.Seat.{Seat}
+use Rattle.em_script.specs.declared.seat.Seat.TheVariants.{Bare, Driven, Moved}
+use Rattle.em_script.specs.declared.called.Called.{Called}
+use Rattle.em_script.specs.Request.{Request}
+use Rattle.em_script.specs.Response.{plain, is_started, world_of}
+use Rattle.em_script.specs.Calling.{course_of, world_at, plan_counts, after_call, did_of, IsCalled}
+
+-- a line begins with a seat that was not moved
+pub not_moved : (seat : Seat) (planned : Bool) → IsSeated seat planned → seat ≢ Moved
+not_moved (Bare turns) planned seated = λ e. cc e
+not_moved (Driven driver) planned seated = λ e. cc e
+not_moved Moved planned seated = absurd seated
+
+-- a call begins in the world that the seat holds
+ready_world : (w : World) (planned : Bool) → IsReady w planned
+    → world_of w.machine (cond planned (Some w.plan) None) ≡ w
+ready_world w true ready = parts w.machine w.plan w.stored w.performed w.refused w.starved ready.stored ready.performed
+    ready.refused ready.fed
+  where
+    parts : (machine : View) (plan : List (List Turn)) (stored : List (List ℕ)) (performed refused : ℕ) (starved : Bool)
+        → stored ≡ [] → performed ≡ 0 → refused ≡ 0 → starved ≡ false
+        → record (quiet machine) { plan = plan } ≡ record {
+          machine = machine;
+          stored = stored;
+          plan = plan;
+          performed = performed;
+          refused = refused;
+          starved = starved;
+        }
+    parts machine plan stored performed refused starved a b c d = rw (a, b, c, d) refl
+ready_world w false ready = parts w.machine w.plan w.stored w.performed w.refused w.starved (ready.none refl)
+    ready.stored ready.performed ready.refused ready.fed
+  where
+    parts : (machine : View) (plan : List (List Turn)) (stored : List (List ℕ)) (performed refused : ℕ) (starved : Bool)
+        → plan ≡ [] → stored ≡ [] → performed ≡ 0 → refused ≡ 0 → starved ≡ false
+        → quiet machine ≡ record {
+          machine = machine;
+          stored = stored;
+          plan = plan;
+          performed = performed;
+          refused = refused;
+          starved = starved;
+        }
+    parts machine plan stored performed refused starved p a b c d = rw (p, a, b, c, d) refl
+
+seated_world : (seat : Seat) (planned : Bool) → IsSeated seat planned → world_at (session_of seat planned) ≡ world_in
+    seat
+seated_world (Bare turns) planned seated = ready_world turns planned seated
+seated_world (Driven driver) planned seated = ready_world driver.bus planned seated.0
+seated_world Moved planned seated = absurd seated
+
+-- the counts of a plan are told where one was set, whatever it was
+counts_same : (planned : Bool) (p q : List (List Turn)) (w : World)
+    → plan_counts (cond planned (Some p) None) w ≡ plan_counts (cond planned (Some q) None) w
+counts_same true p q w = refl
+counts_same false p q w = refl
+
+abbrev session_with : View → Bool → Option (List (List Turn)) → Session
+session_with machine started plan = record { machine = machine; started = started; plan = plan }
+
+-- the session that a call leaves
+left_session : (after : Seat) (rest : Bool) (called : Called) (w : World) → rest ≡ false
+    → is_driven after ≡ is_started (plain called.response) → world_in after ≡ quiet w.machine
+    → session_of after rest ≡ after_call (did_of called w)
+left_session after rest called w none driven is = parts (world_in after).machine w.machine (is_driven after)
+    (is_started (plain called.response)) rest (world_in after).plan (ap (λ (v : World). v.machine) is) driven none
+  where
+    parts : (m v : View) (a b rest : Bool) (plan : List (List Turn)) → m ≡ v → a ≡ b → rest ≡ false
+        → session_with m a (cond rest (Some plan) None) ≡ session_with v b None
+    parts m v a b rest plan e f g = rw (e, f, g) refl
+
+-- a call was made from a seat to a seat
+pub is_called : (request : Request) (seat after : Seat) (planned rest : Bool) (first : Session) (turns w : World)
+    (called : Called) → first ≡ session_of seat planned → IsSeated seat planned → turns ≡ world_in seat
+    → Follows turns (course_of request turns) called.events (plain called.response) w
+    → called.plan ≡ plan_counts (cond planned (Some []) None) w
+    → is_driven after ≡ is_started (plain called.response) → world_in after ≡ quiet w.machine → rest ≡ false
+    → IsCalled request first (session_of after rest) called
+is_called request seat after planned rest first turns w called is seated begins follows counts driven left none =
+    let same : world_at first ≡ turns = ap world_at is ∙ seated_world seat planned seated ∙ sym begins in
+    record {
+      world = w;
+      follows = rw same follows;
+      plan = counts ∙ counts_same planned [] (world_in seat).plan w ∙ ap (λ (s : Session). plan_counts s.plan w)
+          (sym is);
+      session = left_session after rest called w none driven left;
+    }

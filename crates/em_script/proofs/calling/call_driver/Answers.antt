@@ -1,0 +1,23 @@
+use Rattle.std.proofs.Common.{refl, ap, sym}
+use Rattle.em_script.specs.Request.{plain_call}
+use Rattle.em_script.specs.Seat.{world_in}
+use Rattle.em_script.specs.declared.seat.Seat.{Seat}
+use Rattle.em_script.specs.declared.seat.Seat.TheVariants.{Driven}
+use Rattle.em_script.proofs.SeatLemmas.{is_called}
+use Rattle.em_script.proofs.calling.call_driver.Goals as goal
+
+pub returns-clause-called : goal.returns-clause-called
+returns-clause-called c =
+    let counts = rw (c.bus.ensures.value) at c.end_plan-plan.ensures.counts in
+    let left = rw (c.bus.ensures.value) at c.end_plan-plan.ensures.turns in
+    let d = c.call_by-events.new.driver in
+    let after : Seat = Driven record {
+      bus = c.end_plan-plan.new.turns;
+      layout = d.layout;
+      alloc = d.alloc;
+      placed = d.placed;
+    } in
+    is_called (plain_call c.args.call) c.session.inside.seat after c.session.inside.planned _ c.args.session.now
+    c.in-Driven.driver.bus c.call_by-events.new.driver.bus _ (sym c.session.view_is) c.session.invariant
+    (ap world_in (sym c.in-Driven.is)) c.call_by-events.ensures.course counts (sym c.call_by-events.ensures.stands)
+    left refl

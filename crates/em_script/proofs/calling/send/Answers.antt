@@ -1,0 +1,8 @@
+use Rattle.em_driver.specs.Receive.{lists}
+use Rattle.em_script.proofs.CallingLemmas.{sent}
+use Rattle.em_script.proofs.calling.send.Goals as goal
+
+pub returns-clause-course : goal.returns-clause-course
+returns-clause-course c =
+    let did = rw (c.requires) at c.tx_batch-result.ensures.course in
+    rw (c.events_of.ensures, c.new.ensures.items) (sent _ _ (lists c.args.packets.items) _ _ did)

@@ -1,0 +1,21 @@
+//! A call of a driver that was made.
+
+use crate::response::Response;
+
+/// What the turns of a plan came to: so many were performed and so many refused, and whether memory
+/// was refused to one.
+#[derive(Clone, Copy, Debug)]
+pub struct PlanCounts {
+    pub performed: u32,
+    pub refused: u32,
+    pub starved: bool,
+}
+
+/// What a driver did on a line: so many events, what it answered, and the counts of the plan, where
+/// one was set.
+#[derive(Drop)]
+pub struct Called {
+    pub events: u32,
+    pub response: Response,
+    pub plan: Option<PlanCounts>,
+}

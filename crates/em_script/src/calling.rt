@@ -1,0 +1,176 @@
+//! Calling a driver on the machine of a session.
+ghost use Rattle.std.specs.Prelude.{◌≡◌, [], true, false, if◌then◌else◌, Some, None, IfSome, IsNone};
+ghost use Rattle.em_driver.specs.Course.{Follows};
+ghost use Rattle.em_driver.specs.Outcome as outcome;
+ghost use Rattle.em_driver.specs.Receive.{lists};
+ghost use Rattle.em_driver.specs.World.{quiet};
+ghost use Rattle.em_script.specs.Calling.{course_of, init_layout, plan_counts, IsCalled};
+ghost use Rattle.em_script.specs.Request.{plain_call, starts, sends, receives, stats, address, sets_address};
+ghost use Rattle.em_script.specs.Response.{is_started, plain};
+
+use crate::call::Call;
+use crate::called::{Called, PlanCounts};
+use crate::response::Response;
+use crate::seat::Seat;
+use crate::session::Session;
+use em_driver::{Batch, DeviceStats, E1000, IxyDevice, Layout, Stopped, Turns};
+use std::alloc::Global;
+use std::collections::VecDeque;
+use std::mem;
+
+/// Where a line puts rings and buffers: two rings of 8 descriptors.
+const LAYOUT: Layout = Layout {
+    rx_ring: 0x0,
+    rx_count: 8,
+    rx_buffers: 0x1000,
+    tx_ring: 0x80,
+    tx_count: 8,
+    tx_buffers: 0x5000,
+};
+
+/// Starts a driver on the machine of a session, in the place of one that stands.
+pub fn start_driver(alloc: Global, session: &mut Session) -> Called
+    ensures { IsCalled starts session.old session.new result }
+{
+    let turns = mem::replace(&mut session.seat, Seat::Moved).into_turns();
+    let planned = mem::replace(&mut session.planned, false);
+    match E1000::start(alloc, turns, LAYOUT) {
+        Ok((mut driver, events)) => {
+            let plan = end_plan(alloc, driver.bus(), planned);
+            session.seat = Seat::Driven(driver);
+            Called {
+                events,
+                response: Response::Start(None),
+                plan,
+            }
+        }
+        Err(refused) => {
+            let mut turns = refused.bus;
+            let plan = end_plan(alloc, &mut turns, planned);
+            session.seat = Seat::Bare(turns);
+            Called {
+                events: refused.events,
+                response: Response::Start(Some(refused.cause)),
+                plan,
+            }
+        }
+    }
+}
+
+/// Has the driver of a session do what is asked, if one stands.
+pub fn call_driver(alloc: Global, session: &mut Session, call: Call) -> Option<Called>
+    ensures stands { IfSome result (λ called. session.old.started ≡ true) }
+    ensures called { IfSome result (IsCalled (plain_call call) session.old session.new) }
+    ensures none { IsNone result → session.old.started ≡ false }
+    ensures same { IsNone result → session.new ≡ session.old }
+{
+    let Seat::Driven(driver) = &mut session.seat else {
+        return None;
+    };
+    let (events, response) = call_by(alloc, driver, call);
+    let plan = end_plan(alloc, driver.bus(), session.planned);
+    session.planned = false;
+    Some(Called {
+        events,
+        response,
+        plan,
+    })
+}
+
+/// Lets a plan go, and tells what its turns came to, where one was set.
+fn end_plan(alloc: Global, turns: &mut Turns, planned: bool) -> Option<PlanCounts>
+    ensures counts { result ≡ plan_counts (if planned then Some [] else None) turns.old }
+    ensures turns { turns.new ≡ quiet turns.old.machine }
+{
+    let counts = PlanCounts {
+        performed: turns.performed(),
+        refused: turns.refused(),
+        starved: turns.starved(),
+    };
+    if turns.set_plan(VecDeque::new(alloc)).is_err() {
+        unreachable!();
+    }
+    if planned { Some(counts) } else { None }
+}
+
+/// What a driver does on a call: so many events, and its answer.
+fn call_by(alloc: Global, driver: &mut E1000<Turns>, call: Call) -> (u32, Response)
+    requires { driver.old.layout ≡ init_layout }
+    ensures course { Follows driver.old.bus (course_of (plain_call call) driver.old.bus) result.0 (plain result.1)
+        driver.new.bus }
+    ensures stands { is_started (plain result.1) ≡ true }
+    ensures layout { driver.new.layout ≡ driver.old.layout }
+{
+    match call {
+        Call::Send(packets) => send(alloc, driver, packets),
+        Call::Receive(most) => receive(alloc, driver, most),
+        Call::Stats => count(driver),
+        Call::Address => tell_address(driver),
+        Call::SetAddress(address) => set_address(driver, address),
+    }
+}
+
+fn send(alloc: Global, driver: &mut E1000<Turns>, mut packets: VecDeque<Vec<u8>>) -> (u32, Response)
+    requires { driver.old.layout ≡ init_layout }
+    ensures course { Follows driver.old.bus (course_of (sends (lists packets.items)) driver.old.bus)
+        result.0 (plain result.1) driver.new.bus }
+    ensures stands { is_started (plain result.1) ≡ true }
+    ensures layout { driver.new.layout ≡ driver.old.layout }
+{
+    let result = driver.tx_batch(0, &mut packets);
+    (
+        events_of(&result),
+        Response::Batch(VecDeque::new(alloc), result),
+    )
+}
+
+fn receive(alloc: Global, driver: &mut E1000<Turns>, most: u32) -> (u32, Response)
+    requires { driver.old.layout ≡ init_layout }
+    ensures course { Follows driver.old.bus (course_of (receives most) driver.old.bus)
+        result.0 (plain result.1) driver.new.bus }
+    ensures stands { is_started (plain result.1) ≡ true }
+    ensures layout { driver.new.layout ≡ driver.old.layout }
+{
+    let mut packets = VecDeque::new(alloc);
+    let result = driver.rx_batch(0, &mut packets, most as usize);
+    (events_of(&result), Response::Batch(packets, result))
+}
+
+fn count(driver: &mut E1000<Turns>) -> (u32, Response)
+    ensures course { Follows driver.old.bus (course_of stats driver.old.bus) result.0 (plain result.1) driver.new.bus }
+    ensures stands { is_started (plain result.1) ≡ true }
+    ensures layout { driver.new.layout ≡ driver.old.layout }
+{
+    let mut counted = DeviceStats::default();
+    driver.read_stats(&mut counted);
+    (6, Response::Stats(counted))
+}
+
+fn tell_address(driver: &mut E1000<Turns>) -> (u32, Response)
+    ensures course { Follows driver.old.bus (course_of address driver.old.bus) result.0 (plain result.1)
+        driver.new.bus }
+    ensures stands { is_started (plain result.1) ≡ true }
+    ensures layout { driver.new.layout ≡ driver.old.layout }
+{
+    (2, Response::Address(driver.get_mac_addr()))
+}
+
+fn set_address(driver: &mut E1000<Turns>, octets: [u8; 6]) -> (u32, Response)
+    ensures course { Follows driver.old.bus (course_of (sets_address octets) driver.old.bus)
+        result.0 (plain result.1) driver.new.bus }
+    ensures stands { is_started (plain result.1) ≡ true }
+    ensures layout { driver.new.layout ≡ driver.old.layout }
+{
+    driver.set_mac_addr(octets);
+    (2, Response::Set)
+}
+
+/// How many events a call performed, whether it stopped or not.
+fn events_of(moved: &Result<Batch, Stopped>) -> u32
+    ensures { result ≡ outcome.events_of moved.now }
+{
+    match moved {
+        Ok(batch) => batch.events,
+        Err(stopped) => stopped.events,
+    }
+}

@@ -1,0 +1,328 @@
+-- What arrivals and engine steps leave where each frame has one descriptor, and lies whole in its buffer.
+use Rattle.std.proofs.Common.{◌≡◌, ◌≢◌, ◌∙◌, ℕ, ◌+◌, ◌≤◌, ◌==◌, ◌||◌, ◌&&◌, Bool, true, false}
+use Rattle.std.proofs.Common.{not, if◌then◌else◌, List, [], ◌∷◌, ◌++◌, length, refl, sym, ap, subst, inl, inr}
+use Rattle.std.proofs.Common.{arith, Option, Some, None, Result, Ok, Err}
+use Rattle.std.specs.Prelude.{◌⊎◌, nat_lt, nat_le, slice_index_or, All}
+use Rattle.std.proofs.lemmas.Bool.{eqb-false, ltb-false}
+use Rattle.std.proofs.lemmas.Bool.Decides.{nat_tests}
+use Rattle.std.proofs.lemmas.List.{take_all}
+use Rattle.em_mem.specs.Memory.{IsHeld, part, put}
+use Rattle.em_mem.proofs.PutLaws.{length-part}
+use Rattle.em_regs.specs.declared.reg.Reg.TheVariants.{Tdh, Tdt}
+use Rattle.em_regs.specs.declared.setup.RxSetup.{RxSetup}
+use Rattle.em_regs.specs.declared.setup.TxSetup.{TxSetup}
+use Rattle.em_regs.specs.Setup.{rx_setup, tx_setup, value_of}
+use Rattle.em_regs.specs.Storage.{Registers}
+use Rattle.em_filter.specs.Bits.{lpe, vme, bit}
+use Rattle.em_filter.specs.Filters.{verdict, longest}
+use Rattle.em_filter.specs.Address.{accepts}
+use Rattle.em_filter.specs.Kind.{destination, kind_of}
+use Rattle.em_filter.specs.Vlan.{tagged, carries_tag, passes_vlan}
+use Rattle.em_filter.specs.declared.kind.Kind.{Kind}
+use Rattle.em_filter.specs.declared.outcome.Verdict.{Verdict}
+use Rattle.em_filter.specs.declared.outcome.Verdict.TheVariants.{Reject, Accept}
+use Rattle.em_filter.specs.declared.outcome.Verdict.TheVariants.{Undersize as TooShort, Oversize as TooLong}
+use Rattle.em_rx.specs.Descriptor.{written_back}
+use Rattle.em_rx.specs.Fifo.{Fifo, after_arrival, after_delivery, next}
+use Rattle.em_rx.specs.Frame.{Frame, stored_frame}
+use Rattle.em_rx.specs.Receive.{Outcome, buffer_at, causes_of, count_of, delivery, descriptor_at, following}
+use Rattle.em_rx.specs.Receive.{is_idle, is_last}
+use Rattle.em_rx.specs.declared.receive.RxAnswer.TheVariants as rx_answer
+use Rattle.em_rx.specs.declared.refusal.RxRefusal.TheVariants as rx_refusal
+use Rattle.em_tx.specs.Cells.{Shown}
+use Rattle.em_tx.specs.Descriptor.{address, command, length_of, eop, rs}
+use Rattle.em_tx.specs.Engine.{fetch, gather, handle, refusal, report, send, sends, transmit, unless}
+use Rattle.em_tx.specs.Frame.{frame, tag_of, with_padding, with_tag}
+use Rattle.em_tx.specs.Ring as tx
+use Rattle.em_tx.specs.declared.answer.TxAnswer.{TxAnswer}
+use Rattle.em_tx.specs.declared.answer.TxAnswer.TheVariants as tx_answer
+use Rattle.em_tx.specs.declared.refusal.TxRefusal.{TxRefusal}
+use Rattle.em_tx.specs.declared.refusal.TxRefusal.TheVariants as tx_refusal
+use Rattle.em_step.specs.Arrival.{after_accept, after_miss, arrival, is_enabled, judged, judgement, kept_frame}
+use Rattle.em_step.specs.Arrival.{lacks_room}
+use Rattle.em_step.specs.Engines.{after_rx_answer, after_tx_answer, rx_step, rx_stepped, sending, tx_step, tx_stepped}
+use Rattle.em_step.specs.Engines.{with_outcome, with_shown}
+use Rattle.em_step.specs.State.{State}
+use Rattle.em_step.specs.Step.{arrive}
+use Rattle.em_step.specs.Whole.{IsUsual, IsPlain, plain, KeepsAllButFifo, Admits, ReceivesWhole, padded}
+use Rattle.em_step.specs.Whole.{next_descriptor, next_packet, IsWhole, SendsWhole}
+use Rattle.em_step.specs.declared.event.Answer.{Answer}
+use Rattle.em_step.specs.declared.event.Answer.TheVariants.{Stored, Dropped}
+use Rattle.em_step.specs.declared.event.Reason.TheVariants.{Down, Disabled, Rejected, Undersize, Oversize, Missed}
+use Rattle.em_step.specs.declared.refusal.Refusal.{Refusal}
+use Rattle.em_step.specs.declared.refusal.Refusal.TheVariants.{Length}
+
+-- what is Ok is what it is
+ok_is : (x y : Answer × State) → ◌≡◌ {A = Result (Answer × State) Refusal} (Ok x) (Ok y) → x ≡ y
+ok_is x y h = cc
+
+neither : (a b : Bool) → (a || b) ≡ false → (a ≡ false) × (b ≡ false)
+neither true b h = cc
+neither false b h = (refl, h)
+
+not_false : (a : Bool) → not a ≡ false → a ≡ true
+not_false true h = refl
+not_false false h = cc
+
+-- ---- arrivals
+
+-- an accepted frame is neither too short nor too long
+sizes : (a b c d : Bool) (kind was : Kind)
+    → (if a then Reject else if b then TooShort else if c then TooLong else if d then Reject else Accept was)
+    ≡ Accept kind
+    → (b ≡ false) × (c ≡ false)
+sizes true b c d kind was h = cc
+sizes false true c d kind was h = cc
+sizes false false true d kind was h = cc
+sizes false false false d kind was h = (refl, refl)
+
+accepted : (m : Registers) (f : List ℕ) (kind : Kind) → lpe m ≡ false → verdict m f ≡ Accept kind → IsUsual f
+unfolding verdict
+accepted m f kind no_lpe is =
+    let h = sizes (not (accepts m (destination f))) (nat_lt (length f + 4) 64) (nat_lt (longest m) (length f + 4))
+    (not (passes_vlan m f)) kind (kind_of (destination f)) is in
+    let most : longest m ≡ 1522 = ap (λ (b : Bool). if b then 16384 else 1522) no_lpe in
+    let low : 64 ≤ length f + 4 = ltb-false _ _ h.0 in
+    let high : length f + 4 ≤ longest m = ltb-false _ _ h.1 in
+    record { least = omega arith; most = omega arith }
+
+untagged : (m : Registers) (f : List ℕ) → vme m ≡ false → tagged m f ≡ false
+unfolding tagged
+untagged m f no_vme = ap (λ b. b && carries_tag m f) no_vme
+
+abbrev ArrivedAs : State → List ℕ → Answer × State → Type 0
+ArrivedAs s f r = KeepsAllButFifo s r.1 × Admits s f r.0 r.1
+
+same_state : (s : State) → KeepsAllButFifo s s
+same_state s = record { registers = refl; memory = refl; gathered = refl; wire = refl }
+
+kept_plain : (s : State) (f : List ℕ) → vme s.registers ≡ false → kept_frame s f ≡ plain f
+kept_plain s f no_vme = ap (stored_frame f) (untagged s.registers f no_vme)
+
+admitted : (s : State) (f : List ℕ) (kind : Kind) (b : Bool) → is_enabled s ≡ true → IsUsual f
+    → vme s.registers ≡ false
+    → ArrivedAs s f (if b then (Dropped Missed, after_miss s) else (Stored, after_accept s f kind))
+admitted s f kind true on usual no_vme =
+    (record { registers = refl; memory = refl; gathered = refl; wire = refl }, inl (Missed, refl, refl))
+admitted s f kind false on usual no_vme = (
+  record { registers = refl; memory = refl; gathered = refl; wire = refl },
+  inr (refl, on, usual, ap (after_arrival s.fifo) (kept_plain s f no_vme)),
+)
+
+judged_by : (s : State) (f : List ℕ) (v : Verdict) → verdict s.registers f ≡ v → is_enabled s ≡ true
+    → lpe s.registers ≡ false → vme s.registers ≡ false
+    → ArrivedAs s f (judgement s f v)
+judged_by s f Reject is on no_lpe no_vme = (same_state s, inl (Rejected, refl, refl))
+judged_by s f TooShort is on no_lpe no_vme =
+    (record { registers = refl; memory = refl; gathered = refl; wire = refl }, inl (Undersize, refl, refl))
+judged_by s f TooLong is on no_lpe no_vme =
+    (record { registers = refl; memory = refl; gathered = refl; wire = refl }, inl (Oversize, refl, refl))
+judged_by s f (Accept kind) is on no_lpe no_vme =
+    admitted s f kind (lacks_room s f) on (accepted s.registers f kind no_lpe is) no_vme
+
+arrived_by : (s : State) (f : List ℕ) (up on : Bool) → is_enabled s ≡ on
+    → lpe s.registers ≡ false → vme s.registers ≡ false
+    → ArrivedAs s f (if not up then (Dropped Down, s) else if not on then (Dropped Disabled, s) else judged s f)
+arrived_by s f false on is no_lpe no_vme = (same_state s, inl (Down, refl, refl))
+arrived_by s f true false is no_lpe no_vme = (same_state s, inl (Disabled, refl, refl))
+arrived_by s f true true is no_lpe no_vme = judged_by s f (verdict s.registers f) refl is no_lpe no_vme
+
+taken_in : (s : State) (f : List ℕ) (a : Bool) (r : Answer × State)
+    → (if a then Err Length else Ok (arrival s f)) ≡ Ok r → arrival s f ≡ r
+taken_in s f true r h = cc
+taken_in s f false r h = cc
+
+-- an arrival puts the frame as it is at the FIFO's end, or drops it
+pub arrived : (s : State) (f : List ℕ) (r : Answer × State) → arrive s f ≡ Ok r
+    → lpe s.registers ≡ false → vme s.registers ≡ false → KeepsAllButFifo s r.1 × Admits s f r.0 r.1
+arrived s f r is no_lpe no_vme =
+    subst (ArrivedAs s f)
+    (taken_in s f (nat_lt (length f) 14 || nat_lt 20_000 (length f)) r is)
+    (arrived_by s f s.link (is_enabled s) refl no_lpe no_vme)
+
+-- ---- receive steps
+
+abbrev queued : Frame → List Frame → Fifo
+queued f fs = record { frames = f ∷ fs; taken = 0 }
+
+-- a frame that went whole into its buffer
+abbrev delivered : RxSetup → List ℕ → List ℕ → List Frame → Outcome
+delivered q m f fs = record {
+  answer = rx_answer.Wrote q.head (following q) (causes_of q true);
+  memory = put (put m (buffer_at q m) f) (descriptor_at q + 8) (written_back (length f) true None);
+  fifo = record { frames = fs; taken = 0 };
+}
+
+-- a whole frame is delivered at once
+deliver_whole : (q : RxSetup) (m : List ℕ) (f : List ℕ) (fs : List Frame) → IsUsual f → q.buffer ≡ 2048
+    → delivery q m (queued (plain f) fs) ≡ delivered q m f fs
+deliver_whole q m f fs usual size =
+    let fifo = queued (plain f) fs in
+    let count : count_of q fifo ≡ length f = omega (arith, usual.least, usual.most, size) in
+    let last : is_last q fifo ≡ true = grind (arith, nat_tests, usual.most, size) in
+    let piece : next fifo (count_of q fifo) ≡ f = take_all (count_of q fifo) f (omega (arith, count)) in
+    let gone : nat_lt (0 + count_of q fifo) (length f) ≡ false = grind (arith, nat_tests, count) in
+    let left : after_delivery fifo (count_of q fifo) ≡ record { frames = fs; taken = 0 }
+    = ap (λ (b : Bool).
+    if b then record fifo { taken = 0 + count_of q fifo } else record { frames = fs; taken = 0 }) gone in
+    λ i. record {
+      answer = rx_answer.Wrote q.head (following q) (causes_of q (last i));
+      memory = put (put m (buffer_at q m) (piece i)) (descriptor_at q + 8) (written_back (count i) (last i) None);
+      fifo = left i;
+    }
+
+no_idle : (e a b c d : Bool) → (not e || a || b || c || d) ≡ false → (e ≡ true) × (c ≡ false) × (d ≡ false)
+no_idle true false false false false h = (refl, refl, refl)
+no_idle false a b c d h = cc
+no_idle true true b c d h = cc
+no_idle true false true c d h = cc
+no_idle true false false true d h = cc
+no_idle true false false false true h = cc
+
+some_frame : (frames : List Frame) → (length frames == 0) ≡ false → (f : Frame) × (fs : List Frame) × (frames ≡ f ∷ fs)
+some_frame [] h = cc
+some_frame (f ∷ fs) h = (f, fs, refl)
+
+-- a frame of the FIFO is plain
+plain_is : (frame : Frame) → IsPlain frame → frame ≡ plain frame.octets
+plain_is frame h = λ i. record { octets = frame.octets; tag = h.untagged i }
+
+-- what a receive step leaves, by its tests
+received_by : (s : State) (idle a b : Bool) (r : Answer × State)
+    → is_idle (rx_setup s.registers) s.fifo ≡ idle
+    → rx_stepped s (if idle then Ok (record { answer = rx_answer.Idle; memory = s.memory; fifo = s.fifo })
+    else if a then Err rx_refusal.DmaRange
+    else if b then Err rx_refusal.DmaRange
+    else Ok (delivery (rx_setup s.registers) s.memory s.fifo)) ≡ Ok r
+    → (rx_setup s.registers).buffer ≡ 2048 → s.fifo.taken ≡ 0 → All IsPlain s.fifo.frames
+    → (r.1 ≡ s) ⊎ ((f : List ℕ) × (frames : List Frame) × ReceivesWhole s f frames r.1)
+received_by s true a b r is ok size none all = inl (ap (λ x. x.1) (sym (ok_is _ r ok)))
+received_by s false true b r is ok size none all = cc
+received_by s false false true r is ok size none all = cc
+received_by s false false false r is ok size none all =
+    let q = rx_setup s.registers in
+    let tests = no_idle q.enabled (nat_le q.count q.head) (nat_le q.count q.tail) (q.head == q.tail)
+    (length s.fifo.frames == 0) is in
+    let some = some_frame s.fifo.frames tests.2 in
+    let good : IsPlain some.0 = subst IsPlain (ap (λ (fs : List Frame). slice_index_or fs 0 some.0) some.2)
+    (all 0 some.0 (omega (arith, ap length some.2))) in
+    let f : List ℕ = some.0.octets in
+    let first : s.fifo.frames ≡ plain f ∷ some.1 = some.2 ∙ ap (λ x. x ∷ some.1) (plain_is some.0 good) in
+    let whole : s.fifo ≡ queued (plain f) some.1 = λ i. record { frames = first i; taken = none i } in
+    let out : Outcome = delivered q s.memory f some.1 in
+    let now : r ≡ after_rx_answer (with_outcome s out) out.answer
+    = sym (ok_is _ r ok)
+    ∙ ap (λ (o : Outcome). after_rx_answer (with_outcome s o) o.answer)
+    (ap (delivery q s.memory) whole ∙ deliver_whole q s.memory f some.1 good.usual size) in
+    inr (
+      f,
+      some.1,
+      record {
+        enabled = tests.0;
+        apart = eqb-false q.head q.tail tests.1;
+        first = first;
+        usual = good.usual;
+        registers = ap (λ x. x.1.registers) now;
+        memory = ap (λ x. x.1.memory) now;
+        fifo = ap (λ x. x.1.fifo) now;
+        gathered = ap (λ x. x.1.gathered) now;
+        wire = ap (λ x. x.1.wire) now;
+      },
+    )
+
+-- a receive step does nothing, or the FIFO's first frame goes whole into its buffer
+pub received_whole : (s : State) (r : Answer × State) → rx_step s ≡ Ok r
+    → (rx_setup s.registers).buffer ≡ 2048 → s.fifo.taken ≡ 0 → All IsPlain s.fifo.frames
+    → (r.1 ≡ s) ⊎ ((f : List ℕ) × (frames : List Frame) × ReceivesWhole s f frames r.1)
+received_whole s r ok size none all =
+    let q = rx_setup s.registers in
+    received_by s (is_idle q s.fifo) (nat_lt (length s.memory) (descriptor_at q + 16))
+    (nat_lt (length s.memory) (buffer_at q s.memory + count_of q s.fifo)) r refl ok size none all
+
+-- ---- transmit steps
+
+tx_not_idle : (e a b c : Bool) → (not e || a || b || c) ≡ false → (e ≡ true) × (c ≡ false)
+tx_not_idle true false false false h = (refl, refl)
+tx_not_idle false a b c h = cc
+tx_not_idle true true b c h = cc
+tx_not_idle true false true c h = cc
+tx_not_idle true false false true h = cc
+
+eop_set : (d : List ℕ) → command d ≡ 0x0B → eop d ≡ true
+unfolding eop
+eop_set d is = ap (λ c. bit c 0) is
+
+rs_set : (d : List ℕ) → command d ≡ 0x0B → rs d ≡ true
+unfolding rs
+rs_set d is = ap (λ c. bit c 3) is
+
+frame_is : (q : TxSetup) (d octets : List ℕ) → q.vlan ≡ None → q.pad ≡ true → frame q d octets ≡ padded octets
+unfolding frame
+frame_is q d octets no_vlan pad =
+    ap (λ v. with_padding q.pad (with_tag (tag_of v d (length octets)) octets)) no_vlan
+    ∙ ap (λ b. with_padding b octets) pad
+
+handled_whole : (q : TxSetup) (d : List ℕ) (s : Shown) → s.gathered ≡ [] → command d ≡ 0x0B → 1 ≤ length_of d
+    → IsHeld s.memory (address d) (length_of d) → q.vlan ≡ None → q.pad ≡ true
+    → handle q d s ≡ send q d s (padded (part s.memory (address d) (length_of d)))
+unfolding handle
+handled_whole q d s none cmd some held no_vlan pad =
+    let packet : List ℕ = part s.memory (address d) (length_of d) in
+    let octets : gather s d ≡ packet = ap (λ g. g ++ packet) none in
+    let long : nat_lt 0 (length (gather s d)) ≡ true
+    = grind (arith, nat_tests, ap length octets, length-part s.memory (address d) (length_of d) held) in
+    let goes : sends d (length (gather s d)) ≡ true = λ i. eop_set d cmd i && long i in
+    ap (λ b. if b then send q d s (frame q d (gather s d)) else fetch q d s (gather s d)) goes
+    ∙ ap (λ o. send q d s (frame q d o)) octets
+    ∙ ap (send q d s) (frame_is q d packet no_vlan pad)
+
+report_is : (at : ℕ) (d m : List ℕ) → command d ≡ 0x0B → report at d m ≡ put m (at + 12) (1 ∷ [])
+report_is at d m cmd = ap (λ b. if b then put m (at + 12) (1 ∷ []) else m) (rs_set d cmd)
+
+unless_ok : (s : State) (refused : Option TxRefusal) (x : TxAnswer × Shown) (r : Answer × State)
+    → tx_stepped s (unless refused x) ≡ Ok r → tx_stepped s (Ok x) ≡ Ok r
+unless_ok s None x r h = h
+unless_ok s (Some refused) x r h = cc
+
+-- what a transmit step leaves, by its tests
+transmitted_by : (s : State) (idle a : Bool) (r : Answer × State)
+    → tx.is_idle (tx_setup s.registers) ≡ idle
+    → tx_stepped s (if idle then Ok (tx_answer.Idle, sending s)
+    else if a then Err tx_refusal.DmaRange
+    else unless (refusal s.gathered s.memory (next_descriptor s))
+    (handle (tx_setup s.registers) (next_descriptor s) (sending s))) ≡ Ok r
+    → (tx_setup s.registers).vlan ≡ None → (tx_setup s.registers).pad ≡ true → s.gathered ≡ []
+    → (value_of s.registers Tdh ≢ value_of s.registers Tdt → IsWhole s)
+    → (r.1 ≡ s) ⊎ SendsWhole s r.1
+transmitted_by s true a r is ok no_vlan pad none whole = inl (ap (λ x. x.1) (sym (ok_is _ r ok)))
+transmitted_by s false true r is ok no_vlan pad none whole = cc
+transmitted_by s false false r is ok no_vlan pad none whole =
+    let q = tx_setup s.registers in
+    let d = next_descriptor s in
+    let tests = tx_not_idle q.enabled (nat_le q.count q.head) (nat_le q.count q.tail) (q.head == q.tail) is in
+    let apart = eqb-false q.head q.tail tests.1 in
+    let w = whole apart in
+    let sent = unless_ok s (refusal s.gathered s.memory d) (handle q d (sending s)) r ok in
+    let handled = handled_whole q d (sending s) none w.command w.least w.held no_vlan pad in
+    let out : TxAnswer × Shown = send q d (sending s) (padded (next_packet s)) in
+    let now : r ≡ after_tx_answer (with_shown s out.1) out.0
+    = sym (ok_is _ r sent) ∙ ap (λ (o : TxAnswer × Shown). after_tx_answer (with_shown s o.1) o.0) handled in
+    inr (record {
+      enabled = tests.0;
+      apart = apart;
+      registers = ap (λ x. x.1.registers) now;
+      memory = ap (λ x. x.1.memory) now ∙ report_is (tx.place q) d s.memory w.command;
+      fifo = ap (λ x. x.1.fifo) now;
+      gathered = ap (λ x. x.1.gathered) now;
+      wire = ap (λ x. x.1.wire) now;
+    })
+
+-- a transmit step does nothing, or the packet at TDH goes whole onto the wire
+pub sent_whole : (s : State) (r : Answer × State) → tx_step s ≡ Ok r
+    → (tx_setup s.registers).vlan ≡ None → (tx_setup s.registers).pad ≡ true → s.gathered ≡ []
+    → (value_of s.registers Tdh ≢ value_of s.registers Tdt → IsWhole s)
+    → (r.1 ≡ s) ⊎ SendsWhole s r.1
+unfolding transmit
+sent_whole s r ok no_vlan pad none whole =
+    let q = tx_setup s.registers in
+    transmitted_by s (tx.is_idle q) (nat_lt (length s.memory) (tx.place q + 16)) r refl ok no_vlan pad none whole
