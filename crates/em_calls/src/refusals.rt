@@ -104,6 +104,10 @@ fn a_refused_plan_comes_back(rt: HostRuntime) -> Result<(), Fail> {
         two_wait(driven)?;
         driven.set_plan(one_list(driven.alloc())?)?;
         same("speed", driven.get_link_speed(), 1000)?;
+        let counts = driven.counts();
+        if counts.3 {
+            return Err(met("a turn", counts.0, 0));
+        }
         driven.counted((3, 0, 1, false))?;
         match driven.set_lists(two_arrivals(driven.alloc())?) {
             Ok(()) => driven.counted((0, 0, 0, false)),
