@@ -17,12 +17,21 @@
 //! | `line` | `0` or `1`: whether the interrupt line is asserted |
 //! | `back` | `ok`: the newest event was taken back |
 //! | `back N`, N from 1 to 65,536 | `back K`: K events were taken back, at most N |
+//! | `init` | `started K`: a driver was started, with K events |
+//! | `send DATA`, `send DATA LEN` | `batch C K`: a driver sent C packets, with K events of its own |
+//! | `recv N`, N from 0 to 1,024 | `batch C K`, and then the octets of each of the C packets, each on a line |
+//! | `stats` | `stats` and packets received and sent, octets received and sent |
+//! | `mac` | the Ethernet address, with colons |
+//! | `mac DATA`, DATA of 6 octets | `ok` |
+//! | `turns WORD ..`, of `rx`, `tx`, `arrive:DATA`, `arrive:DATA:LEN`, `.` | `ok`: the plan of the next call is set |
 //!
 //! OFF and VAL have 1 to 8 hexadecimal digits, ADDR has 1 to 16, and DATA an even number, at least
 //! 2; LEN and N are decimal, with 1 to 7 digits. With LEN, DATA is lengthened by zero octets to LEN
 //! octets: at most 32,768, and not below DATA's octets. Hexadecimal is read in both cases and
-//! printed in upper case. What is refused prints `refused` and the name of the refusal. Any other
-//! line prints `bad line` and its number, and does nothing.
+//! printed in upper case. What is refused prints `refused` and the name of the refusal, and a call
+//! of a driver that stops `stopped C K` and the cause. In a plan a dot ends what falls before one
+//! access; the call that uses the plan prints `turns P S` behind its lines, the turns performed and
+//! refused. Any other line prints `bad line` and its number, and does nothing.
 #![tactic(auto)]
 
 mod arguments;
