@@ -11,7 +11,7 @@ ghost use Rattle.em_step.specs.Step.{step, Refuses};
 ghost use Rattle.em_step.specs.Undo.{Reverses};
 
 use crate::adapter::Adapter;
-use crate::counts::{count_frame, count_miss};
+use crate::counts::{CHECK_OCTETS, count_frame, count_miss};
 use crate::event::{Answer, Reason};
 use crate::refusal::Refusal;
 use crate::undo::{Part, Undo};
@@ -25,9 +25,6 @@ use em_rx::RxUndo;
 const LEAST_FRAME: usize = 14;
 
 const MOST_FRAME: usize = 20_000;
-
-/// The octets of the frame check sequence, which count with a frame.
-const CHECK_OCTETS: u32 = 4;
 
 /// The octets of a tagged frame that are not stored: its type and its tag.
 const TAG_OCTETS: usize = 4;

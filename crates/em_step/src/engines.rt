@@ -7,16 +7,13 @@ ghost use Rattle.em_step.specs.Step.{step, Refuses};
 ghost use Rattle.em_step.specs.Undo.{Reverses};
 
 use crate::adapter::Adapter;
-use crate::counts::count_sent;
+use crate::counts::{CHECK_OCTETS, count_sent};
 use crate::event::Answer;
 use crate::refusal::Refusal;
 use crate::undo::{Part, Undo};
 use em_regs::Reg;
 use em_rx::{RxAnswer, RxUndo};
 use em_tx::{TxAnswer, TxUndo, step};
-
-/// The octets of the frame check sequence, which count with a frame.
-const CHECK_OCTETS: u32 = 4;
 
 impl Adapter {
     /// The receive engine handles the descriptor at RDH. An idle step takes no memory.
