@@ -1,7 +1,9 @@
 //! What calls of the driver answer.
 ghost use Rattle.std.specs.Prelude.{◌≡◌};
+ghost use Rattle.em_driver.specs.Outcome as outcome;
 ghost use Rattle.em_driver.specs.Outcome.{code_of, name_of};
 
+use em_step::Refusal;
 use thiserror::Error;
 
 /// What a call moved: so many packets, with so many events of its own.
@@ -74,5 +76,15 @@ impl Cause {
             Cause::PacketLength => "PacketLength",
             Cause::Broken => "Broken",
         }
+    }
+}
+
+/// Why a call stops where an access is refused.
+pub(crate) fn cause_of(refusal: Refusal) -> Cause
+    ensures { result ≡ outcome.cause_of refusal }
+{
+    match refusal {
+        Refusal::Memory => Cause::Memory,
+        _ => Cause::Broken,
     }
 }

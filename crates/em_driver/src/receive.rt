@@ -1,7 +1,6 @@
 //! Packets that the adapter received.
 ghost use Rattle.std.specs.Prelude.{◌≡◌, ◌<◌, ◌≤◌, ◌+◌, IfErr, IfOk, OnOk};
 ghost use Rattle.em_driver.specs.Course.{Follows};
-ghost use Rattle.em_driver.specs.Outcome as outcome;
 ghost use Rattle.em_driver.specs.Outcome.{events_of};
 ghost use Rattle.em_driver.specs.Receive as spec;
 ghost use Rattle.em_driver.specs.Receive.{lists, rx_batch, Leaves, StopsAt, Takes, TakesOrNot};
@@ -9,9 +8,8 @@ ghost use Rattle.em_driver.specs.Receive.{lists, rx_batch, Leaves, StopsAt, Take
 use crate::bus::Bus;
 use crate::descriptor::{DESCRIPTOR_OCTETS, STATUS, is_done, packet_length};
 use crate::driver::E1000;
-use crate::outcome::{Batch, Cause, Stopped};
+use crate::outcome::{Batch, Cause, Stopped, cause_of};
 use em_regs::Reg;
-use em_step::Refusal;
 use std::collections::VecDeque;
 
 /// The most packets of one call.
@@ -164,15 +162,5 @@ fn stop_after(count: u32, cause: Cause) -> Stopped
         count,
         events: 1 + 2 * count,
         cause,
-    }
-}
-
-/// Why a call stops where an access is refused.
-pub(crate) fn cause_of(refusal: Refusal) -> Cause
-    ensures { result ≡ outcome.cause_of refusal }
-{
-    match refusal {
-        Refusal::Memory => Cause::Memory,
-        _ => Cause::Broken,
     }
 }

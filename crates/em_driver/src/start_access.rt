@@ -6,15 +6,13 @@ ghost use Rattle.em_step.specs.Event.{reads};
 ghost use Rattle.em_step.specs.declared.event.Answer.TheVariants.{Value};
 ghost use Rattle.em_driver.specs.World.{Accesses};
 ghost use Rattle.em_driver.specs.Course as course;
-ghost use Rattle.em_driver.specs.Outcome.{cause_of};
 ghost use Rattle.em_driver.specs.Start.{Part, Performs, Stops, memory, device_reset};
 
 use crate::bus::Bus;
 use crate::driver::E1000;
-use crate::outcome::Cause;
+use crate::outcome::{Cause, cause_of};
 use bitflags::Flags;
 use em_regs::{Ctrl, Reg};
-use em_step::Refusal;
 
 /// A driver that is being started, with the events that it has performed so far.
 #[derive(Drop)]
@@ -86,17 +84,7 @@ impl<B: Bus> Starting<B> {
                 self.events += 1;
                 Ok(())
             }
-            Err(refusal) => Err(cause(refusal)),
+            Err(refusal) => Err(cause_of(refusal)),
         }
-    }
-}
-
-/// Why a call stops where a write of memory is refused.
-fn cause(refusal: Refusal) -> Cause
-    ensures { result ≡ cause_of refusal }
-{
-    match refusal {
-        Refusal::Memory => Cause::Memory,
-        _ => Cause::Broken,
     }
 }

@@ -9,8 +9,8 @@ ghost use Rattle.em_driver.specs.Transmit.{tx_batch, Halts, HaltsAt, Sends, Send
 use crate::bus::Bus;
 use crate::descriptor::{DESCRIPTOR_OCTETS, of_packet};
 use crate::driver::E1000;
-use crate::outcome::{Batch, Cause, Stopped};
-use crate::receive::{BUFFER_OCTETS, cause_of, following};
+use crate::outcome::{Batch, Cause, Stopped, cause_of};
+use crate::receive::{BUFFER_OCTETS, following};
 use em_regs::Reg;
 use std::collections::VecDeque;
 
