@@ -107,7 +107,7 @@ described_length : (address len : ℕ) → len < 65_536 → length_of (transmit_
 unfolding length_of
 described_length address len less = little_number-reads_back 2 len (0 ∷ 0x0B ∷ 0 ∷ 0 ∷ 0 ∷ 0 ∷ []) less
 
-put_whole : (d e : List ℕ) → length d ≡ length e → put d 0 e ≡ e
+pub put_whole : (d e : List ℕ) → length d ≡ length e → put d 0 e ≡ e
 put_whole d e same =
     let end : 0 + length e ≡ length d = omega arith in
     let none : drop (0 + length e) d ≡ [] = ap (λ n. drop n d) end ∙ drop_all (length d) d (omega arith) in

@@ -27,3 +27,9 @@ pub mod CallOrderLaws
 pub mod RunLaws
 pub mod BackLaws
 pub mod OffLaws
+pub mod SizeLaws
+pub mod StageLaws
+pub mod HoldLaws
+pub mod MakingLaws
+pub mod ListeningLaws
+pub mod StartOrderLaws

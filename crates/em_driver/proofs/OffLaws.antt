@@ -49,6 +49,7 @@ rests s t is = record {
   memory = ap (λ x. x.memory) is;
   fifo = ap (λ x. x.fifo) is;
   gathered = ap (λ x. x.gathered) is;
+  wire = ap (λ x. x.wire) is;
 }
 
 not_enabled : (s : State) → IsOff s → (rx_setup s.registers).enabled ≡ true → ⊥
@@ -57,7 +58,7 @@ not_enabled s h on = let off : false ≡ true = sym (ap (λ v. bit_and v 0x2 == 
 admitted_off : (s t : State) (f : List ℕ) (answer : Answer) → IsOff s → KeepsAllButFifo s t → Admits s f answer t
     → Rests s t × (stored_by (Arrive f) answer ≡ [])
 admitted_off s t f answer h k (inl dropped) = (
-  record { registers = k.registers; memory = k.memory; fifo = dropped.2; gathered = k.gathered },
+  record { registers = k.registers; memory = k.memory; fifo = dropped.2; gathered = k.gathered; wire = k.wire },
   ap (stored_by (Arrive f)) dropped.1,
 )
 admitted_off s t f answer h k (inr stored) = absurd (not_enabled s h stored.1)

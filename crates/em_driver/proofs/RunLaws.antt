@@ -9,6 +9,7 @@ use Rattle.em_driver.specs.Driven.{IsDriven}
 use Rattle.em_driver.specs.Order.{InOrder, queued, waiting}
 use Rattle.em_driver.specs.Spans.{Span, IsSpan, AreSpans, all_stored, all_handed, all_taken, all_sent, after_spans}
 use Rattle.em_driver.specs.Spans.{IsPrefix}
+use Rattle.em_driver.specs.Started.{StartsInOrder}
 use Rattle.em_driver.specs.Turn.{event_of, stored_by}
 use Rattle.em_driver.specs.World.{World, present}
 use Rattle.em_driver.specs.declared.layout.Layout.{Layout}
@@ -85,3 +86,11 @@ pub sent_prefix : (l : Layout) (s : State) (spans : List Span) → queued l s �
     → IsPrefix (all_sent spans) (map padded (all_taken spans))
 sent_prefix l s spans none h =
     (queued l (after_spans s spans), ap (λ x. x ++ map padded (all_taken spans)) (sym none) ∙ sent_in_order l s spans h)
+
+-- after a start
+pub started_prefix : (l : Layout) (w v : World) (events : ℕ) (h : StartsInOrder l w events v) (spans : List Span)
+    → AreSpans l (present v) spans
+    → IsPrefix (all_handed spans) (h.stored ++ all_stored spans)
+    × IsPrefix (all_sent spans) (map padded (all_taken spans))
+started_prefix l w v events h spans all =
+    (handed_prefix l (present v) spans h.stored h.waiting all, sent_prefix l (present v) spans h.queued all)

@@ -17,7 +17,7 @@ use Rattle.em_driver.specs.Course.{done, write, Follows, Comes}
 use Rattle.em_driver.specs.Layout.{IsGoodLayout, IsPlaced}
 use Rattle.em_driver.specs.Start.{Start, Part, each_from, eeprom_word, words_from, summed, eeprom, memory, device_reset}
 use Rattle.em_driver.specs.Start.{global_reset, receive_address, multicast_table, receive_ring, transmit_ring}
-use Rattle.em_driver.specs.Start.{start, start_events}
+use Rattle.em_driver.specs.Start.{after_reset, start, start_events}
 use Rattle.em_driver.specs.Start.{Performs, Gives, Stops}
 use Rattle.em_driver.specs.declared.layout.Layout.{Layout}
 use Rattle.em_driver.specs.declared.outcome.Cause.{Cause}
@@ -239,7 +239,7 @@ behind_eeprom l words =
 -- a start has come to the EEPROM
 pub at_eeprom : (w m : World) (l : Layout) → Performs w global_reset 4 m
     → Comes w (start l) 4 m (eeprom (behind_eeprom l))
-unfolding start
+unfolding start after_reset global_reset
 at_eeprom w m l reset = reset (eeprom (behind_eeprom l))
 
 -- to the receive ring
@@ -279,7 +279,7 @@ at_end w m v l k events comes e ring counted =
 -- the parts that stop
 pub stops_at_reset : (w v : World) (l : Layout) (before after : ℕ) (why : Cause) → before ≡ 0
     → Stops w global_reset before why v after → Follows w (start l) after (Some why) v
-unfolding start
+unfolding start after_reset global_reset
 stops_at_reset w v l before after why counted stopped =
     comes_stops w w v (start l) global_reset (eeprom (behind_eeprom l)) 0 before after why
     (comes_none w (start l)) counted stopped

@@ -12,7 +12,7 @@ use Rattle.em_driver.specs.Receive.{Answered, rx_from, rx_packet, rx_batch, foll
 use Rattle.em_driver.specs.Transmit.{tx_from, tx_batch, is_packet, free_from, are_indices}
 use Rattle.em_driver.specs.Start.{Start, Part, each_from, global_reset, eeprom_word, words_from, summed, eeprom}
 use Rattle.em_driver.specs.Start.{receive_address, multicast_table, descriptors, receive_ring}
-use Rattle.em_driver.specs.Start.{transmit_ring, start}
+use Rattle.em_driver.specs.Start.{transmit_ring, after_reset, start, set_link_up, until_reset}
 use Rattle.em_driver.specs.declared.layout.Layout.{Layout}
 use Rattle.em_driver.specs.declared.outcome.Cause.TheVariants.{Broken, Checksum}
 use Rattle.em_driver.specs.declared.stats.DeviceStats.{DeviceStats}
@@ -102,7 +102,7 @@ each_from_tells i (suc n) part more each h =
     each i (each_from (i + 1) n part more) (each_from_tells (i + 1) n part more each h)
 
 global_reset_tells : (more : Start) → Tells start_says more → Tells start_says (global_reset more)
-unfolding Tells global_reset
+unfolding Tells global_reset until_reset set_link_up
 global_reset_tells more h = (refl, h)
 
 eeprom_word_tells : (address : ℕ) (next : ℕ → Start) → ((word : ℕ) → Tells start_says (next word))
@@ -153,7 +153,7 @@ unfolding Tells transmit_ring
 transmit_ring_tells l more h = descriptors_tells l.tx_ring l.tx_count l.tx_buffers _ h
 
 pub start_tells : (l : Layout) → Tells start_says (start l)
-unfolding start
+unfolding start after_reset global_reset
 start_tells l =
     global_reset_tells _ (eeprom_tells _ (λ words.
     receive_address_tells words _ (multicast_table_tells _

@@ -3,19 +3,21 @@ use Rattle.std.proofs.Common.{◌≡◌, ◌∙◌, ◌⊎◌, ℕ, Bool, true, 
 use Rattle.std.proofs.Common.{subst}
 use Rattle.std.proofs.Common.{append-nil, if◌then◌else◌, inl, inr, arith, Ok}
 use Rattle.em_regs.specs.declared.reg.Reg.TheVariants.{Rdh, Tdh}
+use Rattle.em_regs.specs.RegFile as registers
 use Rattle.em_regs.specs.Setup.{rx_setup, tx_setup}
 use Rattle.em_rx.specs.Frame.{Frame}
 use Rattle.em_rx.specs.Receive as rx
 use Rattle.em_tx.specs.Ring as tx
 use Rattle.em_latch.specs.Latches.{after_raise}
 use Rattle.em_step.specs.Access.{after_link, differ}
+use Rattle.em_step.specs.Event.{arrives, receives}
 use Rattle.em_step.specs.State.{State}
 use Rattle.em_step.specs.Step.{step}
 use Rattle.em_step.specs.Whole.{IsPlain, plain, KeepsAllButFifo, Admits, ReceivesWhole, SendsWhole}
 use Rattle.em_step.specs.declared.event.Answer.{Answer}
 use Rattle.em_step.proofs.WholeLaws.{arrived, received_whole, sent_whole}
 use Rattle.std.proofs.lemmas.List.Elements.{All-cons, All-nil}
-use Rattle.em_driver.specs.Driven.{IsLaidOut, IsDrivenBut, IsDriven}
+use Rattle.em_driver.specs.Driven.{IsLaidOut, IsReceivingBut, IsDrivenBut, IsDriven}
 use Rattle.em_driver.specs.Layout.{IsGoodLayout}
 use Rattle.em_driver.specs.Order.{queued, waiting}
 use Rattle.em_driver.specs.Turn.{event_of, stored_by}
@@ -25,8 +27,8 @@ use Rattle.em_driver.specs.declared.turn.Turn.TheVariants.{Arrive, RxStep, TxSte
 use Rattle.em_driver.proofs.ReceivingLaws.{RxMoves, rx_moves_on, rx_kept, rx_same, same_ring, same_rx, other_rx}
 use Rattle.em_driver.proofs.ReceivingLaws.{rx_writes, fills}
 use Rattle.em_driver.proofs.ReceivingLaws.{moves_fill, buffer_whole, no_long_frames, SameRx}
-use Rattle.em_driver.proofs.SendingLaws.{TxMoves, tx_moves_on, tx_same, same_tx_ring, same_tx, other_tx, sends}
-use Rattle.em_driver.proofs.SendingLaws.{moves_send, is_whole}
+use Rattle.em_driver.proofs.SendingLaws.{TxMoves, tx_moves_on, SameTxRing, tx_same, same_tx_ring, same_tx, other_tx}
+use Rattle.em_driver.proofs.SendingLaws.{sends, moves_send, is_whole}
 use Rattle.em_driver.proofs.SendingLaws.{no_tags, pads, SameTx}
 use Rattle.em_driver.proofs.UnitLaws.{rx_ring, rx_buffers, tx_ring, tx_buffers}
 
@@ -51,50 +53,84 @@ moves_same l s t h regs memory fifo gathered wire = record {
 pub moves_none : (l : Layout) (s : State) → IsDrivenBut l s → Moves l s s []
 moves_none l s h = moves_same l s s h refl refl refl refl refl
 
-moves_as : (l : Layout) (s t : State) (a b : List (List ℕ)) → a ≡ b → Moves l s t b → Moves l s t a
-moves_as l s t a b e h = subst (Moves l s t) (sym e) h
+-- ---- arrivals and receive steps
 
-admitted : (l : Layout) (s t : State) (f : List ℕ) (answer : Answer) → IsDrivenBut l s → KeepsAllButFifo s t
-    → Admits s f answer t → Moves l s t (stored_by (Arrive f) answer)
-admitted l s t f answer h k (inl dropped) =
-    moves_as l s t _ [] (ap (stored_by (Arrive f)) dropped.1)
-    (moves_same l s t h k.registers k.memory dropped.2 k.gathered k.wire)
-admitted l s t f answer h k (inr stored) =
-    moves_as l s t _ (f ∷ []) (ap (stored_by (Arrive f)) stored.0)
+-- What they leave: the receive side moves, nothing of the transmit side changes, and of the registers RDH at most.
+pub record RxTurn (l : Layout) (s t : State) (added : List (List ℕ)) : Type 0 where
+  pub layout : IsLaidOut l t
+  pub receiving : RxMoves l s t added
+  pub sending : SameTxRing l s t
+  pub registers : (t.registers ≡ s.registers) ⊎ ((next : ℕ) × (t.registers ≡ registers.put s.registers Rdh next))
+
+nothing : (l : Layout) (s : State) → IsLaidOut l s → IsReceivingBut l s → RxTurn l s s []
+nothing l s laid h = record {
+  layout = laid;
+  receiving = rx_same l s s h (same_ring l s s (same_rx s.registers s.registers refl) refl) refl;
+  sending = same_tx_ring l s s (same_tx s.registers s.registers refl) refl refl refl;
+  registers = inl refl;
+}
+
+admitted : (l : Layout) (s t : State) (f : List ℕ) (answer : Answer) → IsLaidOut l s → IsReceivingBut l s
+    → KeepsAllButFifo s t → Admits s f answer t → RxTurn l s t (stored_by (Arrive f) answer)
+admitted l s t f answer laid h k (inl dropped) =
+    subst (RxTurn l s t) (sym (ap (stored_by (Arrive f)) dropped.1))
     (record {
-      layout = laid_same l s t (ap length k.memory) h.layout;
-      receiving = rx_kept l s t (plain f ∷ []) h.receiving
+      layout = laid_same l s t (ap length k.memory) laid;
+      receiving = rx_same l s t h (same_ring l s t (same_rx s.registers t.registers k.registers) k.memory) dropped.2;
+      sending = same_tx_ring l s t (same_tx s.registers t.registers k.registers) k.memory k.gathered k.wire;
+      registers = inl k.registers;
+    })
+admitted l s t f answer laid h k (inr stored) =
+    subst (RxTurn l s t) (sym (ap (stored_by (Arrive f)) stored.0))
+    (record {
+      layout = laid_same l s t (ap length k.memory) laid;
+      receiving = rx_kept l s t (plain f ∷ []) h
           (same_ring l s t (same_rx s.registers t.registers k.registers) k.memory) stored.3
           (All-cons IsPlain (plain f) [] (record { usual = stored.2; untagged = refl }) (All-nil IsPlain));
-      sending = tx_same l s t h.sending
-          (same_tx_ring l s t (same_tx s.registers t.registers k.registers) k.memory k.gathered k.wire);
+      sending = same_tx_ring l s t (same_tx s.registers t.registers k.registers) k.memory k.gathered k.wire;
+      registers = inl k.registers;
     })
 
-stays : (l : Layout) (s t : State) → IsDrivenBut l s → t ≡ s → Moves l s t []
-stays l s t h is = subst (λ x. Moves l s x []) (sym is) (moves_none l s h)
+pub arrival_turn : (l : Layout) (s : State) (f : List ℕ) (r : Answer × State) → IsLaidOut l s → IsReceivingBut l s
+    → step s (arrives f) ≡ Ok r → RxTurn l s r.1 (stored_by (Arrive f) r.0)
+arrival_turn l s f r laid h is =
+    let a = arrived s f r is (no_long_frames l s h) h.untagged in admitted l s r.1 f r.0 laid h a.0 a.1
 
-received : (l : Layout) (s t : State) (f : List ℕ) (frames : List Frame) → IsDrivenBut l s
-    → ReceivesWhole s f frames t → Moves l s t []
-received l s t f frames h r =
-    let w = rx_writes l s t f frames h.layout h.receiving r in
+received : (l : Layout) (s t : State) → IsLaidOut l s → IsReceivingBut l s
+    → (t ≡ s) ⊎ ((f : List ℕ) × (frames : List Frame) × ReceivesWhole s f frames t) → RxTurn l s t []
+received l s t laid h (inl same) = subst (λ x. RxTurn l s x []) (sym same) (nothing l s laid h)
+received l s t laid h (inr (f, frames, r)) =
+    let w = rx_writes l s t f frames laid h r in
+    let next : ℕ = rx.following (rx_setup s.registers) in
     record {
-      layout = laid_same l s t (w.back.size ∙ w.packet.size) h.layout;
-      receiving = moves_fill l s t f frames h.receiving (fills l s t f frames h.layout h.receiving r);
-      sending = tx_same l s t h.sending record {
+      layout = laid_same l s t (w.back.size ∙ w.packet.size) laid;
+      receiving = moves_fill l s t f frames h (fills l s t f frames laid h r);
+      sending = record {
         registers = subst (SameTx s.registers) (sym r.registers)
-            (other_tx s.registers Rdh (rx.following (rx_setup s.registers))
+            (other_tx s.registers Rdh next
             (record { ctrl = λ e. omega arith; tctl = λ e. omega arith; ring = λ e. omega arith }));
         descriptors = λ i low. w.back.other tx_ring i low tt ∙ w.packet.other tx_ring i low tt;
         buffers = λ i low. w.back.other tx_buffers i low tt ∙ w.packet.other tx_buffers i low tt;
         gathered = r.gathered;
         wire = r.wire;
       };
+      registers = inr (next, r.registers);
     }
 
-received_or_not : (l : Layout) (s t : State) → IsDrivenBut l s
-    → (t ≡ s) ⊎ ((f : List ℕ) × (frames : List Frame) × ReceivesWhole s f frames t) → Moves l s t []
-received_or_not l s t h (inl same) = stays l s t h same
-received_or_not l s t h (inr r) = received l s t r.0 r.1 h r.2
+pub receive_turn : (l : Layout) (s : State) (r : Answer × State) → IsLaidOut l s → IsReceivingBut l s
+    → step s receives ≡ Ok r → RxTurn l s r.1 []
+receive_turn l s r laid h is =
+    received l s r.1 laid h (received_whole s r is (buffer_whole l s h) h.taken h.frames)
+
+rx_turn_moves : (l : Layout) (s t : State) (added : List (List ℕ)) → IsDrivenBut l s → RxTurn l s t added
+    → Moves l s t added
+rx_turn_moves l s t added h k =
+    record { layout = k.layout; receiving = k.receiving; sending = tx_same l s t h.sending k.sending }
+
+-- ---- transmit steps
+
+stays : (l : Layout) (s t : State) → IsDrivenBut l s → t ≡ s → Moves l s t []
+stays l s t h is = subst (λ x. Moves l s x []) (sym is) (moves_none l s h)
 
 sent : (l : Layout) (s t : State) → IsDrivenBut l s → SendsWhole s t → Moves l s t []
 sent l s t h r =
@@ -120,11 +156,8 @@ sent_or_not l s t h (inr r) = sent l s t h r
 pub turn_moves : (l : Layout) (s : State) (t : Turn) (r : Answer × State) → IsDrivenBut l s
     → step s (event_of t) ≡ Ok r → Moves l s r.1 (stored_by t r.0)
 turn_moves l s (Arrive f) r h is =
-    let a = arrived s f r is (no_long_frames l s h.receiving) h.receiving.untagged in
-    admitted l s r.1 f r.0 h a.0 a.1
-turn_moves l s RxStep r h is =
-    received_or_not l s r.1 h
-    (received_whole s r is (buffer_whole l s h.receiving) h.receiving.taken h.receiving.frames)
+    rx_turn_moves l s r.1 (stored_by (Arrive f) r.0) h (arrival_turn l s f r h.layout h.receiving is)
+turn_moves l s RxStep r h is = rx_turn_moves l s r.1 [] h (receive_turn l s r h.layout h.receiving is)
 turn_moves l s TxStep r h is =
     sent_or_not l s r.1 h
     (sent_whole s r is (no_tags l s h.sending) (pads l s h.sending) h.sending.gathered

@@ -135,15 +135,20 @@ order_passes l w v h p =
 pub ok_is : (x y : Answer × State) → ◌≡◌ {A = Result (Answer × State) Refusal} (Ok x) (Ok y) → x ≡ y
 ok_is x y h = cc
 
+-- the state after a write of a register
+pub written_so : (s t : State) (o : ℕ) (reg : Reg) (v : ℕ) → reg_at o ≡ Some reg → step s (writes o v) ≡ Ok (Done, t)
+    → t ≡ after_write s reg v
+written_so s t o reg v there h =
+    let access : Reg → Answer × State = λ r. (Done, after_write s r v) in
+    sym (ap (λ x. x.1) (ok_is (access reg) (Done, t) (sym (ap (λ r. at_register r access) there) ∙ h)))
+
 -- the state after a write of a register that stores it
 pub written : (s t : State) (o : ℕ) (reg : Reg) (v : ℕ) → reg_at o ≡ Some reg → is_latched reg ≡ false
     → ((x : State) → after_write x reg v ≡
     (if is_latched reg then x else record x { registers = registers.put x.registers reg v }))
     → step s (writes o v) ≡ Ok (Done, t) → t ≡ record s { registers = registers.put s.registers reg v }
 written s t o reg v there stored by h =
-    let access : Reg → Answer × State = λ r. (Done, after_write s r v) in
-    let is : (Done, after_write s reg v) ≡ (Done, t) = ok_is _ _ (sym (ap (λ r. at_register r access) there) ∙ h) in
-    sym (ap (λ x. x.1) is) ∙ by s
+    written_so s t o reg v there h ∙ by s
     ∙ ap (λ (b : Bool). if b then s else record s { registers = registers.put s.registers reg v }) stored
 
 -- a read leaves all but the latches

@@ -20,3 +20,4 @@ pub mod Driven
 pub mod Order
 pub mod Off
 pub mod Spans
+pub mod Started

@@ -20,3 +20,4 @@ pub record Rests (s t : State) : Type 0 where
   pub memory : t.memory ≡ s.memory
   pub fifo : t.fifo ≡ s.fifo
   pub gathered : t.gathered ≡ s.gathered
+  pub wire : t.wire ≡ s.wire

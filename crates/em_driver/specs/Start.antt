@@ -50,14 +50,16 @@ each_from i (suc n) part more = part i (each_from (i + 1) n part more)
 abbrev pub device_reset : Part
 device_reset more = reset (Some cause.Memory) more
 
--- All interrupts are masked, and again after the reset, of which the mask is a part; then the link is set up (SLU), in
--- full duplex (FD).
+-- All interrupts are masked, and the device is reset.
+unfoldable pub until_reset : Part
+until_reset more = write Imc 0xFFFF_FFFF (device_reset more)
+
+-- They are masked again, since the mask was reset too. Then the link is set up (SLU), in full duplex (FD).
+unfoldable pub set_link_up : Part
+set_link_up more = write Imc 0xFFFF_FFFF (write Ctrl 0x0000_0041 more)
+
 unfoldable pub global_reset : Part
-global_reset more =
-    write Imc 0xFFFF_FFFF
-    (device_reset
-    (write Imc 0xFFFF_FFFF
-    (write Ctrl 0x0000_0041 more)))
+global_reset more = until_reset (set_link_up more)
 
 -- ---- the EEPROM
 
@@ -136,16 +138,20 @@ transmit_ring l more =
 
 -- ---- the whole
 
--- a start with a good layout
-unfoldable pub start : Layout → Start
-start l =
-    global_reset
+-- a start, from its reset on
+unfoldable pub after_reset : Layout → Start
+after_reset l =
+    set_link_up
     (eeprom (λ words.
     receive_address words
     (multicast_table
     (receive_ring l
     (transmit_ring l
     (done None))))))
+
+-- a start with a good layout
+unfoldable pub start : Layout → Start
+start l = until_reset (after_reset l)
 
 -- how many events a whole start has
 abbrev pub start_events : Layout → ℕ

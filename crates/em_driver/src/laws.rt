@@ -12,6 +12,7 @@ ghost use Rattle.em_driver.specs.Spans.{Span, IsSpan, AreSpans, IsPrefix, after_
 ghost use Rattle.em_driver.specs.Spans.{all_handed, all_sent, all_stored, all_taken};
 ghost use Rattle.em_driver.specs.Driven.{IsDriven, IsDrivenBut};
 ghost use Rattle.em_driver.specs.Off.{IsOff, Rests};
+ghost use Rattle.em_driver.specs.Started.{StartsInOrder};
 ghost use Rattle.em_driver.specs.Turn.{event_of, stored_by};
 ghost use Rattle.em_driver.specs.Order.{InOrder, queued, waiting};
 ghost use Rattle.em_driver.specs.declared.turn.Turn.{Turn};
@@ -98,7 +99,8 @@ pub fn a_device_that_is_off_rests()
 /// The law of the run, over every list of a driver's calls and of other actors' turns between them:
 /// the packets handed out are a prefix of the frames stored since a moment when those that wait were
 /// stored, and the frames sent are a prefix of the packets taken, padded, since a moment when none
-/// was queued. Each call that is in order is a span of such a list, and so is each turn.
+/// was queued. Each call that is in order is a span of such a list, and so is each turn. After a
+/// start these are the frames stored since its reset, and all the packets taken.
 pub fn packets_in_order()
     ensures calls { (l : Layout) (w v : World) (handed taken : List (List ℕ)) (h : InOrder l w v handed taken)
         → IsSpan l (present w)
@@ -113,6 +115,10 @@ pub fn packets_in_order()
         → queued l s ≡ [] → AreSpans l s spans → IsPrefix (all_sent spans) (map padded (all_taken spans)) }
     ensures wire { (l : Layout) (s : State) (spans : List Span)
         → AreSpans l s spans → (after_spans s spans).wire ≡ s.wire ++ all_sent spans }
+    ensures started { (l : Layout) (w v : World) (events : ℕ) (h : StartsInOrder l w events v) (spans : List Span)
+        → AreSpans l (present v) spans
+        → IsPrefix (all_handed spans) (h.stored ++ all_stored spans)
+        × IsPrefix (all_sent spans) (map padded (all_taken spans)) }
 {}
 
 /// The link goes up or down between two calls: a driven state stays so, with what waits, what is

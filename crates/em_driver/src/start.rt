@@ -3,6 +3,7 @@ ghost use Rattle.std.specs.Prelude.{◌≡◌, length, Some, None, IfOk, IfErr, 
 ghost use Rattle.em_driver.specs.Course.{Follows};
 ghost use Rattle.em_driver.specs.Layout.{IsGoodLayout};
 ghost use Rattle.em_driver.specs.Start.{start as start_of, start_events};
+ghost use Rattle.em_driver.specs.Started.{StartsInOrder};
 
 use crate::bus::Bus;
 use crate::driver::E1000;
@@ -14,7 +15,8 @@ use std::alloc::Global;
 impl<B: Bus> E1000<B> {
     /// Starts the device on a bus: resets it, reads its EEPROM, and makes its rings in guest memory
     /// by `layout`. Answers the driver and how many events it performed, 275 and one for each
-    /// descriptor.
+    /// descriptor. The device is then as its driver keeps it, nothing is queued, and the frames that
+    /// were stored since the reset wait.
     ///
     /// Refused, with the bus and the events that it performed: Layout, before any event, where the
     /// layout is not good for the bus's memory; Memory where a growth was refused; Checksum where
@@ -25,6 +27,7 @@ impl<B: Bus> E1000<B> {
         ensures ok { IfOk result (λ started. Follows (B.world bus) (start_of layout) started.1 None
             (B.world started.0.bus)) }
         ensures counted { IfOk result (λ started. started.1 ≡ start_events layout) }
+        ensures order { IfOk result (λ started. StartsInOrder layout (B.world bus) started.1 (B.world started.0.bus)) }
         ensures layout { IfOk result (λ started. started.0.layout ≡ layout) }
         ensures untouched { IfErr result (λ refused.
             (IsGoodLayout (length (B.world bus).machine.present.memory) layout → ⊥)

@@ -1,4 +1,4 @@
-use Rattle.em_driver.proofs.RunLaws.{call_span, turn_span, handed_prefix, sent_prefix, wire_grows}
+use Rattle.em_driver.proofs.RunLaws.{call_span, turn_span, handed_prefix, sent_prefix, wire_grows, started_prefix}
 use Rattle.em_driver.proofs.laws.packets_in_order.Goals as goal
 
 pub returns-clause-calls : goal.returns-clause-calls
@@ -15,3 +15,6 @@ returns-clause-sent c = sent_prefix
 
 pub returns-clause-wire : goal.returns-clause-wire
 returns-clause-wire c = wire_grows
+
+pub returns-clause-started : goal.returns-clause-started
+returns-clause-started c = started_prefix

@@ -1,0 +1,172 @@
+-- No turn changes how many octets memory has, in whatever state.
+use Rattle.std.proofs.Common.{◌≡◌, ◌∙◌, ◌||◌, ◌≤◌, ℕ, ◌+◌, Bool, true, false, not, if◌then◌else◌, List, [], ◌∷◌}
+use Rattle.std.proofs.Common.{length, drop, refl, sym, ap, arith, Option, Some, None, Ok, Err}
+use Rattle.std.specs.Prelude.{nat_lt}
+use Rattle.std.proofs.lemmas.Bool.{ltb-false}
+use Rattle.std.proofs.lemmas.List.{length-take}
+use Rattle.em_mem.specs.Memory.{part, put}
+use Rattle.em_mem.proofs.PutLaws.{length-put}
+use Rattle.em_regs.specs.Setup.{rx_setup, tx_setup}
+use Rattle.em_filter.specs.declared.outcome.Verdict.{Verdict}
+use Rattle.em_filter.specs.declared.outcome.Verdict.TheVariants as verdict
+use Rattle.em_filter.specs.Filters.{verdict as verdict_of}
+use Rattle.em_rx.specs.Descriptor.{written_back}
+use Rattle.em_rx.specs.Fifo.{Fifo, first, next}
+use Rattle.em_rx.specs.Receive as rx
+use Rattle.em_rx.specs.declared.receive.RxAnswer.TheVariants as rx_answer
+use Rattle.em_rx.specs.declared.refusal.RxRefusal.TheVariants as rx_refusal
+use Rattle.em_regs.specs.declared.setup.RxSetup.{RxSetup}
+use Rattle.em_regs.specs.declared.setup.TxSetup.{TxSetup}
+use Rattle.em_tx.specs.Cells.{Shown}
+use Rattle.em_tx.specs.Descriptor.{rs}
+use Rattle.em_tx.specs.Engine as tx
+use Rattle.em_tx.specs.Frame.{frame}
+use Rattle.em_tx.specs.Ring as tx_ring
+use Rattle.em_tx.specs.declared.answer.TxAnswer.{TxAnswer}
+use Rattle.em_tx.specs.declared.answer.TxAnswer.TheVariants as tx_answer
+use Rattle.em_tx.specs.declared.refusal.TxRefusal.{TxRefusal}
+use Rattle.em_tx.specs.declared.refusal.TxRefusal.TheVariants as tx_refusal
+use Rattle.em_step.specs.Arrival.{arrival, is_enabled, judgement, lacks_room}
+use Rattle.em_step.specs.Arrival.{after_accept, after_miss}
+use Rattle.em_step.specs.Engines.{after_tx_answer, rx_stepped, rx_step, sending, tx_stepped, tx_step}
+use Rattle.em_step.specs.Engines.{with_shown}
+use Rattle.em_step.specs.State.{State}
+use Rattle.em_step.specs.Step.{step}
+use Rattle.em_step.specs.declared.event.Answer.{Answer}
+use Rattle.em_step.specs.declared.event.Answer.TheVariants.{Stored, Dropped}
+use Rattle.em_step.specs.declared.event.Reason.TheVariants.{Down, Disabled, Missed}
+use Rattle.em_step.specs.declared.refusal.Refusal.TheVariants.{Length}
+use Rattle.em_driver.specs.Turn.{event_of}
+use Rattle.em_driver.specs.declared.turn.Turn.{Turn}
+use Rattle.em_driver.specs.declared.turn.Turn.TheVariants.{Arrive, RxStep, TxStep}
+use Rattle.em_driver.proofs.WorldLaws.{ok_is}
+
+-- the octets of memory are as many
+abbrev SameSize : State → State → Type 0
+SameSize s t = length t.memory ≡ length s.memory
+
+-- ---- arrivals
+
+admitted : (s : State) (f : List ℕ) (b : Bool) (a : Answer × State)
+    → SameSize s a.1 → SameSize s (if b then (Dropped Missed, after_miss s) else a).1
+admitted s f true a is = refl
+admitted s f false a is = is
+
+judged : (s : State) (f : List ℕ) (v : Verdict) → SameSize s (judgement s f v).1
+judged s f verdict.Reject = refl
+judged s f verdict.Undersize = refl
+judged s f verdict.Oversize = refl
+judged s f (verdict.Accept kind) = admitted s f (lacks_room s f) (Stored, after_accept s f kind) refl
+
+arrived_by : (s : State) (f : List ℕ) (up on : Bool)
+    → SameSize s (if not up then (Dropped Down, s) else if not on then (Dropped Disabled, s)
+    else judgement s f (verdict_of s.registers f)).1
+arrived_by s f false on = refl
+arrived_by s f true false = refl
+arrived_by s f true true = judged s f (verdict_of s.registers f)
+
+arrived : (s : State) (f : List ℕ) (long : Bool) (r : Answer × State)
+    → (if long then Err Length else Ok (arrival s f)) ≡ Ok r → SameSize s r.1
+arrived s f true r is = cc
+arrived s f false r is = ap (λ x. length x.1.memory) (sym (ok_is _ r is)) ∙ arrived_by s f s.link (is_enabled s)
+
+-- ---- receive steps
+
+-- a piece of a frame, and its descriptor
+written : (m : List ℕ) (a b : ℕ) (d e : List ℕ) → a + length d ≤ length m → b + length e ≤ length m
+    → length (put (put m a d) b e) ≡ length m
+written m a b d e one two =
+    let size = length-put m a d one in
+    length-put (put m a d) b e (omega (arith, size)) ∙ size
+
+delivered : (q : RxSetup) (m : List ℕ) (fifo : Fifo) → rx.descriptor_at q + 16 ≤ length m
+    → rx.buffer_at q m + rx.count_of q fifo ≤ length m → length (rx.after_write q m fifo) ≡ length m
+delivered q m fifo descriptor buffer =
+    let n : ℕ = rx.count_of q fifo in
+    let few : length (next fifo n) ≤ n = omega (arith, length-take n (drop fifo.taken (first fifo).octets)) in
+    let eight : length (written_back n (rx.is_last q fifo) (first fifo).tag) ≡ 8 = refl in
+    written m (rx.buffer_at q m) (rx.descriptor_at q + 8) (next fifo n)
+    (written_back n (rx.is_last q fifo) (first fifo).tag) (omega (arith, few)) (omega (arith, eight))
+
+received_by : (s : State) (idle a b : Bool) (r : Answer × State)
+    → nat_lt (length s.memory) (rx.descriptor_at (rx_setup s.registers) + 16) ≡ a
+    → nat_lt (length s.memory)
+    (rx.buffer_at (rx_setup s.registers) s.memory + rx.count_of (rx_setup s.registers) s.fifo) ≡ b
+    → rx_stepped s (if idle then Ok (record { answer = rx_answer.Idle; memory = s.memory; fifo = s.fifo })
+    else if a then Err rx_refusal.DmaRange
+    else if b then Err rx_refusal.DmaRange
+    else Ok (rx.delivery (rx_setup s.registers) s.memory s.fifo)) ≡ Ok r
+    → SameSize s r.1
+received_by s true a b r x y is = ap (λ z. length z.1.memory) (sym (ok_is _ r is))
+received_by s false true b r x y is = cc
+received_by s false false true r x y is = cc
+received_by s false false false r x y is =
+    ap (λ z. length z.1.memory) (sym (ok_is _ r is))
+    ∙ delivered (rx_setup s.registers) s.memory s.fifo (ltb-false _ _ x) (ltb-false _ _ y)
+
+received : (s : State) (r : Answer × State) → rx_step s ≡ Ok r → SameSize s r.1
+received s r is =
+    let q = rx_setup s.registers in
+    received_by s (rx.is_idle q s.fifo) (nat_lt (length s.memory) (rx.descriptor_at q + 16))
+    (nat_lt (length s.memory) (rx.buffer_at q s.memory + rx.count_of q s.fifo)) r refl refl is
+
+-- ---- transmit steps
+
+reported : (at : ℕ) (b : Bool) (m : List ℕ) → at + 16 ≤ length m
+    → length (if b then put m (at + 12) (1 ∷ []) else m) ≡ length m
+reported at true m held = length-put m (at + 12) (1 ∷ []) (omega arith)
+reported at false m held = refl
+
+-- a descriptor that was fetched, or whose frame was sent
+handled_by : (q : TxSetup) (d : List ℕ) (s : Shown) (octets f : List ℕ) (b : Bool)
+    → tx_ring.place q + 16 ≤ length s.memory
+    → length (if b then tx.send q d s f else tx.fetch q d s octets).1.memory ≡ length s.memory
+handled_by q d s octets f true held = reported (tx_ring.place q) (rs d) s.memory held
+handled_by q d s octets f false held = reported (tx_ring.place q) (rs d) s.memory held
+
+handled : (q : TxSetup) (d : List ℕ) (s : Shown) → tx_ring.place q + 16 ≤ length s.memory
+    → length (tx.handle q d s).1.memory ≡ length s.memory
+unfolding tx.handle
+handled q d s held =
+    let octets = tx.gather s d in
+    handled_by q d s octets (frame q d octets) (tx.sends d (length octets)) held
+
+answered : (s : State) (a : TxAnswer) → SameSize s (after_tx_answer s a).1
+answered s tx_answer.Idle = refl
+answered s (tx_answer.Fetched index next causes) = refl
+answered s (tx_answer.Sent index next causes octets kind) = refl
+
+stepped : (s : State) (why : Option TxRefusal) (x : TxAnswer × Shown) (r : Answer × State)
+    → length x.1.memory ≡ length s.memory → tx_stepped s (tx.unless why x) ≡ Ok r → SameSize s r.1
+stepped s None x r size is =
+    ap (λ z. length z.1.memory) (sym (ok_is _ r is)) ∙ answered (with_shown s x.1) x.0 ∙ size
+stepped s (Some why) x r size is = cc
+
+transmitted_by : (s : State) (idle a : Bool) (r : Answer × State)
+    → nat_lt (length s.memory) (tx_ring.place (tx_setup s.registers) + 16) ≡ a
+    → tx_stepped s (if idle then Ok (tx_answer.Idle, sending s)
+    else if a then Err tx_refusal.DmaRange
+    else tx.unless (tx.refusal s.gathered s.memory (part s.memory (tx_ring.place (tx_setup s.registers)) 16))
+    (tx.handle (tx_setup s.registers) (part s.memory (tx_ring.place (tx_setup s.registers)) 16) (sending s))) ≡ Ok r
+    → SameSize s r.1
+transmitted_by s true a r x is = ap (λ z. length z.1.memory) (sym (ok_is _ r is))
+transmitted_by s false true r x is = cc
+transmitted_by s false false r x is =
+    let q = tx_setup s.registers in
+    let d : List ℕ = part s.memory (tx_ring.place q) 16 in
+    stepped s (tx.refusal s.gathered s.memory d) (tx.handle q d (sending s)) r
+    (handled q d (sending s) (ltb-false _ _ x)) is
+
+transmitted : (s : State) (r : Answer × State) → tx_step s ≡ Ok r → SameSize s r.1
+unfolding tx.transmit
+transmitted s r is =
+    let q = tx_setup s.registers in
+    transmitted_by s (tx_ring.is_idle q) (nat_lt (length s.memory) (tx_ring.place q + 16)) r refl is
+
+-- ---- turns
+
+pub turn_size : (s : State) (t : Turn) (r : Answer × State) → step s (event_of t) ≡ Ok r
+    → length r.1.memory ≡ length s.memory
+turn_size s (Arrive f) r is = arrived s f (nat_lt (length f) 14 || nat_lt 20_000 (length f)) r is
+turn_size s RxStep r is = received s r is
+turn_size s TxStep r is = transmitted s r is

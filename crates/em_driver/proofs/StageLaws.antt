@@ -1,0 +1,216 @@
+-- What holds between the events of a start: a stage is kept by turns, and an event leads from one stage to the next.
+use Rattle.std.proofs.Common.{◌≡◌, ◌∙◌, ℕ, zero, suc, ◌+◌, ◌≤◌, ◌<◌, Bool, true, false, if◌then◌else◌}
+use Rattle.std.proofs.Common.{List, [], ◌∷◌, ◌++◌, refl, sym, ap, subst, arith, append_assoc}
+use Rattle.std.proofs.Common.{Some, None, Result, Ok, Err, inl, inr}
+use Rattle.std.specs.Prelude.{◌/◌, ◌%◌, ◌==◌, ◌*◌, sum}
+use Rattle.em_regs.specs.Table.{offset_of}
+use Rattle.em_regs.specs.declared.reg.Reg.{Reg}
+use Rattle.em_regs.specs.declared.reg.Reg.TheVariants.{Eerd}
+use Rattle.em_step.specs.Access.{has}
+use Rattle.em_step.specs.Event.{Event, reads, writes, pokes}
+use Rattle.em_step.specs.State.{State}
+use Rattle.em_step.specs.Step.{step}
+use Rattle.em_step.specs.declared.event.Answer.{Answer}
+use Rattle.em_step.specs.declared.event.Answer.TheVariants.{Done, Value}
+use Rattle.em_step.specs.declared.refusal.Refusal.{Refusal}
+use Rattle.em_driver.specs.Course.{done, write, Follows}
+use Rattle.em_driver.specs.Outcome.{cause_of}
+use Rattle.em_driver.specs.Start.{Start, Part, each_from, memory, eeprom_word, words_from, summed, eeprom}
+use Rattle.em_driver.specs.Turn.{event_of, stored_by}
+use Rattle.em_driver.specs.World.{World, Accesses, Passes, present, after_outcome, after_turn, after_turns}
+use Rattle.em_driver.specs.declared.outcome.Cause.{Cause}
+use Rattle.em_driver.specs.declared.outcome.Cause.TheVariants.{Broken, Checksum}
+use Rattle.em_driver.specs.declared.turn.Turn.{Turn}
+use Rattle.em_driver.proofs.WorldLaws.{stored_same}
+
+-- ---- stages
+
+-- a stage says what holds of a state, and of the frames that were stored since some world before it
+abbrev pub Stage : Type 1
+Stage = State → List (List ℕ) → Type 0
+
+-- whatever turn is performed, it holds of the next state too
+abbrev pub IsClosed : Stage → Type 0
+IsClosed stage =
+    (s : State) (stored : List (List ℕ)) (t : Turn) (r : Answer × State) → stage s stored
+    → step s (event_of t) ≡ Ok r → stage r.1 (stored ++ stored_by t r.0)
+
+-- a world is at a stage, with the frames that were stored since there were those before
+pub record At (stage : Stage) (before : List (List ℕ)) (w : World) : Type 0 where
+  pub stored : List (List ℕ)
+  pub is : w.stored ≡ before ++ stored
+  pub holds : stage (present w) stored
+
+-- ---- turns
+
+outcome_at : (stage : Stage) (before : List (List ℕ)) (w : World) (t : Turn) (r : Result (Answer × State) Refusal)
+    → IsClosed stage → At stage before w → step (present w) (event_of t) ≡ r → At stage before (after_outcome w t r)
+outcome_at stage before w t (Ok r) closed h is = record {
+  stored = h.stored ++ stored_by t r.0;
+  is = ap (λ x. x ++ stored_by t r.0) h.is ∙ append_assoc before h.stored (stored_by t r.0);
+  holds = closed (present w) h.stored t r h.holds is;
+}
+outcome_at stage before w t (Err refusal) closed h is = record { stored = h.stored; is = h.is; holds = h.holds }
+
+turns_at : (stage : Stage) (before : List (List ℕ)) (w : World) (turns : List Turn) → IsClosed stage
+    → At stage before w → At stage before (after_turns w turns)
+turns_at stage before w [] closed h = h
+turns_at stage before w (t ∷ turns) closed h =
+    turns_at stage before (after_turn w t) turns closed
+    (outcome_at stage before w t (step (present w) (event_of t)) closed h refl)
+
+passed_at : (stage : Stage) (before : List (List ℕ)) (w v : World) → IsClosed stage → At stage before w → Passes w v
+    → At stage before v
+passed_at stage before w v closed h p =
+    let m = turns_at stage before w p.turns closed h in
+    record {
+      stored = m.stored;
+      is = ap (λ x. x.stored) p.is ∙ m.is;
+      holds = subst (λ s. stage s m.stored) (sym (ap present p.is)) m.holds;
+    }
+
+-- ---- events
+
+-- an event leads from one stage to another
+abbrev pub Leads : Stage → Stage → Event → Answer → Type 0
+Leads from to e answer =
+    (s t : State) (stored : List (List ℕ)) → from s stored → step s e ≡ Ok (answer, t) → to t stored
+
+pub event_at : (from to : Stage) (before : List (List ℕ)) (w v : World) (e : Event) (answer : Answer) → IsClosed from
+    → Leads from to e answer → At from before w → Accesses w e answer v → At to before v
+event_at from to before w v e answer closed leads h a =
+    let m = passed_at from before w a.mid closed h a.passes in
+    record {
+      stored = m.stored;
+      is = stored_same w v e answer a ∙ m.is;
+      holds = leads (present a.mid) (present v) m.stored m.holds a.does.0;
+    }
+
+-- ---- parts of a start
+
+-- the rest of a start that was performed to its end, from a world at a stage
+pub record Rest (stage : Stage) (before : List (List ℕ)) (more : Start) (v : World) : Type 0 where
+  pub world : World
+  pub events : ℕ
+  pub at : At stage before world
+  pub follows : Follows world more events None v
+
+-- a part of a start leads from one stage to another
+abbrev pub Brings : Stage → Stage → Part → Type 0
+Brings from to part =
+    (before : List (List ℕ)) (w v : World) (more : Start) (n : ℕ) → At from before w → Follows w (part more) n None v
+    → Rest to before more v
+
+-- a part that gives a value to what comes after it
+abbrev pub BringsWith : {A : Type 0} → Stage → Stage → ((A → Start) → Start) → Type 0
+BringsWith {A} from to part =
+    (before : List (List ℕ)) (w v : World) (next : A → Start) (n : ℕ) → At from before w
+    → Follows w (part next) n None v → (value : A) × Rest to before (next value) v
+
+pub brings_both : (a b c : Stage) (first second : Part) → Brings a b first → Brings b c second
+    → Brings a c (λ more. first (second more))
+brings_both a b c first second one two before w v more n h f =
+    let m = one before w v (second more) n h f in
+    two before m.world v more m.events m.at m.follows
+
+pub brings_write : (from to : Stage) (reg : Reg) (value : ℕ) → IsClosed from
+    → Leads from to (writes (offset_of reg) value) Done → Brings from to (write reg value)
+unfolding Follows
+brings_write from to reg value closed leads before w v more n h f = record {
+  world = f.mid;
+  events = f.others;
+  at = event_at from to before w f.mid (writes (offset_of reg) value) Done closed leads h f.step;
+  follows = f.more;
+}
+
+pub not_none : (why : Cause) → None ≡ Some why → ⊥
+not_none why e = cc
+
+pub brings_memory : (from to : Stage) (addr : ℕ) (octets : List ℕ) → IsClosed from
+    → Leads from to (pokes addr octets) Done → Brings from to (memory addr octets)
+unfolding Follows
+brings_memory from to addr octets closed leads before w v more n h (inl (why, refused, none, is)) =
+    absurd (not_none (cause_of why) is)
+brings_memory from to addr octets closed leads before w v more n h (inr f) = record {
+  world = f.mid;
+  events = f.others;
+  at = event_at from to before w f.mid (pokes addr octets) Done closed leads h f.step;
+  follows = f.more;
+}
+
+-- a part for each number from i on, n of them
+brings_each : (stage : ℕ → Stage) (part : ℕ → Part) (i n : ℕ)
+    → ((j : ℕ) → i ≤ j → j < i + n → Brings (stage j) (stage (j + 1)) (part j))
+    → Brings (stage i) (stage (i + n)) (each_from i n part)
+unfolding each_from
+brings_each stage part i zero each before w v more n h f = record {
+  world = w;
+  events = n;
+  at = subst (λ k. At (stage k) before w) (omega arith) h;
+  follows = f;
+}
+brings_each stage part i (suc k) each before w v more n h f =
+    let one = each i (omega arith) (omega arith) before w v (each_from (i + 1) k part more) n h f in
+    let rest = brings_each stage part (i + 1) k (λ j low high. each j (omega arith) (omega arith)) before one.world v
+    more one.events one.at one.follows in
+    record {
+      world = rest.world;
+      events = rest.events;
+      at = subst (λ j. At (stage j) before rest.world) (omega arith) rest.at;
+      follows = rest.follows;
+    }
+
+-- a part for each number below n
+pub brings_all : (stage : ℕ → Stage) (part : ℕ → Part) (n : ℕ)
+    → ((j : ℕ) → j < n → Brings (stage j) (stage (j + 1)) (part j)) → Brings (stage 0) (stage n) (each_from 0 n part)
+brings_all stage part n each =
+    subst (λ k. Brings (stage 0) (stage k) (each_from 0 n part)) (omega arith)
+    (brings_each stage part 0 n (λ j low high. each j (omega (arith, high))))
+
+-- ---- the EEPROM
+
+module _ (stage : Stage) (closed : IsClosed stage)
+    (written : (value : ℕ) → Leads stage stage (writes (offset_of Eerd) value) Done)
+    (was_read : (value : ℕ) → Leads stage stage (reads (offset_of Eerd)) (Value value)) where
+  said : (before : List (List ℕ)) (w v : World) (b : Bool) (next : ℕ → Start) (word n : ℕ) → At stage before w
+      → Follows w (if b then next word else done (Some Broken)) n None v → Rest stage before (next word) v
+  unfolding Follows
+  said before w v true next word n h f = record { world = w; events = n; at = h; follows = f }
+  said before w v false next word n h f = absurd (let no_such = f.answer_is in cc)
+
+  brings_word : (address : ℕ) → BringsWith stage stage (eeprom_word address)
+  unfolding Follows eeprom_word
+  brings_word address before w v next n h f =
+      let asked : ℕ = 0x100 * address + 0x1 in
+      let at = event_at stage stage before w f.mid (writes (offset_of Eerd) asked) Done closed
+      (written asked) h f.step in
+      let value : ℕ = f.more.0 in
+      let got = f.more.1 in
+      let there = event_at stage stage before f.mid got.mid (reads (offset_of Eerd)) (Value value) closed
+      (was_read value) at got.step in (
+        value / 0x1_0000,
+        said before got.mid v (has value 0x10) next (value / 0x1_0000) got.others there got.more,
+      )
+
+  brings_words : (a n : ℕ) (words : List ℕ) → BringsWith stage stage (words_from a n words)
+  unfolding words_from
+  brings_words a zero words before w v next n h f = (words, record { world = w; events = n; at = h; follows = f })
+  brings_words a (suc k) words before w v next n h f =
+      let one = brings_word a before w v (λ word. words_from (a + 1) k (words ++ word ∷ []) next) n h f in
+      brings_words (a + 1) k (words ++ one.0 ∷ []) before one.1.world v next one.1.events one.1.at one.1.follows
+
+  right : (before : List (List ℕ)) (w v : World) (b : Bool) (next : List ℕ → Start) (words : List ℕ) (n : ℕ)
+      → At stage before w → Follows w (if b then next words else done (Some Checksum)) n None v
+      → Rest stage before (next words) v
+  unfolding Follows
+  right before w v true next words n h f = record { world = w; events = n; at = h; follows = f }
+  right before w v false next words n h f = absurd (let no_such = f.answer_is in cc)
+
+  pub brings_eeprom : BringsWith stage stage eeprom
+  unfolding eeprom
+  brings_eeprom before w v next n h f =
+      let all = brings_words 0 64 [] before w v (summed next) n h f in (
+        all.0,
+        right before all.1.world v (sum all.0 % 0x1_0000 == 0xBABA) next all.0 all.1.events all.1.at
+            all.1.follows,
+      )

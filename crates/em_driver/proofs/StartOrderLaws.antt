@@ -1,0 +1,145 @@
+-- A start leads to a driven state, in which nothing is queued and what was stored since its reset waits.
+use Rattle.std.proofs.Common.{◌≡◌, ◌∙◌, ℕ, ◌+◌, ◌==◌, List, [], length, refl, sym, ap, subst}
+use Rattle.std.proofs.Common.{arith, append-nil, inl, inr, Option, Some, None, Ok}
+use Rattle.std.specs.Prelude.{bit_and}
+use Rattle.em_regs.specs.Table.{offset_of}
+use Rattle.em_regs.specs.declared.reg.Reg.TheVariants.{Ctrl, Imc, Rctl, Tctl}
+use Rattle.em_regs.proofs.TableLaws.{reg_at-offset_of}
+use Rattle.em_step.specs.Access.{reset as reset_of}
+use Rattle.em_step.specs.Event.{writes}
+use Rattle.em_step.specs.State.{State}
+use Rattle.em_step.specs.Step.{step}
+use Rattle.em_step.specs.declared.event.Answer.TheVariants.{Done}
+use Rattle.em_step.proofs.ResetLaws.{zero_after_reset}
+use Rattle.em_driver.specs.Course.{done, write, Follows}
+use Rattle.em_driver.specs.Layout.{IsGoodLayout, IsPlaced}
+use Rattle.em_driver.specs.Off.{IsOff}
+use Rattle.em_driver.specs.Start.{Start, device_reset, until_reset, after_reset, start, eeprom}
+use Rattle.em_driver.specs.Start.{receive_address, multicast_table, receive_ring, transmit_ring, descriptors}
+use Rattle.em_driver.specs.Started.{StartsInOrder}
+use Rattle.em_driver.specs.World.{World, Accesses, present}
+use Rattle.em_driver.specs.declared.layout.Layout.{Layout}
+use Rattle.em_driver.specs.declared.outcome.Cause.{Cause}
+use Rattle.em_driver.specs.declared.outcome.Cause.TheVariants.{Memory}
+use Rattle.em_driver.proofs.CourseLaws.{ends, resets_on, writes_on}
+use Rattle.em_driver.proofs.ListeningLaws.{IsStarted, receiving_enabled, sending_enabled, tx_descriptors_made}
+use Rattle.em_driver.proofs.ListeningLaws.{tx_registers, tx_registers_made}
+use Rattle.em_driver.proofs.MakingLaws.{IsMaking, link_made, eeprom_made, address_made, table_made, descriptors_made}
+use Rattle.em_driver.proofs.MakingLaws.{registers_made, rx_registers}
+use Rattle.em_driver.proofs.SizeLaws.{turn_size}
+use Rattle.em_driver.proofs.StageLaws.{Stage, At, IsClosed, event_at, not_none}
+use Rattle.em_driver.proofs.WorldLaws.{written_so}
+
+-- ---- until the reset
+
+-- the octets of memory are so many
+abbrev IsSized : ℕ → Stage
+IsSized size s stored = length s.memory ≡ size
+
+sized_closed : (size : ℕ) → IsClosed (IsSized size)
+sized_closed size s stored t r h is = turn_size s t r is ∙ h
+
+masked : (size : ℕ) (s t : State) (stored : List (List ℕ)) → IsSized size s stored
+    → step s (writes (offset_of Imc) 0xFFFF_FFFF) ≡ Ok (Done, t) → IsSized size t stored
+masked size s t stored h is =
+    ap (λ x. length x.memory) (written_so s t (offset_of Imc) Imc 0xFFFF_FFFF (reg_at-offset_of Imc (omega arith)) is)
+    ∙ h
+
+is_off : (s : State) → IsOff (reset_of s)
+is_off s = record {
+  rctl = zero_after_reset s Rctl (omega arith) (λ e. cc) (λ e. cc) (λ e. cc);
+  tctl = zero_after_reset s Tctl (omega arith) (λ e. cc) (λ e. cc) (λ e. cc);
+  untagged = ap (λ v. bit_and v 0x4000_0000 == 0x4000_0000)
+      (zero_after_reset s Ctrl (omega arith) (λ e. cc) (λ e. cc) (λ e. cc));
+  fifo = refl;
+  gathered = refl;
+}
+
+-- the first stage after it
+made_by_reset : (l : Layout) (size : ℕ) (s t : State) (stored : List (List ℕ)) → IsGoodLayout size l
+    → IsSized size s stored → step s (writes (offset_of Ctrl) 0x0400_0000) ≡ Ok (Done, t) → IsMaking l t.wire [] 0 t []
+made_by_reset l size s t stored good h is =
+    subst (λ x. IsMaking l x.wire [] 0 x [])
+    (sym (written_so s t (offset_of Ctrl) Ctrl 0x0400_0000 (reg_at-offset_of Ctrl (omega arith)) is))
+    (record {
+      off = is_off s;
+      good = subst (λ n. IsGoodLayout n l) (sym h) good;
+      holds = tt;
+      fresh = λ i low. absurd (omega arith);
+      none = refl;
+      wire = refl;
+    })
+
+-- ---- from the reset on
+
+made_from_reset : (l : Layout) (sent : List (List ℕ)) (w v : World) (n : ℕ) → IsPlaced l
+    → IsMaking l sent [] 0 (present w) []
+    → Follows w (after_reset l) n None v → At (IsStarted l sent) w.stored v
+unfolding after_reset receive_ring transmit_ring Follows
+made_from_reset l sent w v n placed h f =
+    let good = h.good in
+    let size : ℕ = length (present w).memory in
+    let before : List (List ℕ) = w.stored in
+    let sending : Start = write Tctl 0x0004_010A (done None) in
+    let transmit : Start = descriptors l.tx_ring l.tx_count l.tx_buffers (tx_registers l sending) in
+    let receiving : Start = write Rctl 0x0000_801A transmit in
+    let receive : Start = descriptors l.rx_ring l.rx_count l.rx_buffers (rx_registers l receiving) in
+    let table : Start = multicast_table receive in
+    let behind = λ (words : List ℕ). receive_address words table in
+    let a = link_made l sent before w v (eeprom behind) n
+    (record { stored = []; is = sym (append-nil before); holds = h }) f in
+    let b = eeprom_made l sent before a.world v behind a.events a.at a.follows in
+    let c = address_made l sent b.0 before b.1.world v table b.1.events b.1.at b.1.follows in
+    let d = table_made l sent before c.world v receive c.events c.at c.follows in
+    let e = descriptors_made l sent before d.world v (rx_registers l receiving) d.events d.at d.follows in
+    let g = registers_made l sent size good placed before e.world v receiving e.events e.at e.follows in
+    let i = receiving_enabled l sent placed before g.world v transmit g.events g.at g.follows in
+    let j = tx_descriptors_made l sent before i.world v (tx_registers l sending) i.events i.at i.follows in
+    let k = tx_registers_made l sent size good placed before j.world v sending j.events j.at j.follows in
+    let o = sending_enabled l sent before k.world v (done None) k.events k.at k.follows in
+    subst (At (IsStarted l sent) before) {x = o.world} {y = v} (sym {a = v} {b = o.world} o.follows.world_is) o.at
+
+-- ---- the whole
+
+reset_follows : (w m r : World) → Accesses w (writes (offset_of Imc) 0xFFFF_FFFF) Done m
+    → Accesses m (writes (offset_of Ctrl) 0x0400_0000) Done r → Follows w (until_reset (done None)) 2 None r
+unfolding until_reset
+reset_follows w m r first second =
+    let end : Start = done None in
+    let started : Option Cause = None in
+    writes_on w m r Imc 0xFFFF_FFFF (device_reset end) 2 1 started first refl
+    (resets_on m r r (Some Memory) end 1 0 started second refl (ends r started))
+
+from_mask : (l : Layout) (w m v : World) (n k : ℕ) → IsGoodLayout (length (present w).memory) l → IsPlaced l
+    → Accesses w (writes (offset_of Imc) 0xFFFF_FFFF) Done m → n ≡ 1 + k
+    → Follows m (device_reset (after_reset l)) k None v → StartsInOrder l w n v
+unfolding Follows until_reset
+from_mask l w m v n k good placed first count (inl (refused, none, is)) = absurd (not_none _ is)
+from_mask l w m v n k good placed first count (inr step) =
+    let size : ℕ = length (present w).memory in
+    let r : World = step.mid in
+    let sized = event_at (IsSized size) (IsSized size) w.stored w m (writes (offset_of Imc) 0xFFFF_FFFF) Done
+    (sized_closed size) (masked size)
+    (record { stored = []; is = sym (append-nil w.stored); holds = refl }) first in
+    let made = event_at (IsSized size) (λ s stored. IsMaking l s.wire [] 0 s []) w.stored m r
+    (writes (offset_of Ctrl) 0x0400_0000) Done (sized_closed size)
+    (λ s t stored h is. made_by_reset l size s t stored good h is) sized step.step in
+    let started = made_from_reset l (present r).wire r v step.others placed made.holds step.more in
+    record {
+      reset = r;
+      others = step.others;
+      is_reset = reset_follows w m r first step.step;
+      follows = step.more;
+      counted = omega (arith, count, step.count);
+      stored = started.stored;
+      is_stored = started.is;
+      driven = started.holds.driven;
+      queued = started.holds.queued;
+      waiting = started.holds.waits;
+      wire = started.holds.wire;
+    }
+
+pub start_order : (l : Layout) (w v : World) (n : ℕ) → IsGoodLayout (length (present w).memory) l → IsPlaced l
+    → Follows w (start l) n None v → StartsInOrder l w n v
+unfolding Follows start until_reset
+start_order l w v n good placed f = from_mask l w f.mid v n f.others good placed f.step f.count f.more
