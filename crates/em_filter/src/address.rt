@@ -20,10 +20,11 @@ pub(crate) fn accepts(regs: &RegFile, address: &[u8; 6]) -> bool
     ensures { result ≡ accepts regs.now (destination address.now) }
 {
     let kind = kind_of(address);
-    is_in_table(regs, address)
-        || passes_upe(regs, kind)
+    // the cases of one bit come first, since the table has 16 entries
+    passes_upe(regs, kind)
         || passes_mpe(regs, kind)
         || passes_bam(regs, kind)
+        || is_in_table(regs, address)
         || passes_hash(regs, kind, address)
 }
 

@@ -1,21 +1,20 @@
 -- A chain of records that is cut, or that grows.
-use Rattle.std.proofs.Common.{◌≡◌, ℕ, ◌+◌, ◌≤◌, ◌/◌, zero, suc, List, [], ◌∷◌, length, take}
-use Rattle.std.proofs.Common.{refl, ap, ◌∙◌, sym, arith, subst}
+use Rattle.std.proofs.Common.{◌≡◌, ℕ, ◌≤◌, zero, suc, List, [], ◌∷◌, length, take}
+use Rattle.std.proofs.Common.{refl, ap, ◌∙◌, sym, subst}
 use Rattle.std.specs.Prelude.{Result, Ok, Err, IfErr, sum}
 use Rattle.em_step.proofs.MadePages.{fits_after, undo_after, shows_after}
 use Rattle.em_step.specs.Cells.{Cells, shows, MorePages}
-use Rattle.em_step.specs.Cost.{least_cost, cost, cost_of}
+use Rattle.em_step.specs.Cost.{cost, cost_of}
 use Rattle.em_step.specs.Event.{Event}
-use Rattle.em_step.specs.Step.{Refuses}
+use Rattle.em_step.specs.Step.{step, Refuses}
 use Rattle.em_step.specs.Undo.{undo, Reverses}
 use Rattle.em_step.specs.declared.event.Answer.{Answer}
 use Rattle.em_step.specs.declared.refusal.Refusal.{Refusal}
 use Rattle.em_step.specs.declared.undo.Undo.{Undo}
-use Rattle.em_journal.specs.Budget.{IsBudget}
-use Rattle.em_journal.specs.History.{refuses, Does}
+use Rattle.em_journal.specs.History.{performs, refuses, Does}
 use Rattle.em_journal.specs.Records.{back_through, AllFit, costs_of, view_of, IsJournal}
 use Rattle.em_journal.specs.View.{View, reach, after_event}
-use Rattle.em_journal.proofs.BudgetLaws.{costs_of-take, sum_cons}
+use Rattle.em_journal.proofs.BudgetLaws.{costs_of-take}
 
 -- ---- more made pages
 
@@ -70,7 +69,7 @@ back_through-event {budget} {c} {d} {r} {rs} h =
     let all : back_through d (r ∷ rs) ≡ shows c ∷ back_through c rs = λ i. here i ∷ below i in
     ap (back_through d) h.kept ∙ back_through-take n d (r ∷ rs) ∙ ap (take n) all
 
-pub view_event : {budget : ℕ} {c d : Cells} {r : Undo} {rs new : List Undo} {old : View} (e : Event)
+view_event : {budget : ℕ} {c d : Cells} {r : Undo} {rs new : List Undo} {old : View} (e : Event)
     → Follows budget c d r rs new → cost_of r ≡ cost (shows c) e → view_of budget c rs ≡ old
     → view_of budget d new ≡ after_event old (shows d) (cost old.present e)
 view_event {budget} {c} {d} {r} {rs} {new} e h same view =
@@ -82,16 +81,28 @@ view_event {budget} {c} {d} {r} {rs} {new} e h same view =
     made ∙ ap (after_event (view_of budget c rs) (shows d)) same
     ∙ ap (λ v. after_event v (shows d) (cost v.present e)) view
 
-pub journal_event : {budget used capacity : ℕ} {c d : Cells} {r : Undo} {rs new : List Undo} (mid : List Undo)
-    → Follows budget c d r rs new → new ≡ r ∷ mid → AllFit c rs → used ≡ sum (costs_of mid) + cost_of r
-    → used ≤ budget → capacity ≡ budget / least_cost → IsBudget budget → IsJournal d new capacity budget used
-journal_event {r = r} mid h alone fit counted held places allowed = record {
-  fit = AllFit-event h fit;
-  counted = omega (arith, counted, ap (λ xs. sum (costs_of xs)) alone, sum_cons (cost_of r) (costs_of mid));
+pub journal_event : {budget used capacity : ℕ} {c d : Cells} {r : Undo} {rs new : List Undo}
+    → IsJournal c rs capacity budget used → Reverses c d r
+    → new ≡ take (reach budget (cost_of r ∷ costs_of rs)) (r ∷ rs) → {places now : ℕ} → places ≡ capacity
+    → now ≡ sum (costs_of new) → now ≤ budget → IsJournal d new places budget now
+journal_event old reverses kept same counted held = record {
+  fit = AllFit-event (record { kept = kept; reverses = reverses }) old.fit;
+  counted = counted;
   held = held;
-  places = places;
-  allowed = allowed;
+  places = same ∙ old.places;
+  allowed = old.allowed;
 }
+
+-- so it was performed
+pub event_does : {budget : ℕ} {c d : Cells} {r : Undo} (rs : List Undo) {new : List Undo} {old : View} (e : Event)
+    {answer : Answer}
+    → step (shows c) e ≡ Ok (answer, shows d) → cost_of r ≡ cost (shows c) e → Reverses c d r
+    → new ≡ take (reach budget (cost_of r ∷ costs_of rs)) (r ∷ rs) → view_of budget c rs ≡ old
+    → Does old (performs e answer) (view_of budget d new)
+event_does {d = d} rs {old = old} e {answer} is same reverses kept view = (
+  ap (λ v. step v.present e) (sym view) ∙ is,
+  view_event e (record { kept = kept; reverses = reverses }) same view,
+)
 
 -- ---- a refused event may leave more pages made
 

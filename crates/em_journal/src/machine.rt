@@ -7,12 +7,12 @@ ghost use Rattle.em_regs.specs.Table.{reg_at};
 ghost use Rattle.em_latch.specs.Latches.{IsAsserted};
 ghost use Rattle.em_step.specs.Access.{gives};
 ghost use Rattle.em_step.specs.Cells.{shows};
-ghost use Rattle.em_step.specs.Event.{plain};
+ghost use Rattle.em_step.specs.Event.{plain, reads, writes, pokes, arrives, links, receives, transmits};
 ghost use Rattle.em_journal.specs.Budget.{IsBudget};
 ghost use Rattle.em_journal.specs.History.{performs, refuses, goes_back, is_empty, Does, Run};
 ghost use Rattle.em_journal.specs.View.{opening, after_backs};
 
-use crate::records::{drop_oldest, put_newest};
+use crate::records::keep;
 use crate::refusal::{Empty, JournalRefusal};
 use circular_buffer::HeapCircularBuffer;
 use em_step::{Adapter, Answer, Event, LEAST_COST, Refusal, Undo};
@@ -92,16 +92,98 @@ impl Machine {
         ensures kept { OnOk result (0 < length self.new.past) }
         ensures err { IfErr result (λ refusal. Does self.old (refuses (plain event.entry) refusal) self.new) }
     {
-        let (answer, undo) = self.adapter.apply(event)?;
-        let cost = u64::from(undo.cost());
-        // The oldest go first, since a full ring would lose one whose cost is not counted.
-        let kept = drop_oldest(&mut self.records, self.used, self.budget - cost);
-        put_newest(&mut self.records, undo);
-        self.used = kept + cost;
+        match event {
+            Event::Read(offset) => self.read(offset),
+            Event::Write(offset, value) => self.write(offset, value),
+            Event::Poke(addr, octets) => self.poke(addr, octets),
+            Event::Arrive(frame) => self.arrive(frame),
+            Event::Link(up) => self.set_link(up),
+            Event::RxStep => self.receive_step(),
+            Event::TxStep => self.transmit_step(),
+        }
+    }
+
+    // An event of each kind has a function of its own, so that none pays for what another one needs.
+
+    /// Software reads the register at an offset.
+    fn read(&mut self, offset: u32) -> Result<Answer, Refusal>
+        ensures ok { IfOk result (λ answer. Does self.old (performs (reads offset) answer) self.new) }
+        ensures kept { OnOk result (0 < length self.new.past) }
+        ensures err { IfErr result (λ refusal. Does self.old (refuses (reads offset) refusal) self.new) }
+    {
+        let (answer, undo) = self.adapter.read_at(offset)?;
+        self.used = keep(&mut self.records, self.used, self.budget, undo);
+        Ok(answer)
+    }
+
+    /// Software writes a value to the register at an offset.
+    fn write(&mut self, offset: u32, value: u32) -> Result<Answer, Refusal>
+        ensures ok { IfOk result (λ answer. Does self.old (performs (writes offset value) answer) self.new) }
+        ensures kept { OnOk result (0 < length self.new.past) }
+        ensures err { IfErr result (λ refusal. Does self.old (refuses (writes offset value) refusal) self.new) }
+    {
+        let (answer, undo) = self.adapter.write_at(offset, value)?;
+        self.used = keep(&mut self.records, self.used, self.budget, undo);
+        Ok(answer)
+    }
+
+    /// Software writes octets to guest memory.
+    fn poke(&mut self, addr: u64, octets: &[u8]) -> Result<Answer, Refusal>
+        ensures ok { IfOk result (λ answer. Does self.old (performs (pokes addr octets.now) answer) self.new) }
+        ensures kept { OnOk result (0 < length self.new.past) }
+        ensures err { IfErr result (λ refusal. Does self.old (refuses (pokes addr octets.now) refusal) self.new) }
+    {
+        let (answer, undo) = self.adapter.poke(addr, octets)?;
+        self.used = keep(&mut self.records, self.used, self.budget, undo);
+        Ok(answer)
+    }
+
+    /// A frame arrives.
+    fn arrive(&mut self, frame: &[u8]) -> Result<Answer, Refusal>
+        ensures ok { IfOk result (λ answer. Does self.old (performs (arrives frame.now) answer) self.new) }
+        ensures kept { OnOk result (0 < length self.new.past) }
+        ensures err { IfErr result (λ refusal. Does self.old (refuses (arrives frame.now) refusal) self.new) }
+    {
+        let (answer, undo) = self.adapter.arrive(frame)?;
+        self.used = keep(&mut self.records, self.used, self.budget, undo);
+        Ok(answer)
+    }
+
+    /// The link goes up or down.
+    fn set_link(&mut self, up: bool) -> Result<Answer, Refusal>
+        ensures ok { IfOk result (λ answer. Does self.old (performs (links up) answer) self.new) }
+        ensures kept { OnOk result (0 < length self.new.past) }
+        ensures err { IfErr result (λ refusal. Does self.old (refuses (links up) refusal) self.new) }
+    {
+        let (answer, undo) = self.adapter.set_link(up)?;
+        self.used = keep(&mut self.records, self.used, self.budget, undo);
+        Ok(answer)
+    }
+
+    /// The receive engine handles a descriptor.
+    fn receive_step(&mut self) -> Result<Answer, Refusal>
+        ensures ok { IfOk result (λ answer. Does self.old (performs receives answer) self.new) }
+        ensures kept { OnOk result (0 < length self.new.past) }
+        ensures err { IfErr result (λ refusal. Does self.old (refuses receives refusal) self.new) }
+    {
+        let (answer, undo) = self.adapter.receive_step()?;
+        self.used = keep(&mut self.records, self.used, self.budget, undo);
+        Ok(answer)
+    }
+
+    /// The transmit engine handles a descriptor.
+    fn transmit_step(&mut self) -> Result<Answer, Refusal>
+        ensures ok { IfOk result (λ answer. Does self.old (performs transmits answer) self.new) }
+        ensures kept { OnOk result (0 < length self.new.past) }
+        ensures err { IfErr result (λ refusal. Does self.old (refuses transmits refusal) self.new) }
+    {
+        let (answer, undo) = self.adapter.transmit_step()?;
+        self.used = keep(&mut self.records, self.used, self.budget, undo);
         Ok(answer)
     }
 
     /// Takes the newest event of the journal back. Refused exactly where the journal is empty.
+    #[inline(always)]
     pub fn back(&mut self) -> Result<(), Empty>
         ensures ok { OnOk result (Does self.old goes_back self.new) }
         ensures empty { OnErr result (Does self.old is_empty self.new) }

@@ -6,7 +6,7 @@ ghost use Rattle.em_mem.specs.Memory.{fresh, part, put, Fits, undo, Reverses};
 
 use crate::page::Page;
 use crate::{MOST_MEMORY, MemRefusal, MemUndo, PAGE_OCTETS, Reversible, page, table};
-use std::alloc::Global;
+use std::alloc::{AllocError, Global};
 use std::marker::Model;
 
 /// The octets of the guest, in pages of 4,096. A page is made before it is first written, and never
@@ -147,6 +147,50 @@ impl GuestMemory {
         }
     }
 
+    /// A copy of the `len` octets from `addr` on. The range may cross page ends.
+    pub fn copy(&self, addr: u64, len: usize) -> Result<Vec<u8>, AllocError>
+        requires { IsHeld self.now.octets addr len }
+        ensures { IfOk result (λ octets. octets.items ≡ part self.now.octets addr len) }
+    {
+        if let Some(octets) = self.slice(addr, len) {
+            return Vec::from_slice(self.alloc, octets);
+        }
+        let mut octets = vec![in self.alloc; 0; len]?;
+        self.read_into(addr, octets.as_mut_slice());
+        Ok(octets)
+    }
+
+    /// Writes the octets from `addr` on. The range may cross page ends. It takes no memory: `touch` made
+    /// the pages.
+    pub fn write(&mut self, addr: u64, written: &[u8])
+        requires held { IsHeld self.old.octets addr (length written.now) }
+        requires made { IsMade self.old addr (length written.now) }
+        ensures octets { self.new.octets ≡ put self.old.octets addr written.now }
+        ensures made { self.new.made ≡ self.old.made }
+    {
+        let end = self.end(addr, written.len() as u64);
+        let mut done = 0;
+        while addr + (done as u64) < end {
+            let from = addr + done as u64;
+            let count = in_page(from, written.len() - done);
+            self.write_piece(from, &written[done..done + count]);
+            done += count;
+        }
+    }
+
+    fn write_piece(&mut self, addr: u64, written: &[u8])
+        requires some { 0 < length written.now }
+        requires held { IsHeld self.old.octets addr (length written.now) }
+        requires made { IsMade self.old addr (length written.now) }
+        requires one { IsInOnePage addr (length written.now) }
+        ensures octets { self.new.octets ≡ put self.old.octets addr written.now }
+        ensures made { self.new.made ≡ self.old.made }
+    {
+        let index = addr as usize / PAGE_OCTETS;
+        let at = addr as usize % PAGE_OCTETS;
+        table::write_in_page(self.pages.as_mut_slice(), index, at, written);
+    }
+
     /// Writes the octets of `swapped` from `addr` on, and leaves the old ones in `swapped`. The range
     /// may cross page ends. It takes no memory: `touch` made the pages.
     pub fn swap(&mut self, addr: u64, swapped: &mut [u8])
@@ -188,10 +232,20 @@ impl GuestMemory {
     pub fn exchange_in_place(&mut self, kept: &mut MemUndo)
         requires { Fits self.old kept.old }
         ensures state { self.new ≡ undo self.old kept.old }
+        ensures old { kept.new
+            ≡ record kept.old { octets = part self.old.octets kept.old.at (length kept.old.octets) } }
         ensures len { length kept.new.octets ≡ length kept.old.octets }
         ensures reverses { Reverses self.old self.new kept.new }
     {
         self.swap(kept.addr, kept.octets.as_mut_slice());
+    }
+
+    /// Takes back the write that gave out this record. It takes no memory.
+    pub fn put_back(&mut self, taken: &MemUndo)
+        requires { Fits self.old taken.now }
+        ensures { self.new ≡ undo self.old taken.now }
+    {
+        self.write(taken.addr, taken.octets.as_slice());
     }
 
     fn swap_piece(&mut self, addr: u64, swapped: &mut [u8])
@@ -232,6 +286,6 @@ impl Reversible for GuestMemory {
     ghost undone = { undo };
 
     fn take_back(&mut self, undo: MemUndo) {
-        let _again = self.exchange(undo);
+        self.put_back(&undo);
     }
 }

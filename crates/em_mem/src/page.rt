@@ -55,6 +55,27 @@ pub(crate) fn swap(page: &mut Page, at: usize, swapped: &mut [u8])
     }
 }
 
+/// Writes octets over those of a made page.
+pub(crate) fn write(page: &mut Page, at: usize, written: &[u8])
+    requires made { is_made page.old ≡ true }
+    requires range { at + length written.now ≤ length (page_octets page.old) }
+    ensures octets { page_octets page.new ≡ put (page_octets page.old) at written.now }
+    ensures made { is_made page.new ≡ true }
+{
+    match page {
+        Some(octets) => overwrite(octets.as_mut_slice(), at, written),
+        None => unreachable!(),
+    }
+}
+
+fn overwrite(octets: &mut [u8], at: usize, written: &[u8])
+    requires { at + length written.now ≤ length octets.old }
+    ensures { octets.new ≡ put octets.old at written.now }
+{
+    let end = at + written.len();
+    octets[at..end].copy_from_slice(written);
+}
+
 fn exchange(octets: &mut [u8], at: usize, swapped: &mut [u8])
     requires { at + length swapped.old ≤ length octets.old }
     ensures octets { octets.new ≡ put octets.old at swapped.old }

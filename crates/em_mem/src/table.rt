@@ -70,3 +70,16 @@ pub(crate) fn swap_in_page(pages: &mut [Page], index: usize, at: usize, swapped:
 {
     page::swap(&mut pages[index], at, swapped);
 }
+
+/// Writes octets within one page, which is made.
+pub(crate) fn write_in_page(pages: &mut [Page], index: usize, at: usize, written: &[u8])
+    requires index { index < length pages.old }
+    requires made { IsMadeAt pages.old index }
+    requires range { at + length written.now ≤ PAGE_OCTETS }
+    requires whole { AllWhole pages.old }
+    ensures whole { AllWhole pages.new }
+    ensures octets { table_octets pages.new ≡ put (table_octets pages.old) (PAGE_OCTETS * index + at) written.now }
+    ensures made { table_made pages.new ≡ table_made pages.old }
+{
+    page::write(&mut pages[index], at, written);
+}

@@ -32,6 +32,13 @@ impl MemUndo {
         MemUndo { addr, octets }
     }
 
+    /// Where they lay.
+    pub fn addr(&self) -> u64
+        ensures { result ≡ self.now.at }
+    {
+        self.addr
+    }
+
     /// How many octets it holds, at most 16,384.
     pub fn len(&self) -> u32
         ensures len { result ≡ length self.now.octets }

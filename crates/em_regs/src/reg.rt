@@ -146,6 +146,7 @@ pub enum Reg {
 
 impl Reg {
     /// The register at an offset, in octets from the first register; none where the table has none.
+    #[inline(always)]
     pub fn of_offset(offset: u32) -> Option<Reg>
         ensures table { result ≡ reg_at offset }
         // Exactly the offsets of the table have a register, and it lies there.

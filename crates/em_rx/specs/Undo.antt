@@ -1,8 +1,9 @@
 -- What a record says, when it can be said of cells, and what it puts back.
-use Rattle.std.specs.Prelude.{◌≡◌, ℕ, ◌+◌, ◌<◌, ◌≤◌, length, set, Bool, true, false}
+use Rattle.std.specs.Prelude.{◌≡◌, ℕ, ◌+◌, ◌<◌, ◌≤◌, List, length, set, Bool, true, false}
 use Rattle.em_mem.specs.Memory as memory
 use Rattle.em_rx.specs.Ring.{ring_put}
-use Rattle.em_rx.specs.Fifo.{Cells, IsSound, after_delivery, shows}
+use Rattle.em_rx.specs.Descriptor.{written_back}
+use Rattle.em_rx.specs.Fifo.{Cells, Fifo, IsSound, after_delivery, first, next, shows}
 use Rattle.em_rx.specs.FramePatch.{FramePatch}
 use Rattle.em_rx.specs.StepPatch.{StepPatch}
 use Rattle.em_rx.specs.declared.places.Places as places
@@ -35,6 +36,17 @@ pub record FitsStep (c : Cells) (m : memory.Cells) (p : StepPatch) : Type 0 wher
   pub first : memory.Fits m p.first
   pub second : memory.Fits (memory.undo m p.first) p.second
   pub sound : IsSound (record c { places = p.places })
+
+-- the patch has what lies in memory where it says
+pub record IsOverwritten (octets : List ℕ) (p : StepPatch) : Type 0 where
+  pub first : p.first.octets ≡ memory.part octets p.first.at (length p.first.octets)
+  pub second : p.second.octets ≡ memory.part octets p.second.at (length p.second.octets)
+
+-- memory with the next octets of the first frame over the patch's first ones, and then a descriptor written back
+abbrev pub delivered : Fifo → List ℕ → StepPatch → Bool → List ℕ
+delivered fifo octets p last =
+    let n : ℕ = length p.first.octets in
+    memory.put (memory.put octets p.first.at (next fifo n)) p.second.at (written_back n last (first fifo).tag)
 
 -- with these places the cells show n octets more of the first frame in guest memory
 pub record IsMove (c : Cells) (places : places.Places) (n : ℕ) : Type 0 where

@@ -1,17 +1,17 @@
 //! The FIFO: frames that lie end to end in one packet buffer.
 ghost use Rattle.std.specs.Prelude.{◌≡◌, ◌↔◌, ◌+◌, ◌<◌, ◌≤◌, IfOk, IfErr, IsTrue, OnOk, OnErr, List, ℕ, length};
 ghost use Rattle.em_mem.specs.Memory as memory;
+ghost use Rattle.em_mem.specs.Memory.{IsHeld, IsMade, part, put};
 ghost use Rattle.em_rx.specs.Frame.{stored_frame};
 ghost use Rattle.em_rx.specs.Fifo.{after_arrival, empty, first, fresh, HasRoom, IsFirst, IsSound, next, rest, shows};
-ghost use Rattle.em_rx.specs.Descriptor.{written_back as octets_of};
 ghost use Rattle.em_rx.specs.Undo.{Fits, FitsFrame, FitsStep, IsMove, Reverses, ReversesStep, octets_held, undo_fifo};
-ghost use Rattle.em_rx.specs.Undo.{is_frame, is_step, undo_memory, with_both, with_patch};
+ghost use Rattle.em_rx.specs.Undo.{IsOverwritten, delivered, is_frame, is_step, undo_memory, with_both, with_patch};
 ghost use Rattle.em_rx.specs.Ring.{ring_part};
 
 use crate::descriptor::written_back;
 use crate::frame::{stored_octets, tag_of};
 use crate::places::{Entry, Places};
-use crate::ring::{copied, exchange_entry, exchange_octets, put_octets, wrap};
+use crate::ring::{copied, exchange_entry, exchange_octets, put_octets, wrap, write_out};
 use crate::{FramePatch, RxRefusal, RxUndo, StepPatch};
 use em_mem::{GuestMemory, MemUndo};
 use std::alloc::{AllocError, Global};
@@ -193,19 +193,20 @@ impl Fifo {
         std::mem::swap(&mut self.places, &mut patch.places);
     }
 
-    /// Puts a step's patch in, and leaves what it replaced in the patch: what was put in last is to be
-    /// put back first.
+    /// Puts a step's patch in, and leaves what it replaced in the patch.
     pub(crate) fn exchange_step(&mut self, memory: &mut GuestMemory, patch: &mut StepPatch)
         requires { FitsStep self.old memory.old patch.old }
         ensures fifo { self.new ≡ record self.old { places = patch.old.places } }
         ensures memory { memory.new ≡ with_both memory.old patch.old }
-        ensures first { length patch.new.first.octets ≡ length patch.old.second.octets }
-        ensures second { length patch.new.second.octets ≡ length patch.old.first.octets }
+        ensures first { length patch.new.first.octets ≡ length patch.old.first.octets }
+        ensures second { length patch.new.second.octets ≡ length patch.old.second.octets }
         ensures reverses { ReversesStep self.old self.new memory.old memory.new patch.new }
     {
-        memory.exchange_in_place(&mut patch.first);
-        memory.exchange_in_place(&mut patch.second);
-        std::mem::swap(&mut patch.first, &mut patch.second);
+        let mut end = [0; 8];
+        memory.read_into(patch.end_at, &mut end);
+        memory.exchange_in_place(&mut patch.piece);
+        memory.write(patch.end_at, &patch.end);
+        patch.end = end;
         std::mem::swap(&mut self.places, &mut patch.places);
     }
 
@@ -232,22 +233,6 @@ impl Fifo {
         self.first_entry().len as u32 - self.places.taken
     }
 
-    /// A copy of the next octets of the first frame.
-    fn piece(&self, count: u32) -> Result<Vec<u8>, AllocError>
-        requires some { 0 < length (shows self.now).frames }
-        requires count { count ≤ rest (shows self.now) }
-        ensures octets { IfOk result (λ piece. piece.items ≡ next (shows self.now) count) }
-        ensures count { IfOk result (λ piece. length piece.items ≡ count) }
-    {
-        let at = wrap(OCTETS, self.places.head + self.places.taken);
-        copied(
-            self.alloc,
-            self.octets.as_slice(),
-            at as usize,
-            count as usize,
-        )
-    }
-
     /// The places with `count` octets more of the first frame in guest memory.
     fn places_after(&self, count: u32) -> Places
         requires some { 0 < length (shows self.now).frames }
@@ -271,36 +256,73 @@ impl Fifo {
         }
     }
 
-    /// What puts the next octets of the first frame into their buffer, and then writes the descriptor
-    /// back.
+    /// What takes back the next octets of the first frame in a buffer, with the end of a descriptor written
+    /// back, but that it has the places after them.
     pub(crate) fn delivery(
         &self,
+        memory: &GuestMemory,
         buffer: u64,
         count: u32,
-        written_at: u64,
-        last: bool,
+        end_at: u64,
     ) -> Result<Box<StepPatch>, RxRefusal>
         requires some { 0 < length (shows self.now).frames }
         requires count { count ≤ rest (shows self.now) }
         requires most { count ≤ 16_384 }
+        requires buffer { IsHeld memory.now.octets buffer count }
+        requires end { IsHeld memory.now.octets end_at 8 }
         ensures first { IfOk result (λ patch.
-            patch.value.first ≡ record { at = buffer; octets = next (shows self.now) count }) }
+            patch.value.first ≡ record { at = buffer; octets = part memory.now.octets buffer count }) }
         ensures second { IfOk result (λ patch.
-            patch.value.second
-            ≡ record { at = written_at; octets = octets_of count last (first (shows self.now)).tag }) }
+            patch.value.second ≡ record { at = end_at; octets = part memory.now.octets end_at 8 }) }
         ensures count { IfOk result (λ patch. length patch.value.first.octets ≡ count) }
+        ensures eight { IfOk result (λ patch. length patch.value.second.octets ≡ 8) }
         ensures moves { IfOk result (λ patch. IsMove self.now patch.value.places count) }
         ensures refused { IfErr result (λ refusal. refusal ≡ RxRefusal.Memory) }
     {
-        let piece = self.piece(count)?;
-        let octets = written_back(count as u16, last, self.first_entry().tag);
-        let written = Vec::from_slice(self.alloc, octets.as_slice())?;
+        let overwritten = memory.copy(buffer, count as usize)?;
+        let mut end = [0; 8];
+        memory.read_into(end_at, &mut end);
         let patch = StepPatch {
-            first: MemUndo::new(buffer, piece),
-            second: MemUndo::new(written_at, written),
+            piece: MemUndo::new(buffer, overwritten),
+            end_at,
+            end,
             places: self.places_after(count),
         };
         Ok(Box::new(self.alloc, patch)?)
+    }
+
+    /// Puts the next octets of the first frame over those of a step's patch, and then writes the descriptor
+    /// back.
+    pub(crate) fn deliver(&mut self, memory: &mut GuestMemory, patch: &mut StepPatch, last: bool)
+        requires some { 0 < length (shows self.old).frames }
+        requires count { length patch.old.first.octets ≤ rest (shows self.old) }
+        requires fits { FitsStep self.old memory.old patch.old }
+        requires overwritten { IsOverwritten memory.old.octets patch.old }
+        ensures fifo { self.new ≡ record self.old { places = patch.old.places } }
+        ensures memory { memory.new.octets ≡ delivered (shows self.old) memory.old.octets patch.old last }
+        ensures first { length patch.new.first.octets ≡ length patch.old.first.octets }
+        ensures second { length patch.new.second.octets ≡ length patch.old.second.octets }
+        ensures reverses { ReversesStep self.old self.new memory.old memory.new patch.new }
+    {
+        let count = patch.piece.len();
+        let end = written_back(count as u16, last, self.first_entry().tag);
+        self.write_next(memory, patch.piece.addr(), count);
+        memory.write(patch.end_at, &end);
+        std::mem::swap(&mut self.places, &mut patch.places);
+    }
+
+    /// Writes the next octets of the first frame into guest memory, from `addr` on.
+    fn write_next(&self, memory: &mut GuestMemory, addr: u64, count: u32)
+        requires some { 0 < length (shows self.now).frames }
+        requires count { count ≤ rest (shows self.now) }
+        requires held { IsHeld memory.old.octets addr count }
+        requires made { IsMade memory.old addr count }
+        ensures octets { memory.new.octets ≡ put memory.old.octets addr (next (shows self.now) count) }
+        ensures made { memory.new.made ≡ memory.old.made }
+    {
+        let at = wrap(OCTETS, self.places.head + self.places.taken);
+        let ring = self.octets.as_slice();
+        write_out(memory, addr, ring, at as usize, count as usize);
     }
 
     /// Takes back the change that gave out this record, and gives the record that makes it again. It
@@ -343,6 +365,34 @@ impl Fifo {
         ensures fifo { self.new ≡ undo_fifo self.old taken }
         ensures memory { memory.new ≡ undo_memory memory.old taken }
     {
-        let _again = self.exchange(memory, taken);
+        match taken {
+            RxUndo::Nothing => {}
+            RxUndo::Places(places) => {
+                let _again = self.exchange_places(places);
+            }
+            RxUndo::Frame(patch) => self.put_back_frame(&patch),
+            RxUndo::Step(patch) => self.put_back_step(memory, &patch),
+        }
+    }
+
+    /// Puts a patch in.
+    fn put_back_frame(&mut self, patch: &FramePatch)
+        requires { FitsFrame self.old patch.now }
+        ensures { self.new ≡ with_patch self.old patch.now }
+    {
+        put_octets(&mut self.octets, patch.at as usize, patch.octets.as_slice());
+        self.entries[patch.index as usize] = patch.entry;
+        self.places = patch.places;
+    }
+
+    /// Puts a step's patch in.
+    fn put_back_step(&mut self, memory: &mut GuestMemory, patch: &StepPatch)
+        requires { FitsStep self.old memory.old patch.now }
+        ensures fifo { self.new ≡ record self.old { places = patch.now.places } }
+        ensures memory { memory.new ≡ with_both memory.old patch.now }
+    {
+        memory.put_back(&patch.piece);
+        memory.write(patch.end_at, &patch.end);
+        self.places = patch.places;
     }
 }

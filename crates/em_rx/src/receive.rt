@@ -131,10 +131,10 @@ impl Fifo {
             return Err(RxRefusal::DmaRange);
         }
         let last = rest <= setup.buffer;
-        let mut patch = self.delivery(buffer, count, descriptor + WRITTEN_AT, last)?;
+        let mut patch = self.delivery(memory, buffer, count, descriptor + WRITTEN_AT)?;
         memory.touch(buffer, count as u64)?;
         memory.touch(descriptor + WRITTEN_AT, WRITTEN_OCTETS)?;
-        self.exchange_step(memory, &mut patch);
+        self.deliver(memory, &mut patch, last);
         let answer = RxAnswer::Wrote {
             index: setup.head,
             next: following(&setup),

@@ -1,8 +1,10 @@
 //! Slices whose end is followed by their beginning.
 ghost use Rattle.std.specs.Prelude.{◌≡◌, ◌+◌, ◌<◌, ◌≤◌, ◌++◌, IfOk, length, take, drop, set, get_or};
+ghost use Rattle.em_mem.specs.Memory.{IsHeld, IsMade, put};
 ghost use Rattle.em_rx.specs.Ring.{ring_part, ring_put, wrap as place_in};
 
 use crate::places::Entry;
+use em_mem::GuestMemory;
 use std::alloc::{AllocError, Global};
 
 /// The place `n` in a ring of the given size, where `n` may be past the end once.
@@ -31,6 +33,26 @@ pub(crate) fn copied(
     octets.extend_from_slice(high)?;
     octets.extend_from_slice(&low[..len - high.len()])?;
     Ok(octets)
+}
+
+/// Writes the `len` octets that lie in the ring from `at` on into guest memory, from `addr` on.
+pub(crate) fn write_out(memory: &mut GuestMemory, addr: u64, ring: &[u8], at: usize, len: usize)
+    requires at { at ≤ length ring.now }
+    requires size { len ≤ length ring.now }
+    requires held { IsHeld memory.old.octets addr len }
+    requires made { IsMade memory.old addr len }
+    ensures octets { memory.new.octets ≡ put memory.old.octets addr (ring_part ring.now at len) }
+    ensures made { memory.new.made ≡ memory.old.made }
+{
+    let (low, high) = ring.split_at(at);
+    if len <= high.len() {
+        memory.write(addr, &high[..len]);
+        return;
+    }
+    // places in memory stay small
+    let _size = memory.len();
+    memory.write(addr, high);
+    memory.write(addr + high.len() as u64, &low[..len - high.len()]);
 }
 
 /// Exchanges the octets with those that lie in the ring from `at` on.

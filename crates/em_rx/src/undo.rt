@@ -44,24 +44,30 @@ impl FramePatch {
     }
 }
 
-/// What a receive step exchanges with guest memory and the FIFO's places: octets that are put in first
-/// and octets that are put in after them, since they may lie over each other.
+/// What a receive step exchanges with guest memory and the FIFO's places: octets of a buffer and the end
+/// of a descriptor, as they were together, since they may lie over each other.
 #[derive(Drop)]
 pub struct StepPatch {
-    pub(crate) first: MemUndo,
-    pub(crate) second: MemUndo,
+    pub(crate) piece: MemUndo,
+    /// Where the end of the descriptor lies.
+    pub(crate) end_at: u64,
+    pub(crate) end: [u8; 8],
     pub(crate) places: Places,
 }
 
 impl Model for StepPatch {
-    ghost use Rattle.std.specs.Prelude.{◌+◌, ◌≤◌, length};
+    ghost use Rattle.std.specs.Prelude.{◌≡◌, length};
     ghost use Rattle.em_rx.specs.StepPatch.{StepPatch};
 
     ghost Value = { StepPatch };
 
-    ghost view = { λ p. record { first = p.first; second = p.second; places = p.places } };
+    ghost view = { λ p. record {
+      first = p.piece;
+      second = record { at = p.end_at; octets = p.end };
+      places = p.places;
+    } };
 
-    ghost invariant = { λ p. length p.first.octets + length p.second.octets ≤ 16_392 };
+    ghost invariant = { λ p. length p.end ≡ 8 };
 }
 
 impl StepPatch {
@@ -70,7 +76,7 @@ impl StepPatch {
         ensures len { result ≡ length self.now.first.octets + length self.now.second.octets }
         ensures most { result ≤ MOST_HELD }
     {
-        self.first.len() + self.second.len()
+        self.piece.len() + self.end.len() as u32
     }
 }
 

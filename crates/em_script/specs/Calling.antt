@@ -25,7 +25,7 @@ use Rattle.em_script.specs.Response.{Response, start, batch, stats, address, set
 use Rattle.em_script.specs.Response.{says_memory, world_of, call_text}
 use Rattle.em_script.specs.Response as responses
 use Rattle.em_script.specs.DriverText.{no_driver_text}
-use Rattle.em_script.specs.Lack.{Lack, before, within, named_of}
+use Rattle.em_script.specs.Lack.{Lack, before, within}
 use Rattle.em_script.specs.declared.called.Called.{Called}
 use Rattle.em_script.specs.declared.called.PlanCounts.{PlanCounts}
 

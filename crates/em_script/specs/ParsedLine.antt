@@ -2,14 +2,8 @@
 use Rattle.std.specs.Prelude.{Bool, true, false, List, Option, Some, None}
 use Rattle.em_step.specs.Event.{pokes, arrives}
 use Rattle.em_driver.specs.declared.turn.Turn.{Turn}
-use Rattle.em_text.specs.Words.{words_of}
-use Rattle.em_script.specs.Command as commands
 use Rattle.em_script.specs.Command.{Command, event}
-use Rattle.em_script.specs.Request as requests
 use Rattle.em_script.specs.Request.{Request, sends, sets_address}
-use Rattle.em_script.specs.Plan.{plan_of}
-use Rattle.em_script.specs.declared.parsed_line.ParsedLine.{ParsedLine as Lent}
-use Rattle.em_script.specs.declared.parsed_line.ParsedLine.TheVariants as lent
 
 -- a line prints nothing, or is bad, or says a command, or asks something of a driver, or sets the plan
 pub data ParsedLine : Type 0 where
@@ -18,6 +12,11 @@ pub data ParsedLine : Type 0 where
   says : Command → ParsedLine
   asks : Request → ParsedLine
   plans : List (List Turn) → ParsedLine
+
+-- a command, if words say one
+abbrev pub command_line : Option Command → ParsedLine
+command_line None = bad
+command_line (Some command) = says command
 
 -- what is asked, if words ask something
 abbrev pub request_line : Option Request → ParsedLine
@@ -28,14 +27,6 @@ request_line (Some request) = asks request
 abbrev pub plan_line : Option (List (List Turn)) → ParsedLine
 plan_line None = bad
 plan_line (Some plan) = plans plan
-
--- a line of the code without where its octets lie in memory
-abbrev pub plain : Lent → ParsedLine
-plain lent.Silent = silent
-plain lent.Bad = bad
-plain (lent.Command command) = says (commands.plain command)
-plain (lent.Request request) = asks (requests.plain request)
-plain (lent.Plan words) = plan_line (plan_of (words_of words.words.0.now))
 
 -- the lines whose octets take memory before anything is done: those of a memory write, of a frame, of a packet, or of
 -- an address

@@ -1,4 +1,5 @@
-//! Writing answers.
+//! Writing answers. Each text has a function of its own that is not inlined, so that a line pays
+//! for its own text alone.
 ghost use Rattle.std.specs.Prelude.{◌≡◌, ◌++◌};
 ghost use Rattle.em_text.specs.Writer.{Writes, hex_line_text, decimal_line_text};
 ghost use Rattle.em_script.specs.Output.{Prints, answer_text, reason_text, done_text, bit_text, back_text};
@@ -13,6 +14,7 @@ use em_text::{
 use std::io::Write;
 
 /// What a performed event answered.
+#[inline(always)]
 pub fn write_answer<W: Write>(writer: &mut W, answer: Answer) -> Result<Outcome, WriteFailed>
     ensures { Prints (answer_text answer) Outcome.Done (W.contents writer.old) (W.contents writer.new) result }
 {
@@ -22,10 +24,7 @@ pub fn write_answer<W: Write>(writer: &mut W, answer: Answer) -> Result<Outcome,
             write_value(writer, value)?;
             Ok(Outcome::Done)
         }
-        Answer::Idle => {
-            write_whole(writer, b"idle\n")?;
-            Ok(Outcome::Done)
-        }
+        Answer::Idle => write_text(writer, b"idle\n"),
         Answer::Wrote { index } => {
             write_numbered(writer, b"wrote ", u64::from(index))?;
             Ok(Outcome::Done)
@@ -38,15 +37,22 @@ pub fn write_answer<W: Write>(writer: &mut W, answer: Answer) -> Result<Outcome,
             write_sent(writer, u64::from(index), u64::from(octets))?;
             Ok(Outcome::Done)
         }
-        Answer::Stored => {
-            write_whole(writer, b"stored\n")?;
-            Ok(Outcome::Done)
-        }
+        Answer::Stored => write_text(writer, b"stored\n"),
         Answer::Dropped(reason) => write_dropped(writer, reason),
     }
 }
 
+/// A text of its own for what was done.
+#[inline(never)]
+fn write_text<W: Write>(writer: &mut W, text: &[u8]) -> Result<Outcome, WriteFailed>
+    ensures { Prints text.now Outcome.Done (W.contents writer.old) (W.contents writer.new) result }
+{
+    write_whole(writer, text)?;
+    Ok(Outcome::Done)
+}
+
 /// That the descriptor of an index was handled, and a frame of so many octets sent.
+#[inline(never)]
 fn write_sent<W: Write>(writer: &mut W, index: u64, octets: u64) -> Result<(), WriteFailed>
     ensures writes { Writes (W.contents writer.old) (W.contents writer.new) result (sent_text index octets) }
 {
@@ -56,6 +62,7 @@ fn write_sent<W: Write>(writer: &mut W, index: u64, octets: u64) -> Result<(), W
 }
 
 /// That a frame was dropped, and why.
+#[inline(never)]
 fn write_dropped<W: Write>(writer: &mut W, reason: Reason) -> Result<Outcome, WriteFailed>
     ensures { Prints (answer_text (Answer.Dropped reason)) Outcome.Done
         (W.contents writer.old) (W.contents writer.new) result }
@@ -82,6 +89,7 @@ fn reason_name(reason: Reason) -> &'static str
 }
 
 /// That something was done.
+#[inline(never)]
 pub fn write_done<W: Write>(writer: &mut W) -> Result<Outcome, WriteFailed>
     ensures { Prints done_text Outcome.Done (W.contents writer.old) (W.contents writer.new) result }
 {
@@ -90,6 +98,7 @@ pub fn write_done<W: Write>(writer: &mut W) -> Result<Outcome, WriteFailed>
 }
 
 /// Octets that were looked at.
+#[inline(never)]
 pub fn write_octets<W: Write>(writer: &mut W, octets: &[u8]) -> Result<Outcome, WriteFailed>
     ensures { Prints (hex_line_text octets.now) Outcome.Done (W.contents writer.old) (W.contents writer.new) result }
 {
@@ -107,6 +116,7 @@ pub fn write_bit<W: Write>(writer: &mut W, bit: bool) -> Result<Outcome, WriteFa
 }
 
 /// How many events were taken back.
+#[inline(never)]
 pub fn write_back<W: Write>(writer: &mut W, count: u32) -> Result<Outcome, WriteFailed>
     ensures { Prints (back_text count) Outcome.Done (W.contents writer.old) (W.contents writer.new) result }
 {
@@ -115,6 +125,7 @@ pub fn write_back<W: Write>(writer: &mut W, count: u32) -> Result<Outcome, Write
 }
 
 /// That the line of this number has no form.
+#[inline(never)]
 pub fn write_bad_line<W: Write>(writer: &mut W, number: u32) -> Result<Outcome, WriteFailed>
     ensures { Prints (bad_line_text number) Outcome.Bad (W.contents writer.old) (W.contents writer.new) result }
 {
@@ -123,6 +134,7 @@ pub fn write_bad_line<W: Write>(writer: &mut W, number: u32) -> Result<Outcome, 
 }
 
 /// Why an event or a look at memory was refused.
+#[inline(never)]
 pub fn write_refusal<W: Write>(writer: &mut W, refusal: Refusal) -> Result<Outcome, WriteFailed>
     ensures { Prints (refusal_text refusal) Outcome.Refused (W.contents writer.old) (W.contents writer.new) result }
 {
@@ -139,6 +151,7 @@ pub fn write_empty<W: Write>(writer: &mut W) -> Result<Outcome, WriteFailed>
 }
 
 /// A line that ends in a number.
+#[inline(never)]
 pub fn write_numbered<W: Write>(
     writer: &mut W,
     words: &[u8],

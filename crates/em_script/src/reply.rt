@@ -1,9 +1,10 @@
-//! Doing what a line says, and writing its answer.
+//! Doing what a command or a request says, and writing its answer. What only some lines do is not
+//! inlined, since its room on the stack would be taken for every line.
 ghost use Rattle.std.specs.Prelude.{ℕ};
 ghost use Rattle.em_step.specs.Event.{plain as plain_event};
 ghost use Rattle.em_script.specs.Command.{plain as plain_command, event as event_command};
 ghost use Rattle.em_text.specs.Words.{words_of};
-ghost use Rattle.em_script.specs.ParsedLine.{plain, says, asks, plan_line};
+ghost use Rattle.em_script.specs.ParsedLine.{says, asks, plan_line};
 ghost use Rattle.em_script.specs.Plan.{plan_of};
 ghost use Rattle.em_script.specs.Request.{plain as plain_request};
 ghost use Rattle.em_script.specs.Reply.{peek_reply, interrupt_line_reply, registers_reply, back_call, call_reply};
@@ -14,10 +15,8 @@ use crate::command::Command;
 use crate::driver_output::{write_called, write_no_driver};
 use crate::outcome::Outcome;
 use crate::output::{
-    write_answer, write_back, write_bad_line, write_bit, write_done, write_empty, write_octets,
-    write_refusal,
+    write_answer, write_back, write_bit, write_done, write_empty, write_octets, write_refusal,
 };
-use crate::parsed_line::ParsedLine;
 use crate::peek_len::{MOST_PEEK, PeekLen};
 use crate::plan::{PlanWords, plan_of};
 use crate::registers::write_registers;
@@ -31,31 +30,9 @@ use em_text::WriteFailed;
 use std::alloc::Global;
 use std::io::Write;
 
-/// Does what the line of a number says, and writes its answer.
-///
-/// `room` is for the octets that a look at guest memory shows.
-pub fn reply<W: Write>(
-    alloc: Global,
-    writer: &mut W,
-    session: &mut Session,
-    number: u32,
-    line: ParsedLine<'_>,
-    room: &mut [u8; MOST_PEEK],
-) -> Result<Outcome, WriteFailed>
-    ensures { Performs number (plain line.entry)
-        session.old session.new (W.contents writer.old) (W.contents writer.new) result }
-{
-    match line {
-        ParsedLine::Silent => Ok(Outcome::Silent),
-        ParsedLine::Bad => write_bad_line(writer, number),
-        ParsedLine::Command(command) => obey(writer, session, command, room),
-        ParsedLine::Request(request) => ask(alloc, writer, session, request),
-        ParsedLine::Plan(words) => set_plan(alloc, writer, session, words),
-    }
-}
-
 /// Does what is asked of a driver.
-fn ask<W: Write>(
+#[inline(never)]
+pub fn ask<W: Write>(
     alloc: Global,
     writer: &mut W,
     session: &mut Session,
@@ -74,7 +51,8 @@ fn ask<W: Write>(
 }
 
 /// Sets the plan for the next call of a driver.
-fn set_plan<W: Write>(
+#[inline(never)]
+pub fn set_plan<W: Write>(
     alloc: Global,
     writer: &mut W,
     session: &mut Session,
@@ -93,8 +71,9 @@ fn set_plan<W: Write>(
 }
 
 /// Does what a command says with the session's machine, which may be under a driver.
+#[inline(always)]
 #[tactic(auto, using(crate::proofs::ReplyLemmas::obeyed))]
-fn obey<W: Write>(
+pub fn obey<W: Write>(
     writer: &mut W,
     session: &mut Session,
     command: Command<'_>,
@@ -110,6 +89,7 @@ fn obey<W: Write>(
     }
 }
 
+#[inline(always)]
 fn perform<W: Write>(
     writer: &mut W,
     machine: &mut Machine,
@@ -130,6 +110,7 @@ fn perform<W: Write>(
     }
 }
 
+#[inline(always)]
 fn perform_event<W: Write>(
     writer: &mut W,
     machine: &mut Machine,
@@ -144,6 +125,7 @@ fn perform_event<W: Write>(
     }
 }
 
+#[inline(never)]
 fn peek<W: Write>(
     writer: &mut W,
     machine: &Machine,
@@ -161,6 +143,7 @@ fn peek<W: Write>(
     }
 }
 
+#[inline(never)]
 fn interrupt_line<W: Write>(writer: &mut W, machine: &Machine) -> Result<Outcome, WriteFailed>
     ensures { Gives (interrupt_line_reply machine.now)
         machine.now (W.contents writer.old) (W.contents writer.new) result }
@@ -168,6 +151,7 @@ fn interrupt_line<W: Write>(writer: &mut W, machine: &Machine) -> Result<Outcome
     write_bit(writer, machine.line())
 }
 
+#[inline(never)]
 fn registers<W: Write>(writer: &mut W, machine: &Machine) -> Result<Outcome, WriteFailed>
     ensures { Gives (registers_reply machine.now)
         machine.now (W.contents writer.old) (W.contents writer.new) result }
@@ -176,6 +160,7 @@ fn registers<W: Write>(writer: &mut W, machine: &Machine) -> Result<Outcome, Wri
     Ok(Outcome::Done)
 }
 
+#[inline(never)]
 fn wire<W: Write>(writer: &mut W, machine: &Machine) -> Result<Outcome, WriteFailed>
     ensures { Gives (wire_reply machine.now)
         machine.now (W.contents writer.old) (W.contents writer.new) result }
@@ -184,6 +169,7 @@ fn wire<W: Write>(writer: &mut W, machine: &Machine) -> Result<Outcome, WriteFai
     Ok(Outcome::Done)
 }
 
+#[inline(never)]
 fn back<W: Write>(writer: &mut W, machine: &mut Machine) -> Result<Outcome, WriteFailed>
     ensures { Gives (call_reply (back_call machine.old.past) machine.old)
         machine.new (W.contents writer.old) (W.contents writer.new) result }
@@ -194,6 +180,7 @@ fn back<W: Write>(writer: &mut W, machine: &mut Machine) -> Result<Outcome, Writ
     }
 }
 
+#[inline(never)]
 fn back_by<W: Write>(
     writer: &mut W,
     machine: &mut Machine,

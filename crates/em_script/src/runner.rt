@@ -5,9 +5,8 @@ ghost use Rattle.em_text.specs.Reader.{most_script};
 ghost use Rattle.em_script.specs.Runner.{text, TakesNoMemory, SaysMemory, Answers, ReadsWhole, FailsInLine};
 ghost use Rattle.em_script.specs.Runner.{StopsBeforeLine, StopsInScript};
 
-use crate::grammar::parse_line;
 use crate::peek_len::MOST_PEEK;
-use crate::reply::reply;
+use crate::play::play_line;
 use crate::session::Session;
 use crate::summary::{Summary, count};
 use em_text::{ReadFault, WriteFailed, next_line, read_script};
@@ -123,10 +122,10 @@ fn run_lines<W: Write>(
     let mut number = 1;
     while !rest.is_empty() {
         let (line, behind) = next_line(rest);
-        let Ok(parsed) = parse_line(alloc, line, octets) else {
+        let Ok(played) = play_line(alloc, writer, session, number, line, octets, room) else {
             return Err(BenchFault::Memory);
         };
-        let outcome = match reply(alloc, writer, session, number, parsed, room) {
+        let outcome = match played {
             Ok(outcome) => outcome,
             Err(WriteFailed) => return Err(BenchFault::Write),
         };

@@ -75,7 +75,7 @@ undo_part c (TxStep head old) = undo_transmit (undo_register c (word Tdh head)) 
 undo_part c (Link old) = record c { link = old }
 undo_part c (Reset old) =
     undo_receive
-    (record c { registers = old.value.registers; latches = old.value.latches; gathered = old.value.gathered })
+    (record c { registers = old.value.registers.value; latches = old.value.latches; gathered = old.value.gathered })
     old.value.fifo
 
 -- the cells with the record put back: the words of the latches, and then the part

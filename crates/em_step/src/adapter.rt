@@ -11,7 +11,7 @@ ghost use Rattle.em_step.specs.State.{status};
 ghost use Rattle.em_step.specs.Access.{gives, after_read, after_write, after_store, after_eerd_write};
 ghost use Rattle.em_step.specs.Access.{is_reset, reset, after_link};
 ghost use Rattle.em_step.specs.Cells.{fresh, shows, MorePages};
-ghost use Rattle.em_step.specs.Event.{plain, pokes};
+ghost use Rattle.em_step.specs.Event.{links, plain, pokes, reads, writes};
 ghost use Rattle.em_step.specs.Step.{step, Refuses};
 ghost use Rattle.em_step.specs.Undo.{Fits, PartFits, Reverses, is_sending, undo, undo_part, undo_receive};
 ghost use Rattle.em_rx.specs.Undo as rx;
@@ -38,7 +38,8 @@ const MOST_POKE: usize = 16_384;
 pub struct Adapter {
     pub(crate) alloc: Global,
     pub(crate) memory: GuestMemory,
-    pub(crate) registers: RegFile,
+    // in a box, so that a reset puts it aside without a copy
+    pub(crate) registers: Box<RegFile>,
     pub(crate) latches: Latches,
     pub(crate) fifo: Fifo,
     pub(crate) gather: Gather,
@@ -55,7 +56,7 @@ impl Model for Adapter {
     ghost coded = { cells_code };
 
     ghost view = { λ a. record {
-      registers = a.registers;
+      registers = a.registers.value;
       latches = a.latches;
       fifo = a.fifo;
       memory = a.memory;
@@ -83,10 +84,13 @@ impl Adapter {
         let Ok(fifo) = Fifo::new(alloc) else {
             return Err(MemRefusal::Memory);
         };
+        let Ok(registers) = Box::new(alloc, RegFile::reset(eeprom.mac())) else {
+            return Err(MemRefusal::Memory);
+        };
         Ok(Adapter {
             alloc,
             memory,
-            registers: RegFile::reset(eeprom.mac()),
+            registers,
             latches: Latches::new(),
             fifo,
             gather: Gather::new(alloc),
@@ -173,25 +177,44 @@ impl Adapter {
         ensures same { OnErr result (MorePages self.old self.new) }
     {
         match event {
-            Event::Read(offset) => {
-                let Some(reg) = Reg::of_offset(offset) else {
-                    return Err(Refusal::NoRegister);
-                };
-                let (value, undo) = self.read(reg);
-                Ok((Answer::Value(value), undo))
-            }
-            Event::Write(offset, value) => {
-                let Some(reg) = Reg::of_offset(offset) else {
-                    return Err(Refusal::NoRegister);
-                };
-                Ok((Answer::Done, self.write(reg, value)?))
-            }
-            Event::Poke(addr, octets) => Ok((Answer::Done, self.poke(addr, octets)?)),
+            Event::Read(offset) => self.read_at(offset),
+            Event::Write(offset, value) => self.write_at(offset, value),
+            Event::Poke(addr, octets) => self.poke(addr, octets),
             Event::Arrive(frame) => self.arrive(frame),
-            Event::Link(up) => Ok((Answer::Done, self.change_link(up))),
+            Event::Link(up) => self.set_link(up),
             Event::RxStep => self.receive_step(),
             Event::TxStep => self.transmit_step(),
         }
+    }
+
+    /// Software reads the register at an offset. Refused only as NoRegister.
+    pub fn read_at(&mut self, offset: u32) -> Result<(Answer, Undo), Refusal>
+        ensures ok { IfOk result (λ r. step (shows self.old) (reads offset) ≡ Ok (r.0, shows self.new)) }
+        ensures cost { IfOk result (λ r. cost_of r.1 ≡ cost (shows self.old) (reads offset)) }
+        ensures reverses { IfOk result (λ r. Reverses self.old self.new r.1) }
+        ensures err { IfErr result (Refuses (shows self.old) (reads offset)) }
+        ensures same { OnErr result (self.new ≡ self.old) }
+    {
+        let Some(reg) = Reg::of_offset(offset) else {
+            return Err(Refusal::NoRegister);
+        };
+        let (value, undo) = self.read(reg);
+        Ok((Answer::Value(value), undo))
+    }
+
+    /// Software writes a value to the register at an offset. Refused as NoRegister, and as Memory where
+    /// it is a reset.
+    pub fn write_at(&mut self, offset: u32, value: u32) -> Result<(Answer, Undo), Refusal>
+        ensures ok { IfOk result (λ r. step (shows self.old) (writes offset value) ≡ Ok (r.0, shows self.new)) }
+        ensures cost { IfOk result (λ r. cost_of r.1 ≡ cost (shows self.old) (writes offset value)) }
+        ensures reverses { IfOk result (λ r. Reverses self.old self.new r.1) }
+        ensures err { IfErr result (Refuses (shows self.old) (writes offset value)) }
+        ensures same { OnErr result (self.new ≡ self.old) }
+    {
+        let Some(reg) = Reg::of_offset(offset) else {
+            return Err(Refusal::NoRegister);
+        };
+        Ok((Answer::Done, self.write(reg, value)?))
     }
 
     /// Takes an event back by its record. It takes no memory.
@@ -205,6 +228,14 @@ impl Adapter {
                 latches,
                 part: Part::TxStep(head, change),
             } => self.take_back_sending(latches, head, change),
+            Undo {
+                latches,
+                part: Part::Arrival(frame),
+            } => self.take_back_arrival(latches, frame),
+            Undo {
+                latches,
+                part: Part::RxStep(head, piece),
+            } => self.take_back_receiving(latches, head, piece),
             other => {
                 let _again = self.exchange(other);
             }
@@ -410,8 +441,8 @@ impl Adapter {
         }
     }
 
-    /// Resets the registers and latches, and empties the FIFO and the gathered octets. The box that keeps
-    /// the old ones is made first.
+    /// Resets the registers and latches, and empties the FIFO and the gathered octets. The boxes that keep
+    /// the old ones are made first.
     #[inline(never)]
     fn reset(&mut self) -> Result<Undo, Refusal>
         ensures state { OnOk result (shows self.new ≡ reset (shows self.old)) }
@@ -421,7 +452,7 @@ impl Adapter {
         ensures same { OnErr result (self.new ≡ self.old) }
     {
         let fresh = BeforeReset {
-            registers: RegFile::reset(self.eeprom.mac()),
+            registers: Box::new(self.alloc, RegFile::reset(self.eeprom.mac()))?,
             latches: Latches::new(),
             fifo: RxUndo::Nothing,
             gathered: Gather::new(self.alloc),
@@ -435,26 +466,29 @@ impl Adapter {
         Ok(Undo::of_part(Part::Reset(kept)))
     }
 
-    /// Takes the link up or down; a change raises LSC.
-    fn change_link(&mut self, up: bool) -> Undo
-        ensures state { shows self.new ≡ after_link (shows self.old) up }
-        ensures cost { cost_of result ≡ least_cost }
-        ensures reverses { Reverses self.old self.new result }
+    /// The link goes up or down; a change raises LSC. It is never refused.
+    #[inline(never)]
+    pub fn set_link(&mut self, up: bool) -> Result<(Answer, Undo), Refusal>
+        ensures ok { IfOk result (λ r. step (shows self.old) (links up) ≡ Ok (r.0, shows self.new)) }
+        ensures cost { IfOk result (λ r. cost_of r.1 ≡ cost (shows self.old) (links up)) }
+        ensures reverses { IfOk result (λ r. Reverses self.old self.new r.1) }
+        ensures err { IfErr result (Refuses (shows self.old) (links up)) }
+        ensures same { OnErr result (self.new ≡ self.old) }
     {
         if up == self.link {
-            return Undo::of_part(Part::Nothing);
+            return Ok((Answer::Done, Undo::of_part(Part::Nothing)));
         }
         let latches = self.latches.raise(Causes::LSC.bits());
         let part = Part::Link(std::mem::replace(&mut self.link, up));
-        Undo { latches, part }
+        Ok((Answer::Done, Undo { latches, part }))
     }
 
     /// Writes octets of guest memory. All that can be refused comes before the first change.
     #[inline(never)]
-    fn poke(&mut self, addr: u64, octets: &[u8]) -> Result<Undo, Refusal>
-        ensures ok { OnOk result (step (shows self.old) (pokes addr octets.now) ≡ Ok (Answer.Done, shows self.new)) }
-        ensures cost { IfOk result (λ r. cost_of r ≡ cost (shows self.old) (pokes addr octets.now)) }
-        ensures reverses { IfOk result (λ r. Reverses self.old self.new r) }
+    pub fn poke(&mut self, addr: u64, octets: &[u8]) -> Result<(Answer, Undo), Refusal>
+        ensures ok { IfOk result (λ r. step (shows self.old) (pokes addr octets.now) ≡ Ok (r.0, shows self.new)) }
+        ensures cost { IfOk result (λ r. cost_of r.1 ≡ cost (shows self.old) (pokes addr octets.now)) }
+        ensures reverses { IfOk result (λ r. Reverses self.old self.new r.1) }
         ensures err { IfErr result (Refuses (shows self.old) (pokes addr octets.now)) }
         ensures same { OnErr result (MorePages self.old self.new) }
     {
@@ -469,6 +503,7 @@ impl Adapter {
         if self.memory.touch(addr, octets.len() as u64).is_err() {
             return Err(Refusal::Memory);
         }
-        Ok(self.exchange(Undo::of_part(Part::Octets(new))))
+        let undo = self.exchange(Undo::of_part(Part::Octets(new)));
+        Ok((Answer::Done, undo))
     }
 }

@@ -8,7 +8,7 @@ ghost use Rattle.em_step.specs.Cells.{shows};
 ghost use Rattle.em_step.specs.Cost.{cost, cost_of, least_cost};
 ghost use Rattle.em_step.specs.Event.{arrives};
 ghost use Rattle.em_step.specs.Step.{step, Refuses};
-ghost use Rattle.em_step.specs.Undo.{Reverses};
+ghost use Rattle.em_step.specs.Undo.{Fits, Reverses, undo};
 
 use crate::adapter::Adapter;
 use crate::counts::{CHECK_OCTETS, count_frame, count_miss};
@@ -17,9 +17,9 @@ use crate::refusal::Refusal;
 use crate::undo::{Part, Undo};
 use bitflags::Flags;
 use em_filter::{Kind, Verdict, tagged, verdict};
-use em_latch::Counter;
+use em_latch::{Counter, LatchUndo};
 use em_regs::{Rctl, Reg};
-use em_rx::RxUndo;
+use em_rx::{FramePatch, RxUndo};
 
 /// The fewest octets that a frame can arrive with, and the most.
 const LEAST_FRAME: usize = 14;
@@ -32,7 +32,7 @@ const TAG_OCTETS: usize = 4;
 impl Adapter {
     /// A frame arrives. It is refused for its length alone, and for memory where it would be stored.
     #[inline(never)]
-    pub(crate) fn arrive(&mut self, frame: &[u8]) -> Result<(Answer, Undo), Refusal>
+    pub fn arrive(&mut self, frame: &[u8]) -> Result<(Answer, Undo), Refusal>
         ensures ok { IfOk result (λ r. step (shows self.old) (arrives frame.now) ≡ Ok (r.0, shows self.new)) }
         ensures cost { IfOk result (λ r. cost_of r.1 ≡ cost (shows self.old) (arrives frame.now)) }
         ensures reverses { IfOk result (λ r. Reverses self.old self.new r.1) }
@@ -183,6 +183,18 @@ impl Adapter {
             latches,
             part: Part::Arrival(kept),
         })
+    }
+}
+
+impl Adapter {
+    /// Takes a frame that was stored back.
+    #[inline(never)]
+    pub(crate) fn take_back_arrival(&mut self, words: LatchUndo, frame: Box<FramePatch>)
+        requires { Fits self.old (record { latches = words; part = Part.Arrival frame }) }
+        ensures { self.new ≡ undo self.old (record { latches = words; part = Part.Arrival frame }) }
+    {
+        let _words = self.latches.exchange(words);
+        self.fifo.take_back(&mut self.memory, RxUndo::Frame(frame));
     }
 }
 

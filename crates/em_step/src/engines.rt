@@ -4,21 +4,22 @@ ghost use Rattle.em_step.specs.Cells.{shows, MorePages};
 ghost use Rattle.em_step.specs.Cost.{cost, cost_of};
 ghost use Rattle.em_step.specs.Event.{receives, transmits};
 ghost use Rattle.em_step.specs.Step.{step, Refuses};
-ghost use Rattle.em_step.specs.Undo.{Reverses};
+ghost use Rattle.em_step.specs.Undo.{Fits, Reverses, undo};
 
 use crate::adapter::Adapter;
 use crate::counts::{CHECK_OCTETS, count_sent};
 use crate::event::Answer;
 use crate::refusal::Refusal;
 use crate::undo::{Part, Undo};
+use em_latch::LatchUndo;
 use em_regs::Reg;
-use em_rx::{RxAnswer, RxUndo};
+use em_rx::{RxAnswer, RxUndo, StepPatch};
 use em_tx::{TxAnswer, TxUndo, step};
 
 impl Adapter {
     /// The receive engine handles the descriptor at RDH. An idle step takes no memory.
     #[inline(never)]
-    pub(crate) fn receive_step(&mut self) -> Result<(Answer, Undo), Refusal>
+    pub fn receive_step(&mut self) -> Result<(Answer, Undo), Refusal>
         ensures ok { IfOk result (λ r. step (shows self.old) receives ≡ Ok (r.0, shows self.new)) }
         ensures cost { IfOk result (λ r. cost_of r.1 ≡ cost (shows self.old) receives) }
         ensures reverses { IfOk result (λ r. Reverses self.old self.new r.1) }
@@ -50,7 +51,7 @@ impl Adapter {
     /// The transmit engine handles the descriptor at TDH. An idle step takes no memory.
     #[inline(never)]
     #[tactic(auto, using(crate::proofs::EngineLaws::tx_refuses))]
-    pub(crate) fn transmit_step(&mut self) -> Result<(Answer, Undo), Refusal>
+    pub fn transmit_step(&mut self) -> Result<(Answer, Undo), Refusal>
         ensures ok { IfOk result (λ r. step (shows self.old) transmits ≡ Ok (r.0, shows self.new)) }
         ensures cost { IfOk result (λ r. cost_of r.1 ≡ cost (shows self.old) transmits) }
         ensures reverses { IfOk result (λ r. Reverses self.old self.new r.1) }
@@ -93,5 +94,16 @@ impl Adapter {
             }
             _ => unreachable!(),
         }
+    }
+
+    /// Takes a step of the receive engine back.
+    #[inline(never)]
+    pub(crate) fn take_back_receiving(&mut self, words: LatchUndo, head: u32, piece: Box<StepPatch>)
+        requires { Fits self.old (record { latches = words; part = Part.RxStep head piece }) }
+        ensures { self.new ≡ undo self.old (record { latches = words; part = Part.RxStep head piece }) }
+    {
+        let _words = self.latches.exchange(words);
+        let _head = self.registers.restore(Reg::Rdh, head);
+        self.fifo.take_back(&mut self.memory, RxUndo::Step(piece));
     }
 }

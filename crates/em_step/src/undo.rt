@@ -48,7 +48,7 @@ pub enum Part {
 /// the gathered octets.
 #[derive(Drop)]
 pub struct BeforeReset {
-    pub registers: RegFile,
+    pub registers: Box<RegFile>,
     pub latches: Latches,
     pub fifo: RxUndo,
     pub gathered: Gather,

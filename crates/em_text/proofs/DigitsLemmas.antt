@@ -1,9 +1,10 @@
--- A table of the values of digits.
+-- A table of the values of digits, and one of the digits of octets.
 use Rattle.std.proofs.Common.{◌≡◌, ℕ, zero, suc, ◌+◌, ◌<◌, Bool, true, List, [], ◌∷◌, length, get_or, ap, ◌∙◌, sym}
-use Rattle.std.proofs.Common.{arith, add-zero}
-use Rattle.std.specs.Prelude.{◌==◌, ◌&&◌}
+use Rattle.std.proofs.Common.{arith, add-zero, inl, inr}
+use Rattle.std.specs.Prelude.{◌==◌, ◌&&◌, ◌*◌, ◌/◌, ◌%◌, slice_index}
 use Rattle.std.specs.Char.{digit_value}
-use Rattle.std.proofs.lemmas.Bool.{and_parts, eqb-true}
+use Rattle.std.proofs.lemmas.Bool.{and_parts, cases_eq, eqb-true}
+use Rattle.hex.specs.Hex.{upper_digits}
 
 -- whether each entry is the value of its place, the first of them of the place i
 abbrev pub is_table_from : ℕ → List ℕ → Bool
@@ -24,3 +25,33 @@ pub table_at : (xs : List ℕ) (octet : ℕ) → is_table_from 0 xs ≡ true →
 table_at xs octet h len lt =
     let same : 0 + octet ≡ octet = omega arith in
     table_from 0 xs octet h (omega arith) ∙ ap digit_value same
+
+-- ---- two digits for each octet
+
+-- whether two entries are the digits of an octet
+abbrev pub is_pair : List ℕ → ℕ → Bool
+is_pair xs octet =
+    get_or xs (2 * octet) 0 == slice_index upper_digits (octet / 16)
+    && get_or xs (2 * octet + 1) 0 == slice_index upper_digits (octet % 16)
+
+-- so it is of each octet below n
+abbrev pub are_pairs : List ℕ → ℕ → Bool
+are_pairs xs zero = true
+are_pairs xs (suc n) = is_pair xs n && are_pairs xs n
+
+is_pair_below : (xs : List ℕ) (n octet : ℕ) → are_pairs xs n ≡ true → octet < n → is_pair xs octet ≡ true
+is_pair_below xs zero octet h lt = absurd (omega arith)
+is_pair_below xs (suc n) octet h lt = elim (cases_eq octet n) [
+  | inl is ↦ ap (is_pair xs) is ∙ (and_parts (is_pair xs n) (are_pairs xs n) h).0
+  | inr other ↦ is_pair_below xs n octet (and_parts (is_pair xs n) (are_pairs xs n) h).1 (omega arith)
+]
+
+-- what stands in such a table of all octets
+pub pair_at : (xs : List ℕ) (octet : ℕ) → are_pairs xs 256 ≡ true → octet < 256
+    → get_or xs (2 * octet) 0 ∷ get_or xs (2 * octet + 1) 0 ∷ []
+    ≡ slice_index upper_digits (octet / 16) ∷ slice_index upper_digits (octet % 16) ∷ []
+pair_at xs octet h lt =
+    let two = and_parts _ _ (is_pair_below xs 256 octet h lt) in
+    let high = eqb-true (get_or xs (2 * octet) 0) (slice_index upper_digits (octet / 16)) two.0 in
+    let low = eqb-true (get_or xs (2 * octet + 1) 0) (slice_index upper_digits (octet % 16)) two.1 in
+    λ i. high i ∷ low i ∷ []

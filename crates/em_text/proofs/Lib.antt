@@ -2,4 +2,5 @@ pub mod DigitsLemmas
 pub mod LinesLemmas
 pub mod WordsLemmas
 pub mod NumbersLemmas
+pub mod FrontLemmas
 pub mod WritingLemmas

@@ -1,11 +1,14 @@
 -- Taking the first line off a script.
 use Rattle.std.proofs.Common.{◌≡◌, ℕ, ◌<◌, ◌≤◌, Bool, true, false, cond, List, [], ◌∷◌, length, refl, ap, ◌∙◌, arith}
-use Rattle.std.proofs.Common.{nat_lt}
+use Rattle.std.proofs.Common.{nat_lt, ◌+◌, ◌-◌, zero, suc, get_or, if◌then◌else◌}
 use Rattle.std.specs.List.{slice_split, position_or_len, before_first, after_first, onto_first}
 use Rattle.std.proofs.lemmas.List.Splits.{slice_split_none, slice_split_first}
 use Rattle.std.proofs.lemmas.List.Sums.{fails_before_first}
 use Rattle.std.proofs.lemmas.Bool.{lt-ltb}
 use Rattle.em_text.specs.Lines.{lines_of, is_newline, without_empty_last}
+use Rattle.std.proofs.lemmas.List.Sums.{position_or_len_is}
+use Rattle.memchr.specs.Find.{places, places_from}
+use Rattle.em_text.proofs.FrontLemmas.{below_next}
 
 -- there is always a part
 first_part : (p : ℕ → Bool) (xs : List ℕ) → (head : List ℕ) × (tail : List (List ℕ)) × (slice_split p xs ≡ head ∷ tail)
@@ -49,3 +52,34 @@ lines_of_last xs some h =
     let none = slice_split_none is_newline xs (λ k d lt. fails_before_first is_newline xs k d (omega arith)) in
     ap without_empty_last none
     ∙ nonempty xs some
+
+-- ---- the places of newlines
+
+-- the first of these places is where the first line ends
+abbrev pub EndsFirst : List ℕ → List ℕ → Type 0
+EndsFirst script [] = position_or_len is_newline script ≡ length script
+EndsFirst script (place ∷ places) = (position_or_len is_newline script ≡ place) × (place < length script)
+
+-- the places from one on, before which there is no newline
+first_from : (script : List ℕ) (n i : ℕ) → i + n ≡ length script
+    → ((k : ℕ) → k < i → is_newline (get_or script k 0) ≡ false) → EndsFirst script (places_from is_newline script i n)
+unfolding places_from
+first_from script zero i all before =
+    let whole : i ≡ length script = omega (arith, all) in
+    position_or_len_is is_newline script i 0 (omega arith) before (λ lt. absurd (omega arith)) ∙ whole
+first_from script (suc n) i all before =
+    by (is_newline (get_or script i 0)) refl
+    (λ none. first_from script n (i + 1) (omega arith)
+    (below_next (λ k. is_newline (get_or script k 0) ≡ false) i before none))
+  where
+    by : (b : Bool) → is_newline (get_or script i 0) ≡ b
+        → (is_newline (get_or script i 0) ≡ false → EndsFirst script (places_from is_newline script (i + 1) n))
+        → EndsFirst script (if b then i ∷ places_from is_newline script (i + 1) n
+        else places_from is_newline script (i + 1) n)
+    by true here later =
+        (position_or_len_is is_newline script i 0 (omega arith) before (λ lt. here), omega arith)
+    by false none later = later none
+
+pub first_newline : (script : List ℕ) → EndsFirst script (places is_newline script)
+first_newline script =
+    first_from script (length script - 0) 0 (omega arith) (λ k lt. absurd (omega arith))

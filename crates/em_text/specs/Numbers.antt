@@ -1,10 +1,12 @@
 -- The numbers and the octets that words write.
-use Rattle.std.specs.Prelude.{ℕ, ◌&&◌, nat_lt, nat_le, if◌then◌else◌, List, length, Option, Some, None}
-use Rattle.std.specs.List.{list_all}
+use Rattle.std.specs.Prelude.{ℕ, ◌≡◌, ◌<◌, ◌≤◌, ◌^◌, ◌⊎◌, ◌&&◌, nat_lt, nat_le}
+use Rattle.std.specs.Prelude.{if◌then◌else◌, List, length, take, get_or, true, false, Option, Some, None}
+use Rattle.std.specs.List.{list_all, prefix_len}
 use Rattle.std.specs.Char.{is_digit}
 use Rattle.std.specs.Result.{result_ok}
 use Rattle.std.specs.Str.Parse.{digits_value}
 use Rattle.hex.specs.Hex.{decode_of}
+use Rattle.em_text.specs.Words.{is_blank}
 
 -- the number that one to `most` digits in this base write
 unfoldable pub number : ℕ → ℕ → List ℕ → Option ℕ
@@ -28,3 +30,29 @@ decimal_number word = number 10 7 word
 -- the octets that an even number of hexadecimal digits write, two digits or more
 unfoldable pub octets_of : List ℕ → Option (List ℕ)
 octets_of word = if nat_lt 0 (length word) then result_ok (decode_of word) else None
+
+-- ---- at the front of a text
+
+-- how many digits in this base a text begins with
+abbrev pub digits_len : ℕ → List ℕ → ℕ
+digits_len base text = prefix_len (λ octet. is_digit octet base) text
+
+-- so many digits are none or too many
+abbrev pub IsNoLength : ℕ → ℕ → Type 0
+IsNoLength most len = (len ≡ 0) ⊎ (most < len)
+
+-- a text that begins with no number: with none or too many of them, or an octet behind them that is no blank
+abbrev pub IsNoNumber : ℕ → ℕ → List ℕ → Type 0
+IsNoNumber base most text =
+    let len = digits_len base text in
+    IsNoLength most len ⊎ ((len < length text) × (is_blank (get_or text len 0) ≡ false))
+
+-- the digits that a text begins with are so many, at most `most`, and write this number; a blank follows, or the end
+pub record LeadingNumber (base most : ℕ) (text : List ℕ) (value len : ℕ) : Type 0 where
+  pub digits : len ≡ digits_len base text
+  pub some : 0 < len
+  pub short : len ≤ most
+  pub within : len ≤ length text
+  pub number : value ≡ digits_value base (take len text)
+  pub bound : value < base ^ most
+  pub end : len < length text → is_blank (get_or text len 0) ≡ true

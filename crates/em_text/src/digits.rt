@@ -1,7 +1,11 @@
 //! The values of digits, by a table: digits are most of a script, and their letters and numerals
 //! are mixed too well for a branch to be foreseen.
-ghost use Rattle.std.specs.Prelude.{◌≡◌, min};
+ghost use Rattle.std.specs.Prelude.{◌≡◌, ◌<◌, ◌/◌, ◌%◌, [], ◌∷◌, min, slice_index};
+ghost use Rattle.hex.specs.Hex.{upper_digits};
 ghost use Rattle.std.specs.Char.{digit_value};
+
+/// How many octets a loop without branches takes at a time.
+pub const AT_ONCE: usize = 16;
 
 /// The value of each octet as a digit, letters in either case; 36 where it is none.
 #[rattlefmt::skip]
@@ -44,4 +48,47 @@ pub fn hex_value_of(octet: u8) -> u8
         b'a'..=b'f' => octet - b'a' + 10,
         _ => 16,
     }
+}
+
+/// The hexadecimal digit in upper case of a value below 16. By a comparison in place of the table, so
+/// that a loop over many octets takes several at once.
+#[inline(always)]
+pub fn upper_digit(value: u8) -> u8
+    requires { value < 16 }
+    ensures { result ≡ slice_index upper_digits value }
+{
+    if value < 10 {
+        b'0' + value
+    } else {
+        b'A' - 10 + value
+    }
+}
+
+/// The two digits of each octet in upper case, one octet after another.
+#[rattlefmt::skip]
+static PAIRS: [u8; 512] = *b"\
+    000102030405060708090A0B0C0D0E0F\
+    101112131415161718191A1B1C1D1E1F\
+    202122232425262728292A2B2C2D2E2F\
+    303132333435363738393A3B3C3D3E3F\
+    404142434445464748494A4B4C4D4E4F\
+    505152535455565758595A5B5C5D5E5F\
+    606162636465666768696A6B6C6D6E6F\
+    707172737475767778797A7B7C7D7E7F\
+    808182838485868788898A8B8C8D8E8F\
+    909192939495969798999A9B9C9D9E9F\
+    A0A1A2A3A4A5A6A7A8A9AAABACADAEAF\
+    B0B1B2B3B4B5B6B7B8B9BABBBCBDBEBF\
+    C0C1C2C3C4C5C6C7C8C9CACBCCCDCECF\
+    D0D1D2D3D4D5D6D7D8D9DADBDCDDDEDF\
+    E0E1E2E3E4E5E6E7E8E9EAEBECEDEEEF\
+    F0F1F2F3F4F5F6F7F8F9FAFBFCFDFEFF";
+
+/// The two hexadecimal digits of an octet in upper case, by a table, so that they are one look-up.
+#[inline(always)]
+pub fn digit_pair(octet: u8) -> [u8; 2]
+    ensures { result ≡ slice_index upper_digits (octet / 16) ∷ slice_index upper_digits (octet % 16) ∷ [] }
+{
+    let at = 2 * usize::from(octet);
+    [PAIRS[at], PAIRS[at + 1]]
 }

@@ -14,7 +14,7 @@ mod words;
 mod writer;
 
 pub use lines::next_line;
-pub use numbers::{decimal_number, hex_address, hex_number, is_octets, octets_into, octets_of};
+pub use numbers::{decimal_number, is_octets, octets_into, octets_of};
 pub use reader::{MOST_SCRIPT, ReadFault, read_script};
 pub use words::Words;
 pub use writer::{

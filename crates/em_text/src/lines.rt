@@ -3,7 +3,7 @@ ghost use Rattle.std.specs.Prelude.{◌≡◌, ◌<◌, ◌≤◌, ◌∷◌, le
 ghost use Rattle.std.specs.List.{position_or_len};
 ghost use Rattle.em_text.specs.Lines.{is_newline, lines_of};
 
-use memchr::memchr;
+use memchr::memchr_iter;
 
 /// What ends a line.
 const NEWLINE: u8 = b'\n';
@@ -25,13 +25,14 @@ pub fn next_line(script: &[u8]) -> (&[u8], &[u8])
     (&script[..end], &script[end + 1..])
 }
 
-/// How many octets a script has before its first newline.
+/// How many octets a script has before its first newline. Lines are short: the search for all
+/// newlines looks nearby first, and the search for one takes long strides.
 #[inline]
 fn line_len(script: &[u8]) -> usize
     ensures value { result ≡ position_or_len is_newline script.now }
     ensures within { result ≤ length script.now }
 {
-    match memchr(NEWLINE, script) {
+    match memchr_iter(NEWLINE, script).next() {
         Some(end) => end,
         None => script.len(),
     }

@@ -1,11 +1,14 @@
 //! The numbers and the octets that words write.
-ghost use Rattle.std.specs.Prelude.{◌≡◌, ◌≢◌, ◌*◌, ◌/◌, ◌≤◌, ◌<◌, ◌^◌, true, [], IfOk, OnErr, IfSome, IsSome};
+ghost use Rattle.std.specs.Prelude.{◌≡◌, ◌≢◌, ◌*◌, ◌/◌, ◌≤◌, ◌<◌, ◌^◌, true, [], IfOk, OnErr, IfSome, IsSome, IsNone};
 ghost use Rattle.std.specs.Prelude.{◌↔◌, IsTrue, EachIndex, slice_index, option_map, if◌then◌else◌, length};
 ghost use Rattle.std.specs.Char.{digit_value};
 ghost use Rattle.std.specs.Vec.{vec_capacity};
 ghost use Rattle.em_text.specs.Numbers.{number, hex_number, hex_address, decimal_number, octets_of};
+ghost use Rattle.em_text.specs.Numbers.{IsNoNumber, LeadingNumber};
+ghost use Rattle.em_text.specs.Words.{words_of, read_first};
 
-use crate::digits::{hex_value_of, value_of};
+use crate::digits::{AT_ONCE, hex_value_of, value_of};
+use crate::words::{Words, blanks_len, is_blank};
 use std::alloc::{AllocError, Global};
 
 const HEX: u8 = 16;
@@ -21,23 +24,60 @@ const HEX_ADDRESS_DIGITS: usize = 16;
 /// The most digits of a number that is read in decimal.
 const DECIMAL_NUMBER_DIGITS: usize = 7;
 
-/// The number that 1 to 8 hexadecimal digits write, in either case.
-#[inline]
-pub fn hex_number(word: &[u8]) -> Option<u32>
-    ensures value { result ≡ hex_number word.now }
-{
-    match number(word, HEX, HEX_NUMBER_DIGITS) {
-        Some(value) => Some(value as u32),
-        None => None,
+impl Words<'_> {
+    /// The number that the next word writes in 1 to 8 hexadecimal digits, in either case. The words
+    /// behind it are left.
+    #[inline(always)]
+    pub fn hex_number(&mut self) -> Option<u32>
+        ensures value { option_map (λ value. (value, words_of self.new.0.now)) result
+            ≡ read_first hex_number (words_of self.old.0.now) }
+    {
+        match self.number(HEX, HEX_NUMBER_DIGITS) {
+            Some(value) => Some(value as u32),
+            None => None,
+        }
     }
-}
 
-/// The number that 1 to 16 hexadecimal digits write, in either case.
-#[inline]
-pub fn hex_address(word: &[u8]) -> Option<u64>
-    ensures value { result ≡ hex_address word.now }
-{
-    number(word, HEX, HEX_ADDRESS_DIGITS)
+    /// The number that the next word writes in 1 to 16 hexadecimal digits, in either case.
+    #[inline(always)]
+    pub fn hex_address(&mut self) -> Option<u64>
+        ensures value { option_map (λ value. (value, words_of self.new.0.now)) result
+            ≡ read_first hex_address (words_of self.old.0.now) }
+    {
+        self.number(HEX, HEX_ADDRESS_DIGITS)
+    }
+
+    /// The number that the next word writes in 1 to 7 decimal digits: at most 9,999,999.
+    #[inline(always)]
+    pub fn decimal_number(&mut self) -> Option<u32>
+        ensures value { option_map (λ value. (value, words_of self.new.0.now)) result
+            ≡ read_first decimal_number (words_of self.old.0.now) }
+    {
+        match self.number(DECIMAL, DECIMAL_NUMBER_DIGITS) {
+            Some(value) => Some(value as u32),
+            None => None,
+        }
+    }
+
+    /// The number that the next word writes in one to `most` digits in this base. It is read where
+    /// it stands: to look for the word's end first would go over its octets twice.
+    #[inline(always)]
+    fn number(&mut self, base: u8, most: usize) -> Option<u64>
+        requires some { 0 < base }
+        requires letters { base ≤ 36 }
+        requires fits { base ^ most ≤ 2 ^ 64 }
+        ensures value { option_map (λ value. (value, words_of self.new.0.now)) result
+            ≡ read_first (number base most) (words_of self.old.0.now) }
+        ensures bound { IfSome result (λ value. value < base ^ most) }
+    {
+        let line = self.0;
+        let line = &line[blanks_len(line)..];
+        let Some((value, len)) = leading_number(line, base, most) else {
+            return None;
+        };
+        self.0 = &line[len..];
+        Some(value)
+    }
 }
 
 /// The number that 1 to 7 decimal digits write: at most 9,999,999.
@@ -45,32 +85,41 @@ pub fn hex_address(word: &[u8]) -> Option<u64>
 pub fn decimal_number(word: &[u8]) -> Option<u32>
     ensures value { result ≡ decimal_number word.now }
 {
-    match number(word, DECIMAL, DECIMAL_NUMBER_DIGITS) {
-        Some(value) => Some(value as u32),
-        None => None,
+    match leading_number(word, DECIMAL, DECIMAL_NUMBER_DIGITS) {
+        Some((value, len)) if len == word.len() => Some(value as u32),
+        _ => None,
     }
 }
 
-/// The number that one to `most` digits in this base write.
+/// The number that the digits in this base at the front of a text write, and how many they are: one
+/// to `most`, up to a blank or the text's end.
 #[inline(always)]
-fn number(word: &[u8], base: u8, most: usize) -> Option<u64>
+fn leading_number(text: &[u8], base: u8, most: usize) -> Option<(u64, usize)>
     requires some { 0 < base }
     requires fits { base ^ most ≤ 2 ^ 64 }
-    ensures value { result ≡ number base most word.now }
-    ensures bound { IfSome result (λ value. value < base ^ most) }
+    ensures none { IsNone result → IsNoNumber base most text.now }
+    ensures some { IfSome result (λ found. LeadingNumber base most text.now found.0 found.1) }
 {
-    if word.is_empty() || word.len() > most {
-        return None;
-    }
     let mut value = 0u64;
-    for octet in word {
-        let digit = value_of(*octet);
+    let mut len = 0;
+    while len < text.len() {
+        let digit = value_of(text[len]);
         if digit >= base {
+            if !is_blank(text[len]) {
+                return None;
+            }
+            break;
+        }
+        if len == most {
             return None;
         }
         value = value * u64::from(base) + u64::from(digit);
+        len += 1;
     }
-    Some(value)
+    if len == 0 {
+        return None;
+    }
+    Some((value, len))
 }
 
 /// The octets that an even number of hexadecimal digits write, 2 digits or more, in memory of
@@ -133,9 +182,6 @@ fn has_digits_alone(word: &[u8]) -> bool
 {
     word.iter().all(|octet| value_of(*octet) < HEX)
 }
-
-/// How many octets a loop without branches takes at a time.
-const AT_ONCE: usize = 16;
 
 /// Whether the word is of digits, and if so, writes the octets that they write.
 ///

@@ -1,6 +1,6 @@
 use crate::{
-    Words, WriteFailed, decimal_number, hex_address, hex_number, next_line, octets_into, octets_of,
-    read_script, write_decimal, write_decimal_line, write_octets, write_octets_line, write_pieces,
+    Words, WriteFailed, decimal_number, next_line, octets_into, octets_of, read_script,
+    write_decimal, write_decimal_line, write_octets, write_octets_line, write_pieces,
     write_register_line, write_value, write_whole,
 };
 use std::test::Fail;
@@ -50,7 +50,7 @@ fn reads_numbers(rt: HostRuntime) -> Result<(), Fail> {
         (b"+1".as_slice(), None),
         (b"0x1".as_slice(), None),
     ] {
-        assert_eq!(rt; hex_number(word), number);
+        assert_eq!(rt; Words(word).hex_number(), number);
     }
     for (word, address) in [
         (b"123456789aBcDeF0".as_slice(), Some(0x1234_5678_9ABC_DEF0)),
@@ -58,7 +58,7 @@ fn reads_numbers(rt: HostRuntime) -> Result<(), Fail> {
         (b"00000000000000000".as_slice(), None),
         (b"".as_slice(), None),
     ] {
-        assert_eq!(rt; hex_address(word), address);
+        assert_eq!(rt; Words(word).hex_address(), address);
     }
     for (word, number) in [
         (b"0".as_slice(), Some(0)),
@@ -69,6 +69,7 @@ fn reads_numbers(rt: HostRuntime) -> Result<(), Fail> {
         (b"".as_slice(), None),
     ] {
         assert_eq!(rt; decimal_number(word), number);
+        assert_eq!(rt; Words(word).decimal_number(), number);
     }
     Ok(())
 }

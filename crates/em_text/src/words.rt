@@ -1,5 +1,5 @@
 //! The words of a line.
-ghost use Rattle.std.specs.Prelude.{◌≡◌, ◌≤◌, length};
+ghost use Rattle.std.specs.Prelude.{◌≡◌, ◌≤◌, ◌↔◌, [], length, IsTrue};
 ghost use Rattle.std.specs.List.{prefix_len, position_or_len};
 ghost use Rattle.std.specs.Iterator.{YieldsFirstRef, item_count};
 ghost use Rattle.em_text.specs.Words.{words_of, is_blank};
@@ -41,9 +41,19 @@ impl<'a> Iterator for Words<'a> {
     }
 }
 
+impl Words<'_> {
+    /// Whether no word is still to come.
+    #[inline(always)]
+    pub fn is_over(&self) -> bool
+        ensures { IsTrue result ↔ (words_of self.now.0.now ≡ []) }
+    {
+        blanks_len(self.0) == self.0.len()
+    }
+}
+
 /// How many blanks a line begins with.
 #[inline]
-fn blanks_len(line: &[u8]) -> usize
+pub fn blanks_len(line: &[u8]) -> usize
     ensures value { result ≡ prefix_len is_blank line.now }
     ensures within { result ≤ length line.now }
 {
@@ -85,7 +95,7 @@ fn short_word_len(line: &[u8]) -> usize
 }
 
 #[inline]
-fn is_blank(octet: u8) -> bool
+pub fn is_blank(octet: u8) -> bool
     ensures { result ≡ is_blank octet }
 {
     matches!(octet, SPACE | TAB | CARRIAGE_RETURN)

@@ -4,10 +4,9 @@ ghost use Rattle.std.specs.List.{flat_map};
 ghost use Rattle.em_text.specs.Writer.{Writes, hex_text, hex_line_text, value_digits, value_text, register_line_text};
 ghost use Rattle.em_text.specs.Writer.{decimal_text, decimal_line_text};
 
+use crate::digits::{AT_ONCE, digit_pair, upper_digit};
 use itoa::Buffer;
 use std::io::Write;
-
-const UPPER_DIGITS: &[u8; 16] = b"0123456789ABCDEF";
 
 /// How many octets are written as digits at once.
 const CHUNK_OCTETS: usize = 64;
@@ -42,6 +41,7 @@ pub fn write_whole<W: Write>(writer: &mut W, text: &[u8]) -> Result<(), WriteFai
 }
 
 /// Writes the text whole, by as many writes as it takes.
+#[inline(never)]
 fn write_in_parts<W: Write>(writer: &mut W, text: &[u8]) -> Result<(), WriteFailed>
     ensures writes { Writes (W.contents writer.old) (W.contents writer.new) result text.now }
 {
@@ -92,6 +92,7 @@ pub fn write_octets_line<W: Write>(writer: &mut W, octets: &[u8]) -> Result<(), 
 }
 
 /// Writes a value in 8 hexadecimal digits in upper case, and a newline.
+#[inline(never)]
 pub fn write_value<W: Write>(writer: &mut W, value: u32) -> Result<(), WriteFailed>
     ensures writes { Writes (W.contents writer.old) (W.contents writer.new) result (value_text value) }
 {
@@ -157,9 +158,15 @@ fn fill_digits(octets: &[u8], digits: &mut [u8])
     requires { length digits.old ≡ 2 * length octets.now }
     ensures { digits.new ≡ hex_text octets.now }
 {
-    for i in 0..octets.len() {
+    let even = octets.len() / AT_ONCE * AT_ONCE;
+    for i in 0..even {
         let octet = octets[i];
-        digits[2 * i] = UPPER_DIGITS[(octet >> 4) as usize];
-        digits[2 * i + 1] = UPPER_DIGITS[(octet & 0x0f) as usize];
+        digits[2 * i] = upper_digit(octet >> 4);
+        digits[2 * i + 1] = upper_digit(octet & 0x0f);
+    }
+    for i in even..octets.len() {
+        let [high, low] = digit_pair(octets[i]);
+        digits[2 * i] = high;
+        digits[2 * i + 1] = low;
     }
 }

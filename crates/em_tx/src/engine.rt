@@ -274,6 +274,13 @@ fn fetch(octets: &mut Vec<u8>, memory: &GuestMemory, descriptor: &TxDescriptor)
     if length == 0 {
         return;
     }
+    if let Some(found) = memory.slice(descriptor.address(), length) {
+        let Ok(()) = octets.extend_from_slice(found) else {
+            unreachable!();
+        };
+        return;
+    }
+    // they lie over the end of a page
     let count = octets.len();
     let Ok(()) = octets.resize(count + length, 0) else {
         unreachable!();

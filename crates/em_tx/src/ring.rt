@@ -70,7 +70,11 @@ pub(crate) fn first(memory: &GuestMemory, setup: &TxSetup) -> Option<Found>
         return None;
     }
     let mut octets = [0; DESCRIPTOR_OCTETS];
-    memory.read_into(place, &mut octets);
+    match memory.slice(place, DESCRIPTOR_OCTETS) {
+        Some(found) => octets.copy_from_slice(found),
+        // it lies over the end of a page
+        None => memory.read_into(place, &mut octets),
+    }
     let descriptor = TxDescriptor::of_octets(octets);
     Some(Found { place, descriptor })
 }

@@ -11,9 +11,9 @@ use Rattle.em_script.proofs.runner.run_lines.Goals as goal
 
 pub loop-rest-preserved : goal.loop-rest-preserved
 loop-rest-preserved g c =
-    let replied = rw c.in-Ok.ensures.value at c.reply.ensures in
+    let replied = c.in-Ok.ensures.value in
     let played : PlayedLine = record { line = c.next_line.result.0.now; refused = replied.memory } in
-    let printed = rw c.in-Ok-reply.is at replied.prints in
+    let printed = rw c.in-Ok-played.is at replied.prints in
     record {
       ran = Ran-more played c.loop-rest.invariant.ran c.next_line.ensures.lines replied.allowed replied.session
           printed.written (c.count.ensures.value ∙ ap (after_outcome c.loop-rest.summary) printed.ended);
@@ -54,12 +54,12 @@ returns-clause-full g c = λ written.
 
 pub returns-in-Err-clause-err : goal.returns-in-Err-clause-err
 returns-in-Err-clause-err g c =
-    let replied = rw c.in-Ok.ensures.value at c.reply.ensures in
+    let replied = c.in-Ok.ensures.value in
     let failed : PlayedLine = record { line = c.next_line.result.0.now; refused = replied.memory } in
     let printed = rw c.in-Err.is at replied.prints in
     Ran-fails c.args.script.now failed c.loop-rest.invariant.ran c.next_line.ensures.lines replied.allowed
     replied.session printed.written
 
-pub parse_line-requires : goal.parse_line-requires
-parse_line-requires g c =
+pub play_line-requires : goal.play_line-requires
+play_line-requires g c =
     omega (arith, c.next_line.ensures.within, c.requires, c.loop-rest.invariant.few, c.loop-rest.invariant.room)

@@ -1,16 +1,23 @@
-use Rattle.std.proofs.Common.{arith, sym}
-use Rattle.std.proofs.lemmas.Bool.{false_from_ne_true}
-use Rattle.std.proofs.lemmas.List.Sums.{position_or_len_is}
-use Rattle.em_text.specs.Lines.{is_newline}
+use Rattle.std.proofs.Common.{sym, ◌∙◌, arith, subst}
+use Rattle.em_text.proofs.LinesLemmas.{first_newline, EndsFirst}
 use Rattle.em_text.proofs.lines.line_len.Goals as goal
 
 pub returns-in-Some-clause-value : goal.returns-in-Some-clause-value
 returns-in-Some-clause-value c =
-    let found = c.in-Some.ensures in
-    sym (position_or_len_is is_newline c.args.script.now c.in-Some.end 0 (omega (arith, found.0.high))
-    (λ k lt. false_from_ne_true _ (found.0.before k (omega arith) lt)) (λ lt. found.1))
+    let script = c.args.script.now in
+    let found = subst (EndsFirst script) (sym c.memchr_iter.ensures.value ∙ c.in-Some.ensures.steps)
+    (first_newline script) in
+    sym found.0
+
+pub returns-in-Some-clause-within : goal.returns-in-Some-clause-within
+returns-in-Some-clause-within c =
+    let script = c.args.script.now in
+    let found = subst (EndsFirst script) (sym c.memchr_iter.ensures.value ∙ c.in-Some.ensures.steps)
+    (first_newline script) in
+    omega (arith, found.1)
 
 pub returns-in-None-clause-value : goal.returns-in-None-clause-value
 returns-in-None-clause-value c =
-    sym (position_or_len_is is_newline c.args.script.now _ 0 (omega arith)
-    (λ k lt. false_from_ne_true _ (c.in-None.ensures k (omega arith) lt)) (λ lt. absurd (omega arith)))
+    let script = c.args.script.now in
+    sym (subst (EndsFirst script) (sym c.memchr_iter.ensures.value ∙ c.in-None.ensures.steps.0)
+    (first_newline script))

@@ -1,4 +1,4 @@
-use Rattle.std.proofs.Common.{ℕ, ◌≤◌, ◌≡◌, arith, subst}
+use Rattle.std.proofs.Common.{◌≤◌, arith, subst}
 use Rattle.hex.proofs.Pairs.{decode_start}
 use Rattle.em_text.proofs.NumbersLemmas.{Decodes, Decodes-more, Decodes-all}
 use Rattle.em_text.proofs.numbers.decode.Goals as goal

@@ -1,12 +1,12 @@
 -- Both ranges lie in memory, and their pages were made.
-use Rattle.std.proofs.Common.{rules, ◌≡◌, ◌+◌, ap, length, arith, subst, sym}
+use Rattle.std.proofs.Common.{rules, ◌≡◌, ◌+◌, ap, arith, subst, sym, ◌∙◌}
 use Rattle.em_mem.specs.Memory.{Patch}
-use Rattle.em_rx.specs.Undo.{FitsStep}
-use Rattle.em_rx.proofs.StepLaws.{step_fits}
+use Rattle.em_rx.specs.Undo.{FitsStep, IsOverwritten}
+use Rattle.em_rx.proofs.StepLaws.{is_overwritten, step_fits}
 use Rattle.em_rx.proofs.fifo.Fifo.step.Goals as goal
 
-pub exchange_step-requires : goal.exchange_step-requires
-exchange_step-requires c =
+pub deliver-requires-clause-fits : goal.deliver-requires-clause-fits
+deliver-requires-clause-fits c =
     let patch = c.in_ok-patch in
     let is : c.deref_mut.result.now ≡ patch.patch.value = search rules in
     subst (FitsStep c.args.self.now c.touch-2.new.self) (sym is)
@@ -17,6 +17,19 @@ exchange_step-requires c =
     (search rules) (omega (arith, c.in_ok-descriptor.ensures.held))
     c.in_ok-touch.ensures.made c.in_ok-touch-2.ensures.made
     (ap (λ (p : Patch). p.at) patch.ensures.first) patch.ensures.count
-    (ap (λ (p : Patch). p.at) patch.ensures.second) (ap (λ (p : Patch). length p.octets) patch.ensures.second)
+    (ap (λ (p : Patch). p.at) patch.ensures.second) patch.ensures.eight
     patch.ensures.moves.sound
+    )
+
+pub deliver-requires-clause-overwritten : goal.deliver-requires-clause-overwritten
+deliver-requires-clause-overwritten c =
+    let patch = c.in_ok-patch in
+    let is : c.deref_mut.result.now ≡ patch.patch.value = search rules in
+    let m = c.args.memory.now.octets in
+    let same : c.touch-2.new.self.octets ≡ m = c.touch-2.ensures.more.octets ∙ c.touch.ensures.more.octets in
+    subst (IsOverwritten c.touch-2.new.self.octets) (sym is)
+    (
+    is_overwritten m c.touch-2.new.self.octets patch.patch.value c.in_ok-descriptor.buffer c.min-count.result
+    (c.in_ok-descriptor.descriptor + 8) same patch.ensures.first patch.ensures.count patch.ensures.second
+    patch.ensures.eight
     )

@@ -1,5 +1,8 @@
 -- A piece of a frame was written.
 use Rattle.std.proofs.Common.{refl, ap, sym, ◌∙◌}
+use Rattle.em_regs.specs.declared.reg.Reg.TheVariants.{Rdh}
+use Rattle.em_regs.specs.RegFile.{put}
+use Rattle.em_regs.specs.Setup.{rx_setup}
 use Rattle.em_step.specs.Cells.{Cells, shows}
 use Rattle.em_step.specs.Engines.{rx_step}
 use Rattle.em_step.proofs.EngineLaws.{rx_wrote}
@@ -8,5 +11,7 @@ use Rattle.em_step.proofs.adapter.Adapter.receive_step.Goals as goal
 pub returns-in-Wrote-Step-clause-ok : goal.returns-in-Wrote-Step-clause-ok
 returns-in-Wrote-Step-clause-ok c =
     ap (λ (x : Cells). rx_step (shows x)) (sym c.self.view_is)
-    ∙ rx_wrote _ _ c.ring_rx.ensures.setup c.in_ok-answer.ensures.ok c.in-Wrote-Step.is-0 c.put.ensures.state
+    ∙ rx_wrote _ _ (c.ring_rx.ensures.setup ∙ ap rx_setup c.deref.ensures) c.in_ok-answer.ensures.ok
+    c.in-Wrote-Step.is-0
+    (c.put.ensures.state ∙ ap (λ file. put file Rdh c.in-Wrote-Step.next) c.deref_mut.ensures.value)
     c.raise-latches.ensures.state refl refl refl refl

@@ -11,7 +11,7 @@ returns-clause-reverses c =
     record {
       fits = record { latches = tt; part = frames.fits };
       restores = record {
-        registers = c.swap.ensures.y_after ∙ ap (λ (x : Cells). x.registers) c.self.view_is;
+        registers = ap (λ file. file.value) c.swap.ensures.y_after ∙ ap (λ (x : Cells). x.registers) c.self.view_is;
         latches = c.swap-2.ensures.y_after ∙ ap (λ (x : Cells). x.latches) c.self.view_is;
         fifo = frames.fifo ∙ ap (λ (x : Cells). x.fifo) c.self.view_is;
         memory = more_same _ _ (frames.memory ∙ ap (λ (x : Cells). x.memory) c.self.view_is);

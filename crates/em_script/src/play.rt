@@ -1,0 +1,235 @@
+//! Playing a line: reading it, doing what it says and writing its answer.
+ghost use Rattle.std.specs.Prelude.{◌≡◌, ◌<◌, length, IfOk, OnErr, IsTrue};
+ghost use Rattle.std.specs.Option.{option_map};
+ghost use Rattle.em_text.specs.Words.{words_of};
+ghost use Rattle.em_script.specs.Arguments.{arguments_of};
+ghost use Rattle.em_script.specs.Command.{plain};
+ghost use Rattle.em_script.specs.Grammar.{parsed_line, named_form, command_form, look_form, turns_form};
+ghost use Rattle.em_script.specs.ParsedLine.{brings_octets, command_line, request_line};
+ghost use Rattle.em_script.specs.Request.{request_form};
+ghost use Rattle.em_script.specs.Reply.{Performs};
+
+use crate::arguments::arguments_of;
+use crate::command::Command;
+use crate::grammar::{
+    alone, arrive_form, back_form, is_comment, link_form, peek_form, poke_form, read_form,
+    turns_form, write_form,
+};
+use crate::outcome::Outcome;
+use crate::output::write_bad_line;
+use crate::peek_len::MOST_PEEK;
+use crate::reply::{ask, obey, set_plan};
+use crate::request::request_form;
+use crate::session::Session;
+use em_step::Event;
+use em_text::{Words, WriteFailed};
+use std::alloc::{AllocError, Global};
+use std::io::Write;
+
+/// Plays the line of a number. Where memory is refused for the octets that it brings, nothing is
+/// done and nothing written.
+///
+/// `octets` is for those, and `room` for the octets that a look at guest memory shows.
+#[inline(always)]
+#[tactic(auto, unfolding(crate::specs::Grammar::parsed_line))]
+pub fn play_line<W: Write>(
+    alloc: Global,
+    writer: &mut W,
+    session: &mut Session,
+    number: u32,
+    line: &[u8],
+    octets: &mut Vec<u8>,
+    room: &mut [u8; MOST_PEEK],
+) -> Result<Result<Outcome, WriteFailed>, AllocError>
+    requires { length line.now < 0xFFFF_FFFF }
+    ensures value { IfOk result (λ replied. Performs number (parsed_line line.now)
+        session.old session.new (W.contents writer.old) (W.contents writer.new) replied) }
+    ensures memory { OnErr result (IsTrue (brings_octets (parsed_line line.now))) }
+    ensures same { OnErr result (session.new ≡ session.old) }
+    ensures unwritten { OnErr result (W.contents writer.new ≡ W.contents writer.old) }
+{
+    let mut words = Words(line);
+    let Some(name) = words.next() else {
+        return Ok(Ok(Outcome::Silent));
+    };
+    if is_comment(name) {
+        return Ok(Ok(Outcome::Silent));
+    }
+    play_named(alloc, writer, session, number, name, words, octets, room)
+}
+
+/// Plays a line of this name and the words behind it.
+#[inline(always)]
+fn play_named<W: Write>(
+    alloc: Global,
+    writer: &mut W,
+    session: &mut Session,
+    number: u32,
+    name: &[u8],
+    words: Words<'_>,
+    octets: &mut Vec<u8>,
+    room: &mut [u8; MOST_PEEK],
+) -> Result<Result<Outcome, WriteFailed>, AllocError>
+    requires { length (words_of words.0.now) < 0x1_0000_0000 }
+    ensures value { IfOk result (λ replied. Performs number (named_form name.now (words_of words.entry.0.now))
+        session.old session.new (W.contents writer.old) (W.contents writer.new) replied) }
+    ensures memory { OnErr result (IsTrue (brings_octets (named_form name.now (words_of words.entry.0.now)))) }
+    ensures same { OnErr result (session.new ≡ session.old) }
+    ensures unwritten { OnErr result (W.contents writer.new ≡ W.contents writer.old) }
+{
+    if name == b"turns".as_slice() {
+        return Ok(play_turns(alloc, writer, session, number, words));
+    }
+    play_event(alloc, writer, session, number, name, words, octets, room)
+}
+
+/// Plays a line that says an event, or another command or request.
+#[inline(always)]
+fn play_event<W: Write>(
+    alloc: Global,
+    writer: &mut W,
+    session: &mut Session,
+    number: u32,
+    name: &[u8],
+    words: Words<'_>,
+    octets: &mut Vec<u8>,
+    room: &mut [u8; MOST_PEEK],
+) -> Result<Result<Outcome, WriteFailed>, AllocError>
+    ensures value { IfOk result (λ replied.
+        Performs number (command_form name.now (arguments_of (words_of words.entry.0.now)))
+        session.old session.new (W.contents writer.old) (W.contents writer.new) replied) }
+    ensures memory { OnErr result
+        (IsTrue (brings_octets (command_form name.now (arguments_of (words_of words.entry.0.now))))) }
+    ensures same { OnErr result (session.new ≡ session.old) }
+    ensures unwritten { OnErr result (W.contents writer.new ≡ W.contents writer.old) }
+{
+    if name == b"r".as_slice() {
+        return Ok(play_command(writer, session, number, read_form(words), room));
+    }
+    if name == b"w".as_slice() {
+        return Ok(play_command(writer, session, number, write_form(words), room));
+    }
+    if name == b"poke".as_slice() {
+        let command = poke_form(words, octets)?;
+        return Ok(play_command(writer, session, number, command, room));
+    }
+    if name == b"arrive".as_slice() {
+        let command = arrive_form(words, octets)?;
+        return Ok(play_command(writer, session, number, command, room));
+    }
+    if name == b"rx".as_slice() {
+        let command = alone(Command::Event(Event::RxStep), words);
+        return Ok(play_command(writer, session, number, command, room));
+    }
+    if name == b"tx".as_slice() {
+        let command = alone(Command::Event(Event::TxStep), words);
+        return Ok(play_command(writer, session, number, command, room));
+    }
+    if name == b"link".as_slice() {
+        return Ok(play_command(writer, session, number, link_form(words), room));
+    }
+    play_look(alloc, writer, session, number, name, words, octets, room)
+}
+
+/// Plays a line that says a look or steps back, or asks something of a driver.
+#[inline(always)]
+fn play_look<W: Write>(
+    alloc: Global,
+    writer: &mut W,
+    session: &mut Session,
+    number: u32,
+    name: &[u8],
+    words: Words<'_>,
+    octets: &mut Vec<u8>,
+    room: &mut [u8; MOST_PEEK],
+) -> Result<Result<Outcome, WriteFailed>, AllocError>
+    ensures value { IfOk result (λ replied.
+        Performs number (look_form name.now (arguments_of (words_of words.entry.0.now)))
+        session.old session.new (W.contents writer.old) (W.contents writer.new) replied) }
+    ensures memory { OnErr result
+        (IsTrue (brings_octets (look_form name.now (arguments_of (words_of words.entry.0.now))))) }
+    ensures same { OnErr result (session.new ≡ session.old) }
+    ensures unwritten { OnErr result (W.contents writer.new ≡ W.contents writer.old) }
+{
+    if name == b"peek".as_slice() {
+        return Ok(play_command(writer, session, number, peek_form(words), room));
+    }
+    if name == b"line".as_slice() {
+        let command = alone(Command::InterruptLine, words);
+        return Ok(play_command(writer, session, number, command, room));
+    }
+    if name == b"regs".as_slice() {
+        let command = alone(Command::Registers, words);
+        return Ok(play_command(writer, session, number, command, room));
+    }
+    if name == b"wire".as_slice() {
+        let command = alone(Command::Wire, words);
+        return Ok(play_command(writer, session, number, command, room));
+    }
+    if name == b"back".as_slice() {
+        return Ok(play_command(writer, session, number, back_form(words), room));
+    }
+    play_request(alloc, writer, session, number, name, words, octets)
+}
+
+/// Sets the plan that the words of a line say, if they say one.
+#[inline(never)]
+fn play_turns<W: Write>(
+    alloc: Global,
+    writer: &mut W,
+    session: &mut Session,
+    number: u32,
+    words: Words<'_>,
+) -> Result<Outcome, WriteFailed>
+    requires { length (words_of words.0.now) < 0x1_0000_0000 }
+    ensures { Performs number (turns_form (words_of words.entry.0.now))
+        session.old session.new (W.contents writer.old) (W.contents writer.new) result }
+{
+    match turns_form(words) {
+        Some(plan) => set_plan(alloc, writer, session, plan),
+        None => write_bad_line(writer, number),
+    }
+}
+
+/// Does what is asked of a driver by a name and the words behind it, if they ask something.
+#[inline(never)]
+fn play_request<W: Write>(
+    alloc: Global,
+    writer: &mut W,
+    session: &mut Session,
+    number: u32,
+    name: &[u8],
+    words: Words<'_>,
+    octets: &mut Vec<u8>,
+) -> Result<Result<Outcome, WriteFailed>, AllocError>
+    ensures value { IfOk result (λ replied. Performs number
+        (request_line (request_form name.now (arguments_of (words_of words.entry.0.now))))
+        session.old session.new (W.contents writer.old) (W.contents writer.new) replied) }
+    ensures memory { OnErr result (IsTrue (brings_octets
+        (request_line (request_form name.now (arguments_of (words_of words.entry.0.now)))))) }
+    ensures same { OnErr result (session.new ≡ session.old) }
+    ensures unwritten { OnErr result (W.contents writer.new ≡ W.contents writer.old) }
+{
+    match request_form(alloc, name, arguments_of(words), octets)? {
+        Some(request) => Ok(ask(alloc, writer, session, request)),
+        None => Ok(write_bad_line(writer, number)),
+    }
+}
+
+/// Does what a line says, if it says a command.
+#[inline(always)]
+fn play_command<W: Write>(
+    writer: &mut W,
+    session: &mut Session,
+    number: u32,
+    command: Option<Command<'_>>,
+    room: &mut [u8; MOST_PEEK],
+) -> Result<Outcome, WriteFailed>
+    ensures { Performs number (command_line (option_map plain command.entry))
+        session.old session.new (W.contents writer.old) (W.contents writer.new) result }
+{
+    match command {
+        Some(command) => obey(writer, session, command, room),
+        None => write_bad_line(writer, number),
+    }
+}

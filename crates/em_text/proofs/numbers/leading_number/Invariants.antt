@@ -1,0 +1,18 @@
+use Rattle.std.proofs.Common.{◌≡◌, ◌-◌, ◌^◌, ◌<◌, ◌≤◌, ℕ, take, true, length, get_or}
+use Rattle.std.specs.Char.{is_digit}
+use Rattle.std.specs.Str.Parse.{digits_value}
+use Rattle.em_text.proofs.numbers.leading_number.Given as goal
+
+-- the octets so far are digits, and `value` is their number
+abbrev pub invariant-loop-len : goal.invariant-loop-len
+invariant-loop-len l =
+    record {
+      within : l.len ≤ length l.text;
+      short : l.len ≤ l.most;
+      small : l.value < l.base ^ l.len;
+      digits : (k : ℕ) → k < l.len → is_digit (get_or l.text k 0) l.base ≡ true;
+      number : l.value ≡ digits_value l.base (take l.len l.text);
+    }
+
+abbrev pub decreases-loop-len : goal.decreases-loop-len
+decreases-loop-len l = length l.text - l.len
