@@ -138,34 +138,34 @@ brings_memory from to addr octets closed leads before w v more n h (inr f) = rec
   follows = f.more;
 }
 
--- a part for each number from i on, n of them
-brings_each : (stage : ℕ → Stage) (part : ℕ → Part) (i n : ℕ)
-    → ((j : ℕ) → i ≤ j → j < i + n → Brings (stage j) (stage (j + 1)) (part j))
-    → Brings (stage i) (stage (i + n)) (each_from i n part)
+-- a part for each number from i on, n of them, from what holds after i parts to what holds after the last
+brings_each : (after : ℕ → Stage) (part : ℕ → Part) (i n : ℕ)
+    → ((j : ℕ) → i ≤ j → j < i + n → Brings (after j) (after (j + 1)) (part j))
+    → Brings (after i) (after (i + n)) (each_from i n part)
 unfolding each_from
-brings_each stage part i zero each before w v more n h f = record {
+brings_each after part i zero each before w v more n h f = record {
   world = w;
   events = n;
-  at = subst (λ k. At (stage k) before w) (omega arith) h;
+  at = subst (λ k. At (after k) before w) (omega arith) h;
   follows = f;
 }
-brings_each stage part i (suc k) each before w v more n h f =
+brings_each after part i (suc k) each before w v more n h f =
     let one = each i (omega arith) (omega arith) before w v (each_from (i + 1) k part more) n h f in
-    let rest = brings_each stage part (i + 1) k (λ j low high. each j (omega arith) (omega arith)) before one.world v
+    let rest = brings_each after part (i + 1) k (λ j low high. each j (omega arith) (omega arith)) before one.world v
     more one.events one.at one.follows in
     record {
       world = rest.world;
       events = rest.events;
-      at = subst (λ j. At (stage j) before rest.world) (omega arith) rest.at;
+      at = subst (λ j. At (after j) before rest.world) (omega arith) rest.at;
       follows = rest.follows;
     }
 
 -- a part for each number below n
-pub brings_all : (stage : ℕ → Stage) (part : ℕ → Part) (n : ℕ)
-    → ((j : ℕ) → j < n → Brings (stage j) (stage (j + 1)) (part j)) → Brings (stage 0) (stage n) (each_from 0 n part)
-brings_all stage part n each =
-    subst (λ k. Brings (stage 0) (stage k) (each_from 0 n part)) (omega arith)
-    (brings_each stage part 0 n (λ j low high. each j (omega (arith, high))))
+pub brings_all : (after : ℕ → Stage) (part : ℕ → Part) (n : ℕ)
+    → ((j : ℕ) → j < n → Brings (after j) (after (j + 1)) (part j)) → Brings (after 0) (after n) (each_from 0 n part)
+brings_all after part n each =
+    subst (λ k. Brings (after 0) (after k) (each_from 0 n part)) (omega arith)
+    (brings_each after part 0 n (λ j low high. each j (omega (arith, high))))
 
 -- ---- the EEPROM
 
