@@ -18,6 +18,7 @@ pub mod DescriptorLaws
 pub mod ReceivingLaws
 pub mod SendingLaws
 pub mod TurnLaws
+pub mod StageLaws
 pub mod WorldLaws
 pub mod TakeLaws
 pub mod ReceiveOrderLaws
@@ -28,7 +29,6 @@ pub mod RunLaws
 pub mod BackLaws
 pub mod OffLaws
 pub mod SizeLaws
-pub mod StageLaws
 pub mod HoldLaws
 pub mod MakingLaws
 pub mod ListeningLaws

@@ -1,15 +1,13 @@
 -- The accesses of a machine on which nobody else acts.
-use Rattle.std.proofs.Common.{◌≡◌, ℕ, List, [], refl, sym, subst, inl}
-use Rattle.em_regs.specs.Table.{IsReg, offset_of}
-use Rattle.em_regs.specs.declared.reg.Reg.{Reg}
-use Rattle.em_step.specs.Event.{Event, reads, writes, pokes}
+use Rattle.std.proofs.Common.{ℕ, List, [], refl, sym, subst, inl}
+use Rattle.em_step.specs.Event.{Event, pokes}
 use Rattle.em_step.specs.declared.event.Answer.{Answer}
-use Rattle.em_step.specs.declared.event.Answer.TheVariants.{Value, Done}
+use Rattle.em_step.specs.declared.event.Answer.TheVariants.{Done}
 use Rattle.em_step.specs.declared.refusal.Refusal.{Refusal}
 use Rattle.em_journal.specs.History.{performs, refuses, Does}
 use Rattle.em_journal.specs.View.{View}
 use Rattle.em_driver.specs.World.{quiet, Passes, Accesses, IsRefused}
-use Rattle.em_driver.proofs.AnswerLaws.{write_answer, poke_answer}
+use Rattle.em_driver.proofs.AnswerLaws.{poke_answer}
 
 pub quiet_passes : (m : View) → Passes (quiet m) (quiet m)
 quiet_passes m = record { turns = []; taken = inl (refl, refl, refl); is = refl }
@@ -23,25 +21,6 @@ pub quiet_refusal : (v w : View) (e : Event) (refusal : Refusal) → Does v (ref
 quiet_refusal v w e refusal did =
     subst (λ x. IsRefused (quiet v) e refusal (quiet x)) (sym did.1)
     record { passes = quiet_passes v; refuses = did.0 }
-
-pub quiet_read : (v w : View) (reg : Reg) (offset value : ℕ) (answer : Answer) → offset ≡ offset_of reg
-    → answer ≡ Value value → Does v (performs (reads offset) answer) w
-    → Accesses (quiet v) (reads (offset_of reg)) (Value value) (quiet w)
-quiet_read v w reg offset value answer at is did =
-    let did : Does v (performs (reads (offset_of reg)) answer) w
-    = subst (λ o. Does v (performs (reads o) answer) w) at did in
-    subst (λ a. Accesses (quiet v) (reads (offset_of reg)) a (quiet w)) is
-    (quiet_access v w (reads (offset_of reg)) answer did)
-
-pub quiet_write : (v w : View) (reg : Reg) (offset value : ℕ) (answer : Answer) → IsReg reg
-    → offset ≡ offset_of reg → Does v (performs (writes offset value) answer) w
-    → Accesses (quiet v) (writes (offset_of reg) value) Done (quiet w)
-quiet_write v w reg offset value answer is at did =
-    let did : Does v (performs (writes (offset_of reg) value) answer) w
-    = subst (λ o. Does v (performs (writes o value) answer) w) at did in
-    let e = writes (offset_of reg) value in
-    subst (λ a. Accesses (quiet v) e a (quiet w)) (write_answer v.present w.present reg value answer is did.0)
-    (quiet_access v w e answer did)
 
 pub quiet_poke : (v w : View) (addr : ℕ) (octets : List ℕ) (answer : Answer)
     → Does v (performs (pokes addr octets) answer) w

@@ -32,7 +32,8 @@ use Rattle.em_driver.proofs.TakeLaws.{clears, cleared_moves, first_packet, gives
 use Rattle.em_driver.proofs.UnitLaws.{rx_ring, rx_buffers, unit_held}
 use Rattle.em_driver.proofs.WorldLaws.{passed, passed_but, passed_driven, order_on, order_none, order_passes}
 use Rattle.em_driver.proofs.WorldLaws.{order_read}
-use Rattle.em_driver.proofs.WorldLaws.{written, read_gives, read_keeps, poked, poke_refused, stored_same}
+use Rattle.em_driver.proofs.StageLaws.{stored_same}
+use Rattle.em_driver.proofs.WorldLaws.{written, read_gives, read_keeps, poked, poke_refused}
 
 -- ---- one packet goes from the ring to the queue's end
 
@@ -49,43 +50,43 @@ took l i w u v h at filled a b =
     let p = passed l w a.mid h.but a.passes in
     let h1 = passed_driven l w a.mid h p in
     let s1 = present a.mid in
-    let at1 : i ≡ first l s1 = at ∙ sym (first_same l (present w) s1 p.moves.receiving.tail) in
+    let at1 : i ≡ first l s1 = at ∙ sym (first_same l (present w) s1 p.holds.receiving.tail) in
     let filled1 : is_filled l s1 (first l s1) ≡ true
-    = ap (is_filled l s1) (first_same l (present w) s1 p.moves.receiving.tail) ∙ p.moves.receiving.filled filled in
+    = ap (is_filled l s1) (first_same l (present w) s1 p.holds.receiving.tail) ∙ p.holds.receiving.filled filled in
     let c = clears l s1 (present u) h1 filled1
     (poked s1 (present u) (rx_descriptor l i + 12) (0 ∷ []) a.does.0
     ∙ ap (λ k. record s1 { memory = put s1.memory (rx_descriptor l k + 12) (0 ∷ []) }) at1) in
     let q = passed l u b.mid c.but b.passes in
     let s2 = present b.mid in
     let first_u : first l (present u) ≡ first l s1 = first_same l s1 (present u) c.tail in
-    let first_2 : first l s2 ≡ first l (present u) = first_same l (present u) s2 q.moves.receiving.tail in
+    let first_2 : first l s2 ≡ first l (present u) = first_same l (present u) s2 q.holds.receiving.tail in
     let at2 : i ≡ first l s2 = at1 ∙ sym first_u ∙ sym first_2 in
-    let cleared2 = cleared_moves l (present u) s2 q.added q.moves.receiving c.cleared in
+    let cleared2 = cleared_moves l (present u) s2 q.stored q.holds.receiving c.cleared in
     let g = gives_back l s2 (present v) (passed_but l u b.mid q) cleared2
     (written s2 (present v) (offset_of Rdt) Rdt i (reg_at-offset_of Rdt (omega arith)) refl (λ x. refl) b.does.0
     ∙ ap (λ k. record s2 { registers = registers.put s2.registers Rdt k }) at2) in
     -- the packet stayed as it was
     let packet : rx_packet_at l s2 (first l s2) ≡ rx_packet_at l (present w) (first l (present w))
     = ap (rx_packet_at l s2) first_2
-    ∙ first_packet l (present u) s2 q.added c.but.receiving q.moves.receiving c.cleared.filled
+    ∙ first_packet l (present u) s2 q.stored c.but.receiving q.holds.receiving c.cleared.filled
     ∙ ap (rx_packet_at l (present u)) first_u
     ∙ c.packet
-    ∙ ap (rx_packet_at l s1) (first_same l (present w) s1 p.moves.receiving.tail)
-    ∙ first_packet l (present w) s1 p.added h.but.receiving p.moves.receiving filled in
+    ∙ ap (rx_packet_at l s1) (first_same l (present w) s1 p.holds.receiving.tail)
+    ∙ first_packet l (present w) s1 p.stored h.but.receiving p.holds.receiving filled in
     let sent = tx_moves_on l (present w) s2 (present v)
     (tx_moves_on l (present w) (present u) s2
-    (tx_moves_on l (present w) s1 (present u) p.moves.sending c.sending) q.moves.sending) g.sending in
+    (tx_moves_on l (present w) s1 (present u) p.holds.sending c.sending) q.holds.sending) g.sending in
     record {
       order = record {
         driven = g.driven;
-        stored = p.added ++ q.added;
-        is_stored = stored_same u v _ _ b ∙ q.stored ∙ ap (λ x. x ++ q.added) (stored_same w u _ _ a ∙ p.stored)
-            ∙ append_assoc w.stored p.added q.added;
+        stored = p.stored ++ q.stored;
+        is_stored = stored_same u v _ _ b ∙ q.is ∙ ap (λ x. x ++ q.stored) (stored_same w u _ _ a ∙ p.is)
+            ∙ append_assoc w.stored p.stored q.stored;
         sent = sent.sent;
         is_sent = sent.is_sent;
-        receive = sym (append_assoc (waiting l (present w)) p.added q.added)
-            ∙ ap (λ x. x ++ q.added) (sym p.moves.receiving.waiting ∙ sym c.waiting)
-            ∙ sym q.moves.receiving.waiting
+        receive = sym (append_assoc (waiting l (present w)) p.stored q.stored)
+            ∙ ap (λ x. x ++ q.stored) (sym p.holds.receiving.waiting ∙ sym c.waiting)
+            ∙ sym q.holds.receiving.waiting
             ∙ g.waiting
             ∙ ap (λ x. x ∷ waiting l (present v)) packet;
         transmit = ap (λ x. (present w).wire ++ x) (append-nil (queued l (present w))) ∙ sym sent.wire;
@@ -156,16 +157,16 @@ packet_order l i count len queue more w v events a h at filled long rest (inr (i
     let p = passed l w m h.but peeks.passes in
     let hm = passed_driven l w m h p in
     let there : first l (present m) ≡ first l (present w) = first_same l (present w)
-    (present m) p.moves.receiving.tail in
+    (present m) p.holds.receiving.tail in
     let filled_m : is_filled l (present m) (first l (present m)) ≡ true
-    = ap (is_filled l (present m)) there ∙ p.moves.receiving.filled filled in
+    = ap (is_filled l (present m)) there ∙ p.holds.receiving.filled filled in
     let given = cleared.more in
     let t = took l i m cleared.mid given.mid hm (at ∙ sym there) filled_m cleared.step given.step in
     let whole : octets ≡ rx_packet_at l (present m) (first l (present m))
     = peeks.gives
     ∙ (λ k. part (present m).memory (rx_buffer l ((at ∙ sym there) k)) (long k))
     ∙ ap (λ d. part (present m).memory (rx_buffer l (first l (present m))) (length_of d))
-    (sym (p.moves.receiving.descriptor filled) ∙ ap (rx_at l (present m)) (sym there)) in
+    (sym (p.holds.receiving.descriptor filled) ∙ ap (rx_at l (present m)) (sym there)) in
     let left = rest given.mid given.others octets t.order.driven
     (ap (following l.rx_count) (at ∙ sym there) ∙ sym t.next) given.more in
     let order : InOrder l m given.mid (octets ∷ []) []
@@ -230,7 +231,7 @@ rx_order l (suc left) i count queue w v events a h at (inl (past, none, is)) =
 rx_order l (suc left) i count queue w v events a h at (inr (d, m, peeks, f)) =
     let p = passed l w m h.but peeks.passes in
     let there : first l (present m) ≡ first l (present w) = first_same l (present w)
-    (present m) p.moves.receiving.tail in
+    (present m) p.holds.receiving.tail in
     let at_m : i ≡ first l (present m) = at ∙ sym there in
     received_on l w m v queue a (order_passes l w m h peeks.passes)
     (looked_order l i count queue (rx_from l left (following l.rx_count i) (count + 1)) m v events a d (is_done d)

@@ -1,4 +1,4 @@
--- What holds between the events of a start: a stage is kept by turns, and an event leads from one stage to the next.
+-- What holds of a world between events: a stage is kept by turns, and an event leads from one stage to the next.
 use Rattle.std.proofs.Common.{◌≡◌, ◌∙◌, ℕ, zero, suc, ◌+◌, ◌≤◌, ◌<◌, Bool, true, false, if◌then◌else◌}
 use Rattle.std.proofs.Common.{List, [], ◌∷◌, ◌++◌, refl, sym, ap, subst, arith, append_assoc}
 use Rattle.std.proofs.Common.{Some, None, Result, Ok, Err, inl, inr}
@@ -21,7 +21,6 @@ use Rattle.em_driver.specs.World.{World, Accesses, Passes, present, after_outcom
 use Rattle.em_driver.specs.declared.outcome.Cause.{Cause}
 use Rattle.em_driver.specs.declared.outcome.Cause.TheVariants.{Broken, Checksum}
 use Rattle.em_driver.specs.declared.turn.Turn.{Turn}
-use Rattle.em_driver.proofs.WorldLaws.{stored_same}
 
 -- ---- stages
 
@@ -59,7 +58,7 @@ turns_at stage before w (t ∷ turns) closed h =
     turns_at stage before (after_turn w t) turns closed
     (outcome_at stage before w t (step (present w) (event_of t)) closed h refl)
 
-passed_at : (stage : Stage) (before : List (List ℕ)) (w v : World) → IsClosed stage → At stage before w → Passes w v
+pub passed_at : (stage : Stage) (before : List (List ℕ)) (w v : World) → IsClosed stage → At stage before w → Passes w v
     → At stage before v
 passed_at stage before w v closed h p =
     let m = turns_at stage before w p.turns closed h in
@@ -70,6 +69,10 @@ passed_at stage before w v closed h p =
     }
 
 -- ---- events
+
+-- an access stores nothing beside what is stored before it
+pub stored_same : (w v : World) (e : Event) (a : Answer) (h : Accesses w e a v) → v.stored ≡ h.mid.stored
+stored_same w v e a h = ap (λ x. x.stored) h.is
 
 -- an event leads from one stage to another
 abbrev pub Leads : Stage → Stage → Event → Answer → Type 0

@@ -36,7 +36,8 @@ use Rattle.em_driver.proofs.ReceivingLaws.{RxMoves, rx_moves_on}
 use Rattle.em_driver.proofs.UnitLaws.{tx_ring, tx_buffers, unit, unit_held}
 use Rattle.em_driver.proofs.WorldLaws.{Passed, passed, passed_but, passed_driven, order_on, order_none, order_passes}
 use Rattle.em_driver.proofs.WorldLaws.{order_read}
-use Rattle.em_driver.proofs.WorldLaws.{written, read_gives, read_keeps, poked, poke_refused, stored_same}
+use Rattle.em_driver.proofs.StageLaws.{stored_same}
+use Rattle.em_driver.proofs.WorldLaws.{written, read_gives, read_keeps, poked, poke_refused}
 
 -- what passes before an access of the driver, and what the access takes
 order_own : (l : Layout) (w m v : World) (took : List (List ℕ)) → Passed l w m
@@ -44,16 +45,16 @@ order_own : (l : Layout) (w m v : World) (took : List (List ℕ)) → Passed l w
     → (present v).wire ++ queued l (present v) ≡ (present m).wire ++ (queued l (present m) ++ map padded took)
     → (present v).wire ≡ (present m).wire → v.stored ≡ m.stored → InOrder l w v [] took
 order_own l w m v took p r driven sent wire same =
-    let all = rx_moves_on l (present w) (present m) (present v) p.added [] p.moves.receiving r in
+    let all = rx_moves_on l (present w) (present m) (present v) p.stored [] p.holds.receiving r in
     record {
       driven = driven;
-      stored = p.added;
-      is_stored = same ∙ p.stored;
-      sent = p.moves.sending.sent;
-      is_sent = wire ∙ p.moves.sending.is_sent;
-      receive = sym (all.waiting ∙ ap (λ x. waiting l (present w) ++ x) (append-nil p.added));
+      stored = p.stored;
+      is_stored = same ∙ p.is;
+      sent = p.holds.sending.sent;
+      is_sent = wire ∙ p.holds.sending.is_sent;
+      receive = sym (all.waiting ∙ ap (λ x. waiting l (present w) ++ x) (append-nil p.stored));
       transmit = sym (append_assoc (present w).wire (queued l (present w)) (map padded took))
-          ∙ ap (λ x. x ++ map padded took) (sym p.moves.sending.wire)
+          ∙ ap (λ x. x ++ map padded took) (sym p.holds.sending.wire)
           ∙ append_assoc (present m).wire (queued l (present m)) (map padded took)
           ∙ sym sent;
     }
@@ -86,14 +87,14 @@ put_packet : (l : Layout) (i : ℕ) (packet : List ℕ) (w v : World) → IsDriv
 put_packet l i packet w v h at few a =
     let p = passed l w a.mid h.but a.passes in
     let s = present a.mid in
-    let at1 : i ≡ tdt s = at ∙ sym p.moves.sending.tail in
+    let at1 : i ≡ tdt s = at ∙ sym p.holds.sending.tail in
     let f = fills_buffer l s (present v) packet (passed_driven l w a.mid h p) few
     (poked s (present v) (tx_buffer l i) packet a.does.0
     ∙ ap (λ k. record s { memory = put s.memory (tx_buffer l k) packet }) at1) in
     record {
       order = order_hands l w a.mid v p f.hands (stored_same w v _ _ a);
-      tail = f.hands.tail ∙ p.moves.sending.tail;
-      far = omega (arith, far_same l a.mid v f.hands, p.moves.sending.free);
+      tail = f.hands.tail ∙ p.holds.sending.tail;
+      far = omega (arith, far_same l a.mid v f.hands, p.holds.sending.free);
       buffer = f.buffer;
     }
 
@@ -112,7 +113,7 @@ put_descriptor : (l : Layout) (i : ℕ) (packet : List ℕ) (w v : World) → Is
 put_descriptor l i packet w v h at few least there a =
     let p = passed l w a.mid h.but a.passes in
     let s = present a.mid in
-    let at1 : i ≡ tdt s = at ∙ sym p.moves.sending.tail in
+    let at1 : i ≡ tdt s = at ∙ sym p.holds.sending.tail in
     let f = writes_descriptor l s (present v) packet (passed_driven l w a.mid h p) few
     (poked s (present v) (tx_descriptor l i) (transmit_descriptor (tx_buffer l i) (length packet)) a.does.0
     ∙ ap (λ k. record s {
@@ -120,14 +121,14 @@ put_descriptor l i packet w v h at few least there a =
     }) at1) in
     record {
       order = order_hands l w a.mid v p f.hands (stored_same w v _ _ a);
-      tail = f.hands.tail ∙ p.moves.sending.tail;
-      far = omega (arith, far_same l a.mid v f.hands, p.moves.sending.free);
+      tail = f.hands.tail ∙ p.holds.sending.tail;
+      far = omega (arith, far_same l a.mid v f.hands, p.holds.sending.free);
       ready = record {
         few = few;
         least = least;
         buffer = ap (take (length packet)) f.buffer
-            ∙ ap (λ j. take (length packet) (unit l s.memory tx_buffers j)) p.moves.sending.tail
-            ∙ ap (take (length packet)) p.moves.sending.buffer
+            ∙ ap (λ j. take (length packet) (unit l s.memory tx_buffers j)) p.holds.sending.tail
+            ∙ ap (take (length packet)) p.holds.sending.buffer
             ∙ there;
         descriptor = f.descriptor;
       };
@@ -145,17 +146,17 @@ give_packet : (l : Layout) (i : ℕ) (packet : List ℕ) (w v : World) → IsDri
 give_packet l i packet w v h at ready free a =
     let p = passed l w a.mid h.but a.passes in
     let s = present a.mid in
-    let at1 : i ≡ tdt s = at ∙ sym p.moves.sending.tail in
+    let at1 : i ≡ tdt s = at ∙ sym p.holds.sending.tail in
     let q = queues l s (present v) packet (passed_driven l w a.mid h p)
-    (ready_moves l (present w) s packet p.moves.sending ready) (omega (arith, p.moves.sending.free))
+    (ready_moves l (present w) s packet p.holds.sending ready) (omega (arith, p.holds.sending.free))
     (written s (present v) (offset_of Tdt) Tdt (following l.tx_count i) (reg_at-offset_of Tdt (omega arith)) refl
     (λ x. refl) a.does.0
     ∙ ap (λ k. record s { registers = registers.put s.registers Tdt (following l.tx_count k) }) at1) in
     record {
       order = order_own l w a.mid v (packet ∷ []) p q.receiving q.driven
           (λ k. q.wire k ++ q.queued k) q.wire (stored_same w v _ _ a);
-      next = q.next ∙ ap (following l.tx_count) p.moves.sending.tail;
-      far = omega (arith, q.far, p.moves.sending.free);
+      next = q.next ∙ ap (following l.tx_count) p.holds.sending.tail;
+      far = omega (arith, q.far, p.holds.sending.free);
     }
 
 -- ---- a course
@@ -308,7 +309,7 @@ reads_tx l w v o value h a =
     let same = (read_keeps (present a.mid) (present v) o (Value value) a.does.0).registers in
     record {
       order = order_read l w v o (Value value) h a;
-      tail = ap (λ r. value_of r Tdt) same ∙ p.moves.sending.tail;
+      tail = ap (λ r. value_of r Tdt) same ∙ p.holds.sending.tail;
     }
 
 pub tx_batch_order : (l : Layout) (number : ℕ) (queue : List (List ℕ)) (w v : World) (events : ℕ) (a : Answered)

@@ -1,5 +1,5 @@
 -- Turns before an access, and accesses, in a world whose state is as a driver keeps it.
-use Rattle.std.proofs.Common.{◌≡◌, ◌∙◌, ◌||◌, ◌==◌, ℕ, ◌+◌, ◌≤◌, Bool, true, false, List, [], ◌∷◌}
+use Rattle.std.proofs.Common.{◌≡◌, ◌∙◌, ◌||◌, ◌==◌, ℕ, ◌+◌, ◌≤◌, Bool, true, false, List, []}
 use Rattle.std.proofs.Common.{◌++◌}
 use Rattle.std.proofs.Common.{length, map, refl, sym, ap, subst, inl, inr, arith, append_assoc, append-nil, Option}
 use Rattle.std.proofs.Common.{Some, None}
@@ -14,7 +14,7 @@ use Rattle.em_regs.specs.Table.{offset_of, reg_at}
 use Rattle.em_latch.specs.Latches as latches
 use Rattle.em_latch.specs.Latches.{is_latched}
 use Rattle.em_step.specs.Access.{after_read, after_write, gives}
-use Rattle.em_step.specs.Event.{Event, reads, writes, pokes}
+use Rattle.em_step.specs.Event.{reads, writes, pokes}
 use Rattle.em_step.specs.State.{State}
 use Rattle.em_step.specs.Step.{at_register, poke, step, Refuses}
 use Rattle.em_step.specs.Whole.{padded}
@@ -24,59 +24,38 @@ use Rattle.em_step.specs.declared.refusal.Refusal.{Refusal}
 use Rattle.em_step.specs.declared.refusal.Refusal.TheVariants.{Range, Length, Memory}
 use Rattle.em_driver.specs.Driven.{IsDriven, IsDrivenBut}
 use Rattle.em_driver.specs.Order.{InOrder, queued, waiting}
-use Rattle.em_driver.specs.Turn.{event_of, stored_by}
-use Rattle.em_driver.specs.World.{World, Accesses, Passes, present, after_outcome, after_turn, after_turns}
+use Rattle.em_driver.specs.Turn.{stored_by}
+use Rattle.em_driver.specs.World.{World, Accesses, Passes, present}
 use Rattle.em_driver.specs.declared.layout.Layout.{Layout}
-use Rattle.em_driver.specs.declared.turn.Turn.{Turn}
 use Rattle.em_driver.proofs.ReceivingLaws.{NotReceiving, other_rx, rx_same, same_ring}
 use Rattle.em_driver.proofs.SendingLaws.{NotSending, other_tx, same_tx_ring, tx_same}
+use Rattle.em_driver.proofs.StageLaws.{At, IsClosed, passed_at, stored_same}
 use Rattle.em_driver.proofs.TurnLaws.{laid_same, Moves, moves_none, moves_on, moves_same, turn_moves, but_moves}
 use Rattle.em_driver.proofs.TurnLaws.{driven_moves}
 
 -- ---- turns
 
+-- the driver's state moves on in every turn
+moves_closed : (l : Layout) (s : State) → IsClosed (Moves l s)
+moves_closed l s t stored turn r h is =
+    moves_on l s t r.1 stored (stored_by turn r.0) h (turn_moves l t turn r (but_moves l s t stored h) is)
+
 -- what the turns before an access leave
-pub record Passed (l : Layout) (w v : World) : Type 0 where
-  pub added : List (List ℕ)
-  pub stored : v.stored ≡ w.stored ++ added
-  pub moves : Moves l (present w) (present v) added
+abbrev pub Passed : Layout → World → World → Type 0
+Passed l w v = At (Moves l (present w)) w.stored v
 
-outcome_passed : (l : Layout) (w : World) (t : Turn) (r : Result (Answer × State) Refusal) → IsDrivenBut l (present w)
-    → step (present w) (event_of t) ≡ r → Passed l w (after_outcome w t r)
-outcome_passed l w t (Ok r) h is =
-    record { added = stored_by t r.0; stored = refl; moves = turn_moves l (present w) t r h is }
-outcome_passed l w t (Err refusal) h is =
-    record { added = []; stored = sym (append-nil w.stored); moves = moves_none l (present w) h }
-
-passed_on : (l : Layout) (w v u : World) → Passed l w v → Passed l v u → Passed l w u
-passed_on l w v u h k = record {
-  added = h.added ++ k.added;
-  stored = k.stored ∙ ap (λ x. x ++ k.added) h.stored ∙ append_assoc w.stored h.added k.added;
-  moves = moves_on l (present w) (present v) (present u) h.added k.added h.moves k.moves;
-}
-
-turns_passed : (l : Layout) (w : World) (turns : List Turn) → IsDrivenBut l (present w)
-    → Passed l w (after_turns w turns)
-turns_passed l w [] h = record { added = []; stored = sym (append-nil w.stored); moves = moves_none l (present w) h }
-turns_passed l w (t ∷ turns) h =
-    let one = outcome_passed l w t (step (present w) (event_of t)) h refl in
-    passed_on l w (after_turn w t) (after_turns (after_turn w t) turns) one
-    (turns_passed l (after_turn w t) turns (but_moves l (present w) (present (after_turn w t)) one.added one.moves))
+passed_none : (l : Layout) (w : World) → IsDrivenBut l (present w) → Passed l w w
+passed_none l w h = record { stored = []; is = sym (append-nil w.stored); holds = moves_none l (present w) h }
 
 pub passed : (l : Layout) (w v : World) → IsDrivenBut l (present w) → Passes w v → Passed l w v
 passed l w v h p =
-    let m = turns_passed l w p.turns h in
-    record {
-      added = m.added;
-      stored = ap (λ x. x.stored) p.is ∙ m.stored;
-      moves = subst (λ s. Moves l (present w) s m.added) (sym (ap present p.is)) m.moves;
-    }
+    passed_at (Moves l (present w)) w.stored w v (moves_closed l (present w)) (passed_none l w h) p
 
 pub passed_but : (l : Layout) (w v : World) → Passed l w v → IsDrivenBut l (present v)
-passed_but l w v p = but_moves l (present w) (present v) p.added p.moves
+passed_but l w v p = but_moves l (present w) (present v) p.stored p.holds
 
 pub passed_driven : (l : Layout) (w v : World) → IsDriven l (present w) → Passed l w v → IsDriven l (present v)
-passed_driven l w v h p = driven_moves l (present w) (present v) p.added p.moves h
+passed_driven l w v h p = driven_moves l (present w) (present v) p.stored p.holds h
 
 -- ---- order
 
@@ -107,23 +86,21 @@ order_on l w v u a b c d h k =
 pub order_moved : (l : Layout) (w m v : World) → IsDriven l (present w) → Passed l w m
     → Moves l (present m) (present v) [] → v.stored ≡ m.stored → InOrder l w v [] []
 order_moved l w m v h p k same =
-    let all = moves_on l (present w) (present m) (present v) p.added [] p.moves k in
+    let all = moves_on l (present w) (present m) (present v) p.stored [] p.holds k in
     record {
-      driven = driven_moves l (present w) (present v) (p.added ++ []) all h;
-      stored = p.added;
-      is_stored = same ∙ p.stored;
+      driven = driven_moves l (present w) (present v) (p.stored ++ []) all h;
+      stored = p.stored;
+      is_stored = same ∙ p.is;
       sent = all.sending.sent;
       is_sent = all.sending.is_sent;
-      receive = sym (all.receiving.waiting ∙ ap (λ x. waiting l (present w) ++ x) (append-nil p.added));
+      receive = sym (all.receiving.waiting ∙ ap (λ x. waiting l (present w) ++ x) (append-nil p.stored));
       transmit = ap (λ x. (present w).wire ++ x) (append-nil (queued l (present w))) ∙ sym all.sending.wire;
     }
 
 pub order_none : (l : Layout) (w v : World) → IsDriven l (present w) → v ≡ w → InOrder l w v [] []
 order_none l w v h is =
     subst (λ x. InOrder l w x [] []) (sym is)
-    (order_moved l w w w h
-    (record { added = []; stored = sym (append-nil w.stored); moves = moves_none l (present w) h.but })
-    (moves_none l (present w) h.but) refl)
+    (order_moved l w w w h (passed_none l w h.but) (moves_none l (present w) h.but) refl)
 
 pub order_passes : (l : Layout) (w v : World) → IsDriven l (present w) → Passes w v → InOrder l w v [] []
 order_passes l w v h p =
@@ -222,10 +199,6 @@ pub moves_read : (l : Layout) (s t : State) (o : ℕ) (a : Answer) → IsDrivenB
 moves_read l s t o a h is =
     let k = read_keeps s t o a is in
     moves_same l s t h k.registers k.memory k.fifo k.gathered k.wire
-
--- what an access is, after what passes before it
-pub stored_same : (w v : World) (e : Event) (a : Answer) (h : Accesses w e a v) → v.stored ≡ h.mid.stored
-stored_same w v e a h = ap (λ x. x.stored) h.is
 
 pub order_read : (l : Layout) (w v : World) (o : ℕ) (a : Answer) → IsDriven l (present w) → Accesses w (reads o) a v
     → InOrder l w v [] []

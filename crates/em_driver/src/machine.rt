@@ -2,28 +2,21 @@
 use crate::bus::Bus;
 use em_journal::Machine;
 use em_regs::Reg;
-use em_step::{Answer, Event, Refusal};
+use em_step::{Event, Refusal};
 
 impl Bus for Machine {
     ghost use Rattle.em_driver.specs.World.{quiet};
 
     ghost world = { quiet };
 
+    #[inline(never)]
     fn read(&mut self, reg: Reg) -> u32 {
-        let Ok(answer) = self.perform(Event::Read(reg.offset())) else {
-            unreachable!();
-        };
-        let Answer::Value(value) = answer else {
-            unreachable!();
-        };
-        value
+        self.read_register(reg)
     }
 
+    #[inline(never)]
     fn write(&mut self, reg: Reg, value: u32) -> Result<(), Refusal> {
-        match self.perform(Event::Write(reg.offset(), value)) {
-            Ok(_) => Ok(()),
-            Err(refusal) => Err(refusal),
-        }
+        self.write_register(reg, value)
     }
 
     fn peek(&mut self, addr: u64, out: &mut [u8]) -> Result<(), Refusal> {

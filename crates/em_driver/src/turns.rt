@@ -153,21 +153,53 @@ impl Turns {
     {
         match Vec::with_capacity(self.alloc, arrivals_of_plan(&plan)) {
             Ok(stored) => {
+                self.count_anew();
                 self.stored = stored;
                 self.plan = plan;
-                self.counts = Counts {
-                    performed: 0,
-                    refused: 0,
-                };
-                self.starved = false;
                 Ok(())
             }
             Err(_) => Err(PlanRefused { plan }),
         }
     }
 
-    /// The others take the turns that the plan has here.
+    /// Lets the plan go, and what it stored and counted.
+    pub fn end_plan(&mut self)
+        ensures { self.new ≡ quiet self.old.machine }
+    {
+        // most often there was none
+        if !self.plan.is_empty() {
+            self.plan = VecDeque::new(self.alloc);
+        }
+        if self.stored.capacity() > 0 {
+            self.stored = Vec::new(self.alloc);
+        }
+        self.count_anew();
+    }
+
+    /// Begins the counts of turns anew.
+    fn count_anew(&mut self)
+        ensures { self.new ≡ record self.old { performed = 0; refused = 0; starved = false } }
+    {
+        self.counts = Counts {
+            performed: 0,
+            refused: 0,
+        };
+        self.starved = false;
+    }
+
+    /// The others take the turns that the plan has here. Most accesses have none.
+    #[inline(always)]
     fn pass(&mut self)
+        ensures { Passes self.old self.new }
+    {
+        if !self.plan.is_empty() {
+            self.take_turns();
+        }
+    }
+
+    /// The others take the turns of the plan's first list.
+    #[inline(never)]
+    fn take_turns(&mut self)
         ensures { Passes self.old self.new }
     {
         let Some(turns) = self.plan.pop_front() else {

@@ -81,28 +81,33 @@ view_event {budget} {c} {d} {r} {rs} {new} e h same view =
     made ∙ ap (after_event (view_of budget c rs) (shows d)) same
     ∙ ap (λ v. after_event v (shows d) (cost v.present e)) view
 
-pub journal_event : {budget used capacity : ℕ} {c d : Cells} {r : Undo} {rs new : List Undo}
+-- the record is kept, which leaves the cells
+pub journal_event : {budget used capacity : ℕ} {c d left : Cells} {r : Undo} {rs new : List Undo} → left ≡ d
     → IsJournal c rs capacity budget used → Reverses c d r
     → new ≡ take (reach budget (cost_of r ∷ costs_of rs)) (r ∷ rs) → {places now : ℕ} → places ≡ capacity
-    → now ≡ sum (costs_of new) → now ≤ budget → IsJournal d new places budget now
-journal_event old reverses kept same counted held = record {
-  fit = AllFit-event (record { kept = kept; reverses = reverses }) old.fit;
-  counted = counted;
-  held = held;
-  places = same ∙ old.places;
-  allowed = old.allowed;
-}
+    → now ≡ sum (costs_of new) → now ≤ budget → IsJournal left new places budget now
+journal_event {budget} {used} {capacity} {c} {d} {left} {r} {rs} {new} is old reverses kept {places} {now} same counted
+    held =
+    subst (λ x. IsJournal x new places budget now) (sym is)
+    (record {
+      fit = AllFit-event (record { kept = kept; reverses = reverses }) old.fit;
+      counted = counted;
+      held = held;
+      places = same ∙ old.places;
+      allowed = old.allowed;
+    })
 
 -- so it was performed
-pub event_does : {budget : ℕ} {c d : Cells} {r : Undo} (rs : List Undo) {new : List Undo} {old : View} (e : Event)
-    {answer : Answer}
+pub event_does : {budget : ℕ} {c d left : Cells} {r : Undo} (rs : List Undo) {new : List Undo} {old : View} (e : Event)
+    {answer : Answer} → left ≡ d
     → step (shows c) e ≡ Ok (answer, shows d) → cost_of r ≡ cost (shows c) e → Reverses c d r
     → new ≡ take (reach budget (cost_of r ∷ costs_of rs)) (r ∷ rs) → view_of budget c rs ≡ old
-    → Does old (performs e answer) (view_of budget d new)
-event_does {d = d} rs {old = old} e {answer} is same reverses kept view = (
-  ap (λ v. step v.present e) (sym view) ∙ is,
-  view_event e (record { kept = kept; reverses = reverses }) same view,
-)
+    → Does old (performs e answer) (view_of budget left new)
+event_does {budget} {d = d} rs {new} {old} e {answer} left_is is same reverses kept view =
+    subst (λ x. Does old (performs e answer) (view_of budget x new)) (sym left_is) (
+      ap (λ v. step v.present e) (sym view) ∙ is,
+      view_event e (record { kept = kept; reverses = reverses }) same view,
+    )
 
 -- ---- a refused event may leave more pages made
 

@@ -1,10 +1,11 @@
 //! The machine: an adapter with a journal of its latest events.
-ghost use Rattle.std.specs.Prelude.{◌≡◌, ◌+◌, ◌<◌, ◌↔◌, IfOk, IfErr, OnOk, OnErr, IsErrOf, IsTrue};
+ghost use Rattle.std.specs.Prelude.{◌≡◌, ◌≢◌, ◌+◌, ◌<◌, ◌↔◌, IfOk, IfErr, OnOk, OnErr, IsErrOf, IsTrue};
 ghost use Rattle.std.specs.Prelude.{length, min, replicate, slice_get};
 ghost use Rattle.std.specs.Option.{option_map};
 ghost use Rattle.em_mem.specs.Memory.{part};
-ghost use Rattle.em_regs.specs.Table.{reg_at};
-ghost use Rattle.em_latch.specs.Latches.{IsAsserted};
+ghost use Rattle.em_regs.specs.Table.{IsReg, offset_of, reg_at};
+ghost use Rattle.em_regs.specs.RegFile.{IsStored};
+ghost use Rattle.em_latch.specs.Latches.{IsAsserted, IsLatched};
 ghost use Rattle.em_step.specs.Access.{gives};
 ghost use Rattle.em_step.specs.Cells.{shows};
 ghost use Rattle.em_step.specs.Event.{plain, reads, writes, pokes, arrives, links, receives, transmits};
@@ -12,9 +13,10 @@ ghost use Rattle.em_journal.specs.Budget.{IsBudget};
 ghost use Rattle.em_journal.specs.History.{performs, refuses, goes_back, is_empty, Does, Run};
 ghost use Rattle.em_journal.specs.View.{opening, after_backs};
 
-use crate::records::keep;
+use crate::records::Records;
 use crate::refusal::{Empty, JournalRefusal};
 use circular_buffer::HeapCircularBuffer;
+use em_regs::{Kind, Reg};
 use em_step::{Adapter, Answer, Event, LEAST_COST, Refusal, Undo};
 use std::alloc::Global;
 use std::marker::Model;
@@ -30,11 +32,8 @@ pub const MOST_BUDGET: u64 = 16_777_216;
 #[derive(Drop)]
 pub struct Machine {
     adapter: Adapter,
-    // the newest first
-    records: HeapCircularBuffer<Undo>,
+    records: Records,
     budget: u64,
-    // what the records cost together
-    used: u64,
 }
 
 impl Model for Machine {
@@ -45,9 +44,10 @@ impl Model for Machine {
 
     ghost coded = { view_code };
 
-    ghost view = { λ m. view_of m.budget m.adapter m.records.items };
+    ghost view = { λ m. view_of m.budget m.adapter m.records.ring.items };
 
-    ghost invariant = { λ m. IsJournal m.adapter m.records.items m.records.capacity m.budget m.used };
+    ghost invariant = { λ m.
+        IsJournal m.adapter m.records.ring.items m.records.ring.capacity m.budget m.records.used };
 }
 
 impl Machine {
@@ -72,11 +72,10 @@ impl Machine {
         // No record costs less, so the places are never too few.
         let places = (budget / u64::from(LEAST_COST)) as usize;
         match HeapCircularBuffer::with_capacity(alloc, places) {
-            Ok(records) => Ok(Machine {
+            Ok(ring) => Ok(Machine {
                 adapter,
-                records,
+                records: Records { ring, used: 0 },
                 budget,
-                used: 0,
             }),
             Err(_) => Err((adapter, JournalRefusal::Memory)),
         }
@@ -86,6 +85,7 @@ impl Machine {
     ///
     /// A refused event is not journalled: the machine stays as it was, also in how far it can go
     /// back.
+    #[inline(always)]
     pub fn perform(&mut self, event: Event<'_>) -> Result<Answer, Refusal>
         ensures ok { IfOk result (λ answer. Does self.old (performs (plain event.entry) answer) self.new) }
         // a performed event can always be taken back
@@ -93,8 +93,14 @@ impl Machine {
         ensures err { IfErr result (λ refusal. Does self.old (refuses (plain event.entry) refusal) self.new) }
     {
         match event {
-            Event::Read(offset) => self.read(offset),
-            Event::Write(offset, value) => self.write(offset, value),
+            Event::Read(offset) => {
+                let value = self.read(offset)?;
+                Ok(Answer::Value(value))
+            }
+            Event::Write(offset, value) => {
+                self.write(offset, value)?;
+                Ok(Answer::Done)
+            }
             Event::Poke(addr, octets) => self.poke(addr, octets),
             Event::Arrive(frame) => self.arrive(frame),
             Event::Link(up) => self.set_link(up),
@@ -106,79 +112,212 @@ impl Machine {
     // An event of each kind has a function of its own, so that none pays for what another one needs.
 
     /// Software reads the register at an offset.
-    fn read(&mut self, offset: u32) -> Result<Answer, Refusal>
-        ensures ok { IfOk result (λ answer. Does self.old (performs (reads offset) answer) self.new) }
+    #[inline(never)]
+    fn read(&mut self, offset: u32) -> Result<u32, Refusal>
+        ensures ok { IfOk result (λ value. Does self.old (performs (reads offset) (Answer.Value value)) self.new) }
         ensures kept { OnOk result (0 < length self.new.past) }
         ensures err { IfErr result (λ refusal. Does self.old (refuses (reads offset) refusal) self.new) }
     {
-        let (answer, undo) = self.adapter.read_at(offset)?;
-        self.used = keep(&mut self.records, self.used, self.budget, undo);
-        Ok(answer)
+        match Reg::of_offset(offset) {
+            Some(reg) => Ok(self.read_register(reg)),
+            None => Err(Refusal::NoRegister),
+        }
     }
 
     /// Software writes a value to the register at an offset.
-    fn write(&mut self, offset: u32, value: u32) -> Result<Answer, Refusal>
-        ensures ok { IfOk result (λ answer. Does self.old (performs (writes offset value) answer) self.new) }
+    #[inline(never)]
+    fn write(&mut self, offset: u32, value: u32) -> Result<(), Refusal>
+        ensures ok { OnOk result (Does self.old (performs (writes offset value) Answer.Done) self.new) }
         ensures kept { OnOk result (0 < length self.new.past) }
         ensures err { IfErr result (λ refusal. Does self.old (refuses (writes offset value) refusal) self.new) }
     {
-        let (answer, undo) = self.adapter.write_at(offset, value)?;
-        self.used = keep(&mut self.records, self.used, self.budget, undo);
-        Ok(answer)
+        match Reg::of_offset(offset) {
+            Some(reg) => self.write_register(reg, value),
+            None => Err(Refusal::NoRegister),
+        }
+    }
+
+    /// Software reads a register: the event of a read at its offset.
+    #[inline(always)]
+    pub fn read_register(&mut self, reg: Reg) -> u32
+        requires { IsReg reg }
+        ensures does { Does self.old (performs (reads (offset_of reg)) (Answer.Value result)) self.new }
+        ensures kept { 0 < length self.new.past }
+    {
+        match reg.row().kind {
+            Kind::Stored => self.read_stored(reg),
+            Kind::Interrupt | Kind::Counter => self.read_latched(reg),
+            Kind::Status => self.read_other(reg),
+        }
+    }
+
+    /// Software writes a register: the event of a write at its offset. Refused only as Memory, where it is
+    /// a reset.
+    #[inline(always)]
+    pub fn write_register(&mut self, reg: Reg, value: u32) -> Result<(), Refusal>
+        requires { IsReg reg }
+        ensures ok { OnOk result (Does self.old (performs (writes (offset_of reg) value) Answer.Done) self.new) }
+        ensures kept { OnOk result (0 < length self.new.past) }
+        ensures err { IfErr result (λ refusal.
+            Does self.old (refuses (writes (offset_of reg) value) refusal) self.new) }
+    {
+        if matches!(reg, Reg::Ctrl | Reg::Eerd) {
+            return self.write_other(reg, value);
+        }
+        match reg.row().kind {
+            Kind::Stored => self.write_stored(reg, value),
+            Kind::Interrupt | Kind::Counter => self.write_latched(reg, value),
+            Kind::Status => self.write_other(reg, value)?,
+        }
+        Ok(())
+    }
+
+    // Most accesses are of a register that stores what is written and does nothing else, and their records
+    // hold no words of the latches. The others stand apart, so that these make no room for such words; and
+    // those that can reset the adapter apart from both.
+
+    #[inline(always)]
+    fn read_stored(&mut self, reg: Reg) -> u32
+        requires { IsStored reg }
+        ensures does { Does self.old (performs (reads (offset_of reg)) (Answer.Value result)) self.new }
+        ensures kept { 0 < length self.new.past }
+    {
+        let (value, undo) = self.adapter.read_stored(reg);
+        self.records
+            .keep(&mut self.adapter, self.budget, LEAST_COST, undo);
+        value
+    }
+
+    #[inline(never)]
+    fn read_latched(&mut self, reg: Reg) -> u32
+        requires reg { IsReg reg }
+        requires latched { IsLatched reg }
+        ensures does { Does self.old (performs (reads (offset_of reg)) (Answer.Value result)) self.new }
+        ensures kept { 0 < length self.new.past }
+    {
+        let (value, undo) = self.adapter.read_latched(reg);
+        self.records
+            .keep(&mut self.adapter, self.budget, LEAST_COST, undo);
+        value
+    }
+
+    #[inline(never)]
+    fn read_other(&mut self, reg: Reg) -> u32
+        requires { IsReg reg }
+        ensures does { Does self.old (performs (reads (offset_of reg)) (Answer.Value result)) self.new }
+        ensures kept { 0 < length self.new.past }
+    {
+        let (value, undo) = self.adapter.read_register(reg);
+        self.records
+            .keep(&mut self.adapter, self.budget, LEAST_COST, undo);
+        value
+    }
+
+    #[inline(always)]
+    fn write_stored(&mut self, reg: Reg, value: u32)
+        requires stored { IsStored reg }
+        requires alone { (reg ≢ Reg.Ctrl) × (reg ≢ Reg.Eerd) }
+        ensures does { Does self.old (performs (writes (offset_of reg) value) Answer.Done) self.new }
+        ensures kept { 0 < length self.new.past }
+    {
+        let undo = self.adapter.write_stored(reg, value);
+        self.records
+            .keep(&mut self.adapter, self.budget, LEAST_COST, undo);
+    }
+
+    #[inline(never)]
+    fn write_latched(&mut self, reg: Reg, value: u32)
+        requires reg { IsReg reg }
+        requires latched { IsLatched reg }
+        ensures does { Does self.old (performs (writes (offset_of reg) value) Answer.Done) self.new }
+        ensures kept { 0 < length self.new.past }
+    {
+        let undo = self.adapter.write_latched(reg, value);
+        self.records
+            .keep(&mut self.adapter, self.budget, LEAST_COST, undo);
+    }
+
+    #[inline(never)]
+    fn write_other(&mut self, reg: Reg, value: u32) -> Result<(), Refusal>
+        requires { IsReg reg }
+        ensures ok { OnOk result (Does self.old (performs (writes (offset_of reg) value) Answer.Done) self.new) }
+        ensures kept { OnOk result (0 < length self.new.past) }
+        ensures err { IfErr result (λ refusal.
+            Does self.old (refuses (writes (offset_of reg) value) refusal) self.new) }
+    {
+        let undo = self.adapter.write_register(reg, value)?;
+        let cost = undo.cost();
+        self.records
+            .keep(&mut self.adapter, self.budget, cost, undo);
+        Ok(())
     }
 
     /// Software writes octets to guest memory.
+    #[inline(never)]
     fn poke(&mut self, addr: u64, octets: &[u8]) -> Result<Answer, Refusal>
         ensures ok { IfOk result (λ answer. Does self.old (performs (pokes addr octets.now) answer) self.new) }
         ensures kept { OnOk result (0 < length self.new.past) }
         ensures err { IfErr result (λ refusal. Does self.old (refuses (pokes addr octets.now) refusal) self.new) }
     {
         let (answer, undo) = self.adapter.poke(addr, octets)?;
-        self.used = keep(&mut self.records, self.used, self.budget, undo);
+        let cost = undo.cost();
+        self.records
+            .keep(&mut self.adapter, self.budget, cost, undo);
         Ok(answer)
     }
 
     /// A frame arrives.
+    #[inline(never)]
     fn arrive(&mut self, frame: &[u8]) -> Result<Answer, Refusal>
         ensures ok { IfOk result (λ answer. Does self.old (performs (arrives frame.now) answer) self.new) }
         ensures kept { OnOk result (0 < length self.new.past) }
         ensures err { IfErr result (λ refusal. Does self.old (refuses (arrives frame.now) refusal) self.new) }
     {
         let (answer, undo) = self.adapter.arrive(frame)?;
-        self.used = keep(&mut self.records, self.used, self.budget, undo);
+        let cost = undo.cost();
+        self.records
+            .keep(&mut self.adapter, self.budget, cost, undo);
         Ok(answer)
     }
 
     /// The link goes up or down.
+    #[inline(never)]
     fn set_link(&mut self, up: bool) -> Result<Answer, Refusal>
         ensures ok { IfOk result (λ answer. Does self.old (performs (links up) answer) self.new) }
         ensures kept { OnOk result (0 < length self.new.past) }
         ensures err { IfErr result (λ refusal. Does self.old (refuses (links up) refusal) self.new) }
     {
         let (answer, undo) = self.adapter.set_link(up)?;
-        self.used = keep(&mut self.records, self.used, self.budget, undo);
+        self.records
+            .keep(&mut self.adapter, self.budget, LEAST_COST, undo);
         Ok(answer)
     }
 
     /// The receive engine handles a descriptor.
+    #[inline(never)]
     fn receive_step(&mut self) -> Result<Answer, Refusal>
         ensures ok { IfOk result (λ answer. Does self.old (performs receives answer) self.new) }
         ensures kept { OnOk result (0 < length self.new.past) }
         ensures err { IfErr result (λ refusal. Does self.old (refuses receives refusal) self.new) }
     {
         let (answer, undo) = self.adapter.receive_step()?;
-        self.used = keep(&mut self.records, self.used, self.budget, undo);
+        let cost = undo.cost();
+        self.records
+            .keep(&mut self.adapter, self.budget, cost, undo);
         Ok(answer)
     }
 
     /// The transmit engine handles a descriptor.
+    #[inline(never)]
     fn transmit_step(&mut self) -> Result<Answer, Refusal>
         ensures ok { IfOk result (λ answer. Does self.old (performs transmits answer) self.new) }
         ensures kept { OnOk result (0 < length self.new.past) }
         ensures err { IfErr result (λ refusal. Does self.old (refuses transmits refusal) self.new) }
     {
         let (answer, undo) = self.adapter.transmit_step()?;
-        self.used = keep(&mut self.records, self.used, self.budget, undo);
+        let cost = undo.cost();
+        self.records
+            .keep(&mut self.adapter, self.budget, cost, undo);
         Ok(answer)
     }
 
@@ -188,10 +327,9 @@ impl Machine {
         ensures ok { OnOk result (Does self.old goes_back self.new) }
         ensures empty { OnErr result (Does self.old is_empty self.new) }
     {
-        match self.records.pop_front() {
+        match self.records.ring.pop_front() {
             Some(undo) => {
-                self.used -= u64::from(undo.cost());
-                self.adapter.take_back(undo);
+                self.records.used -= u64::from(self.adapter.take_back(undo));
                 Ok(())
             }
             None => Err(Empty),
@@ -219,7 +357,7 @@ impl Machine {
         ensures past { result ≡ length self.now.past }
         ensures costs { result ≡ length self.now.costs }
     {
-        self.records.len()
+        self.records.ring.len()
     }
 
     /// What a read of the register at an offset (octets) would give, with nothing cleared; none

@@ -1,6 +1,6 @@
 -- Where the latches keep their words.
-use Rattle.std.proofs.Common.{◌≡◌, ℕ, ◌+◌, ◌-◌, ◌<◌, Bool, true, ◌&&◌, ◌||◌, ◌==◌, List, ◌∷◌, nat_lt, length}
-use Rattle.std.proofs.Common.{refl, ap, ◌∙◌, arith, eqb-true, get_or, set, zero, suc, Some}
+use Rattle.std.proofs.Common.{◌≡◌, ℕ, ◌+◌, ◌<◌, Bool, true, ◌&&◌, ◌||◌, ◌==◌, List, nat_lt, length}
+use Rattle.std.proofs.Common.{refl, ap, ◌∙◌, arith, eqb-true, get_or, set, Some}
 use Rattle.std.specs.Prelude.{not, unwrap_or}
 use Rattle.std.proofs.lemmas.Bool.{and_parts}
 use Rattle.std.proofs.lemmas.Bool.Decides.{nat_tests}
@@ -60,19 +60,6 @@ counter_place Ims n i = absurd (i refl)
 counter_place Ctrl n i = refl
 counter_place _ n i = refl
 
--- what the map holds of a register with a word
-pub at_word : (ws : List ℕ) (m : Registers) (reg : Reg) → IsWord reg → length ws ≡ 28 → words_at offsets ws ≡ m
-    → at m (offset_of reg) ≡ get_or ws (word_place reg) 0
-at_word ws m reg h size is =
-    let place : IsPlace offsets ws m (word_place reg) (offset_of reg) = record {
-      differ = distinct-offsets;
-      offset = omega (arith, place_within reg h, length-offsets);
-      word = omega (arith, place_within reg h, size);
-      place = place_is reg h;
-      words = is;
-    } in
-    ap (λ x. unwrap_or x 0) (word_is place)
-
 -- a place of the latches
 pub is_place : (ws : List ℕ) (m : Registers) (i : ℕ) → i < 28 → length ws ≡ 28 → words_at offsets ws ≡ m
     → IsPlace offsets ws m i (get_or offsets i 0)
@@ -84,16 +71,10 @@ is_place ws m i h size is = record {
   words = is;
 }
 
--- a counter that is read or written, among all words
-pub get-counter : (c m : ℕ) (ws : List ℕ) (i : ℕ) → 1 < i → get_or (c ∷ m ∷ ws) i 0 ≡ get_or ws (i - 2) 0
-get-counter c m ws zero h = absurd (omega arith)
-get-counter c m ws (suc zero) h = absurd (omega arith)
-get-counter c m ws (suc (suc i)) h = let e : suc (suc i) - 2 ≡ i = omega arith in rw e refl
-
-pub set-counter : (c m : ℕ) (ws : List ℕ) (i v : ℕ) → 1 < i → set (c ∷ m ∷ ws) i v ≡ c ∷ m ∷ set ws (i - 2) v
-set-counter c m ws zero v h = absurd (omega arith)
-set-counter c m ws (suc zero) v h = absurd (omega arith)
-set-counter c m ws (suc (suc i)) v h = let e : suc (suc i) - 2 ≡ i = omega arith in rw e refl
+-- what the map holds at the offset of a place
+pub at_place : (ws : List ℕ) (m : Registers) (i : ℕ) → i < 28 → length ws ≡ 28 → words_at offsets ws ≡ m
+    → at m (get_or offsets i 0) ≡ get_or ws i 0
+at_place ws m i h size is = ap (λ x. unwrap_or x 0) (word_is (is_place ws m i h size is))
 
 -- ---- a word that is stored, of which the old one is given
 -- place i held w, and v is written there

@@ -1,7 +1,8 @@
 //! The interrupt causes, their mask and the counters.
-ghost use Rattle.std.specs.Prelude.{◌≡◌, ◌≤◌, ◌<◌, ℕ, ◌↔◌, IsTrue, Some, slice_index, length};
+ghost use Rattle.std.specs.Prelude.{◌≡◌, ◌+◌, ◌≤◌, ◌<◌, ℕ, ◌↔◌, IsTrue, Some, slice_index, length};
 ghost use Rattle.std.specs.FinMap as map;
 ghost use Rattle.em_regs.specs.Table.{offset_of};
+ghost use Rattle.em_regs.specs.Storage.{Registers};
 ghost use Rattle.em_regs.specs.RegFile as registers;
 ghost use Rattle.em_latch.specs.Storage.{offsets};
 ghost use Rattle.em_latch.specs.Latches.{fresh, is_latched, IsLatched, IsWord, gives, after_read, after_write};
@@ -9,9 +10,9 @@ ghost use Rattle.em_latch.specs.Latches.{after_raise, after_pair_write, IsAssert
 ghost use Rattle.em_latch.specs.Counter.{after_count, after_pair_count, width_of};
 
 use crate::counter::Counter;
-use crate::undo::{LatchUndo, OldWord, WORDS};
+use crate::undo::{LatchUndo, MOST_WORDS, OldWord, WORDS};
 use em_mem::Reversible;
-use em_regs::{COUNTER_WORDS, Kind, Reg};
+use em_regs::{Kind, Reg};
 use std::marker::Model;
 
 /// The causes that ICS and IMS can set: bits 16 to 0 (this project's profile).
@@ -30,14 +31,11 @@ const HALF: u64 = 0x1_0000_0000;
 /// The interrupt registers and the counters (manual, chapter on register descriptions).
 #[derive(Drop)]
 pub struct Latches {
-    causes: u32,
-    mask: u32,
-    // each counter's word at the place that its row of the table names
-    counters: [u32; COUNTER_WORDS],
+    // the causes, their mask, and each counter's word behind them, at the place that its row names
+    words: [u32; WORDS],
 }
 
 impl Model for Latches {
-    ghost use Rattle.std.specs.Prelude.{◌∷◌};
     ghost use Rattle.em_regs.specs.RegFile.{registers_code};
     ghost use Rattle.em_regs.specs.Storage.{Registers, words_at};
     ghost use Rattle.em_latch.specs.Storage.{offsets};
@@ -46,7 +44,7 @@ impl Model for Latches {
 
     ghost coded = { registers_code };
 
-    ghost view = { λ latches. words_at offsets (latches.causes ∷ latches.mask ∷ latches.counters) };
+    ghost view = { λ latches. words_at offsets latches.words };
 }
 
 impl Latches {
@@ -54,21 +52,18 @@ impl Latches {
     pub fn new() -> Latches
         ensures { result ≡ fresh }
     {
-        Latches {
-            causes: 0,
-            mask: 0,
-            counters: [0; COUNTER_WORDS],
-        }
+        Latches { words: [0; WORDS] }
     }
 
     /// Latches whose counters all hold a value, which takes too many events to reach.
     #[cfg(test)]
     pub(crate) fn with_counters(value: u32) -> Latches {
-        Latches {
-            causes: 0,
-            mask: 0,
-            counters: [value; COUNTER_WORDS],
-        }
+        let mut latches = Latches {
+            words: [value; WORDS],
+        };
+        latches.words[usize::from(CAUSES)] = 0;
+        latches.words[usize::from(MASK)] = 0;
+        latches
     }
 
     /// Whether the register is one of these: the condition of `look`, `read` and `write`.
@@ -102,12 +97,13 @@ impl Latches {
         ensures reverses { Reverses self.old self.new result.1 }
     {
         let value = self.look(reg);
-        let undo = match reg {
-            Reg::Ics | Reg::Ims | Reg::Imc | Reg::Gorcl | Reg::Gotcl => LatchUndo::none(),
-            Reg::Gorch => self.replace_both(Reg::Gorcl, Reg::Gorch, 0, 0),
-            Reg::Gotch => self.replace_both(Reg::Gotcl, Reg::Gotch, 0, 0),
-            _ => self.replace(reg, 0),
-        };
+        let mut undo = LatchUndo::none();
+        match reg {
+            Reg::Ics | Reg::Ims | Reg::Imc | Reg::Gorcl | Reg::Gotcl => {}
+            Reg::Gorch => self.replace_both(Reg::Gorcl, Reg::Gorch, 0, 0, &mut undo),
+            Reg::Gotch => self.replace_both(Reg::Gotcl, Reg::Gotch, 0, 0, &mut undo),
+            _ => self.replace(reg, 0, &mut undo),
+        }
         (value, undo)
     }
 
@@ -121,40 +117,46 @@ impl Latches {
     {
         let causes = self.word(Reg::Icr);
         let mask = self.word(Reg::Ims);
+        let mut undo = LatchUndo::none();
         match reg {
-            Reg::Icr => self.replace(Reg::Icr, causes & !value),
-            Reg::Ics => self.replace(Reg::Icr, causes | (value & CAUSE_BITS)),
-            Reg::Ims => self.replace(Reg::Ims, mask | (value & CAUSE_BITS)),
-            Reg::Imc => self.replace(Reg::Ims, mask & !value),
-            _ => LatchUndo::none(),
+            Reg::Icr => self.replace(Reg::Icr, causes & !value, &mut undo),
+            Reg::Ics => self.replace(Reg::Icr, causes | (value & CAUSE_BITS), &mut undo),
+            Reg::Ims => self.replace(Reg::Ims, mask | (value & CAUSE_BITS), &mut undo),
+            Reg::Imc => self.replace(Reg::Ims, mask & !value, &mut undo),
+            _ => {}
         }
+        undo
     }
+
+    // What a frame does to the latches goes into one record: each change adds its old words to it.
 
     /// Sets causes in ICR.
     #[inline(always)]
-    pub fn raise(&mut self, causes: u32) -> LatchUndo
+    pub fn raise(&mut self, causes: u32, undo: &mut LatchUndo)
+        requires { length undo.old + 1 ≤ MOST_WORDS }
         ensures state { self.new ≡ after_raise self.old causes }
-        ensures words { length result ≤ 1 }
-        ensures reverses { Reverses self.old self.new result }
+        ensures words { length undo.new ≡ length undo.old + 1 }
+        ensures reverses { (base : Registers) → Reverses base self.old undo.old → Reverses base self.new undo.new }
     {
         let set = self.word(Reg::Icr);
-        self.replace(Reg::Icr, set | causes)
+        self.replace(Reg::Icr, set | causes, undo);
     }
 
     /// Steps a counter by some number; it stops at its greatest value.
     #[inline(always)]
-    pub fn count(&mut self, counter: Counter, by: u32) -> LatchUndo
+    pub fn count(&mut self, counter: Counter, by: u32, undo: &mut LatchUndo)
+        requires { length undo.old + width_of counter ≤ MOST_WORDS }
         ensures state { self.new ≡ after_count self.old counter by }
-        ensures words { length result ≡ width_of counter }
-        ensures reverses { Reverses self.old self.new result }
+        ensures words { length undo.new ≡ length undo.old + width_of counter }
+        ensures reverses { (base : Registers) → Reverses base self.old undo.old → Reverses base self.new undo.new }
     {
         match counter {
-            Counter::Gorc => self.count_pair(Reg::Gorcl, Reg::Gorch, by),
-            Counter::Gotc => self.count_pair(Reg::Gotcl, Reg::Gotch, by),
+            Counter::Gorc => self.count_pair(Reg::Gorcl, Reg::Gorch, by, undo),
+            Counter::Gotc => self.count_pair(Reg::Gotcl, Reg::Gotch, by, undo),
             _ => {
                 let reg = counter.reg();
                 let sum = self.word(reg).saturating_add(by);
-                self.replace(reg, sum)
+                self.replace(reg, sum, undo);
             }
         }
     }
@@ -163,7 +165,7 @@ impl Latches {
     pub fn line(&self) -> bool
         ensures { IsTrue result ↔ IsAsserted self.now }
     {
-        self.causes & self.mask != 0
+        self.word(Reg::Icr) & self.word(Reg::Ims) != 0
     }
 
     /// Takes back the changes that gave out this record, and gives the record that makes them again.
@@ -182,16 +184,25 @@ impl Latches {
         again
     }
 
+    /// Takes back the changes that gave out this record.
+    #[inline(always)]
+    pub fn put_back(&mut self, taken: &LatchUndo)
+        ensures { self.new ≡ undo self.old taken.now }
+    {
+        let mut left = taken.len();
+        while left > 0 {
+            left -= 1;
+            let OldWord { place, old } = taken.word(left);
+            let _ = self.swap(place, old);
+        }
+    }
+
     #[inline(always)]
     fn word(&self, reg: Reg) -> u32
         requires { IsWord reg }
         ensures { result ≡ registers.at self.now (offset_of reg) }
     {
-        match reg {
-            Reg::Icr => self.causes,
-            Reg::Ims => self.mask,
-            _ => self.counters[reg.row().place],
-        }
+        self.words[usize::from(place_of(reg))]
     }
 
     /// Puts an old word back, and gives the one that it replaces.
@@ -212,52 +223,58 @@ impl Latches {
         ensures old { map.get self.old (slice_index offsets place) ≡ Some result }
         ensures state { self.new ≡ map.insert self.old (slice_index offsets place) value }
     {
-        match place {
-            CAUSES => std::mem::replace(&mut self.causes, value),
-            MASK => std::mem::replace(&mut self.mask, value),
-            _ => std::mem::replace(&mut self.counters[usize::from(place - COUNTERS)], value),
-        }
+        std::mem::replace(&mut self.words[usize::from(place)], value)
     }
 
-    /// Stores a word.
+    /// Stores a word, and adds the old one to a record.
     #[inline(always)]
-    fn replace(&mut self, reg: Reg, value: u32) -> LatchUndo
-        requires { IsWord reg }
+    fn replace(&mut self, reg: Reg, value: u32, undo: &mut LatchUndo)
+        requires word { IsWord reg }
+        requires room { length undo.old + 1 ≤ MOST_WORDS }
         ensures state { self.new ≡ map.insert self.old (offset_of reg) value }
-        ensures words { length result ≡ 1 }
-        ensures reverses { Reverses self.old self.new result }
+        ensures words { length undo.new ≡ length undo.old + 1 }
+        ensures reverses { (base : Registers) → Reverses base self.old undo.old → Reverses base self.new undo.new }
     {
         let place = place_of(reg);
         let old = self.swap(place, value);
-        LatchUndo::one(OldWord { place, old })
+        undo.push(OldWord { place, old });
     }
 
     /// Stores two words, the low half of a pair and the high one.
     #[inline(always)]
-    fn replace_both(&mut self, low: Reg, high: Reg, low_value: u32, high_value: u32) -> LatchUndo
+    fn replace_both(
+        &mut self,
+        low: Reg,
+        high: Reg,
+        low_value: u32,
+        high_value: u32,
+        undo: &mut LatchUndo,
+    )
         requires low { IsWord low }
         requires high { IsWord high }
+        requires room { length undo.old + 2 ≤ MOST_WORDS }
         ensures state { self.new ≡ after_pair_write self.old low high low_value high_value }
-        ensures words { length result ≡ 2 }
-        ensures reverses { Reverses self.old self.new result }
+        ensures words { length undo.new ≡ length undo.old + 2 }
+        ensures reverses { (base : Registers) → Reverses base self.old undo.old → Reverses base self.new undo.new }
     {
-        let older = self.replace(low, low_value);
-        let newer = self.replace(high, high_value);
-        older.and(newer)
+        self.replace(low, low_value, undo);
+        self.replace(high, high_value, undo);
     }
 
     /// Steps a pair as one number.
     #[inline(always)]
-    fn count_pair(&mut self, low: Reg, high: Reg, by: u32) -> LatchUndo
+    fn count_pair(&mut self, low: Reg, high: Reg, by: u32, undo: &mut LatchUndo)
         requires low { IsWord low }
         requires high { IsWord high }
+        requires room { length undo.old + 2 ≤ MOST_WORDS }
         ensures state { self.new ≡ after_pair_count self.old low high by }
-        ensures words { length result ≡ 2 }
-        ensures reverses { Reverses self.old self.new result }
+        ensures words { length undo.new ≡ length undo.old + 2 }
+        ensures reverses { (base : Registers) → Reverses base self.old undo.old → Reverses base self.new undo.new }
     {
         let old = u64::from(self.word(low)) + HALF * u64::from(self.word(high));
         let sum = old.saturating_add(u64::from(by));
-        self.replace_both(low, high, (sum % HALF) as u32, (sum / HALF) as u32)
+        let (low_value, high_value) = ((sum % HALF) as u32, (sum / HALF) as u32);
+        self.replace_both(low, high, low_value, high_value, undo);
     }
 }
 
@@ -271,7 +288,7 @@ impl Reversible for Latches {
     ghost undone = { undo };
 
     fn take_back(&mut self, undo: LatchUndo) {
-        let _again = self.exchange(undo);
+        self.put_back(&undo);
     }
 }
 

@@ -1,5 +1,5 @@
 //! What takes too many events to show by a script.
-use crate::{Counter, Latches};
+use crate::{Counter, LatchUndo, Latches};
 use em_regs::Reg;
 use std::test::Fail;
 
@@ -11,7 +11,7 @@ fn a_pair_of_halves_stops_at_its_greatest_value(rt: HostRuntime) -> Result<(), F
     ];
     for (counter, low, high) in pairs {
         let mut latches = Latches::with_counters(u32::MAX);
-        let _ = latches.count(counter, 1);
+        latches.count(counter, 1, &mut LatchUndo::none());
         if !latches.holds(low) || !latches.holds(high) {
             return Err(Fail::from("a half is not among the latches"));
         }
@@ -24,7 +24,7 @@ fn a_pair_of_halves_stops_at_its_greatest_value(rt: HostRuntime) -> Result<(), F
 #[test]
 fn a_counter_stops_at_its_greatest_value(rt: HostRuntime) -> Result<(), Fail> {
     let mut latches = Latches::with_counters(u32::MAX - 1);
-    let _ = latches.count(Counter::Mpc, 3);
+    latches.count(Counter::Mpc, 3, &mut LatchUndo::none());
     if !latches.holds(Reg::Mpc) {
         return Err(Fail::from("the counter is not among the latches"));
     }

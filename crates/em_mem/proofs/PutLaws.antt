@@ -19,7 +19,7 @@ use Rattle.std.proofs.Common.{
   take-add,
 }
 use Rattle.std.proofs.lemmas.List.{take_at, drop_at, length-take-le, drop-drop, take-append-drop, append_assoc}
-use Rattle.em_mem.specs.Memory.{IsHeld, part, put}
+use Rattle.em_mem.specs.Memory.{Cells, IsHeld, IsMade, Reverses, part, put}
 use Rattle.std.proofs.lemmas.List.{take-append-le, drop-append-le}
 use Rattle.std.proofs.Math.Seq.{take-append-add, drop-append-add}
 
@@ -76,6 +76,22 @@ put-part m a d e held is =
 pub put_back : (m w : List ℕ) (a : ℕ) (d e : List ℕ) → w ≡ put m a d → e ≡ part m a (length d)
     → IsHeld m a (length d) → put w a e ≡ m
 put_back m w a d e left is held = ap (λ x. put x a e) left ∙ put-part m a d e held is
+
+-- a record of the old octets takes a write back
+pub write_reverses : (c d : Cells) (a : ℕ) (written old : List ℕ) → IsHeld c.octets a (length written)
+    → IsMade c a (length written) → d.octets ≡ put c.octets a written → d.made ≡ c.made
+    → old ≡ part c.octets a (length written) → Reverses c d (record { at = a; octets = old })
+write_reverses c d a written old held made wrote kept is =
+    let octets = put_back c.octets d.octets a written old wrote is held in
+    let size = ap length is ∙ length-part c.octets a (length written) held in
+    let same_size = ap length wrote ∙ length-put c.octets a written held in
+    record {
+      fits = record {
+        held = omega (arith, size, same_size, held);
+        made = λ i h. rw kept (made i (omega (arith, size)));
+      };
+      restores = λ i. record { octets = octets i; made = kept i };
+    }
 
 -- two writes end to end are one
 pub put-put : (m : List ℕ) (a : ℕ) (d e : List ℕ) → a + length d + length e ≤ length m

@@ -5,12 +5,14 @@
 pub use memory::GuestMemory;
 pub use refusal::MemRefusal;
 pub use reversible::Reversible;
+pub use spares::{Spares, SparesByLen, empty_for};
 pub use undo::MemUndo;
 
 mod memory;
 mod page;
 mod refusal;
 mod reversible;
+mod spares;
 mod table;
 #[cfg(test)]
 mod tests;

@@ -1,11 +1,13 @@
 //! Guest memory: the octets of the guest, and which of its pages are made.
 ghost use Rattle.std.specs.Prelude.{◌≡◌, ◌+◌, ◌%◌, ◌≤◌, ◌<◌, ◌↔◌, length};
-ghost use Rattle.std.specs.Prelude.{IfOk, IfErr, IsErrOf, IsOk, IsTrue, IsSome, IfSome, OnOk};
+ghost use Rattle.std.specs.Prelude.{IfOk, IfErr, IsErrOf, IsOk, IsTrue, IsSome, IfSome, OnErr, OnOk, []};
 ghost use Rattle.em_mem.specs.Memory.{IsHeld, IsInOnePage, IsMade, IsMemorySize, MakesOnly, MorePages};
 ghost use Rattle.em_mem.specs.Memory.{fresh, part, put, Fits, undo, Reverses};
 
 use crate::page::Page;
-use crate::{MOST_MEMORY, MemRefusal, MemUndo, PAGE_OCTETS, Reversible, page, table};
+use crate::{
+    MOST_MEMORY, MOST_RECORD, MemRefusal, MemUndo, PAGE_OCTETS, Reversible, empty_for, page, table,
+};
 use std::alloc::{AllocError, Global};
 use std::marker::Model;
 
@@ -130,7 +132,20 @@ impl GuestMemory {
     }
 
     /// Copies the octets from `addr` on into `out`. The range may cross page ends.
+    #[inline(always)]
     pub fn read_into(&self, addr: u64, out: &mut [u8])
+        requires { IsHeld self.now.octets addr (length out.old) }
+        ensures { out.new ≡ part self.now.octets addr (length out.old) }
+    {
+        match self.slice(addr, out.len()) {
+            Some(octets) => out.copy_from_slice(octets),
+            None => self.read_pieces(addr, out),
+        }
+    }
+
+    /// The same, page by page.
+    #[inline(never)]
+    fn read_pieces(&self, addr: u64, out: &mut [u8])
         requires { IsHeld self.now.octets addr (length out.old) }
         ensures { out.new ≡ part self.now.octets addr (length out.old) }
     {
@@ -147,22 +162,66 @@ impl GuestMemory {
         }
     }
 
-    /// A copy of the `len` octets from `addr` on. The range may cross page ends.
-    pub fn copy(&self, addr: u64, len: usize) -> Result<Vec<u8>, AllocError>
-        requires { IsHeld self.now.octets addr len }
-        ensures { IfOk result (λ octets. octets.items ≡ part self.now.octets addr len) }
+    /// The `N` octets from `addr` on. The range may cross page ends.
+    #[inline(always)]
+    pub fn read_array<const N: usize>(&self, addr: u64) -> [u8; N]
+        requires { IsHeld self.now.octets addr N }
+        ensures { result ≡ part self.now.octets addr N }
     {
-        if let Some(octets) = self.slice(addr, len) {
-            return Vec::from_slice(self.alloc, octets);
+        let mut octets = [0; N];
+        self.read_into(addr, &mut octets);
+        octets
+    }
+
+    /// Makes `kept` a record of the `len` octets from `addr` on. The range may cross page ends. Where memory is
+    /// refused `kept` holds no octets, and its address stays.
+    #[inline(always)]
+    pub fn keep(&self, addr: u64, len: usize, kept: &mut MemUndo) -> Result<(), AllocError>
+        requires held { IsHeld self.now.octets addr len }
+        requires most { len ≤ MOST_RECORD }
+        ensures ok { OnOk result (kept.new ≡ record { at = addr; octets = part self.now.octets addr len }) }
+        ensures err { OnErr result (kept.new ≡ record kept.old { octets = [] }) }
+    {
+        match self.slice(addr, len) {
+            Some(octets) => kept.fill(addr, octets),
+            None => self.keep_pieces(addr, len, kept),
         }
-        let mut octets = vec![in self.alloc; 0; len]?;
-        self.read_into(addr, octets.as_mut_slice());
-        Ok(octets)
+    }
+
+    /// The same, page by page.
+    #[inline(never)]
+    fn keep_pieces(&self, addr: u64, len: usize, kept: &mut MemUndo) -> Result<(), AllocError>
+        requires held { IsHeld self.now.octets addr len }
+        requires most { len ≤ MOST_RECORD }
+        ensures ok { OnOk result (kept.new ≡ record { at = addr; octets = part self.now.octets addr len }) }
+        ensures err { OnErr result (kept.new ≡ record kept.old { octets = [] }) }
+    {
+        empty_for(&mut kept.octets, len);
+        kept.octets.resize(len, 0)?;
+        self.read_pieces(addr, kept.octets.as_mut_slice());
+        kept.addr = addr;
+        Ok(())
     }
 
     /// Writes the octets from `addr` on. The range may cross page ends. It takes no memory: `touch` made
     /// the pages.
+    #[inline(always)]
     pub fn write(&mut self, addr: u64, written: &[u8])
+        requires held { IsHeld self.old.octets addr (length written.now) }
+        requires made { IsMade self.old addr (length written.now) }
+        ensures octets { self.new.octets ≡ put self.old.octets addr written.now }
+        ensures made { self.new.made ≡ self.old.made }
+    {
+        if !written.is_empty() && in_page(addr, written.len()) == written.len() {
+            self.write_piece(addr, written);
+        } else {
+            self.write_pieces(addr, written);
+        }
+    }
+
+    /// The same, page by page.
+    #[inline(never)]
+    fn write_pieces(&mut self, addr: u64, written: &[u8])
         requires held { IsHeld self.old.octets addr (length written.now) }
         requires made { IsMade self.old addr (length written.now) }
         ensures octets { self.new.octets ≡ put self.old.octets addr written.now }
@@ -176,6 +235,43 @@ impl GuestMemory {
             self.write_piece(from, &written[done..done + count]);
             done += count;
         }
+    }
+
+    /// Writes octets from `addr` on, and makes `kept` a record of the old ones first. The range may cross page
+    /// ends. Where memory is refused for the record nothing is written; `touch` made the pages.
+    pub fn write_keeping(
+        &mut self,
+        addr: u64,
+        written: &[u8],
+        kept: &mut MemUndo,
+    ) -> Result<(), AllocError>
+        requires held { IsHeld self.old.octets addr (length written.now) }
+        requires made { IsMade self.old addr (length written.now) }
+        requires most { length written.now ≤ MOST_RECORD }
+        ensures octets { OnOk result (self.new.octets ≡ put self.old.octets addr written.now) }
+        ensures made { self.new.made ≡ self.old.made }
+        ensures len { OnOk result (length kept.new.octets ≡ length written.now) }
+        ensures reverses { OnOk result (Reverses self.old self.new kept.new) }
+        ensures same { OnErr result (self.new ≡ self.old) }
+    {
+        self.keep(addr, written.len(), kept)?;
+        self.write(addr, written);
+        Ok(())
+    }
+
+    /// Writes octets from `addr` on, and gives the old ones. The range may cross page ends. It takes no
+    /// memory: `touch` made the pages.
+    pub fn replace<const N: usize>(&mut self, addr: u64, written: &[u8; N]) -> [u8; N]
+        requires held { IsHeld self.old.octets addr N }
+        requires made { IsMade self.old addr N }
+        ensures octets { self.new.octets ≡ put self.old.octets addr written.now }
+        ensures made { self.new.made ≡ self.old.made }
+        ensures old { result ≡ part self.old.octets addr N }
+        ensures reverses { Reverses self.old self.new (record { at = addr; octets = result }) }
+    {
+        let old = self.read_array(addr);
+        self.write(addr, written);
+        old
     }
 
     fn write_piece(&mut self, addr: u64, written: &[u8])

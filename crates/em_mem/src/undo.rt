@@ -1,7 +1,8 @@
 //! The record of a write to guest memory.
-ghost use Rattle.std.specs.Prelude.{◌≡◌, ◌≤◌, length, vec_len};
+ghost use Rattle.std.specs.Prelude.{◌≡◌, ◌≤◌, OnErr, OnOk, [], length, vec_len};
 
-use crate::MOST_RECORD;
+use crate::{MOST_RECORD, empty_for};
+use std::alloc::AllocError;
 use std::marker::Model;
 
 /// Old octets of guest memory, and the address where they lay.
@@ -30,6 +31,19 @@ impl MemUndo {
         ensures { result ≡ record { at = addr; octets = octets.items } }
     {
         MemUndo { addr, octets }
+    }
+
+    /// Makes it a record of these octets, which lay from `addr` on. It takes memory only where its room is too
+    /// small, or far too large. Where memory is refused it holds no octets, and its address stays.
+    pub fn fill(&mut self, addr: u64, octets: &[u8]) -> Result<(), AllocError>
+        requires { length octets.now ≤ MOST_RECORD }
+        ensures ok { OnOk result (self.new ≡ record { at = addr; octets = octets.now }) }
+        ensures err { OnErr result (self.new ≡ record self.old { octets = [] }) }
+    {
+        empty_for(&mut self.octets, octets.len());
+        self.octets.extend_from_slice(octets)?;
+        self.addr = addr;
+        Ok(())
     }
 
     /// Where they lay.

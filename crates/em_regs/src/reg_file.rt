@@ -1,13 +1,13 @@
 //! The registers that keep what software writes.
-ghost use Rattle.std.specs.Prelude.{◌≡◌, ◌↔◌, ◌<◌, IsTrue, get_or, Some};
+ghost use Rattle.std.specs.Prelude.{◌≡◌, ◌↔◌, ◌<◌, IsTrue, get_or, slice_index, Some};
 ghost use Rattle.std.specs.FinMap as map;
-ghost use Rattle.em_regs.specs.Table.{offset_of};
+ghost use Rattle.em_regs.specs.Table.{offset_of, row_of};
 ghost use Rattle.em_regs.specs.Storage.{offsets};
-ghost use Rattle.em_regs.specs.RegFile.{at, IsStored, put, put_eerd, reset, Fits, undo, Reverses};
+ghost use Rattle.em_regs.specs.RegFile.{at, IsStored, put, put_eerd, reset, zeroed, Fits, undo, Reverses};
 
 use crate::bits::{Eerd, Rah};
 use crate::reg::Reg;
-use crate::table::{Kind, STORED_WORDS};
+use crate::table::{Kind, Row, STORED_WORDS};
 use bitflags::Flags;
 use em_mem::Reversible;
 use std::marker::Model;
@@ -34,19 +34,22 @@ impl Model for RegFile {
 /// What a register held before it was written.
 #[derive(Drop)]
 pub struct RegUndo {
-    reg: Reg,
+    // which word of the file keeps the register
+    place: u16,
     old: u32,
 }
 
 impl Model for RegUndo {
-    ghost use Rattle.em_regs.specs.Table.{offset_of};
-    ghost use Rattle.em_regs.specs.RegFile.{IsStored, OldWord};
+    ghost use Rattle.std.specs.Prelude.{◌<◌, slice_index};
+    ghost use Rattle.em_regs.specs.RegFile.{OldWord};
+    ghost use Rattle.em_regs.specs.Storage.{offsets};
+    ghost use Rattle.em_regs.specs.declared.table.TheConstants.{STORED_WORDS};
 
     ghost Value = { OldWord };
 
-    ghost view = { λ u. record { at = offset_of u.reg; old = u.old } };
+    ghost view = { λ u. record { at = slice_index offsets u.place; old = u.old } };
 
-    ghost invariant = { λ u. IsStored u.reg };
+    ghost invariant = { λ u. u.place < STORED_WORDS };
 }
 
 impl RegUndo {
@@ -61,18 +64,33 @@ impl RegUndo {
 
 impl RegFile {
     /// The registers after a reset, with the Ethernet address as the first receive address.
-    #[inline(never)]
     pub fn reset(mac: [u8; 6]) -> RegFile
         ensures { result ≡ reset mac }
     {
         let mut file = RegFile {
             words: [0; STORED_WORDS],
         };
+        file.set_address(mac);
+        file
+    }
+
+    /// Resets the registers where they lie.
+    pub fn reset_in_place(&mut self, mac: [u8; 6])
+        ensures { self.new ≡ reset mac }
+    {
+        self.words = [0; STORED_WORDS];
+        self.set_address(mac);
+    }
+
+    /// Makes the Ethernet address the first receive address.
+    fn set_address(&mut self, mac: [u8; 6])
+        requires { self.old ≡ zeroed }
+        ensures { self.new ≡ reset mac }
+    {
         let low = u32::from_le_bytes([mac[0], mac[1], mac[2], mac[3]]);
         let high = u16::from_le_bytes([mac[4], mac[5]]);
-        file.store(Reg::Ral(0), low);
-        file.store(Reg::Rah(0), u32::from(high) + Rah::AV.bits());
-        file
+        self.store(Reg::Ral(0), low);
+        self.store(Reg::Rah(0), u32::from(high) + Rah::AV.bits());
     }
 
     /// Whether the file keeps the register.
@@ -100,7 +118,8 @@ impl RegFile {
         ensures at { result.at ≡ offset_of reg }
         ensures reverses { Reverses self.old self.new result }
     {
-        self.replace(reg, value & reg.row().mask)
+        let row = reg.row();
+        self.swap(place_in(row, reg) as u16, value & row.mask)
     }
 
     /// Answers a write of EERD with START: the register then says DONE, the address and the word
@@ -129,8 +148,8 @@ impl RegFile {
         ensures state { self.new ≡ undo self.old taken }
         ensures reverses { Reverses self.old self.new result }
     {
-        let RegUndo { reg, old } = taken;
-        self.replace(reg, old)
+        let RegUndo { place, old } = taken;
+        self.swap(place, old)
     }
 
     #[inline(always)]
@@ -157,9 +176,19 @@ impl RegFile {
         ensures at { result.at ≡ offset_of reg }
         ensures reverses { Reverses self.old self.new result }
     {
-        let old = self.word(reg);
-        self.store(reg, value);
-        RegUndo { reg, old }
+        self.swap(place_of(reg) as u16, value)
+    }
+
+    /// Stores the word at a place, and keeps what it was.
+    #[inline(always)]
+    fn swap(&mut self, place: u16, value: u32) -> RegUndo
+        requires { place < STORED_WORDS }
+        ensures state { self.new ≡ map.insert self.old (slice_index offsets place) value }
+        ensures at { result.at ≡ slice_index offsets place }
+        ensures reverses { Reverses self.old self.new result }
+    {
+        let old = std::mem::replace(&mut self.words[usize::from(place)], value);
+        RegUndo { place, old }
     }
 }
 
@@ -184,5 +213,16 @@ fn place_of(reg: Reg) -> usize
     ensures within { result < STORED_WORDS }
     ensures place { get_or offsets result 0 ≡ offset_of reg }
 {
-    reg.row().place + usize::from(reg.index())
+    place_in(reg.row(), reg)
+}
+
+/// The same, by the register's row.
+#[inline(always)]
+fn place_in(row: &Row, reg: Reg) -> usize
+    requires stored { IsStored reg }
+    requires row { row.now ≡ row_of reg }
+    ensures within { result < STORED_WORDS }
+    ensures place { get_or offsets result 0 ≡ offset_of reg }
+{
+    row.place + usize::from(reg.index())
 }

@@ -1,7 +1,7 @@
 //! The registers and counters against the manual's numbers: a number that is wrong in the code and
 //! in its definition alike is proved.
 
-use em_latch::{Counter, Latches};
+use em_latch::{Counter, LatchUndo, Latches};
 use em_regs::Reg;
 use std::test::Fail;
 
@@ -150,13 +150,13 @@ fn no_other_offset_is_a_register(rt: HostRuntime) {
 fn each_counter_is_read_at_its_offset_and_cleared(rt: HostRuntime) -> Result<(), Fail> {
     let mut latches = Latches::new();
     for (offset, counter) in COUNTERS {
-        let _ = latches.count(counter, offset);
+        latches.count(counter, offset, &mut LatchUndo::none());
     }
     for (low, high, counter) in PAIRS {
-        let _ = latches.count(counter, 0xFFFF_FFFF);
-        let _ = latches.count(counter, low);
-        let _ = latches.count(counter, 0xFFFF_FFFF);
-        let _ = latches.count(counter, high);
+        latches.count(counter, 0xFFFF_FFFF, &mut LatchUndo::none());
+        latches.count(counter, low, &mut LatchUndo::none());
+        latches.count(counter, 0xFFFF_FFFF, &mut LatchUndo::none());
+        latches.count(counter, high, &mut LatchUndo::none());
     }
     for (offset, _) in COUNTERS {
         assert_eq!(rt; read(&mut latches, offset)?, offset);
@@ -177,8 +177,8 @@ fn each_counter_is_read_at_its_offset_and_cleared(rt: HostRuntime) -> Result<(),
 fn a_counter_stops_at_its_greatest_value(rt: HostRuntime) -> Result<(), Fail> {
     for (offset, counter) in COUNTERS {
         let mut latches = Latches::new();
-        let _ = latches.count(counter, 0xFFFF_FFFE);
-        let _ = latches.count(counter, 3);
+        latches.count(counter, 0xFFFF_FFFE, &mut LatchUndo::none());
+        latches.count(counter, 3, &mut LatchUndo::none());
         assert_eq!(rt; read(&mut latches, offset)?, 0xFFFF_FFFF, "at {offset}");
     }
     Ok(())

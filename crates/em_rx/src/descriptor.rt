@@ -12,7 +12,7 @@ pub(crate) const DESCRIPTOR_OCTETS: usize = 16;
 pub(crate) const WRITTEN_AT: u64 = 8;
 
 /// How many octets the adapter writes back.
-pub(crate) const WRITTEN_OCTETS: u64 = 8;
+pub(crate) const WRITTEN_OCTETS: usize = 8;
 
 /// The descriptor was written back.
 const DD: u8 = 0x01;
@@ -112,7 +112,7 @@ impl RxDescriptor {
 }
 
 /// Octets 8 to 15 of a descriptor whose buffer got `count` octets.
-pub(crate) fn written_back(count: u16, last: bool, tag: Option<u16>) -> [u8; 8]
+pub(crate) fn written_back(count: u16, last: bool, tag: Option<u16>) -> [u8; WRITTEN_OCTETS]
     ensures { result ≡ octets_of count last tag }
 {
     let (status, special) = match (last, tag) {

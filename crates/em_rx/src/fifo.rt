@@ -7,13 +7,14 @@ ghost use Rattle.em_rx.specs.Fifo.{after_arrival, empty, first, fresh, HasRoom, 
 ghost use Rattle.em_rx.specs.Undo.{Fits, FitsFrame, FitsStep, IsMove, Reverses, ReversesStep, octets_held, undo_fifo};
 ghost use Rattle.em_rx.specs.Undo.{IsOverwritten, delivered, is_frame, is_step, undo_memory, with_both, with_patch};
 ghost use Rattle.em_rx.specs.Ring.{ring_part};
+ghost use Rattle.em_rx.specs.declared.undo.RxUndo.TheVariants.{Frame};
 
-use crate::descriptor::written_back;
+use crate::descriptor::{WRITTEN_OCTETS, written_back};
 use crate::frame::{stored_octets, tag_of};
 use crate::places::{Entry, Places};
-use crate::ring::{copied, exchange_entry, exchange_octets, put_octets, wrap, write_out};
+use crate::ring::{copy_into, exchange_entry, exchange_octets, put_octets, wrap, write_out};
 use crate::{FramePatch, RxRefusal, RxUndo, StepPatch};
-use em_mem::{GuestMemory, MemUndo};
+use em_mem::{GuestMemory, SparesByLen};
 use std::alloc::{AllocError, Global};
 use std::marker::Model;
 
@@ -31,6 +32,9 @@ pub struct Fifo {
     octets: Vec<u8>,
     entries: Vec<Entry>,
     places: Places,
+    // what was let go serves the next record
+    spare_frames: SparesByLen<FramePatch>,
+    spare_steps: SparesByLen<StepPatch>,
 }
 
 impl Model for Fifo {
@@ -58,6 +62,8 @@ impl Fifo {
     {
         let octets = vec![in alloc; 0; OCTETS as usize]?;
         let entries = vec![in alloc; Entry { len: 0, tag: None }; ENTRIES as usize]?;
+        let spare_frames = SparesByLen::new(alloc)?;
+        let spare_steps = SparesByLen::new(alloc)?;
         let places = Places {
             head: 0,
             first: 0,
@@ -70,6 +76,8 @@ impl Fifo {
             octets,
             entries,
             places,
+            spare_frames,
+            spare_steps,
         })
     }
 
@@ -82,14 +90,13 @@ impl Fifo {
 
     /// Stores a frame, which comes last: a tagged one without its octets 12 to 15. Refused for
     /// `Memory` alone, where the record of what it overwrites finds none; the FIFO then stays.
-    pub fn accept(&mut self, frame: &[u8], tagged: bool) -> Result<RxUndo, RxRefusal>
+    pub fn accept(&mut self, frame: &[u8], tagged: bool) -> Result<Box<FramePatch>, RxRefusal>
         requires least { 60 ≤ length frame.now }
         requires most { length (stored_frame frame.now tagged).octets ≤ 16_384 }
         requires room { HasRoom (shows self.old) (length (stored_frame frame.now tagged).octets) }
         ensures ok { OnOk result (shows self.new ≡ after_arrival (shows self.old) (stored_frame frame.now tagged)) }
-        ensures held { IfOk result (λ r. octets_held r ≡ length (stored_frame frame.now tagged).octets) }
-        ensures frame { IfOk result (λ r. IsTrue (is_frame r)) }
-        ensures reverses { IfOk result (λ r. (m : memory.Cells) → Reverses self.old self.new m m r) }
+        ensures held { IfOk result (λ r. octets_held (Frame r) ≡ length (stored_frame frame.now tagged).octets) }
+        ensures reverses { IfOk result (λ r. (m : memory.Cells) → Reverses self.old self.new m m (Frame r)) }
         ensures refused { IfErr result (λ refusal. refusal ≡ RxRefusal.Memory) }
         ensures same { OnErr result (self.new ≡ self.old) }
     {
@@ -102,22 +109,55 @@ impl Fifo {
     }
 
     /// Stores the octets and the tag of a frame, which comes last.
-    fn store(&mut self, octets: &[u8], tag: Option<u16>) -> Result<RxUndo, RxRefusal>
+    fn store(&mut self, octets: &[u8], tag: Option<u16>) -> Result<Box<FramePatch>, RxRefusal>
         requires least { 56 ≤ length octets.now }
         requires most { length octets.now ≤ 16_384 }
         requires room { HasRoom (shows self.old) (length octets.now) }
         ensures ok { OnOk result (shows self.new
             ≡ after_arrival (shows self.old) (record { octets = octets.now; tag = tag })) }
-        ensures held { IfOk result (λ r. octets_held r ≡ length octets.now) }
-        ensures frame { IfOk result (λ r. IsTrue (is_frame r)) }
-        ensures reverses { IfOk result (λ r. (m : memory.Cells) → Reverses self.old self.new m m r) }
+        ensures held { IfOk result (λ r. octets_held (Frame r) ≡ length octets.now) }
+        ensures reverses { IfOk result (λ r. (m : memory.Cells) → Reverses self.old self.new m m (Frame r)) }
         ensures refused { IfErr result (λ refusal. refusal ≡ RxRefusal.Memory) }
         ensures same { OnErr result (self.new ≡ self.old) }
     {
-        let patch = self.arrival(octets.len(), tag)?;
-        let mut patch = Box::new(self.alloc, patch)?;
+        let mut patch = self.room_for_frame(octets.len())?;
+        self.arrival(octets.len(), tag, &mut patch)?;
         self.put_frame(octets, &mut patch);
-        Ok(RxUndo::Frame(patch))
+        Ok(patch)
+    }
+
+    /// A patch for a frame of so many octets, to be filled: one that was let go, if there is one.
+    fn room_for_frame(&mut self, len: usize) -> Result<Box<FramePatch>, AllocError>
+        ensures { self.new ≡ self.old }
+    {
+        match self.spare_frames.take(len) {
+            Some(patch) => Ok(patch),
+            None => Ok(Box::new(self.alloc, FramePatch::empty(self.alloc))?),
+        }
+    }
+
+    /// A patch for a receive step of so many octets, to be filled, in the same way.
+    fn room_for_step(&mut self, len: usize) -> Result<Box<StepPatch>, AllocError>
+        ensures { self.new ≡ self.old }
+    {
+        match self.spare_steps.take(len) {
+            Some(patch) => Ok(patch),
+            None => Ok(Box::new(self.alloc, StepPatch::empty(self.alloc))?),
+        }
+    }
+
+    /// Lets the record of an arrival go; its memory serves a later one.
+    pub fn let_frame_go(&mut self, patch: Box<FramePatch>)
+        ensures { self.new ≡ self.old }
+    {
+        self.spare_frames.put(patch.octets.len(), patch);
+    }
+
+    /// Lets the record of a receive step go; its memory serves a later one.
+    pub fn let_step_go(&mut self, patch: Box<StepPatch>)
+        ensures { self.new ≡ self.old }
+    {
+        self.spare_steps.put(patch.piece.len() as usize, patch);
     }
 
     /// All frames leave. Their octets stay in the buffer until arrivals overwrite them.
@@ -136,35 +176,39 @@ impl Fifo {
         RxUndo::Places(places)
     }
 
-    /// What puts so many octets behind the last frame, but that it has those which they overwrite.
-    fn arrival(&self, len: usize, tag: Option<u16>) -> Result<FramePatch, AllocError>
+    /// Makes a patch what puts so many octets behind the last frame, but that it has those which they
+    /// overwrite.
+    fn arrival(
+        &self,
+        len: usize,
+        tag: Option<u16>,
+        patch: &mut FramePatch,
+    ) -> Result<(), AllocError>
         requires least { 56 ≤ len }
         requires most { len ≤ 16_384 }
         requires room { HasRoom (shows self.now) len }
-        ensures arrives { IfOk result (λ patch. (octets : List ℕ) → length octets ≡ len
-            → FitsFrame self.now (record patch { octets = octets })
-            × (shows (with_patch self.now (record patch { octets = octets }))
+        ensures arrives { OnOk result ((octets : List ℕ) → length octets ≡ len
+            → FitsFrame self.now (record patch.new { octets = octets })
+            × (shows (with_patch self.now (record patch.new { octets = octets }))
             ≡ after_arrival (shows self.now) (record { octets = octets; tag = tag }))) }
-        ensures octets { IfOk result (λ patch. patch.octets ≡ ring_part self.now.octets patch.at len) }
-        ensures held { IfOk result (λ patch. length patch.octets ≡ len) }
+        ensures octets { OnOk result (patch.new.octets ≡ ring_part self.now.octets patch.new.at len) }
+        ensures held { OnOk result (length patch.new.octets ≡ len) }
     {
         let places = self.places;
         let at = wrap(OCTETS, places.head + places.used);
-        let octets = copied(self.alloc, self.octets.as_slice(), at as usize, len)?;
-        Ok(FramePatch {
-            octets,
-            at,
-            entry: Entry {
-                len: len as u16,
-                tag,
-            },
-            index: wrap(ENTRIES, places.first + places.count),
-            places: Places {
-                count: places.count + 1,
-                used: places.used + len as u32,
-                ..places
-            },
-        })
+        copy_into(&mut patch.octets, self.octets.as_slice(), at as usize, len)?;
+        patch.at = at;
+        patch.entry = Entry {
+            len: len as u16,
+            tag,
+        };
+        patch.index = wrap(ENTRIES, places.first + places.count);
+        patch.places = Places {
+            count: places.count + 1,
+            used: places.used + len as u32,
+            ..places
+        };
+        Ok(())
     }
 
     /// Puts a frame in where a patch says, and leaves what it replaced in the patch, whose octets are
@@ -202,7 +246,7 @@ impl Fifo {
         ensures second { length patch.new.second.octets ≡ length patch.old.second.octets }
         ensures reverses { ReversesStep self.old self.new memory.old memory.new patch.new }
     {
-        let mut end = [0; 8];
+        let mut end = [0; WRITTEN_OCTETS];
         memory.read_into(patch.end_at, &mut end);
         memory.exchange_in_place(&mut patch.piece);
         memory.write(patch.end_at, &patch.end);
@@ -259,14 +303,14 @@ impl Fifo {
     /// What takes back the next octets of the first frame in a buffer, with the end of a descriptor written
     /// back, but that it has the places after them.
     pub(crate) fn delivery(
-        &self,
+        &mut self,
         memory: &GuestMemory,
         buffer: u64,
         count: u32,
         end_at: u64,
     ) -> Result<Box<StepPatch>, RxRefusal>
-        requires some { 0 < length (shows self.now).frames }
-        requires count { count ≤ rest (shows self.now) }
+        requires some { 0 < length (shows self.old).frames }
+        requires count { count ≤ rest (shows self.old) }
         requires most { count ≤ 16_384 }
         requires buffer { IsHeld memory.now.octets buffer count }
         requires end { IsHeld memory.now.octets end_at 8 }
@@ -276,19 +320,16 @@ impl Fifo {
             patch.value.second ≡ record { at = end_at; octets = part memory.now.octets end_at 8 }) }
         ensures count { IfOk result (λ patch. length patch.value.first.octets ≡ count) }
         ensures eight { IfOk result (λ patch. length patch.value.second.octets ≡ 8) }
-        ensures moves { IfOk result (λ patch. IsMove self.now patch.value.places count) }
+        ensures moves { IfOk result (λ patch. IsMove self.old patch.value.places count) }
         ensures refused { IfErr result (λ refusal. refusal ≡ RxRefusal.Memory) }
+        ensures same { self.new ≡ self.old }
     {
-        let overwritten = memory.copy(buffer, count as usize)?;
-        let mut end = [0; 8];
-        memory.read_into(end_at, &mut end);
-        let patch = StepPatch {
-            piece: MemUndo::new(buffer, overwritten),
-            end_at,
-            end,
-            places: self.places_after(count),
-        };
-        Ok(Box::new(self.alloc, patch)?)
+        let mut patch = self.room_for_step(count as usize)?;
+        memory.keep(buffer, count as usize, &mut patch.piece)?;
+        patch.end = memory.read_array(end_at);
+        patch.end_at = end_at;
+        patch.places = self.places_after(count);
+        Ok(patch)
     }
 
     /// Puts the next octets of the first frame over those of a step's patch, and then writes the descriptor
@@ -370,8 +411,14 @@ impl Fifo {
             RxUndo::Places(places) => {
                 let _again = self.exchange_places(places);
             }
-            RxUndo::Frame(patch) => self.put_back_frame(&patch),
-            RxUndo::Step(patch) => self.put_back_step(memory, &patch),
+            RxUndo::Frame(patch) => {
+                self.put_back_frame(&patch);
+                self.let_frame_go(patch);
+            }
+            RxUndo::Step(patch) => {
+                self.put_back_step(memory, &patch);
+                self.let_step_go(patch);
+            }
         }
     }
 

@@ -21,3 +21,16 @@ pub struct Places {
     /// How many octets the frames have together.
     pub used: u32,
 }
+
+impl Places {
+    /// No frame, and the next one at the beginning.
+    pub(crate) fn none() -> Places {
+        Places {
+            head: 0,
+            first: 0,
+            count: 0,
+            taken: 0,
+            used: 0,
+        }
+    }
+}

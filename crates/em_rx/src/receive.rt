@@ -80,13 +80,8 @@ fn fetch(memory: &GuestMemory, setup: &RxSetup) -> Result<(u64, u64), RxRefusal>
     if !memory.holds(at, DESCRIPTOR_OCTETS as u64) {
         return Err(RxRefusal::DmaRange);
     }
-    if let Some(octets) = memory.slice(at, DESCRIPTOR_OCTETS) {
-        return Ok((at, RxDescriptor::read(octets).address()));
-    }
-    // it lies over the end of a page
-    let mut octets = [0; DESCRIPTOR_OCTETS];
-    memory.read_into(at, octets.as_mut_slice());
-    Ok((at, RxDescriptor::read(octets.as_slice()).address()))
+    let octets: [u8; DESCRIPTOR_OCTETS] = memory.read_array(at);
+    Ok((at, RxDescriptor::read(&octets).address()))
 }
 
 impl Fifo {
@@ -133,7 +128,7 @@ impl Fifo {
         let last = rest <= setup.buffer;
         let mut patch = self.delivery(memory, buffer, count, descriptor + WRITTEN_AT)?;
         memory.touch(buffer, count as u64)?;
-        memory.touch(descriptor + WRITTEN_AT, WRITTEN_OCTETS)?;
+        memory.touch(descriptor + WRITTEN_AT, WRITTEN_OCTETS as u64)?;
         self.deliver(memory, &mut patch, last);
         let answer = RxAnswer::Wrote {
             index: setup.head,

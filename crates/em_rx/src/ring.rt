@@ -1,11 +1,11 @@
 //! Slices whose end is followed by their beginning.
-ghost use Rattle.std.specs.Prelude.{◌≡◌, ◌+◌, ◌<◌, ◌≤◌, ◌++◌, IfOk, length, take, drop, set, get_or};
+ghost use Rattle.std.specs.Prelude.{◌≡◌, ◌+◌, ◌<◌, ◌≤◌, ◌++◌, OnOk, length, take, drop, set, get_or};
 ghost use Rattle.em_mem.specs.Memory.{IsHeld, IsMade, put};
 ghost use Rattle.em_rx.specs.Ring.{ring_part, ring_put, wrap as place_in};
 
 use crate::places::Entry;
-use em_mem::GuestMemory;
-use std::alloc::{AllocError, Global};
+use em_mem::{GuestMemory, empty_for};
+use std::alloc::AllocError;
 
 /// The place `n` in a ring of the given size, where `n` may be past the end once.
 pub(crate) fn wrap(size: u32, n: u32) -> u32
@@ -14,25 +14,29 @@ pub(crate) fn wrap(size: u32, n: u32) -> u32
     if n < size { n } else { n - size }
 }
 
-/// A copy of the `len` octets that lie in the ring from `at` on.
-pub(crate) fn copied(
-    alloc: Global,
+/// Copies the `len` octets that lie in the ring from `at` on, in place of what `octets` held. Where memory
+/// is refused, `octets` holds no more of them than asked.
+pub(crate) fn copy_into(
+    octets: &mut Vec<u8>,
     ring: &[u8],
     at: usize,
     len: usize,
-) -> Result<Vec<u8>, AllocError>
+) -> Result<(), AllocError>
     requires at { at ≤ length ring.now }
     requires size { len ≤ length ring.now }
-    ensures { IfOk result (λ octets. octets.items ≡ ring_part ring.now at len) }
+    ensures octets { OnOk result (octets.new.items ≡ ring_part ring.now at len) }
+    ensures most { length octets.new.items ≤ len }
 {
+    empty_for(octets, len);
     let (low, high) = ring.split_at(at);
     if len <= high.len() {
-        return Vec::from_slice(alloc, &high[..len]);
+        octets.extend_from_slice(&high[..len])?;
+        return Ok(());
     }
-    let mut octets = Vec::with_capacity(alloc, len)?;
+    octets.reserve(len)?;
     octets.extend_from_slice(high)?;
     octets.extend_from_slice(&low[..len - high.len()])?;
-    Ok(octets)
+    Ok(())
 }
 
 /// Writes the `len` octets that lie in the ring from `at` on into guest memory, from `addr` on.

@@ -2,8 +2,10 @@
 ghost use Rattle.std.specs.Prelude.{◌≡◌, ◌+◌, ◌≤◌, length};
 ghost use Rattle.em_rx.specs.Undo.{octets_held};
 
+use crate::descriptor::WRITTEN_OCTETS;
 use crate::places::{Entry, Places};
 use em_mem::MemUndo;
+use std::alloc::Global;
 use std::marker::Model;
 
 /// What an arrival exchanges with the FIFO: octets of the packet buffer, an entry of the ring, and the
@@ -35,6 +37,17 @@ impl Model for FramePatch {
 }
 
 impl FramePatch {
+    /// A patch of no octets, to be filled. It takes no memory.
+    pub(crate) fn empty(alloc: Global) -> FramePatch {
+        FramePatch {
+            octets: Vec::new(alloc),
+            at: 0,
+            entry: Entry { len: 0, tag: None },
+            index: 0,
+            places: Places::none(),
+        }
+    }
+
     /// How many octets it holds.
     pub fn len(&self) -> u32
         ensures len { result ≡ length self.now.octets }
@@ -51,7 +64,7 @@ pub struct StepPatch {
     pub(crate) piece: MemUndo,
     /// Where the end of the descriptor lies.
     pub(crate) end_at: u64,
-    pub(crate) end: [u8; 8],
+    pub(crate) end: [u8; WRITTEN_OCTETS],
     pub(crate) places: Places,
 }
 
@@ -71,6 +84,16 @@ impl Model for StepPatch {
 }
 
 impl StepPatch {
+    /// A patch of no piece, to be filled. It takes no memory.
+    pub(crate) fn empty(alloc: Global) -> StepPatch {
+        StepPatch {
+            piece: MemUndo::new(0, Vec::new(alloc)),
+            end_at: 0,
+            end: [0; WRITTEN_OCTETS],
+            places: Places::none(),
+        }
+    }
+
     /// How many octets it holds.
     pub fn len(&self) -> u32
         ensures len { result ≡ length self.now.first.octets + length self.now.second.octets }

@@ -1,10 +1,9 @@
 -- The octets of a frame, by what DATA and LEN are.
-use Rattle.std.proofs.Common.{◌≡◌, ◌⊎◌, inl, inr, ◌<◌, ◌≤◌, ◌-◌, ◌*◌, ◌/◌, ℕ, List, ◌++◌, length, take, Option, Some}
-use Rattle.std.proofs.Common.{None, refl, sym, ap, ◌∙◌, arith}
-use Rattle.std.specs.Prelude.{replicate, option_and_then, IsSome}
+use Rattle.std.proofs.Common.{◌≡◌, ◌⊎◌, inl, inr, ◌<◌, ◌≤◌, ◌-◌, ◌*◌, ◌/◌, ℕ, List, ◌++◌, length, Option, Some}
+use Rattle.std.proofs.Common.{None, refl, arith}
+use Rattle.std.specs.Prelude.{replicate, option_and_then, option_map, IsSome}
 use Rattle.std.proofs.lemmas.Bool.Decides.{nat_tests}
-use Rattle.std.proofs.lemmas.List.{take_all}
-use Rattle.em_text.specs.Numbers.{octets_of}
+use Rattle.em_text.specs.Numbers.{octets_of, with_zeros}
 use Rattle.em_text.proofs.NumbersLemmas.{octets_of-length}
 use Rattle.em_script.specs.Frame.{lengthened}
 
@@ -35,15 +34,15 @@ not_lengthened word n bad = by_octets word n bad (octets_of word) refl
         lengthened-bad n octets (apart n (length word) (length octets) (octets_of-length word octets e) bad)
 
 -- DATA of at most LEN octets
-pub lengthened_octets : (word octets new : List ℕ) (n held : ℕ) → octets_of word ≡ Some octets → n ≤ 32_768
-    → length word / 2 ≤ n → length octets ≡ held → new ≡ take n octets ++ replicate (n - held) 0
-    → option_and_then (lengthened n) (octets_of word) ≡ Some new
-lengthened_octets word octets new n held e most few count is =
-    let len = octets_of-length word octets e in
-    let le : length octets ≤ n = omega (arith, len) in
-    let whole = is ∙ ap (λ l. l ++ replicate (n - held) 0) (take_all n octets le)
-    ∙ ap (λ k. octets ++ replicate (n - k) 0) (sym count) in
-    ap (option_and_then (lengthened n)) e ∙ lengthened-good n octets most le ∙ ap Some (sym whole)
+pub lengthened_octets : (word : List ℕ) (n : ℕ) → n ≤ 32_768 → length word / 2 ≤ n
+    → option_and_then (lengthened n) (octets_of word) ≡ option_map (with_zeros n) (octets_of word)
+lengthened_octets word n most few = by_octets word n most few (octets_of word) refl
+  where
+    by_octets : (word : List ℕ) (n : ℕ) → n ≤ 32_768 → length word / 2 ≤ n → (o : Option (List ℕ)) → octets_of word ≡ o
+        → option_and_then (lengthened n) o ≡ option_map (with_zeros n) o
+    by_octets word n most few None e = refl
+    by_octets word n most few (Some octets) e =
+        lengthened-good n octets most (omega (arith, octets_of-length word octets e))
 
 pub is_lengthened : (word : List ℕ) (n : ℕ) → IsSome (octets_of word) → n ≤ 32_768 → length word / 2 ≤ n
     → IsSome (option_and_then (lengthened n) (octets_of word))

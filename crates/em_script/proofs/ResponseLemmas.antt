@@ -3,7 +3,7 @@ use Rattle.std.proofs.Common.{◌≡◌, ◌∙◌, ◌⊎◌, inl, inr, ℕ, Bo
 use Rattle.std.proofs.Common.{Ok, Err, refl, sym, ap, append_assoc}
 use Rattle.std.specs.Prelude.{codes}
 use Rattle.std.proofs.lemmas.Bool.{false≢true}
-use Rattle.em_text.specs.Writer.{decimal_text}
+use Rattle.em_text.specs.Writer.{decimal_text, numbers_text}
 use Rattle.em_driver.specs.declared.turn.Turn.{Turn}
 use Rattle.em_driver.specs.World.{World}
 use Rattle.em_driver.specs.Play.{Played, wants_memory}
@@ -11,7 +11,7 @@ use Rattle.em_driver.specs.Told.{is_memory}
 use Rattle.em_driver.specs.declared.outcome.Cause.{Cause}
 use Rattle.em_driver.specs.declared.outcome.Cause.TheVariants.{Memory, Layout, Checksum, Queue, PacketLength, Broken}
 use Rattle.em_script.specs.Runner.{SaysMemory}
-use Rattle.em_script.specs.DriverText.{counts_text, stopped_text, turns_text}
+use Rattle.em_script.specs.DriverText.{stopped_text, turns_text}
 use Rattle.em_script.specs.Response.{Response, start, batch, stats, address, set, response_text, says_memory}
 use Rattle.em_script.specs.Response.{plan_text, call_text}
 
@@ -39,14 +39,14 @@ says_behind front behind h =
 says_here : SaysMemory (codes " Memory\n")
 says_here = ([], [], refl)
 
-counts_say : (word : List ℕ) (a b : ℕ) (behind : List ℕ) → SaysMemory behind → SaysMemory (counts_text word a b behind)
-counts_say word a b behind h =
+numbers_say : (word : List ℕ) (a b : ℕ) (behind : List ℕ) → SaysMemory behind → SaysMemory (numbers_text word a b behind)
+numbers_say word a b behind h =
     says_behind word _ (says_behind (decimal_text a) _
     (says_behind (codes " ") _ (says_behind (decimal_text b) behind h)))
 
 stopped_says : (count events : ℕ) (cause : Cause) → is_memory cause ≡ true
     → SaysMemory (stopped_text count events cause)
-stopped_says count events Memory h = counts_say (codes "stopped ") count events (codes " Memory\n") says_here
+stopped_says count events Memory h = numbers_say (codes "stopped ") count events (codes " Memory\n") says_here
 stopped_says count events Layout h = absurd (false≢true h)
 stopped_says count events Checksum h = absurd (false≢true h)
 stopped_says count events Queue h = absurd (false≢true h)
@@ -68,7 +68,7 @@ response_says events set h = absurd (false≢true h)
 
 turns_say : (performed refused : ℕ) (starved : Bool) → starved ≡ true
     → SaysMemory (turns_text performed refused starved)
-turns_say performed refused true h = counts_say (codes "turns ") performed refused (codes " Memory\n") says_here
+turns_say performed refused true h = numbers_say (codes "turns ") performed refused (codes " Memory\n") says_here
 turns_say performed refused false h = absurd (false≢true h)
 
 by_plan : (plan : Option (List (List Turn))) (w : World) → (plan ≡ None → w.starved ≡ false) → w.starved ≡ true

@@ -1,6 +1,6 @@
 -- The texts of a driver's calls.
 use Rattle.std.specs.Prelude.{ℕ, Bool, if◌then◌else◌, List, [], ◌∷◌, ◌++◌, codes}
-use Rattle.em_text.specs.Writer.{hex_text, decimal_text, decimal_line_text}
+use Rattle.em_text.specs.Writer.{hex_text, decimal_text, decimal_line_text, numbers_text}
 use Rattle.em_driver.specs.Outcome.{name_of}
 use Rattle.em_driver.specs.declared.outcome.Cause.{Cause}
 use Rattle.em_driver.specs.declared.stats.DeviceStats.{DeviceStats}
@@ -10,18 +10,14 @@ use Rattle.em_script.specs.Output.{named_refusal_text}
 abbrev pub started_text : ℕ → List ℕ
 started_text events = codes "started " ++ decimal_line_text events
 
--- two numbers behind a word
-abbrev pub counts_text : List ℕ → ℕ → ℕ → List ℕ → List ℕ
-counts_text word a b behind = word ++ (decimal_text a ++ (codes " " ++ (decimal_text b ++ behind)))
-
 -- so many packets were moved, with so many events
 abbrev pub batch_text : ℕ → ℕ → List ℕ
-batch_text count events = counts_text (codes "batch ") count events (codes "\n")
+batch_text count events = numbers_text (codes "batch ") count events (codes "\n")
 
 -- a call stopped after so many packets and events
 abbrev pub stopped_text : ℕ → ℕ → Cause → List ℕ
 stopped_text count events cause =
-    counts_text (codes "stopped ") count events (codes " " ++ (name_of cause ++ codes "\n"))
+    numbers_text (codes "stopped ") count events (codes " " ++ (name_of cause ++ codes "\n"))
 
 -- packets received and sent, and octets
 abbrev pub stats_text : DeviceStats → List ℕ
@@ -44,7 +40,7 @@ turns_end starved = if starved then codes " Memory\n" else codes "\n"
 
 -- so many turns were performed, and so many refused
 abbrev pub turns_text : ℕ → ℕ → Bool → List ℕ
-turns_text performed refused starved = counts_text (codes "turns ") performed refused (turns_end starved)
+turns_text performed refused starved = numbers_text (codes "turns ") performed refused (turns_end starved)
 
 -- of a call without a driver
 abbrev pub no_driver_text : List ℕ

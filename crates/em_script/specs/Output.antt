@@ -6,7 +6,7 @@ use Rattle.em_step.specs.declared.event.Reason.{Reason}
 use Rattle.em_step.specs.declared.event.Reason.TheVariants.{Down, Disabled, Rejected, Undersize, Oversize, Missed}
 use Rattle.em_step.specs.declared.refusal.Refusal.{Refusal}
 use Rattle.em_step.specs.Refusal.{name_of}
-use Rattle.em_text.specs.Writer.{Writes, value_text, decimal_text, decimal_line_text}
+use Rattle.em_text.specs.Writer.{Writes, value_text, decimal_line_text, numbers_text}
 use Rattle.em_text.specs.declared.writer.WriteFailed.{WriteFailed}
 use Rattle.em_script.specs.declared.outcome.Outcome.{Outcome}
 
@@ -33,7 +33,7 @@ reason_text Missed = codes "missed"
 
 -- the transmit engine handled the descriptor of an index, and sent a frame of so many octets
 abbrev pub sent_text : ℕ → ℕ → List ℕ
-sent_text index octets = codes "sent " ++ (decimal_text index ++ (codes " " ++ decimal_line_text octets))
+sent_text index octets = numbers_text (codes "sent ") index octets (codes "\n")
 
 -- what a performed event prints
 abbrev pub answer_text : Answer → List ℕ

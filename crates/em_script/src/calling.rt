@@ -36,7 +36,7 @@ pub fn start_driver(alloc: Global, session: &mut Session) -> Called
     let planned = mem::replace(&mut session.planned, false);
     match E1000::start(alloc, turns, LAYOUT) {
         Ok((mut driver, events)) => {
-            let plan = end_plan(alloc, driver.bus(), planned);
+            let plan = end_plan(driver.bus(), planned);
             session.seat = Seat::Driven(driver);
             Called {
                 events,
@@ -46,7 +46,7 @@ pub fn start_driver(alloc: Global, session: &mut Session) -> Called
         }
         Err(refused) => {
             let mut turns = refused.bus;
-            let plan = end_plan(alloc, &mut turns, planned);
+            let plan = end_plan(&mut turns, planned);
             session.seat = Seat::Bare(turns);
             Called {
                 events: refused.events,
@@ -68,7 +68,7 @@ pub fn call_driver(alloc: Global, session: &mut Session, call: Call) -> Option<C
         return None;
     };
     let (events, response) = call_by(alloc, driver, call);
-    let plan = end_plan(alloc, driver.bus(), session.planned);
+    let plan = end_plan(driver.bus(), session.planned);
     session.planned = false;
     Some(Called {
         events,
@@ -78,7 +78,7 @@ pub fn call_driver(alloc: Global, session: &mut Session, call: Call) -> Option<C
 }
 
 /// Lets a plan go, and tells what its turns came to, where one was set.
-fn end_plan(alloc: Global, turns: &mut Turns, planned: bool) -> Option<PlanCounts>
+fn end_plan(turns: &mut Turns, planned: bool) -> Option<PlanCounts>
     ensures counts { result ≡ plan_counts (if planned then Some [] else None) turns.old }
     ensures turns { turns.new ≡ quiet turns.old.machine }
 {
@@ -87,9 +87,7 @@ fn end_plan(alloc: Global, turns: &mut Turns, planned: bool) -> Option<PlanCount
         refused: turns.refused(),
         starved: turns.starved(),
     };
-    if turns.set_plan(VecDeque::new(alloc)).is_err() {
-        unreachable!();
-    }
+    turns.end_plan();
     if planned { Some(counts) } else { None }
 }
 

@@ -11,10 +11,13 @@ ghost use Rattle.em_script.specs.DriverText.{turns_text, turns_end, no_driver_te
 
 use crate::called::{Called, PlanCounts};
 use crate::outcome::Outcome;
-use crate::output::{write_done, write_numbered};
+use crate::output::write_done;
 use crate::response::Response;
 use em_driver::{Batch, Cause, DeviceStats, Stopped};
-use em_text::{WriteFailed, octet_digits, write_octets_line, write_pieces, write_whole};
+use em_text::{
+    WriteFailed, octet_digits, write_number_line, write_numbers_line, write_octets_line,
+    write_pieces, write_whole,
+};
 use itoa::Buffer;
 use std::collections::VecDeque;
 use std::io::Write;
@@ -100,7 +103,7 @@ fn write_packets<W: Write>(writer: &mut W, packets: &VecDeque<Vec<u8>>) -> Resul
 fn write_started<W: Write>(writer: &mut W, events: u32) -> Result<Outcome, WriteFailed>
     ensures { Prints (started_text events) Outcome.Done (W.contents writer.old) (W.contents writer.new) result }
 {
-    write_numbered(writer, b"started ", u64::from(events))?;
+    write_number_line(writer, b"started ", u64::from(events))?;
     Ok(Outcome::Done)
 }
 
@@ -108,11 +111,13 @@ fn write_started<W: Write>(writer: &mut W, events: u32) -> Result<Outcome, Write
 fn write_batch<W: Write>(writer: &mut W, count: u32, events: u32) -> Result<Outcome, WriteFailed>
     ensures { Prints (batch_text count events) Outcome.Done (W.contents writer.old) (W.contents writer.new) result }
 {
-    let mut packets = Buffer::new();
-    let mut own = Buffer::new();
-    let packets = packets.format(count).as_bytes();
-    let own = own.format(events).as_bytes();
-    write_pieces(writer, &[b"batch ", packets, b" ", own, b"\n"])?;
+    write_numbers_line(
+        writer,
+        b"batch ",
+        u64::from(count),
+        u64::from(events),
+        b"\n",
+    )?;
     Ok(Outcome::Done)
 }
 
@@ -184,13 +189,12 @@ fn write_turns<W: Write>(writer: &mut W, counts: PlanCounts) -> Result<(), Write
     ensures { Writes (W.contents writer.old) (W.contents writer.new) result
         (turns_text counts.performed counts.refused counts.starved) }
 {
-    let mut first = Buffer::new();
-    let mut second = Buffer::new();
-    let first = first.format(counts.performed).as_bytes();
-    let second = second.format(counts.refused).as_bytes();
-    write_pieces(
+    write_numbers_line(
         writer,
-        &[b"turns ", first, b" ", second, turns_end(counts.starved)],
+        b"turns ",
+        u64::from(counts.performed),
+        u64::from(counts.refused),
+        turns_end(counts.starved),
     )
 }
 

@@ -2,11 +2,12 @@
 ghost use Rattle.std.specs.Prelude.{◌≡◌, ◌≤◌, ◌↔◌, if◌then◌else◌, Some, None, IfOk, OnErr, IsSome, IsTrue};
 ghost use Rattle.std.specs.Prelude.{◌/◌, ◌<◌, ◌⊎◌, false, length, option_and_then};
 ghost use Rattle.em_text.specs.Numbers.{octets_of};
-ghost use Rattle.em_script.specs.Arguments.{plain};
+ghost use Rattle.em_text.specs.Words.{words_of};
+ghost use Rattle.em_script.specs.Arguments.{plain, arguments_of};
 ghost use Rattle.em_script.specs.Frame.{frame_of, lengthened_data, lengthened};
 
 use crate::arguments::Arguments;
-use em_text::{decimal_number, is_octets, octets_into};
+use em_text::{Words, decimal_number, is_octets, lengthened_into, octets_into};
 use std::alloc::AllocError;
 
 /// The most octets that LEN asks for.
@@ -30,6 +31,28 @@ pub fn frame_into(octets: &mut Vec<u8>, arguments: Arguments<'_>) -> Result<bool
         Arguments::Two(digits, len) => lengthened_data_into(octets, digits, len),
         _ => Ok(false),
     }
+}
+
+/// The same of the words that are still to come. They are read one after another where they stand.
+#[inline(always)]
+pub fn frame_words_into(octets: &mut Vec<u8>, mut words: Words<'_>) -> Result<bool, AllocError>
+    ensures value { IfOk result (λ found.
+        frame_of (arguments_of (words_of words.entry.0.now)) ≡ (if found then Some octets.new.items else None)) }
+    ensures memory { OnErr result (IsSome (frame_of (arguments_of (words_of words.entry.0.now)))) }
+{
+    let Some(digits) = words.next() else {
+        return Ok(false);
+    };
+    if words.is_over() {
+        return octets_into(octets, digits);
+    }
+    let Some(len) = words.decimal_number() else {
+        return Ok(false);
+    };
+    if !words.is_over() {
+        return Ok(false);
+    }
+    data_into(octets, digits, len as usize)
 }
 
 /// Whether DATA, or DATA and LEN, stand there. It takes no memory.
@@ -71,13 +94,13 @@ fn lengthened_data_into(octets: &mut Vec<u8>, digits: &[u8], len: &[u8]) -> Resu
     ensures memory { OnErr result (IsSome (lengthened_data digits.now len.now)) }
 {
     match decimal_number(len) {
-        Some(len) => lengthened_into(octets, digits, len as usize),
+        Some(len) => data_into(octets, digits, len as usize),
         None => Ok(false),
     }
 }
 
 /// Whether DATA stands there and may have `len` octets, and if so, leaves so many in `octets`.
-fn lengthened_into(octets: &mut Vec<u8>, digits: &[u8], len: usize) -> Result<bool, AllocError>
+pub fn data_into(octets: &mut Vec<u8>, digits: &[u8], len: usize) -> Result<bool, AllocError>
     ensures value { IfOk result (λ found.
         option_and_then (lengthened len) (octets_of digits.now) ≡ (if found then Some octets.new.items else None)) }
     ensures memory { OnErr result (IsSome (option_and_then (lengthened len) (octets_of digits.now))) }
@@ -86,9 +109,5 @@ fn lengthened_into(octets: &mut Vec<u8>, digits: &[u8], len: usize) -> Result<bo
     if !may_have(digits, len) {
         return Ok(false);
     }
-    if !octets_into(octets, digits)? {
-        return Ok(false);
-    }
-    octets.resize(len, 0)?;
-    Ok(true)
+    lengthened_into(octets, digits, len)
 }

@@ -13,7 +13,7 @@ ghost use Rattle.em_script.specs.Grammar.{link_form, peek_form, back_form, turns
 
 use crate::arguments::{Arguments, arguments_of};
 use crate::command::Command;
-use crate::frame::frame_into;
+use crate::frame::frame_words_into;
 use crate::peek_len::{MOST_PEEK, PeekLen};
 use crate::plan::{PlanWords, plan_words};
 use em_step::Event;
@@ -135,7 +135,7 @@ pub fn arrive_form<'a>(
         command_line (option_map plain command) ≡ arrive_form (arguments_of (words_of words.entry.0.now))) }
     ensures memory { OnErr result (IsTrue (brings_octets (arrive_form (arguments_of (words_of words.entry.0.now))))) }
 {
-    if frame_into(octets, arguments_of(words))? {
+    if frame_words_into(octets, words)? {
         Ok(Some(Command::Event(Event::Arrive(octets.as_slice()))))
     } else {
         Ok(None)

@@ -1,15 +1,15 @@
 //! Writing answers. Each text has a function of its own that is not inlined, so that a line pays
 //! for its own text alone.
-ghost use Rattle.std.specs.Prelude.{◌≡◌, ◌++◌};
-ghost use Rattle.em_text.specs.Writer.{Writes, hex_line_text, decimal_line_text};
+ghost use Rattle.std.specs.Prelude.{◌≡◌};
+ghost use Rattle.em_text.specs.Writer.{Writes, hex_line_text};
 ghost use Rattle.em_script.specs.Output.{Prints, answer_text, reason_text, done_text, bit_text, back_text};
 ghost use Rattle.em_script.specs.Output.{bad_line_text, refusal_text, empty_text, sent_text};
 
 use crate::outcome::Outcome;
 use em_step::{Answer, Reason, Refusal};
 use em_text::{
-    WriteFailed, write_decimal, write_decimal_line, write_octets_line, write_pieces, write_value,
-    write_whole,
+    WriteFailed, write_number_line, write_numbers_line, write_octets_line, write_pieces,
+    write_value, write_whole,
 };
 use std::io::Write;
 
@@ -26,11 +26,11 @@ pub fn write_answer<W: Write>(writer: &mut W, answer: Answer) -> Result<Outcome,
         }
         Answer::Idle => write_text(writer, b"idle\n"),
         Answer::Wrote { index } => {
-            write_numbered(writer, b"wrote ", u64::from(index))?;
+            write_number_line(writer, b"wrote ", u64::from(index))?;
             Ok(Outcome::Done)
         }
         Answer::Fetched { index } => {
-            write_numbered(writer, b"fetched ", u64::from(index))?;
+            write_number_line(writer, b"fetched ", u64::from(index))?;
             Ok(Outcome::Done)
         }
         Answer::Sent { index, octets } => {
@@ -56,9 +56,7 @@ fn write_text<W: Write>(writer: &mut W, text: &[u8]) -> Result<Outcome, WriteFai
 fn write_sent<W: Write>(writer: &mut W, index: u64, octets: u64) -> Result<(), WriteFailed>
     ensures writes { Writes (W.contents writer.old) (W.contents writer.new) result (sent_text index octets) }
 {
-    write_whole(writer, b"sent ")?;
-    write_decimal(writer, index)?;
-    write_numbered(writer, b" ", octets)
+    write_numbers_line(writer, b"sent ", index, octets, b"\n")
 }
 
 /// That a frame was dropped, and why.
@@ -120,7 +118,7 @@ pub fn write_bit<W: Write>(writer: &mut W, bit: bool) -> Result<Outcome, WriteFa
 pub fn write_back<W: Write>(writer: &mut W, count: u32) -> Result<Outcome, WriteFailed>
     ensures { Prints (back_text count) Outcome.Done (W.contents writer.old) (W.contents writer.new) result }
 {
-    write_numbered(writer, b"back ", u64::from(count))?;
+    write_number_line(writer, b"back ", u64::from(count))?;
     Ok(Outcome::Done)
 }
 
@@ -129,7 +127,7 @@ pub fn write_back<W: Write>(writer: &mut W, count: u32) -> Result<Outcome, Write
 pub fn write_bad_line<W: Write>(writer: &mut W, number: u32) -> Result<Outcome, WriteFailed>
     ensures { Prints (bad_line_text number) Outcome.Bad (W.contents writer.old) (W.contents writer.new) result }
 {
-    write_numbered(writer, b"bad line ", u64::from(number))?;
+    write_number_line(writer, b"bad line ", u64::from(number))?;
     Ok(Outcome::Bad)
 }
 
@@ -148,17 +146,4 @@ pub fn write_empty<W: Write>(writer: &mut W) -> Result<Outcome, WriteFailed>
 {
     write_whole(writer, b"refused Empty\n")?;
     Ok(Outcome::Refused)
-}
-
-/// A line that ends in a number.
-#[inline(never)]
-pub fn write_numbered<W: Write>(
-    writer: &mut W,
-    words: &[u8],
-    number: u64,
-) -> Result<(), WriteFailed>
-    ensures { Writes (W.contents writer.old) (W.contents writer.new) result (words.now ++ decimal_line_text number) }
-{
-    write_whole(writer, words)?;
-    write_decimal_line(writer, number)
 }

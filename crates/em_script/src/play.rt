@@ -22,7 +22,7 @@ use crate::reply::{ask, obey, set_plan};
 use crate::request::request_form;
 use crate::session::Session;
 use em_step::Event;
-use em_text::{Words, WriteFailed};
+use em_text::{Words, WriteFailed, is_name};
 use std::alloc::{AllocError, Global};
 use std::io::Write;
 
@@ -49,7 +49,7 @@ pub fn play_line<W: Write>(
     ensures unwritten { OnErr result (W.contents writer.new ≡ W.contents writer.old) }
 {
     let mut words = Words(line);
-    let Some(name) = words.next() else {
+    let Some(name) = words.next_short() else {
         return Ok(Ok(Outcome::Silent));
     };
     if is_comment(name) {
@@ -77,7 +77,7 @@ fn play_named<W: Write>(
     ensures same { OnErr result (session.new ≡ session.old) }
     ensures unwritten { OnErr result (W.contents writer.new ≡ W.contents writer.old) }
 {
-    if name == b"turns".as_slice() {
+    if is_name(name, b"turns") {
         return Ok(play_turns(alloc, writer, session, number, words));
     }
     play_event(alloc, writer, session, number, name, words, octets, room)
@@ -103,29 +103,29 @@ fn play_event<W: Write>(
     ensures same { OnErr result (session.new ≡ session.old) }
     ensures unwritten { OnErr result (W.contents writer.new ≡ W.contents writer.old) }
 {
-    if name == b"r".as_slice() {
+    if is_name(name, b"r") {
         return Ok(play_command(writer, session, number, read_form(words), room));
     }
-    if name == b"w".as_slice() {
+    if is_name(name, b"w") {
         return Ok(play_command(writer, session, number, write_form(words), room));
     }
-    if name == b"poke".as_slice() {
+    if is_name(name, b"poke") {
         let command = poke_form(words, octets)?;
         return Ok(play_command(writer, session, number, command, room));
     }
-    if name == b"arrive".as_slice() {
+    if is_name(name, b"arrive") {
         let command = arrive_form(words, octets)?;
         return Ok(play_command(writer, session, number, command, room));
     }
-    if name == b"rx".as_slice() {
+    if is_name(name, b"rx") {
         let command = alone(Command::Event(Event::RxStep), words);
         return Ok(play_command(writer, session, number, command, room));
     }
-    if name == b"tx".as_slice() {
+    if is_name(name, b"tx") {
         let command = alone(Command::Event(Event::TxStep), words);
         return Ok(play_command(writer, session, number, command, room));
     }
-    if name == b"link".as_slice() {
+    if is_name(name, b"link") {
         return Ok(play_command(writer, session, number, link_form(words), room));
     }
     play_look(alloc, writer, session, number, name, words, octets, room)
@@ -151,22 +151,22 @@ fn play_look<W: Write>(
     ensures same { OnErr result (session.new ≡ session.old) }
     ensures unwritten { OnErr result (W.contents writer.new ≡ W.contents writer.old) }
 {
-    if name == b"peek".as_slice() {
+    if is_name(name, b"peek") {
         return Ok(play_command(writer, session, number, peek_form(words), room));
     }
-    if name == b"line".as_slice() {
+    if is_name(name, b"line") {
         let command = alone(Command::InterruptLine, words);
         return Ok(play_command(writer, session, number, command, room));
     }
-    if name == b"regs".as_slice() {
+    if is_name(name, b"regs") {
         let command = alone(Command::Registers, words);
         return Ok(play_command(writer, session, number, command, room));
     }
-    if name == b"wire".as_slice() {
+    if is_name(name, b"wire") {
         let command = alone(Command::Wire, words);
         return Ok(play_command(writer, session, number, command, room));
     }
-    if name == b"back".as_slice() {
+    if is_name(name, b"back") {
         return Ok(play_command(writer, session, number, back_form(words), room));
     }
     play_request(alloc, writer, session, number, name, words, octets)

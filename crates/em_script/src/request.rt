@@ -10,7 +10,7 @@ ghost use Rattle.em_script.specs.ParsedLine.{brings_octets, request_line};
 use crate::arguments::Arguments;
 use crate::call::Call;
 use crate::frame::frame_into;
-use em_text::{decimal_number, octets_into};
+use em_text::{decimal_number, is_name, octets_into};
 use std::alloc::{AllocError, Global};
 use std::collections::VecDeque;
 
@@ -40,19 +40,19 @@ pub fn request_form(
     ensures memory { OnErr result (IsTrue (brings_octets (request_line
         (request_form name.now (plain_arguments arguments.entry))))) }
 {
-    if name == b"init".as_slice() {
+    if is_name(name, b"init") {
         return Ok(alone(Request::Start, arguments));
     }
-    if name == b"send".as_slice() {
+    if is_name(name, b"send") {
         return send_form(alloc, arguments);
     }
-    if name == b"recv".as_slice() {
+    if is_name(name, b"recv") {
         return Ok(receive_form(arguments));
     }
-    if name == b"stats".as_slice() {
+    if is_name(name, b"stats") {
         return Ok(alone(Request::Call(Call::Stats), arguments));
     }
-    if name == b"mac".as_slice() {
+    if is_name(name, b"mac") {
         return address_form(arguments, octets);
     }
     Ok(None)

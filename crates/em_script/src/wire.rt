@@ -2,9 +2,8 @@
 ghost use Rattle.em_text.specs.Writer.{Writes};
 ghost use Rattle.em_script.specs.Wire.{wire_text, frames_text};
 
-use crate::output::write_numbered;
 use em_journal::Machine;
-use em_text::{WriteFailed, write_octets_line};
+use em_text::{WriteFailed, write_number_line, write_octets_line};
 use std::io::Write;
 
 /// Writes how many frames the wire has, and then the octets of each on a line of its own, the first
@@ -13,7 +12,7 @@ pub fn write_wire<W: Write>(writer: &mut W, machine: &Machine) -> Result<(), Wri
     ensures writes { Writes (W.contents writer.old) (W.contents writer.new) result
         (wire_text machine.now.present.wire) }
 {
-    write_numbered(writer, b"wire ", machine.wire_len() as u64)?;
+    write_number_line(writer, b"wire ", machine.wire_len() as u64)?;
     write_frames(writer, machine)
 }
 

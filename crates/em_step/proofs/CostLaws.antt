@@ -37,7 +37,7 @@ part_least (Register old) = omega arith
 part_least (Octets old) = omega arith
 part_least (Arrival old) = omega arith
 part_least (RxStep head old) = omega arith
-part_least (TxStep head old) = omega arith
+part_least (TxStep old head) = omega arith
 part_least (Link old) = omega arith
 part_least (Reset old) = omega arith
 

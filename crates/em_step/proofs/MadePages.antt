@@ -96,7 +96,7 @@ part_fits_after c d (Octets old) more fits = memory.fits_after c.memory d.memory
 part_fits_after c d (Arrival old) more fits = receive_fits_after c d (Frame old) more fits
 part_fits_after c d (RxStep head old) more fits =
     (register_fits_after c d (word Rdh head) more fits.0, receive_fits_after c d (rx_record.Step old) more fits.1)
-part_fits_after c d (TxStep head old) more fits = (
+part_fits_after c d (TxStep old head) more fits = (
   register_fits_after c d (word Tdh head) more fits.0,
   tx_laws.fits_after (tx_cells_of c) (tx_cells_of d) (tx_record.Step old) (sending_cells c d more) fits.1,
 )
@@ -126,7 +126,7 @@ part_after c d (Arrival old) more = receive_after c d (Frame old) more
 part_after c d (RxStep head old) more =
     receive_after (undo_register c (word Rdh head)) (undo_register d (word Rdh head)) (rx_record.Step old)
     (register_after c d (word Rdh head) more)
-part_after c d (TxStep head old) more =
+part_after c d (TxStep old head) more =
     transmit_after (undo_register c (word Tdh head)) (undo_register d (word Tdh head)) (tx_record.Step old)
     (register_after c d (word Tdh head) more)
 part_after c d (Link old) more = record {

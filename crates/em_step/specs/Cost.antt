@@ -8,7 +8,6 @@ use Rattle.em_rx.specs.Receive.{octets_written}
 use Rattle.em_rx.specs.Undo.{octets_held}
 use Rattle.em_tx.specs.Engine as tx
 use Rattle.em_rx.specs.declared.undo.RxUndo.TheVariants.{Frame, Step}
-use Rattle.em_tx.specs.Undo.{cost_of_change}
 use Rattle.em_step.specs.Engines.{sending}
 use Rattle.em_step.specs.Arrival.{arrival, octets_stored}
 use Rattle.em_step.specs.Step.{resets}
@@ -42,7 +41,7 @@ cost_of_part (Register old) = least_cost
 cost_of_part (Octets old) = least_cost + length old.value.octets
 cost_of_part (Arrival old) = least_cost + octets_held (Frame old)
 cost_of_part (RxStep head old) = least_cost + octets_held (Step old)
-cost_of_part (TxStep head old) = least_cost + cost_of_change old.value
+cost_of_part (TxStep old head) = least_cost + old.cost
 cost_of_part (Link old) = least_cost
 cost_of_part (Reset old) = most_cost
 

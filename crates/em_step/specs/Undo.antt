@@ -35,7 +35,7 @@ PartFits c (Register old) = registers.Fits c.registers old
 PartFits c (Octets old) = memory.Fits c.memory old.value
 PartFits c (Arrival old) = rx.Fits c.fifo c.memory (Frame old)
 PartFits c (RxStep head old) = registers.Fits c.registers (word Rdh head) × rx.Fits c.fifo c.memory (rx_undo.Step old)
-PartFits c (TxStep head old) = registers.Fits c.registers (word Tdh head) × tx.Fits (tx_cells_of c) (tx_undo.Step old)
+PartFits c (TxStep old head) = registers.Fits c.registers (word Tdh head) × tx.Fits (tx_cells_of c) (tx_undo.Step old)
 PartFits c (Link old) = Unit {0}
 PartFits c (Reset old) = rx.Fits c.fifo c.memory old.value.fifo
 
@@ -46,7 +46,7 @@ pub record Fits (c : Cells) (r : Undo) : Type 0 where
 
 -- a step of the transmit engine, which has no record that makes it again
 abbrev pub is_sending : Part → Bool
-is_sending (TxStep head old) = true
+is_sending (TxStep old head) = true
 is_sending part = false
 
 -- the cells with a record of the receive side put back
@@ -71,7 +71,7 @@ undo_part c (Register old) = undo_register c old
 undo_part c (Octets old) = record c { memory = memory.undo c.memory old.value }
 undo_part c (Arrival old) = undo_receive c (Frame old)
 undo_part c (RxStep head old) = undo_receive (undo_register c (word Rdh head)) (rx_undo.Step old)
-undo_part c (TxStep head old) = undo_transmit (undo_register c (word Tdh head)) (tx_undo.Step old)
+undo_part c (TxStep old head) = undo_transmit (undo_register c (word Tdh head)) (tx_undo.Step old)
 undo_part c (Link old) = record c { link = old }
 undo_part c (Reset old) =
     undo_receive

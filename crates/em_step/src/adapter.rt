@@ -1,11 +1,12 @@
 //! The adapter: its registers, its interrupt latches and the guest's memory.
-ghost use Rattle.std.specs.Prelude.{◌≡◌, ◌↔◌, ◌+◌, ◌<◌, ◌≤◌, ◌⊎◌, if◌then◌else◌, IsTrue, false, length, slice_get};
+ghost use Rattle.std.specs.Prelude.{◌≡◌, ◌≢◌, ◌↔◌, ◌+◌, ◌<◌, ◌≤◌, ◌⊎◌};
+ghost use Rattle.std.specs.Prelude.{if◌then◌else◌, IsTrue, false, [], length, slice_get};
 ghost use Rattle.std.specs.Prelude.{IfOk, IfErr, OnOk, OnErr, IsErrOf};
 ghost use Rattle.std.specs.Option.{option_map};
 ghost use Rattle.em_mem.specs.Memory.{IsMemorySize, part};
-ghost use Rattle.em_regs.specs.Table.{IsReg, reg_at};
+ghost use Rattle.em_regs.specs.Table.{IsReg, offset_of, reg_at};
 ghost use Rattle.em_regs.specs.RegFile.{IsStored};
-ghost use Rattle.em_latch.specs.Latches.{IsLatched, IsAsserted};
+ghost use Rattle.em_latch.specs.Latches.{is_latched, IsLatched, IsAsserted};
 ghost use Rattle.em_eeprom.specs.Eeprom.{IsEeprom};
 ghost use Rattle.em_step.specs.State.{status};
 ghost use Rattle.em_step.specs.Access.{gives, after_read, after_write, after_store, after_eerd_write};
@@ -19,15 +20,15 @@ ghost use Rattle.em_step.specs.Cost.{cost, cost_of, cost_of_part, least_cost, mo
 
 use crate::event::{Answer, Event};
 use crate::refusal::Refusal;
-use crate::undo::{BeforeReset, Part, Undo};
+use crate::undo::{BeforeReset, LEAST_COST, MOST_COST, Part, Undo};
 use bitflags::Flags;
 use em_eeprom::Eeprom;
 use em_latch::{LatchUndo, Latches};
-use em_mem::{GuestMemory, MemRefusal, MemUndo};
-use em_regs::{Causes, Ctrl, Eerd, Reg, RegFile, Status};
+use em_mem::{GuestMemory, MemRefusal, MemUndo, Spares, SparesByLen};
+use em_regs::{Causes, Ctrl, Eerd, Reg, RegFile, RegUndo, Status};
 use em_rx::{Fifo, FramePatch, RxUndo, StepPatch};
 use em_tx::{Change, Gather, TxUndo, Wire, take_back};
-use std::alloc::Global;
+use std::alloc::{AllocError, Global};
 use std::marker::Model;
 
 /// The most octets that one memory write has.
@@ -46,6 +47,9 @@ pub struct Adapter {
     pub(crate) wire: Wire,
     eeprom: Eeprom,
     pub(crate) link: bool,
+    // what was let go serves the next record
+    spare_octets: SparesByLen<MemUndo>,
+    spare_resets: Spares<BeforeReset>,
 }
 
 impl Model for Adapter {
@@ -87,16 +91,20 @@ impl Adapter {
         let Ok(registers) = Box::new(alloc, RegFile::reset(eeprom.mac())) else {
             return Err(MemRefusal::Memory);
         };
+        let spare_octets = SparesByLen::new(alloc)?;
+        let spare_resets = Spares::new(alloc)?;
         Ok(Adapter {
             alloc,
             memory,
             registers,
             latches: Latches::new(),
             fifo,
-            gather: Gather::new(alloc),
+            gather: Gather::new(alloc)?,
             wire: Wire::new(alloc),
             eeprom,
             link: false,
+            spare_octets,
+            spare_resets,
         })
     }
 
@@ -217,27 +225,127 @@ impl Adapter {
         Ok((Answer::Done, self.write(reg, value)?))
     }
 
-    /// Takes an event back by its record. It takes no memory.
+    /// Software reads a register, as `read_at` does where it lies.
     #[inline(always)]
-    pub fn take_back(&mut self, taken: Undo)
-        requires { Fits self.old taken }
-        ensures { self.new ≡ undo self.old taken }
+    pub fn read_register(&mut self, reg: Reg) -> (u32, Undo)
+        requires { IsReg reg }
+        ensures ok { step (shows self.old) (reads (offset_of reg)) ≡ Ok (Answer.Value result.0, shows self.new) }
+        ensures cost { cost_of result.1 ≡ cost (shows self.old) (reads (offset_of reg)) }
+        ensures reverses { Reverses self.old self.new result.1 }
     {
-        match taken {
-            Undo {
-                latches,
-                part: Part::TxStep(head, change),
-            } => self.take_back_sending(latches, head, change),
-            Undo {
-                latches,
-                part: Part::Arrival(frame),
-            } => self.take_back_arrival(latches, frame),
-            Undo {
-                latches,
-                part: Part::RxStep(head, piece),
-            } => self.take_back_receiving(latches, head, piece),
-            other => {
-                let _again = self.exchange(other);
+        self.read(reg)
+    }
+
+    /// Software writes a value to a register, as `write_at` does where it lies. Refused as Memory, where
+    /// it is a reset.
+    #[inline(always)]
+    pub fn write_register(&mut self, reg: Reg, value: u32) -> Result<Undo, Refusal>
+        requires { IsReg reg }
+        ensures ok { OnOk result (step (shows self.old) (writes (offset_of reg) value)
+            ≡ Ok (Answer.Done, shows self.new)) }
+        ensures cost { IfOk result (λ undo. cost_of undo ≡ cost (shows self.old) (writes (offset_of reg) value)) }
+        ensures reverses { IfOk result (λ undo. Reverses self.old self.new undo) }
+        ensures err { IfErr result (Refuses (shows self.old) (writes (offset_of reg) value)) }
+        ensures same { OnErr result (self.new ≡ self.old) }
+    {
+        self.write(reg, value)
+    }
+
+    /// Software reads a register that stores what is written: nothing changes.
+    #[inline(always)]
+    pub fn read_stored(&mut self, reg: Reg) -> (u32, Undo)
+        requires { IsStored reg }
+        ensures ok { step (shows self.old) (reads (offset_of reg)) ≡ Ok (Answer.Value result.0, shows self.new) }
+        ensures cost { cost_of result.1 ≡ cost (shows self.old) (reads (offset_of reg)) }
+        ensures reverses { Reverses self.old self.new result.1 }
+    {
+        (self.stored(reg), Undo::of_part(Part::Nothing))
+    }
+
+    /// Software writes a value to a register that stores it and does nothing else.
+    #[inline(always)]
+    pub fn write_stored(&mut self, reg: Reg, value: u32) -> Undo
+        requires stored { IsStored reg }
+        requires alone { (reg ≢ Reg.Ctrl) × (reg ≢ Reg.Eerd) }
+        ensures ok { step (shows self.old) (writes (offset_of reg) value) ≡ Ok (Answer.Done, shows self.new) }
+        ensures cost { cost_of result ≡ cost (shows self.old) (writes (offset_of reg) value) }
+        ensures reverses { Reverses self.old self.new result }
+    {
+        self.put(reg, value)
+    }
+
+    /// Software reads an interrupt register or a counter.
+    #[inline(always)]
+    pub fn read_latched(&mut self, reg: Reg) -> (u32, Undo)
+        requires reg { IsReg reg }
+        requires latched { IsLatched reg }
+        ensures ok { step (shows self.old) (reads (offset_of reg)) ≡ Ok (Answer.Value result.0, shows self.new) }
+        ensures cost { cost_of result.1 ≡ cost (shows self.old) (reads (offset_of reg)) }
+        ensures reverses { Reverses self.old self.new result.1 }
+    {
+        let (value, words) = self.latches.read(reg);
+        (value, Undo::of_latches(words))
+    }
+
+    /// Software writes a value to an interrupt register or a counter.
+    #[inline(always)]
+    pub fn write_latched(&mut self, reg: Reg, value: u32) -> Undo
+        requires reg { IsReg reg }
+        requires latched { IsLatched reg }
+        ensures ok { step (shows self.old) (writes (offset_of reg) value) ≡ Ok (Answer.Done, shows self.new) }
+        ensures cost { cost_of result ≡ cost (shows self.old) (writes (offset_of reg) value) }
+        ensures reverses { Reverses self.old self.new result }
+    {
+        Undo::of_latches(self.latches.write(reg, value))
+    }
+
+    /// Takes an event back by its record, and gives what the record cost. It takes no memory.
+    #[inline(always)]
+    pub fn take_back(&mut self, taken: Undo) -> u32
+        requires { Fits self.old taken }
+        ensures state { self.new ≡ undo self.old taken }
+        ensures cost { result ≡ cost_of taken }
+    {
+        let Undo { latches, part } = taken;
+        match part {
+            Part::Nothing => {
+                self.latches.put_back(&latches);
+                LEAST_COST
+            }
+            Part::Register(old) => {
+                self.latches.put_back(&latches);
+                let _written = self.registers.exchange(old);
+                LEAST_COST
+            }
+            Part::Octets(octets) => {
+                let cost = LEAST_COST + octets.len();
+                self.take_back_octets(latches, octets);
+                cost
+            }
+            Part::Arrival(frame) => {
+                let cost = LEAST_COST + frame.len();
+                self.take_back_arrival(latches, frame);
+                cost
+            }
+            Part::RxStep(head, piece) => {
+                let cost = LEAST_COST + piece.len();
+                self.take_back_receiving(latches, head, piece);
+                cost
+            }
+            Part::TxStep(change, head) => {
+                let cost = LEAST_COST + change.cost();
+                self.take_back_sending(latches, change, head);
+                cost
+            }
+            Part::Link(old) => {
+                self.latches.put_back(&latches);
+                self.link = old;
+                LEAST_COST
+            }
+            // what it put aside has every word of the latches
+            Part::Reset(old) => {
+                self.take_back_reset(old);
+                MOST_COST
             }
         }
     }
@@ -270,7 +378,7 @@ impl Adapter {
             Part::TxStep(..) => unreachable!(),
             Part::Link(old) => Part::Link(std::mem::replace(&mut self.link, old)),
             // what it put aside has every word of the latches
-            Part::Reset(old) => return self.exchange_reset(old),
+            Part::Reset(old) => return Undo::of_part(Part::Reset(self.exchange_reset(old))),
         };
         Undo {
             latches: self.latches.exchange(latches),
@@ -278,13 +386,94 @@ impl Adapter {
         }
     }
 
+    /// Takes a memory write back.
+    fn take_back_octets(&mut self, words: LatchUndo, octets: Box<MemUndo>)
+        requires { Fits self.old (record { latches = words; part = Part.Octets octets }) }
+        ensures { self.new ≡ undo self.old (record { latches = words; part = Part.Octets octets }) }
+    {
+        self.latches.put_back(&words);
+        self.memory.put_back(&octets);
+        self.let_octets_go(octets);
+    }
+
+    /// Lets the record of an event go, which then can't be taken back, and gives what it cost. Its memory
+    /// serves a later record.
+    #[inline(always)]
+    pub fn let_go(&mut self, undo: Undo) -> u32
+        ensures cost { result ≡ cost_of undo }
+        ensures same { self.new ≡ self.old }
+    {
+        match undo.part {
+            Part::Nothing | Part::Register(_) | Part::Link(_) => LEAST_COST,
+            Part::TxStep(change, _) => LEAST_COST + change.cost(),
+            owner => self.let_part_go(owner),
+        }
+    }
+
+    /// The same of a part that may own memory. It stands apart, so that the others make no room for what it
+    /// keeps.
+    #[inline(never)]
+    fn let_part_go(&mut self, part: Part) -> u32
+        ensures cost { result ≡ cost_of_part part }
+        ensures same { self.new ≡ self.old }
+    {
+        match part {
+            Part::Octets(octets) => {
+                let cost = LEAST_COST + octets.len();
+                self.let_octets_go(octets);
+                cost
+            }
+            Part::Arrival(frame) => {
+                let cost = LEAST_COST + frame.len();
+                self.fifo.let_frame_go(frame);
+                cost
+            }
+            Part::RxStep(_, piece) => {
+                let cost = LEAST_COST + piece.len();
+                self.fifo.let_step_go(piece);
+                cost
+            }
+            Part::Reset(kept) => {
+                self.let_reset_go(kept);
+                MOST_COST
+            }
+            Part::Nothing | Part::Register(_) | Part::Link(_) => LEAST_COST,
+            Part::TxStep(change, _) => LEAST_COST + change.cost(),
+        }
+    }
+
+    /// Lets the record of a memory write go.
+    fn let_octets_go(&mut self, octets: Box<MemUndo>)
+        ensures { self.new ≡ self.old }
+    {
+        self.spare_octets.put(octets.len() as usize, octets);
+    }
+
+    /// Lets what a reset put aside go.
+    #[inline(never)]
+    fn let_reset_go(&mut self, kept: Box<BeforeReset>)
+        ensures { self.new ≡ self.old }
+    {
+        self.spare_resets.put(kept);
+    }
+
+    /// A record for a write of so many octets, to be filled: one that was let go, if there is one.
+    fn room_for_octets(&mut self, len: usize) -> Result<Box<MemUndo>, AllocError>
+        ensures { self.new ≡ self.old }
+    {
+        match self.spare_octets.take(len) {
+            Some(octets) => Ok(octets),
+            None => Ok(Box::new(self.alloc, MemUndo::new(0, Vec::new(self.alloc)))?),
+        }
+    }
+
     /// Takes a step of the transmit engine back.
     #[inline(never)]
-    fn take_back_sending(&mut self, words: LatchUndo, head: u32, change: Box<Change>)
-        requires { Fits self.old (record { latches = words; part = Part.TxStep head change }) }
-        ensures { self.new ≡ undo self.old (record { latches = words; part = Part.TxStep head change }) }
+    fn take_back_sending(&mut self, words: LatchUndo, change: Change, head: u32)
+        requires { Fits self.old (record { latches = words; part = Part.TxStep change head }) }
+        ensures { self.new ≡ undo self.old (record { latches = words; part = Part.TxStep change head }) }
     {
-        let _words = self.latches.exchange(words);
+        self.latches.put_back(&words);
         let _head = self.registers.restore(Reg::Tdh, head);
         take_back(
             &mut self.gather,
@@ -333,19 +522,28 @@ impl Adapter {
         *old = self.fifo.exchange(&mut self.memory, taken);
     }
 
+    /// Takes a reset back.
+    #[inline(never)]
+    fn take_back_reset(&mut self, old: Box<BeforeReset>)
+        requires { PartFits self.old (Part.Reset old) }
+        ensures { self.new ≡ undo_part self.old (Part.Reset old) }
+    {
+        let again = self.exchange_reset(old);
+        self.let_reset_go(again);
+    }
+
     /// Takes a reset back; what the adapter held is put aside in its place.
-    fn exchange_reset(&mut self, mut old: Box<BeforeReset>) -> Undo
+    fn exchange_reset(&mut self, mut old: Box<BeforeReset>) -> Box<BeforeReset>
         requires { PartFits self.old (Part.Reset old) }
         ensures state { self.new ≡ undo_part self.old (Part.Reset old) }
-        ensures cost { cost_of result ≡ most_cost }
-        ensures reverses { Reverses self.old self.new result }
+        ensures reverses { Reverses self.old self.new (record { latches = []; part = Part.Reset result }) }
     {
         let before = &mut *old;
         std::mem::swap(&mut self.registers, &mut before.registers);
         std::mem::swap(&mut self.latches, &mut before.latches);
         std::mem::swap(&mut self.gather, &mut before.gathered);
         self.exchange_frames(&mut before.fifo);
-        Undo::of_part(Part::Reset(old))
+        old
     }
 
     /// What a read would give.
@@ -373,6 +571,7 @@ impl Adapter {
         status.bits()
     }
 
+    #[inline(always)]
     fn read(&mut self, reg: Reg) -> (u32, Undo)
         requires { IsReg reg }
         ensures value { result.0 ≡ gives (shows self.old) reg }
@@ -382,12 +581,16 @@ impl Adapter {
     {
         if self.latches.holds(reg) {
             let (value, undo) = self.latches.read(reg);
-            (value, Undo::of_latches(undo))
-        } else {
-            (self.shown(reg), Undo::of_part(Part::Nothing))
+            return (value, Undo::of_latches(undo));
         }
+        let value = match reg {
+            Reg::Status => self.status(),
+            _ => self.registers.look(reg),
+        };
+        (value, Undo::of_part(Part::Nothing))
     }
 
+    #[inline(always)]
     fn write(&mut self, reg: Reg, value: u32) -> Result<Undo, Refusal>
         requires { IsReg reg }
         ensures state { OnOk result (shows self.new ≡ after_write (shows self.old) reg value) }
@@ -399,15 +602,39 @@ impl Adapter {
         match reg {
             Reg::Ctrl => {
                 if Ctrl::from_bits_retain(value).contains(Ctrl::RST) {
-                    self.reset()
+                    let before = self.reset()?;
+                    Ok(Undo::of_part(Part::Reset(before)))
                 } else {
                     Ok(self.store(Reg::Ctrl, value))
                 }
             }
-            Reg::Eerd => Ok(self.write_eerd(value)),
+            Reg::Eerd => Ok(Undo::of_part(Part::Register(self.write_eerd(value)))),
             Reg::Status => Ok(Undo::of_part(Part::Nothing)),
             _ => Ok(self.store(reg, value)),
         }
+    }
+
+    /// What a register gives that stores what is written.
+    #[inline(always)]
+    fn stored(&self, reg: Reg) -> u32
+        requires stored { IsStored reg }
+        requires kept { is_latched reg ≡ false }
+        requires other { reg ≢ Reg.Status }
+        ensures { result ≡ gives (shows self.now) reg }
+    {
+        self.registers.look(reg)
+    }
+
+    /// Writes a register that stores what is written.
+    #[inline(always)]
+    fn put(&mut self, reg: Reg, value: u32) -> Undo
+        requires stored { IsStored reg }
+        requires kept { is_latched reg ≡ false }
+        ensures state { shows self.new ≡ after_store (shows self.old) reg value }
+        ensures cost { cost_of result ≡ least_cost }
+        ensures reverses { Reverses self.old self.new result }
+    {
+        Undo::of_part(Part::Register(self.registers.put(reg, value)))
     }
 
     /// Stores what a register's row keeps of a value.
@@ -422,52 +649,74 @@ impl Adapter {
         if self.latches.holds(reg) {
             Undo::of_latches(self.latches.write(reg, value))
         } else {
-            Undo::of_part(Part::Register(self.registers.put(reg, value)))
+            self.put(reg, value)
         }
     }
 
     /// Writes EERD: with START the word at the address is there at once.
-    fn write_eerd(&mut self, value: u32) -> Undo
+    fn write_eerd(&mut self, value: u32) -> RegUndo
         ensures state { shows self.new ≡ after_eerd_write (shows self.old) value }
-        ensures cost { cost_of result ≡ least_cost }
-        ensures reverses { Reverses self.old self.new result }
+        ensures reverses { Reverses self.old self.new (record { latches = []; part = Part.Register result }) }
     {
         if Eerd::from_bits_retain(value).contains(Eerd::START) {
             let [_, address, _, _] = value.to_le_bytes();
             let word = self.eeprom.word(address);
-            Undo::of_part(Part::Register(self.registers.put_eerd(address, word)))
+            self.registers.put_eerd(address, word)
         } else {
-            self.store(Reg::Eerd, value)
+            self.registers.put(Reg::Eerd, value)
         }
     }
 
-    /// Resets the registers and latches, and empties the FIFO and the gathered octets. The boxes that keep
-    /// the old ones are made first.
+    /// Resets the registers and latches, and empties the FIFO and the gathered octets. The place that keeps
+    /// the old ones is made first.
     #[inline(never)]
-    fn reset(&mut self) -> Result<Undo, Refusal>
+    fn reset(&mut self) -> Result<Box<BeforeReset>, Refusal>
         ensures state { OnOk result (shows self.new ≡ reset (shows self.old)) }
-        ensures cost { IfOk result (λ r. cost_of r ≡ most_cost) }
-        ensures reverses { IfOk result (λ r. Reverses self.old self.new r) }
+        ensures reverses { IfOk result (λ before.
+            Reverses self.old self.new (record { latches = []; part = Part.Reset before })) }
         ensures err { IfErr result (λ e. e ≡ Refusal.Memory) }
         ensures same { OnErr result (self.new ≡ self.old) }
     {
-        let fresh = BeforeReset {
-            registers: Box::new(self.alloc, RegFile::reset(self.eeprom.mac()))?,
-            latches: Latches::new(),
-            fifo: RxUndo::Nothing,
-            gathered: Gather::new(self.alloc),
-        };
-        let mut kept = Box::new(self.alloc, fresh)?;
+        let place = self.room_for_reset()?;
+        Ok(self.put_aside(place))
+    }
+
+    /// Puts what a reset changes aside, and resets it.
+    fn put_aside(&mut self, place: Box<BeforeReset>) -> Box<BeforeReset>
+        ensures state { shows self.new ≡ reset (shows self.old) }
+        ensures reverses { Reverses self.old self.new (record { latches = []; part = Part.Reset result }) }
+    {
+        let mut kept = place;
         let before = &mut *kept;
+        before.registers.reset_in_place(self.eeprom.mac());
+        before.latches = Latches::new();
+        before.gathered.clear();
         std::mem::swap(&mut self.registers, &mut before.registers);
         std::mem::swap(&mut self.latches, &mut before.latches);
         std::mem::swap(&mut self.gather, &mut before.gathered);
         before.fifo = self.fifo.clear();
-        Ok(Undo::of_part(Part::Reset(kept)))
+        kept
+    }
+
+    /// A place for what a reset puts aside: one that was let go, if there is one.
+    fn room_for_reset(&mut self) -> Result<Box<BeforeReset>, Refusal>
+        ensures same { self.new ≡ self.old }
+        ensures err { IfErr result (λ e. e ≡ Refusal.Memory) }
+    {
+        if let Some(kept) = self.spare_resets.take() {
+            return Ok(kept);
+        }
+        let fresh = BeforeReset {
+            registers: Box::new(self.alloc, RegFile::reset(self.eeprom.mac()))?,
+            latches: Latches::new(),
+            fifo: RxUndo::Nothing,
+            gathered: Gather::new(self.alloc)?,
+        };
+        Ok(Box::new(self.alloc, fresh)?)
     }
 
     /// The link goes up or down; a change raises LSC. It is never refused.
-    #[inline(never)]
+    #[inline(always)]
     pub fn set_link(&mut self, up: bool) -> Result<(Answer, Undo), Refusal>
         ensures ok { IfOk result (λ r. step (shows self.old) (links up) ≡ Ok (r.0, shows self.new)) }
         ensures cost { IfOk result (λ r. cost_of r.1 ≡ cost (shows self.old) (links up)) }
@@ -478,13 +727,14 @@ impl Adapter {
         if up == self.link {
             return Ok((Answer::Done, Undo::of_part(Part::Nothing)));
         }
-        let latches = self.latches.raise(Causes::LSC.bits());
+        let mut latches = LatchUndo::none();
+        self.latches.raise(Causes::LSC.bits(), &mut latches);
         let part = Part::Link(std::mem::replace(&mut self.link, up));
         Ok((Answer::Done, Undo { latches, part }))
     }
 
     /// Writes octets of guest memory. All that can be refused comes before the first change.
-    #[inline(never)]
+    #[inline(always)]
     pub fn poke(&mut self, addr: u64, octets: &[u8]) -> Result<(Answer, Undo), Refusal>
         ensures ok { IfOk result (λ r. step (shows self.old) (pokes addr octets.now) ≡ Ok (r.0, shows self.new)) }
         ensures cost { IfOk result (λ r. cost_of r.1 ≡ cost (shows self.old) (pokes addr octets.now)) }
@@ -498,12 +748,11 @@ impl Adapter {
         if octets.is_empty() || octets.len() > MOST_POKE {
             return Err(Refusal::Length);
         }
-        let new = MemUndo::new(addr, Vec::from_slice(self.alloc, octets)?);
-        let new = Box::new(self.alloc, new)?;
+        let mut old = self.room_for_octets(octets.len())?;
         if self.memory.touch(addr, octets.len() as u64).is_err() {
             return Err(Refusal::Memory);
         }
-        let undo = self.exchange(Undo::of_part(Part::Octets(new)));
-        Ok((Answer::Done, undo))
+        self.memory.write_keeping(addr, octets, &mut old)?;
+        Ok((Answer::Done, Undo::of_part(Part::Octets(old))))
     }
 }

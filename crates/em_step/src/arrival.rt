@@ -31,7 +31,7 @@ const TAG_OCTETS: usize = 4;
 
 impl Adapter {
     /// A frame arrives. It is refused for its length alone, and for memory where it would be stored.
-    #[inline(never)]
+    #[inline(always)]
     pub fn arrive(&mut self, frame: &[u8]) -> Result<(Answer, Undo), Refusal>
         ensures ok { IfOk result (λ r. step (shows self.old) (arrives frame.now) ≡ Ok (r.0, shows self.new)) }
         ensures cost { IfOk result (λ r. cost_of r.1 ≡ cost (shows self.old) (arrives frame.now)) }
@@ -99,7 +99,7 @@ impl Adapter {
         ensures same { OnErr result (self.new ≡ self.old) }
     {
         if self.has_room(frame) {
-            Ok((Answer::Stored, self.accept(frame, kind)?))
+            self.accept(frame, kind)
         } else {
             Ok((Answer::Dropped(Reason::Missed), self.miss()))
         }
@@ -145,7 +145,9 @@ impl Adapter {
         ensures cost { cost_of result ≡ least_cost }
         ensures reverses { Reverses self.old self.new result }
     {
-        Undo::of_latches(self.latches.count(counter, 1))
+        let mut latches = LatchUndo::none();
+        self.latches.count(counter, 1, &mut latches);
+        Undo::of_latches(latches)
     }
 
     /// Misses a frame.
@@ -159,30 +161,27 @@ impl Adapter {
     }
 
     /// Stores a frame, and counts it.
-    fn accept(&mut self, frame: &[u8], kind: Kind) -> Result<Undo, Refusal>
+    fn accept(&mut self, frame: &[u8], kind: Kind) -> Result<(Answer, Undo), Refusal>
         requires least { 60 ≤ length frame.now }
         requires most { length frame.now ≤ 16_380 }
         requires room { lacks_room (shows self.old) frame.now ≡ false }
+        ensures answer { IfOk result (λ r. r.0 ≡ Answer.Stored) }
         ensures state { OnOk result (shows self.new ≡ after_accept (shows self.old) frame.now kind) }
-        ensures cost { IfOk result (λ r. cost_of r ≡ least_cost + len_of (kept_frame (shows self.old) frame.now)) }
-        ensures reverses { IfOk result (λ r. Reverses self.old self.new r) }
+        ensures cost { IfOk result (λ r. cost_of r.1 ≡ least_cost + len_of (kept_frame (shows self.old) frame.now)) }
+        ensures reverses { IfOk result (λ r. Reverses self.old self.new r.1) }
         ensures err { IfErr result (λ e. e ≡ Refusal.Memory) }
         ensures same { OnErr result (self.new ≡ self.old) }
     {
         let is_tagged = tagged(&self.registers, frame);
-        let kept = match self.fifo.accept(frame, is_tagged) {
-            Ok(RxUndo::Frame(kept)) => kept,
-            Ok(_) => unreachable!(),
-            Err(_) => return Err(Refusal::Memory),
+        let Ok(kept) = self.fifo.accept(frame, is_tagged) else {
+            return Err(Refusal::Memory);
         };
         let broadcasts = self.takes_broadcasts();
         let lacks = self.lacks_buffer();
         let octets = frame.len() as u32 + CHECK_OCTETS;
         let latches = count_frame(&mut self.latches, octets, kind, broadcasts, lacks);
-        Ok(Undo {
-            latches,
-            part: Part::Arrival(kept),
-        })
+        let part = Part::Arrival(kept);
+        Ok((Answer::Stored, Undo { latches, part }))
     }
 }
 
@@ -193,7 +192,7 @@ impl Adapter {
         requires { Fits self.old (record { latches = words; part = Part.Arrival frame }) }
         ensures { self.new ≡ undo self.old (record { latches = words; part = Part.Arrival frame }) }
     {
-        let _words = self.latches.exchange(words);
+        self.latches.put_back(&words);
         self.fifo.take_back(&mut self.memory, RxUndo::Frame(frame));
     }
 }

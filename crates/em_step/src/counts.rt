@@ -1,5 +1,6 @@
 //! How the latches count frames that arrive and frames that are sent (manual, chapter on statistics registers).
 ghost use Rattle.std.specs.Prelude.{◌≡◌, ◌≤◌, length};
+ghost use Rattle.em_regs.specs.Storage.{Registers};
 ghost use Rattle.em_latch.specs.Latches.{Reverses, after_raise};
 ghost use Rattle.em_latch.specs.Counter.{width_of};
 ghost use Rattle.em_step.specs.Counts.{after_buffer_count, after_frame_count, after_kind_count, after_miss_count};
@@ -31,11 +32,11 @@ pub(crate) fn count_miss(latches: &mut Latches, lacks_buffer: bool) -> LatchUndo
     ensures state { latches.new ≡ after_buffer_count lacks_buffer (after_miss_count latches.old) }
     ensures reverses { Reverses latches.old latches.new result }
 {
-    let missed = latches.count(Counter::Mpc, 1);
-    let overrun = latches.raise(Causes::RXO.bits());
-    let both = missed.and(overrun);
-    let lacking = count_buffer(latches, lacks_buffer);
-    both.and(lacking)
+    let mut undo = LatchUndo::none();
+    latches.count(Counter::Mpc, 1, &mut undo);
+    latches.raise(Causes::RXO.bits(), &mut undo);
+    count_buffer(latches, lacks_buffer, &mut undo);
+    undo
 }
 
 /// Counts a frame that is stored, of so many octets on the wire.
@@ -50,24 +51,23 @@ pub(crate) fn count_frame(
         ≡ after_buffer_count lacks_buffer (after_frame_count octets broadcasts kind latches.old) }
     ensures reverses { Reverses latches.old latches.new result }
 {
-    let sizes = count_sizes(latches, octets);
-    let kinds = count_kind(latches, kind, broadcasts);
-    let both = sizes.and(kinds);
-    let lacking = count_buffer(latches, lacks_buffer);
-    both.and(lacking)
+    let mut undo = LatchUndo::none();
+    count_sizes(latches, octets, &mut undo);
+    count_kind(latches, kind, broadcasts, &mut undo);
+    count_buffer(latches, lacks_buffer, &mut undo);
+    undo
 }
 
 /// Counts a frame, its class and its octets.
-fn count_sizes(latches: &mut Latches, octets: u32) -> LatchUndo
+fn count_sizes(latches: &mut Latches, octets: u32, undo: &mut LatchUndo)
+    requires { length undo.old ≡ 0 }
     ensures state { latches.new ≡ after_size_count octets latches.old }
-    ensures words { length result ≤ 4 }
-    ensures reverses { Reverses latches.old latches.new result }
+    ensures words { length undo.new ≡ 4 }
+    ensures reverses { (base : Registers) → Reverses base latches.old undo.old → Reverses base latches.new undo.new }
 {
-    let frames = latches.count(Counter::Gprc, 1);
-    let class = latches.count(stored_counter(class_of(octets)), 1);
-    let both = frames.and(class);
-    let sum = latches.count(Counter::Gorc, octets);
-    both.and(sum)
+    latches.count(Counter::Gprc, 1, undo);
+    latches.count(stored_counter(class_of(octets)), 1, undo);
+    latches.count(Counter::Gorc, octets, undo);
 }
 
 /// The size classes of frames, by their octets on the wire.
@@ -125,28 +125,27 @@ fn sent_counter(class: SizeClass) -> Counter
 }
 
 /// Counts a broadcast where broadcasts are received, and a frame to another group address.
-fn count_kind(latches: &mut Latches, kind: Kind, broadcasts: bool) -> LatchUndo
+fn count_kind(latches: &mut Latches, kind: Kind, broadcasts: bool, undo: &mut LatchUndo)
+    requires { length undo.old ≤ 4 }
     ensures state { latches.new ≡ after_kind_count broadcasts kind latches.old }
-    ensures words { length result ≤ 1 }
-    ensures reverses { Reverses latches.old latches.new result }
+    ensures words { length undo.new ≤ 5 }
+    ensures reverses { (base : Registers) → Reverses base latches.old undo.old → Reverses base latches.new undo.new }
 {
     match kind {
-        Kind::Broadcast if broadcasts => latches.count(Counter::Bprc, 1),
-        Kind::Multicast => latches.count(Counter::Mprc, 1),
-        Kind::Broadcast | Kind::Unicast => LatchUndo::none(),
+        Kind::Broadcast if broadcasts => latches.count(Counter::Bprc, 1, undo),
+        Kind::Multicast => latches.count(Counter::Mprc, 1, undo),
+        Kind::Broadcast | Kind::Unicast => {}
     }
 }
 
 /// Counts a frame for which no buffer is there.
-fn count_buffer(latches: &mut Latches, lacks_buffer: bool) -> LatchUndo
+fn count_buffer(latches: &mut Latches, lacks_buffer: bool, undo: &mut LatchUndo)
+    requires { length undo.old ≤ 5 }
     ensures state { latches.new ≡ after_buffer_count lacks_buffer latches.old }
-    ensures words { length result ≤ 1 }
-    ensures reverses { Reverses latches.old latches.new result }
+    ensures reverses { (base : Registers) → Reverses base latches.old undo.old → Reverses base latches.new undo.new }
 {
     if lacks_buffer {
-        latches.count(Counter::Rnbc, 1)
-    } else {
-        LatchUndo::none()
+        latches.count(Counter::Rnbc, 1, undo);
     }
 }
 
@@ -155,38 +154,38 @@ pub(crate) fn count_sent(latches: &mut Latches, octets: u32, kind: Kind, causes:
     ensures state { latches.new ≡ after_raise (after_sent_count octets kind latches.old) causes }
     ensures reverses { Reverses latches.old latches.new result }
 {
-    let sizes = count_sent_sizes(latches, octets);
-    let kinds = count_sent_kind(latches, kind);
-    let both = sizes.and(kinds);
-    let raised = latches.raise(causes);
-    both.and(raised)
+    let mut undo = LatchUndo::none();
+    count_sent_sizes(latches, octets, &mut undo);
+    count_sent_kind(latches, kind, &mut undo);
+    latches.raise(causes, &mut undo);
+    undo
 }
 
 /// Counts a frame that was sent, its class and its octets, if it is not too short to be counted.
-fn count_sent_sizes(latches: &mut Latches, octets: u32) -> LatchUndo
+fn count_sent_sizes(latches: &mut Latches, octets: u32, undo: &mut LatchUndo)
+    requires { length undo.old ≡ 0 }
     ensures state { latches.new ≡ after_sent_sizes octets latches.old }
-    ensures words { length result ≤ 4 }
-    ensures reverses { Reverses latches.old latches.new result }
+    ensures words { length undo.new ≤ 4 }
+    ensures reverses { (base : Registers) → Reverses base latches.old undo.old → Reverses base latches.new undo.new }
 {
     if octets < LEAST {
-        return LatchUndo::none();
+        return;
     }
-    let frames = latches.count(Counter::Gptc, 1);
-    let class = latches.count(sent_counter(class_of(octets)), 1);
-    let both = frames.and(class);
-    let sum = latches.count(Counter::Gotc, octets);
-    both.and(sum)
+    latches.count(Counter::Gptc, 1, undo);
+    latches.count(sent_counter(class_of(octets)), 1, undo);
+    latches.count(Counter::Gotc, octets, undo);
 }
 
 /// Counts a broadcast that was sent, or a frame to another group address.
-fn count_sent_kind(latches: &mut Latches, kind: Kind) -> LatchUndo
+fn count_sent_kind(latches: &mut Latches, kind: Kind, undo: &mut LatchUndo)
+    requires { length undo.old ≤ 4 }
     ensures state { latches.new ≡ after_sent_kind kind latches.old }
-    ensures words { length result ≤ 1 }
-    ensures reverses { Reverses latches.old latches.new result }
+    ensures words { length undo.new ≤ 5 }
+    ensures reverses { (base : Registers) → Reverses base latches.old undo.old → Reverses base latches.new undo.new }
 {
     match kind {
-        Kind::Broadcast => latches.count(Counter::Bptc, 1),
-        Kind::Multicast => latches.count(Counter::Mptc, 1),
-        Kind::Unicast => LatchUndo::none(),
+        Kind::Broadcast => latches.count(Counter::Bptc, 1, undo),
+        Kind::Multicast => latches.count(Counter::Mptc, 1, undo),
+        Kind::Unicast => {}
     }
 }

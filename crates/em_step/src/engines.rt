@@ -18,7 +18,7 @@ use em_tx::{TxAnswer, TxUndo, step};
 
 impl Adapter {
     /// The receive engine handles the descriptor at RDH. An idle step takes no memory.
-    #[inline(never)]
+    #[inline(always)]
     pub fn receive_step(&mut self) -> Result<(Answer, Undo), Refusal>
         ensures ok { IfOk result (λ r. step (shows self.old) receives ≡ Ok (r.0, shows self.new)) }
         ensures cost { IfOk result (λ r. cost_of r.1 ≡ cost (shows self.old) receives) }
@@ -36,7 +36,8 @@ impl Adapter {
                 },
                 RxUndo::Step(piece),
             ) => {
-                let latches = self.latches.raise(causes);
+                let mut latches = LatchUndo::none();
+                self.latches.raise(causes, &mut latches);
                 let head = self.registers.put(Reg::Rdh, next).old();
                 let part = Part::RxStep(head, piece);
                 Ok((Answer::Wrote { index }, Undo { latches, part }))
@@ -49,7 +50,7 @@ impl Adapter {
     }
 
     /// The transmit engine handles the descriptor at TDH. An idle step takes no memory.
-    #[inline(never)]
+    #[inline(always)]
     #[tactic(auto, using(crate::proofs::EngineLaws::tx_refuses))]
     pub fn transmit_step(&mut self) -> Result<(Answer, Undo), Refusal>
         ensures ok { IfOk result (λ r. step (shows self.old) transmits ≡ Ok (r.0, shows self.new)) }
@@ -69,9 +70,10 @@ impl Adapter {
                 },
                 TxUndo::Step(change),
             ) => {
-                let latches = self.latches.raise(causes);
+                let mut latches = LatchUndo::none();
+                self.latches.raise(causes, &mut latches);
                 let head = self.registers.put(Reg::Tdh, next).old();
-                let part = Part::TxStep(head, change);
+                let part = Part::TxStep(change, head);
                 Ok((Answer::Fetched { index }, Undo { latches, part }))
             }
             (
@@ -86,7 +88,7 @@ impl Adapter {
             ) => {
                 let latches = count_sent(&mut self.latches, octets + CHECK_OCTETS, kind, causes);
                 let head = self.registers.put(Reg::Tdh, next).old();
-                let part = Part::TxStep(head, change);
+                let part = Part::TxStep(change, head);
                 Ok((Answer::Sent { index, octets }, Undo { latches, part }))
             }
             (TxAnswer::Idle, TxUndo::Nothing) => {
@@ -102,7 +104,7 @@ impl Adapter {
         requires { Fits self.old (record { latches = words; part = Part.RxStep head piece }) }
         ensures { self.new ≡ undo self.old (record { latches = words; part = Part.RxStep head piece }) }
     {
-        let _words = self.latches.exchange(words);
+        self.latches.put_back(&words);
         let _head = self.registers.restore(Reg::Rdh, head);
         self.fifo.take_back(&mut self.memory, RxUndo::Step(piece));
     }

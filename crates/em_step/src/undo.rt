@@ -36,8 +36,8 @@ pub enum Part {
     Arrival(Box<FramePatch>),
     /// RDH, and what a step of the receive engine overwrote in guest memory and in the FIFO.
     RxStep(u32, Box<StepPatch>),
-    /// TDH, and what a step of the transmit engine gathered, sent and overwrote in guest memory.
-    TxStep(u32, Box<Change>),
+    /// What a step of the transmit engine gathered, sent and overwrote in guest memory, and TDH.
+    TxStep(Change, u32),
     /// The link.
     Link(bool),
     /// All that a reset put aside, the latches among it.
@@ -88,7 +88,7 @@ impl Undo {
             Part::Octets(octets) => LEAST_COST + octets.len(),
             Part::Arrival(frame) => LEAST_COST + frame.len(),
             Part::RxStep(_, piece) => LEAST_COST + piece.len(),
-            Part::TxStep(_, change) => LEAST_COST + change.cost(),
+            Part::TxStep(change, _) => LEAST_COST + change.cost(),
             Part::Reset(_) => MOST_COST,
         }
     }

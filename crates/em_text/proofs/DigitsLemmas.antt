@@ -1,9 +1,9 @@
 -- A table of the values of digits, and one of the digits of octets.
 use Rattle.std.proofs.Common.{◌≡◌, ℕ, zero, suc, ◌+◌, ◌<◌, Bool, true, List, [], ◌∷◌, length, get_or, ap, ◌∙◌, sym}
-use Rattle.std.proofs.Common.{arith, add-zero, inl, inr}
-use Rattle.std.specs.Prelude.{◌==◌, ◌&&◌, ◌*◌, ◌/◌, ◌%◌, slice_index}
+use Rattle.std.proofs.Common.{◌≤◌, arith, add-zero, inl, inr, refl}
+use Rattle.std.specs.Prelude.{◌==◌, ◌&&◌, ◌||◌, ◌*◌, ◌/◌, ◌%◌, slice_index, nat_lt, min, bit_or}
 use Rattle.std.specs.Char.{digit_value}
-use Rattle.std.proofs.lemmas.Bool.{and_parts, cases_eq, eqb-true}
+use Rattle.std.proofs.lemmas.Bool.{and_parts, cases_eq, eqb-true, le-ltb}
 use Rattle.hex.specs.Hex.{upper_digits}
 
 -- whether each entry is the value of its place, the first of them of the place i
@@ -55,3 +55,28 @@ pair_at xs octet h lt =
     let high = eqb-true (get_or xs (2 * octet) 0) (slice_index upper_digits (octet / 16)) two.0 in
     let low = eqb-true (get_or xs (2 * octet + 1) 0) (slice_index upper_digits (octet % 16)) two.1 in
     λ i. high i ∷ low i ∷ []
+
+-- ---- letters, in lower case first
+
+-- whether an octet that is no numeral has the value of a letter, or that of none
+abbrev pub is_letter_value : ℕ → Bool
+is_letter_value octet =
+    nat_lt ((octet + 208) % 256) 10
+    || (min ((bit_or octet 32 + 159) % 256) 6 + 10 == min (digit_value octet) 16)
+
+-- so it is of each octet below n
+abbrev pub are_letter_values : ℕ → Bool
+are_letter_values zero = true
+are_letter_values (suc n) = is_letter_value n && are_letter_values n
+
+letter_below : (n octet : ℕ) → are_letter_values n ≡ true → octet < n → is_letter_value octet ≡ true
+letter_below zero octet h lt = absurd (omega arith)
+letter_below (suc n) octet h lt = elim (cases_eq octet n) [
+  | inl is ↦ ap is_letter_value is ∙ (and_parts (is_letter_value n) (are_letter_values n) h).0
+  | inr other ↦ letter_below n octet (and_parts (is_letter_value n) (are_letter_values n) h).1 (omega arith)
+]
+
+-- the value of an octet that is no numeral
+pub letter_value : (octet : ℕ) → octet < 256 → 10 ≤ (octet + 208) % 256
+    → min ((bit_or octet 32 + 159) % 256) 6 + 10 ≡ min (digit_value octet) 16
+letter_value octet lt none = eqb-true _ _ (rw (le-ltb _ _ none) at (letter_below 256 octet refl lt))

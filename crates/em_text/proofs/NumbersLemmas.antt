@@ -1,10 +1,12 @@
 -- The number and the octets of a word, by cases.
 use Rattle.std.proofs.Common.{◌≡◌, ◌≢◌, ◌%◌, ℕ, ◌+◌, ◌*◌, ◌^◌, ◌<◌, ◌≤◌, true, false, List, length, drop, get_or}
 use Rattle.std.proofs.Common.{Option, Some, None, refl, sym, arith, add-one, take, Result, Ok, Err, ap, ◌∙◌, inl, inr}
+use Rattle.std.proofs.Common.{subst, ◌-◌, ◌/◌, ◌++◌, option_map, replicate, append-nil, take-append-drop}
 use Rattle.std.specs.List.{list_all, AllPass}
-use Rattle.std.proofs.lemmas.List.{drop_more, get_or_default}
+use Rattle.std.proofs.lemmas.List.{drop_more, get_or_default, drop-replicate, length-take-le}
 use Rattle.std.proofs.lemmas.Bool.{lt-ltb, le-ltb, cases_lt}
 use Rattle.std.proofs.lemmas.Bool.Decides.{nat_tests}
+use Rattle.std.proofs.lemmas.Grind.{common_steps}
 use Rattle.std.proofs.Math.Nat.{pow-le-pow_right, pow-suc, mul-le-mul_right}
 use Rattle.std.specs.Char.{is_digit, digit_value}
 use Rattle.std.specs.Str.Parse.{digits_value, digits_value_after}
@@ -15,7 +17,7 @@ use Rattle.hex.specs.declared.error.FromHexError.TheVariants.{InvalidHexCharacte
 use Rattle.hex.proofs.Pairs.{prepend, decode_err, decode_done, decode_step}
 use Rattle.hex.proofs.HexLemmas.{decode_of-even, decode_pairs-digits, decode_of-ok}
 use Rattle.hex.specs.declared.error.FromHexError.{FromHexError}
-use Rattle.em_text.specs.Numbers.{number, octets_of}
+use Rattle.em_text.specs.Numbers.{number, octets_of, with_zeros}
 
 -- no digit
 pub number-empty : (base most : ℕ) (word : List ℕ) → length word ≡ 0 → number base most word ≡ None
@@ -61,6 +63,13 @@ value_fits base most i v d h some small digit room =
     let step : v * base + d < base ^ most =
     below_power base most (i + 1) (v * base + d) (omega arith) some (value_step base i v d small digit) in
     omega arith
+
+-- so it does not wrap
+pub value_wraps : (base most i v d : ℕ) → i < most → 0 < base → v < base ^ i → d < base → base ^ most ≤ 2 ^ 64
+    → (v * base % 2 ^ 64 + d) % 2 ^ 64 ≡ v * base + d
+value_wraps base most i v d h some small digit room =
+    let fits : v * base + d < 2 ^ 64 = value_fits base most i v d h some small digit room in
+    omega (arith, fits)
 
 -- a place that is no digit
 pub bad_digit : (base : ℕ) (word : List ℕ) (i : ℕ) → i < length word → base ≤ digit_value (get_or word i 0)
@@ -244,6 +253,28 @@ Decodes-more word octets i greatest high low next even here room is_next is_high
           ];
     }
 
+-- one octet more, of digits whose values are there
+pub Decodes-pair : (word octets values : List ℕ) (done i n greatest next : ℕ) → length word ≡ 2 * length octets
+    → done + i < length octets → 2 * i + 1 < n
+    → ((k : ℕ) → k < n → slice_index values k ≡ min (digit_value (slice_index word (2 * done + k))) 16)
+    → next ≡ max (max (slice_index values (2 * i)) (slice_index values (2 * i + 1))) greatest
+    → Decodes word octets (done + i) greatest
+    → Decodes word
+    (slice_set octets (done + i) (slice_index values (2 * i) % 16 * 16 + slice_index values (2 * i + 1) % 16))
+    (done + (i + 1)) next
+Decodes-pair word octets values done i n greatest next room here has are is_next before =
+    let at = done + i in
+    let high = slice_index values (2 * i) in
+    let low = slice_index values (2 * i + 1) in
+    let value = λ (k : ℕ). min (digit_value (slice_index word k)) 16 in
+    let first : high ≡ value (2 * at) =
+    are (2 * i) (omega arith) ∙ ap value (omega arith) in
+    let second : low ≡ value (2 * at + 1) =
+    are (2 * i + 1) has ∙ ap value (omega arith) in
+    let after = Decodes-more word octets at greatest high low next (omega arith) (omega arith) here is_next
+    (omega (arith, first)) (omega (arith, second)) before in
+    subst (λ j. Decodes word (slice_set octets at (high % 16 * 16 + low % 16)) j next) (omega arith) after
+
 -- all octets
 pub Decodes-all : (word octets : List ℕ) (i greatest : ℕ) → 0 < length word → length word ≡ 2 * length octets
     → length octets ≤ i → Decodes word octets i greatest
@@ -253,3 +284,28 @@ Decodes-all word octets i greatest some room end so_far =
       | inl small ↦ rw (lt-ltb _ _ small) (octets_of-good word octets i some room end (so_far.good small))
       | inr great ↦ rw (le-ltb _ _ great) (so_far.bad great)
     ]
+
+-- ---- octets with zeros behind them
+
+-- none up to the octets' own number
+pub no_zeros : (word : List ℕ) → option_map (with_zeros (length word / 2)) (octets_of word) ≡ octets_of word
+no_zeros word = by_octets word (octets_of word) refl
+  where
+    by_octets : (word : List ℕ) (o : Option (List ℕ)) → octets_of word ≡ o
+        → option_map (with_zeros (length word / 2)) o ≡ o
+    by_octets word None e = refl
+    by_octets word (Some octets) e =
+        let none : length word / 2 - length octets ≡ 0 = omega (arith, octets_of-length word octets e) in
+        ap (λ n. Some (octets ++ replicate n 0)) none ∙ ap Some (append-nil octets)
+
+-- octets that were written over the first of n zeros
+pub over_zeros : (octets : List ℕ) (n k : ℕ) → length octets ≡ n → drop k octets ≡ drop k (replicate n 0) → k ≤ n
+    → with_zeros n (take k octets) ≡ octets
+over_zeros octets n k len behind le =
+    ap (λ m. take k octets ++ replicate (n - m) 0) (length-take-le k octets (omega arith))
+    ∙ ap (λ l. take k octets ++ l) (sym (behind ∙ drop-replicate k n 0)) ∙ take-append-drop k octets
+
+-- a slice of all the octets of a vector, which has so many
+pub whole_slice : (octets items : List ℕ) (held : ℕ) → length octets ≡ held → length items ≡ held
+    → take held (octets ++ drop (length octets) items) ≡ octets
+whole_slice octets items held some all = grind (arith, common_steps)

@@ -1,12 +1,16 @@
 -- Taking the first word off a line.
 use Rattle.std.proofs.Common.{one-add, ◌≡◌, ℕ, ◌+◌, ◌<◌, ◌≤◌, Bool, true, false, not, cond, List, [], ◌∷◌, length, take}
-use Rattle.std.proofs.Common.{drop, get_or, refl, sym, ap, ◌∙◌, arith, nat_lt, filter, inl, inr}
+use Rattle.std.proofs.Common.{◌-◌, ◌⊎◌, subst, drop, get_or, refl, sym, ap, ◌∙◌, arith, nat_lt, filter, inl, inr}
 use Rattle.std.specs.List.{slice_split, position_or_len, prefix_len, before_first, after_first, All}
 use Rattle.std.proofs.lemmas.List.{length-take-le, drop_more, drop_all, take_all}
 use Rattle.std.proofs.lemmas.List.Splits.{slice_split-cons_yes, slice_split_none, slice_split_first, length-slice_split}
 use Rattle.std.proofs.lemmas.List.Sums.{fails_before_first, passes_at_first, prefix_len-le-length, prefix_len_stops}
 use Rattle.std.proofs.lemmas.List.Sums.{length-filter, count_by-le-length}
 use Rattle.std.proofs.lemmas.Bool.{cases_lt, lt-ltb}
+use Rattle.std.proofs.lemmas.Bool.Decides.{nat_tests}
+use Rattle.std.proofs.lemmas.List.Sums.{position_or_len_is}
+use Rattle.std.specs.Prelude.{slice_index, nat_eq, ◌&&◌}
+use Rattle.std.specs.Str.{bytes_eq}
 use Rattle.em_text.specs.Words.{words_of, is_blank}
 
 -- the parts that are not empty
@@ -117,3 +121,45 @@ words_of-few line =
       length-slice_split is_blank line,
       count_by-le-length is_blank line,
     )
+
+-- ---- looking for a word's end
+
+-- none of so many octets in front is a blank
+pub record HasNoBlank (line : List ℕ) (len : ℕ) : Type 0 where
+  pub within : len ≤ length line
+  pub none : (k : ℕ) → k < len → is_blank (slice_index line k) ≡ false
+
+-- an octet above every blank
+pub not_blank : (octet : ℕ) → 32 < octet → is_blank octet ≡ false
+not_blank octet h = grind (arith, nat_tests)
+
+-- where a blank or the line's end follows, that is the word's length
+pub word_ends : (line : List ℕ) (len : ℕ) → HasNoBlank line len
+    → (len < length line → is_blank (slice_index line len) ≡ true) → len ≡ position_or_len is_blank line
+word_ends line len front end = sym (position_or_len_is is_blank line len 0 front.within front.none end)
+
+-- so many more octets that are no blanks
+pub front_more : (line : List ℕ) (len n : ℕ) → HasNoBlank line len → len + n ≤ length line
+    → ((i : ℕ) → i < n → is_blank (slice_index line (len + i)) ≡ false) → HasNoBlank line (len + n)
+front_more line len n front room more = record { within = room; none = λ k lt. at k lt (cases_lt k len) }
+  where
+    at : (k : ℕ) → k < len + n → (k < len) ⊎ (len ≤ k) → is_blank (slice_index line k) ≡ false
+    at k lt (inl before) = front.none k before
+    at k lt (inr behind) =
+        subst (λ j. is_blank (slice_index line j) ≡ false) (omega arith) (more (k - len) (omega arith))
+
+-- ---- names
+
+bytes_eq-swap : (xs ys : List ℕ) → bytes_eq xs ys ≡ bytes_eq ys xs
+bytes_eq-swap [] [] = refl
+bytes_eq-swap [] (y ∷ ys) = refl
+bytes_eq-swap (x ∷ xs) [] = refl
+bytes_eq-swap (x ∷ xs) (y ∷ ys) =
+    let first : nat_eq x y ≡ nat_eq y x = grind (arith, nat_tests) in
+    ap (λ b. b && bytes_eq xs ys) first ∙ ap (λ b. nat_eq y x && b) (bytes_eq-swap xs ys)
+
+-- a word that begins with a name of its own length is that name
+pub same_name : (word name : List ℕ) (begins : Bool) → length word ≡ length name
+    → begins ≡ bytes_eq name (take (length name) word) → begins ≡ bytes_eq word name
+same_name word name begins len is =
+    is ∙ ap (bytes_eq name) (take_all (length name) word (omega arith)) ∙ bytes_eq-swap name word

@@ -1,14 +1,17 @@
 -- Texts that are written one after another.
-use Rattle.std.proofs.Common.{Result, Ok, Err, ◌≡◌, ℕ, ◌+◌, ◌/◌, ◌%◌, slice_index, ◌<◌, ◌≤◌, List, [], ◌∷◌, ◌++◌}
+use Rattle.std.proofs.Common.{Result, Ok, Err, ◌≡◌, ℕ, ◌+◌, ◌*◌, ◌/◌, ◌%◌, ◌^◌, slice_index, ◌<◌, ◌≤◌, List, [], ◌∷◌, ◌++◌}
 use Rattle.std.proofs.Common.{length, take, drop, get_or, Option, Some, None, refl, sym, ap, ◌∙◌, arith, append_assoc}
 use Rattle.std.proofs.Common.{append-nil, length-append, take-append-drop}
 use Rattle.std.specs.Io.KnownBytes.{Appends, Keeps}
+use Rattle.std.specs.Prelude.{decimal}
+use Rattle.std.proofs.lemmas.Fmt.{length-decimal-le}
 use Rattle.std.proofs.lemmas.List.{take-append-le, drop_more}
 use Rattle.std.proofs.lemmas.List.Concat.{flat_map-append}
 use Rattle.std.specs.List.{flat_map}
 use Rattle.std.proofs.Math.Seq.{take-append-add}
 use Rattle.hex.specs.Hex.{encode_with, upper_digits}
-use Rattle.em_text.specs.Writer.{WritesPart, Writes, hex_text}
+use Rattle.hex.proofs.HexLemmas.{length-encode_with}
+use Rattle.em_text.specs.Writer.{WritesPart, Writes, hex_text, hex_line_text}
 
 -- nothing more was written
 pub Appends-kept : (a b c : Option (List ℕ)) (xs : List ℕ) → Appends a b xs → Keeps b c → Appends a c xs
@@ -124,3 +127,18 @@ pub hex_text-cut : (octets front back : List ℕ) (n : ℕ) → front ≡ take n
 hex_text-cut octets front back n ef eb =
     ap hex_text (sym (take-append-drop n octets)) ∙ encode_with-append upper_digits (take n octets) (drop n octets)
     ∙ ap (λ l. hex_text l ++ hex_text (drop n octets)) (sym ef) ∙ ap (λ l. hex_text front ++ hex_text l) (sym eb)
+
+-- digits in a line of newlines, and the first newline behind them
+pub short_line : (octets digits line : List ℕ) → digits ≡ hex_text octets → 2 * length octets < length line
+    → get_or line (2 * length octets) 0 ≡ 10
+    → take (2 * length octets + 1) (digits ++ drop (2 * length octets) line) ≡ hex_line_text octets
+short_line octets digits line is within newline =
+    let n = 2 * length octets in
+    let long : length digits ≡ n = ap (λ l. length l) is ∙ length-encode_with upper_digits octets in
+    let last : take 1 (drop n line) ≡ 10 ∷ [] = rw (drop_more line n 0 within, newline) refl in
+    ap (λ k. take (k + 1) (digits ++ drop n line)) (sym long) ∙ take-append-add digits (drop n line) 1
+    ∙ ap (λ l. digits ++ l) last ∙ ap (λ d. d ++ (10 ∷ [])) is
+
+-- a number of 64 bits has 20 digits at most
+pub digits_fit : (number : ℕ) → number < 2 ^ 64 → length (decimal number) ≤ 20
+digits_fit number h = length-decimal-le 20 number (omega arith) (omega arith) (omega arith)

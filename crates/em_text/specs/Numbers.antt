@@ -1,5 +1,5 @@
 -- The numbers and the octets that words write.
-use Rattle.std.specs.Prelude.{ℕ, ◌≡◌, ◌<◌, ◌≤◌, ◌^◌, ◌⊎◌, ◌&&◌, nat_lt, nat_le}
+use Rattle.std.specs.Prelude.{ℕ, ◌≡◌, ◌-◌, ◌<◌, ◌≤◌, ◌^◌, ◌⊎◌, ◌&&◌, ◌++◌, nat_lt, nat_le, replicate}
 use Rattle.std.specs.Prelude.{if◌then◌else◌, List, length, take, get_or, true, false, Option, Some, None}
 use Rattle.std.specs.List.{list_all, prefix_len}
 use Rattle.std.specs.Char.{is_digit}
@@ -30,6 +30,10 @@ decimal_number word = number 10 7 word
 -- the octets that an even number of hexadecimal digits write, two digits or more
 unfoldable pub octets_of : List ℕ → Option (List ℕ)
 octets_of word = if nat_lt 0 (length word) then result_ok (decode_of word) else None
+
+-- these octets, and zero octets behind them up to n octets
+abbrev pub with_zeros : ℕ → List ℕ → List ℕ
+with_zeros n octets = octets ++ replicate (n - length octets) 0
 
 -- ---- at the front of a text
 

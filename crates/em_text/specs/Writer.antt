@@ -41,3 +41,8 @@ decimal_text number = decimal number
 -- a line of a number
 abbrev pub decimal_line_text : ℕ → List ℕ
 decimal_line_text number = decimal_text number ++ codes "\n"
+
+-- two numbers in decimal digits with a space between them, behind a word and before an end
+abbrev pub numbers_text : List ℕ → ℕ → ℕ → List ℕ → List ℕ
+numbers_text word first second end =
+    word ++ (decimal_text first ++ (codes " " ++ (decimal_text second ++ end)))

@@ -7,6 +7,21 @@ ghost use Rattle.std.specs.Char.{digit_value};
 /// How many octets a loop without branches takes at a time.
 pub const AT_ONCE: usize = 16;
 
+/// How many octets are still worth a loop without branches.
+pub const HALF: usize = 8;
+
+/// How many digits are numerals.
+const NUMERALS: u8 = 10;
+
+/// How many hexadecimal digits are letters.
+const LETTERS: u8 = 6;
+
+/// How far the letters in upper case stand behind the numerals.
+const PAST_NUMERALS: u8 = b'A' - b'0' - NUMERALS;
+
+/// The bit that a letter has in lower case alone.
+const LOWER: u8 = 0x20;
+
 /// The value of each octet as a digit, letters in either case; 36 where it is none.
 #[rattlefmt::skip]
 static VALUES: [u8; 256] = [
@@ -37,17 +52,15 @@ pub fn value_of(octet: u8) -> u8
 }
 
 /// The value of a hexadecimal digit in either case; 16 for any other octet. By comparisons in place
-/// of the table, so that a loop over many octets takes several at once.
+/// of the table, so that a loop over many octets takes several at once; two of them, since letters are
+/// put in lower case first.
 #[inline(always)]
 pub fn hex_value_of(octet: u8) -> u8
     ensures { result ≡ min (digit_value octet) 16 }
 {
-    match octet {
-        b'0'..=b'9' => octet - b'0',
-        b'A'..=b'F' => octet - b'A' + 10,
-        b'a'..=b'f' => octet - b'a' + 10,
-        _ => 16,
-    }
+    let numeral = octet.wrapping_sub(b'0');
+    let letter = (octet | LOWER).wrapping_sub(b'a').min(LETTERS) + NUMERALS;
+    if numeral < NUMERALS { numeral } else { letter }
 }
 
 /// The hexadecimal digit in upper case of a value below 16. By a comparison in place of the table, so
@@ -57,11 +70,8 @@ pub fn upper_digit(value: u8) -> u8
     requires { value < 16 }
     ensures { result ≡ slice_index upper_digits value }
 {
-    if value < 10 {
-        b'0' + value
-    } else {
-        b'A' - 10 + value
-    }
+    let past = if value < NUMERALS { 0 } else { PAST_NUMERALS };
+    b'0' + value + past
 }
 
 /// The two digits of each octet in upper case, one octet after another.

@@ -1,13 +1,14 @@
 //! The numbers and the octets that words write.
-ghost use Rattle.std.specs.Prelude.{◌≡◌, ◌≢◌, ◌*◌, ◌/◌, ◌≤◌, ◌<◌, ◌^◌, true, [], IfOk, OnErr, IfSome, IsSome, IsNone};
+ghost use Rattle.std.specs.Prelude.{◌≡◌, ◌≢◌, ◌+◌, ◌*◌, ◌/◌, ◌≤◌, ◌<◌, ◌^◌, true, [], IfOk, OnErr, IfSome, IsSome};
+ghost use Rattle.std.specs.Prelude.{ℕ, ◌%◌, false, min, take, drop, IsNone};
 ghost use Rattle.std.specs.Prelude.{◌↔◌, IsTrue, EachIndex, slice_index, option_map, if◌then◌else◌, length};
 ghost use Rattle.std.specs.Char.{digit_value};
 ghost use Rattle.std.specs.Vec.{vec_capacity};
-ghost use Rattle.em_text.specs.Numbers.{number, hex_number, hex_address, decimal_number, octets_of};
+ghost use Rattle.em_text.specs.Numbers.{number, hex_number, hex_address, decimal_number, octets_of, with_zeros};
 ghost use Rattle.em_text.specs.Numbers.{IsNoNumber, LeadingNumber};
 ghost use Rattle.em_text.specs.Words.{words_of, read_first};
 
-use crate::digits::{AT_ONCE, hex_value_of, value_of};
+use crate::digits::{AT_ONCE, HALF, hex_value_of, value_of};
 use crate::words::{Words, blanks_len, is_blank};
 use std::alloc::{AllocError, Global};
 
@@ -23,6 +24,12 @@ const HEX_ADDRESS_DIGITS: usize = 16;
 
 /// The most digits of a number that is read in decimal.
 const DECIMAL_NUMBER_DIGITS: usize = 7;
+
+/// Two digits for each octet that is written at once.
+const DIGITS_AT_ONCE: usize = 2 * AT_ONCE;
+
+/// Two digits for each octet of a half of that.
+const HALF_DIGITS: usize = 2 * HALF;
 
 impl Words<'_> {
     /// The number that the next word writes in 1 to 8 hexadecimal digits, in either case. The words
@@ -110,13 +117,16 @@ fn leading_number(text: &[u8], base: u8, most: usize) -> Option<(u64, usize)>
             }
             break;
         }
-        if len == most {
-            return None;
-        }
-        value = value * u64::from(base) + u64::from(digit);
+        // Too many digits may wrap; they are no number.
+        value = value
+            .wrapping_mul(u64::from(base))
+            .wrapping_add(u64::from(digit));
         len += 1;
     }
     if len == 0 {
+        return None;
+    }
+    if len > most {
         return None;
     }
     Some((value, len))
@@ -147,11 +157,24 @@ pub fn octets_into(octets: &mut Vec<u8>, word: &[u8]) -> Result<bool, AllocError
     ensures memory { OnErr result (vec_capacity octets.old < length word.now / 2) }
     ensures digits { OnErr result (IsSome (octets_of word.now)) }
 {
+    lengthened_into(octets, word, word.len() / 2)
+}
+
+/// The same, with zero octets behind those of the digits, up to `len` octets.
+#[inline]
+pub fn lengthened_into(octets: &mut Vec<u8>, word: &[u8], len: usize) -> Result<bool, AllocError>
+    requires { length word.now / 2 ≤ len }
+    ensures value { IfOk result (λ found. option_map (with_zeros len) (octets_of word.now)
+        ≡ (if found then Some octets.new.items else None)) }
+    ensures cleared { result ≢ Ok true → octets.new.items ≡ [] }
+    ensures memory { OnErr result (vec_capacity octets.old < len) }
+    ensures digits { OnErr result (IsSome (octets_of word.now)) }
+{
     octets.clear();
     if word.is_empty() || word.len() % 2 != 0 {
         return Ok(false);
     }
-    if octets.resize(word.len() / 2, 0).is_err() {
+    if octets.resize(len, 0).is_err() {
         // What is no text of octets is so also where there is no memory.
         return if has_digits_alone(word) {
             Err(AllocError)
@@ -159,7 +182,7 @@ pub fn octets_into(octets: &mut Vec<u8>, word: &[u8]) -> Result<bool, AllocError
             Ok(false)
         };
     }
-    if decode(word, octets.as_mut_slice()) {
+    if decode_front(word, octets.as_mut_slice()) {
         return Ok(true);
     }
     octets.clear();
@@ -192,18 +215,56 @@ fn decode(word: &[u8], octets: &mut [u8]) -> bool
     ensures value { octets_of word.now ≡ (if result then Some octets.new else None) }
 {
     let mut greatest = 0;
-    let even = octets.len() / AT_ONCE * AT_ONCE;
-    for i in 0..even {
-        let high = hex_value_of(word[2 * i]);
-        let low = hex_value_of(word[2 * i + 1]);
-        greatest = high.max(low).max(greatest);
-        octets[i] = high % HEX * HEX + low % HEX;
+    let mut done = 0;
+    while octets.len() - done >= AT_ONCE {
+        let values = hex_values::<DIGITS_AT_ONCE>(word, 2 * done);
+        for i in 0..AT_ONCE {
+            let (high, low) = (values[2 * i], values[2 * i + 1]);
+            greatest = high.max(low).max(greatest);
+            octets[done + i] = high % HEX * HEX + low % HEX;
+        }
+        done += AT_ONCE;
     }
-    for i in even..octets.len() {
+    if octets.len() - done >= HALF {
+        let values = hex_values::<HALF_DIGITS>(word, 2 * done);
+        for i in 0..HALF {
+            let (high, low) = (values[2 * i], values[2 * i + 1]);
+            greatest = high.max(low).max(greatest);
+            octets[done + i] = high % HEX * HEX + low % HEX;
+        }
+        done += HALF;
+    }
+    for i in done..octets.len() {
         let high = value_of(word[2 * i]);
         let low = value_of(word[2 * i + 1]);
         greatest = high.max(low).max(greatest);
         octets[i] = high % HEX * HEX + low % HEX;
     }
     greatest < HEX
+}
+
+/// The same over the front of octets, of which the others stay.
+#[inline(always)]
+fn decode_front(word: &[u8], octets: &mut [u8]) -> bool
+    requires some { 0 < length word.now }
+    requires even { length word.now % 2 ≡ 0 }
+    requires room { length word.now / 2 ≤ length octets.old }
+    ensures value { IsTrue result → octets_of word.now ≡ Some (take (length word.now / 2) octets.new) }
+    ensures none { result ≡ false → octets_of word.now ≡ None }
+    ensures behind { drop (length word.now / 2) octets.new ≡ drop (length word.now / 2) octets.old }
+{
+    decode(word, &mut octets[..word.len() / 2])
+}
+
+/// The values of `N` octets of a text as hexadecimal digits, 16 for any other octet.
+#[inline(always)]
+fn hex_values<const N: usize>(text: &[u8], from: usize) -> [u8; N]
+    requires { from + N ≤ length text.now }
+    ensures { (i : ℕ) → i < N → slice_index result i ≡ min (digit_value (slice_index text.now (from + i))) 16 }
+{
+    let mut values = [0; N];
+    for i in 0..N {
+        values[i] = hex_value_of(text[from + i]);
+    }
+    values
 }

@@ -1,6 +1,6 @@
 use crate::{
     Words, WriteFailed, decimal_number, next_line, octets_into, octets_of, read_script,
-    write_decimal, write_decimal_line, write_octets, write_octets_line, write_pieces,
+    write_number_line, write_numbers_line, write_octets, write_octets_line, write_pieces,
     write_register_line, write_value, write_whole,
 };
 use std::test::Fail;
@@ -79,6 +79,19 @@ fn reads_octets(rt: HostRuntime) -> Result<(), Fail> {
     let mut octets = vec![in rt.alloc(); 7u8; 3]?;
     assert_eq!(rt; octets_into(&mut octets, b"00fFA0")?, true);
     assert_eq!(rt; octets.as_slice(), [0x00, 0xFF, 0xA0].as_slice());
+    // 16, 8 and 1 octets; then one that is no digit among each of these
+    let long = b"000102030405060708090A0B0C0D0E0Fa0b1c2d3e4f5061728";
+    assert_eq!(rt; octets_into(&mut octets, long.as_slice())?, true);
+    assert_eq!(rt; octets.len(), 25);
+    assert_eq!(rt; octets[15], 0x0F);
+    assert_eq!(rt; octets[16], 0xA0);
+    assert_eq!(rt; octets[23], 0x17);
+    assert_eq!(rt; octets[24], 0x28);
+    for at in [3, 40, 49] {
+        let mut wrong = *long;
+        wrong[at] = b'g';
+        assert_eq!(rt; octets_into(&mut octets, wrong.as_slice())?, false);
+    }
     for word in [b"".as_slice(), b"A", b"A0A", b"A0G0", b"A00G"] {
         assert_eq!(rt; octets_into(&mut octets, word)?, false);
         assert!(rt; octets.is_empty());
@@ -106,20 +119,24 @@ fn write_all_forms(text: &mut Vec<u8>) -> Result<(), WriteFailed> {
     write_whole(text, b"ok\n")?;
     write_pieces(text, &[b"refused ", b"", b"Range\n"])?;
     write_octets(text, &[0x00, 0x9A, 0xBC, 0xFF])?;
+    write_octets_line(text, &[0x01, 0xEF])?;
     write_octets_line(text, &[0xDE; 65])?;
     write_value(text, 0xDEAD_0042)?;
     write_register_line(text, 0x5_28FC, 0xABCD)?;
-    write_decimal(text, 0)?;
-    write_decimal_line(text, u64::MAX)
+    write_number_line(text, b"wrote ", 65_535)?;
+    write_numbers_line(text, b"turns ", 0, u64::MAX, b" Memory\n")
 }
 
 #[test]
 fn writes_texts(rt: HostRuntime) -> Result<(), Fail> {
-    let start = b"ok\nrefused Range\n009ABCFF".as_slice();
-    let end = b"DE\nDEAD0042\n528FC 0000ABCD\n018446744073709551615\n".as_slice();
+    let start = b"ok\nrefused Range\n009ABCFF01EF\n".as_slice();
+    let numbers = b"wrote 65535\nturns 0 18446744073709551615 Memory\n".as_slice();
+    let end = b"DE\nDEAD0042\n528FC 0000ABCD\n".as_slice();
     let mut text = Vec::new(rt.alloc());
     assert_eq!(rt; write_all_forms(&mut text), Ok(()));
     assert!(rt; text.as_slice().starts_with(start));
+    assert!(rt; text.as_slice().ends_with(numbers));
+    text.truncate(text.len() - numbers.len());
     assert!(rt; text.as_slice().ends_with(end));
     assert_eq!(rt; text.len(), start.len() + 2 * 64 + end.len());
     Ok(())

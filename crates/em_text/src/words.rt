@@ -1,19 +1,17 @@
 //! The words of a line.
-ghost use Rattle.std.specs.Prelude.{◌≡◌, ◌≤◌, ◌↔◌, [], length, IsTrue};
+ghost use Rattle.std.specs.Prelude.{◌≡◌, ◌+◌, ◌<◌, ◌≤◌, ◌↔◌, ◌∷◌, [], ℕ, false, length, slice_index, IsTrue, IfSome, IsNone};
 ghost use Rattle.std.specs.List.{prefix_len, position_or_len};
+ghost use Rattle.std.specs.Str.{bytes_eq};
 ghost use Rattle.std.specs.Iterator.{YieldsFirstRef, item_count};
 ghost use Rattle.em_text.specs.Words.{words_of, is_blank};
 
-use memchr::memchr3;
+use crate::digits::{AT_ONCE, HALF};
 
 const SPACE: u8 = b' ';
 
 const TAB: u8 = b'\t';
 
 const CARRIAGE_RETURN: u8 = b'\r';
-
-/// From so many octets on, a line is searched many octets at a time.
-const LONG: usize = 64;
 
 /// The words of a line that are still to come: its parts between spaces, tabs and carriage
 /// returns, less the empty ones.
@@ -27,7 +25,7 @@ impl<'a> Iterator for Words<'a> {
 
     ghost remaining = { item_count (λ s. words_of s.0.now) };
 
-    #[inline]
+    #[inline(always)]
     fn next(&mut self) -> Option<&'a [u8]> {
         let line = self.0;
         let line = &line[blanks_len(line)..];
@@ -41,7 +39,25 @@ impl<'a> Iterator for Words<'a> {
     }
 }
 
-impl Words<'_> {
+impl<'a> Words<'a> {
+    /// The next word, looked for octet by octet: for a word that is short where the line may be long,
+    /// as a name is.
+    #[inline(always)]
+    pub fn next_short(&mut self) -> Option<&'a [u8]>
+        ensures some { IfSome result (λ word. words_of self.old.0.now ≡ word.now ∷ words_of self.new.0.now) }
+        ensures none { IsNone result → words_of self.old.0.now ≡ [] }
+    {
+        let line = self.0;
+        let line = &line[blanks_len(line)..];
+        if line.is_empty() {
+            return None;
+        }
+        let len = short_word_len(line);
+        let (name, rest) = line.split_at(len);
+        self.0 = rest;
+        Some(name)
+    }
+
     /// Whether no word is still to come.
     #[inline(always)]
     pub fn is_over(&self) -> bool
@@ -51,47 +67,78 @@ impl Words<'_> {
     }
 }
 
-/// How many blanks a line begins with.
-#[inline]
+/// How many blanks a line begins with. Mostly there is none, or one space before a word.
+#[inline(always)]
 pub fn blanks_len(line: &[u8]) -> usize
+    ensures value { result ≡ prefix_len is_blank line.now }
+    ensures within { result ≤ length line.now }
+{
+    match line {
+        [] => 0,
+        [first, ..] if *first > SPACE => 0,
+        [SPACE, second, ..] if *second > SPACE => 1,
+        _ => many_blanks_len(line),
+    }
+}
+
+/// The same, octet by octet.
+#[inline(never)]
+fn many_blanks_len(line: &[u8]) -> usize
     ensures value { result ≡ prefix_len is_blank line.now }
     ensures within { result ≤ length line.now }
 {
     line.iter().take_while(|octet| is_blank(**octet)).count()
 }
 
-/// How many octets a line has before its first blank.
-#[inline]
+/// How many octets a line has before its first blank: many octets at a time, as long as none of them can be a
+/// blank.
+#[inline(never)]
 fn word_len(line: &[u8]) -> usize
     ensures value { result ≡ position_or_len is_blank line.now }
     ensures within { result ≤ length line.now }
 {
-    if line.len() < LONG {
-        short_word_len(line)
-    } else {
-        long_word_len(line)
+    let mut len = 0;
+    while line.len() - len >= AT_ONCE && is_all_above_blanks::<AT_ONCE>(line, len) {
+        len += AT_ONCE;
     }
+    if line.len() - len >= HALF && is_all_above_blanks::<HALF>(line, len) {
+        len += HALF;
+    }
+    while len < line.len() && !is_blank(line[len]) {
+        len += 1;
+    }
+    len
 }
 
-/// The same, many octets at a time.
-#[inline(never)]
-fn long_word_len(line: &[u8]) -> usize
-    ensures value { result ≡ position_or_len is_blank line.now }
-    ensures within { result ≤ length line.now }
+/// Whether each of `N` octets is above every blank. Without a branch, so that the compiler takes several
+/// at once.
+#[inline(always)]
+fn is_all_above_blanks<const N: usize>(line: &[u8], from: usize) -> bool
+    requires { from + N ≤ length line.now }
+    ensures { IsTrue result → (i : ℕ) → i < N → is_blank (slice_index line.now (from + i)) ≡ false }
 {
-    match memchr3(SPACE, TAB, CARRIAGE_RETURN, line) {
-        Some(len) => len,
-        None => line.len(),
+    let mut above = true;
+    for i in 0..N {
+        above &= line[from + i] > SPACE;
     }
+    above
 }
 
-/// The same, octet by octet.
+/// How many octets a line has before its first blank, octet by octet.
 #[inline(always)]
 fn short_word_len(line: &[u8]) -> usize
     ensures value { result ≡ position_or_len is_blank line.now }
     ensures within { result ≤ length line.now }
 {
     line.iter().take_while(|octet| !is_blank(**octet)).count()
+}
+
+/// Whether a word is this name. The name's length is known, so that no call compares them.
+#[inline(always)]
+pub fn is_name<const N: usize>(word: &[u8], name: &[u8; N]) -> bool
+    ensures { result ≡ bytes_eq word.now name.now }
+{
+    word.len() == N && word.starts_with(name)
 }
 
 #[inline]

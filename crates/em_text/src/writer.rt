@@ -1,18 +1,28 @@
 //! Texts to a writer, by calls of its `write` alone.
-ghost use Rattle.std.specs.Prelude.{◌≡◌, ◌*◌, ◌^◌, ◌<◌, length, [], ◌∷◌};
+ghost use Rattle.std.specs.Prelude.{◌≡◌, ◌+◌, ◌*◌, ◌^◌, ◌<◌, ◌≤◌, length, drop, [], ◌∷◌, ◌++◌};
 ghost use Rattle.std.specs.List.{flat_map};
 ghost use Rattle.em_text.specs.Writer.{Writes, hex_text, hex_line_text, value_digits, value_text, register_line_text};
-ghost use Rattle.em_text.specs.Writer.{decimal_text, decimal_line_text};
+ghost use Rattle.em_text.specs.Writer.{decimal_line_text, numbers_text};
 
-use crate::digits::{AT_ONCE, digit_pair, upper_digit};
-use itoa::Buffer;
+use crate::digits::{HALF, digit_pair, upper_digit};
+use itoa::write_digits;
 use std::io::Write;
 
 /// How many octets are written as digits at once.
-const CHUNK_OCTETS: usize = 64;
+const CHUNK_OCTETS: usize = 256;
 
 /// Two digits for each of those.
-const CHUNK_DIGITS: usize = 128;
+const CHUNK_DIGITS: usize = 512;
+
+/// The most octets of a line that is written at once.
+const LINE_OCTETS: usize = 64;
+
+/// Two digits for each of those, and a newline.
+const LINE_TEXT: usize = 129;
+
+/// Room for a line of two numbers of up to 20 digits each, with a space between them, and up to 16 octets on
+/// either side.
+const NUMBERS_LINE: usize = 80;
 
 /// The digits of a 32-bit value.
 const VALUE_DIGITS: usize = 8;
@@ -68,6 +78,7 @@ pub fn write_pieces<W: Write>(writer: &mut W, pieces: &[&[u8]]) -> Result<(), Wr
 }
 
 /// Writes octets as hexadecimal digits in upper case, two for each.
+#[inline(never)]
 pub fn write_octets<W: Write>(writer: &mut W, octets: &[u8]) -> Result<(), WriteFailed>
     ensures writes { Writes (W.contents writer.old) (W.contents writer.new) result (hex_text octets.now) }
 {
@@ -87,8 +98,23 @@ pub fn write_octets<W: Write>(writer: &mut W, octets: &[u8]) -> Result<(), Write
 pub fn write_octets_line<W: Write>(writer: &mut W, octets: &[u8]) -> Result<(), WriteFailed>
     ensures writes { Writes (W.contents writer.old) (W.contents writer.new) result (hex_line_text octets.now) }
 {
+    if octets.len() <= LINE_OCTETS {
+        return write_short_line(writer, octets);
+    }
     write_octets(writer, octets)?;
     write_whole(writer, b"\n")
+}
+
+/// Writes a line of few octets at once.
+#[inline(always)]
+fn write_short_line<W: Write>(writer: &mut W, octets: &[u8]) -> Result<(), WriteFailed>
+    requires { length octets.now ≤ 64 }
+    ensures writes { Writes (W.contents writer.old) (W.contents writer.new) result (hex_line_text octets.now) }
+{
+    let mut line = [b'\n'; LINE_TEXT];
+    let end = 2 * octets.len();
+    fill_digits(octets, &mut line[..end]);
+    write_whole(writer, &line[..end + 1])
 }
 
 /// Writes a value in 8 hexadecimal digits in upper case, and a newline.
@@ -115,22 +141,61 @@ pub fn write_register_line<W: Write>(
     write_pieces(writer, &[&offset[HIGH_DIGITS..], b" ", &value, b"\n"])
 }
 
-/// Writes a number in decimal digits.
-#[inline(always)]
-pub fn write_decimal<W: Write>(writer: &mut W, number: u64) -> Result<(), WriteFailed>
-    ensures writes { Writes (W.contents writer.old) (W.contents writer.new) result (decimal_text number) }
+/// Writes words, a number in decimal digits, and a newline, all at once.
+#[inline(never)]
+#[tactic(auto, using(crate::proofs::WritingLemmas::digits_fit))]
+pub fn write_number_line<W: Write>(
+    writer: &mut W,
+    words: &[u8],
+    number: u64,
+) -> Result<(), WriteFailed>
+    requires { length words.now ≤ 16 }
+    ensures writes { Writes (W.contents writer.old) (W.contents writer.new) result
+        (words.now ++ decimal_line_text number) }
 {
-    let mut buffer = Buffer::new();
-    write_whole(writer, buffer.format(number).as_bytes())
+    let mut line = [b'\n'; NUMBERS_LINE];
+    let number_at = write_digits(number, &mut line, NUMBERS_LINE - 1);
+    let start = put_before(&mut line, number_at, words);
+    write_whole(writer, &line[start..])
 }
 
-/// Writes a number in decimal digits, and a newline.
+/// Writes a word, two numbers in decimal digits with a space between them, and an end, all at once.
 #[inline(always)]
-pub fn write_decimal_line<W: Write>(writer: &mut W, number: u64) -> Result<(), WriteFailed>
-    ensures writes { Writes (W.contents writer.old) (W.contents writer.new) result (decimal_line_text number) }
+#[tactic(auto, using(crate::proofs::WritingLemmas::digits_fit))]
+pub fn write_numbers_line<W: Write>(
+    writer: &mut W,
+    word: &[u8],
+    first: u64,
+    second: u64,
+    end: &[u8],
+) -> Result<(), WriteFailed>
+    requires word { length word.now ≤ 16 }
+    requires end { length end.now ≤ 16 }
+    ensures writes { Writes (W.contents writer.old) (W.contents writer.new) result
+        (numbers_text word.now first second end.now) }
 {
-    write_decimal(writer, number)?;
-    write_whole(writer, b"\n")
+    let mut line = [b'\n'; NUMBERS_LINE];
+    let end_at = put_before(&mut line, NUMBERS_LINE, end);
+    let second_at = write_digits(second, &mut line, end_at);
+    let space_at = put_before(&mut line, second_at, b" ");
+    let first_at = write_digits(first, &mut line, space_at);
+    let start = put_before(&mut line, first_at, word);
+    write_whole(writer, &line[start..])
+}
+
+/// Puts a text before what stands in a line from `end` on, and tells where it begins: a line with numbers
+/// is made from its end, so that no number is measured.
+#[inline(always)]
+fn put_before(line: &mut [u8], end: usize, text: &[u8]) -> usize
+    requires room { length text.now ≤ end }
+    requires within { end ≤ length line.old }
+    ensures start { result + length text.now ≡ end }
+    ensures len { length line.new ≡ length line.old }
+    ensures written { drop result line.new ≡ text.now ++ drop end line.old }
+{
+    let start = end - text.len();
+    line[start..end].copy_from_slice(text);
+    start
 }
 
 /// The two digits of an octet, in upper case.
@@ -158,7 +223,7 @@ fn fill_digits(octets: &[u8], digits: &mut [u8])
     requires { length digits.old ≡ 2 * length octets.now }
     ensures { digits.new ≡ hex_text octets.now }
 {
-    let even = octets.len() / AT_ONCE * AT_ONCE;
+    let even = octets.len() / HALF * HALF;
     for i in 0..even {
         let octet = octets[i];
         digits[2 * i] = upper_digit(octet >> 4);

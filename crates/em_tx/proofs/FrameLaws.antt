@@ -4,6 +4,8 @@ use Rattle.std.proofs.Common.{length, take, drop, Option, Some, None, refl, sym,
 use Rattle.std.proofs.Common.{append_assoc, append-nil}
 use Rattle.std.specs.Prelude.{replicate, max, is_some, nat_le}
 use Rattle.std.proofs.lemmas.List.{take_at, drop_at, take_all, length-take-le, take-append-drop, length-replicate}
+use Rattle.std.proofs.lemmas.List.{take-append-le, take-take}
+use Rattle.std.proofs.Math.Seq.{take-append-add}
 use Rattle.std.proofs.lemmas.Bool.Decides.{nat_tests}
 use Rattle.byteorder.specs.Endian.{big_bytes}
 use Rattle.em_regs.specs.declared.setup.TxSetup.{TxSetup}
@@ -130,3 +132,27 @@ frame_len_most q d n few = of (is_some (tag_of q.vlan d n)) q.pad
     of true false = omega arith
     of false true = omega arith
     of false false = omega arith
+
+-- the first octets beside a tag: none behind it where they are few
+pub beside_tag_few : (f : List ℕ) (n : ℕ) → 16 ≤ length f → n ≤ 12 → take n f ≡ take n (without_tag true f)
+beside_tag_few f n long few =
+    let front : length (take 12 f) ≡ 12 = length-take-le 12 f (omega (arith, long)) in
+    sym (take-append-le n (take 12 f) (drop 16 f) (omega (arith, front, few)) ∙ take-take n 12 f few)
+
+pub beside_tag_more : (f : List ℕ) (n : ℕ) → 16 ≤ length f → 12 ≤ n
+    → take 12 f ++ take (n + 4 - 16) (drop 16 f) ≡ take n (without_tag true f)
+beside_tag_more f n long many =
+    let front : length (take 12 f) ≡ 12 = length-take-le 12 f (omega (arith, long)) in
+    sym (ap (λ k. take k (take 12 f ++ drop 16 f)) (omega (arith, front, many))
+    ∙ take-append-add (take 12 f) (drop 16 f) (n + 4 - 16))
+
+-- with no tag to insert and no padding to add, the gathered octets are the frame
+pub frame_whole : (q : TxSetup) (d o : List ℕ) → tag_of q.vlan d (length o) ≡ None → 60 ≤ length o → frame q d o ≡ o
+unfolding frame
+frame_whole q d o none long = rw none (padded q.pad)
+  where
+    padded : (b : Bool) → with_padding b o ≡ o
+    padded true =
+        let none : 60 - length o ≡ 0 = omega (arith, long) in
+        ap (λ n. o ++ replicate {A = ℕ} n 0) none ∙ append-nil o
+    padded false = refl

@@ -2,4 +2,5 @@ pub mod FrameLaws
 pub mod CostLaws
 pub mod ReverseLaws
 pub mod EngineLaws
+pub mod WireLaws
 pub mod MadePages

@@ -1,15 +1,16 @@
 -- More made pages of guest memory leave each record fitting.
-use Rattle.std.proofs.Common.{◌≡◌, ◌<◌, ◌≤◌, List, length, take, Option, Some, None, refl, ap, sym, subst}
-use Rattle.std.specs.Prelude.{if◌then◌else◌}
+use Rattle.std.proofs.Common.{◌≡◌, ℕ, ◌≤◌, true, false, length, take, Option, Some, None, ap, sym, subst}
 use Rattle.em_mem.specs.Memory as mem
 use Rattle.em_mem.proofs.MadePages as memory_laws
 use Rattle.em_tx.specs.Cells.{Cells, MorePages}
 use Rattle.em_tx.specs.Frame.{without_tag}
-use Rattle.em_tx.specs.Undo.{ChangeFits, Fits, StatusFits, front_of, last_of, status_undo, undo, undo_change}
-use Rattle.em_tx.specs.declared.undo.Change.{Change}
-use Rattle.em_tx.specs.declared.undo.Change.TheVariants.{Fetch, Send}
+use Rattle.em_tx.specs.Change.{Change}
+use Rattle.em_tx.specs.Undo.{ChangeFits, FrameFits, Fits, SentFits, StatusFits, gathered_before, last_of}
+use Rattle.em_tx.specs.Undo.{status_undo, undo, undo_change, wire_before}
+use Rattle.em_tx.specs.declared.change.Sent.{Sent}
+use Rattle.em_tx.specs.declared.change.Sent.TheVariants.{NoFrame, Untagged, Tagged}
 use Rattle.em_tx.specs.declared.undo.TxUndo.{TxUndo}
-use Rattle.em_tx.specs.declared.undo.TxUndo.TheVariants.{Nothing, Step, Clear}
+use Rattle.em_tx.specs.declared.undo.TxUndo.TheVariants.{Nothing, Step}
 
 status_fits_after : (m n : mem.Cells) (status : Option mem.Patch) → mem.MorePages m n → StatusFits m status
     → StatusFits n status
@@ -21,38 +22,35 @@ status_after : (m n : mem.Cells) (status : Option mem.Patch) → mem.MorePages m
 status_after m n None more = more
 status_after m n (Some status) more = memory_laws.undo_after m n status more
 
+sent_fits_after : (c d : Cells) (n : ℕ) (sent : Sent) → MorePages c d → SentFits c n sent → SentFits d n sent
+sent_fits_after c d n NoFrame more fits = subst (λ g. n ≤ length g) (sym more.gathered) fits
+sent_fits_after c d n Untagged more fits = subst (λ w. FrameFits w n false) (sym more.wire) fits
+sent_fits_after c d n Tagged more fits = subst (λ w. FrameFits w n true) (sym more.wire) fits
+
 change_fits_after : (c d : Cells) (r : Change) → MorePages c d → ChangeFits c r → ChangeFits d r
-change_fits_after c d (Fetch t) more fits = (
-  subst (λ g. t.count ≤ length g) (sym more.gathered) fits.0,
-  status_fits_after c.memory d.memory t.status more.memory fits.1,
+change_fits_after c d r more fits = (
+  sent_fits_after c d r.count r.sent more fits.0,
+  status_fits_after c.memory d.memory r.status more.memory fits.1,
 )
-change_fits_after c d (Send t tagged) more fits =
-    subst
-    (λ w. (0 < length w) × ((if tagged then 16 else 0) ≤ length (last_of w))
-    × (t.count ≤ length (without_tag tagged (last_of w))) × StatusFits d.memory t.status)
-    (sym more.wire)
-    (fits.0, fits.1, fits.2, status_fits_after c.memory d.memory t.status more.memory fits.3)
 
 -- what fits still fits where more pages are made
 pub fits_after : (c d : Cells) (r : TxUndo) → MorePages c d → Fits c r → Fits d r
 fits_after c d Nothing more fits = fits
-fits_after c d (Step change) more fits = change_fits_after c d change.value more fits
-fits_after c d (Clear gathered) more fits = fits
+fits_after c d (Step change) more fits = change_fits_after c d change more fits
+
+gathered_after : (c d : Cells) (n : ℕ) (sent : Sent) → MorePages c d → gathered_before d n sent ≡ gathered_before c n sent
+gathered_after c d n NoFrame more = ap (take n) more.gathered
+gathered_after c d n Untagged more = ap (λ w. take n (without_tag false (last_of w))) more.wire
+gathered_after c d n Tagged more = ap (λ w. take n (without_tag true (last_of w))) more.wire
 
 change_after : (c d : Cells) (r : Change) → MorePages c d → MorePages (undo_change c r) (undo_change d r)
-change_after c d (Fetch t) more = record {
-  gathered = ap (take t.count) more.gathered;
-  wire = more.wire;
-  memory = status_after c.memory d.memory t.status more.memory;
-}
-change_after c d (Send t tagged) more = record {
-  gathered = ap (λ w. take t.count (without_tag tagged (last_of w))) more.wire;
-  wire = ap front_of more.wire;
-  memory = status_after c.memory d.memory t.status more.memory;
+change_after c d r more = record {
+  gathered = gathered_after c d r.count r.sent more;
+  wire = ap (λ w. wire_before w r.sent) more.wire;
+  memory = status_after c.memory d.memory r.status more.memory;
 }
 
 -- an undo leaves as many pages more made as there were
 pub undo_after : (c d : Cells) (r : TxUndo) → MorePages c d → MorePages (undo c r) (undo d r)
 undo_after c d Nothing more = more
-undo_after c d (Step change) more = change_after c d change.value more
-undo_after c d (Clear gathered) more = record { gathered = refl; wire = more.wire; memory = more.memory }
+undo_after c d (Step change) more = change_after c d change more

@@ -1,15 +1,15 @@
 -- What takes a step back.
-use Rattle.std.proofs.Common.{◌≡◌, ℕ, ◌-◌, Bool, cond, List, [], ◌∷◌, ◌++◌, length, get_or}
+use Rattle.std.proofs.Common.{◌≡◌, ℕ, ◌-◌, Bool, cond, true, false, List, [], ◌∷◌, ◌++◌, length, get_or}
 use Rattle.std.proofs.Common.{take, Option, refl, sym, ap, ◌∙◌, subst, arith, length-append}
 use Rattle.std.specs.Prelude.{is_some}
 use Rattle.std.proofs.lemmas.List.{take_at, get_or-append-add}
 use Rattle.em_mem.specs.Memory as mem
 use Rattle.em_regs.specs.declared.setup.TxSetup.{TxSetup}
-use Rattle.em_tx.specs.Cells.{cells}
+use Rattle.em_tx.specs.Cells.{Cells, cells}
 use Rattle.em_tx.specs.Frame.{tag_of, frame, without_tag}
-use Rattle.em_tx.specs.Transfer.{Transfer}
-use Rattle.em_tx.specs.Undo.{ChangeReverses, StatusReverses, StatusFits, status_undo, last_of, front_of}
-use Rattle.em_tx.specs.declared.undo.Change.TheVariants.{Send}
+use Rattle.em_tx.specs.Change.{sent_with}
+use Rattle.em_tx.specs.Undo.{ChangeReverses, FrameFits, SentFits, StatusReverses, front_of, gathered_before}
+use Rattle.em_tx.specs.Undo.{last_of, status_undo, wire_before}
 use Rattle.em_tx.proofs.FrameLaws.{parts, cut_frame}
 
 -- the frame that went last to the wire is the last one
@@ -30,14 +30,29 @@ MorePages-same m n is = record {
   made = λ p made. subst (λ x. mem.IsPageMade x p) (sym is) made;
 }
 
+-- a change with a frame says so of the frame, whether it has a tag or none
+fits_with : (c : Cells) (n : ℕ) (tagged : Bool) → FrameFits c.wire n tagged → SentFits c n (sent_with tagged)
+fits_with c n true fits = fits
+fits_with c n false fits = fits
+
+gathered_with : (c : Cells) (n : ℕ) (tagged : Bool)
+    → gathered_before c n (sent_with tagged) ≡ take n (without_tag tagged (last_of c.wire))
+gathered_with c n true = refl
+gathered_with c n false = refl
+
+wire_with : (w : List (List ℕ)) (tagged : Bool) → wire_before w (sent_with tagged) ≡ front_of w
+wire_with w true = refl
+wire_with w false = refl
+
 -- a frame that was sent comes back as the octets that were gathered before
 pub Reverses-send : (q : TxSetup) (d : List ℕ) {old o : List ℕ} (new g : List ℕ) {w v : List (List ℕ)}
-    (m n : mem.Cells) (t : Transfer) {tagged : Bool} {status : Option mem.Patch}
+    (m n : mem.Cells) (cost : ℕ) {count : ℕ} {tagged : Bool} {status : Option mem.Patch}
     → o ≡ old ++ new → v ≡ w ++ frame q d o ∷ [] → tagged ≡ is_some (tag_of q.vlan d (length o))
-    → t.count ≡ length old → t.status ≡ status → StatusReverses m n status
-    → ChangeReverses (cells old w m) (cells g v n) (Send t tagged)
-Reverses-send q d {old = old} {o = o} new g {w = w} {v = v} m n t {tagged = tagged} {status = status}
-    is_o is_v tag count same back =
+    → count ≡ length old → StatusReverses m n status
+    → ChangeReverses (cells old w m) (cells g v n)
+    (record { count = count; cost = cost; status = status; sent = sent_with tagged })
+Reverses-send q d {old = old} {o = o} new g {w = w} {v = v} m n cost {count = k} {tagged = tagged} {status = status}
+    is_o is_v tag count back =
     let beside : Bool → ℕ = λ b. cond b 16 0 in
     let p = parts q d o in
     let f = frame q d o in
@@ -46,17 +61,21 @@ Reverses-send q d {old = old} {o = o} new g {w = w} {v = v} m n t {tagged = tagg
     let bare : without_tag tagged (last_of v) ≡ without_tag (is_some (tag_of q.vlan d (length o))) f
     = λ i. without_tag (tag i) (last i) in
     let body : without_tag tagged (last_of v) ≡ o ++ p.padding = bare ∙ p.rest in
-    let fits : StatusFits n t.status = subst (StatusFits n) (sym same) back.fits in
-    let restores : status_undo n t.status ≡ m = ap (status_undo n) same ∙ back.restores in
-    let cut : take t.count (without_tag tagged (last_of v)) ≡ old
-    = ap (λ k. take k (without_tag tagged (last_of v))) count ∙ ap (take (length old)) bare
+    let cut : take k (without_tag tagged (last_of v)) ≡ old
+    = ap (λ j. take j (without_tag tagged (last_of v))) count ∙ ap (take (length old)) bare
     ∙ cut_frame q d old new o is_o in
     record {
       fits = (
-        omega (arith, ap length is_v, length-append w (f ∷ [])),
-        omega (arith, p.tagged, ap length last, ap beside tag),
-        omega (arith, ap length body, length-append o p.padding, ap length is_o, length-append old new, count),
-        fits,
+        fits_with (cells g v n) k tagged (
+          omega (arith, ap length is_v, length-append w (f ∷ [])),
+          omega (arith, p.tagged, ap length last, ap beside tag),
+          omega (arith, ap length body, length-append o p.padding, ap length is_o, length-append old new, count),
+        ),
+        back.fits,
       );
-      restores = record { gathered = cut; wire = front; memory = MorePages-same m (status_undo n t.status) restores };
+      restores = record {
+        gathered = gathered_with (cells g v n) k tagged ∙ cut;
+        wire = wire_with v tagged ∙ front;
+        memory = MorePages-same m (status_undo n status) back.restores;
+      };
     }

@@ -33,7 +33,7 @@ use Rattle.em_tx.specs.declared.refusal.TxRefusal.{TxRefusal}
 use Rattle.em_tx.specs.declared.refusal.TxRefusal.TheVariants.{DmaRange, Extended, TooLong, Memory}
 use Rattle.em_tx.specs.Cells.{Shown}
 use Rattle.em_tx.specs.Descriptor.{address, length_of, eop, rs, dext}
-use Rattle.em_tx.specs.Frame.{frame, frame_len, kind_sent}
+use Rattle.em_tx.specs.Frame.{frame, kind_sent}
 use Rattle.em_tx.specs.Ring.{is_idle, place, next, causes}
 
 -- the first cause that refuses the descriptor d, over gathered octets and memory; of a length of 0 the address is not
@@ -50,9 +50,13 @@ pub record Allows (g m d : List ℕ) : Type 0 where
   pub few : length g + length_of d ≤ 16380
   pub held : 0 < length_of d → IsHeld m (address d) (length_of d)
 
--- the gathered octets, and after them those of the descriptor's buffer
+-- gathered octets, and after them those that memory has in the descriptor's buffer
+abbrev pub with_buffer : List ℕ → List ℕ → List ℕ → List ℕ
+with_buffer g m d = g ++ part m (address d) (length_of d)
+
+-- the same of what is shown
 abbrev pub gather : Shown → List ℕ → List ℕ
-gather s d = s.gathered ++ part s.memory (address d) (length_of d)
+gather s d = with_buffer s.gathered s.memory d
 
 -- the memory, where RS asks for it with DD alone in the descriptor's status octet
 abbrev pub report : ℕ → List ℕ → List ℕ → List ℕ
@@ -81,10 +85,6 @@ unfoldable pub handle : TxSetup → List ℕ → Shown → TxAnswer × Shown
 handle q d s =
     let octets = gather s d in
     if sends d (length octets) then send q d s (frame q d octets) else fetch q d s octets
-
--- so many octets are gathered at most, tag and padding of a frame among them
-abbrev pub room : TxSetup → List ℕ → ℕ → ℕ
-room q d n = if sends d n then frame_len q d n else n
 
 -- the refusal, or else the value
 abbrev pub unless : {A : Type 0} → Option TxRefusal → A → Result A TxRefusal

@@ -4,6 +4,6 @@ pub mod Ring
 pub mod Frame
 pub mod Wire
 pub mod Cells
-pub mod Transfer
+pub mod Change
 pub mod Undo
 pub mod Engine

@@ -5,6 +5,9 @@ use Rattle.std.specs.Prelude.{
   ◌<◌,
   ℕ,
   ◌-◌,
+  Bool,
+  true,
+  false,
   List,
   length,
   take,
@@ -21,9 +24,10 @@ use Rattle.em_tx.specs.Frame.{without_tag}
 use Rattle.em_tx.specs.declared.answer.TxAnswer.{TxAnswer}
 use Rattle.em_tx.specs.declared.answer.TxAnswer.TheVariants.{Idle}
 use Rattle.em_tx.specs.declared.undo.TxUndo.{TxUndo}
-use Rattle.em_tx.specs.declared.undo.TxUndo.TheVariants.{Nothing, Step, Clear}
-use Rattle.em_tx.specs.declared.undo.Change.{Change}
-use Rattle.em_tx.specs.declared.undo.Change.TheVariants.{Fetch, Send}
+use Rattle.em_tx.specs.declared.undo.TxUndo.TheVariants.{Nothing, Step}
+use Rattle.em_tx.specs.declared.change.Sent.{Sent}
+use Rattle.em_tx.specs.declared.change.Sent.TheVariants.{NoFrame, Untagged, Tagged}
+use Rattle.em_tx.specs.Change.{Change}
 
 -- the status octet, where one was written
 abbrev pub StatusFits : mem.Cells → Option mem.Patch → Type 0
@@ -45,28 +49,41 @@ last_of w = slice_index_or w (length w - 1) []
 abbrev pub front_of : List (List ℕ) → List (List ℕ)
 front_of w = take (length w - 1) w
 
--- the old octets are among the gathered ones, or among those of the last frame, beside its tag
+-- a frame is on the wire, and the first n octets of it beside its tag are old ones
+abbrev pub FrameFits : List (List ℕ) → ℕ → Bool → Type 0
+FrameFits w n tagged =
+    (0 < length w) × ((if tagged then 16 else 0) ≤ length (last_of w)) × (n ≤ length (without_tag tagged (last_of w)))
+
+-- the n old octets are among the gathered ones, or among those of the last frame, beside its tag
+abbrev pub SentFits : Cells → ℕ → Sent → Type 0
+SentFits c n NoFrame = n ≤ length c.gathered
+SentFits c n Untagged = FrameFits c.wire n false
+SentFits c n Tagged = FrameFits c.wire n true
+
 abbrev pub ChangeFits : Cells → Change → Type 0
-ChangeFits c (Fetch t) = (t.count ≤ length c.gathered) × StatusFits c.memory t.status
-ChangeFits c (Send t tagged) =
-    (0 < length c.wire) × ((if tagged then 16 else 0) ≤ length (last_of c.wire))
-    × (t.count ≤ length (without_tag tagged (last_of c.wire))) × StatusFits c.memory t.status
+ChangeFits c r = SentFits c r.count r.sent × StatusFits c.memory r.status
 
 abbrev pub Fits : Cells → TxUndo → Type 0
 Fits c Nothing = Unit {0}
-Fits c (Step change) = ChangeFits c change.value
-Fits c (Clear gathered) = Unit {0}
+Fits c (Step change) = ChangeFits c change
 
--- the gathered octets are cut to those that there were; a frame comes off the wire, without its tag
+-- the gathered octets are cut to the n that there were; a frame comes off the wire, without its tag
+abbrev pub gathered_before : Cells → ℕ → Sent → List ℕ
+gathered_before c n NoFrame = take n c.gathered
+gathered_before c n Untagged = take n (without_tag false (last_of c.wire))
+gathered_before c n Tagged = take n (without_tag true (last_of c.wire))
+
+abbrev pub wire_before : List (List ℕ) → Sent → List (List ℕ)
+wire_before w NoFrame = w
+wire_before w Untagged = front_of w
+wire_before w Tagged = front_of w
+
 abbrev pub undo_change : Cells → Change → Cells
-undo_change c (Fetch t) = cells (take t.count c.gathered) c.wire (status_undo c.memory t.status)
-undo_change c (Send t tagged) =
-    cells (take t.count (without_tag tagged (last_of c.wire))) (front_of c.wire) (status_undo c.memory t.status)
+undo_change c r = cells (gathered_before c r.count r.sent) (wire_before c.wire r.sent) (status_undo c.memory r.status)
 
 abbrev pub undo : Cells → TxUndo → Cells
 undo c Nothing = c
-undo c (Step change) = undo_change c change.value
-undo c (Clear gathered) = cells gathered c.wire c.memory
+undo c (Step change) = undo_change c change
 
 -- the record takes the change from the old cells to the new ones back, but that more pages may be made
 pub record ChangeReverses (old new : Cells) (r : Change) : Type 0 where
@@ -89,11 +106,6 @@ IsRecordOf answer (Step change) = IsHandled answer
 IsRecordOf answer r = ⊥
 
 -- what a record costs beyond the least
-abbrev pub cost_of_change : Change → ℕ
-cost_of_change (Fetch t) = t.cost
-cost_of_change (Send t tagged) = t.cost
-
 abbrev pub cost_of : TxUndo → ℕ
 cost_of Nothing = 0
-cost_of (Step change) = cost_of_change change.value
-cost_of (Clear gathered) = 0
+cost_of (Step change) = change.cost

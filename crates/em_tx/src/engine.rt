@@ -1,30 +1,29 @@
 //! One step of the transmit engine.
-ghost use Rattle.std.specs.Prelude.{◌≡◌, ◌+◌, ◌<◌, ◌≤◌, ◌++◌, ◌∷◌, [], IfErr, IfNone, IfOk, IsTrue, None, Ok, OnErr};
-ghost use Rattle.std.specs.Prelude.{OnOk, false, is_some, length, vec_capacity, vec_len};
+ghost use Rattle.std.specs.Prelude.{◌≡◌, ◌+◌, ◌<◌, ◌≤◌, ◌++◌, ◌∷◌, [], IfErr, IfNone, IfOk, IfSome, IsSome, IsTrue};
+ghost use Rattle.std.specs.Prelude.{None, Ok, OnErr, OnOk, false, is_some, length, vec_capacity, vec_len};
 ghost use Rattle.em_mem.specs.Memory as mem;
 ghost use Rattle.em_mem.specs.Memory.{IsHeld, IsMade, part};
 ghost use Rattle.em_tx.specs.Cells.{MorePages, cells, shows};
 ghost use Rattle.em_tx.specs.Descriptor.{address, length_of, rs};
-ghost use Rattle.em_tx.specs.Engine.{Allows, Refuses, cost, handle, handling_cost, refusal, report, room, sends};
+ghost use Rattle.em_tx.specs.Engine.{Allows, Refuses, cost, handle, handling_cost, refusal, report, sends, with_buffer};
 ghost use Rattle.em_tx.specs.Engine.{octets_sent, transmit};
 ghost use Rattle.em_tx.specs.Frame.{frame, frame_len, kind_sent, tag_of};
 ghost use Rattle.em_tx.specs.Ring.{is_idle, place};
-ghost use Rattle.em_tx.specs.Undo.{ChangeReverses, Reverses, StatusReverses, cost_of, cost_of_change};
+ghost use Rattle.em_tx.specs.Undo.{ChangeReverses, Reverses, StatusReverses, cost_of};
 ghost use Rattle.em_tx.specs.Undo.{IsHandled, IsRecordOf};
-ghost use Rattle.em_tx.specs.Wire.{plain};
+ghost use Rattle.em_tx.specs.Wire.{AreLaid, HasRoom, plain};
 
 use crate::answer::TxAnswer;
+use crate::change::{Change, Sent, Status};
 use crate::descriptor::{STATUS, TxDescriptor};
-use crate::gather::Gather;
+use crate::gather::{Gather, ROOM};
 use crate::refusal::TxRefusal;
-use crate::transfer::{Status, Transfer};
-use crate::undo::{Change, TxUndo};
-use crate::wire::Wire;
+use crate::undo::TxUndo;
+use crate::wire::{Frames, Wire};
 use crate::{frame, ring};
 use em_filter::Kind;
 use em_mem::GuestMemory;
 use em_regs::TxSetup;
-use std::alloc::{AllocError, Global};
 
 /// The most octets that are gathered (this project's profile).
 const MOST_GATHERED: usize = 16_380;
@@ -94,15 +93,11 @@ fn perform(
 {
     let octets = &mut gather.octets;
     let frames = &mut wire.frames;
-    if let Err(refused) = make_room(octets, frames, memory, at, setup, descriptor) {
+    if let Err(refused) = make_room(octets.len(), frames, memory, at, setup, descriptor) {
         return Err(refused);
     }
-    let Ok(mut kept) = Box::new(gather.alloc, Change::Fetch(Transfer::new(0, 0, None))) else {
-        return Err(TxRefusal::Memory);
-    };
-    let (answer, change) = handle(gather.alloc, octets, frames, memory, at, setup, descriptor);
-    *kept = change;
-    Ok((answer, TxUndo::Step(kept)))
+    let (answer, change) = handle(octets, frames, memory, at, setup, descriptor);
+    Ok((answer, TxUndo::Step(change)))
 }
 
 /// Why a descriptor is refused, if it is.
@@ -124,64 +119,31 @@ fn refusal_of(gather: &Gather, memory: &GuestMemory, descriptor: &TxDescriptor) 
     None
 }
 
-/// Makes room for all that the descriptor needs, and changes nothing.
+/// Makes room for all that the descriptor needs over so many gathered octets, and changes nothing.
 fn make_room(
-    octets: &mut Vec<u8>,
-    frames: &mut Vec<Vec<u8>>,
+    gathered: usize,
+    frames: &mut Frames,
     memory: &mut GuestMemory,
     at: u64,
     setup: &TxSetup,
     descriptor: &TxDescriptor,
 ) -> Result<(), TxRefusal>
-    requires few { vec_len octets.old + length_of descriptor.now ≤ 16380 }
+    requires few { gathered + length_of descriptor.now ≤ 16380 }
     requires held { IsHeld memory.old.octets at 16 }
-    ensures octets { octets.new.items ≡ octets.old.items }
-    ensures frames { frames.new.items ≡ frames.old.items }
+    ensures octets { frames.new.octets.items ≡ frames.old.octets.items }
+    ensures ends { frames.new.ends.items ≡ frames.old.ends.items }
     ensures memory { mem.MorePages memory.old memory.new }
-    ensures room { OnOk result
-        (room setup.now descriptor.now (vec_len octets.old + length_of descriptor.now) ≤ vec_capacity octets.new) }
     ensures place { OnOk result
-        (IsTrue (sends descriptor.now (vec_len octets.old + length_of descriptor.now))
-        → vec_len frames.new < vec_capacity frames.new) }
+        (IsTrue (sends descriptor.now (gathered + length_of descriptor.now))
+        → HasRoom frames.new (frame_len setup.now descriptor.now (gathered + length_of descriptor.now))) }
     ensures made { OnOk result (IsTrue (rs descriptor.now) → IsMade memory.new (at + 12) 1) }
     ensures refused { IfErr result (λ e. e ≡ TxRefusal.Memory) }
 {
-    let count = octets.len() + usize::from(descriptor.length());
-    let whole = descriptor.eop() && count > 0;
-    room_for_octets(octets, count, whole, setup, descriptor)?;
-    room_for_frame(frames, whole)?;
+    let count = gathered + usize::from(descriptor.length());
+    if descriptor.eop() && count > 0 {
+        frames.reserve(frame::len_of(setup, descriptor, count))?;
+    }
     room_for_status(memory, at, descriptor)
-}
-
-/// Room for the octets of a frame, or for those that stay gathered.
-fn room_for_octets(
-    octets: &mut Vec<u8>,
-    count: usize,
-    whole: bool,
-    setup: &TxSetup,
-    descriptor: &TxDescriptor,
-) -> Result<(), AllocError>
-    requires few { count ≤ 16380 }
-    requires more { vec_len octets.old ≤ count }
-    requires whole { whole ≡ sends descriptor.now count }
-    ensures octets { octets.new.items ≡ octets.old.items }
-    ensures room { OnOk result (room setup.now descriptor.now count ≤ vec_capacity octets.new) }
-{
-    let needed = if whole {
-        frame::len_of(setup, descriptor, count)
-    } else {
-        count
-    };
-    let missing = needed - octets.len();
-    octets.reserve(missing)
-}
-
-/// Room for one more frame.
-fn room_for_frame(frames: &mut Vec<Vec<u8>>, whole: bool) -> Result<(), AllocError>
-    ensures frames { frames.new.items ≡ frames.old.items }
-    ensures room { OnOk result (IsTrue whole → vec_len frames.new < vec_capacity frames.new) }
-{
-    if whole { frames.reserve(1) } else { Ok(()) }
 }
 
 /// The page of a status octet.
@@ -206,9 +168,8 @@ fn room_for_status(
 /// Handles the descriptor. Its room is made.
 #[tactic(auto, unfolding(crate::specs::Engine::handle))]
 fn handle(
-    alloc: Global,
     octets: &mut Vec<u8>,
-    frames: &mut Vec<Vec<u8>>,
+    frames: &mut Frames,
     memory: &mut GuestMemory,
     at: u64,
     setup: &TxSetup,
@@ -218,29 +179,30 @@ fn handle(
     requires place { at ≡ place setup.now }
     requires descriptor { IsHeld memory.old.octets at 16 }
     requires allows { Allows octets.old.items memory.old.octets descriptor.now }
-    requires room { room setup.now descriptor.now (vec_len octets.old + length_of descriptor.now)
-        ≤ vec_capacity octets.old }
+    requires room { ROOM ≤ vec_capacity octets.old }
+    requires laid { AreLaid frames.old }
     requires frames { IsTrue (sends descriptor.now (vec_len octets.old + length_of descriptor.now))
-        → vec_len frames.old < vec_capacity frames.old }
+        → HasRoom frames.old (frame_len setup.now descriptor.now (vec_len octets.old + length_of descriptor.now)) }
     requires made { IsTrue (rs descriptor.now) → IsMade memory.old (at + 12) 1 }
-    ensures state { (result.0, shows (cells octets.new.items (plain frames.new.items) memory.new))
-        ≡ handle setup.now descriptor.now (shows (cells octets.old.items (plain frames.old.items) memory.old)) }
+    ensures state { (result.0, shows (cells octets.new.items (plain frames.new) memory.new))
+        ≡ handle setup.now descriptor.now (shows (cells octets.old.items (plain frames.old) memory.old)) }
+    ensures room { ROOM ≤ vec_capacity octets.new }
+    ensures laid { AreLaid frames.new }
     ensures handled { IsHandled result.0 }
     ensures most { octets_sent result.0 ≤ 16384 }
-    ensures cost { cost_of_change result.1
-        ≡ handling_cost setup.now descriptor.now (shows (cells octets.old.items (plain frames.old.items) memory.old)) }
-    ensures reverses { ChangeReverses (cells octets.old.items (plain frames.old.items) memory.old)
-        (cells octets.new.items (plain frames.new.items) memory.new) result.1 }
+    ensures cost { result.1.cost
+        ≡ handling_cost setup.now descriptor.now (shows (cells octets.old.items (plain frames.old) memory.old)) }
+    ensures reverses { ChangeReverses (cells octets.old.items (plain frames.old) memory.old)
+        (cells octets.new.items (plain frames.new) memory.new) result.1 }
 {
     let count = octets.len();
-    fetch(octets, memory, descriptor);
-    let status = report(memory, at, descriptor);
     let cost = u32::from(descriptor.length()) + u32::from(descriptor.rs());
     let index = setup.head;
     let next = ring::next(setup);
     let causes = ring::causes(setup, descriptor);
-    if descriptor.eop() && !octets.is_empty() {
-        let sent = send(alloc, octets, frames, setup, descriptor);
+    if descriptor.eop() && count + usize::from(descriptor.length()) > 0 {
+        let sent = send(octets, frames, memory, setup, descriptor);
+        let status = report(memory, at, descriptor);
         let answer = TxAnswer::Sent {
             index,
             next,
@@ -248,15 +210,20 @@ fn handle(
             octets: sent.octets,
             kind: sent.kind,
         };
-        let transfer = Transfer::new(count, cost + sent.octets, status);
-        (answer, Change::Send(transfer, sent.tagged))
+        let frame = Sent::with(sent.tagged);
+        (
+            answer,
+            Change::new(count, cost + sent.octets, status, frame),
+        )
     } else {
+        fetch(octets, memory, descriptor);
+        let status = report(memory, at, descriptor);
         let answer = TxAnswer::Fetched {
             index,
             next,
             causes,
         };
-        (answer, Change::Fetch(Transfer::new(count, cost, status)))
+        (answer, Change::new(count, cost, status, Sent::NoFrame))
     }
 }
 
@@ -275,9 +242,7 @@ fn fetch(octets: &mut Vec<u8>, memory: &GuestMemory, descriptor: &TxDescriptor)
         return;
     }
     if let Some(found) = memory.slice(descriptor.address(), length) {
-        let Ok(()) = octets.extend_from_slice(found) else {
-            unreachable!();
-        };
+        frame::gather(octets, found);
         return;
     }
     // they lie over the end of a page
@@ -306,38 +271,88 @@ fn report(memory: &mut GuestMemory, at: u64, descriptor: &TxDescriptor) -> Optio
 
 /// A frame that was sent.
 #[derive(Clone, Copy)]
-struct Sending {
+pub(crate) struct Sending {
     octets: u32,
     kind: Kind,
     tagged: bool,
 }
 
-/// Puts the gathered octets on the wire as a frame.
+impl Sending {
+    fn of(frame: &[u8], tagged: bool) -> Sending
+        requires { length frame.now ≤ 16384 }
+        ensures { result ≡ record { octets = length frame.now; kind = kind_sent frame.now; tagged = tagged } }
+    {
+        Sending {
+            octets: frame.len() as u32,
+            kind: frame::kind_sent(frame),
+            tagged,
+        }
+    }
+}
+
+/// Puts the gathered octets, and after them those of the descriptor's buffer, on the wire as a frame.
 fn send(
-    alloc: Global,
     octets: &mut Vec<u8>,
-    frames: &mut Vec<Vec<u8>>,
+    frames: &mut Frames,
+    memory: &GuestMemory,
     setup: &TxSetup,
     descriptor: &TxDescriptor,
 ) -> Sending
-    requires few { vec_len octets.old ≤ 16380 }
-    requires room { frame_len setup.now descriptor.now (vec_len octets.old) ≤ vec_capacity octets.old }
-    requires place { vec_len frames.old < vec_capacity frames.old }
+    requires few { vec_len octets.old + length_of descriptor.now ≤ 16380 }
+    requires held { 0 < length_of descriptor.now
+        → IsHeld memory.now.octets (address descriptor.now) (length_of descriptor.now) }
+    requires room { ROOM ≤ vec_capacity octets.old }
+    requires laid { AreLaid frames.old }
+    requires place { HasRoom frames.old
+        (frame_len setup.now descriptor.now (vec_len octets.old + length_of descriptor.now)) }
     ensures gathered { octets.new.items ≡ [] }
-    ensures wire { plain frames.new.items
-        ≡ plain frames.old.items ++ frame setup.now descriptor.now octets.old.items ∷ [] }
-    ensures octets { result.octets ≡ length (frame setup.now descriptor.now octets.old.items) }
-    ensures kind { result.kind ≡ kind_sent (frame setup.now descriptor.now octets.old.items) }
-    ensures tagged { result.tagged ≡ is_some (tag_of setup.now.vlan descriptor.now (length octets.old.items)) }
+    ensures room { ROOM ≤ vec_capacity octets.new }
+    ensures laid { AreLaid frames.new }
+    ensures size { length (with_buffer octets.old.items memory.now.octets descriptor.now)
+        ≡ vec_len octets.old + length_of descriptor.now }
+    ensures wire { plain frames.new ≡ plain frames.old
+        ++ frame setup.now descriptor.now (with_buffer octets.old.items memory.now.octets descriptor.now) ∷ [] }
+    ensures octets { result.octets ≡ length
+        (frame setup.now descriptor.now (with_buffer octets.old.items memory.now.octets descriptor.now)) }
+    ensures kind { result.kind ≡ kind_sent
+        (frame setup.now descriptor.now (with_buffer octets.old.items memory.now.octets descriptor.now)) }
+    ensures tagged { result.tagged ≡ is_some (tag_of setup.now.vlan descriptor.now
+        (length (with_buffer octets.old.items memory.now.octets descriptor.now))) }
     ensures most { result.octets ≤ 16384 }
 {
-    let tagged = frame::make(octets, setup, descriptor);
-    let kind = frame::kind_sent(octets);
-    let len = octets.len() as u32;
-    frames.push_reserved(std::mem::replace(octets, Vec::new(alloc)));
-    Sending {
-        octets: len,
-        kind,
-        tagged,
+    if octets.is_empty() {
+        if let Some(found) = whole_frame(memory, setup, descriptor) {
+            frames.push(found);
+            return Sending::of(found, false);
+        }
     }
+    fetch(octets, memory, descriptor);
+    let tagged = frame::make(octets, setup, descriptor);
+    frames.push(octets);
+    let sent = Sending::of(octets, tagged);
+    octets.clear();
+    sent
+}
+
+/// The octets of a buffer that is a frame as it stands, with no tag to insert and no padding to add, where they lie
+/// in one page: then they need not be gathered.
+fn whole_frame<'m>(
+    memory: &'m GuestMemory,
+    setup: &TxSetup,
+    descriptor: &TxDescriptor,
+) -> Option<&'m [u8]>
+    requires held { 0 < length_of descriptor.now
+        → IsHeld memory.now.octets (address descriptor.now) (length_of descriptor.now) }
+    ensures octets { IfSome result (λ found. found.now
+        ≡ part memory.now.octets (address descriptor.now) (length_of descriptor.now)) }
+    ensures len { IfSome result (λ found. length found.now ≡ length_of descriptor.now) }
+    ensures frame { IfSome result (λ found. frame setup.now descriptor.now found.now ≡ found.now) }
+    ensures tag { IsSome result → tag_of setup.now.vlan descriptor.now (length_of descriptor.now) ≡ None }
+{
+    let length = usize::from(descriptor.length());
+    if length < frame::SHORTEST || frame::tag_of(setup, descriptor, length).is_some() {
+        return None;
+    }
+    let found = memory.slice(descriptor.address(), length)?;
+    Some(found)
 }

@@ -1,5 +1,5 @@
 //! Gathered octets made a frame.
-ghost use Rattle.std.specs.Prelude.{◌≡◌, ◌+◌, ◌≤◌, ◌++◌, IsTrue, Some, is_some, length, take, drop};
+ghost use Rattle.std.specs.Prelude.{◌≡◌, ◌+◌, ◌≤◌, ◌++◌, [], IsTrue, Some, true, is_some, length, take, drop};
 ghost use Rattle.std.specs.Prelude.{vec_len, vec_capacity};
 ghost use Rattle.em_tx.specs.Frame.{frame, frame_len, kind_sent, with_padding, tag_of, with_tag, without_tag};
 
@@ -16,7 +16,7 @@ const TAG_OCTETS: usize = 4;
 const ADDRESS_OCTETS: usize = 6;
 
 /// Padding makes a frame as long as this.
-const SHORTEST: usize = 60;
+pub(crate) const SHORTEST: usize = 60;
 
 /// The tag that goes into a frame of so many gathered octets, if any does.
 pub(crate) fn tag_of(setup: &TxSetup, descriptor: &TxDescriptor, count: usize) -> Option<[u8; 4]>
@@ -56,8 +56,10 @@ pub(crate) fn make(octets: &mut Vec<u8>, setup: &TxSetup, descriptor: &TxDescrip
     requires few { vec_len octets.old ≤ 16380 }
     requires room { frame_len setup.now descriptor.now (vec_len octets.old) ≤ vec_capacity octets.old }
     ensures frame { octets.new.items ≡ frame setup.now descriptor.now octets.old.items }
+    ensures len { vec_len octets.new ≡ frame_len setup.now descriptor.now (vec_len octets.old) }
     ensures tagged { result ≡ is_some (tag_of setup.now.vlan descriptor.now (length octets.old.items)) }
     ensures most { vec_len octets.new ≤ 16384 }
+    ensures capacity { vec_capacity octets.old ≤ vec_capacity octets.new }
 {
     let tag = tag_of(setup, descriptor, octets.len());
     if let Some(tag) = tag {
@@ -75,26 +77,44 @@ fn insert_tag(octets: &mut Vec<u8>, tag: [u8; 4])
     ensures len { vec_len octets.new ≡ vec_len octets.old + TAG_OCTETS }
     ensures capacity { vec_capacity octets.old ≤ vec_capacity octets.new }
 {
-    let Ok(()) = octets.extend_from_slice(&tag) else {
-        unreachable!();
-    };
+    gather(octets, &tag);
     octets[TAG_PLACE..].rotate_right(TAG_OCTETS);
 }
 
-/// Takes a tag out again.
-pub(crate) fn remove_tag(octets: &mut Vec<u8>)
-    requires { TAG_PLACE + TAG_OCTETS ≤ vec_len octets.old }
-    ensures { octets.new.items ≡ take 12 octets.old.items ++ drop 16 octets.old.items }
+/// Gathers the first octets of a frame with a tag: those before the tag, and those behind it.
+pub(crate) fn gather_beside_tag(octets: &mut Vec<u8>, frame: &[u8], count: usize)
+    requires empty { octets.old.items ≡ [] }
+    requires within { count + TAG_OCTETS ≤ length frame.now }
+    requires tagged { TAG_PLACE + TAG_OCTETS ≤ length frame.now }
+    requires room { count ≤ vec_capacity octets.old }
+    ensures items { octets.new.items ≡ take count (without_tag true frame.now) }
+    ensures capacity { vec_capacity octets.old ≤ vec_capacity octets.new }
 {
-    octets[TAG_PLACE..].rotate_left(TAG_OCTETS);
-    let count = octets.len() - TAG_OCTETS;
-    octets.truncate(count);
+    if count <= TAG_PLACE {
+        gather(octets, &frame[..count]);
+    } else {
+        gather(octets, &frame[..TAG_PLACE]);
+        gather(octets, &frame[TAG_PLACE + TAG_OCTETS..count + TAG_OCTETS]);
+    }
+}
+
+/// Gathers octets, for which there is room.
+pub(crate) fn gather(octets: &mut Vec<u8>, found: &[u8])
+    requires { vec_len octets.old + length found.now ≤ vec_capacity octets.old }
+    ensures items { octets.new.items ≡ octets.old.items ++ found.now }
+    ensures len { vec_len octets.new ≡ vec_len octets.old + length found.now }
+    ensures capacity { vec_capacity octets.old ≤ vec_capacity octets.new }
+{
+    let Ok(()) = octets.extend_from_slice(found) else {
+        unreachable!();
+    };
 }
 
 /// Adds zero octets up to the shortest length.
 fn pad(octets: &mut Vec<u8>, wanted: bool)
     requires { IsTrue wanted → 60 ≤ vec_capacity octets.old }
-    ensures { octets.new.items ≡ with_padding wanted octets.old.items }
+    ensures items { octets.new.items ≡ with_padding wanted octets.old.items }
+    ensures capacity { vec_capacity octets.old ≤ vec_capacity octets.new }
 {
     if wanted && octets.len() < SHORTEST {
         let Ok(()) = octets.resize(SHORTEST, 0) else {

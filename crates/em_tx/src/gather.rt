@@ -1,49 +1,46 @@
 //! The octets that are gathered for the next frame.
-ghost use Rattle.std.specs.Prelude.{◌≡◌, ◌≤◌, [], IsTrue, List, ℕ, take, vec_len};
+ghost use Rattle.std.specs.Prelude.{◌≡◌, ◌≤◌, [], IfOk, IsTrue, List, ℕ, length, take};
 ghost use Rattle.em_tx.specs.Frame.{without_tag};
-ghost use Rattle.em_tx.specs.Cells.{cells};
-ghost use Rattle.em_mem.specs.Memory as mem;
-ghost use Rattle.em_tx.specs.Undo.{Reverses};
 
 use crate::frame;
-use crate::undo::TxUndo;
-use std::alloc::Global;
+use std::alloc::{AllocError, Global};
 use std::marker::Model;
+
+/// There is room for so many octets from the start: the longest frame with its tag. So a step that is taken back
+/// finds room for what it puts back.
+pub(crate) const ROOM: usize = 16_384;
 
 /// The octets of the buffers that were fetched since the last frame was sent. Clauses see their list.
 #[derive(Drop)]
 pub struct Gather {
-    pub(crate) alloc: Global,
     pub(crate) octets: Vec<u8>,
 }
 
 impl Model for Gather {
-    ghost use Rattle.std.specs.Prelude.{List, ℕ};
+    ghost use Rattle.std.specs.Prelude.{◌≤◌, List, ℕ, vec_capacity};
+    ghost use Rattle.em_tx.specs.declared.gather.TheConstants.{ROOM};
 
     ghost Value = { List ℕ };
 
     ghost view = { λ gather. gather.octets.items };
+
+    ghost invariant = { λ gather. ROOM ≤ vec_capacity gather.octets };
 }
 
 impl Gather {
-    /// Nothing gathered. It takes no memory.
-    pub fn new(alloc: Global) -> Gather
-        ensures { result ≡ [] }
+    /// Nothing gathered.
+    pub fn new(alloc: Global) -> Result<Gather, AllocError>
+        ensures { IfOk result (λ gather. gather ≡ []) }
     {
-        Gather {
-            alloc,
-            octets: Vec::new(alloc),
-        }
+        let octets = Vec::with_capacity(alloc, ROOM)?;
+        Ok(Gather { octets })
     }
 
-    /// Lets the gathered octets go, as a reset does. It takes no memory.
-    pub fn clear(&mut self) -> TxUndo
-        ensures state { self.new ≡ [] }
-        ensures reverses { (w : List (List ℕ)) (m : mem.Cells)
-            → Reverses (cells self.old w m) (cells self.new w m) result }
+    /// Lets the gathered octets go. Their room stays.
+    pub fn clear(&mut self)
+        ensures { self.new ≡ [] }
     {
-        let fresh = Gather::new(self.alloc);
-        TxUndo::Clear(std::mem::replace(self, fresh))
+        self.octets.clear();
     }
 
     /// Cuts the gathered octets to so many.
@@ -54,15 +51,17 @@ impl Gather {
     }
 
     /// Gathers the first octets of a frame, without its tag.
-    pub(crate) fn take_frame(&mut self, frame: Vec<u8>, tagged: bool, count: usize)
-        requires { IsTrue tagged → 16 ≤ vec_len frame }
-        ensures { self.new ≡ take count (without_tag tagged frame.items) }
+    pub(crate) fn take_frame(&mut self, frame: &[u8], tagged: bool, count: usize)
+        requires tagged { IsTrue tagged → 16 ≤ length frame.now }
+        requires within { count ≤ length (without_tag tagged frame.now) }
+        requires few { count ≤ ROOM }
+        ensures { self.new ≡ take count (without_tag tagged frame.now) }
     {
-        let mut octets = frame;
+        self.clear();
         if tagged {
-            frame::remove_tag(&mut octets);
+            frame::gather_beside_tag(&mut self.octets, frame, count);
+        } else {
+            frame::gather(&mut self.octets, &frame[..count]);
         }
-        octets.truncate(count);
-        self.octets = octets;
     }
 }

@@ -7,7 +7,7 @@ ghost use Rattle.em_tx.specs.Undo.{Fits, undo};
 ghost use Rattle.em_tx.specs.declared.answer.TxAnswer.{TxAnswer};
 ghost use Rattle.em_tx.specs.declared.undo.TxUndo.{TxUndo};
 
-use crate::transfer::MOST_COST;
+use crate::change::MOST_COST;
 
 /// More made pages show the same, and leave each record fitting.
 pub fn made_pages()

@@ -3,6 +3,7 @@
 #![tactic(auto)]
 
 mod answer;
+mod change;
 mod descriptor;
 mod engine;
 mod frame;
@@ -10,16 +11,15 @@ mod gather;
 pub mod laws;
 mod refusal;
 mod ring;
-mod transfer;
 mod undo;
 mod wire;
 
 pub use answer::TxAnswer;
+pub use change::{Change, MOST_COST, Sent};
 pub use descriptor::TxDescriptor;
 pub use engine::step;
 pub use gather::Gather;
 pub use refusal::TxRefusal;
 pub use ring::is_idle;
-pub use transfer::{MOST_COST, Transfer};
-pub use undo::{Change, TxUndo, take_back};
+pub use undo::{TxUndo, take_back};
 pub use wire::Wire;

@@ -69,12 +69,6 @@ pub(crate) fn first(memory: &GuestMemory, setup: &TxSetup) -> Option<Found>
     if !memory.holds(place, DESCRIPTOR_SIZE) {
         return None;
     }
-    let mut octets = [0; DESCRIPTOR_OCTETS];
-    match memory.slice(place, DESCRIPTOR_OCTETS) {
-        Some(found) => octets.copy_from_slice(found),
-        // it lies over the end of a page
-        None => memory.read_into(place, &mut octets),
-    }
-    let descriptor = TxDescriptor::of_octets(octets);
+    let descriptor = TxDescriptor::of_octets(memory.read_array(place));
     Some(Found { place, descriptor })
 }

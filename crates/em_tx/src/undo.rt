@@ -1,48 +1,25 @@
 //! What takes a step back.
-ghost use Rattle.std.specs.Prelude.{◌≡◌, ◌≤◌, ◌+◌, ◌∷◌, []};
+ghost use Rattle.std.specs.Prelude.{◌≡◌, ◌≤◌, ◌+◌, ◌∷◌, [], take};
 ghost use Rattle.em_mem.specs.Memory as mem;
 ghost use Rattle.em_mem.specs.Memory.{IsHeld, IsMade, put};
 ghost use Rattle.em_tx.specs.Cells.{cells};
 ghost use Rattle.em_tx.specs.Descriptor.{rs};
-ghost use Rattle.em_tx.specs.Undo.{ChangeFits, Fits, StatusFits, cost_of, cost_of_change, status_undo, undo};
-ghost use Rattle.em_tx.specs.Undo.{undo_change};
+ghost use Rattle.em_tx.specs.Frame.{without_tag};
+ghost use Rattle.em_tx.specs.Undo.{ChangeFits, Fits, FrameFits, StatusFits, cost_of, front_of, last_of};
+ghost use Rattle.em_tx.specs.Undo.{status_undo, undo, undo_change};
 
-use crate::gather::Gather;
-use crate::transfer::{MOST_COST, Status, Transfer};
+use crate::change::{Change, MOST_COST, Sent, Status};
+use crate::gather::{Gather, ROOM};
 use crate::wire::Wire;
 use em_mem::GuestMemory;
 
-/// What a step of the transmit engine changed.
-#[derive(Drop)]
-pub enum Change {
-    /// Octets were gathered.
-    Fetch(Transfer),
-    /// They were, and a frame was sent, with a tag or without one.
-    Send(Transfer, bool),
-}
-
-impl Change {
-    /// What its record costs beyond the least: the octets that the step gathered, the status octet and
-    /// the frame that it sent.
-    pub fn cost(&self) -> u32
-        ensures cost { result ≡ cost_of_change self.now }
-        ensures most { result ≤ MOST_COST }
-    {
-        match self {
-            Change::Fetch(transfer) | Change::Send(transfer, _) => transfer.cost(),
-        }
-    }
-}
-
-/// What takes a step of the transmit engine back, or a reset of the gathered octets.
+/// What takes a step of the transmit engine back.
 #[derive(Drop)]
 pub enum TxUndo {
     /// Nothing changed.
     Nothing,
-    /// What a step changed, in a box, so that records stay small.
-    Step(Box<Change>),
-    /// The gathered octets that were let go.
-    Clear(Gather),
+    /// What a step changed.
+    Step(Change),
 }
 
 impl TxUndo {
@@ -52,7 +29,7 @@ impl TxUndo {
         ensures most { result ≤ MOST_COST }
     {
         match self {
-            TxUndo::Nothing | TxUndo::Clear(_) => 0,
+            TxUndo::Nothing => 0,
             TxUndo::Step(change) => change.cost(),
         }
     }
@@ -62,18 +39,15 @@ impl TxUndo {
 /// the gathered ones, cut to those that there were.
 ///
 /// A record is used up: there is no exchange for the record that makes the step again. What the step
-/// gathered is cut off, and to gather it anew, and to put a frame on the wire again, is growth, for which
-/// neither the record nor the gathered octets keep room. The step itself, done again, leads to the same.
+/// gathered is cut off, and the record does not keep it; and to put a frame on the wire again is growth,
+/// for which the wire keeps no room. The step itself, done again, leads to the same.
 pub fn take_back(gather: &mut Gather, wire: &mut Wire, memory: &mut GuestMemory, taken: TxUndo)
     requires { Fits (cells gather.old wire.old memory.old) taken }
     ensures { cells gather.new wire.new memory.new ≡ undo (cells gather.old wire.old memory.old) taken }
 {
     match taken {
         TxUndo::Nothing => {}
-        TxUndo::Step(change) => {
-            take_change_back(gather, wire, memory, Box::into_inner(change));
-        },
-        TxUndo::Clear(old) => *gather = old,
+        TxUndo::Step(change) => take_change_back(gather, wire, memory, change),
     }
 }
 
@@ -81,18 +55,24 @@ fn take_change_back(gather: &mut Gather, wire: &mut Wire, memory: &mut GuestMemo
     requires { ChangeFits (cells gather.old wire.old memory.old) change }
     ensures { cells gather.new wire.new memory.new ≡ undo_change (cells gather.old wire.old memory.old) change }
 {
-    match change {
-        Change::Fetch(transfer) => {
-            let (count, status) = transfer.into_parts();
-            gather.cut(count);
-            put_back(memory, status);
-        }
-        Change::Send(transfer, tagged) => {
-            let (count, status) = transfer.into_parts();
-            gather.take_frame(wire.take_last(), tagged, count);
-            put_back(memory, status);
-        }
+    let (count, status, sent) = change.into_parts();
+    match sent {
+        Sent::NoFrame => gather.cut(count),
+        Sent::Untagged => take_frame_back(gather, wire, false, count),
+        Sent::Tagged => take_frame_back(gather, wire, true, count),
     }
+    put_back(memory, status);
+}
+
+/// Takes the last frame off the wire, and gathers its first octets.
+fn take_frame_back(gather: &mut Gather, wire: &mut Wire, tagged: bool, count: usize)
+    requires fits { FrameFits wire.old count tagged }
+    requires few { count ≤ ROOM }
+    ensures gathered { gather.new ≡ take count (without_tag tagged (last_of wire.old)) }
+    ensures wire { wire.new ≡ front_of wire.old }
+{
+    gather.take_frame(wire.last(), tagged, count);
+    wire.drop_last();
 }
 
 /// Puts a status octet back.

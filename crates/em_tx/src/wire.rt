@@ -1,24 +1,34 @@
 //! The frames that were sent.
-ghost use Rattle.std.specs.Prelude.{◌≡◌, ◌<◌, [], length, slice_get};
+ghost use Rattle.std.specs.Prelude.{◌≡◌, ◌++◌, ◌∷◌, ◌<◌, ◌≤◌, [], OnOk, length, slice_get, slice_index, slice_index_or};
 ghost use Rattle.em_tx.specs.Undo.{front_of, last_of};
+ghost use Rattle.em_tx.specs.Wire.{AreLaid, HasRoom, plain};
 ghost use Rattle.std.specs.Option.{option_map};
 
-use std::alloc::Global;
+use std::alloc::{AllocError, Global};
 use std::marker::Model;
 
 /// The frames that went to the wire, the first one first. Clauses see the list of their octets.
 #[derive(Drop)]
 pub struct Wire {
-    pub(crate) frames: Vec<Vec<u8>>,
+    pub(crate) frames: Frames,
+}
+
+/// Frames in one piece of memory: the octets of all of them, one frame after the other, and where each ends.
+#[derive(Drop)]
+pub(crate) struct Frames {
+    octets: Vec<u8>,
+    ends: Vec<usize>,
 }
 
 impl Model for Wire {
     ghost use Rattle.std.specs.Prelude.{List, ℕ};
-    ghost use Rattle.em_tx.specs.Wire.{plain};
+    ghost use Rattle.em_tx.specs.Wire.{AreLaid, plain};
 
     ghost Value = { List (List ℕ) };
 
-    ghost view = { λ wire. plain wire.frames.items };
+    ghost view = { λ wire. plain wire.frames };
+
+    ghost invariant = { λ wire. AreLaid wire.frames };
 }
 
 impl Wire {
@@ -26,8 +36,10 @@ impl Wire {
     pub fn new(alloc: Global) -> Wire
         ensures { result ≡ [] }
     {
+        let octets = Vec::new(alloc);
+        let ends = Vec::new(alloc);
         Wire {
-            frames: Vec::new(alloc),
+            frames: Frames { octets, ends },
         }
     }
 
@@ -35,26 +47,90 @@ impl Wire {
     pub fn len(&self) -> usize
         ensures { result ≡ length self.now }
     {
-        self.frames.len()
+        self.frames.ends.len()
     }
 
     /// A frame's octets, without a copy; none where so many were not sent.
     pub fn frame(&self, index: usize) -> Option<&[u8]>
         ensures { option_map (λ frame. frame.now) result ≡ slice_get self.now index }
     {
-        let frame = self.frames.get(index)?;
-        Some(frame.as_slice())
+        if index < self.frames.ends.len() {
+            Some(self.frames.at(index))
+        } else {
+            None
+        }
+    }
+
+    /// The octets of the last frame.
+    pub(crate) fn last(&self) -> &[u8]
+        requires { 0 < length self.now }
+        ensures { result.now ≡ last_of self.now }
+    {
+        self.frames.at(self.frames.ends.len() - 1)
     }
 
     /// Takes the last frame off the wire.
-    pub(crate) fn take_last(&mut self) -> Vec<u8>
+    pub(crate) fn drop_last(&mut self)
         requires { 0 < length self.old }
-        ensures frame { result.items ≡ last_of self.old }
-        ensures front { self.new ≡ front_of self.old }
+        ensures { self.new ≡ front_of self.old }
     {
-        let Some(frame) = self.frames.pop() else {
+        self.frames.drop_last();
+    }
+}
+
+impl Frames {
+    /// Where a frame begins: at the end of the one before it.
+    fn start(&self, index: usize) -> usize
+        requires { index ≤ length self.now.ends.items }
+        ensures { result ≡ slice_index (0 ∷ self.now.ends.items) index }
+    {
+        if index == 0 { 0 } else { self.ends[index - 1] }
+    }
+
+    /// The octets of a frame.
+    fn at(&self, index: usize) -> &[u8]
+        requires laid { AreLaid self.now }
+        requires within { index < length self.now.ends.items }
+        ensures { result.now ≡ slice_index_or (plain self.now) index [] }
+    {
+        let start = self.start(index);
+        let end = self.ends[index];
+        &self.octets[start..end]
+    }
+
+    /// Makes room for one more frame, of so many octets.
+    pub(crate) fn reserve(&mut self, octets: usize) -> Result<(), AllocError>
+        ensures octets { self.new.octets.items ≡ self.old.octets.items }
+        ensures ends { self.new.ends.items ≡ self.old.ends.items }
+        ensures room { OnOk result (HasRoom self.new octets) }
+    {
+        self.ends.reserve(1)?;
+        self.octets.reserve(octets)
+    }
+
+    /// Adds a frame, for which there is room.
+    pub(crate) fn push(&mut self, frame: &[u8])
+        requires laid { AreLaid self.old }
+        requires room { HasRoom self.old (length frame.now) }
+        ensures frames { plain self.new ≡ plain self.old ++ frame.now ∷ [] }
+        ensures laid { AreLaid self.new }
+    {
+        let Ok(()) = self.octets.extend_from_slice(frame) else {
             unreachable!();
         };
-        frame
+        self.ends.push_reserved(self.octets.len());
+    }
+
+    /// Takes the last frame away.
+    fn drop_last(&mut self)
+        requires laid { AreLaid self.old }
+        requires some { 0 < length self.old.ends.items }
+        ensures frames { plain self.new ≡ front_of (plain self.old) }
+        ensures laid { AreLaid self.new }
+    {
+        let left = self.ends.len() - 1;
+        let start = self.start(left);
+        self.ends.truncate(left);
+        self.octets.truncate(start);
     }
 }

@@ -19,6 +19,7 @@ loop-used-init c =
       reached = omega (arith, reach_length c.args.room (costs_of rs), length-costs_of rs);
       short = omega arith;
       counted = c.requires;
+      same = refl;
     }
 
 pub loop-used-preserved : goal.loop-used-preserved
@@ -34,6 +35,7 @@ loop-used-preserved c =
       reached = omega (arith, less, len);
       short = omega (arith, len);
       counted = omega arith;
+      same = c.drop_one-used.ensures.same ∙ c.loop-used.invariant.same;
     }
 
 pub returns-clause-items : goal.returns-clause-items

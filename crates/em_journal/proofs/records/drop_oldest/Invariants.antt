@@ -11,6 +11,7 @@ invariant-loop-used l = record {
   reached : reach l.room (costs_of l.initial.records.items) ≤ length l.records.items;
   short : length l.records.items ≤ length l.initial.records.items;
   counted : l.used ≡ sum (costs_of l.records.items);
+  same : l.adapter ≡ l.initial.adapter;
 }
 
 abbrev pub decreases-loop-used : goal.decreases-loop-used

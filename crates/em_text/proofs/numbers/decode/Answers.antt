@@ -1,23 +1,30 @@
-use Rattle.std.proofs.Common.{◌≤◌, arith, subst}
+use Rattle.std.proofs.Common.{◌≤◌, arith}
 use Rattle.hex.proofs.Pairs.{decode_start}
-use Rattle.em_text.proofs.NumbersLemmas.{Decodes, Decodes-more, Decodes-all}
+use Rattle.em_text.proofs.NumbersLemmas.{Decodes-more, Decodes-pair, Decodes-all}
 use Rattle.em_text.proofs.numbers.decode.Goals as goal
 
-pub loop-i-init : goal.loop-i-init
-loop-i-init c = record {
-  good = λ _. decode_start c.args.word.now c.args.octets.now;
-  bad = λ (h : 16 ≤ 0). absurd (omega arith);
+pub loop-octets-init : goal.loop-octets-init
+loop-octets-init c = record {
+  within = omega arith;
+  so_far = record {
+    good = λ _. decode_start c.args.word.now c.args.octets.now;
+    bad = λ (h : 16 ≤ 0). absurd (omega arith);
+  };
 }
 
 pub loop-i-preserved : goal.loop-i-preserved
 loop-i-preserved c =
-    Decodes-more c.args.word.now c.loop-i.octets c.loop-i.i c.loop-i.greatest c.hex_value_of-high.result
-    c.hex_value_of-low.result c.max-greatest.result (omega arith) (omega arith) (omega arith) (omega arith)
-    (omega arith) (omega arith) c.loop-i.invariant
+    Decodes-pair c.args.word.now c.loop-i.octets c.hex_values-values.result c.loop-octets.done c.loop-i.i 32
+    c.loop-i.greatest c.max-greatest.result (omega arith) (omega arith) (omega arith) c.hex_values-values.ensures
+    (omega arith) c.loop-i.invariant
 
-pub loop-i-2-init : goal.loop-i-2-init
-loop-i-2-init c =
-    subst (λ i. Decodes c.args.word.now c.loop-i.octets i c.loop-i.greatest) (omega arith) c.loop-i.invariant
+pub loop-i-then-octets-done-ge-HALF-preserved : goal.loop-i-then-octets-done-ge-HALF-preserved
+loop-i-then-octets-done-ge-HALF-preserved c =
+    let more = c.loop-i-then-octets-done-ge-HALF in
+    let values = c.hex_values-values-then-octets-done-ge-HALF in
+    Decodes-pair c.args.word.now more.octets values.result c.loop-octets.done more.i 16 more.greatest
+    c.max-greatest-in-loop-i-then-octets-done-ge-HALF.result (omega arith) (omega arith) (omega arith) values.ensures
+    (omega arith) more.invariant
 
 pub loop-i-2-preserved : goal.loop-i-2-preserved
 loop-i-2-preserved c =

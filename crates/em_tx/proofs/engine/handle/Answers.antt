@@ -1,15 +1,29 @@
-use Rattle.std.proofs.Common.{◌≡◌, ◌∙◌, ap, arith, length}
-use Rattle.em_tx.specs.Transfer.{Transfer}
+use Rattle.std.proofs.Common.{◌≡◌, ◌+◌, ◌∙◌, ap, arith, length, refl, sym, subst}
+use Rattle.em_tx.specs.Cells.{cells}
+use Rattle.em_tx.specs.Change.{sent_with}
+use Rattle.em_tx.specs.Undo.{ChangeReverses}
+use Rattle.em_tx.specs.Wire.{plain}
 use Rattle.em_tx.proofs.ReverseLaws.{Reverses-send}
 use Rattle.em_tx.proofs.engine.handle.Goals as goal
 
-pub returns-then-not-is_empty-clause-reverses : goal.returns-then-not-is_empty-clause-reverses
-returns-then-not-is_empty-clause-reverses c =
-    let t = c.new-transfer.result in
-    let count : t.count ≡ length c.args.octets.now.items
-    = ap (λ (x : Transfer). x.count) c.new-transfer.ensures ∙ omega arith in
-    let status = ap (λ (x : Transfer). x.status) c.new-transfer.ensures in
+pub returns-then-count-from-gt0-clause-reverses : goal.returns-then-count-from-gt0-clause-reverses
+returns-then-count-from-gt0-clause-reverses c =
+    let count : c.len-count.result ≡ length c.args.octets.now.items = omega arith in
     let sent = c.send-sent in
-    let memory = c.args.memory.now in
-    Reverses-send c.args.setup.now c.args.descriptor.now _ sent.new.octets.items memory c.report-status.new.memory t
-    c.fetch.ensures.octets sent.ensures.wire sent.ensures.tagged count status c.report-status.ensures.reverses
+    let status = c.report-status in
+    let old = cells c.args.octets.now.items (plain c.args.frames.now) c.args.memory.now in
+    let new = cells sent.new.octets.items (plain sent.new.frames) status.new.memory in
+    let same : c.new.result ≡ record {
+      count = c.len-count.result;
+      cost = c.from.result + c.from-2.result + sent.result.octets;
+      status = status.result;
+      sent = sent_with sent.result.tagged;
+    } = c.new.ensures ∙ ap (λ s. record {
+      count = c.len-count.result;
+      cost = c.from.result + c.from-2.result + sent.result.octets;
+      status = status.result;
+      sent = s;
+    }) c.with-frame.ensures in
+    subst (ChangeReverses old new) (sym same)
+    (Reverses-send c.args.setup.now c.args.descriptor.now _ sent.new.octets.items c.args.memory.now status.new.memory _
+    refl sent.ensures.wire sent.ensures.tagged count status.ensures.reverses)

@@ -1,7 +1,7 @@
-use Rattle.std.proofs.Common.{◌≡◌, ◌∙◌, ap, refl}
+use Rattle.std.proofs.Common.{◌≡◌, ◌∙◌, ap}
 use Rattle.em_tx.specs.Cells.{cells, shows}
 use Rattle.em_tx.specs.Engine.{handle}
-use Rattle.em_tx.specs.Wire.{plain}
+use Rattle.em_tx.specs.Wire.{frames_from, plain}
 use Rattle.em_tx.proofs.EngineLaws.{transmit-handle, Refuses-memory, shows-same}
 use Rattle.em_tx.proofs.engine.perform.Goals as goal
 
@@ -10,18 +10,13 @@ returns-in-Err-clause-err c =
     let r = c.requires in
     Refuses-memory c.args.setup.now _ c.args.descriptor.now r.turn r.held r.octets r.allowed c.in-Err.ensures.refused
 
-pub returns-in_default-new-clause-err : goal.returns-in_default-new-clause-err
-returns-in_default-new-clause-err c =
-    let r = c.requires in
-    Refuses-memory c.args.setup.now _ c.args.descriptor.now r.turn r.held r.octets r.allowed refl
-
 pub returns-clause-ok : goal.returns-clause-ok
 returns-clause-ok c =
     let r = c.requires in
     let made = c.make_room in
-    let room : shows (cells made.new.octets.items (plain made.new.frames.items) made.new.memory)
+    let room : shows (cells c.gather.inside.octets.items (plain made.new.frames) made.new.memory)
     ≡ shows (cells c.args.gather.now c.args.wire.now c.args.memory.now)
-    = shows-same made.new.memory c.args.memory.now (made.ensures.octets ∙ c.gather.view_is)
-    (ap plain made.ensures.frames ∙ c.wire.view_is) made.ensures.memory.octets in
+    = shows-same made.new.memory c.args.memory.now c.gather.view_is
+    ((λ i. frames_from 0 (made.ensures.ends i) (made.ensures.octets i)) ∙ c.wire.view_is) made.ensures.memory.octets in
     transmit-handle c.args.setup.now _ c.args.descriptor.now r.turn r.held r.octets r.allowed
     (c.handle-answer.ensures.state ∙ ap (handle c.args.setup.now c.args.descriptor.now) room)

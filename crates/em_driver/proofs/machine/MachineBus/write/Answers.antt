@@ -1,13 +1,25 @@
+use Rattle.em_regs.specs.Table.{offset_of}
+use Rattle.em_step.specs.Event.{writes}
+use Rattle.em_step.specs.declared.event.Answer.TheVariants.{Done}
+use Rattle.em_step.proofs.Registers.{if_err, on_ok}
 use Rattle.em_driver.proofs.AnswerLaws.{write_refused}
-use Rattle.em_driver.proofs.QuietLaws.{quiet_write}
+use Rattle.em_driver.proofs.QuietLaws.{quiet_access, quiet_refusal}
 use Rattle.em_driver.proofs.machine.MachineBus.write.Goals as goal
 
-pub returns-in-Ok-clause-ok : goal.returns-in-Ok-clause-ok
-returns-in-Ok-clause-ok c =
-    quiet_write c.args.self.now c.perform.new.self c.args.reg c.offset.result c.args.value c.in-Ok.field-0
-    c.requires c.offset.ensures c.in-Ok.ensures.ok
+pub returns-clause-ok : goal.returns-clause-ok
+returns-clause-ok c =
+    on_ok c.write_register.result
+    (quiet_access c.args.self.now c.write_register.new.self (writes (offset_of c.args.reg) c.args.value) Done)
+    c.write_register.ensures.ok
 
-pub returns-in-Err-clause-only : goal.returns-in-Err-clause-only
-returns-in-Err-clause-only c =
-    write_refused c.args.self.now.present c.args.reg c.args.value c.in-Err.refusal c.requires
-    c.offset.result c.offset.ensures c.in-Err.ensures.err.0
+pub returns-clause-err : goal.returns-clause-err
+returns-clause-err c =
+    if_err c.write_register.result
+    (quiet_refusal c.args.self.now c.write_register.new.self (writes (offset_of c.args.reg) c.args.value))
+    c.write_register.ensures.err
+
+pub returns-clause-only : goal.returns-clause-only
+returns-clause-only c =
+    if_err c.write_register.result
+    (λ refusal why. write_refused c.args.self.now.present c.args.reg c.args.value refusal c.requires why.0)
+    c.write_register.ensures.err

@@ -4,11 +4,11 @@ use Rattle.em_journal.proofs.machine.Machine.arrive.Goals as goal
 
 pub invariant_of-self-2 : goal.invariant_of-self-2
 invariant_of-self-2 c =
-    let kept = c.keep-self-inside.ensures in
-    journal_event c.self.invariant c.in_ok-answer.ensures.reverses kept.items kept.capacity kept.counted kept.held
+    let kept = c.keep.ensures in
+    journal_event kept.same c.self.invariant c.in_ok-answer.ensures.reverses kept.items kept.capacity kept.counted kept.held
 
 pub returns-clause-ok : goal.returns-clause-ok
 returns-clause-ok c =
     let done = c.in_ok-answer.ensures in
-    event_does c.self.inside.records.items (arrives c.args.frame.now)
-    done.ok done.cost done.reverses c.keep-self-inside.ensures.items c.self.view_is
+    event_does c.self.inside.records.ring.items (arrives c.args.frame.now)
+    c.keep.ensures.same done.ok done.cost done.reverses c.keep.ensures.items c.self.view_is

@@ -5,9 +5,9 @@ use Rattle.em_journal.proofs.machine.Machine.can_go_back.Goals as goal
 
 pub returns-clause-past : goal.returns-clause-past
 returns-clause-past c =
-    c.len.ensures.len ∙ sym (length-back_through c.self.inside.adapter c.self.inside.records.items)
+    c.len.ensures.len ∙ sym (length-back_through c.self.inside.adapter c.self.inside.records.ring.items)
     ∙ ap (λ v. length v.past) c.self.view_is
 
 pub returns-clause-costs : goal.returns-clause-costs
 returns-clause-costs c =
-    c.len.ensures.len ∙ sym (length-costs_of c.self.inside.records.items) ∙ ap (λ v. length v.costs) c.self.view_is
+    c.len.ensures.len ∙ sym (length-costs_of c.self.inside.records.ring.items) ∙ ap (λ v. length v.costs) c.self.view_is

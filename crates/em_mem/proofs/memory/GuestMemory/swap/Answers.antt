@@ -1,7 +1,7 @@
 use Rattle.std.proofs.Common.{◌≡◌, ◌∙◌, ◌+◌, ◌-◌, take, drop, ap, sym, length, arith, length-drop}
 use Rattle.std.proofs.lemmas.List.{take_all, length-take-le}
 use Rattle.em_mem.specs.Memory.{part, put}
-use Rattle.em_mem.proofs.PutLaws.{put_back, length-part, length-put}
+use Rattle.em_mem.proofs.PutLaws.{write_reverses, length-part}
 use Rattle.em_mem.proofs.PieceLaws.{wrote_step, old_step, read_step, rest_step}
 use Rattle.em_mem.proofs.memory.GuestMemory.swap.Goals as goal
 
@@ -44,14 +44,5 @@ returns-clause-reverses c =
     (take_all c.loop-done.done written (omega arith)) in
     let old = sym (take_all c.loop-done.done c.loop-done.swapped (omega arith)) ∙ c.loop-done.invariant.old
     ∙ ap (part before c.args.addr) all in
-    let octets = put_back before c.loop-done.self.octets c.args.addr written c.loop-done.swapped
-    wrote old c.requires.held in
-    let size = ap length old ∙ length-part before c.args.addr (length written) c.requires.held in
-    let same_size = ap length wrote ∙ length-put before c.args.addr written c.requires.held in
-    record {
-      fits = record {
-        held = omega (arith, size, same_size, c.requires.held);
-        made = λ i h. rw c.loop-done.invariant.kept (c.requires.made i (omega (arith, size)));
-      };
-      restores = λ i. record { octets = octets i; made = c.loop-done.invariant.kept i };
-    }
+    write_reverses c.args.self.now c.loop-done.self c.args.addr written c.loop-done.swapped c.requires.held
+    c.requires.made wrote c.loop-done.invariant.kept old

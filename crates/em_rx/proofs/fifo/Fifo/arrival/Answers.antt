@@ -16,7 +16,7 @@ returns-clause-arrives c = λ d size.
       octets = d;
       at = c.wrap-at.result;
       entry = e;
-      index = c.wrap.result;
+      index = c.wrap-patch-inside.result;
       places = record f.places { count = f.places.count + 1; used = f.places.used + c.args.len };
     } in
     let is : p ≡ arrival cells d e
@@ -24,7 +24,7 @@ returns-clause-arrives c = λ d size.
       octets = d;
       at = c.wrap-at.ensures i;
       entry = e;
-      index = c.wrap.ensures i;
+      index = c.wrap-patch-inside.ensures i;
       places = record f.places { count = f.places.count + 1; used = f.places.used + sym size i };
     } in
     let room : HasRoom (shows c.args.self.now) (length d)

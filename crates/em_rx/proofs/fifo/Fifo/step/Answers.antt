@@ -9,6 +9,8 @@ pub deliver-requires-clause-fits : goal.deliver-requires-clause-fits
 deliver-requires-clause-fits c =
     let patch = c.in_ok-patch in
     let is : c.deref_mut.result.now ≡ patch.patch.value = search rules in
+    subst (λ fifo. FitsStep fifo c.touch-2.new.self c.deref_mut.result.now) (sym c.delivery.ensures.same)
+    (
     subst (FitsStep c.args.self.now c.touch-2.new.self) (sym is)
     (
     step_fits c.args.self.now c.args.memory.now c.touch.new.self c.touch-2.new.self patch.patch.value
@@ -19,6 +21,7 @@ deliver-requires-clause-fits c =
     (ap (λ (p : Patch). p.at) patch.ensures.first) patch.ensures.count
     (ap (λ (p : Patch). p.at) patch.ensures.second) patch.ensures.eight
     patch.ensures.moves.sound
+    )
     )
 
 pub deliver-requires-clause-overwritten : goal.deliver-requires-clause-overwritten

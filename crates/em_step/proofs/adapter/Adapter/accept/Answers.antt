@@ -1,6 +1,5 @@
 -- The words of the latches and the cells of the FIFO that changed are in the record.
-use Rattle.std.proofs.Common.{ap, subst, ◌∙◌}
-use Rattle.em_rx.specs.Undo.{Reverses}
+use Rattle.std.proofs.Common.{ap, ◌∙◌}
 use Rattle.em_step.specs.Cells.{Cells}
 use Rattle.em_step.proofs.ReversalLaws.{more_same}
 use Rattle.em_step.proofs.adapter.Adapter.accept.Goals as goal
@@ -9,8 +8,7 @@ pub returns-clause-reverses : goal.returns-clause-reverses
 returns-clause-reverses c =
     let words = c.count_frame-latches.ensures.reverses in
     let memory = c.self.inside.memory in
-    let frames = subst (λ r. Reverses c.self.inside.fifo c.accept.new.self memory memory r) c.in-Ok-Frame.field-0-is
-    (c.in-Ok-Frame.ensures.reverses memory) in
+    let frames = c.in-Ok.ensures.reverses memory in
     record {
       fits = record { latches = words.fits; part = frames.fits };
       restores = record {

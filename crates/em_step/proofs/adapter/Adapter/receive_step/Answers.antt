@@ -1,11 +1,13 @@
 -- A piece of a frame was written.
-use Rattle.std.proofs.Common.{refl, ap, sym, ◌∙◌}
+use Rattle.std.proofs.Common.{refl, ap, sym, ◌∙◌, rules}
 use Rattle.em_regs.specs.declared.reg.Reg.TheVariants.{Rdh}
 use Rattle.em_regs.specs.RegFile.{put}
 use Rattle.em_regs.specs.Setup.{rx_setup}
+use Rattle.em_latch.specs.Latches.{Reverses}
 use Rattle.em_step.specs.Cells.{Cells, shows}
 use Rattle.em_step.specs.Engines.{rx_step}
 use Rattle.em_step.proofs.EngineLaws.{rx_wrote}
+use Rattle.em_step.proofs.ReversalLaws.{nothing_done}
 use Rattle.em_step.proofs.adapter.Adapter.receive_step.Goals as goal
 
 pub returns-in-Wrote-Step-clause-ok : goal.returns-in-Wrote-Step-clause-ok
@@ -14,4 +16,10 @@ returns-in-Wrote-Step-clause-ok c =
     ∙ rx_wrote _ _ (c.ring_rx.ensures.setup ∙ ap rx_setup c.deref.ensures) c.in_ok-answer.ensures.ok
     c.in-Wrote-Step.is-0
     (c.put.ensures.state ∙ ap (λ file. put file Rdh c.in-Wrote-Step.next) c.deref_mut.ensures.value)
-    c.raise-latches.ensures.state refl refl refl refl
+    c.raise.ensures.state refl refl refl refl
+
+pub returns-in-Wrote-Step-clause-reverses : goal.returns-in-Wrote-Step-clause-reverses
+returns-in-Wrote-Step-clause-reverses c =
+    let words : Reverses c.self.inside.latches c.raise.new.self c.raise.new.undo
+    = c.raise.ensures.reverses _ (nothing_done c.none-latches.ensures) in
+    search rules

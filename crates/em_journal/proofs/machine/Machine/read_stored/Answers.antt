@@ -1,0 +1,15 @@
+use Rattle.em_regs.specs.Table.{offset_of}
+use Rattle.em_step.specs.Event.{reads}
+use Rattle.em_journal.proofs.RecordsLaws.{event_does, journal_event}
+use Rattle.em_journal.proofs.machine.Machine.read_stored.Goals as goal
+
+pub invariant_of-self : goal.invariant_of-self
+invariant_of-self c =
+    let kept = c.keep.ensures in
+    journal_event kept.same c.self.invariant c.read_stored-value.ensures.reverses kept.items kept.capacity kept.counted kept.held
+
+pub returns-clause-does : goal.returns-clause-does
+returns-clause-does c =
+    let done = c.read_stored-value.ensures in
+    event_does c.self.inside.records.ring.items (reads (offset_of c.args.reg))
+    c.keep.ensures.same done.ok done.cost done.reverses c.keep.ensures.items c.self.view_is

@@ -1,0 +1,149 @@
+//! What a step keeps of the cells that it changed.
+ghost use Rattle.std.specs.Prelude.{◌≡◌, ◌<◌, ◌≤◌, ◌∷◌, []};
+ghost use Rattle.em_mem.specs.Memory.{Fits, IsHeld, IsMade, Reverses, put, undo};
+ghost use Rattle.em_tx.specs.Change.{sent_with};
+
+use em_mem::GuestMemory;
+use std::marker::Model;
+
+/// DD, alone in the status octet of a descriptor.
+const DD: u8 = 0x01;
+
+/// The most that a step costs beyond the least: 16,380 gathered octets, a status octet and a frame of
+/// 16,384.
+pub const MOST_COST: u32 = 32_765;
+
+/// The status octet of a descriptor before it was reported. Guest memory has at most 2^24 octets, so its
+/// place lies in three, and a record stays small.
+#[derive(Drop)]
+pub(crate) struct Status {
+    low: u8,
+    middle: u8,
+    high: u8,
+    octet: [u8; 1],
+}
+
+impl Model for Status {
+    ghost use Rattle.std.specs.Prelude.{◌+◌, ◌*◌};
+    ghost use Rattle.em_mem.specs.Memory.{Patch};
+
+    ghost Value = { Patch };
+
+    ghost view = { λ status. record {
+      at = status.low + 0x100 * status.middle + 0x1_0000 * status.high;
+      octets = status.octet;
+    } };
+}
+
+impl Status {
+    /// Writes a status octet: DD alone is set.
+    pub(crate) fn report(memory: &mut GuestMemory, place: u64) -> Status
+        requires held { IsHeld memory.old.octets place 1 }
+        requires made { IsMade memory.old place 1 }
+        ensures octets { memory.new.octets ≡ put memory.old.octets place (1 ∷ []) }
+        ensures reverses { Reverses memory.old memory.new result }
+    {
+        // a place in memory is less than 2^24
+        let _size = memory.len();
+        let octet = memory.replace(place, &[DD]);
+        Status::new(place, octet)
+    }
+
+    fn new(place: u64, octet: [u8; 1]) -> Status
+        requires { place < 0x100_0000 }
+        ensures { result ≡ record { at = place; octets = octet } }
+    {
+        Status {
+            low: (place % 0x100) as u8,
+            middle: (place / 0x100 % 0x100) as u8,
+            high: (place / 0x1_0000) as u8,
+            octet,
+        }
+    }
+
+    /// Puts the old octet back.
+    pub(crate) fn put_back(self, memory: &mut GuestMemory)
+        requires { Fits memory.old self }
+        ensures { memory.new ≡ undo memory.old self }
+    {
+        let place = u64::from(self.low)
+            + 0x100 * u64::from(self.middle)
+            + 0x1_0000 * u64::from(self.high);
+        memory.write(place, &self.octet);
+    }
+}
+
+/// The frame that a step sent, if it sent one.
+#[derive(Clone, Copy)]
+pub enum Sent {
+    /// It sent none.
+    NoFrame,
+    /// A frame without a tag.
+    Untagged,
+    /// A frame with a tag.
+    Tagged,
+}
+
+impl Sent {
+    /// A frame that was sent with a tag or without one.
+    pub(crate) fn with(tagged: bool) -> Sent
+        ensures { result ≡ sent_with tagged }
+    {
+        if tagged { Sent::Tagged } else { Sent::Untagged }
+    }
+}
+
+/// What a step of the transmit engine changed: how many octets were gathered, what its record costs
+/// beyond the least, the status octet that it overwrote, and the frame that it sent.
+#[derive(Drop)]
+pub struct Change {
+    cost: u16,
+    count: u16,
+    status: Option<Status>,
+    sent: Sent,
+}
+
+impl Model for Change {
+    ghost use Rattle.std.specs.Prelude.{◌≤◌};
+    ghost use Rattle.em_tx.specs.declared.change.TheConstants.{MOST_COST};
+    ghost use Rattle.em_tx.specs.Change.{Change};
+
+    ghost Value = { Change };
+
+    ghost view = { λ c. record { count = c.count; cost = c.cost; status = c.status; sent = c.sent } };
+
+    ghost invariant = { λ c. (c.cost ≤ MOST_COST) × (c.count ≤ 16_380) };
+}
+
+impl Change {
+    pub(crate) fn new(count: usize, cost: u32, status: Option<Status>, sent: Sent) -> Change
+        requires count { count ≤ 16_380 }
+        requires cost { cost ≤ MOST_COST }
+        ensures { result ≡ record { count = count; cost = cost; status = status; sent = sent } }
+    {
+        Change {
+            cost: cost as u16,
+            count: count as u16,
+            status,
+            sent,
+        }
+    }
+
+    /// What its record costs beyond the least: the octets that the step gathered, the status octet and
+    /// the frame that it sent.
+    pub fn cost(&self) -> u32
+        ensures cost { result ≡ self.now.cost }
+        ensures most { result ≤ MOST_COST }
+    {
+        u32::from(self.cost)
+    }
+
+    pub(crate) fn into_parts(self) -> (usize, Option<Status>, Sent)
+        ensures count { result.0 ≡ self.count }
+        ensures few { result.0 ≤ 16_380 }
+        ensures status { result.1 ≡ self.status }
+        ensures sent { result.2 ≡ self.sent }
+    {
+        (usize::from(self.count), self.status, self.sent)
+    }
+}
