@@ -146,10 +146,13 @@ fn free_descriptors(count: u32, head: u32, tail: u32) -> Option<u32>
         (spec.are_indices count head tail ≡ true) × (free ≡ spec.free_from count head tail)) }
     ensures fits { IfSome result (λ free. (free < count) × (tail < count)) }
 {
-    if tail < count && head < count {
-        Some((head + count - tail - 1) % count)
+    if tail >= count || head >= count {
+        return None;
+    }
+    if tail < head {
+        Some(head - tail - 1)
     } else {
-        None
+        Some(head + count - tail - 1)
     }
 }
 

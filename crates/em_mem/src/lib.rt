@@ -2,14 +2,18 @@
 //! they are about to be written, and what it means to take a change back.
 #![tactic(auto)]
 
+pub use few_octets::{FEW, FewOctets};
 pub use memory::GuestMemory;
+pub use place::Place;
 pub use refusal::MemRefusal;
 pub use reversible::Reversible;
 pub use spares::{Spares, SparesByLen, empty_for};
 pub use undo::MemUndo;
 
+mod few_octets;
 mod memory;
 mod page;
+mod place;
 mod refusal;
 mod reversible;
 mod spares;

@@ -70,7 +70,10 @@ impl GuestMemory {
         ensures { IsTrue result ↔ IsHeld self.now.octets addr len }
     {
         let size = self.len();
-        addr <= size && len <= size - addr
+        match addr.checked_add(len) {
+            Some(end) => end <= size,
+            None => false,
+        }
     }
 
     /// Where the range of `len` octets from `addr` on ends.
@@ -87,9 +90,20 @@ impl GuestMemory {
         ensures found { IsSome result ↔ (IsHeld self.now.octets addr len × IsInOnePage addr len) }
         ensures octets { IfSome result (λ octets. octets.now ≡ part self.now.octets addr len) }
     {
-        if !self.holds(addr, len as u64) {
-            return None;
+        if self.holds(addr, len as u64) {
+            self.piece(addr, len)
+        } else {
+            None
         }
+    }
+
+    /// The same of octets that lie in memory: none where they do not lie in one page.
+    #[inline(always)]
+    pub fn piece(&self, addr: u64, len: usize) -> Option<&[u8]>
+        requires { IsHeld self.now.octets addr len }
+        ensures found { IsSome result ↔ IsInOnePage addr len }
+        ensures octets { IfSome result (λ octets. octets.now ≡ part self.now.octets addr len) }
+    {
         if len == 0 {
             return Some(&[]);
         }
@@ -114,6 +128,7 @@ impl GuestMemory {
     /// Makes the pages of the `len` octets from `addr` on, so that they can be written; a range of 0
     /// octets has none. Where memory is refused (`Memory`), the pages made until then stay; it is not
     /// where all pages of the range are made already.
+    #[inline(always)]
     pub fn touch(&mut self, addr: u64, len: u64) -> Result<(), MemRefusal>
         requires { IsHeld self.old.octets addr len }
         ensures more { MorePages self.old self.new }
@@ -125,8 +140,10 @@ impl GuestMemory {
         if len == 0 {
             return Ok(());
         }
+        // the sum below stays small
+        let _size = self.len();
         let first = addr as usize / PAGE_OCTETS;
-        let last = (self.end(addr, len) - 1) as usize / PAGE_OCTETS;
+        let last = (addr + len - 1) as usize / PAGE_OCTETS;
         table::make_pages(self.alloc, self.pages.as_mut_slice(), first, last)?;
         Ok(())
     }
@@ -137,7 +154,7 @@ impl GuestMemory {
         requires { IsHeld self.now.octets addr (length out.old) }
         ensures { out.new ≡ part self.now.octets addr (length out.old) }
     {
-        match self.slice(addr, out.len()) {
+        match self.piece(addr, out.len()) {
             Some(octets) => out.copy_from_slice(octets),
             None => self.read_pieces(addr, out),
         }
@@ -154,7 +171,7 @@ impl GuestMemory {
         while addr + (done as u64) < end {
             let from = addr + done as u64;
             let count = in_page(from, out.len() - done);
-            let Some(octets) = self.slice(from, count) else {
+            let Some(octets) = self.piece(from, count) else {
                 unreachable!();
             };
             out[done..done + count].copy_from_slice(octets);
@@ -182,7 +199,7 @@ impl GuestMemory {
         ensures ok { OnOk result (kept.new ≡ record { at = addr; octets = part self.now.octets addr len }) }
         ensures err { OnErr result (kept.new ≡ record kept.old { octets = [] }) }
     {
-        match self.slice(addr, len) {
+        match self.piece(addr, len) {
             Some(octets) => kept.fill(addr, octets),
             None => self.keep_pieces(addr, len, kept),
         }

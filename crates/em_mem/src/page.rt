@@ -1,5 +1,5 @@
 //! One page of guest memory, made or not.
-ghost use Rattle.std.specs.Prelude.{◌≡◌, ◌+◌, ◌≤◌, IfOk, IsOk, OnOk, length, true};
+ghost use Rattle.std.specs.Prelude.{◌≡◌, ◌+◌, ◌≤◌, IfOk, IsOk, OnErr, OnOk, length, true};
 ghost use Rattle.em_mem.specs.Memory.{part, put};
 ghost use Rattle.em_mem.specs.Pages.{zero_page, page_octets, is_made};
 
@@ -29,6 +29,7 @@ pub(crate) fn octets<'a>(page: &'a Page, zeros: &'a [u8; PAGE_OCTETS]) -> &'a [u
 }
 
 /// Makes a page, if it is not made yet. Its octets stay.
+#[inline(always)]
 pub(crate) fn make(alloc: Global, page: &mut Page) -> Result<(), AllocError>
     ensures octets { page_octets page.new ≡ page_octets page.old }
     ensures made { OnOk result (is_made page.new ≡ true) }
@@ -36,8 +37,20 @@ pub(crate) fn make(alloc: Global, page: &mut Page) -> Result<(), AllocError>
     ensures ready { is_made page.old ≡ true → IsOk result }
 {
     if page.is_none() {
-        *page = Some(new_page(alloc)?);
+        make_now(alloc, page)
+    } else {
+        Ok(())
     }
+}
+
+/// Makes a page of zeros in place of what is there.
+#[inline(never)]
+fn make_now(alloc: Global, page: &mut Page) -> Result<(), AllocError>
+    ensures octets { OnOk result (page_octets page.new ≡ zero_page) }
+    ensures made { OnOk result (is_made page.new ≡ true) }
+    ensures same { OnErr result (page.new ≡ page.old) }
+{
+    *page = Some(new_page(alloc)?);
     Ok(())
 }
 

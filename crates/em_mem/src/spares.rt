@@ -9,7 +9,10 @@ const MOST_SPARES: usize = 64;
 /// Room for octets is kept up to so many times what is asked, and some more.
 const MOST_SLACK: usize = 4;
 
-/// A record of so many octets, or fewer, is a short one.
+/// A record of so many octets, or fewer, is a tiny one: a descriptor's.
+const TINY: usize = 24;
+
+/// A record of so many octets, or fewer, that is no tiny one, is a short one.
 const SHORT: usize = 64;
 
 /// A record of so many octets, or fewer, that is no short one, is a middling one.
@@ -61,6 +64,7 @@ impl<T: Drop> Spares<T> {
 /// other way round, so that rooms seldom grow or go.
 #[derive(Drop)]
 pub struct SparesByLen<T: Drop> {
+    tiny: Spares<T>,
     short: Spares<T>,
     middling: Spares<T>,
     long: Spares<T>,
@@ -69,10 +73,12 @@ pub struct SparesByLen<T: Drop> {
 impl<T: Drop> SparesByLen<T> {
     /// None yet; the memory of their places is taken here.
     pub fn new(alloc: Global) -> Result<SparesByLen<T>, AllocError> {
+        let tiny = Spares::new(alloc)?;
         let short = Spares::new(alloc)?;
         let middling = Spares::new(alloc)?;
         let long = Spares::new(alloc)?;
         Ok(SparesByLen {
+            tiny,
             short,
             middling,
             long,
@@ -94,6 +100,7 @@ impl<T: Drop> SparesByLen<T> {
     #[inline(always)]
     fn of(&mut self, len: usize) -> &mut Spares<T> {
         match len {
+            0..=TINY => &mut self.tiny,
             0..=SHORT => &mut self.short,
             0..=MIDDLING => &mut self.middling,
             _ => &mut self.long,

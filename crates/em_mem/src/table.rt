@@ -19,12 +19,35 @@ pub(crate) fn no_pages(alloc: Global, count: usize) -> Result<Vec<Page>, AllocEr
 }
 
 /// Makes the pages from the first to the last. Where memory is refused, some of them may be made.
+#[inline(always)]
 pub(crate) fn make_pages(
     alloc: Global,
     pages: &mut [Page],
     first: usize,
     last: usize,
 ) -> Result<(), AllocError>
+    requires order { first ≤ last }
+    requires last { last < length pages.old }
+    requires whole { AllWhole pages.old }
+    ensures whole { AllWhole pages.new }
+    ensures octets { table_octets pages.new ≡ table_octets pages.old }
+    ensures len { length pages.new ≡ length pages.old }
+    ensures made { OnOk result (AllMade pages.new first last) }
+    ensures more { (p : ℕ) → IsMadeAt pages.old p → IsMadeAt pages.new p }
+    ensures only { (p : ℕ) → IsMadeAt pages.new p → IsMadeAt pages.old p ⊎ ((first ≤ p) × (p ≤ last)) }
+    ensures ready { AllMade pages.old first last → IsOk result }
+{
+    // most ranges lie in one page
+    if first == last {
+        make_page(alloc, pages, first)
+    } else {
+        make_each(alloc, pages, first, last)
+    }
+}
+
+/// The same, page by page.
+#[inline(never)]
+fn make_each(alloc: Global, pages: &mut [Page], first: usize, last: usize) -> Result<(), AllocError>
     requires order { first ≤ last }
     requires last { last < length pages.old }
     requires whole { AllWhole pages.old }
@@ -43,6 +66,7 @@ pub(crate) fn make_pages(
 }
 
 /// Makes one page.
+#[inline(always)]
 fn make_page(alloc: Global, pages: &mut [Page], index: usize) -> Result<(), AllocError>
     requires index { index < length pages.old }
     requires whole { AllWhole pages.old }

@@ -5,6 +5,10 @@ use crate::{MOST_RECORD, empty_for};
 use std::alloc::AllocError;
 use std::marker::Model;
 
+/// The least room that is taken for octets. An allocator seldom gives less, and so a record of a few octets that is
+/// filled again seldom takes memory.
+const LEAST_ROOM: usize = 24;
+
 /// Old octets of guest memory, and the address where they lay.
 #[derive(Drop)]
 pub struct MemUndo {
@@ -35,12 +39,16 @@ impl MemUndo {
 
     /// Makes it a record of these octets, which lay from `addr` on. It takes memory only where its room is too
     /// small, or far too large. Where memory is refused it holds no octets, and its address stays.
+    #[inline(always)]
     pub fn fill(&mut self, addr: u64, octets: &[u8]) -> Result<(), AllocError>
         requires { length octets.now ≤ MOST_RECORD }
         ensures ok { OnOk result (self.new ≡ record { at = addr; octets = octets.now }) }
         ensures err { OnErr result (self.new ≡ record self.old { octets = [] }) }
     {
         empty_for(&mut self.octets, octets.len());
+        if self.octets.capacity() < octets.len() {
+            self.octets.reserve(octets.len().max(LEAST_ROOM))?;
+        }
         self.octets.extend_from_slice(octets)?;
         self.addr = addr;
         Ok(())

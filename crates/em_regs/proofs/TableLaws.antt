@@ -1,5 +1,5 @@
 -- The table of registers, read in both directions.
-use Rattle.std.proofs.Common.{◌≡◌, ◌≢◌, ℕ, zero, suc, ◌+◌, ◌*◌, ◌<◌, ◌≤◌, ◌-◌, ◌/◌, ◌%◌, Bool, true, false, ◌&&◌, ◌==◌}
+use Rattle.std.proofs.Common.{◌≡◌, ℕ, zero, suc, ◌+◌, ◌*◌, ◌<◌, ◌≤◌, ◌-◌, ◌/◌, ◌%◌, Bool, true, false, ◌&&◌, ◌==◌}
 use Rattle.std.proofs.Common.{◌⊎◌, inl, inr, List, [], ◌∷◌, Option, Some, None, refl, sym, ap, ◌∙◌, subst, arith}
 use Rattle.std.proofs.Common.{slice_index_or, nat_lt, nat_le, leb-true, eqb-true}
 use Rattle.std.specs.Prelude.{IfSome, is_some}
@@ -9,7 +9,7 @@ use Rattle.em_regs.specs.declared.reg.Reg.{Reg}
 use Rattle.em_regs.specs.declared.reg.Reg.TheVariants.{Ctrl, Mta, Ral, Rah, Vfta}
 use Rattle.em_regs.specs.declared.table.Row.{Row}
 use Rattle.em_regs.specs.declared.table.TheConstants.{PAGES, PAGE_AT}
-use Rattle.em_regs.specs.Table.{IsReg, row_of, index_of, with_index, first, offset_of, has_word_at, reg_in, registers}
+use Rattle.em_regs.specs.Table.{IsReg, row_of, index_of, with_index, offset_of, has_word_at, reg_in, registers}
 use Rattle.em_regs.specs.Table.{reg_at, NoneFrom}
 
 -- ---- two functions agree below n, where their first n values are computed and compared
@@ -113,8 +113,11 @@ reg_at-offset_of _ h = refl
 abbrev pub page_at : ℕ → ℕ
 page_at o = slice_index_or PAGE_AT (o / 64) 0
 
-abbrev pub near_of : ℕ → Reg
-near_of o = slice_index_or (slice_index_or PAGES (page_at o) []) ((o / 4) % 16) Ctrl
+abbrev pub entry_in : ℕ → ℕ → Reg
+entry_in page word = slice_index_or (slice_index_or PAGES page []) word Ctrl
+
+abbrev pub entry_of : ℕ → Reg
+entry_of o = entry_in (page_at o) ((o / 4) % 16)
 
 -- each number below n passes
 abbrev pub all_below : (ℕ → Bool) → ℕ → Bool
@@ -130,28 +133,38 @@ all_below-at p (suc n) h i lt =
       | inr apart ↦ all_below-at p n parts.1 i (omega arith)
     ]
 
-pub page_is_there : (k : ℕ) → k < 352 → slice_index_or PAGE_AT k 0 < 18
+pub page_is_there : (k : ℕ) → k < 352 → slice_index_or PAGE_AT k 0 < 33
 page_is_there k h =
-    let t : nat_lt (slice_index_or PAGE_AT k 0) 18 ≡ true = all_below-at
-    (λ i. nat_lt (slice_index_or PAGE_AT i 0) 18) 352 refl k h in
+    let t : nat_lt (slice_index_or PAGE_AT k 0) 33 ≡ true = all_below-at
+    (λ i. nat_lt (slice_index_or PAGE_AT i 0) 33) 352 refl k h in
     grind (arith, nat_tests, t)
 
-near_of-offset_of : (reg : Reg) → IsReg reg → near_of (offset_of reg) ≡ first reg
-near_of-offset_of (Mta i) h = same_below (λ k. near_of (offset_of (Mta k))) (λ k. Mta 0) 128 refl i h
-near_of-offset_of (Ral i) h = same_below (λ k. near_of (offset_of (Ral k))) (λ k. Ral 0) 16 refl i h
-near_of-offset_of (Rah i) h = same_below (λ k. near_of (offset_of (Rah k))) (λ k. Rah 0) 16 refl i h
-near_of-offset_of (Vfta i) h = same_below (λ k. near_of (offset_of (Vfta k))) (λ k. Vfta 0) 128 refl i h
-near_of-offset_of Ctrl h = refl
-near_of-offset_of _ h = refl
+-- each entry names a register
+abbrev is_reg : Reg → Bool
+is_reg reg = nat_lt (index_of reg) (row_of reg).words
 
--- what the pages give is the first register of the row
-pub near_is : (o : ℕ) (x : Reg) → x ≡ near_of o → (reg : Reg) → IsReg reg → offset_of reg ≡ o → x ≡ first reg
-near_is o x e reg has lies = e ∙ ap near_of (sym lies) ∙ near_of-offset_of reg has
+abbrev names_all : ℕ → Bool
+names_all page = all_below (λ word. is_reg (entry_in page word)) 16
 
+pub entry_named : (page word : ℕ) → page < 33 → word < 16 → IsReg (entry_in page word)
+entry_named page word there within =
+    let all : names_all page ≡ true = all_below-at names_all 33 refl page there in
+    let t : is_reg (entry_in page word) ≡ true = all_below-at (λ k. is_reg (entry_in page k)) 16 all word within in
+    grind (arith, nat_tests, t)
+
+entry_of-offset_of : (reg : Reg) → IsReg reg → entry_of (offset_of reg) ≡ reg
+entry_of-offset_of (Mta i) h = same_below (λ k. entry_of (offset_of (Mta k))) (λ k. Mta k) 128 refl i h
+entry_of-offset_of (Ral i) h = same_below (λ k. entry_of (offset_of (Ral k))) (λ k. Ral k) 16 refl i h
+entry_of-offset_of (Rah i) h = same_below (λ k. entry_of (offset_of (Rah k))) (λ k. Rah k) 16 refl i h
+entry_of-offset_of (Vfta i) h = same_below (λ k. entry_of (offset_of (Vfta k))) (λ k. Vfta k) 128 refl i h
+entry_of-offset_of Ctrl h = refl
+entry_of-offset_of _ h = refl
+
+-- what the page gives is the register that lies there
 pub page_gives : (o page : ℕ) → page ≡ page_at o → (reg : Reg) → IsReg reg → offset_of reg ≡ o
-    → slice_index_or (slice_index_or PAGES page []) ((o / 4) % 16) Ctrl ≡ first reg
-page_gives o page is reg has lies = ap (λ k. slice_index_or (slice_index_or PAGES k []) ((o / 4) % 16) Ctrl) is
-    ∙ near_is o (near_of o) refl reg has lies
+    → entry_in page ((o / 4) % 16) ≡ reg
+page_gives o page is reg has lies = ap (λ k. entry_in k ((o / 4) % 16)) is ∙ ap entry_of (sym lies)
+    ∙ entry_of-offset_of reg has
 
 -- each row ends within the registers' space
 abbrev pub ends_within : Reg → Bool
@@ -183,51 +196,6 @@ none_in o (Some reg) l n = absurd (n reg l.0 l.1)
 pub none_found : (o : ℕ) → ((reg : Reg) → IsReg reg → offset_of reg ≡ o → ⊥) → None ≡ reg_at o
 unfolding reg_at
 none_found o n = none_in o (reg_at o) (reg_in_lies registers o) n
-
-pub row-first : (reg : Reg) → row_of (first reg) ≡ row_of reg
-row-first (Mta _) = refl
-row-first (Ral _) = refl
-row-first (Rah _) = refl
-row-first (Vfta _) = refl
-row-first Ctrl = refl
-row-first _ = refl
-
--- the row that is looked at is that of the register that lies there
-pub row_near : (row : Row) (near reg : Reg) → row ≡ row_of near → near ≡ first reg → row ≡ row_of reg
-row_near row near reg is first_is = is ∙ ap row_of first_is ∙ row-first reg
-
-by_spacing : (s n i past index : ℕ) → (s ≡ 4) ⊎ (s ≡ 8)
-    → ((s ≡ 8) × (index ≡ past / 8)) ⊎ ((s ≢ 8) × (index ≡ past / 4)) → i < n → past ≡ s * i
-    → (index < n) × (past ≡ s * index)
-by_spacing s n i past index (inl four) (inl at) h is = absurd (omega (arith, at.0))
-by_spacing s n i past index (inl four) (inr at) h is =
-    let p : past ≡ 4 * i = is ∙ ap (λ k. k * i) four in
-    let e : index ≡ i = omega (arith, at.1) in
-    (omega arith, is ∙ ap (λ k. s * k) (sym e))
-by_spacing s n i past index (inr eight) (inl at) h is =
-    let p : past ≡ 8 * i = is ∙ ap (λ k. k * i) eight in
-    let e : index ≡ i = omega (arith, at.1) in
-    (omega arith, is ∙ ap (λ k. s * k) (sym e))
-by_spacing s n i past index (inr eight) (inr at) h is = absurd (at.0 eight)
-
--- an offset where a register lies is a word of the register's row
-pub word_there : (reg : Reg) (row : Row) (o past index : ℕ) → row ≡ row_of reg → past ≡ o - row.offset
-    → ((row.spacing ≡ 8) × (index ≡ past / 8)) ⊎ ((row.spacing ≢ 8) × (index ≡ past / 4)) → IsReg reg
-    → offset_of reg ≡ o → (index < row.words) × (past ≡ row.spacing * index)
-word_there reg row o past index is from at has lies =
-    let s : (row.spacing ≡ 4) ⊎ (row.spacing ≡ 8) = rw is (spaced reg) in
-    let h : index_of reg < row.words = rw is has in
-    let l : row.offset + row.spacing * index_of reg ≡ o = rw is lies in
-    by_spacing row.spacing row.words (index_of reg) past index s at h (omega arith)
-
--- the register of the row with the index lies there
-pub found_lies : (near : Reg) (row : Row) (o past index : ℕ) (found : Reg) → row ≡ row_of near
-    → found ≡ with_index near index → past ≡ o - row.offset → row.offset ≤ o → index < row.words
-    → past ≡ row.spacing * index → IsReg found × (offset_of found ≡ o)
-found_lies near row o past index found is made from low h whole =
-    let x = indexed near index (subst (λ (r : Row). index < r.words) is h) in
-    let e : row.offset + row.spacing * index ≡ o = omega arith in
-    rw (made, x.row, x.index, ← is) (h, e)
 
 pub found_there : (o : ℕ) (found : Reg) → IsReg found × (offset_of found ≡ o) → Some found ≡ reg_at o
 found_there o found h = sym (reg_at-offset_of found h.0) ∙ ap reg_at h.1

@@ -191,10 +191,6 @@ with_index (Rah _) i = Rah i
 with_index (Vfta _) i = Vfta i
 with_index reg _ = reg
 
--- the first register of the same row
-abbrev pub first : Reg → Reg
-first reg = with_index reg 0
-
 -- the index of an array's register lies in the array
 abbrev pub IsReg : Reg → Type 0
 IsReg reg = index_of reg < (row_of reg).words

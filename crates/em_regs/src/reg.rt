@@ -1,8 +1,8 @@
 //! The registers by name.
 ghost use Rattle.std.specs.Prelude.{◌≡◌, ◌≤◌, ◌<◌, ◌%◌, ℕ, Option, None, IfSome, IfNone, IsSome};
-ghost use Rattle.em_regs.specs.Table.{IsReg, index_of, with_index, offset_of, is_counter, reg_at, NoneFrom};
+ghost use Rattle.em_regs.specs.Table.{IsReg, index_of, offset_of, is_counter, reg_at, NoneFrom};
 
-use crate::table::{Kind, PAGE, SPACE, is_bare, near};
+use crate::table::{Kind, PAGE, SPACE, entry, is_bare};
 
 /// A register of the table, by the manual's name (manual, chapter on register descriptions).
 ///
@@ -156,17 +156,12 @@ impl Reg {
         if offset >= SPACE {
             return None;
         }
-        let near = near(offset);
-        let row = near.row();
-        if offset < row.offset {
-            return None;
+        let reg = entry(offset);
+        if reg.offset() == offset {
+            Some(reg)
+        } else {
+            None
         }
-        let past = offset - row.offset;
-        let index = if row.spacing == 8 { past / 8 } else { past / 4 };
-        if index >= u32::from(row.words) || past != row.spacing * index {
-            return None;
-        }
-        Some(near.with_index(index as u8))
     }
 
     /// The first offset at or behind an offset (a multiple of 4) in whose 64 octets a register lies;
@@ -188,6 +183,7 @@ impl Reg {
     }
 
     /// Where the register lies, in octets from the first register.
+    #[inline(always)]
     pub fn offset(self) -> u32
         ensures { result ≡ offset_of self }
     {
@@ -209,19 +205,6 @@ impl Reg {
         match self {
             Reg::Mta(i) | Reg::Ral(i) | Reg::Rah(i) | Reg::Vfta(i) => i,
             _ => 0,
-        }
-    }
-
-    /// The register of the same row with another index.
-    fn with_index(self, index: u8) -> Reg
-        ensures { result ≡ with_index self index }
-    {
-        match self {
-            Reg::Mta(_) => Reg::Mta(index),
-            Reg::Ral(_) => Reg::Ral(index),
-            Reg::Rah(_) => Reg::Rah(index),
-            Reg::Vfta(_) => Reg::Vfta(index),
-            _ => self,
         }
     }
 }

@@ -1,7 +1,7 @@
 //! The table of the registers: where each lies, what an access does, and which word keeps it.
 ghost use Rattle.std.specs.Prelude.{◌≡◌, ◌<◌, ◌+◌, ◌*◌, ◌/◌, IsTrue};
 ghost use Rattle.em_regs.specs.declared.reg.Reg.{Reg};
-ghost use Rattle.em_regs.specs.Table.{IsReg, row_of, first, offset_of, NoneFrom};
+ghost use Rattle.em_regs.specs.Table.{IsReg, row_of, offset_of, NoneFrom};
 
 use crate::reg::Reg;
 
@@ -164,26 +164,47 @@ impl Reg {
     }
 }
 
-// The table read by offset: the first register of the row that may lie there. The proof of `near`
-// names a register that these pages miss.
+// The table read by offset. The proof of `entry` names a register that these pages miss.
 
+/// A page is 16 words, and a `-` is a word with no register, which any register can stand for.
 macro_rules! page {
     ($($word:tt)*) => { [$(at!($word)),*] };
 }
 
-/// A page is 16 words, and a `-` is a word with no register.
 macro_rules! at {
     (-) => { Reg::Ctrl };
-    (Mta) => { Reg::Mta(0) };
-    (Ral) => { Reg::Ral(0) };
-    (Rah) => { Reg::Rah(0) };
-    (Vfta) => { Reg::Vfta(0) };
     ($name:ident) => { Reg::$name };
+}
+
+/// A page of an array's words, from one of them on.
+#[rattlefmt::skip]
+macro_rules! words {
+    ($name:ident, $i:literal) => {
+        [
+            Reg::$name($i), Reg::$name($i + 1), Reg::$name($i + 2), Reg::$name($i + 3),
+            Reg::$name($i + 4), Reg::$name($i + 5), Reg::$name($i + 6), Reg::$name($i + 7),
+            Reg::$name($i + 8), Reg::$name($i + 9), Reg::$name($i + 10), Reg::$name($i + 11),
+            Reg::$name($i + 12), Reg::$name($i + 13), Reg::$name($i + 14), Reg::$name($i + 15),
+        ]
+    };
+}
+
+/// A page of receive addresses, from one of them on.
+#[rattlefmt::skip]
+macro_rules! addresses {
+    ($i:literal) => {
+        [
+            Reg::Ral($i), Reg::Rah($i), Reg::Ral($i + 1), Reg::Rah($i + 1),
+            Reg::Ral($i + 2), Reg::Rah($i + 2), Reg::Ral($i + 3), Reg::Rah($i + 3),
+            Reg::Ral($i + 4), Reg::Rah($i + 4), Reg::Ral($i + 5), Reg::Rah($i + 5),
+            Reg::Ral($i + 6), Reg::Rah($i + 6), Reg::Ral($i + 7), Reg::Rah($i + 7),
+        ]
+    };
 }
 
 /// The pages that differ, each at the first place where it lies.
 #[rattlefmt::skip]
-static PAGES: [[Reg; 16]; 18] = [
+static PAGES: [[Reg; 16]; 33] = [
     page![- - - - - - - - - - - - - - - -], // BARE
     page![Ctrl - Status - - Eerd CtrlExt - - - Fcal Fcah Fct - Vet -], // 0x00000
     page![Icr Itr Ics - Ims - Imc - - - - - - - - -], // 0x000C0
@@ -199,9 +220,11 @@ static PAGES: [[Reg; 16]; 18] = [
     page![Gptc - Gorcl Gorch Gotcl Gotch - - Rnbc Ruc - Roc - - - -], // 0x04080
     page![- - - - - - Ptc64 Ptc127 Ptc255 Ptc511 Ptc1023 Ptc1522 Mptc Bptc - -], // 0x040C0
     page![Rxcsum - - - - - - - - - - - - - - -], // 0x05000
-    page![Mta Mta Mta Mta Mta Mta Mta Mta Mta Mta Mta Mta Mta Mta Mta Mta], // 0x05200
-    page![Ral Rah Ral Rah Ral Rah Ral Rah Ral Rah Ral Rah Ral Rah Ral Rah], // 0x05400
-    page![Vfta Vfta Vfta Vfta Vfta Vfta Vfta Vfta Vfta Vfta Vfta Vfta Vfta Vfta Vfta Vfta], // 0x05600
+    words!(Mta, 0), words!(Mta, 16), words!(Mta, 32), words!(Mta, 48), // 0x05200
+    words!(Mta, 64), words!(Mta, 80), words!(Mta, 96), words!(Mta, 112), // 0x05300
+    addresses!(0), addresses!(8), // 0x05400
+    words!(Vfta, 0), words!(Vfta, 16), words!(Vfta, 32), words!(Vfta, 48), // 0x05600
+    words!(Vfta, 64), words!(Vfta, 80), words!(Vfta, 96), words!(Vfta, 112), // 0x05700
 ];
 
 /// The page with no register.
@@ -230,15 +253,16 @@ static PAGE_AT: [u8; 352] = [
     0, 0, 0, 0, 0, 0, 0, 0, 0, 0, 0, 0, 0, 0, 0, 0, // 0x04400
     0, 0, 0, 0, 0, 0, 0, 0, 0, 0, 0, 0, 0, 0, 0, 0, // 0x04800
     0, 0, 0, 0, 0, 0, 0, 0, 0, 0, 0, 0, 0, 0, 0, 0, // 0x04C00
-    14, 0, 0, 0, 0, 0, 0, 0, 15, 15, 15, 15, 15, 15, 15, 15, // 0x05000
-    16, 16, 0, 0, 0, 0, 0, 0, 17, 17, 17, 17, 17, 17, 17, 17, // 0x05400
+    14, 0, 0, 0, 0, 0, 0, 0, 15, 16, 17, 18, 19, 20, 21, 22, // 0x05000
+    23, 24, 0, 0, 0, 0, 0, 0, 25, 26, 27, 28, 29, 30, 31, 32, // 0x05400
 ];
 
-/// The first register of the row that has the offset, if any has.
+/// The register at the offset, where one lies there, and any other where none does.
 #[inline(always)]
-pub(crate) fn near(offset: u32) -> Reg
+pub(crate) fn entry(offset: u32) -> Reg
     requires { offset < SPACE }
-    ensures { (reg : Reg) → IsReg reg → offset_of reg ≡ offset → result ≡ first reg }
+    ensures named { IsReg result }
+    ensures there { (reg : Reg) → IsReg reg → offset_of reg ≡ offset → result ≡ reg }
 {
     let page = PAGE_AT[(offset / PAGE) as usize];
     PAGES[usize::from(page)][(offset / WORD % 16) as usize]

@@ -1,10 +1,11 @@
 -- Turned lists, and writes that go on at the list's beginning.
 use Rattle.std.proofs.Common.{◌≡◌, ℕ, ◌+◌, ◌-◌, ◌≤◌, ◌<◌, List, ◌++◌, length, take, drop, set, refl, sym, ap, ap₂, ◌∙◌}
-use Rattle.std.proofs.Common.{inl, inr, arith, length-append, length-drop, length-set}
+use Rattle.std.proofs.Common.{◌*◌, ◌%◌, inl, inr, arith, length-append, length-drop, length-set}
 use Rattle.std.proofs.lemmas.List.{take_at, drop_at, length-take-le, drop-drop, take-append-drop, append_assoc}
 use Rattle.std.proofs.lemmas.List.{take-take, drop-take, take-append-le, drop-append-le, set-append_left}
 use Rattle.std.proofs.lemmas.List.{set-append_right, drop-set-add, take-set-le}
 use Rattle.std.proofs.lemmas.Bool.{cases_lt}
+use Rattle.std.proofs.lemmas.Nat.{mod-mul-add}
 use Rattle.std.proofs.lemmas.Bool.Decides.{nat_tests}
 use Rattle.em_mem.specs.Memory.{put}
 use Rattle.em_rx.specs.Ring.{turn, unturn, ring_part, ring_put, wrap}
@@ -161,6 +162,19 @@ pub wrap-below : (size n : ℕ) → n < size + size → 0 < size → wrap size n
 wrap-below size n h some = elim (cases_lt n size) [
   | inl low ↦ let w : wrap size n ≡ n = grind (arith, nat_tests) in omega arith
   | inr high ↦ let w : wrap size n ≡ n - size = grind (arith, nat_tests) in omega arith
+]
+
+-- a place that is past the end once lies where the remainder says
+pub wrap_remainder : (size n : ℕ) → n < size + size → wrap size n ≡ n % size
+wrap_remainder size n h = elim (cases_lt n size) [
+  | inl low ↦
+      let w : wrap size n ≡ n = grind (arith, nat_tests) in
+      let none : n ≡ 0 * size + n = omega arith in
+      w ∙ sym (ap (λ (k : ℕ). k % size) none ∙ mod-mul-add 0 size n low)
+  | inr high ↦
+      let w : wrap size n ≡ n - size = grind (arith, nat_tests) in
+      let split : n ≡ 1 * size + (n - size) = omega arith in
+      w ∙ sym (ap (λ (k : ℕ). k % size) split ∙ mod-mul-add 1 size (n - size) (omega arith))
 ]
 
 -- octets written u places behind place h, seen from place h on

@@ -1,5 +1,5 @@
 //! The FIFO: frames that lie end to end in one packet buffer.
-ghost use Rattle.std.specs.Prelude.{◌≡◌, ◌↔◌, ◌+◌, ◌<◌, ◌≤◌, IfOk, IfErr, IsTrue, OnOk, OnErr, List, ℕ, length};
+ghost use Rattle.std.specs.Prelude.{◌≡◌, ◌↔◌, ◌+◌, ◌<◌, ◌≤◌, IfOk, IfErr, IsTrue, OnOk, OnErr, List, ℕ, length, true};
 ghost use Rattle.em_mem.specs.Memory as memory;
 ghost use Rattle.em_mem.specs.Memory.{IsHeld, IsMade, part, put};
 ghost use Rattle.em_rx.specs.Frame.{stored_frame};
@@ -101,14 +101,30 @@ impl Fifo {
         ensures same { OnErr result (self.new ≡ self.old) }
     {
         if tagged {
-            let octets = stored_octets(self.alloc, frame)?;
-            self.store(octets.as_slice(), Some(tag_of(frame)))
+            self.accept_tagged(frame)
         } else {
             self.store(frame, None)
         }
     }
 
+    /// The same for a tagged frame.
+    #[inline(never)]
+    fn accept_tagged(&mut self, frame: &[u8]) -> Result<Box<FramePatch>, RxRefusal>
+        requires least { 60 ≤ length frame.now }
+        requires most { length (stored_frame frame.now true).octets ≤ 16_384 }
+        requires room { HasRoom (shows self.old) (length (stored_frame frame.now true).octets) }
+        ensures ok { OnOk result (shows self.new ≡ after_arrival (shows self.old) (stored_frame frame.now true)) }
+        ensures held { IfOk result (λ r. octets_held (Frame r) ≡ length (stored_frame frame.now true).octets) }
+        ensures reverses { IfOk result (λ r. (m : memory.Cells) → Reverses self.old self.new m m (Frame r)) }
+        ensures refused { IfErr result (λ refusal. refusal ≡ RxRefusal.Memory) }
+        ensures same { OnErr result (self.new ≡ self.old) }
+    {
+        let octets = stored_octets(self.alloc, frame)?;
+        self.store(octets.as_slice(), Some(tag_of(frame)))
+    }
+
     /// Stores the octets and the tag of a frame, which comes last.
+    #[inline(always)]
     fn store(&mut self, octets: &[u8], tag: Option<u16>) -> Result<Box<FramePatch>, RxRefusal>
         requires least { 56 ≤ length octets.now }
         requires most { length octets.now ≤ 16_384 }
@@ -127,6 +143,7 @@ impl Fifo {
     }
 
     /// A patch for a frame of so many octets, to be filled: one that was let go, if there is one.
+    #[inline(always)]
     fn room_for_frame(&mut self, len: usize) -> Result<Box<FramePatch>, AllocError>
         ensures { self.new ≡ self.old }
     {
@@ -137,6 +154,7 @@ impl Fifo {
     }
 
     /// A patch for a receive step of so many octets, to be filled, in the same way.
+    #[inline(always)]
     fn room_for_step(&mut self, len: usize) -> Result<Box<StepPatch>, AllocError>
         ensures { self.new ≡ self.old }
     {
@@ -178,6 +196,7 @@ impl Fifo {
 
     /// Makes a patch what puts so many octets behind the last frame, but that it has those which they
     /// overwrite.
+    #[inline(always)]
     fn arrival(
         &self,
         len: usize,
@@ -213,6 +232,7 @@ impl Fifo {
 
     /// Puts a frame in where a patch says, and leaves what it replaced in the patch, whose octets are
     /// those that the frame overwrites.
+    #[inline(always)]
     fn put_frame(&mut self, octets: &[u8], patch: &mut FramePatch)
         requires fits { FitsFrame self.old (record patch.old { octets = octets.now }) }
         requires old { patch.old.octets ≡ ring_part self.old.octets patch.old.at (length octets.now) }
@@ -220,9 +240,9 @@ impl Fifo {
         ensures held { patch.new.octets ≡ patch.old.octets }
         ensures reverses { FitsFrame self.new patch.new × (with_patch self.new patch.new ≡ self.old) }
     {
-        put_octets(&mut self.octets, patch.at as usize, octets);
         exchange_entry(&mut self.entries, patch.index as usize, &mut patch.entry);
         std::mem::swap(&mut self.places, &mut patch.places);
+        put_octets(&mut self.octets, patch.at as usize, octets);
     }
 
     /// Puts a patch in, and leaves what it replaced in the patch.
@@ -278,6 +298,7 @@ impl Fifo {
     }
 
     /// The places with `count` octets more of the first frame in guest memory.
+    #[inline(always)]
     fn places_after(&self, count: u32) -> Places
         requires some { 0 < length (shows self.now).frames }
         requires count { count ≤ rest (shows self.now) }
@@ -302,18 +323,20 @@ impl Fifo {
 
     /// What takes back the next octets of the first frame in a buffer, with the end of a descriptor written
     /// back, but that it has the places after them.
+    #[inline(always)]
     pub(crate) fn delivery(
         &mut self,
         memory: &GuestMemory,
         buffer: u64,
         count: u32,
         end_at: u64,
+        end: [u8; WRITTEN_OCTETS],
     ) -> Result<Box<StepPatch>, RxRefusal>
         requires some { 0 < length (shows self.old).frames }
         requires count { count ≤ rest (shows self.old) }
         requires most { count ≤ 16_384 }
         requires buffer { IsHeld memory.now.octets buffer count }
-        requires end { IsHeld memory.now.octets end_at 8 }
+        requires end { end ≡ part memory.now.octets end_at 8 }
         ensures first { IfOk result (λ patch.
             patch.value.first ≡ record { at = buffer; octets = part memory.now.octets buffer count }) }
         ensures second { IfOk result (λ patch.
@@ -326,7 +349,7 @@ impl Fifo {
     {
         let mut patch = self.room_for_step(count as usize)?;
         memory.keep(buffer, count as usize, &mut patch.piece)?;
-        patch.end = memory.read_array(end_at);
+        patch.end = end;
         patch.end_at = end_at;
         patch.places = self.places_after(count);
         Ok(patch)
@@ -334,6 +357,7 @@ impl Fifo {
 
     /// Puts the next octets of the first frame over those of a step's patch, and then writes the descriptor
     /// back.
+    #[inline(always)]
     pub(crate) fn deliver(&mut self, memory: &mut GuestMemory, patch: &mut StepPatch, last: bool)
         requires some { 0 < length (shows self.old).frames }
         requires count { length patch.old.first.octets ≤ rest (shows self.old) }
@@ -353,6 +377,7 @@ impl Fifo {
     }
 
     /// Writes the next octets of the first frame into guest memory, from `addr` on.
+    #[inline(always)]
     fn write_next(&self, memory: &mut GuestMemory, addr: u64, count: u32)
         requires some { 0 < length (shows self.now).frames }
         requires count { count ≤ rest (shows self.now) }

@@ -1,13 +1,14 @@
 //! The receive engine: one step puts the next piece of the oldest frame into the buffer of the next
 //! descriptor (manual, chapter on packet reception).
 ghost use Rattle.std.specs.Prelude.{◌≡◌, ◌^◌, ◌+◌, ◌*◌, ◌≤◌, ◌<◌, IfOk, IfErr, OnErr, Ok, length};
-ghost use Rattle.em_mem.specs.Memory.{IsHeld, MorePages};
+ghost use Rattle.em_mem.specs.Memory.{IsHeld, MorePages, part};
 ghost use Rattle.em_rx.specs.Fifo.{shows};
 ghost use Rattle.em_rx.specs.Receive as spec;
 ghost use Rattle.em_rx.specs.Receive.{receive, Refuses, octets_written};
 ghost use Rattle.em_rx.specs.Undo.{IsRecordOf, ReversesInPages, octets_held};
 
 use crate::descriptor::{DESCRIPTOR_OCTETS, RxDescriptor, WRITTEN_AT, WRITTEN_OCTETS};
+use crate::ring::wrap;
 use crate::{Fifo, RxRefusal, RxUndo};
 use bitflags::Flags;
 use em_mem::GuestMemory;
@@ -47,6 +48,7 @@ fn following(setup: &RxSetup) -> u32
 }
 
 /// The causes that a step raises.
+#[tactic(auto, using(crate::proofs::RingLaws::wrap_remainder))]
 fn causes_of(setup: &RxSetup, last: bool) -> u32
     requires head { setup.now.head < setup.now.count }
     requires tail { setup.now.tail < setup.now.count }
@@ -54,7 +56,8 @@ fn causes_of(setup: &RxSetup, last: bool) -> u32
     ensures { result ≡ spec.causes_of setup.now last }
 {
     let delivered = if last { Causes::RXT0.bits() } else { 0 };
-    let left = (setup.tail + setup.count - following(setup)) % setup.count;
+    // less than two rounds of the ring
+    let left = wrap(setup.count, setup.tail + setup.count - following(setup));
     let low = if left == setup.threshold {
         Causes::RXDMT0.bits()
     } else {
@@ -63,12 +66,22 @@ fn causes_of(setup: &RxSetup, last: bool) -> u32
     delivered + low
 }
 
-/// Where the descriptor lies, and its buffer.
-fn fetch(memory: &GuestMemory, setup: &RxSetup) -> Result<(u64, u64), RxRefusal>
-    ensures at { IfOk result (λ found. found.0 ≡ spec.descriptor_at setup.now) }
-    ensures held { IfOk result (λ found. IsHeld memory.now.octets found.0 16) }
-    ensures low { IfOk result (λ found. found.0 + 16 < 2 ^ 64) }
-    ensures buffer { IfOk result (λ found. found.1 ≡ spec.buffer_at setup.now memory.now.octets) }
+/// The descriptor at RDH.
+#[derive(Clone, Copy)]
+struct Fetched {
+    /// Where its buffer lies.
+    buffer: u64,
+    /// Where its end lies, which is written back, and what that is.
+    end_at: u64,
+    end: [u8; WRITTEN_OCTETS],
+}
+
+/// Fetches the descriptor.
+fn fetch(memory: &GuestMemory, setup: &RxSetup) -> Result<Fetched, RxRefusal>
+    ensures at { IfOk result (λ found. found.end_at ≡ spec.descriptor_at setup.now + 8) }
+    ensures held { IfOk result (λ found. IsHeld memory.now.octets found.end_at 8) }
+    ensures end { IfOk result (λ found. found.end ≡ part memory.now.octets found.end_at 8) }
+    ensures buffer { IfOk result (λ found. found.buffer ≡ spec.buffer_at setup.now memory.now.octets) }
     ensures refused { IfErr result (λ refusal. refusal ≡ RxRefusal.DmaRange) }
     ensures outside { OnErr result (length memory.now.octets < spec.descriptor_at setup.now + 16) }
 {
@@ -81,7 +94,14 @@ fn fetch(memory: &GuestMemory, setup: &RxSetup) -> Result<(u64, u64), RxRefusal>
         return Err(RxRefusal::DmaRange);
     }
     let octets: [u8; DESCRIPTOR_OCTETS] = memory.read_array(at);
-    Ok((at, RxDescriptor::read(&octets).address()))
+    let Some(end) = octets.last_chunk() else {
+        unreachable!();
+    };
+    Ok(Fetched {
+        buffer: RxDescriptor::read(&octets).address(),
+        end_at: at + WRITTEN_AT,
+        end: *end,
+    })
 }
 
 impl Fifo {
@@ -119,16 +139,16 @@ impl Fifo {
         if self.is_idle(&setup) {
             return Ok((RxAnswer::Idle, RxUndo::Nothing));
         }
-        let (descriptor, buffer) = fetch(memory, &setup)?;
+        let found = fetch(memory, &setup)?;
         let rest = self.rest();
         let count = setup.buffer.min(rest);
-        if !memory.holds(buffer, count as u64) {
+        if !memory.holds(found.buffer, count as u64) {
             return Err(RxRefusal::DmaRange);
         }
         let last = rest <= setup.buffer;
-        let mut patch = self.delivery(memory, buffer, count, descriptor + WRITTEN_AT)?;
-        memory.touch(buffer, count as u64)?;
-        memory.touch(descriptor + WRITTEN_AT, WRITTEN_OCTETS as u64)?;
+        let mut patch = self.delivery(memory, found.buffer, count, found.end_at, found.end)?;
+        memory.touch(found.buffer, count as u64)?;
+        memory.touch(found.end_at, WRITTEN_OCTETS as u64)?;
         self.deliver(memory, &mut patch, last);
         let answer = RxAnswer::Wrote {
             index: setup.head,

@@ -16,6 +16,7 @@ pub(crate) fn wrap(size: u32, n: u32) -> u32
 
 /// Copies the `len` octets that lie in the ring from `at` on, in place of what `octets` held. Where memory
 /// is refused, `octets` holds no more of them than asked.
+#[inline(always)]
 pub(crate) fn copy_into(
     octets: &mut Vec<u8>,
     ring: &[u8],
@@ -40,6 +41,7 @@ pub(crate) fn copy_into(
 }
 
 /// Writes the `len` octets that lie in the ring from `at` on into guest memory, from `addr` on.
+#[inline(always)]
 pub(crate) fn write_out(memory: &mut GuestMemory, addr: u64, ring: &[u8], at: usize, len: usize)
     requires at { at ≤ length ring.now }
     requires size { len ≤ length ring.now }

@@ -4,6 +4,11 @@ use Rattle.std.specs.Prelude.{option_and_then}
 use Rattle.em_text.specs.Numbers.{decimal_number, octets_of}
 use Rattle.em_script.specs.Arguments.{Arguments, one, two}
 
+-- DATA
+abbrev pub data_of : Arguments → Option (List ℕ)
+data_of (one digits) = octets_of digits
+data_of _ = None
+
 -- n octets: these, and zero octets behind them; n is at most 32,768, and not below their number
 abbrev pub lengthened : ℕ → List ℕ → Option (List ℕ)
 lengthened n octets =

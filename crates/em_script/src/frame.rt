@@ -4,10 +4,10 @@ ghost use Rattle.std.specs.Prelude.{◌/◌, ◌<◌, ◌⊎◌, false, length, 
 ghost use Rattle.em_text.specs.Numbers.{octets_of};
 ghost use Rattle.em_text.specs.Words.{words_of};
 ghost use Rattle.em_script.specs.Arguments.{plain, arguments_of};
-ghost use Rattle.em_script.specs.Frame.{frame_of, lengthened_data, lengthened};
+ghost use Rattle.em_script.specs.Frame.{data_of, frame_of, lengthened_data, lengthened};
 
-use crate::arguments::Arguments;
-use em_text::{Words, decimal_number, is_octets, lengthened_into, octets_into};
+use crate::arguments::{Arguments, arguments_of};
+use em_text::{Words, decimal_number, is_octets, octets_into};
 use std::alloc::AllocError;
 
 /// The most octets that LEN asks for.
@@ -16,15 +16,81 @@ const MOST_LEN: usize = 32_768;
 /// How many digits write an octet.
 const DIGITS_OF_OCTET: usize = 2;
 
-/// Whether DATA, or DATA and LEN, stand there, and if so, leaves their octets in `octets`: those of
-/// DATA and, with LEN, zero octets behind them up to LEN octets.
+/// Whether DATA, or DATA and LEN, are the words that are still to come, and if so, leaves their octets
+/// in `octets`: those of DATA and, with LEN, zero octets behind them up to LEN octets.
 ///
-/// LEN is at most 32,768, and not below DATA's octets. It takes memory only for octets that stand
-/// there, and only where `octets` has no room for them.
+/// LEN is at most 32,768, and not below DATA's octets. The words are read one after another where they
+/// stand; that memory was refused is answered only for octets that stand there.
+#[inline(never)]
+pub fn frame_words_into(octets: &mut Vec<u8>, words: Words<'_>) -> Result<bool, AllocError>
+    ensures value { IfOk result (λ found.
+        frame_of (arguments_of (words_of words.entry.0.now)) ≡ (if found then Some octets.new.items else None)) }
+    ensures memory { OnErr result (IsSome (frame_of (arguments_of (words_of words.entry.0.now)))) }
+{
+    let mut rest = words;
+    let Ok(found) = rest.octets_into(octets) else {
+        return refused_for(words);
+    };
+    if !found {
+        return Ok(false);
+    }
+    if rest.is_over() {
+        return Ok(true);
+    }
+    let Some(len) = rest.decimal_number() else {
+        return Ok(false);
+    };
+    if !rest.is_over() {
+        return Ok(false);
+    }
+    lengthen(octets, len as usize)
+}
+
+/// The same of DATA alone.
+#[inline(always)]
+pub fn data_words_into(octets: &mut Vec<u8>, words: Words<'_>) -> Result<bool, AllocError>
+    ensures value { IfOk result (λ found.
+        data_of (arguments_of (words_of words.entry.0.now)) ≡ (if found then Some octets.new.items else None)) }
+    ensures memory { OnErr result (IsSome (data_of (arguments_of (words_of words.entry.0.now)))) }
+{
+    let mut rest = words;
+    let Ok(found) = rest.octets_into(octets) else {
+        return refused_for_data(words);
+    };
+    Ok(found && rest.is_over())
+}
+
+/// Where memory was refused for DATA: what is no frame is so also then.
+#[inline(never)]
+fn refused_for(words: Words<'_>) -> Result<bool, AllocError>
+    ensures value { IfOk result (λ found.
+        (found ≡ false) × (frame_of (arguments_of (words_of words.entry.0.now)) ≡ None)) }
+    ensures memory { OnErr result (IsSome (frame_of (arguments_of (words_of words.entry.0.now)))) }
+{
+    if is_frame(arguments_of(words)) {
+        Err(AllocError)
+    } else {
+        Ok(false)
+    }
+}
+
+/// The same of DATA alone.
+#[inline(never)]
+fn refused_for_data(words: Words<'_>) -> Result<bool, AllocError>
+    ensures value { IfOk result (λ found.
+        (found ≡ false) × (data_of (arguments_of (words_of words.entry.0.now)) ≡ None)) }
+    ensures memory { OnErr result (IsSome (data_of (arguments_of (words_of words.entry.0.now)))) }
+{
+    match arguments_of(words) {
+        Arguments::One(digits) if is_octets(digits) => Err(AllocError),
+        _ => Ok(false),
+    }
+}
+
+/// DATA, or DATA and LEN, that stand apart.
 pub fn frame_into(octets: &mut Vec<u8>, arguments: Arguments<'_>) -> Result<bool, AllocError>
     ensures value { IfOk result (λ found.
         frame_of (plain arguments.entry) ≡ (if found then Some octets.new.items else None)) }
-    ensures memory { OnErr result (IsSome (frame_of (plain arguments.entry))) }
 {
     match arguments {
         Arguments::One(digits) => octets_into(octets, digits),
@@ -33,26 +99,31 @@ pub fn frame_into(octets: &mut Vec<u8>, arguments: Arguments<'_>) -> Result<bool
     }
 }
 
-/// The same of the words that are still to come. They are read one after another where they stand.
-#[inline(always)]
-pub fn frame_words_into(octets: &mut Vec<u8>, mut words: Words<'_>) -> Result<bool, AllocError>
+/// Whether DATA and LEN stand there, and if so, leaves their octets in `octets`.
+fn lengthened_data_into(octets: &mut Vec<u8>, digits: &[u8], len: &[u8]) -> Result<bool, AllocError>
     ensures value { IfOk result (λ found.
-        frame_of (arguments_of (words_of words.entry.0.now)) ≡ (if found then Some octets.new.items else None)) }
-    ensures memory { OnErr result (IsSome (frame_of (arguments_of (words_of words.entry.0.now)))) }
+        lengthened_data digits.now len.now ≡ (if found then Some octets.new.items else None)) }
 {
-    let Some(digits) = words.next() else {
+    let Some(len) = decimal_number(len) else {
         return Ok(false);
     };
-    if words.is_over() {
-        return octets_into(octets, digits);
-    }
-    let Some(len) = words.decimal_number() else {
-        return Ok(false);
-    };
-    if !words.is_over() {
+    if !octets_into(octets, digits)? {
         return Ok(false);
     }
-    data_into(octets, digits, len as usize)
+    lengthen(octets, len as usize)
+}
+
+/// Puts zero octets behind octets, up to `len` octets, if there may be so many.
+fn lengthen(octets: &mut Vec<u8>, len: usize) -> Result<bool, AllocError>
+    ensures value { IfOk result (λ found.
+        lengthened len octets.old.items ≡ (if found then Some octets.new.items else None)) }
+    ensures memory { OnErr result (IsSome (lengthened len octets.old.items)) }
+{
+    if octets.len() > len || len > MOST_LEN {
+        return Ok(false);
+    }
+    octets.resize(len, 0)?;
+    Ok(true)
 }
 
 /// Whether DATA, or DATA and LEN, stand there. It takes no memory.
@@ -85,29 +156,4 @@ fn may_have(digits: &[u8], len: usize) -> bool
     ensures not { result ≡ false → (32_768 < len) ⊎ (len < length digits.now / 2) }
 {
     len <= MOST_LEN && digits.len() / DIGITS_OF_OCTET <= len
-}
-
-/// Whether DATA and LEN stand there, and if so, leaves their octets in `octets`.
-fn lengthened_data_into(octets: &mut Vec<u8>, digits: &[u8], len: &[u8]) -> Result<bool, AllocError>
-    ensures value { IfOk result (λ found.
-        lengthened_data digits.now len.now ≡ (if found then Some octets.new.items else None)) }
-    ensures memory { OnErr result (IsSome (lengthened_data digits.now len.now)) }
-{
-    match decimal_number(len) {
-        Some(len) => data_into(octets, digits, len as usize),
-        None => Ok(false),
-    }
-}
-
-/// Whether DATA stands there and may have `len` octets, and if so, leaves so many in `octets`.
-pub fn data_into(octets: &mut Vec<u8>, digits: &[u8], len: usize) -> Result<bool, AllocError>
-    ensures value { IfOk result (λ found.
-        option_and_then (lengthened len) (octets_of digits.now) ≡ (if found then Some octets.new.items else None)) }
-    ensures memory { OnErr result (IsSome (option_and_then (lengthened len) (octets_of digits.now))) }
-{
-    // Digits of more octets are not read: they are no line's, whatever they are.
-    if !may_have(digits, len) {
-        return Ok(false);
-    }
-    lengthened_into(octets, digits, len)
 }

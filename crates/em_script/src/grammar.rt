@@ -13,11 +13,11 @@ ghost use Rattle.em_script.specs.Grammar.{link_form, peek_form, back_form, turns
 
 use crate::arguments::{Arguments, arguments_of};
 use crate::command::Command;
-use crate::frame::frame_words_into;
+use crate::frame::{data_words_into, frame_words_into};
 use crate::peek_len::{MOST_PEEK, PeekLen};
 use crate::plan::{PlanWords, plan_words};
 use em_step::Event;
-use em_text::{Words, octets_into};
+use em_text::Words;
 use std::alloc::AllocError;
 
 /// What a comment begins with.
@@ -80,27 +80,7 @@ pub fn poke_form<'a>(
     let Some(addr) = words.hex_address() else {
         return Ok(None);
     };
-    let Some(digits) = words.next() else {
-        return Ok(None);
-    };
-    if !words.is_over() {
-        return Ok(None);
-    }
-    poke_at(addr, digits, octets)
-}
-
-/// A memory write at the address, if its octets are digits.
-#[inline(always)]
-fn poke_at<'a>(
-    addr: u64,
-    digits: &[u8],
-    octets: &'a mut Vec<u8>,
-) -> Result<Option<Command<'a>>, AllocError>
-    ensures value { IfOk result (λ command. command_line (option_map plain command)
-        ≡ with (octets_of digits.now) (λ written. says (event (pokes addr written)))) }
-    ensures memory { OnErr result (IsSome (octets_of digits.now)) }
-{
-    if octets_into(octets, digits)? {
+    if data_words_into(octets, words)? {
         Ok(Some(Command::Event(Event::Poke(addr, octets.as_slice()))))
     } else {
         Ok(None)

@@ -9,7 +9,6 @@ ghost use Rattle.em_script.specs.ParsedLine.{brings_octets, command_line, reques
 ghost use Rattle.em_script.specs.Request.{request_form};
 ghost use Rattle.em_script.specs.Reply.{Performs};
 
-use crate::arguments::arguments_of;
 use crate::command::Command;
 use crate::grammar::{
     alone, arrive_form, back_form, is_comment, link_form, peek_form, poke_form, read_form,
@@ -210,7 +209,7 @@ fn play_request<W: Write>(
     ensures same { OnErr result (session.new ≡ session.old) }
     ensures unwritten { OnErr result (W.contents writer.new ≡ W.contents writer.old) }
 {
-    match request_form(alloc, name, arguments_of(words), octets)? {
+    match request_form(alloc, name, words, octets)? {
         Some(request) => Ok(ask(alloc, writer, session, request)),
         None => Ok(write_bad_line(writer, number)),
     }

@@ -2,15 +2,16 @@
 ghost use Rattle.std.specs.Prelude.{◌≡◌, IfOk, OnErr, IsTrue, option_and_then};
 ghost use Rattle.std.specs.Option.{option_map};
 ghost use Rattle.em_text.specs.Numbers.{octets_of};
-ghost use Rattle.em_script.specs.Arguments.{plain as plain_arguments};
+ghost use Rattle.em_text.specs.Words.{words_of};
+ghost use Rattle.em_script.specs.Arguments.{arguments_of, plain as plain_arguments};
 ghost use Rattle.em_script.specs.Request.{plain, request_form, send_form, receive_form, address_form, alone};
 ghost use Rattle.em_script.specs.Request.{sets_address, address_of};
 ghost use Rattle.em_script.specs.ParsedLine.{brings_octets, request_line};
 
-use crate::arguments::Arguments;
+use crate::arguments::{Arguments, arguments_of};
 use crate::call::Call;
-use crate::frame::frame_into;
-use em_text::{decimal_number, is_name, octets_into};
+use crate::frame::frame_words_into;
+use em_text::{Words, is_name, octets_into};
 use std::alloc::{AllocError, Global};
 use std::collections::VecDeque;
 
@@ -28,71 +29,76 @@ const MOST_PACKETS: u32 = 1024;
 const ADDRESS_DIGITS: usize = 12;
 
 /// What is asked of a driver by a name and the words behind it. Memory is taken for the octets that
-/// it brings; `octets` holds those of an address on the way.
+/// it brings; `octets` holds them on the way.
 pub fn request_form(
     alloc: Global,
     name: &[u8],
-    arguments: Arguments<'_>,
+    words: Words<'_>,
     octets: &mut Vec<u8>,
 ) -> Result<Option<Request>, AllocError>
     ensures value { IfOk result (λ request.
-        option_map plain request ≡ request_form name.now (plain_arguments arguments.entry)) }
+        option_map plain request ≡ request_form name.now (arguments_of (words_of words.entry.0.now))) }
     ensures memory { OnErr result (IsTrue (brings_octets (request_line
-        (request_form name.now (plain_arguments arguments.entry))))) }
+        (request_form name.now (arguments_of (words_of words.entry.0.now)))))) }
 {
-    if is_name(name, b"init") {
-        return Ok(alone(Request::Start, arguments));
-    }
     if is_name(name, b"send") {
-        return send_form(alloc, arguments);
+        return send_form(alloc, words, octets);
     }
     if is_name(name, b"recv") {
-        return Ok(receive_form(arguments));
+        return Ok(receive_form(words));
+    }
+    if is_name(name, b"init") {
+        return Ok(alone(Request::Start, words));
     }
     if is_name(name, b"stats") {
-        return Ok(alone(Request::Call(Call::Stats), arguments));
+        return Ok(alone(Request::Call(Call::Stats), words));
     }
     if is_name(name, b"mac") {
-        return address_form(arguments, octets);
+        return address_form(arguments_of(words), octets);
     }
     Ok(None)
 }
 
 /// A request whose name has no word behind it.
-fn alone(request: Request, arguments: Arguments<'_>) -> Option<Request>
-    ensures { option_map plain result ≡ alone (plain request) (plain_arguments arguments.entry) }
+fn alone(request: Request, words: Words<'_>) -> Option<Request>
+    ensures { option_map plain result ≡ alone (plain request) (arguments_of (words_of words.entry.0.now)) }
 {
-    match arguments {
-        Arguments::Zero => Some(request),
-        _ => None,
-    }
+    if words.is_over() { Some(request) } else { None }
 }
 
-/// One packet.
-fn send_form(alloc: Global, arguments: Arguments<'_>) -> Result<Option<Request>, AllocError>
-    ensures value { IfOk result (λ request. option_map plain request ≡ send_form (plain_arguments arguments.entry)) }
+/// send DATA, or send DATA LEN: one packet
+#[inline(always)]
+fn send_form(
+    alloc: Global,
+    words: Words<'_>,
+    octets: &mut Vec<u8>,
+) -> Result<Option<Request>, AllocError>
+    ensures value { IfOk result (λ request.
+        option_map plain request ≡ send_form (arguments_of (words_of words.entry.0.now))) }
     ensures memory { OnErr result
-        (IsTrue (brings_octets (request_line (send_form (plain_arguments arguments.entry))))) }
+        (IsTrue (brings_octets (request_line (send_form (arguments_of (words_of words.entry.0.now)))))) }
 {
-    let mut packet = Vec::new(alloc);
-    if !frame_into(&mut packet, arguments)? {
+    if !frame_words_into(octets, words)? {
         return Ok(None);
     }
+    let packet = Vec::from_slice(alloc, octets.as_slice())?;
     let mut packets = VecDeque::new(alloc);
     packets.push_back(packet)?;
     Ok(Some(Request::Call(Call::Send(packets))))
 }
 
-fn receive_form(arguments: Arguments<'_>) -> Option<Request>
-    ensures { option_map plain result ≡ receive_form (plain_arguments arguments.entry) }
+/// recv N
+#[inline(always)]
+fn receive_form(mut words: Words<'_>) -> Option<Request>
+    ensures { option_map plain result ≡ receive_form (arguments_of (words_of words.entry.0.now)) }
 {
-    match arguments {
-        Arguments::One(most) => match decimal_number(most) {
-            Some(most) if most <= MOST_PACKETS => Some(Request::Call(Call::Receive(most))),
-            _ => None,
-        },
-        _ => None,
+    let Some(most) = words.decimal_number() else {
+        return None;
+    };
+    if most > MOST_PACKETS {
+        return None;
     }
+    alone(Request::Call(Call::Receive(most)), words)
 }
 
 fn address_form(

@@ -28,13 +28,14 @@ use Rattle.em_step.specs.declared.event.Answer.{Answer}
 use Rattle.em_step.specs.declared.event.Answer.TheVariants.{Stored}
 use Rattle.em_step.specs.declared.undo.Undo.{Undo}
 use Rattle.em_step.specs.declared.undo.Part.{Part}
-use Rattle.em_step.specs.declared.undo.Part.TheVariants.{Nothing, Register, Octets, Arrival}
+use Rattle.em_step.specs.declared.undo.Part.TheVariants.{Nothing, Register, Octets, FewOctets, Arrival}
 use Rattle.em_step.specs.declared.undo.Part.TheVariants.{RxStep, TxStep, Link, Reset}
 
 part_least : (p : Part) → least_cost ≤ cost_of_part p
 part_least Nothing = omega arith
 part_least (Register old) = omega arith
 part_least (Octets old) = omega arith
+part_least (FewOctets old) = omega arith
 part_least (Arrival old) = omega arith
 part_least (RxStep head old) = omega arith
 part_least (TxStep old head) = omega arith

@@ -1,5 +1,6 @@
 -- More made pages: what is shown stays, records go on fitting, and taking one back leaves more made pages again.
 use Rattle.std.proofs.Common.{◌≡◌, refl, ap, sym, subst}
+use Rattle.em_mem.specs.Memory.{Patch}
 use Rattle.em_mem.proofs.MadePages as memory
 use Rattle.em_regs.specs.declared.reg.Reg.TheVariants.{Rdh, Tdh}
 use Rattle.em_regs.specs.RegFile as registers
@@ -15,11 +16,11 @@ use Rattle.em_tx.specs.declared.undo.TxUndo.{TxUndo}
 use Rattle.em_tx.specs.declared.undo.TxUndo.TheVariants as tx_record
 use Rattle.em_tx.proofs.MadePages as tx_laws
 use Rattle.em_step.specs.Cells.{Cells, shows, MorePages}
-use Rattle.em_step.specs.Undo.{Fits, PartFits, tx_cells_of, undo, undo_part, undo_receive, undo_register}
-use Rattle.em_step.specs.Undo.{undo_transmit, word}
+use Rattle.em_step.specs.Undo.{Fits, PartFits, tx_cells_of, undo, undo_octets, undo_part, undo_receive}
+use Rattle.em_step.specs.Undo.{undo_register, undo_transmit, word}
 use Rattle.em_step.specs.declared.undo.Undo.{Undo}
 use Rattle.em_step.specs.declared.undo.Part.{Part}
-use Rattle.em_step.specs.declared.undo.Part.TheVariants.{Nothing, Register, Octets, Arrival}
+use Rattle.em_step.specs.declared.undo.Part.TheVariants.{Nothing, Register, Octets, FewOctets, Arrival}
 use Rattle.em_step.specs.declared.undo.Part.TheVariants.{RxStep, TxStep, Link, Reset}
 
 pub shows_after : (c d : Cells) → MorePages c d → shows d ≡ shows c
@@ -93,6 +94,7 @@ part_fits_after : (c d : Cells) (p : Part) → MorePages c d → PartFits c p �
 part_fits_after c d Nothing more fits = tt
 part_fits_after c d (Register old) more fits = register_fits_after c d old more fits
 part_fits_after c d (Octets old) more fits = memory.fits_after c.memory d.memory old.value more.memory fits
+part_fits_after c d (FewOctets old) more fits = memory.fits_after c.memory d.memory old more.memory fits
 part_fits_after c d (Arrival old) more fits = receive_fits_after c d (Frame old) more fits
 part_fits_after c d (RxStep head old) more fits =
     (register_fits_after c d (word Rdh head) more fits.0, receive_fits_after c d (rx_record.Step old) more fits.1)
@@ -109,19 +111,24 @@ fits_after c d r more fits = record {
   part = part_fits_after c d r.part more fits.part;
 }
 
-part_after : (c d : Cells) (p : Part) → MorePages c d → MorePages (undo_part c p) (undo_part d p)
-part_after c d Nothing more = more
-part_after c d (Register old) more = register_after c d old more
-part_after c d (Octets old) more = record {
+-- octets of guest memory that are put back
+octets_after : (c d : Cells) (old : Patch) → MorePages c d → MorePages (undo_octets c old) (undo_octets d old)
+octets_after c d old more = record {
   registers = more.registers;
   latches = more.latches;
   fifo = more.fifo;
-  memory = memory.undo_after c.memory d.memory old.value more.memory;
+  memory = memory.undo_after c.memory d.memory old more.memory;
   gathered = more.gathered;
   wire = more.wire;
   eeprom = more.eeprom;
   link = more.link;
 }
+
+part_after : (c d : Cells) (p : Part) → MorePages c d → MorePages (undo_part c p) (undo_part d p)
+part_after c d Nothing more = more
+part_after c d (Register old) more = register_after c d old more
+part_after c d (Octets old) more = octets_after c d old.value more
+part_after c d (FewOctets old) more = octets_after c d old more
 part_after c d (Arrival old) more = receive_after c d (Frame old) more
 part_after c d (RxStep head old) more =
     receive_after (undo_register c (word Rdh head)) (undo_register d (word Rdh head)) (rx_record.Step old)

@@ -13,7 +13,7 @@ use Rattle.em_step.specs.Arrival.{arrival, octets_stored}
 use Rattle.em_step.specs.Step.{resets}
 use Rattle.em_step.specs.declared.undo.Undo.{Undo}
 use Rattle.em_step.specs.declared.undo.Part.{Part}
-use Rattle.em_step.specs.declared.undo.Part.TheVariants.{Nothing, Register, Octets, Arrival}
+use Rattle.em_step.specs.declared.undo.Part.TheVariants.{Nothing, Register, Octets, FewOctets, Arrival}
 use Rattle.em_step.specs.declared.undo.Part.TheVariants.{RxStep, TxStep, Link, Reset}
 
 -- of an event whose record holds no octets
@@ -39,6 +39,7 @@ abbrev pub cost_of_part : Part → ℕ
 cost_of_part Nothing = least_cost
 cost_of_part (Register old) = least_cost
 cost_of_part (Octets old) = least_cost + length old.value.octets
+cost_of_part (FewOctets old) = least_cost + length old.octets
 cost_of_part (Arrival old) = least_cost + octets_held (Frame old)
 cost_of_part (RxStep head old) = least_cost + octets_held (Step old)
 cost_of_part (TxStep old head) = least_cost + old.cost

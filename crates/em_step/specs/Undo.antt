@@ -17,7 +17,7 @@ use Rattle.em_tx.specs.declared.undo.TxUndo.TheVariants as tx_undo
 use Rattle.em_step.specs.Cells.{Cells, MorePages}
 use Rattle.em_step.specs.declared.undo.Undo.{Undo}
 use Rattle.em_step.specs.declared.undo.Part.{Part}
-use Rattle.em_step.specs.declared.undo.Part.TheVariants.{Nothing, Register, Octets, Arrival}
+use Rattle.em_step.specs.declared.undo.Part.TheVariants.{Nothing, Register, Octets, FewOctets, Arrival}
 use Rattle.em_step.specs.declared.undo.Part.TheVariants.{RxStep, TxStep, Link, Reset}
 
 -- a register that held so much
@@ -33,6 +33,7 @@ abbrev pub PartFits : Cells → Part → Type 0
 PartFits c Nothing = Unit {0}
 PartFits c (Register old) = registers.Fits c.registers old
 PartFits c (Octets old) = memory.Fits c.memory old.value
+PartFits c (FewOctets old) = memory.Fits c.memory old
 PartFits c (Arrival old) = rx.Fits c.fifo c.memory (Frame old)
 PartFits c (RxStep head old) = registers.Fits c.registers (word Rdh head) × rx.Fits c.fifo c.memory (rx_undo.Step old)
 PartFits c (TxStep old head) = registers.Fits c.registers (word Tdh head) × tx.Fits (tx_cells_of c) (tx_undo.Step old)
@@ -64,11 +65,16 @@ undo_transmit c r = with_tx_cells c (tx.undo (tx_cells_of c) r)
 abbrev pub undo_register : Cells → registers.OldWord → Cells
 undo_register c old = record c { registers = registers.undo c.registers old }
 
+-- the cells with octets of guest memory put back
+abbrev pub undo_octets : Cells → memory.Patch → Cells
+undo_octets c old = record c { memory = memory.undo c.memory old }
+
 -- the cells with the part put back
 abbrev pub undo_part : Cells → Part → Cells
 undo_part c Nothing = c
 undo_part c (Register old) = undo_register c old
-undo_part c (Octets old) = record c { memory = memory.undo c.memory old.value }
+undo_part c (Octets old) = undo_octets c old.value
+undo_part c (FewOctets old) = undo_octets c old
 undo_part c (Arrival old) = undo_receive c (Frame old)
 undo_part c (RxStep head old) = undo_receive (undo_register c (word Rdh head)) (rx_undo.Step old)
 undo_part c (TxStep old head) = undo_transmit (undo_register c (word Tdh head)) (tx_undo.Step old)

@@ -3,7 +3,7 @@ ghost use Rattle.std.specs.Prelude.{◌≡◌, ◌≢◌, ◌↔◌, ◌+◌, �
 ghost use Rattle.std.specs.Prelude.{if◌then◌else◌, IsTrue, false, [], length, slice_get};
 ghost use Rattle.std.specs.Prelude.{IfOk, IfErr, OnOk, OnErr, IsErrOf};
 ghost use Rattle.std.specs.Option.{option_map};
-ghost use Rattle.em_mem.specs.Memory.{IsMemorySize, part};
+ghost use Rattle.em_mem.specs.Memory.{IsHeld, IsMemorySize, part, put};
 ghost use Rattle.em_regs.specs.Table.{IsReg, offset_of, reg_at};
 ghost use Rattle.em_regs.specs.RegFile.{IsStored};
 ghost use Rattle.em_latch.specs.Latches.{is_latched, IsLatched, IsAsserted};
@@ -16,7 +16,7 @@ ghost use Rattle.em_step.specs.Event.{links, plain, pokes, reads, writes};
 ghost use Rattle.em_step.specs.Step.{step, Refuses};
 ghost use Rattle.em_step.specs.Undo.{Fits, PartFits, Reverses, is_sending, undo, undo_part, undo_receive};
 ghost use Rattle.em_rx.specs.Undo as rx;
-ghost use Rattle.em_step.specs.Cost.{cost, cost_of, cost_of_part, least_cost, most_cost};
+ghost use Rattle.em_step.specs.Cost.{cost, cost_of, least_cost, most_cost};
 
 use crate::event::{Answer, Event};
 use crate::refusal::Refusal;
@@ -24,15 +24,12 @@ use crate::undo::{BeforeReset, LEAST_COST, MOST_COST, Part, Undo};
 use bitflags::Flags;
 use em_eeprom::Eeprom;
 use em_latch::{LatchUndo, Latches};
-use em_mem::{GuestMemory, MemRefusal, MemUndo, Spares, SparesByLen};
+use em_mem::{FEW, GuestMemory, MemRefusal, MemUndo, Spares, SparesByLen};
 use em_regs::{Causes, Ctrl, Eerd, Reg, RegFile, RegUndo, Status};
 use em_rx::{Fifo, FramePatch, RxUndo, StepPatch};
 use em_tx::{Change, Gather, TxUndo, Wire, take_back};
 use std::alloc::{AllocError, Global};
 use std::marker::Model;
-
-/// The most octets that one memory write has.
-const MOST_POKE: usize = 16_384;
 
 /// The adapter and the guest's memory.
 #[derive(Drop)]
@@ -48,7 +45,7 @@ pub struct Adapter {
     eeprom: Eeprom,
     pub(crate) link: bool,
     // what was let go serves the next record
-    spare_octets: SparesByLen<MemUndo>,
+    pub(crate) spare_octets: SparesByLen<MemUndo>,
     spare_resets: Spares<BeforeReset>,
 }
 
@@ -307,38 +304,38 @@ impl Adapter {
         ensures cost { result ≡ cost_of taken }
     {
         let Undo { latches, part } = taken;
+        self.latches.put_back(&latches);
         match part {
-            Part::Nothing => {
-                self.latches.put_back(&latches);
-                LEAST_COST
-            }
+            Part::Nothing => LEAST_COST,
             Part::Register(old) => {
-                self.latches.put_back(&latches);
                 let _written = self.registers.exchange(old);
                 LEAST_COST
             }
             Part::Octets(octets) => {
                 let cost = LEAST_COST + octets.len();
-                self.take_back_octets(latches, octets);
+                self.take_back_octets(octets);
                 cost
+            }
+            Part::FewOctets(octets) => {
+                self.memory.put_back_few(&octets);
+                LEAST_COST + octets.len()
             }
             Part::Arrival(frame) => {
                 let cost = LEAST_COST + frame.len();
-                self.take_back_arrival(latches, frame);
+                self.take_back_arrival(frame);
                 cost
             }
             Part::RxStep(head, piece) => {
                 let cost = LEAST_COST + piece.len();
-                self.take_back_receiving(latches, head, piece);
+                self.take_back_receiving(head, piece);
                 cost
             }
             Part::TxStep(change, head) => {
                 let cost = LEAST_COST + change.cost();
-                self.take_back_sending(latches, change, head);
+                self.take_back_sending(change, head);
                 cost
             }
             Part::Link(old) => {
-                self.latches.put_back(&latches);
                 self.link = old;
                 LEAST_COST
             }
@@ -370,6 +367,10 @@ impl Adapter {
                 self.memory.exchange_in_place(&mut old);
                 Part::Octets(old)
             }
+            Part::FewOctets(mut old) => {
+                self.memory.exchange_few(&mut old);
+                Part::FewOctets(old)
+            }
             Part::Arrival(old) => Part::Arrival(self.exchange_frame(old)),
             Part::RxStep(head, old) => {
                 let old = self.exchange_piece(old);
@@ -386,16 +387,6 @@ impl Adapter {
         }
     }
 
-    /// Takes a memory write back.
-    fn take_back_octets(&mut self, words: LatchUndo, octets: Box<MemUndo>)
-        requires { Fits self.old (record { latches = words; part = Part.Octets octets }) }
-        ensures { self.new ≡ undo self.old (record { latches = words; part = Part.Octets octets }) }
-    {
-        self.latches.put_back(&words);
-        self.memory.put_back(&octets);
-        self.let_octets_go(octets);
-    }
-
     /// Lets the record of an event go, which then can't be taken back, and gives what it cost. Its memory
     /// serves a later record.
     #[inline(always)]
@@ -403,50 +394,37 @@ impl Adapter {
         ensures cost { result ≡ cost_of undo }
         ensures same { self.new ≡ self.old }
     {
+        let cost = undo.cost();
         match undo.part {
-            Part::Nothing | Part::Register(_) | Part::Link(_) => LEAST_COST,
-            Part::TxStep(change, _) => LEAST_COST + change.cost(),
-            owner => self.let_part_go(owner),
+            Part::Nothing
+            | Part::Register(_)
+            | Part::FewOctets(_)
+            | Part::Link(_)
+            | Part::TxStep(..) => {}
+            Part::Octets(octets) => self.let_octets_go(octets),
+            Part::Arrival(frame) => self.let_frame_go(frame),
+            Part::RxStep(_, piece) => self.let_piece_go(piece),
+            Part::Reset(kept) => self.let_reset_go(kept),
         }
+        cost
     }
 
-    /// The same of a part that may own memory. It stands apart, so that the others make no room for what it
-    /// keeps.
+    // Each of these stands apart, so that a record which owns no memory makes no room for what they keep.
+
+    /// Lets the record of an arrival go.
     #[inline(never)]
-    fn let_part_go(&mut self, part: Part) -> u32
-        ensures cost { result ≡ cost_of_part part }
-        ensures same { self.new ≡ self.old }
-    {
-        match part {
-            Part::Octets(octets) => {
-                let cost = LEAST_COST + octets.len();
-                self.let_octets_go(octets);
-                cost
-            }
-            Part::Arrival(frame) => {
-                let cost = LEAST_COST + frame.len();
-                self.fifo.let_frame_go(frame);
-                cost
-            }
-            Part::RxStep(_, piece) => {
-                let cost = LEAST_COST + piece.len();
-                self.fifo.let_step_go(piece);
-                cost
-            }
-            Part::Reset(kept) => {
-                self.let_reset_go(kept);
-                MOST_COST
-            }
-            Part::Nothing | Part::Register(_) | Part::Link(_) => LEAST_COST,
-            Part::TxStep(change, _) => LEAST_COST + change.cost(),
-        }
-    }
-
-    /// Lets the record of a memory write go.
-    fn let_octets_go(&mut self, octets: Box<MemUndo>)
+    fn let_frame_go(&mut self, frame: Box<FramePatch>)
         ensures { self.new ≡ self.old }
     {
-        self.spare_octets.put(octets.len() as usize, octets);
+        self.fifo.let_frame_go(frame);
+    }
+
+    /// Lets the record of a step of the receive engine go.
+    #[inline(never)]
+    fn let_piece_go(&mut self, piece: Box<StepPatch>)
+        ensures { self.new ≡ self.old }
+    {
+        self.fifo.let_step_go(piece);
     }
 
     /// Lets what a reset put aside go.
@@ -457,23 +435,12 @@ impl Adapter {
         self.spare_resets.put(kept);
     }
 
-    /// A record for a write of so many octets, to be filled: one that was let go, if there is one.
-    fn room_for_octets(&mut self, len: usize) -> Result<Box<MemUndo>, AllocError>
-        ensures { self.new ≡ self.old }
-    {
-        match self.spare_octets.take(len) {
-            Some(octets) => Ok(octets),
-            None => Ok(Box::new(self.alloc, MemUndo::new(0, Vec::new(self.alloc)))?),
-        }
-    }
-
     /// Takes a step of the transmit engine back.
     #[inline(never)]
-    fn take_back_sending(&mut self, words: LatchUndo, change: Change, head: u32)
-        requires { Fits self.old (record { latches = words; part = Part.TxStep change head }) }
-        ensures { self.new ≡ undo self.old (record { latches = words; part = Part.TxStep change head }) }
+    fn take_back_sending(&mut self, change: Change, head: u32)
+        requires { PartFits self.old (Part.TxStep change head) }
+        ensures { self.new ≡ undo_part self.old (Part.TxStep change head) }
     {
-        self.latches.put_back(&words);
         let _head = self.registers.restore(Reg::Tdh, head);
         take_back(
             &mut self.gather,
@@ -689,11 +656,10 @@ impl Adapter {
         let mut kept = place;
         let before = &mut *kept;
         before.registers.reset_in_place(self.eeprom.mac());
-        before.latches = Latches::new();
         before.gathered.clear();
         std::mem::swap(&mut self.registers, &mut before.registers);
-        std::mem::swap(&mut self.latches, &mut before.latches);
         std::mem::swap(&mut self.gather, &mut before.gathered);
+        before.latches = std::mem::replace(&mut self.latches, Latches::new());
         before.fifo = self.fifo.clear();
         kept
     }
@@ -731,28 +697,5 @@ impl Adapter {
         self.latches.raise(Causes::LSC.bits(), &mut latches);
         let part = Part::Link(std::mem::replace(&mut self.link, up));
         Ok((Answer::Done, Undo { latches, part }))
-    }
-
-    /// Writes octets of guest memory. All that can be refused comes before the first change.
-    #[inline(always)]
-    pub fn poke(&mut self, addr: u64, octets: &[u8]) -> Result<(Answer, Undo), Refusal>
-        ensures ok { IfOk result (λ r. step (shows self.old) (pokes addr octets.now) ≡ Ok (r.0, shows self.new)) }
-        ensures cost { IfOk result (λ r. cost_of r.1 ≡ cost (shows self.old) (pokes addr octets.now)) }
-        ensures reverses { IfOk result (λ r. Reverses self.old self.new r.1) }
-        ensures err { IfErr result (Refuses (shows self.old) (pokes addr octets.now)) }
-        ensures same { OnErr result (MorePages self.old self.new) }
-    {
-        if !self.memory.holds(addr, octets.len() as u64) {
-            return Err(Refusal::Range);
-        }
-        if octets.is_empty() || octets.len() > MOST_POKE {
-            return Err(Refusal::Length);
-        }
-        let mut old = self.room_for_octets(octets.len())?;
-        if self.memory.touch(addr, octets.len() as u64).is_err() {
-            return Err(Refusal::Memory);
-        }
-        self.memory.write_keeping(addr, octets, &mut old)?;
-        Ok((Answer::Done, Undo::of_part(Part::Octets(old))))
     }
 }

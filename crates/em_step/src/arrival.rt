@@ -8,7 +8,7 @@ ghost use Rattle.em_step.specs.Cells.{shows};
 ghost use Rattle.em_step.specs.Cost.{cost, cost_of, least_cost};
 ghost use Rattle.em_step.specs.Event.{arrives};
 ghost use Rattle.em_step.specs.Step.{step, Refuses};
-ghost use Rattle.em_step.specs.Undo.{Fits, Reverses, undo};
+ghost use Rattle.em_step.specs.Undo.{PartFits, Reverses, undo_part};
 
 use crate::adapter::Adapter;
 use crate::counts::{CHECK_OCTETS, count_frame, count_miss};
@@ -188,11 +188,10 @@ impl Adapter {
 impl Adapter {
     /// Takes a frame that was stored back.
     #[inline(never)]
-    pub(crate) fn take_back_arrival(&mut self, words: LatchUndo, frame: Box<FramePatch>)
-        requires { Fits self.old (record { latches = words; part = Part.Arrival frame }) }
-        ensures { self.new ≡ undo self.old (record { latches = words; part = Part.Arrival frame }) }
+    pub(crate) fn take_back_arrival(&mut self, frame: Box<FramePatch>)
+        requires { PartFits self.old (Part.Arrival frame) }
+        ensures { self.new ≡ undo_part self.old (Part.Arrival frame) }
     {
-        self.latches.put_back(&words);
         self.fifo.take_back(&mut self.memory, RxUndo::Frame(frame));
     }
 }

@@ -4,7 +4,7 @@ ghost use Rattle.em_step.specs.Cells.{shows, MorePages};
 ghost use Rattle.em_step.specs.Cost.{cost, cost_of};
 ghost use Rattle.em_step.specs.Event.{receives, transmits};
 ghost use Rattle.em_step.specs.Step.{step, Refuses};
-ghost use Rattle.em_step.specs.Undo.{Fits, Reverses, undo};
+ghost use Rattle.em_step.specs.Undo.{PartFits, Reverses, undo_part};
 
 use crate::adapter::Adapter;
 use crate::counts::{CHECK_OCTETS, count_sent};
@@ -100,11 +100,10 @@ impl Adapter {
 
     /// Takes a step of the receive engine back.
     #[inline(never)]
-    pub(crate) fn take_back_receiving(&mut self, words: LatchUndo, head: u32, piece: Box<StepPatch>)
-        requires { Fits self.old (record { latches = words; part = Part.RxStep head piece }) }
-        ensures { self.new ≡ undo self.old (record { latches = words; part = Part.RxStep head piece }) }
+    pub(crate) fn take_back_receiving(&mut self, head: u32, piece: Box<StepPatch>)
+        requires { PartFits self.old (Part.RxStep head piece) }
+        ensures { self.new ≡ undo_part self.old (Part.RxStep head piece) }
     {
-        self.latches.put_back(&words);
         let _head = self.registers.restore(Reg::Rdh, head);
         self.fifo.take_back(&mut self.memory, RxUndo::Step(piece));
     }

@@ -7,6 +7,7 @@ mod counts;
 mod engines;
 mod event;
 pub mod laws;
+mod poke;
 mod refusal;
 mod undo;
 

@@ -3,7 +3,7 @@ ghost use Rattle.std.specs.Prelude.{◌≡◌, ◌≤◌, []};
 ghost use Rattle.em_step.specs.Cost.{least_cost, most_cost, cost_of};
 
 use em_latch::{LatchUndo, Latches};
-use em_mem::MemUndo;
+use em_mem::{FewOctets, MemUndo};
 use em_regs::{RegFile, RegUndo};
 use em_rx::{FramePatch, RxUndo, StepPatch};
 use em_tx::{Change, Gather};
@@ -32,6 +32,8 @@ pub enum Part {
     Register(RegUndo),
     /// Octets of guest memory, in a box, so that records stay small: a journal has a place for each.
     Octets(Box<MemUndo>),
+    /// A few octets of guest memory, which lie in the record itself.
+    FewOctets(FewOctets),
     /// What a frame overwrote in the FIFO, in a box like the octets.
     Arrival(Box<FramePatch>),
     /// RDH, and what a step of the receive engine overwrote in guest memory and in the FIFO.
@@ -86,6 +88,7 @@ impl Undo {
         match &self.part {
             Part::Nothing | Part::Register(_) | Part::Link(_) => LEAST_COST,
             Part::Octets(octets) => LEAST_COST + octets.len(),
+            Part::FewOctets(octets) => LEAST_COST + octets.len(),
             Part::Arrival(frame) => LEAST_COST + frame.len(),
             Part::RxStep(_, piece) => LEAST_COST + piece.len(),
             Part::TxStep(change, _) => LEAST_COST + change.cost(),

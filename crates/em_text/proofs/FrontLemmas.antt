@@ -14,6 +14,8 @@ use Rattle.std.proofs.lemmas.List.Sums.{position_or_len_is, passes_at_first}
 use Rattle.std.proofs.lemmas.List.{length-take-le, drop_all}
 use Rattle.em_text.specs.Words.{words_of, is_blank, read_first}
 use Rattle.em_text.proofs.WordsLemmas.{first_word, words_of-blanks, words_of-nil}
+use Rattle.std.specs.List.{before_first}
+use Rattle.std.specs.Prelude.{Option, option_map}
 use Rattle.em_text.specs.Numbers.{number, digits_len, IsNoLength, IsNoNumber, LeadingNumber}
 use Rattle.em_text.proofs.NumbersLemmas.{number-good, number-bad, number-empty, number-long}
 
@@ -145,18 +147,29 @@ word_of_digits base line letters end =
     position_or_len_is is_blank line (digits_len base line) 0 (prefix_len-le-length p line)
     (λ k lt. digit_no_blank base (get_or line k 0) letters (prefix_len_passes p line k 0 lt)) end
 
+-- what is read in the first word of a line, where nothing is read in no octets
+pub first_read : {A : Type 0} (read : List ℕ → Option A) (line : List ℕ) (k : ℕ) (from : List ℕ)
+    → k ≡ prefix_len is_blank line → from ≡ drop k line → read [] ≡ None
+    → read_first read (words_of line)
+    ≡ option_map (λ value. (value, words_of (drop (position_or_len is_blank from) from)))
+    (read (before_first is_blank from))
+first_read {A} read line k from blanks is_from none =
+    elim (cases_lt k (length line)) [
+      | inl lt ↦ rw (is_from, first_word line k _ _ _ blanks lt refl refl refl) refl
+      | inr past ↦
+          let over : drop k line ≡ [] = drop_all k line past in
+          let empty : words_of line ≡ [] = sym (words_of-blanks line) ∙ ap (λ n. words_of (drop n line)) (sym blanks)
+          ∙ ap words_of over ∙ words_of-nil in
+          rw (is_from, over, empty, none) refl
+    ]
+
 -- where the first word is no number, none is read
-pub none_read : (base most : ℕ) (line : List ℕ) (k : ℕ) → k ≡ prefix_len is_blank line
+none_read : (base most : ℕ) (line : List ℕ) (k : ℕ) → k ≡ prefix_len is_blank line
     → number base most (take (position_or_len is_blank (drop k line)) (drop k line)) ≡ None
     → read_first (number base most) (words_of line) ≡ None
 none_read base most line k blanks is =
-    elim (cases_lt k (length line)) [
-      | inl lt ↦ rw (first_word line k _ _ _ blanks lt refl refl refl, is) refl
-      | inr past ↦
-          let empty : words_of line ≡ [] = sym (words_of-blanks line) ∙ ap (λ n. words_of (drop n line)) (sym blanks)
-          ∙ ap words_of (drop_all k line past) ∙ words_of-nil in
-          rw empty refl
-    ]
+    first_read (number base most) line k (drop k line) blanks refl (number-empty base most [] refl)
+    ∙ ap (option_map (λ value. (value, words_of _))) is
 
 -- where the line behind its blanks begins with no number
 pub no_number_read : (base most : ℕ) (line : List ℕ) (k : ℕ) (from : List ℕ) → k ≡ prefix_len is_blank line

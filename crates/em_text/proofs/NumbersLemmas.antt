@@ -1,23 +1,22 @@
 -- The number and the octets of a word, by cases.
-use Rattle.std.proofs.Common.{◌≡◌, ◌≢◌, ◌%◌, ℕ, ◌+◌, ◌*◌, ◌^◌, ◌<◌, ◌≤◌, true, false, List, length, drop, get_or}
+use Rattle.std.proofs.Common.{zero, suc, ◌≡◌, ◌≢◌, ◌%◌, ℕ, ◌+◌, ◌*◌, ◌^◌, ◌<◌, ◌≤◌, true, false, List, length, drop, get_or}
 use Rattle.std.proofs.Common.{Option, Some, None, refl, sym, arith, add-one, take, Result, Ok, Err, ap, ◌∙◌, inl, inr}
-use Rattle.std.proofs.Common.{subst, ◌-◌, ◌/◌, ◌++◌, option_map, replicate, append-nil, take-append-drop}
+use Rattle.std.proofs.Common.{subst}
 use Rattle.std.specs.List.{list_all, AllPass}
-use Rattle.std.proofs.lemmas.List.{drop_more, get_or_default, drop-replicate, length-take-le}
+use Rattle.std.proofs.lemmas.List.{drop_more, get_or_default, get_or-set_same, get_or-set_other, set-get_or}
 use Rattle.std.proofs.lemmas.Bool.{lt-ltb, le-ltb, cases_lt}
 use Rattle.std.proofs.lemmas.Bool.Decides.{nat_tests}
-use Rattle.std.proofs.lemmas.Grind.{common_steps}
 use Rattle.std.proofs.Math.Nat.{pow-le-pow_right, pow-suc, mul-le-mul_right}
 use Rattle.std.specs.Char.{is_digit, digit_value}
 use Rattle.std.specs.Str.Parse.{digits_value, digits_value_after}
 use Rattle.std.specs.Result.{result_ok}
-use Rattle.std.specs.Prelude.{EachIndex, IsSome, slice_index, slice_set, min, max, nat_lt, if◌then◌else◌}
+use Rattle.std.specs.Prelude.{EachIndex, IsSome, slice_index, slice_set, min, max}
 use Rattle.hex.specs.Hex.{decode_of, is_hex_digit, decode_pairs, hex_digit_value, digit_or_error, value_at, pair_value}
 use Rattle.hex.specs.declared.error.FromHexError.TheVariants.{InvalidHexCharacter}
-use Rattle.hex.proofs.Pairs.{prepend, decode_err, decode_done, decode_step}
+use Rattle.hex.proofs.Pairs.{prepend, decode_done, decode_start, decode_step}
 use Rattle.hex.proofs.HexLemmas.{decode_of-even, decode_pairs-digits, decode_of-ok}
 use Rattle.hex.specs.declared.error.FromHexError.{FromHexError}
-use Rattle.em_text.specs.Numbers.{number, octets_of, with_zeros}
+use Rattle.em_text.specs.Numbers.{number, octets_of, IsPair, ArePairs}
 
 -- no digit
 pub number-empty : (base most : ℕ) (word : List ℕ) → length word ≡ 0 → number base most word ≡ None
@@ -180,34 +179,6 @@ pair_value-good a b i ha hb =
     let eb = value_at-good b (i + 1) hb in
     rw (ea, eb) refl
 
--- a pair whose first octet is no digit, and one whose second is none
-pair_value-bad_high : (a b i : ℕ) → 16 ≤ digit_value a → pair_value a b i ≡ Err (InvalidHexCharacter a i)
-pair_value-bad_high a b i ha = let ea = value_at-bad a i ha in rw ea refl
-
-pair_value-bad_low : (a b i : ℕ) → digit_value a < 16 → 16 ≤ digit_value b
-    → pair_value a b i ≡ Err (InvalidHexCharacter b (i + 1))
-pair_value-bad_low a b i ha hb =
-    let ea = value_at-good a i ha in
-    let eb = value_at-bad b (i + 1) hb in
-    rw (ea, eb) refl
-
--- the answer of a decoder that has met a pair that is none
-pub octets_of-bad_high : (word octets : List ℕ) (i : ℕ) → length word % 2 ≡ 0 → 2 * i + 1 < length word
-    → 16 ≤ digit_value (get_or word (2 * i) 0)
-    → decode_pairs 0 word ≡ prepend (take i octets) (decode_pairs (2 * i) (drop (2 * i) word)) → octets_of word ≡ None
-octets_of-bad_high word octets i even lt bad so_far =
-    let pair = pair_value-bad_high (get_or word (2 * i) 0) (get_or word (2 * i + 1) 0) (2 * i) bad in
-    octets_of-some word (omega arith)
-    ∙ ap result_ok (decode_of-even word even ∙ decode_err word octets i _ lt pair so_far)
-
-pub octets_of-bad_low : (word octets : List ℕ) (i : ℕ) → length word % 2 ≡ 0 → 2 * i + 1 < length word
-    → digit_value (get_or word (2 * i) 0) < 16 → 16 ≤ digit_value (get_or word (2 * i + 1) 0)
-    → decode_pairs 0 word ≡ prepend (take i octets) (decode_pairs (2 * i) (drop (2 * i) word)) → octets_of word ≡ None
-octets_of-bad_low word octets i even lt good bad so_far =
-    let pair = pair_value-bad_low (get_or word (2 * i) 0) (get_or word (2 * i + 1) 0) (2 * i) good bad in
-    octets_of-some word (omega arith)
-    ∙ ap result_ok (decode_of-even word even ∙ decode_err word octets i _ lt pair so_far)
-
 -- the answer of a decoder that is at the end
 pub octets_of-good : (word octets : List ℕ) (i : ℕ) → 0 < length word → length word ≡ 2 * length octets
     → length octets ≤ i
@@ -217,95 +188,56 @@ octets_of-good word octets i some room end so_far =
     octets_of-some word some
     ∙ ap result_ok (decode_of-even word (omega arith) ∙ decode_done word octets i end (omega arith) so_far)
 
--- ---- as long as all were digits, the octets so far stand before what the digits behind write
-pub record Decodes (word octets : List ℕ) (i greatest : ℕ) : Type 0 where
-  pub good : greatest < 16
-      → decode_pairs 0 word ≡ prepend (take i octets) (decode_pairs (2 * i) (drop (2 * i) word))
-  pub bad : 16 ≤ greatest → octets_of word ≡ None
+-- octets that the pairs of a word write are those that it writes
+pub pairs_write : (word octets : List ℕ) → 0 < length word → length word ≡ 2 * length octets
+    → ArePairs word octets 0 (length octets) → octets_of word ≡ Some octets
+pairs_write word octets some room pairs =
+    octets_of-good word octets (length octets) some room (omega arith) (front (length octets) (omega arith))
+  where
+    one : (i : ℕ) → i < length octets → IsPair word i (slice_index octets i)
+        → decode_pairs 0 word ≡ prepend (take i octets) (decode_pairs (2 * i) (drop (2 * i) word))
+        → decode_pairs 0 word ≡ prepend (take (i + 1) octets) (decode_pairs (2 * (i + 1)) (drop (2 * (i + 1)) word))
+    one i lt pair before =
+        let reads = pair_value-good (slice_index word (2 * i)) (slice_index word (2 * i + 1)) (2 * i) pair.high pair.low
+        ∙ ap Ok (sym pair.value) in
+        let more = decode_step word octets i (slice_index octets i) (omega arith) lt reads before in
+        rw (set-get_or octets i 0) at more
+
+    front : (i : ℕ) → i ≤ length octets
+        → decode_pairs 0 word ≡ prepend (take i octets) (decode_pairs (2 * i) (drop (2 * i) word))
+    front zero le = decode_start word octets
+    front (suc i) le =
+        let more = one i (omega arith) (pairs i (omega arith) (omega arith)) (front i (omega arith)) in
+        subst (λ (j : ℕ). decode_pairs 0 word ≡ prepend (take j octets) (decode_pairs (2 * j) (drop (2 * j) word)))
+        (omega arith) more
+
+-- ---- pairs of digits, one after another
 
 -- one octet more
-pub Decodes-more : (word octets : List ℕ) (i greatest high low next : ℕ) → length word % 2 ≡ 0
-    → 2 * i + 1 < length word → i < length octets → next ≡ max (max high low) greatest
-    → min high 16 ≡ min (digit_value (slice_index word (2 * i))) 16
-    → min low 16 ≡ min (digit_value (slice_index word (2 * i + 1))) 16 → Decodes word octets i greatest
-    → Decodes word (slice_set octets i (high % 16 * 16 + low % 16)) (i + 1) next
-Decodes-more word octets i greatest high low next even here room is_next is_high is_low before =
-    let a = digit_value (slice_index word (2 * i)) in
-    let b = digit_value (slice_index word (2 * i + 1)) in
-    record {
-      good = λ small.
-          let one : a < 16 = omega (arith, small, is_next, is_high) in
-          let two : b < 16 = omega (arith, small, is_next, is_low) in
-          let value : a * 16 + b ≡ high % 16 * 16 + low % 16 = omega (arith, small, is_next, is_high, is_low) in
-          let pair = pair_value-good (slice_index word (2 * i)) (slice_index word (2 * i + 1)) (2 * i) one two
-          ∙ ap Ok value in
-          decode_step word octets i _ here room pair (before.good (omega (arith, small, is_next)));
-      bad = λ great.
-          elim (cases_lt greatest 16) [
-            | inr none ↦ before.bad none
-            | inl all ↦
-                elim (cases_lt a 16) [
-                  | inr none ↦ octets_of-bad_high word octets i even here none (before.good all)
-                  | inl one ↦
-                      octets_of-bad_low word octets i even here one (omega (arith, great, is_next, is_high, is_low))
-                      (before.good all)
-                ]
-          ];
-    }
-
--- one octet more, of digits whose values are there
-pub Decodes-pair : (word octets values : List ℕ) (done i n greatest next : ℕ) → length word ≡ 2 * length octets
-    → done + i < length octets → 2 * i + 1 < n
-    → ((k : ℕ) → k < n → slice_index values k ≡ min (digit_value (slice_index word (2 * done + k))) 16)
-    → next ≡ max (max (slice_index values (2 * i)) (slice_index values (2 * i + 1))) greatest
-    → Decodes word octets (done + i) greatest
-    → Decodes word
-    (slice_set octets (done + i) (slice_index values (2 * i) % 16 * 16 + slice_index values (2 * i + 1) % 16))
-    (done + (i + 1)) next
-Decodes-pair word octets values done i n greatest next room here has are is_next before =
-    let at = done + i in
-    let high = slice_index values (2 * i) in
-    let low = slice_index values (2 * i + 1) in
-    let value = λ (k : ℕ). min (digit_value (slice_index word k)) 16 in
-    let first : high ≡ value (2 * at) =
-    are (2 * i) (omega arith) ∙ ap value (omega arith) in
-    let second : low ≡ value (2 * at + 1) =
-    are (2 * i + 1) has ∙ ap value (omega arith) in
-    let after = Decodes-more word octets at greatest high low next (omega arith) (omega arith) here is_next
-    (omega (arith, first)) (omega (arith, second)) before in
-    subst (λ j. Decodes word (slice_set octets at (high % 16 * 16 + low % 16)) j next) (omega arith) after
-
--- all octets
-pub Decodes-all : (word octets : List ℕ) (i greatest : ℕ) → 0 < length word → length word ≡ 2 * length octets
-    → length octets ≤ i → Decodes word octets i greatest
-    → octets_of word ≡ (if nat_lt greatest 16 then Some octets else None)
-Decodes-all word octets i greatest some room end so_far =
-    elim (cases_lt greatest 16) [
-      | inl small ↦ rw (lt-ltb _ _ small) (octets_of-good word octets i some room end (so_far.good small))
-      | inr great ↦ rw (le-ltb _ _ great) (so_far.bad great)
+pub ArePairs-more : (text octets : List ℕ) (from at octet : ℕ) → at < length octets → IsPair text at octet
+    → ArePairs text octets from at → ArePairs text (slice_set octets at octet) from (at + 1)
+ArePairs-more text octets from at octet room pair before = λ k low lt.
+    elim (cases_lt k at) [
+      | inl less ↦ rw (get_or-set_other octets at k octet 0 (omega arith)) (before k low less)
+      | inr more ↦
+          let same : at ≡ k = omega arith in
+          subst (λ j. IsPair text j (slice_index (slice_set octets at octet) j)) same
+          (rw (get_or-set_same octets at octet 0 room) pair)
     ]
 
--- ---- octets with zeros behind them
-
--- none up to the octets' own number
-pub no_zeros : (word : List ℕ) → option_map (with_zeros (length word / 2)) (octets_of word) ≡ octets_of word
-no_zeros word = by_octets word (octets_of word) refl
-  where
-    by_octets : (word : List ℕ) (o : Option (List ℕ)) → octets_of word ≡ o
-        → option_map (with_zeros (length word / 2)) o ≡ o
-    by_octets word None e = refl
-    by_octets word (Some octets) e =
-        let none : length word / 2 - length octets ≡ 0 = omega (arith, octets_of-length word octets e) in
-        ap (λ n. Some (octets ++ replicate n 0)) none ∙ ap Some (append-nil octets)
-
--- octets that were written over the first of n zeros
-pub over_zeros : (octets : List ℕ) (n k : ℕ) → length octets ≡ n → drop k octets ≡ drop k (replicate n 0) → k ≤ n
-    → with_zeros n (take k octets) ≡ octets
-over_zeros octets n k len behind le =
-    ap (λ m. take k octets ++ replicate (n - m) 0) (length-take-le k octets (omega arith))
-    ∙ ap (λ l. take k octets ++ l) (sym (behind ∙ drop-replicate k n 0)) ∙ take-append-drop k octets
-
--- a slice of all the octets of a vector, which has so many
-pub whole_slice : (octets items : List ℕ) (held : ℕ) → length octets ≡ held → length items ≡ held
-    → take held (octets ++ drop (length octets) items) ≡ octets
-whole_slice octets items held some all = grind (arith, common_steps)
+-- a pair whose values are there
+pub value_pair : (text values : List ℕ) (done i n : ℕ) → 2 * i + 1 < n
+    → ((k : ℕ) → k < n → slice_index values k ≡ min (digit_value (slice_index text (2 * done + k))) 16)
+    → max (slice_index values (2 * i)) (slice_index values (2 * i + 1)) < 16
+    → IsPair text (done + i) (slice_index values (2 * i) % 16 * 16 + slice_index values (2 * i + 1) % 16)
+value_pair text values done i n has are small =
+    let value = λ (k : ℕ). min (digit_value (slice_index text k)) 16 in
+    let first : slice_index values (2 * i) ≡ value (2 * (done + i)) =
+    are (2 * i) (omega arith) ∙ ap value (omega arith) in
+    let second : slice_index values (2 * i + 1) ≡ value (2 * (done + i) + 1) =
+    are (2 * i + 1) has ∙ ap value (omega arith) in
+    record {
+      high = omega (arith, first, small);
+      low = omega (arith, second, small);
+      value = omega (arith, first, second, small);
+    }

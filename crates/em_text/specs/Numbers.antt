@@ -1,8 +1,8 @@
 -- The numbers and the octets that words write.
-use Rattle.std.specs.Prelude.{ℕ, ◌≡◌, ◌-◌, ◌<◌, ◌≤◌, ◌^◌, ◌⊎◌, ◌&&◌, ◌++◌, nat_lt, nat_le, replicate}
+use Rattle.std.specs.Prelude.{ℕ, ◌≡◌, ◌+◌, ◌-◌, ◌*◌, ◌<◌, ◌≤◌, ◌^◌, ◌⊎◌, ◌&&◌, ◌++◌, nat_lt, nat_le, replicate, slice_index}
 use Rattle.std.specs.Prelude.{if◌then◌else◌, List, length, take, get_or, true, false, Option, Some, None}
 use Rattle.std.specs.List.{list_all, prefix_len}
-use Rattle.std.specs.Char.{is_digit}
+use Rattle.std.specs.Char.{is_digit, digit_value}
 use Rattle.std.specs.Result.{result_ok}
 use Rattle.std.specs.Str.Parse.{digits_value}
 use Rattle.hex.specs.Hex.{decode_of}
@@ -34,6 +34,18 @@ octets_of word = if nat_lt 0 (length word) then result_ok (decode_of word) else 
 -- these octets, and zero octets behind them up to n octets
 abbrev pub with_zeros : ℕ → List ℕ → List ℕ
 with_zeros n octets = octets ++ replicate (n - length octets) 0
+
+-- ---- pairs of digits
+
+-- pair k of a text is of hexadecimal digits that write this octet
+pub record IsPair (text : List ℕ) (k octet : ℕ) : Type 0 where
+  pub high : digit_value (slice_index text (2 * k)) < 16
+  pub low : digit_value (slice_index text (2 * k + 1)) < 16
+  pub value : octet ≡ digit_value (slice_index text (2 * k)) * 16 + digit_value (slice_index text (2 * k + 1))
+
+-- the octets from one place to another are those that the pairs of a text write there
+abbrev pub ArePairs : List ℕ → List ℕ → ℕ → ℕ → Type 0
+ArePairs text octets from to = (k : ℕ) → from ≤ k → k < to → IsPair text k (slice_index octets k)
 
 -- ---- at the front of a text
 

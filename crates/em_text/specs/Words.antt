@@ -11,6 +11,6 @@ unfoldable pub words_of : List ℕ → List (List ℕ)
 words_of line = filter (λ word. nat_lt 0 (length word)) (slice_split is_blank line)
 
 -- what is read in the first of these words, with the words behind it, if there is one and something is read in it
-abbrev pub read_first : (List ℕ → Option ℕ) → List (List ℕ) → Option (ℕ × List (List ℕ))
+abbrev pub read_first : {A : Type 0} → (List ℕ → Option A) → List (List ℕ) → Option (A × List (List ℕ))
 read_first read [] = None
 read_first read (word ∷ words) = option_map (λ value. (value, words)) (read word)

@@ -10,6 +10,9 @@ pub const AT_ONCE: usize = 16;
 /// How many octets are still worth a loop without branches.
 pub const HALF: usize = 8;
 
+/// How many octets at least are worth it where each is written by two digits.
+pub const QUARTER: usize = 4;
+
 /// How many digits are numerals.
 const NUMERALS: u8 = 10;
 

@@ -4,12 +4,13 @@ ghost use Rattle.std.specs.Prelude.{ℕ, ◌%◌, false, min, take, drop, IsNone
 ghost use Rattle.std.specs.Prelude.{◌↔◌, IsTrue, EachIndex, slice_index, option_map, if◌then◌else◌, length};
 ghost use Rattle.std.specs.Char.{digit_value};
 ghost use Rattle.std.specs.Vec.{vec_capacity};
-ghost use Rattle.em_text.specs.Numbers.{number, hex_number, hex_address, decimal_number, octets_of, with_zeros};
-ghost use Rattle.em_text.specs.Numbers.{IsNoNumber, LeadingNumber};
-ghost use Rattle.em_text.specs.Words.{words_of, read_first};
+ghost use Rattle.std.specs.List.{before_first, position_or_len};
+ghost use Rattle.em_text.specs.Numbers.{number, hex_number, hex_address, decimal_number, octets_of};
+ghost use Rattle.em_text.specs.Numbers.{ArePairs, IsNoNumber, LeadingNumber};
+ghost use Rattle.em_text.specs.Words.{is_blank, words_of, read_first};
 
-use crate::digits::{AT_ONCE, HALF, hex_value_of, value_of};
-use crate::words::{Words, blanks_len, is_blank};
+use crate::digits::{AT_ONCE, HALF, QUARTER, hex_value_of, value_of};
+use crate::words::{Words, blanks_len, is_blank, word_len};
 use std::alloc::{AllocError, Global};
 
 const HEX: u8 = 16;
@@ -30,6 +31,12 @@ const DIGITS_AT_ONCE: usize = 2 * AT_ONCE;
 
 /// Two digits for each octet of a half of that.
 const HALF_DIGITS: usize = 2 * HALF;
+
+/// Two digits for each octet of a quarter of it.
+const QUARTER_DIGITS: usize = 2 * QUARTER;
+
+/// How many octets stand often behind a word of digits: a blank and a number of up to four digits.
+const NUMBER_BEHIND: usize = 5;
 
 impl Words<'_> {
     /// The number that the next word writes in 1 to 8 hexadecimal digits, in either case. The words
@@ -64,6 +71,29 @@ impl Words<'_> {
             Some(value) => Some(value as u32),
             None => None,
         }
+    }
+
+    /// Whether the next word is an even number of hexadecimal digits, 2 digits or more, and if so, the
+    /// octets that they write, in place of what `octets` held. The words behind it are left.
+    ///
+    /// It answers that memory was refused only for octets that stand there.
+    #[inline(always)]
+    pub fn octets_into(&mut self, octets: &mut Vec<u8>) -> Result<bool, AllocError>
+        ensures value { IfOk result (λ found.
+            (if found then Some (octets.new.items, words_of self.new.0.now) else None)
+            ≡ read_first octets_of (words_of self.old.0.now)) }
+        ensures memory { OnErr result (IsSome (read_first octets_of (words_of self.old.0.now))) }
+    {
+        let line = self.0;
+        let line = &line[blanks_len(line)..];
+        let Ok(found) = front_octets_into(octets, line) else {
+            return refused_for(&line[..word_len(line)]);
+        };
+        let Some(len) = found else {
+            return Ok(false);
+        };
+        self.0 = &line[len..];
+        Ok(true)
     }
 
     /// The number that the next word writes in one to `most` digits in this base. It is read where
@@ -148,8 +178,8 @@ pub fn octets_of(alloc: Global, word: &[u8]) -> Result<Option<Vec<u8>>, AllocErr
 /// Whether an even number of hexadecimal digits stands there, 2 digits or more, and if so, the
 /// octets that they write, in place of what `octets` held.
 ///
-/// Otherwise `octets` is empty afterwards. It takes memory only for octets that stand there, and
-/// only where it has no room for them.
+/// Otherwise `octets` is empty afterwards. It answers that memory was refused only for octets that
+/// stand there, and only where `octets` has no room for them.
 pub fn octets_into(octets: &mut Vec<u8>, word: &[u8]) -> Result<bool, AllocError>
     ensures value { IfOk result (λ found.
         octets_of word.now ≡ (if found then Some octets.new.items else None)) }
@@ -157,36 +187,50 @@ pub fn octets_into(octets: &mut Vec<u8>, word: &[u8]) -> Result<bool, AllocError
     ensures memory { OnErr result (vec_capacity octets.old < length word.now / 2) }
     ensures digits { OnErr result (IsSome (octets_of word.now)) }
 {
-    lengthened_into(octets, word, word.len() / 2)
+    let Ok(found) = front_octets_into(octets, word) else {
+        return refused_for(word);
+    };
+    match found {
+        Some(len) if len == word.len() => Ok(true),
+        _ => {
+            octets.clear();
+            Ok(false)
+        }
+    }
 }
 
-/// The same, with zero octets behind those of the digits, up to `len` octets.
-#[inline]
-pub fn lengthened_into(octets: &mut Vec<u8>, word: &[u8], len: usize) -> Result<bool, AllocError>
-    requires { length word.now / 2 ≤ len }
-    ensures value { IfOk result (λ found. option_map (with_zeros len) (octets_of word.now)
-        ≡ (if found then Some octets.new.items else None)) }
-    ensures cleared { result ≢ Ok true → octets.new.items ≡ [] }
-    ensures memory { OnErr result (vec_capacity octets.old < len) }
+/// Where memory was refused for the octets of a word: what is no text of octets is so also then.
+#[inline(never)]
+fn refused_for(word: &[u8]) -> Result<bool, AllocError>
+    ensures none { IfOk result (λ found. (found ≡ false) × (octets_of word.now ≡ None)) }
     ensures digits { OnErr result (IsSome (octets_of word.now)) }
 {
-    octets.clear();
-    if word.is_empty() || word.len() % 2 != 0 {
-        return Ok(false);
+    if is_octets(word) {
+        Err(AllocError)
+    } else {
+        Ok(false)
     }
-    if octets.resize(len, 0).is_err() {
-        // What is no text of octets is so also where there is no memory.
-        return if has_digits_alone(word) {
-            Err(AllocError)
-        } else {
-            Ok(false)
-        };
+}
+
+/// How many digits the word has that a text begins with, up to a blank or the text's end, if it is of
+/// octets; and the octets, in place of what `octets` held, which is empty otherwise.
+#[inline(always)]
+fn front_octets_into(octets: &mut Vec<u8>, text: &[u8]) -> Result<Option<usize>, AllocError>
+    ensures some { IfOk result (λ found. IfSome found (λ len. (len ≡ position_or_len is_blank text.now)
+        × (octets_of (before_first is_blank text.now) ≡ Some octets.new.items))) }
+    ensures none { IfOk result (λ found. IsNone found → (octets_of (before_first is_blank text.now) ≡ None)
+        × (octets.new.items ≡ [])) }
+    ensures cleared { OnErr result (octets.new.items ≡ []) }
+    ensures memory { OnErr result (vec_capacity octets.old < length text.now / 2) }
+{
+    let most = text.len() / 2;
+    if octets.len() < most && octets.resize(most, 0).is_err() {
+        octets.clear();
+        return Err(AllocError);
     }
-    if decode_front(word, octets.as_mut_slice()) {
-        return Ok(true);
-    }
-    octets.clear();
-    Ok(false)
+    let found = leading_octets(text, octets.as_mut_slice());
+    octets.truncate(found.unwrap_or(0) / 2);
+    Ok(found)
 }
 
 /// Whether an even number of hexadecimal digits stands there, 2 digits or more.
@@ -206,54 +250,85 @@ fn has_digits_alone(word: &[u8]) -> bool
     word.iter().all(|octet| value_of(*octet) < HEX)
 }
 
-/// Whether the word is of digits, and if so, writes the octets that they write.
+/// How many digits the word has that a text begins with, up to a blank or the text's end, if it is of
+/// octets, which are written to the front of `octets`.
 ///
-/// It goes on behind an octet that is no digit, so that the compiler can take several at a time.
-fn decode(word: &[u8], octets: &mut [u8]) -> bool
-    requires some { 0 < length word.now }
-    requires room { length word.now ≡ 2 * length octets.old }
-    ensures value { octets_of word.now ≡ (if result then Some octets.new else None) }
+/// The digits are read once, many at a time as long as all of them are digits.
+fn leading_octets(text: &[u8], octets: &mut [u8]) -> Option<usize>
+    requires { length text.now / 2 ≤ length octets.old }
+    ensures none { IsNone result → octets_of (before_first is_blank text.now) ≡ None }
+    ensures some { IfSome result (λ len. (len ≡ position_or_len is_blank text.now)
+        × (octets_of (before_first is_blank text.now) ≡ Some (take (len / 2) octets.new))) }
 {
-    let mut greatest = 0;
     let mut done = 0;
-    while octets.len() - done >= AT_ONCE {
-        let values = hex_values::<DIGITS_AT_ONCE>(word, 2 * done);
-        for i in 0..AT_ONCE {
-            let (high, low) = (values[2 * i], values[2 * i + 1]);
-            greatest = high.max(low).max(greatest);
-            octets[done + i] = high % HEX * HEX + low % HEX;
-        }
+    while is_worth(text.len() - 2 * done, DIGITS_AT_ONCE)
+        && decode::<AT_ONCE, DIGITS_AT_ONCE>(text, octets, done)
+    {
         done += AT_ONCE;
     }
-    if octets.len() - done >= HALF {
-        let values = hex_values::<HALF_DIGITS>(word, 2 * done);
-        for i in 0..HALF {
-            let (high, low) = (values[2 * i], values[2 * i + 1]);
-            greatest = high.max(low).max(greatest);
-            octets[done + i] = high % HEX * HEX + low % HEX;
+    done += decode_if::<HALF, HALF_DIGITS>(text, octets, done);
+    done += decode_if::<QUARTER, QUARTER_DIGITS>(text, octets, done);
+    while text.len() - 2 * done >= 2 {
+        let high = value_of(text[2 * done]);
+        let low = value_of(text[2 * done + 1]);
+        if high >= HEX || low >= HEX {
+            break;
         }
-        done += HALF;
+        octets[done] = high * HEX + low;
+        done += 1;
     }
-    for i in done..octets.len() {
-        let high = value_of(word[2 * i]);
-        let low = value_of(word[2 * i + 1]);
-        greatest = high.max(low).max(greatest);
-        octets[i] = high % HEX * HEX + low % HEX;
+    let len = 2 * done;
+    if done == 0 || (len < text.len() && !is_blank(text[len])) {
+        return None;
     }
-    greatest < HEX
+    Some(len)
 }
 
-/// The same over the front of octets, of which the others stay.
+/// Whether so many octets are worth to be read as that many digits at once: not where a number may stand
+/// among them, behind a word of fewer digits.
 #[inline(always)]
-fn decode_front(word: &[u8], octets: &mut [u8]) -> bool
-    requires some { 0 < length word.now }
-    requires even { length word.now % 2 ≡ 0 }
-    requires room { length word.now / 2 ≤ length octets.old }
-    ensures value { IsTrue result → octets_of word.now ≡ Some (take (length word.now / 2) octets.new) }
-    ensures none { result ≡ false → octets_of word.now ≡ None }
-    ensures behind { drop (length word.now / 2) octets.new ≡ drop (length word.now / 2) octets.old }
+fn is_worth(octets: usize, digits: usize) -> bool
+    ensures { IsTrue result → digits ≤ octets }
 {
-    decode(word, &mut octets[..word.len() / 2])
+    octets == digits || octets > digits && octets - digits >= NUMBER_BEHIND
+}
+
+/// Writes the octets of `D` digits, those from octet `done` on, if so many stand there and all are digits,
+/// and tells how many octets these are.
+#[inline(always)]
+fn decode_if<const N: usize, const D: usize>(text: &[u8], octets: &mut [u8], done: usize) -> usize
+    requires two { D ≡ 2 * N }
+    requires digits { 2 * done ≤ length text.now }
+    requires room { length text.now / 2 ≤ length octets.old }
+    ensures within { 2 * (done + result) ≤ length text.now }
+    ensures good { ArePairs text.now octets.new done (done + result) }
+    ensures before { (k : ℕ) → k < done → slice_index octets.new k ≡ slice_index octets.old k }
+{
+    if text.len() - 2 * done >= D && decode::<N, D>(text, octets, done) {
+        N
+    } else {
+        0
+    }
+}
+
+/// Writes the octets of `D` digits, those from octet `done` on, if all are digits. Without a branch on
+/// them, so that the compiler takes several at once.
+#[inline(always)]
+fn decode<const N: usize, const D: usize>(text: &[u8], octets: &mut [u8], done: usize) -> bool
+    requires two { D ≡ 2 * N }
+    requires digits { 2 * done + D ≤ length text.now }
+    requires room { done + N ≤ length octets.old }
+    ensures good { IsTrue result → ArePairs text.now octets.new done (done + N) }
+    ensures before { (k : ℕ) → k < done → slice_index octets.new k ≡ slice_index octets.old k }
+{
+    let values = hex_values::<D>(text, 2 * done);
+    let mut good = true;
+    for i in 0..N {
+        let (high, low) = (values[2 * i], values[2 * i + 1]);
+        good &= high.max(low) < HEX;
+        octets[done + i] = high % HEX * HEX + low % HEX;
+    }
+    good
 }
 
 /// The values of `N` octets of a text as hexadecimal digits, 16 for any other octet.

@@ -93,7 +93,7 @@ fn many_blanks_len(line: &[u8]) -> usize
 /// How many octets a line has before its first blank: many octets at a time, as long as none of them can be a
 /// blank.
 #[inline(never)]
-fn word_len(line: &[u8]) -> usize
+pub fn word_len(line: &[u8]) -> usize
     ensures value { result ≡ position_or_len is_blank line.now }
     ensures within { result ≤ length line.now }
 {

@@ -3,7 +3,7 @@ ghost use Rattle.std.specs.Prelude.{◌≡◌, ◌<◌, ◌≤◌, ◌∷◌, []
 ghost use Rattle.em_mem.specs.Memory.{Fits, IsHeld, IsMade, Reverses, put, undo};
 ghost use Rattle.em_tx.specs.Change.{sent_with};
 
-use em_mem::GuestMemory;
+use em_mem::{GuestMemory, Place};
 use std::marker::Model;
 
 /// DD, alone in the status octet of a descriptor.
@@ -13,26 +13,19 @@ const DD: u8 = 0x01;
 /// 16,384.
 pub const MOST_COST: u32 = 32_765;
 
-/// The status octet of a descriptor before it was reported. Guest memory has at most 2^24 octets, so its
-/// place lies in three, and a record stays small.
+/// The status octet of a descriptor before it was reported.
 #[derive(Drop)]
 pub(crate) struct Status {
-    low: u8,
-    middle: u8,
-    high: u8,
+    place: Place,
     octet: [u8; 1],
 }
 
 impl Model for Status {
-    ghost use Rattle.std.specs.Prelude.{◌+◌, ◌*◌};
     ghost use Rattle.em_mem.specs.Memory.{Patch};
 
     ghost Value = { Patch };
 
-    ghost view = { λ status. record {
-      at = status.low + 0x100 * status.middle + 0x1_0000 * status.high;
-      octets = status.octet;
-    } };
+    ghost view = { λ status. record { at = status.place; octets = status.octet } };
 }
 
 impl Status {
@@ -46,17 +39,8 @@ impl Status {
         // a place in memory is less than 2^24
         let _size = memory.len();
         let octet = memory.replace(place, &[DD]);
-        Status::new(place, octet)
-    }
-
-    fn new(place: u64, octet: [u8; 1]) -> Status
-        requires { place < 0x100_0000 }
-        ensures { result ≡ record { at = place; octets = octet } }
-    {
         Status {
-            low: (place % 0x100) as u8,
-            middle: (place / 0x100 % 0x100) as u8,
-            high: (place / 0x1_0000) as u8,
+            place: Place::new(place),
             octet,
         }
     }
@@ -66,10 +50,7 @@ impl Status {
         requires { Fits memory.old self }
         ensures { memory.new ≡ undo memory.old self }
     {
-        let place = u64::from(self.low)
-            + 0x100 * u64::from(self.middle)
-            + 0x1_0000 * u64::from(self.high);
-        memory.write(place, &self.octet);
+        memory.write(self.place.addr(), &self.octet);
     }
 }
 

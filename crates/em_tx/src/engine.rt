@@ -241,7 +241,7 @@ fn fetch(octets: &mut Vec<u8>, memory: &GuestMemory, descriptor: &TxDescriptor)
     if length == 0 {
         return;
     }
-    if let Some(found) = memory.slice(descriptor.address(), length) {
+    if let Some(found) = memory.piece(descriptor.address(), length) {
         frame::gather(octets, found);
         return;
     }
@@ -353,6 +353,6 @@ fn whole_frame<'m>(
     if length < frame::SHORTEST || frame::tag_of(setup, descriptor, length).is_some() {
         return None;
     }
-    let found = memory.slice(descriptor.address(), length)?;
+    let found = memory.piece(descriptor.address(), length)?;
     Some(found)
 }

@@ -21,12 +21,16 @@ pub fn is_idle(setup: &TxSetup) -> bool
         || setup.head == setup.tail
 }
 
-/// The descriptor after the first one.
+/// The descriptor after the first one: behind the ring's last comes its first.
 pub(crate) fn next(setup: &TxSetup) -> u32
     requires { setup.now.head < setup.now.count }
     ensures { result ≡ next setup.now }
 {
-    (setup.head + 1) % setup.count
+    if setup.head + 1 == setup.count {
+        0
+    } else {
+        setup.head + 1
+    }
 }
 
 /// The causes that a step of the descriptor raises.

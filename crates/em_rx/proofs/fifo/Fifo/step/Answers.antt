@@ -1,5 +1,5 @@
 -- Both ranges lie in memory, and their pages were made.
-use Rattle.std.proofs.Common.{rules, ◌≡◌, ◌+◌, ap, arith, subst, sym, ◌∙◌}
+use Rattle.std.proofs.Common.{rules, ◌≡◌, ap, subst, sym, ◌∙◌}
 use Rattle.em_mem.specs.Memory.{Patch}
 use Rattle.em_rx.specs.Undo.{FitsStep, IsOverwritten}
 use Rattle.em_rx.proofs.StepLaws.{is_overwritten, step_fits}
@@ -14,9 +14,9 @@ deliver-requires-clause-fits c =
     subst (FitsStep c.args.self.now c.touch-2.new.self) (sym is)
     (
     step_fits c.args.self.now c.args.memory.now c.touch.new.self c.touch-2.new.self patch.patch.value
-    c.in_ok-descriptor.buffer c.min-count.result (c.in_ok-descriptor.descriptor + 8)
+    c.in_ok-found.found.buffer c.min-count.result c.in_ok-found.found.end_at
     c.touch.ensures.more c.touch-2.ensures.more
-    (search rules) (omega (arith, c.in_ok-descriptor.ensures.held))
+    (search rules) c.in_ok-found.ensures.held
     c.in_ok-touch.ensures.made c.in_ok-touch-2.ensures.made
     (ap (λ (p : Patch). p.at) patch.ensures.first) patch.ensures.count
     (ap (λ (p : Patch). p.at) patch.ensures.second) patch.ensures.eight
@@ -32,7 +32,7 @@ deliver-requires-clause-overwritten c =
     let same : c.touch-2.new.self.octets ≡ m = c.touch-2.ensures.more.octets ∙ c.touch.ensures.more.octets in
     subst (IsOverwritten c.touch-2.new.self.octets) (sym is)
     (
-    is_overwritten m c.touch-2.new.self.octets patch.patch.value c.in_ok-descriptor.buffer c.min-count.result
-    (c.in_ok-descriptor.descriptor + 8) same patch.ensures.first patch.ensures.count patch.ensures.second
+    is_overwritten m c.touch-2.new.self.octets patch.patch.value c.in_ok-found.found.buffer c.min-count.result
+    c.in_ok-found.found.end_at same patch.ensures.first patch.ensures.count patch.ensures.second
     patch.ensures.eight
     )

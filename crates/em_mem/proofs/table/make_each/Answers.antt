@@ -1,6 +1,6 @@
 use Rattle.std.proofs.Common.{inl, inr, arith}
 use Rattle.std.proofs.lemmas.Bool.{false≢true}
-use Rattle.em_mem.proofs.table.make_pages.Goals as goal
+use Rattle.em_mem.proofs.table.make_each.Goals as goal
 
 pub returns-clause-only : goal.returns-clause-only
 returns-clause-only c =

@@ -1,6 +1,6 @@
 use Rattle.std.proofs.Common.{◌≡◌, ◌≤◌, ◌<◌, ◌⊎◌, ℕ, length}
 use Rattle.em_mem.specs.Pages.{table_octets, AllWhole, IsMadeAt}
-use Rattle.em_mem.proofs.table.make_pages.Given as goal
+use Rattle.em_mem.proofs.table.make_each.Given as goal
 
 abbrev pub invariant-loop-index : goal.invariant-loop-index
 invariant-loop-index l = record {

@@ -1,0 +1,125 @@
+//! The record of a write to guest memory of a few octets.
+ghost use Rattle.std.specs.Prelude.{◌≡◌, ◌≤◌, ◌<◌, length, take};
+ghost use Rattle.em_mem.specs.Memory.{Fits, IsHeld, IsMade, Reverses, part, put, undo};
+
+use crate::GuestMemory;
+use crate::place::Place;
+use std::marker::Model;
+
+/// How many octets are few: so many lie in a record itself, which then takes no memory.
+pub const FEW: usize = 11;
+
+/// Old octets of guest memory, at most 11 of them, and the address where they lay.
+#[derive(Drop)]
+pub struct FewOctets {
+    len: u8,
+    place: Place,
+    octets: [u8; FEW],
+}
+
+impl Model for FewOctets {
+    ghost use Rattle.std.specs.Prelude.{◌≡◌, ◌≤◌, length, take};
+    ghost use Rattle.em_mem.specs.Memory.{Patch};
+
+    ghost Value = { Patch };
+
+    ghost view = { λ f. record { at = f.place; octets = take f.len f.octets } };
+
+    ghost invariant = { λ f. (f.len ≤ 11) × (length f.octets ≡ 11) };
+}
+
+impl FewOctets {
+    /// A record of the first `len` of these octets, which lay from `addr` on.
+    #[inline(always)]
+    fn new(addr: u64, len: usize, octets: [u8; FEW]) -> FewOctets
+        requires addr { addr < 0x100_0000 }
+        requires few { len ≤ 11 }
+        ensures { result ≡ record { at = addr; octets = take len octets } }
+    {
+        FewOctets {
+            len: len as u8,
+            place: Place::new(addr),
+            octets,
+        }
+    }
+
+    /// How many octets it holds, at most 11.
+    pub fn len(&self) -> u32
+        ensures len { result ≡ length self.now.octets }
+        ensures most { result ≤ FEW }
+    {
+        u32::from(self.len)
+    }
+}
+
+impl GuestMemory {
+    /// Writes a few octets from `addr` on, 1 to 11, and gives a record of the old ones. The range may cross
+    /// page ends. It takes no memory: `touch` made the pages.
+    pub fn write_few(&mut self, addr: u64, written: &[u8]) -> FewOctets
+        requires held { IsHeld self.old.octets addr (length written.now) }
+        requires made { IsMade self.old addr (length written.now) }
+        requires some { 0 < length written.now }
+        requires few { length written.now ≤ 11 }
+        ensures octets { self.new.octets ≡ put self.old.octets addr written.now }
+        ensures made { self.new.made ≡ self.old.made }
+        ensures len { length result.octets ≡ length written.now }
+        ensures reverses { Reverses self.old self.new result }
+    {
+        let old = self.keep_few(addr, written.len());
+        self.write(addr, written);
+        old
+    }
+
+    /// The record of a few octets from `addr` on. As many as it has room for are copied where they lie in a page,
+    /// since a copy of a fixed length needs no call.
+    #[inline(always)]
+    fn keep_few(&self, addr: u64, len: usize) -> FewOctets
+        requires held { IsHeld self.now.octets addr len }
+        requires some { 0 < len }
+        requires few { len ≤ 11 }
+        ensures { result ≡ record { at = addr; octets = part self.now.octets addr len } }
+    {
+        // a place in memory is less than 2^24
+        let _size = self.len();
+        let Some(octets) = self.slice(addr, FEW) else {
+            return self.keep_few_pieces(addr, len);
+        };
+        let mut old = [0; FEW];
+        old.copy_from_slice(octets);
+        FewOctets::new(addr, len, old)
+    }
+
+    /// The same, page by page.
+    #[inline(never)]
+    fn keep_few_pieces(&self, addr: u64, len: usize) -> FewOctets
+        requires held { IsHeld self.now.octets addr len }
+        requires some { 0 < len }
+        requires few { len ≤ 11 }
+        ensures { result ≡ record { at = addr; octets = part self.now.octets addr len } }
+    {
+        // a place in memory is less than 2^24
+        let _size = self.len();
+        let mut octets = [0; FEW];
+        self.read_into(addr, &mut octets[..len]);
+        FewOctets::new(addr, len, octets)
+    }
+
+    /// Takes back the write that gave out this record. It takes no memory.
+    pub fn put_back_few(&mut self, taken: &FewOctets)
+        requires { Fits self.old taken.now }
+        ensures { self.new ≡ undo self.old taken.now }
+    {
+        self.write(taken.place.addr(), &taken.octets[..usize::from(taken.len)]);
+    }
+
+    /// The same, where the record becomes the one that makes the write again.
+    pub fn exchange_few(&mut self, kept: &mut FewOctets)
+        requires { Fits self.old kept.old }
+        ensures state { self.new ≡ undo self.old kept.old }
+        ensures len { length kept.new.octets ≡ length kept.old.octets }
+        ensures reverses { Reverses self.old self.new kept.new }
+    {
+        let len = usize::from(kept.len);
+        self.swap(kept.place.addr(), &mut kept.octets[..len]);
+    }
+}
