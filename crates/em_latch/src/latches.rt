@@ -175,24 +175,23 @@ impl Latches {
         ensures words { length result ≡ length taken }
         ensures reverses { Reverses self.old self.new result }
     {
+        // no record has more words than there is room for
+        let _words = taken.len();
+        let mut left = taken;
         let mut again = LatchUndo::none();
-        let mut left = taken.len();
-        while left > 0 {
-            left -= 1;
-            again.push(self.exchange_word(taken.word(left)));
+        while let Some(word) = left.pop() {
+            again.push(self.exchange_word(word));
         }
         again
     }
 
     /// Takes back the changes that gave out this record.
     #[inline(always)]
-    pub fn put_back(&mut self, taken: &LatchUndo)
-        ensures { self.new ≡ undo self.old taken.now }
+    pub fn put_back(&mut self, taken: LatchUndo)
+        ensures { self.new ≡ undo self.old taken }
     {
-        let mut left = taken.len();
-        while left > 0 {
-            left -= 1;
-            let OldWord { place, old } = taken.word(left);
+        let mut left = taken;
+        while let Some(OldWord { place, old }) = left.pop() {
             let _ = self.swap(place, old);
         }
     }
@@ -288,7 +287,7 @@ impl Reversible for Latches {
     ghost undone = { undo };
 
     fn take_back(&mut self, undo: LatchUndo) {
-        self.put_back(&undo);
+        self.put_back(undo);
     }
 }
 

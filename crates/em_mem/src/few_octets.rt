@@ -7,12 +7,13 @@ use crate::place::Place;
 use std::marker::Model;
 
 /// How many octets are few: so many lie in a record itself, which then takes no memory.
-pub const FEW: usize = 11;
+pub const FEW: usize = 9;
 
-/// Old octets of guest memory, at most 11 of them, and the address where they lay.
+/// Old octets of guest memory, at most 9 of them, and the address where they lay.
 #[derive(Drop)]
 pub struct FewOctets {
-    len: u8,
+    // a number of two octets, which lies where other records of an event have what they cost
+    len: u16,
     place: Place,
     octets: [u8; FEW],
 }
@@ -25,7 +26,7 @@ impl Model for FewOctets {
 
     ghost view = { λ f. record { at = f.place; octets = take f.len f.octets } };
 
-    ghost invariant = { λ f. (f.len ≤ 11) × (length f.octets ≡ 11) };
+    ghost invariant = { λ f. (f.len ≤ 9) × (length f.octets ≡ 9) };
 }
 
 impl FewOctets {
@@ -33,17 +34,17 @@ impl FewOctets {
     #[inline(always)]
     fn new(addr: u64, len: usize, octets: [u8; FEW]) -> FewOctets
         requires addr { addr < 0x100_0000 }
-        requires few { len ≤ 11 }
+        requires few { len ≤ 9 }
         ensures { result ≡ record { at = addr; octets = take len octets } }
     {
         FewOctets {
-            len: len as u8,
+            len: len as u16,
             place: Place::new(addr),
             octets,
         }
     }
 
-    /// How many octets it holds, at most 11.
+    /// How many octets it holds, at most 9.
     pub fn len(&self) -> u32
         ensures len { result ≡ length self.now.octets }
         ensures most { result ≤ FEW }
@@ -53,13 +54,13 @@ impl FewOctets {
 }
 
 impl GuestMemory {
-    /// Writes a few octets from `addr` on, 1 to 11, and gives a record of the old ones. The range may cross
+    /// Writes a few octets from `addr` on, 1 to 9, and gives a record of the old ones. The range may cross
     /// page ends. It takes no memory: `touch` made the pages.
     pub fn write_few(&mut self, addr: u64, written: &[u8]) -> FewOctets
         requires held { IsHeld self.old.octets addr (length written.now) }
         requires made { IsMade self.old addr (length written.now) }
         requires some { 0 < length written.now }
-        requires few { length written.now ≤ 11 }
+        requires few { length written.now ≤ 9 }
         ensures octets { self.new.octets ≡ put self.old.octets addr written.now }
         ensures made { self.new.made ≡ self.old.made }
         ensures len { length result.octets ≡ length written.now }
@@ -76,7 +77,7 @@ impl GuestMemory {
     fn keep_few(&self, addr: u64, len: usize) -> FewOctets
         requires held { IsHeld self.now.octets addr len }
         requires some { 0 < len }
-        requires few { len ≤ 11 }
+        requires few { len ≤ 9 }
         ensures { result ≡ record { at = addr; octets = part self.now.octets addr len } }
     {
         // a place in memory is less than 2^24
@@ -94,7 +95,7 @@ impl GuestMemory {
     fn keep_few_pieces(&self, addr: u64, len: usize) -> FewOctets
         requires held { IsHeld self.now.octets addr len }
         requires some { 0 < len }
-        requires few { len ≤ 11 }
+        requires few { len ≤ 9 }
         ensures { result ≡ record { at = addr; octets = part self.now.octets addr len } }
     {
         // a place in memory is less than 2^24

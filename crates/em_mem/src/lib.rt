@@ -7,7 +7,7 @@ pub use memory::GuestMemory;
 pub use place::Place;
 pub use refusal::MemRefusal;
 pub use reversible::Reversible;
-pub use spares::{Spares, SparesByLen, empty_for};
+pub use spares::{Spares, SparesByLen, empty_for, refill};
 pub use undo::MemUndo;
 
 mod few_octets;

@@ -1,7 +1,11 @@
 //! Boxes of records that were let go, for later records.
-ghost use Rattle.std.specs.Prelude.{◌≡◌, ◌+◌, ◌*◌, ◌≤◌, [], vec_capacity};
+ghost use Rattle.std.specs.Prelude.{◌≡◌, ◌+◌, ◌*◌, ◌≤◌, [], OnOk, OnErr, vec_capacity};
 
 use std::alloc::{AllocError, Global};
+
+/// The least room that is taken for octets. An allocator seldom gives less, and so a record of a few octets that is
+/// filled again seldom takes memory.
+const LEAST_ROOM: usize = 24;
 
 /// How many boxes are kept at most.
 const MOST_SPARES: usize = 64;
@@ -29,6 +33,26 @@ pub fn empty_for(octets: &mut Vec<u8>, len: usize)
     if octets.capacity().saturating_sub(SHORT) / MOST_SLACK > len {
         octets.shrink_to(0);
     }
+}
+
+/// Puts other octets in the place of those that a record holds. Where it holds as many, which is often so of one that
+/// serves again, they are only written over. It takes memory only where the room is too small, or far too large;
+/// where memory is refused it holds none.
+#[inline(always)]
+pub fn refill(octets: &mut Vec<u8>, with: &[u8]) -> Result<(), AllocError>
+    ensures ok { OnOk result (octets.new.items ≡ with.now) }
+    ensures err { OnErr result (octets.new.items ≡ []) }
+{
+    if octets.len() == with.len() {
+        octets.copy_from_slice(with);
+        return Ok(());
+    }
+    empty_for(octets, with.len());
+    if octets.capacity() < with.len() {
+        octets.reserve(with.len().max(LEAST_ROOM))?;
+    }
+    octets.extend_from_slice(with)?;
+    Ok(())
 }
 
 /// Boxes that were let go, up to 64: a later record takes one of them in place of new memory. What they

@@ -1,13 +1,9 @@
 //! The record of a write to guest memory.
 ghost use Rattle.std.specs.Prelude.{◌≡◌, ◌≤◌, OnErr, OnOk, [], length, vec_len};
 
-use crate::{MOST_RECORD, empty_for};
+use crate::{MOST_RECORD, refill};
 use std::alloc::AllocError;
 use std::marker::Model;
-
-/// The least room that is taken for octets. An allocator seldom gives less, and so a record of a few octets that is
-/// filled again seldom takes memory.
-const LEAST_ROOM: usize = 24;
 
 /// Old octets of guest memory, and the address where they lay.
 #[derive(Drop)]
@@ -45,11 +41,7 @@ impl MemUndo {
         ensures ok { OnOk result (self.new ≡ record { at = addr; octets = octets.now }) }
         ensures err { OnErr result (self.new ≡ record self.old { octets = [] }) }
     {
-        empty_for(&mut self.octets, octets.len());
-        if self.octets.capacity() < octets.len() {
-            self.octets.reserve(octets.len().max(LEAST_ROOM))?;
-        }
-        self.octets.extend_from_slice(octets)?;
+        refill(&mut self.octets, octets)?;
         self.addr = addr;
         Ok(())
     }

@@ -4,7 +4,7 @@ ghost use Rattle.em_mem.specs.Memory.{IsHeld, IsMade, put};
 ghost use Rattle.em_rx.specs.Ring.{ring_part, ring_put, wrap as place_in};
 
 use crate::places::Entry;
-use em_mem::{GuestMemory, empty_for};
+use em_mem::{GuestMemory, empty_for, refill};
 use std::alloc::AllocError;
 
 /// The place `n` in a ring of the given size, where `n` may be past the end once.
@@ -28,15 +28,24 @@ pub(crate) fn copy_into(
     ensures octets { OnOk result (octets.new.items ≡ ring_part ring.now at len) }
     ensures most { length octets.new.items ≤ len }
 {
-    empty_for(octets, len);
     let (low, high) = ring.split_at(at);
     if len <= high.len() {
-        octets.extend_from_slice(&high[..len])?;
-        return Ok(());
+        return refill(octets, &high[..len]);
     }
+    copy_parts_into(octets, high, &low[..len - high.len()])
+}
+
+/// Copies two parts, one behind the other, in place of what `octets` held.
+#[inline(never)]
+fn copy_parts_into(octets: &mut Vec<u8>, first: &[u8], second: &[u8]) -> Result<(), AllocError>
+    ensures octets { OnOk result (octets.new.items ≡ first.now ++ second.now) }
+    ensures most { length octets.new.items ≤ length first.now + length second.now }
+{
+    let len = first.len() + second.len();
+    empty_for(octets, len);
     octets.reserve(len)?;
-    octets.extend_from_slice(high)?;
-    octets.extend_from_slice(&low[..len - high.len()])?;
+    octets.extend_from_slice(first)?;
+    octets.extend_from_slice(second)?;
     Ok(())
 }
 

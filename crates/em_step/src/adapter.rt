@@ -304,7 +304,7 @@ impl Adapter {
         ensures cost { result ≡ cost_of taken }
     {
         let Undo { latches, part } = taken;
-        self.latches.put_back(&latches);
+        self.latches.put_back(latches);
         match part {
             Part::Nothing => LEAST_COST,
             Part::Register(old) => {
@@ -317,8 +317,9 @@ impl Adapter {
                 cost
             }
             Part::FewOctets(octets) => {
-                self.memory.put_back_few(&octets);
-                LEAST_COST + octets.len()
+                let cost = LEAST_COST + octets.len();
+                self.take_back_few_octets(octets);
+                cost
             }
             Part::Arrival(frame) => {
                 let cost = LEAST_COST + frame.len();

@@ -11,7 +11,7 @@ use crate::adapter::Adapter;
 use crate::event::Answer;
 use crate::refusal::Refusal;
 use crate::undo::{Part, Undo};
-use em_mem::{FEW, MemUndo};
+use em_mem::{FEW, FewOctets, MemUndo};
 use std::alloc::AllocError;
 
 /// The most octets that one memory write has.
@@ -79,6 +79,15 @@ impl Adapter {
     {
         self.memory.put_back(&octets);
         self.let_octets_go(octets);
+    }
+
+    /// Takes a write of a few octets back.
+    #[inline(never)]
+    pub(crate) fn take_back_few_octets(&mut self, octets: FewOctets)
+        requires { PartFits self.old (Part.FewOctets octets) }
+        ensures { self.new ≡ undo_part self.old (Part.FewOctets octets) }
+    {
+        self.memory.put_back_few(&octets);
     }
 
     /// Lets the record of a memory write go.

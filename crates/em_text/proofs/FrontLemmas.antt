@@ -11,7 +11,7 @@ use Rattle.std.proofs.lemmas.List.{get_or_default, take_all}
 use Rattle.std.proofs.lemmas.List.Sums.{list_all-from_AllPass, AllPass-from_list_all}
 use Rattle.std.proofs.lemmas.Bool.Decides.{nat_tests}
 use Rattle.std.proofs.lemmas.List.Sums.{position_or_len_is, passes_at_first}
-use Rattle.std.proofs.lemmas.List.{length-take-le, drop_all}
+use Rattle.std.proofs.lemmas.List.{length-take-le, drop_all, get_or-take, take-take}
 use Rattle.em_text.specs.Words.{words_of, is_blank, read_first}
 use Rattle.em_text.proofs.WordsLemmas.{first_word, words_of-blanks, words_of-nil}
 use Rattle.std.specs.List.{before_first}
@@ -101,6 +101,10 @@ number_none base most word wrong =
 -- no digit is a blank
 digit_no_blank : (base octet : ℕ) → base ≤ 36 → is_digit octet base ≡ true → is_blank octet ≡ false
 digit_no_blank base octet letters digit = grind (arith, nat_tests)
+
+-- and no blank is a digit
+blank_no_digit : (base octet : ℕ) → base ≤ 36 → is_blank octet ≡ true → is_digit octet base ≡ false
+blank_no_digit base octet letters blank = grind (arith, nat_tests)
 
 -- the digits at the front of a line end with its first word, or before
 digits_in_word : (base : ℕ) (line : List ℕ) → base ≤ 36 → digits_len base line ≤ position_or_len is_blank line
@@ -235,3 +239,30 @@ no_word_left line k blanks all =
 
 pub word_left : (line : List ℕ) (k : ℕ) → k ≡ prefix_len is_blank line → k < length line → words_of line ≡ [] → ⊥
 word_left line k blanks lt none = cc (none, first_word line k _ _ _ blanks lt refl refl refl)
+
+-- the number at the front of a text is that at the front of its first octets, where it ends among them or behind them
+pub number_near : (base most n : ℕ) (text near : List ℕ) (value len : ℕ) → base ≤ 36 → n ≤ length text
+    → near ≡ take n text → LeadingNumber base most near value len
+    → (len ≡ n → len < length text → is_blank (get_or text len 0) ≡ true) → LeadingNumber base most text value len
+number_near base most n text near value len letters room is front behind =
+    let p = λ (octet : ℕ). is_digit octet base in
+    let long : length near ≡ n = ap (λ xs. length xs) is ∙ length-take-le n text room in
+    let within : len ≤ n = omega (arith, front.within, long) in
+    let same : (k : ℕ) → k < n → get_or near k 0 ≡ get_or text k 0 =
+    λ k lt. ap (λ xs. get_or xs k 0) is ∙ get_or-take n text k 0 lt in
+    let end : (len < length text → is_blank (get_or text len 0) ≡ true) = λ lt. elim (cases_lt len n) [
+      | inl less ↦ sym (ap is_blank (same len less)) ∙ front.end (omega (arith, long, less))
+      | inr more ↦ behind (omega (arith, more, within)) lt
+    ] in
+    record {
+      digits = sym (prefix_len_is p text len 0 (omega (arith, within, room))
+          (λ k lt. ap p (sym (same k (omega (arith, lt, within))))
+          ∙ prefix_len_passes p near k 0 (rw (← front.digits) lt))
+          (λ lt. blank_no_digit base (get_or text len 0) letters (end lt)));
+      some = front.some;
+      short = front.short;
+      within = omega (arith, within, room);
+      number = front.number ∙ ap (digits_value base) (ap (take len) is ∙ take-take len n text within);
+      bound = front.bound;
+      end = end;
+    }

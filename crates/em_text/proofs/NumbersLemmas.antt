@@ -4,13 +4,13 @@ use Rattle.std.proofs.Common.{Option, Some, None, refl, sym, arith, add-one, tak
 use Rattle.std.proofs.Common.{subst}
 use Rattle.std.specs.List.{list_all, AllPass}
 use Rattle.std.proofs.lemmas.List.{drop_more, get_or_default, get_or-set_same, get_or-set_other, set-get_or}
-use Rattle.std.proofs.lemmas.Bool.{lt-ltb, le-ltb, cases_lt}
+use Rattle.std.proofs.lemmas.Bool.{lt-ltb, le-ltb, cases_lt, eqb-false}
 use Rattle.std.proofs.lemmas.Bool.Decides.{nat_tests}
 use Rattle.std.proofs.Math.Nat.{pow-le-pow_right, pow-suc, mul-le-mul_right}
 use Rattle.std.specs.Char.{is_digit, digit_value}
 use Rattle.std.specs.Str.Parse.{digits_value, digits_value_after}
 use Rattle.std.specs.Result.{result_ok}
-use Rattle.std.specs.Prelude.{EachIndex, IsSome, slice_index, slice_set, min, max}
+use Rattle.std.specs.Prelude.{◌==◌, EachIndex, IsSome, slice_index, slice_set, min}
 use Rattle.hex.specs.Hex.{decode_of, is_hex_digit, decode_pairs, hex_digit_value, digit_or_error, value_at, pair_value}
 use Rattle.hex.specs.declared.error.FromHexError.TheVariants.{InvalidHexCharacter}
 use Rattle.hex.proofs.Pairs.{prepend, decode_done, decode_start, decode_step}
@@ -225,19 +225,21 @@ ArePairs-more text octets from at octet room pair before = λ k low lt.
           (rw (get_or-set_same octets at octet 0 room) pair)
     ]
 
--- a pair whose values are there
+-- a pair whose values are there, neither of them that of no digit
 pub value_pair : (text values : List ℕ) (done i n : ℕ) → 2 * i + 1 < n
     → ((k : ℕ) → k < n → slice_index values k ≡ min (digit_value (slice_index text (2 * done + k))) 16)
-    → max (slice_index values (2 * i)) (slice_index values (2 * i + 1)) < 16
-    → IsPair text (done + i) (slice_index values (2 * i) % 16 * 16 + slice_index values (2 * i + 1) % 16)
-value_pair text values done i n has are small =
+    → (slice_index values (2 * i) == 16) ≡ false → (slice_index values (2 * i + 1) == 16) ≡ false
+    → IsPair text (done + i) ((slice_index values (2 * i) * 16 % 256 + slice_index values (2 * i + 1)) % 256)
+value_pair text values done i n has are high low =
     let value = λ (k : ℕ). min (digit_value (slice_index text k)) 16 in
     let first : slice_index values (2 * i) ≡ value (2 * (done + i)) =
     are (2 * i) (omega arith) ∙ ap value (omega arith) in
     let second : slice_index values (2 * i + 1) ≡ value (2 * (done + i) + 1) =
     are (2 * i + 1) has ∙ ap value (omega arith) in
+    let high_digit = eqb-false _ _ high in
+    let low_digit = eqb-false _ _ low in
     record {
-      high = omega (arith, first, small);
-      low = omega (arith, second, small);
-      value = omega (arith, first, second, small);
+      high = omega (arith, first, high_digit);
+      low = omega (arith, second, low_digit);
+      value = omega (arith, first, second, high_digit, low_digit);
     }

@@ -1,8 +1,10 @@
 //! The values of digits, by a table: digits are most of a script, and their letters and numerals
 //! are mixed too well for a branch to be foreseen.
-ghost use Rattle.std.specs.Prelude.{◌≡◌, ◌<◌, ◌/◌, ◌%◌, [], ◌∷◌, min, slice_index};
+ghost use Rattle.std.specs.Prelude.{◌≡◌, ◌+◌, ◌<◌, ◌≤◌, ◌/◌, ◌%◌, ℕ, [], ◌∷◌, length, min, slice_index};
 ghost use Rattle.hex.specs.Hex.{upper_digits};
 ghost use Rattle.std.specs.Char.{digit_value};
+
+use std::simd::prelude::*;
 
 /// How many octets a loop without branches takes at a time.
 pub const AT_ONCE: usize = 16;
@@ -54,16 +56,20 @@ pub fn value_of(octet: u8) -> u8
     VALUES[usize::from(octet)]
 }
 
-/// The value of a hexadecimal digit in either case; 16 for any other octet. By comparisons in place
-/// of the table, so that a loop over many octets takes several at once; two of them, since letters are
-/// put in lower case first.
+/// The values of `N` octets of a text as hexadecimal digits in either case; 16 for any other octet. By
+/// comparisons of one vector in place of the table; two of them, since letters are put in lower case first.
 #[inline(always)]
-pub fn hex_value_of(octet: u8) -> u8
-    ensures { result ≡ min (digit_value octet) 16 }
+pub fn hex_values<const N: usize>(text: &[u8], from: usize) -> Simd<u8, N>
+    requires { from + N ≤ length text.now }
+    ensures { (i : ℕ) → i < N → slice_index result i ≡ min (digit_value (slice_index text.now (from + i))) 16 }
 {
-    let numeral = octet.wrapping_sub(b'0');
-    let letter = (octet | LOWER).wrapping_sub(b'a').min(LETTERS) + NUMERALS;
-    if numeral < NUMERALS { numeral } else { letter }
+    let octets = Simd::<u8, N>::from_slice(&text[from..]);
+    let numerals = octets - Simd::splat(b'0');
+    let past_a = (octets | Simd::splat(LOWER)) - Simd::splat(b'a');
+    let letters = past_a.simd_min(Simd::splat(LETTERS)) + Simd::splat(NUMERALS);
+    numerals
+        .simd_lt(Simd::splat(NUMERALS))
+        .select(numerals, letters)
 }
 
 /// The hexadecimal digit in upper case of a value below 16. By a comparison in place of the table, so

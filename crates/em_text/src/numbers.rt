@@ -9,9 +9,10 @@ ghost use Rattle.em_text.specs.Numbers.{number, hex_number, hex_address, decimal
 ghost use Rattle.em_text.specs.Numbers.{ArePairs, IsNoNumber, LeadingNumber};
 ghost use Rattle.em_text.specs.Words.{is_blank, words_of, read_first};
 
-use crate::digits::{AT_ONCE, HALF, QUARTER, hex_value_of, value_of};
+use crate::digits::{AT_ONCE, HALF, QUARTER, hex_values, value_of};
 use crate::words::{Words, blanks_len, is_blank, word_len};
 use std::alloc::{AllocError, Global};
+use std::simd::prelude::*;
 
 const HEX: u8 = 16;
 
@@ -19,6 +20,9 @@ const DECIMAL: u8 = 10;
 
 /// The most digits of a number that is read in hexadecimal.
 const HEX_NUMBER_DIGITS: usize = 8;
+
+/// The digits of an offset, as a look at all registers prints it.
+const OFFSET_DIGITS: usize = 5;
 
 /// The most digits of an address.
 const HEX_ADDRESS_DIGITS: usize = 16;
@@ -109,7 +113,7 @@ impl Words<'_> {
     {
         let line = self.0;
         let line = &line[blanks_len(line)..];
-        let Some((value, len)) = leading_number(line, base, most) else {
+        let Some((value, len)) = front_number(line, base, most) else {
             return None;
         };
         self.0 = &line[len..];
@@ -126,6 +130,48 @@ pub fn decimal_number(word: &[u8]) -> Option<u32>
         Some((value, len)) if len == word.len() => Some(value as u32),
         _ => None,
     }
+}
+
+/// The number that the digits in this base at the front of a text write, and how many they are: one
+/// to `most`, up to a blank or the text's end. Where a whole value or a whole offset may stand there, a loop
+/// over just so many octets comes first.
+#[inline(always)]
+fn front_number(text: &[u8], base: u8, most: usize) -> Option<(u64, usize)>
+    requires some { 0 < base }
+    requires letters { base ≤ 36 }
+    requires fits { base ^ most ≤ 2 ^ 64 }
+    ensures none { IsNone result → IsNoNumber base most text.now }
+    ensures some { IfSome result (λ found. LeadingNumber base most text.now found.0 found.1) }
+{
+    if let Some(found) = near_number::<HEX_NUMBER_DIGITS>(text, base, most) {
+        return Some(found);
+    }
+    if let Some(found) = near_number::<OFFSET_DIGITS>(text, base, most) {
+        return Some(found);
+    }
+    leading_number(text, base, most)
+}
+
+/// The same, if it ends among the first `N` octets, or just behind them: where the number of octets is known,
+/// the compiler makes a line of code of the loop over them. None also where more has to be read.
+#[inline(always)]
+fn near_number<const N: usize>(text: &[u8], base: u8, most: usize) -> Option<(u64, usize)>
+    requires near { N ≤ 16 }
+    requires some { 0 < base }
+    requires letters { base ≤ 36 }
+    requires fits { base ^ most ≤ 2 ^ 64 }
+    ensures { IfSome result (λ found. LeadingNumber base most text.now found.0 found.1) }
+{
+    let Some(near) = text.first_chunk::<N>() else {
+        return None;
+    };
+    let Some((value, len)) = leading_number(near, base, most) else {
+        return None;
+    };
+    if len == N && len < text.len() && !is_blank(text[len]) {
+        return None;
+    }
+    Some((value, len))
 }
 
 /// The number that the digits in this base at the front of a text write, and how many they are: one
@@ -298,6 +344,7 @@ fn is_worth(octets: usize, digits: usize) -> bool
 #[inline(always)]
 fn decode_if<const N: usize, const D: usize>(text: &[u8], octets: &mut [u8], done: usize) -> usize
     requires two { D ≡ 2 * N }
+    requires few { D ≤ 64 }
     requires digits { 2 * done ≤ length text.now }
     requires room { length text.now / 2 ≤ length octets.old }
     ensures within { 2 * (done + result) ≤ length text.now }
@@ -311,35 +358,24 @@ fn decode_if<const N: usize, const D: usize>(text: &[u8], octets: &mut [u8], don
     }
 }
 
-/// Writes the octets of `D` digits, those from octet `done` on, if all are digits. Without a branch on
-/// them, so that the compiler takes several at once.
+/// Writes the octets of `D` digits, those from octet `done` on, if all are digits. The digits are taken
+/// as one vector, without a branch on them.
 #[inline(always)]
 fn decode<const N: usize, const D: usize>(text: &[u8], octets: &mut [u8], done: usize) -> bool
     requires two { D ≡ 2 * N }
+    requires few { D ≤ 64 }
     requires digits { 2 * done + D ≤ length text.now }
     requires room { done + N ≤ length octets.old }
     ensures good { IsTrue result → ArePairs text.now octets.new done (done + N) }
     ensures before { (k : ℕ) → k < done → slice_index octets.new k ≡ slice_index octets.old k }
 {
-    let values = hex_values::<D>(text, 2 * done);
-    let mut good = true;
+    let lanes = hex_values::<D>(text, 2 * done);
+    let values = lanes.to_array();
     for i in 0..N {
-        let (high, low) = (values[2 * i], values[2 * i + 1]);
-        good &= high.max(low) < HEX;
-        octets[done + i] = high % HEX * HEX + low % HEX;
+        // What is no digit may wrap; it is no octet then.
+        octets[done + i] = values[2 * i]
+            .wrapping_mul(HEX)
+            .wrapping_add(values[2 * i + 1]);
     }
-    good
-}
-
-/// The values of `N` octets of a text as hexadecimal digits, 16 for any other octet.
-#[inline(always)]
-fn hex_values<const N: usize>(text: &[u8], from: usize) -> [u8; N]
-    requires { from + N ≤ length text.now }
-    ensures { (i : ℕ) → i < N → slice_index result i ≡ min (digit_value (slice_index text.now (from + i))) 16 }
-{
-    let mut values = [0; N];
-    for i in 0..N {
-        values[i] = hex_value_of(text[from + i]);
-    }
-    values
+    lanes.simd_eq(Simd::splat(HEX)).to_bitmask() == 0
 }

@@ -1,12 +1,9 @@
-use Rattle.std.proofs.Common.{◌≡◌, ◌-◌, ◌≤◌, length, drop}
+use Rattle.std.proofs.Common.{◌≡◌, length}
 use Rattle.em_latch.specs.Latches.{undo}
 use Rattle.em_latch.proofs.latches.Latches.put_back.Given as goal
 
-abbrev pub invariant-loop-left : goal.invariant-loop-left
-invariant-loop-left l = record {
-  rest : undo l.self (drop (length l.taken - l.left) l.taken) ≡ undo l.initial.self l.taken;
-  within : l.left ≤ length l.taken;
-}
+abbrev pub invariant-loop-place : goal.invariant-loop-place
+invariant-loop-place l = undo l.self l.left ≡ undo l.initial.self l.fn.taken
 
-abbrev pub decreases-loop-left : goal.decreases-loop-left
-decreases-loop-left l = l.left
+abbrev pub decreases-loop-place : goal.decreases-loop-place
+decreases-loop-place l = length l.left

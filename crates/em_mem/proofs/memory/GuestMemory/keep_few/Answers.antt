@@ -7,4 +7,4 @@ returns c =
     let n = c.args.len in
     let rest = drop c.args.addr c.args.self.now.octets in
     c.new.ensures ∙ ap (λ octets. record { at = c.args.addr; octets = octets })
-    (ap (take n) (c.copy_from_slice.ensures.after ∙ c.in-Some.ensures.octets) ∙ take-take n 11 rest c.requires.few)
+    (ap (take n) (c.copy_from_slice.ensures.after ∙ c.in-Some.ensures.octets) ∙ take-take n 9 rest c.requires.few)
