@@ -2,6 +2,7 @@ use crate::{Empty, JournalRefusal, LEAST_BUDGET, MOST_BUDGET, Machine};
 use em_eeprom::Eeprom;
 use em_step::{Adapter, Answer, Event, Refusal};
 use std::alloc::Global;
+use std::fmt::Debug;
 use std::test::Fail;
 
 const MAC: [u8; 6] = [0x52, 0x54, 0, 0x12, 0x34, 0x56];
@@ -13,13 +14,7 @@ const LARGEST: [u8; 16_384] = [7; 16_384];
 
 const TOO_LARGE: [u8; 16_385] = [7; 16_385];
 
-fn machine(alloc: Global, memory: u64, budget: u64) -> Result<Machine, Fail> {
-    let adapter = Adapter::new(alloc, memory, Eeprom::of_mac(MAC))?;
-    match Machine::new(alloc, adapter, budget) {
-        Ok(machine) => Ok(machine),
-        Err((_, _)) => Err(Fail::from("no machine")),
-    }
-}
+const DONE: Result<Answer, Refusal> = Ok(Answer::Done);
 
 // all that the observing calls show here
 #[derive(Clone, Copy, PartialEq, Eq, Debug)]
@@ -35,128 +30,218 @@ struct Shown {
     over_the_pages: [u8; 16],
 }
 
-fn observe(machine: &Machine) -> Result<Shown, Fail> {
-    let mut start = [0; 16];
-    let mut over_the_pages = [0; 16];
-    if machine.peek(0, &mut start).is_err() || machine.peek(0xFF8, &mut over_the_pages).is_err() {
-        return Err(Fail::from("not in memory"));
+// A machine as the tests call it. Its calls have no contracts here: else the prover would carry what each call says of
+// the machine on to all that a test asserts after it, which took most of the time of the whole crate.
+#[derive(Drop)]
+struct Tested {
+    machine: Machine,
+}
+
+// Does so with a new machine.
+fn on_a_machine<F: FnOnce(&mut Tested) -> Result<(), Fail> + Drop>(
+    alloc: Global,
+    memory: u64,
+    budget: u64,
+    case: F,
+) -> Result<(), Fail>
+    requires { F.IsAlwaysCallable case }
+{
+    let adapter = Adapter::new(alloc, memory, Eeprom::of_mac(MAC))?;
+    match Machine::new(alloc, adapter, budget) {
+        Ok(machine) => case(&mut Tested { machine }),
+        Err((_, _)) => Err(Fail::from("no machine")),
     }
-    Ok(Shown {
-        steps_back: machine.can_go_back(),
-        control: machine.look(0),
-        causes: machine.look(0xC0),
-        mask: machine.look(0xD0),
-        line: machine.line(),
-        link: machine.link(),
-        memory_size: machine.memory_size(),
-        start,
-        over_the_pages,
-    })
+}
+
+impl Tested {
+    fn perform(&mut self, event: Event<'_>) -> Result<Answer, Refusal> {
+        self.machine.perform(event)
+    }
+
+    fn back(&mut self) -> Result<(), Empty> {
+        self.machine.back()
+    }
+
+    fn back_by(&mut self, steps: usize) -> usize {
+        self.machine.back_by(steps)
+    }
+
+    fn can_go_back(&self) -> usize {
+        self.machine.can_go_back()
+    }
+
+    fn line(&self) -> bool {
+        self.machine.line()
+    }
+
+    fn peek(&self, addr: u64) -> Result<[u8; 16], Fail> {
+        let mut octets = [0; 16];
+        self.machine.peek(addr, &mut octets)?;
+        Ok(octets)
+    }
+
+    fn observe(&self) -> Result<Shown, Fail> {
+        Ok(Shown {
+            steps_back: self.machine.can_go_back(),
+            control: self.machine.look(0),
+            causes: self.machine.look(0xC0),
+            mask: self.machine.look(0xD0),
+            line: self.machine.line(),
+            link: self.machine.link(),
+            memory_size: self.machine.memory_size(),
+            start: self.peek(0)?,
+            over_the_pages: self.peek(0xFF8)?,
+        })
+    }
+
+    // ---- what it is to answer
+
+    fn answers(&mut self, event: Event<'_>, wanted: Result<Answer, Refusal>) -> Result<(), Fail> {
+        let answer = self.perform(event);
+        same("answer", answer, wanted)
+    }
+
+    fn holds(&self, records: usize) -> Result<(), Fail> {
+        same("records", self.can_go_back(), records)
+    }
+
+    fn goes_back_by(&mut self, steps: usize, wanted: usize) -> Result<(), Fail> {
+        let gone = self.back_by(steps);
+        same("steps back", gone, wanted)
+    }
+
+    fn shows(&self, wanted: &Shown) -> Result<(), Fail> {
+        same("shown", self.observe()?, *wanted)
+    }
+
+    // Where the event is refused that shows nothing new, and the next time it is done.
+    fn does_at_last(&mut self, event: Event<'_>) -> Result<(), Fail> {
+        let before = self.observe()?;
+        if self.perform(event).is_err() {
+            self.shows(&before)?;
+            self.answers(event, DONE)?;
+        }
+        Ok(())
+    }
+}
+
+// Fails where a value is not the one that is wanted.
+fn same<T: PartialEq + Debug + Drop>(what: &str, is: T, wanted: T) -> Result<(), Fail> {
+    if is == wanted {
+        Ok(())
+    } else {
+        Err(Fail::new(format_args!("{what}: {is:?}, and not {wanted:?}")))
+    }
 }
 
 #[test]
 fn goes_back_as_far_as_its_budget(rt: HostRuntime) -> Result<(), Fail> {
-    let mut machine = machine(rt.alloc(), MEMORY, LEAST_BUDGET)?;
-    for _ in 0..3000 {
-        assert_eq!(rt; machine.perform(Event::Read(0xD0)), Ok(Answer::Value(0)));
-    }
-    assert_eq!(rt; machine.can_go_back(), 2048);
-    // 33 octets of cost displace two records of 32
-    assert_eq!(rt; machine.perform(Event::Poke(0, b"1")), Ok(Answer::Done));
-    assert_eq!(rt; machine.can_go_back(), 2047);
-    assert_eq!(rt; machine.back_by(2000), 2000);
-    assert_eq!(rt; machine.back_by(100), 47);
-    assert_eq!(rt; machine.back(), Err(Empty));
-    assert_eq!(rt; Empty.code(), 8);
-    Ok(())
+    on_a_machine(rt.alloc(), MEMORY, LEAST_BUDGET, |tested| {
+        for _ in 0..3000 {
+            tested.answers(Event::Read(0xD0), Ok(Answer::Value(0)))?;
+        }
+        tested.holds(2048)?;
+        // 33 octets of cost displace two records of 32
+        tested.answers(Event::Poke(0, b"1"), DONE)?;
+        tested.holds(2047)?;
+        tested.goes_back_by(2000, 2000)?;
+        tested.goes_back_by(100, 47)?;
+        same("back", tested.back(), Err(Empty))?;
+        same("number", Empty.code(), 8)
+    })
 }
 
 #[test]
 fn drops_several_records_for_a_dear_one(rt: HostRuntime) -> Result<(), Fail> {
-    let mut machine = machine(rt.alloc(), 65_536, LEAST_BUDGET)?;
-    for count in 1..4 {
-        assert_eq!(rt; machine.perform(Event::Poke(0, &LARGEST)), Ok(Answer::Done));
-        assert_eq!(rt; machine.can_go_back(), count);
-    }
-    // 4 * 16,416 is 128 octets of cost over the budget
-    assert_eq!(rt; machine.perform(Event::Poke(0, &LARGEST)), Ok(Answer::Done));
-    assert_eq!(rt; machine.can_go_back(), 3);
-    Ok(())
+    on_a_machine(rt.alloc(), 65_536, LEAST_BUDGET, |tested| {
+        // 4 * 16,416 is 128 octets of cost over the budget
+        for records in [1, 2, 3, 3] {
+            tested.answers(Event::Poke(0, &LARGEST), DONE)?;
+            tested.holds(records)?;
+        }
+        Ok(())
+    })
 }
 
 #[test]
 fn a_step_back_shows_what_was_before(rt: HostRuntime) -> Result<(), Fail> {
-    let mut machine = machine(rt.alloc(), MEMORY, MOST_BUDGET)?;
-    let opening = observe(&machine)?;
-    // Link status change, raised by ICS (C8h) and let through by IMS (D0h)
-    assert_eq!(rt; machine.perform(Event::Write(0xC8, 4)), Ok(Answer::Done));
-    assert_eq!(rt; machine.perform(Event::Write(0xD0, 4)), Ok(Answer::Done));
-    assert_eq!(rt;
-        machine.perform(Event::Poke(0xFFE, b"over")),
-        Ok(Answer::Done)
-    );
-    let raised = observe(&machine)?;
-    assert_eq!(rt; raised.causes, Some(4));
-    assert!(rt; raised.line);
-    assert_eq!(rt; raised.over_the_pages, *b"\0\0\0\0\0\0over\0\0\0\0\0\0");
+    on_a_machine(rt.alloc(), MEMORY, MOST_BUDGET, |tested| {
+        let opening = tested.observe()?;
+        let raised = raise(tested)?;
+        // ICR is cleared as it is read
+        tested.answers(Event::Read(0xC0), Ok(Answer::Value(4)))?;
+        same("line", tested.line(), false)?;
+        same("back", tested.back(), Ok(()))?;
+        tested.shows(&raised)?;
+        tested.goes_back_by(9, 3)?;
+        tested.shows(&opening)
+    })
+}
 
-    // ICR is cleared as it is read
-    assert_eq!(rt; machine.perform(Event::Read(0xC0)), Ok(Answer::Value(4)));
-    assert!(rt; !machine.line());
-    assert_eq!(rt; machine.back(), Ok(()));
-    assert_eq!(rt; observe(&machine)?, raised);
-    assert_eq!(rt; machine.back_by(9), 3);
-    assert_eq!(rt; observe(&machine)?, opening);
-    Ok(())
+// A cause is raised and let through, and memory is written over the border of two pages.
+fn raise(tested: &mut Tested) -> Result<Shown, Fail> {
+    // Link status change, raised by ICS (C8h) and let through by IMS (D0h)
+    tested.answers(Event::Write(0xC8, 4), DONE)?;
+    tested.answers(Event::Write(0xD0, 4), DONE)?;
+    tested.answers(Event::Poke(0xFFE, b"over"), DONE)?;
+    let raised = tested.observe()?;
+    same("causes", raised.causes, Some(4))?;
+    same("line", raised.line, true)?;
+    same(
+        "octets",
+        raised.over_the_pages,
+        *b"\0\0\0\0\0\0over\0\0\0\0\0\0",
+    )?;
+    Ok(raised)
 }
 
 #[test]
 fn keeps_to_the_bounds_of_a_budget(rt: HostRuntime) -> Result<(), Fail> {
     for budget in [65_535, 16_777_217] {
-        let adapter = Adapter::new(rt.alloc(), MEMORY, Eeprom::of_mac(MAC))?;
-        match Machine::new(rt.alloc(), adapter, budget) {
-            Err((adapter, refusal)) => {
-                assert_eq!(rt; refusal, JournalRefusal::Budget);
-                assert_eq!(rt; adapter.memory_size(), MEMORY);
-            }
-            Ok(_) => return Err(Fail::from("not refused")),
-        }
+        is_no_budget(rt.alloc(), budget)?;
     }
     for budget in [65_536, 16_777_216] {
-        let machine = machine(rt.alloc(), MEMORY, budget)?;
-        assert_eq!(rt; machine.can_go_back(), 0);
+        on_a_machine(rt.alloc(), MEMORY, budget, |tested| tested.holds(0))?;
     }
-    assert_eq!(rt; JournalRefusal::Budget.code(), 24);
-    assert_eq!(rt; JournalRefusal::Memory.code(), 9);
-    Ok(())
+    same("number", JournalRefusal::Budget.code(), 24)?;
+    same("number", JournalRefusal::Memory.code(), 9)
+}
+
+// With this budget there is no machine, and the adapter comes back.
+fn is_no_budget(alloc: Global, budget: u64) -> Result<(), Fail> {
+    let adapter = Adapter::new(alloc, MEMORY, Eeprom::of_mac(MAC))?;
+    match Machine::new(alloc, adapter, budget) {
+        Ok(_) => Err(Fail::from("not refused")),
+        Err((adapter, refusal)) => is_handed_back(&adapter, refusal, JournalRefusal::Budget),
+    }
+}
+
+fn is_handed_back(
+    adapter: &Adapter,
+    is: JournalRefusal,
+    wanted: JournalRefusal,
+) -> Result<(), Fail> {
+    same("refusal", is, wanted)?;
+    same("memory", adapter.memory_size(), MEMORY)
 }
 
 #[test]
 fn keeps_to_the_bounds_of_a_memory_write(rt: HostRuntime) -> Result<(), Fail> {
-    let mut machine = machine(rt.alloc(), 16_384, LEAST_BUDGET)?;
-    assert_eq!(rt; machine.perform(Event::Poke(0, &[])), Err(Refusal::Length));
-    assert_eq!(rt;
-        machine.perform(Event::Poke(16_385, &[])),
-        Err(Refusal::Range)
-    );
-    assert_eq!(rt;
-        machine.perform(Event::Poke(0, &TOO_LARGE)),
-        Err(Refusal::Range)
-    );
-    assert_eq!(rt; machine.perform(Event::Poke(0, &LARGEST)), Ok(Answer::Done));
-    assert_eq!(rt; machine.can_go_back(), 1);
-    Ok(())
+    on_a_machine(rt.alloc(), 16_384, LEAST_BUDGET, |tested| {
+        tested.answers(Event::Poke(0, &[]), Err(Refusal::Length))?;
+        tested.answers(Event::Poke(16_385, &[]), Err(Refusal::Range))?;
+        tested.answers(Event::Poke(0, &TOO_LARGE), Err(Refusal::Range))?;
+        tested.answers(Event::Poke(0, &LARGEST), DONE)?;
+        tested.holds(1)
+    })
 }
 
 #[test]
 fn names_the_length_of_a_memory_write_that_lies_in_memory(rt: HostRuntime) -> Result<(), Fail> {
-    let mut machine = machine(rt.alloc(), 65_536, LEAST_BUDGET)?;
-    assert_eq!(rt;
-        machine.perform(Event::Poke(0, &TOO_LARGE)),
-        Err(Refusal::Length)
-    );
-    assert_eq!(rt; machine.can_go_back(), 0);
-    Ok(())
+    on_a_machine(rt.alloc(), 65_536, LEAST_BUDGET, |tested| {
+        tested.answers(Event::Poke(0, &TOO_LARGE), Err(Refusal::Length))?;
+        tested.holds(0)
+    })
 }
 
 // For runs in which a growth is refused: that call is refused and shows nothing new, and the next
@@ -166,36 +251,20 @@ fn a_refused_growth_changes_nothing(rt: HostRuntime) -> Result<(), Fail> {
     let Ok(adapter) = Adapter::new(rt.alloc(), MEMORY, Eeprom::of_mac(MAC)) else {
         return Ok(());
     };
-    let mut machine = match Machine::new(rt.alloc(), adapter, LEAST_BUDGET) {
-        Ok(machine) => machine,
-        Err((adapter, refusal)) => {
-            assert_eq!(rt; refusal, JournalRefusal::Memory);
-            assert_eq!(rt; adapter.memory_size(), MEMORY);
-            return Ok(());
-        }
-    };
-    assert_eq!(rt; machine.perform(Event::Write(0xC8, 4)), Ok(Answer::Done));
-    let before = observe(&machine)?;
-    if machine.perform(Event::Write(0, 0x0400_0000)).is_err() {
-        assert_eq!(rt; observe(&machine)?, before);
-        assert_eq!(rt;
-            machine.perform(Event::Write(0, 0x0400_0000)),
-            Ok(Answer::Done)
-        );
+    match Machine::new(rt.alloc(), adapter, LEAST_BUDGET) {
+        Ok(machine) => grows(&mut Tested { machine }),
+        Err((adapter, refusal)) => is_handed_back(&adapter, refusal, JournalRefusal::Memory),
     }
+}
+
+fn grows(tested: &mut Tested) -> Result<(), Fail> {
+    tested.answers(Event::Write(0xC8, 4), DONE)?;
+    tested.does_at_last(Event::Write(0, 0x0400_0000))?;
     // the least budget holds the reset alone
-    assert_eq!(rt; machine.back_by(9), 1);
-    assert_eq!(rt; observe(&machine)?.causes, Some(4));
-    for (addr, octets, steps_back) in [(8, b"page", 1), (0xFFE, b"over", 2)] {
-        let before = observe(&machine)?;
-        if machine.perform(Event::Poke(addr, octets)).is_err() {
-            assert_eq!(rt; observe(&machine)?, before);
-            assert_eq!(rt;
-                machine.perform(Event::Poke(addr, octets)),
-                Ok(Answer::Done)
-            );
-        }
-        assert_eq!(rt; machine.can_go_back(), steps_back);
-    }
-    Ok(())
+    tested.goes_back_by(9, 1)?;
+    same("causes", tested.observe()?.causes, Some(4))?;
+    tested.does_at_last(Event::Poke(8, b"page"))?;
+    tested.holds(1)?;
+    tested.does_at_last(Event::Poke(0xFFE, b"over"))?;
+    tested.holds(2)
 }
