@@ -1,11 +1,13 @@
 //! The numbers of the refusals, and what is refused by calls alone.
 
+use crate::tests::same;
 use em_journal::{Empty, JournalRefusal};
 use em_mem::MemRefusal;
 use em_step::Refusal;
+use std::test::Fail;
 
 #[test]
-fn refusals_have_their_numbers(rt: HostRuntime) {
+fn refusals_have_their_numbers() -> Result<(), Fail> {
     let of_events = [
         (Refusal::NoRegister, 1),
         (Refusal::Range, 2),
@@ -16,11 +18,11 @@ fn refusals_have_their_numbers(rt: HostRuntime) {
         (Refusal::Memory, 9),
     ];
     for (refusal, number) in of_events {
-        assert_eq!(rt; refusal.code(), number);
+        same("event", (refusal, refusal.code()), (refusal, number))?;
     }
-    assert_eq!(rt; MemRefusal::Size.code(), 1);
-    assert_eq!(rt; MemRefusal::Memory.code(), 9);
-    assert_eq!(rt; Empty.code(), 8);
-    assert_eq!(rt; JournalRefusal::Memory.code(), 9);
-    assert_eq!(rt; JournalRefusal::Budget.code(), 24);
+    same("size", MemRefusal::Size.code(), 1)?;
+    same("memory", MemRefusal::Memory.code(), 9)?;
+    same("empty", Empty.code(), 8)?;
+    same("machine", JournalRefusal::Memory.code(), 9)?;
+    same("budget", JournalRefusal::Budget.code(), 24)
 }

@@ -1,6 +1,7 @@
 //! The registers and counters against the manual's numbers: a number that is wrong in the code and
 //! in its definition alike is proved.
 
+use crate::tests::same;
 use em_latch::{Counter, LatchUndo, Latches};
 use em_regs::Reg;
 use std::test::Fail;
@@ -103,7 +104,7 @@ const PAIRS: [(u32, u32, Counter); 2] = [
     (0x04090, 0x04094, Counter::Gotc),
 ];
 
-/// What the offset answers to a read.
+/// What the offset answers to a read. Like `count` it has no contract, so that a test is proved in little time.
 fn read(latches: &mut Latches, offset: u32) -> Result<u32, Fail> {
     match Reg::of_offset(offset) {
         Some(reg) if latches.holds(reg) => {
@@ -114,72 +115,91 @@ fn read(latches: &mut Latches, offset: u32) -> Result<u32, Fail> {
     }
 }
 
-#[test]
-fn each_register_lies_at_its_offset(rt: HostRuntime) {
-    for (offset, reg) in SINGLE {
-        assert_eq!(rt; Reg::of_offset(offset), Some(reg), "at {offset}");
-        assert_eq!(rt; reg.offset(), offset);
+/// Reads of the offset give these values, one after another.
+fn reads(latches: &mut Latches, offset: u32, wanted: &[u32]) -> Result<(), Fail> {
+    for &value in wanted {
+        let is = read(latches, offset)?;
+        same("offset, value", (offset, is), (offset, value))?;
     }
-    for index in 0..128u8 {
-        let from = 4 * u32::from(index);
-        assert_eq!(rt; Reg::of_offset(0x05200 + from), Some(Reg::Mta(index)));
-        assert_eq!(rt; Reg::of_offset(0x05600 + from), Some(Reg::Vfta(index)));
-    }
-    for index in 0..16u8 {
-        let from = 8 * u32::from(index);
-        assert_eq!(rt; Reg::of_offset(0x05400 + from), Some(Reg::Ral(index)));
-        assert_eq!(rt; Reg::of_offset(0x05404 + from), Some(Reg::Rah(index)));
-    }
+    Ok(())
+}
+
+fn count(latches: &mut Latches, counter: Counter, by: u32) {
+    latches.count(counter, by, &mut LatchUndo::none());
+}
+
+/// The register lies at the offset, and says so.
+fn lies_at(offset: u32, reg: Reg) -> Result<(), Fail> {
+    let is = (offset, Reg::of_offset(offset), reg.offset());
+    same("register", is, (offset, Some(reg), offset))
 }
 
 #[test]
-fn no_other_offset_is_a_register(rt: HostRuntime) {
+fn each_register_lies_at_its_offset() -> Result<(), Fail> {
+    for (offset, reg) in SINGLE {
+        lies_at(offset, reg)?;
+    }
+    for index in 0..128u8 {
+        let from = 4 * u32::from(index);
+        lies_at(0x05200 + from, Reg::Mta(index))?;
+        lies_at(0x05600 + from, Reg::Vfta(index))?;
+    }
+    for index in 0..16u8 {
+        let from = 8 * u32::from(index);
+        lies_at(0x05400 + from, Reg::Ral(index))?;
+        lies_at(0x05404 + from, Reg::Rah(index))?;
+    }
+    Ok(())
+}
+
+#[test]
+fn no_other_offset_is_a_register() -> Result<(), Fail> {
     let mut found = 0u32;
     for offset in 0..0x05800u32 {
         if Reg::of_offset(offset).is_some() {
             found = found.saturating_add(1);
         }
     }
-    assert_eq!(rt; found, 350);
-    assert_eq!(rt; Reg::of_offset(0x02160), None);
-    assert_eq!(rt; Reg::of_offset(0x05800), None);
-    assert_eq!(rt; Reg::of_offset(0xFFFF_FFFC), None);
-}
-
-#[test]
-fn each_counter_is_read_at_its_offset_and_cleared(rt: HostRuntime) -> Result<(), Fail> {
-    let mut latches = Latches::new();
-    for (offset, counter) in COUNTERS {
-        latches.count(counter, offset, &mut LatchUndo::none());
-    }
-    for (low, high, counter) in PAIRS {
-        latches.count(counter, 0xFFFF_FFFF, &mut LatchUndo::none());
-        latches.count(counter, low, &mut LatchUndo::none());
-        latches.count(counter, 0xFFFF_FFFF, &mut LatchUndo::none());
-        latches.count(counter, high, &mut LatchUndo::none());
-    }
-    for (offset, _) in COUNTERS {
-        assert_eq!(rt; read(&mut latches, offset)?, offset);
-        assert_eq!(rt; read(&mut latches, offset)?, 0, "at {offset}");
-    }
-    for (low, high, _) in PAIRS {
-        // 2 * FFFFFFFF and both offsets: the low half is two below their sum, and 2 were carried
-        assert_eq!(rt; read(&mut latches, low)?, low + high - 2);
-        assert_eq!(rt; read(&mut latches, low)?, low + high - 2, "at {low}");
-        assert_eq!(rt; read(&mut latches, high)?, 2);
-        assert_eq!(rt; read(&mut latches, low)?, 0, "at {low}");
-        assert_eq!(rt; read(&mut latches, high)?, 0, "at {high}");
+    same("registers", found, 350)?;
+    for offset in [0x02160, 0x05800, 0xFFFF_FFFC] {
+        let is = Reg::of_offset(offset);
+        same("register", (offset, is), (offset, None))?;
     }
     Ok(())
 }
 
 #[test]
-fn a_counter_stops_at_its_greatest_value(rt: HostRuntime) -> Result<(), Fail> {
+fn each_counter_is_read_at_its_offset_and_cleared() -> Result<(), Fail> {
+    let mut latches = Latches::new();
+    for (offset, counter) in COUNTERS {
+        count(&mut latches, counter, offset);
+    }
+    for (low, high, counter) in PAIRS {
+        for by in [0xFFFF_FFFF, low, 0xFFFF_FFFF, high] {
+            count(&mut latches, counter, by);
+        }
+    }
+    for (offset, _) in COUNTERS {
+        reads(&mut latches, offset, &[offset, 0])?;
+    }
+    for (low, high, _) in PAIRS {
+        // 2 * FFFFFFFF and both offsets: the low half is two below their sum, and 2 were carried
+        let sum = low.wrapping_add(high).wrapping_sub(2);
+        reads(&mut latches, low, &[sum, sum])?;
+        reads(&mut latches, high, &[2])?;
+        reads(&mut latches, low, &[0])?;
+        reads(&mut latches, high, &[0])?;
+    }
+    Ok(())
+}
+
+#[test]
+fn a_counter_stops_at_its_greatest_value() -> Result<(), Fail> {
     for (offset, counter) in COUNTERS {
         let mut latches = Latches::new();
-        latches.count(counter, 0xFFFF_FFFE, &mut LatchUndo::none());
-        latches.count(counter, 3, &mut LatchUndo::none());
-        assert_eq!(rt; read(&mut latches, offset)?, 0xFFFF_FFFF, "at {offset}");
+        count(&mut latches, counter, 0xFFFF_FFFE);
+        count(&mut latches, counter, 3);
+        reads(&mut latches, offset, &[0xFFFF_FFFF])?;
     }
     Ok(())
 }

@@ -1,10 +1,21 @@
 //! What no contract of `run` can see: readers and writers that fail, and how often they are called.
 ghost use Rattle.std.specs.Prelude.{Some};
 
-use em_journal::Settings;
+use em_journal::{Machine, Settings};
 use em_script::{BenchFault, Session, Summary, run};
+use std::alloc::Global;
+use std::fmt::Debug;
 use std::io::{self, ErrorKind, Read, Write};
 use std::test::Fail;
+
+/// Fails where a value is not the one that is wanted.
+pub fn same<T: PartialEq + Debug + Drop>(what: &str, is: T, wanted: T) -> Result<(), Fail> {
+    if is == wanted {
+        Ok(())
+    } else {
+        Err(Fail::new(format_args!("{what}: {is:?}, and not {wanted:?}")))
+    }
+}
 
 /// Gives its octets `at_once` at a time, counts the reads, and fails at the read `fails_at`.
 #[derive(Drop)]
@@ -95,134 +106,186 @@ const COUNTS: Summary = Summary {
     refused: 1,
 };
 
+const NOTHING: Summary = Summary {
+    lines: 0,
+    bad: 0,
+    refused: 0,
+};
+
+/// What a run answered, and what its machine shows then: the events to go back over, and the first octet of memory.
+#[derive(Clone, Copy, PartialEq, Eq, Debug)]
+struct Played {
+    result: Result<Summary, BenchFault>,
+    steps_back: usize,
+    first_octet: Option<u8>,
+}
+
+/// Runs a script on a machine. It has no contract: else the prover would carry what `run` says of the text and the
+/// machine on to all that a test asserts after it.
+fn play<R: Read, W: Write>(
+    alloc: Global,
+    machine: Machine,
+    reader: &mut R,
+    writer: &mut W,
+) -> Played {
+    let mut session = Session::new(alloc, machine);
+    let result = run(alloc, reader, writer, &mut session);
+    let mut first = [7u8];
+    let is_there = session.machine().peek(0, &mut first).is_ok();
+    Played {
+        result,
+        steps_back: session.machine().can_go_back(),
+        first_octet: is_there.then_some(first[0]),
+    }
+}
+
+fn machine(alloc: Global) -> Result<Machine, Fail> {
+    Ok(Settings::default().machine(alloc)?)
+}
+
 #[test]
 fn writes_the_text_however_it_is_cut(rt: HostRuntime) -> Result<(), Fail> {
     for at_once in 1..80usize {
-        let mut session = Session::new(rt.alloc(), Settings::default().machine(rt.alloc())?);
-        let mut source = Source::new(SCRIPT, at_once, None);
-        let mut sink = Sink::new(Vec::new(rt.alloc()), at_once, None, false);
-        let summary = run(rt.alloc(), &mut source, &mut sink, &mut session)?;
-        assert_eq!(rt; summary, COUNTS);
-        assert_eq!(rt; sink.taken.as_slice(), TEXT);
+        writes_the_text(rt.alloc(), at_once)?;
     }
     Ok(())
+}
+
+/// The reader and the writer take so many octets at a time.
+fn writes_the_text(alloc: Global, at_once: usize) -> Result<(), Fail> {
+    let mut source = Source::new(SCRIPT, at_once, None);
+    let mut sink = Sink::new(Vec::new(alloc), at_once, None, false);
+    let played = play(alloc, machine(alloc)?, &mut source, &mut sink);
+    same("summary", played.result, Ok(COUNTS))?;
+    same("text", sink.taken.as_slice(), TEXT)
 }
 
 #[test]
 fn stops_at_each_write(rt: HostRuntime) -> Result<(), Fail> {
     let mut whole = Sink::new(Vec::new(rt.alloc()), 5, None, false);
-    let mut session = Session::new(rt.alloc(), Settings::default().machine(rt.alloc())?);
     let mut source = SCRIPT;
-    let _ = run(rt.alloc(), &mut source, &mut whole, &mut session)?;
+    let played = play(rt.alloc(), machine(rt.alloc())?, &mut source, &mut whole);
+    same("summary", played.result, Ok(COUNTS))?;
     for takes_none in [false, true] {
         for fails_at in 1..whole.writes.saturating_add(1) {
-            let mut session = Session::new(rt.alloc(), Settings::default().machine(rt.alloc())?);
-            let mut source = SCRIPT;
-            let mut sink = Sink::new(Vec::new(rt.alloc()), 5, Some(fails_at), takes_none);
-            let result = run(rt.alloc(), &mut source, &mut sink, &mut session);
-            assert_eq!(rt; result, Err(BenchFault::Write), "at {fails_at}");
-            assert!(rt; TEXT.starts_with(sink.taken.as_slice()));
-            assert!(rt; sink.taken.len() < TEXT.len());
-            // the first line with an answer was performed, whatever became of its answer
-            assert!(rt; fails_at > 1 || session.machine().can_go_back() == 1);
+            stops_at_the_write(rt.alloc(), fails_at, takes_none)?;
         }
     }
     Ok(())
+}
+
+fn stops_at_the_write(alloc: Global, fails_at: u32, takes_none: bool) -> Result<(), Fail> {
+    let mut source = SCRIPT;
+    let mut sink = Sink::new(Vec::new(alloc), 5, Some(fails_at), takes_none);
+    let played = play(alloc, machine(alloc)?, &mut source, &mut sink);
+    let is_beginning = TEXT.starts_with(sink.taken.as_slice()) && sink.taken.len() < TEXT.len();
+    // the first line with an answer was performed, whatever became of its answer
+    let is_performed = fails_at > 1 || played.steps_back == 1;
+    same(
+        "write, result, a beginning, the first line",
+        (fails_at, played.result, is_beginning, is_performed),
+        (fails_at, Err(BenchFault::Write), true, true),
+    )
 }
 
 #[test]
 fn stops_at_each_read(rt: HostRuntime) -> Result<(), Fail> {
     for fails_at in 1..14u32 {
-        let mut session = Session::new(rt.alloc(), Settings::default().machine(rt.alloc())?);
-        let mut source = Source::new(b"poke 0 11\nw D0 4\n", 2, Some(fails_at));
-        let mut taken = Vec::new(rt.alloc());
-        let result = run(rt.alloc(), &mut source, &mut taken, &mut session);
-        if fails_at <= 9 {
-            assert_eq!(rt; result, Err(BenchFault::Read), "at {fails_at}");
-            assert!(rt; taken.is_empty());
-            assert_eq!(rt; session.machine().can_go_back(), 0);
-            let mut first = [7u8];
-            assert!(rt; session.machine().peek(0, &mut first).is_ok());
-            assert_eq!(rt; first, [0]);
-        } else if fails_at > 10 {
-            assert!(rt; result.is_ok());
-        }
+        stops_at_the_read(rt.alloc(), fails_at)?;
     }
     Ok(())
+}
+
+/// Nine reads give the whole script; the one after them is its end.
+fn stops_at_the_read(alloc: Global, fails_at: u32) -> Result<(), Fail> {
+    let mut source = Source::new(b"poke 0 11\nw D0 4\n", 2, Some(fails_at));
+    let mut taken = Vec::new(alloc);
+    let played = play(alloc, machine(alloc)?, &mut source, &mut taken);
+    if fails_at <= 9 {
+        let nothing = Played {
+            result: Err(BenchFault::Read),
+            steps_back: 0,
+            first_octet: Some(0),
+        };
+        same("read", (fails_at, played), (fails_at, nothing))?;
+        same("without text", taken.is_empty(), true)
+    } else if fails_at > 10 {
+        same("done", played.result.is_ok(), true)
+    } else {
+        Ok(())
+    }
 }
 
 #[test]
 fn takes_so_many_octets(rt: HostRuntime) -> Result<(), Fail> {
-    for (count, at_once, reads, fits) in [
-        (4_194_305usize, 1usize, 4_194_305u32, false),
-        (4_194_304, 1_000_000, 65, true),
-    ] {
-        let octets = vec![in rt.alloc(); b'\n'; count]?;
-        let mut session = Session::new(rt.alloc(), Settings::default().machine(rt.alloc())?);
-        let mut source = Source::new(octets.as_slice(), at_once, None);
-        let mut taken = Vec::new(rt.alloc());
-        let result = run(rt.alloc(), &mut source, &mut taken, &mut session);
-        let nothing = Summary {
-            lines: 0,
-            bad: 0,
-            refused: 0,
-        };
-        if fits {
-            assert_eq!(rt; result, Ok(nothing));
-        } else {
-            assert_eq!(rt; result, Err(BenchFault::TooLarge));
-        }
-        assert_eq!(rt; source.reads, reads);
-        assert!(rt; taken.is_empty());
-        assert_eq!(rt; session.machine().can_go_back(), 0);
-    }
-    Ok(())
+    let too_large = Err(BenchFault::TooLarge);
+    takes_blank_lines(rt.alloc(), 4_194_305, 1, 4_194_305, too_large)?;
+    takes_blank_lines(rt.alloc(), 4_194_304, 1_000_000, 65, Ok(NOTHING))
+}
+
+/// A script of so many line feeds, which are read so many at a time.
+fn takes_blank_lines(
+    alloc: Global,
+    count: usize,
+    at_once: usize,
+    reads: u32,
+    wanted: Result<Summary, BenchFault>,
+) -> Result<(), Fail> {
+    let octets = vec![in alloc; b'\n'; count]?;
+    let mut source = Source::new(octets.as_slice(), at_once, None);
+    let mut taken = Vec::new(alloc);
+    let played = play(alloc, machine(alloc)?, &mut source, &mut taken);
+    same("result", played.result, wanted)?;
+    same(
+        "reads, without text, events",
+        (source.reads, taken.is_empty(), played.steps_back),
+        (reads, true, 0),
+    )
 }
 
 #[test]
 fn counts_the_lines_of_a_script(rt: HostRuntime) -> Result<(), Fail> {
-    let mut session = Session::new(rt.alloc(), Settings::default().machine(rt.alloc())?);
     let mut source = b"line\n\xff\nline\n".as_slice();
     let mut taken = Vec::new(rt.alloc());
-    let summary = run(rt.alloc(), &mut source, &mut taken, &mut session)?;
+    let played = play(rt.alloc(), machine(rt.alloc())?, &mut source, &mut taken);
     let wanted = Summary {
         lines: 3,
         bad: 1,
         refused: 0,
     };
-    assert_eq!(rt; summary, wanted);
-    assert_eq!(rt; taken.as_slice(), b"0\nbad line 2\n0\n".as_slice());
-    Ok(())
+    same("summary", played.result, Ok(wanted))?;
+    same("text", taken.as_slice(), b"0\nbad line 2\n0\n".as_slice())
 }
 
 /// For runs in which a growth is refused: the run says Memory, or the line does, and what was
 /// written is the text so far; the next run of the same lines succeeds.
 #[test]
 fn a_refused_growth_is_named(rt: HostRuntime) -> Result<(), Fail> {
-    let script = b"w C8 4\npoke 0 1234\nw 0 4000000\nline\n".as_slice();
     let Ok(machine) = Settings::default().machine(rt.alloc()) else {
         return Ok(());
     };
-    let mut session = Session::new(rt.alloc(), machine);
     let Ok(mut taken) = Vec::with_capacity(rt.alloc(), 64) else {
         return Ok(());
     };
-    let mut source = script;
-    match run(rt.alloc(), &mut source, &mut taken, &mut session) {
-        Ok(summary) if summary.refused == 0 => assert_eq!(rt;
-            taken.as_slice(),
-            b"ok\nok\nok\n0\n".as_slice()
-        ),
-        Ok(summary) => {
-            assert_eq!(rt; summary.refused, 1);
-            let poke = taken.as_slice() == b"ok\nrefused Memory\nok\n0\n".as_slice();
-            let reset = taken.as_slice() == b"ok\nok\nrefused Memory\n0\n".as_slice();
-            assert!(rt; poke || reset);
-        }
+    let mut source = b"w C8 4\npoke 0 1234\nw 0 4000000\nline\n".as_slice();
+    let played = play(rt.alloc(), machine, &mut source, &mut taken);
+    match played.result {
+        Ok(summary) => is_text_with_refusals(summary.refused, taken.as_slice()),
         Err(fault) => {
-            assert_eq!(rt; fault, BenchFault::Memory);
-            assert!(rt; taken.is_empty() || taken.as_slice() == b"ok\n".as_slice());
+            same("fault", fault, BenchFault::Memory)?;
+            let is_beginning = taken.is_empty() || taken.as_slice() == b"ok\n".as_slice();
+            same("beginning", is_beginning, true)
         }
     }
-    Ok(())
+}
+
+/// Memory was refused to so many lines, to one at most.
+fn is_text_with_refusals(refused: u32, text: &[u8]) -> Result<(), Fail> {
+    if refused == 0 {
+        return same("text", text, b"ok\nok\nok\n0\n".as_slice());
+    }
+    same("refused", refused, 1)?;
+    let poke = text == b"ok\nrefused Memory\nok\n0\n".as_slice();
+    let reset = text == b"ok\nok\nrefused Memory\n0\n".as_slice();
+    same("a refusal in the text", poke || reset, true)
 }
