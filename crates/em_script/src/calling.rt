@@ -13,6 +13,7 @@ use crate::called::{Called, PlanCounts};
 use crate::response::Response;
 use crate::seat::Seat;
 use crate::session::Session;
+use crate::spare::take_empty;
 use em_driver::{Batch, DeviceStats, E1000, IxyDevice, Layout, Stopped, Turns};
 use std::alloc::Global;
 use std::collections::VecDeque;
@@ -67,7 +68,7 @@ pub fn call_driver(alloc: Global, session: &mut Session, call: Call) -> Option<C
     let Seat::Driven(driver) = &mut session.seat else {
         return None;
     };
-    let (events, response) = call_by(alloc, driver, call);
+    let (events, response) = call_by(alloc, driver, &mut session.packets, call);
     let plan = end_plan(driver.bus(), session.planned);
     session.planned = false;
     Some(Called {
@@ -91,8 +92,14 @@ fn end_plan(turns: &mut Turns, planned: bool) -> Option<PlanCounts>
     if planned { Some(counts) } else { None }
 }
 
-/// What a driver does on a call: so many events, and its answer.
-fn call_by(alloc: Global, driver: &mut E1000<Turns>, call: Call) -> (u32, Response)
+/// What a driver does on a call: so many events, and its answer. What it receives comes into the
+/// spare queue.
+fn call_by(
+    alloc: Global,
+    driver: &mut E1000<Turns>,
+    spare: &mut VecDeque<Vec<u8>>,
+    call: Call,
+) -> (u32, Response)
     requires { driver.old.layout ≡ init_layout }
     ensures course { Follows driver.old.bus (course_of (plain_call call) driver.old.bus) result.0 (plain result.1)
         driver.new.bus }
@@ -100,15 +107,15 @@ fn call_by(alloc: Global, driver: &mut E1000<Turns>, call: Call) -> (u32, Respon
     ensures layout { driver.new.layout ≡ driver.old.layout }
 {
     match call {
-        Call::Send(packets) => send(alloc, driver, packets),
-        Call::Receive(most) => receive(alloc, driver, most),
+        Call::Send(packets) => send(driver, packets),
+        Call::Receive(most) => receive(driver, take_empty(alloc, spare), most),
         Call::Stats => count(driver),
         Call::Address => tell_address(driver),
         Call::SetAddress(address) => set_address(driver, address),
     }
 }
 
-fn send(alloc: Global, driver: &mut E1000<Turns>, mut packets: VecDeque<Vec<u8>>) -> (u32, Response)
+fn send(driver: &mut E1000<Turns>, mut packets: VecDeque<Vec<u8>>) -> (u32, Response)
     requires { driver.old.layout ≡ init_layout }
     ensures course { Follows driver.old.bus (course_of (sends (lists packets.items)) driver.old.bus)
         result.0 (plain result.1) driver.new.bus }
@@ -116,20 +123,19 @@ fn send(alloc: Global, driver: &mut E1000<Turns>, mut packets: VecDeque<Vec<u8>>
     ensures layout { driver.new.layout ≡ driver.old.layout }
 {
     let result = driver.tx_batch(0, &mut packets);
-    (
-        events_of(&result),
-        Response::Batch(VecDeque::new(alloc), result),
-    )
+    // What was not sent is no packet that came.
+    packets.clear();
+    (events_of(&result), Response::Batch(packets, result))
 }
 
-fn receive(alloc: Global, driver: &mut E1000<Turns>, most: u32) -> (u32, Response)
-    requires { driver.old.layout ≡ init_layout }
+fn receive(driver: &mut E1000<Turns>, mut packets: VecDeque<Vec<u8>>, most: u32) -> (u32, Response)
+    requires layout { driver.old.layout ≡ init_layout }
+    requires empty { packets.items ≡ [] }
     ensures course { Follows driver.old.bus (course_of (receives most) driver.old.bus)
         result.0 (plain result.1) driver.new.bus }
     ensures stands { is_started (plain result.1) ≡ true }
     ensures layout { driver.new.layout ≡ driver.old.layout }
 {
-    let mut packets = VecDeque::new(alloc);
     let result = driver.rx_batch(0, &mut packets, most as usize);
     (events_of(&result), Response::Batch(packets, result))
 }

@@ -23,11 +23,11 @@ use std::collections::VecDeque;
 use std::io::Write;
 
 /// What a driver did on a line.
-pub fn write_called<W: Write>(writer: &mut W, called: Called) -> Result<Outcome, WriteFailed>
-    ensures { Prints (called_text called) (response_outcome (plain called.response))
+pub fn write_called<W: Write>(writer: &mut W, called: &Called) -> Result<Outcome, WriteFailed>
+    ensures { Prints (called_text called.now) (response_outcome (plain called.now.response))
         (W.contents writer.old) (W.contents writer.new) result }
 {
-    let outcome = write_response(writer, called.events, called.response)?;
+    let outcome = write_response(writer, called.events, &called.response)?;
     write_plan(writer, called.plan)?;
     Ok(outcome)
 }
@@ -46,17 +46,17 @@ fn write_plan<W: Write>(writer: &mut W, plan: Option<PlanCounts>) -> Result<(), 
 fn write_response<W: Write>(
     writer: &mut W,
     events: u32,
-    response: Response,
+    response: &Response,
 ) -> Result<Outcome, WriteFailed>
-    ensures { Prints (response_text events (plain response)) (response_outcome (plain response))
+    ensures { Prints (response_text events (plain response.now)) (response_outcome (plain response.now))
         (W.contents writer.old) (W.contents writer.new) result }
 {
     match response {
         Response::Start(None) => write_started(writer, events),
-        Response::Start(Some(cause)) => write_stopped(writer, 0, events, cause),
-        Response::Batch(packets, result) => write_moved(writer, &packets, result),
-        Response::Stats(stats) => write_stats(writer, stats),
-        Response::Address(address) => write_address(writer, address),
+        Response::Start(Some(cause)) => write_stopped(writer, 0, events, *cause),
+        Response::Batch(packets, result) => write_moved(writer, packets, *result),
+        Response::Stats(stats) => write_stats(writer, *stats),
+        Response::Address(address) => write_address(writer, *address),
         Response::Set => write_done(writer),
     }
 }

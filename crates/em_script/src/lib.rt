@@ -55,6 +55,7 @@ mod response;
 mod runner;
 mod seat;
 mod session;
+mod spare;
 mod summary;
 mod turn_word;
 mod wire;

@@ -209,7 +209,7 @@ fn play_request<W: Write>(
     ensures same { OnErr result (session.new ≡ session.old) }
     ensures unwritten { OnErr result (W.contents writer.new ≡ W.contents writer.old) }
 {
-    match request_form(alloc, name, words, octets)? {
+    match request_form(alloc, name, words, octets, &mut session.packets)? {
         Some(request) => Ok(ask(alloc, writer, session, request)),
         None => Ok(write_bad_line(writer, number)),
     }

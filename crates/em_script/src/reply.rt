@@ -42,9 +42,13 @@ pub fn ask<W: Write>(
         session.old session.new (W.contents writer.old) (W.contents writer.new) result }
 {
     match request {
-        Request::Start => write_called(writer, start_driver(alloc, session)),
+        Request::Start => write_called(writer, &start_driver(alloc, session)),
         Request::Call(call) => match call_driver(alloc, session, call) {
-            Some(called) => write_called(writer, called),
+            Some(called) => {
+                let written = write_called(writer, &called);
+                session.keep_packets(called.response);
+                written
+            }
             None => write_no_driver(writer),
         },
     }
@@ -72,7 +76,6 @@ pub fn set_plan<W: Write>(
 
 /// Does what a command says with the session's machine, which may be under a driver.
 #[inline(always)]
-#[tactic(auto, using(crate::proofs::ReplyLemmas::obeyed))]
 pub fn obey<W: Write>(
     writer: &mut W,
     session: &mut Session,

@@ -11,6 +11,7 @@ ghost use Rattle.em_script.specs.ParsedLine.{brings_octets, request_line};
 use crate::arguments::{Arguments, arguments_of};
 use crate::call::Call;
 use crate::frame::frame_words_into;
+use crate::spare::take_empty;
 use em_text::{Words, is_name, octets_into};
 use std::alloc::{AllocError, Global};
 use std::collections::VecDeque;
@@ -29,12 +30,13 @@ const MOST_PACKETS: u32 = 1024;
 const ADDRESS_DIGITS: usize = 12;
 
 /// What is asked of a driver by a name and the words behind it. Memory is taken for the octets that
-/// it brings; `octets` holds them on the way.
+/// it brings; `octets` holds them on the way, and a packet goes into the spare queue.
 pub fn request_form(
     alloc: Global,
     name: &[u8],
     words: Words<'_>,
     octets: &mut Vec<u8>,
+    spare: &mut VecDeque<Vec<u8>>,
 ) -> Result<Option<Request>, AllocError>
     ensures value { IfOk result (λ request.
         option_map plain request ≡ request_form name.now (arguments_of (words_of words.entry.0.now))) }
@@ -42,7 +44,7 @@ pub fn request_form(
         (request_form name.now (arguments_of (words_of words.entry.0.now)))))) }
 {
     if is_name(name, b"send") {
-        return send_form(alloc, words, octets);
+        return send_form(alloc, words, octets, spare);
     }
     if is_name(name, b"recv") {
         return Ok(receive_form(words));
@@ -72,6 +74,7 @@ fn send_form(
     alloc: Global,
     words: Words<'_>,
     octets: &mut Vec<u8>,
+    spare: &mut VecDeque<Vec<u8>>,
 ) -> Result<Option<Request>, AllocError>
     ensures value { IfOk result (λ request.
         option_map plain request ≡ send_form (arguments_of (words_of words.entry.0.now))) }
@@ -82,7 +85,7 @@ fn send_form(
         return Ok(None);
     }
     let packet = Vec::from_slice(alloc, octets.as_slice())?;
-    let mut packets = VecDeque::new(alloc);
+    let mut packets = take_empty(alloc, spare);
     packets.push_back(packet)?;
     Ok(Some(Request::Call(Call::Send(packets))))
 }

@@ -4,6 +4,7 @@ ghost use Rattle.em_driver.specs.Planned.{planned};
 ghost use Rattle.em_driver.specs.Turn.{plan_turns};
 ghost use Rattle.em_script.specs.Session.{bare};
 
+use crate::response::Response;
 use crate::seat::Seat;
 use em_driver::{PlanRefused, Turn, Turns};
 use em_journal::Machine;
@@ -18,6 +19,8 @@ pub struct Session {
     pub(crate) seat: Seat,
     // whether a plan was set since the last call of a driver
     pub(crate) planned: bool,
+    // for the packets of the next call of a driver; what it holds until then is of no matter
+    pub(crate) packets: VecDeque<Vec<u8>>,
 }
 
 impl Model for Session {
@@ -41,6 +44,7 @@ impl Session {
         Session {
             seat: Seat::Bare(Turns::new(alloc, machine)),
             planned: false,
+            packets: VecDeque::new(alloc),
         }
     }
 
@@ -57,6 +61,15 @@ impl Session {
         }
         self.planned = true;
         Ok(())
+    }
+
+    /// Keeps the queue of a response for the next call that moves packets.
+    pub(crate) fn keep_packets(&mut self, response: Response)
+        ensures { self.new ≡ self.old }
+    {
+        if let Response::Batch(packets, _) = response {
+            self.packets = packets;
+        }
     }
 
     /// The machine as the scripts so far left it.

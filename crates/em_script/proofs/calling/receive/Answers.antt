@@ -3,5 +3,5 @@ use Rattle.em_script.proofs.calling.receive.Goals as goal
 
 pub returns-clause-course : goal.returns-clause-course
 returns-clause-course c =
-    let did = rw (c.requires, c.new-packets.ensures.items) at c.rx_batch-result.ensures.course in
+    let did = rw (c.requires.layout, c.requires.empty) at c.rx_batch-result.ensures.course in
     rw (c.events_of.ensures) (received _ _ c.args.most _ _ did)

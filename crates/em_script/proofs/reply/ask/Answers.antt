@@ -10,6 +10,6 @@ returns-in-Start g c = λ number.
 
 pub returns-in-Some : goal.returns-in-Some
 returns-in-Some g c = λ number.
-    rw (c.in-Call.is) (call_made number (plain_call c.in-Call.call) c.in-Some.called
+    rw (c.in-Call.is, c.keep_packets.ensures) (call_made number (plain_call c.in-Call.call) c.in-Some.called
     (has_driver_call c.in-Call.call c.args.session.now ∙ c.in-Some.ensures.stands) c.in-Some.ensures.called
-    c.write_called-in-Some.ensures)
+    c.write_called-written.ensures)
