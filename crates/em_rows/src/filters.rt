@@ -14,8 +14,8 @@ const TAGGED: [u8; 17] = [
     0xAA,
 ];
 
-/// Registers with these values in VET, CTRL and RCTL. Like the others here it has no contract, so that a test is proved in
-/// little time.
+/// Registers with these values in VET, CTRL and RCTL. Like the others here it has no contract, so
+/// that a test is proved in little time.
 fn regs(vet: u32, ctrl: u32, rctl: u32) -> RegFile {
     let mut regs = RegFile::reset(MAC);
     let _ = regs.put(Reg::Vet, vet);
