@@ -13,6 +13,7 @@ mod layout;
 mod link;
 mod machine;
 mod outcome;
+mod packet;
 mod receive;
 mod seat;
 mod set;

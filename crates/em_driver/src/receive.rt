@@ -9,6 +9,7 @@ use crate::bus::Bus;
 use crate::descriptor::{DESCRIPTOR_OCTETS, STATUS, is_done, packet_length};
 use crate::driver::E1000;
 use crate::outcome::{Batch, Cause, Stopped, cause_of};
+use crate::packet::packet_of;
 use em_regs::Reg;
 use std::collections::VecDeque;
 
@@ -116,7 +117,7 @@ impl<B: Bus> E1000<B> {
             (B.world self.new.bus) (lists buffer.old.items) (lists buffer.new.items)) }
         ensures layout { self.new.layout ≡ self.old.layout }
     {
-        let Ok(mut packet) = vec![in self.alloc; 0u8; usize::from(length)] else {
+        let Ok(mut packet) = packet_of(self.alloc, &mut self.spare, length) else {
             return Err(Cause::Memory);
         };
         let Ok(()) = buffer.reserve(1) else {

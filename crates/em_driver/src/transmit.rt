@@ -91,7 +91,10 @@ impl<B: Bus> E1000<B> {
         if let Err(stopped) = self.transmit_packet(index, count, packet.as_slice()) {
             return Err(stopped);
         }
-        let _ = buffer.pop_front();
+        let Some(sent) = buffer.pop_front() else {
+            unreachable!();
+        };
+        self.spare = sent;
         Ok(true)
     }
 

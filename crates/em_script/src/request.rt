@@ -11,7 +11,7 @@ ghost use Rattle.em_script.specs.ParsedLine.{brings_octets, request_line};
 use crate::arguments::{Arguments, arguments_of};
 use crate::call::Call;
 use crate::frame::frame_words_into;
-use crate::spare::take_empty;
+use crate::spare::take_with_packet;
 use em_text::{Words, is_name, octets_into};
 use std::alloc::{AllocError, Global};
 use std::collections::VecDeque;
@@ -84,8 +84,8 @@ fn send_form(
     if !frame_words_into(octets, words)? {
         return Ok(None);
     }
-    let packet = Vec::from_slice(alloc, octets.as_slice())?;
-    let mut packets = take_empty(alloc, spare);
+    let (mut packets, mut packet) = take_with_packet(alloc, spare);
+    packet.extend_from_slice(octets.as_slice())?;
     packets.push_back(packet)?;
     Ok(Some(Request::Call(Call::Send(packets))))
 }

@@ -15,3 +15,22 @@ pub fn take_empty(alloc: Global, spare: &mut VecDeque<Vec<u8>>) -> VecDeque<Vec<
     packets.clear();
     packets
 }
+
+/// Takes the queue as `take_empty` does, and beside it a packet without octets, in the memory of one
+/// that an earlier call left, where there is one.
+pub fn take_with_packet(
+    alloc: Global,
+    spare: &mut VecDeque<Vec<u8>>,
+) -> (VecDeque<Vec<u8>>, Vec<u8>)
+    ensures queue { result.0.items ≡ [] }
+    ensures packet { result.1.items ≡ [] }
+{
+    let packet = match spare.pop_front() {
+        Some(mut left) => {
+            left.clear();
+            left
+        }
+        None => Vec::new(alloc),
+    };
+    (take_empty(alloc, spare), packet)
+}

@@ -11,12 +11,7 @@ returns-clause-called c =
     let counts = rw (c.bus.ensures.value) at c.end_plan-plan.ensures.counts in
     let left = rw (c.bus.ensures.value) at c.end_plan-plan.ensures.turns in
     let d = c.call_by-events.new.driver in
-    let after : Seat = Driven record {
-      bus = c.end_plan-plan.new.turns;
-      layout = d.layout;
-      alloc = d.alloc;
-      placed = d.placed;
-    } in
+    let after : Seat = Driven (record d { bus = c.end_plan-plan.new.turns }) in
     is_called (plain_call c.args.call) c.session.inside.seat after c.session.inside.planned _ c.args.session.now
     c.in-Driven.driver.bus c.call_by-events.new.driver.bus _ (sym c.session.view_is) c.session.invariant
     (ap world_in (sym c.in-Driven.is)) c.call_by-events.ensures.course counts (sym c.call_by-events.ensures.stands)

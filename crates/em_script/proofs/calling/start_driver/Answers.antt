@@ -14,12 +14,7 @@ returns-in-Ok c =
     let counts = rw (c.replace-planned.ensures.value, c.bus.ensures.value) at c.end_plan-plan.ensures.counts in
     let left = rw (c.bus.ensures.value) at c.end_plan-plan.ensures.turns in
     let d = c.in-Ok.driver in
-    let after : Seat = Driven record {
-      bus = c.end_plan-plan.new.turns;
-      layout = d.layout;
-      alloc = d.alloc;
-      placed = d.placed;
-    } in
+    let after : Seat = Driven (record d { bus = c.end_plan-plan.new.turns }) in
     is_called starts c.session.inside.seat after c.session.inside.planned c.replace-planned.new.dest c.args.session.now
     c.into_turns-turns.result c.in-Ok.driver.bus _ (sym c.session.view_is) c.session.invariant begins follows counts
     refl left

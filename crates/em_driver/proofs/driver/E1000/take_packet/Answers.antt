@@ -14,14 +14,14 @@ returns-in_default-reserve-clause-err g c =
 pub returns-in_default-peek-clause-err : goal.returns-in_default-peek-clause-err
 returns-in_default-peek-clause-err g c =
     let long : length c.as_mut_slice.result.now ≡ c.args.length
-    = omega (arith, c.as_mut_slice.ensures.len, c.in-Ok.ensures.len, c.from.ensures) in
+    = omega (arith, c.as_mut_slice.ensures.len, c.in-Ok.ensures.len) in
     not_seen c.args.self.now.layout _ _ _ _ _ _ _ _ (ap lists c.reserve.ensures.items) long
     c.rx_buffer-address.ensures c.in_default-peek.ensures.err
 
 pub returns-in-Err-clause-err : goal.returns-in-Err-clause-err
 returns-in-Err-clause-err g c =
     let long : length c.as_mut_slice.result.now ≡ c.args.length
-    = omega (arith, c.as_mut_slice.ensures.len, c.in-Ok.ensures.len, c.from.ensures) in
+    = omega (arith, c.as_mut_slice.ensures.len, c.in-Ok.ensures.len) in
     not_cleared c.args.self.now.layout _ _ _ _ _ _ _ _ _ _ _ (ap lists c.reserve.ensures.items)
     (seen c.args.self.now.layout _ _ _ _ _ _ _ long c.rx_buffer-address.ensures c.in-Ok-peek.ensures.ok)
     (ap (λ a. a + 12) c.rx_descriptor.ensures.value) c.in-Err.ensures.err c.cause_of.ensures
@@ -29,7 +29,7 @@ returns-in-Err-clause-err g c =
 pub returns-clause-ok : goal.returns-clause-ok
 returns-clause-ok g c =
     let long : length c.as_mut_slice.result.now ≡ c.args.length
-    = omega (arith, c.as_mut_slice.ensures.len, c.in-Ok.ensures.len, c.from.ensures) in
+    = omega (arith, c.as_mut_slice.ensures.len, c.in-Ok.ensures.len) in
     let whole : take (vec_len c.in-Ok.packet) (c.peek.new.out ++ drop (length c.peek.new.out) c.in-Ok.packet.items)
     ≡ c.peek.new.out
     = take_at c.peek.new.out _ _ (omega (arith, c.peek.auto.out, c.as_mut_slice.ensures.len)) in
