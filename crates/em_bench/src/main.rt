@@ -4,7 +4,6 @@
 //! `Ending` says with which status it ends, and with which line on standard error.
 #![tactic(auto)]
 
-use em_journal::Machine;
 use em_options::{Ending, Options, OptionsRefused, options};
 use em_script::{BenchFault, Session, run};
 use std::fs::File;
@@ -77,10 +76,23 @@ fn with_options(rt: &(impl Files + Input + Print + AllocGlobal), options: &Optio
         Ok(machine) => machine,
         Err(refusal) => return refusal.into(),
     };
-    match options.script {
-        None => play(rt, rt.reader(), machine),
+    let mut session = Session::new(rt.alloc(), machine);
+    let ending = with_session(rt, options.script, &mut session);
+    // The system takes its memory back when the program ends, all at once.
+    mem::forget(session);
+    ending
+}
+
+/// Opens the script, which is standard input where it has no path, and runs it.
+fn with_session(
+    rt: &(impl Files + Input + Print + AllocGlobal),
+    script: Option<&str>,
+    session: &mut Session,
+) -> Ending {
+    match script {
+        None => play(rt, rt.reader(), session),
         Some(path) => match File::open(rt, path) {
-            Ok(file) => play(rt, file, machine),
+            Ok(file) => play(rt, file, session),
             Err(error) if error.kind() == ErrorKind::OutOfMemory => Ending::Fault(
                 BenchFault::Memory,
             ),
@@ -90,8 +102,11 @@ fn with_options(rt: &(impl Files + Input + Print + AllocGlobal), options: &Optio
 }
 
 /// Runs the script. What was answered is written out whole, also where the run then stopped.
-fn play(rt: &(impl Print + AllocGlobal), script: impl Read + Drop, machine: Machine) -> Ending {
-    let mut session = Session::new(rt.alloc(), machine);
+fn play(
+    rt: &(impl Print + AllocGlobal),
+    script: impl Read + Drop,
+    session: &mut Session,
+) -> Ending {
     let Ok(mut reader) = BufReader::with_capacity(rt.alloc(), READ_AT_ONCE, script) else {
         return Ending::Fault(BenchFault::Memory);
     };
@@ -99,9 +114,7 @@ fn play(rt: &(impl Print + AllocGlobal), script: impl Read + Drop, machine: Mach
     else {
         return Ending::Fault(BenchFault::Memory);
     };
-    let ran = run(rt.alloc(), &mut reader, &mut writer, &mut session);
-    // The system takes its memory back when the program ends, all at once.
-    mem::forget(session);
+    let ran = run(rt.alloc(), &mut reader, &mut writer, session);
     if writer.flush().is_err() {
         return Ending::Fault(BenchFault::Write);
     }

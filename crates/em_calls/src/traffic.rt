@@ -55,16 +55,21 @@ pub fn course(alloc: Global, seed: u64) -> Result<()> {
         unsent: VecDeque::new(alloc),
         sent: 0,
     };
-    for _ in 0..CALLS {
-        traffic.call()?;
-    }
-    for _ in 0..CALLS {
-        traffic.finish()?;
-    }
-    traffic.check_all_came_through()
+    traffic.pass()
 }
 
 impl Traffic {
+    /// All calls of the course, and as many more as bring what still waits to its end.
+    fn pass(&mut self) -> Result<()> {
+        for _ in 0..CALLS {
+            self.call()?;
+        }
+        for _ in 0..CALLS {
+            self.finish()?;
+        }
+        self.check_all_came_through()
+    }
+
     /// One call of the driver under a random plan.
     fn call(&mut self) -> Result<()> {
         self.give()?;

@@ -4,8 +4,8 @@ ghost use Rattle.em_driver.specs.Layout.{IsPlaced};
 use crate::layout::Layout;
 use std::alloc::Global;
 
-/// A polled driver over a bus. It keeps its bus and its layout, and nothing of what it does but
-/// memory.
+/// A polled driver over a bus. It keeps its bus, its layout and the memory of one packet. Where its
+/// rings stand it reads from the device at each call.
 #[derive(Drop)]
 pub struct E1000<B> {
     pub(crate) bus: B,

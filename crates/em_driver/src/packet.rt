@@ -5,7 +5,8 @@ use std::alloc::{AllocError, Global};
 use std::mem;
 
 /// A packet of `len` octets that are still to be written, in the memory of `spare` where that is
-/// large enough: a driver that sends and receives seldom takes memory then.
+/// large enough: a driver that sends and receives seldom takes memory then. Where memory is refused,
+/// that of `spare` is let go.
 pub(crate) fn packet_of(alloc: Global, spare: &mut Vec<u8>, len: u16) -> Result<Vec<u8>, AllocError>
     ensures len { IfOk result (λ packet. vec_len packet ≡ len) }
 {

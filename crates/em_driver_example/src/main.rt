@@ -13,9 +13,8 @@ use std::alloc::{AllocError, Global};
 use std::collections::VecDeque;
 
 fn main(rt: HostRuntime) -> Result<()> {
-    // a machine on which others act between two accesses of the driver, with its link up
-    let mut machine = Settings::default().machine(rt.alloc())?;
-    machine.perform(Event::Link(true))?;
+    // a machine on which others act between two accesses of the driver
+    let machine = Settings::default().machine(rt.alloc())?;
     let bus = Turns::new(rt.alloc(), machine);
 
     // the driver resets the adapter, and makes two rings of eight descriptors with their buffers
@@ -30,13 +29,15 @@ fn main(rt: HostRuntime) -> Result<()> {
     let Ok((mut driver, events)) = E1000::start(rt.alloc(), bus, layout) else {
         bail!("the driver is not started");
     };
-    println!(rt; "started, with {events} events")?;
-
-    receive(&rt, &mut driver)
+    receive(&rt, events, &mut driver)
 }
 
-/// The driver receives a frame that comes while it is called, and is taken back.
-fn receive(rt: &(impl Print + AllocGlobal), driver: &mut E1000<Turns>) -> Result<()> {
+/// The started driver receives a frame that comes while it is called, and is taken back.
+fn receive(rt: &(impl Print + AllocGlobal), events: u32, driver: &mut E1000<Turns>) -> Result<()> {
+    println!(rt; "started, with {events} events")?;
+
+    // the link comes up, and then a frame while the driver looks for one
+    driver.bus().machine_mut().perform(Event::Link(true))?;
     let Ok(()) = driver.bus().set_plan(plan(rt.alloc())?) else {
         bail!("no memory for the plan");
     };

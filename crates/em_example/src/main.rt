@@ -1,27 +1,32 @@
 //! A driver's mistake, found by stepping back: the library by an example.
 #![tactic(auto)]
 
+use anyhow::Result;
 use bitflags::Flags;
 use em_journal::{Machine, Settings};
 use em_regs::{Causes, Reg};
 use em_step::Event;
 
-fn main(rt: HostRuntime) -> Result<(), anyhow::Error> {
+fn main(rt: HostRuntime) -> Result<()> {
     // 64 KiB of guest memory, a journal of 1 MiB, the link down
     let mut machine = Settings::default().machine(rt.alloc())?;
+    lose_an_interrupt(&rt, &mut machine)
+}
 
+/// A routine acknowledges an interrupt too early, and that write is taken back.
+fn lose_an_interrupt(rt: &impl Print, machine: &mut Machine) -> Result<()> {
     // software lets link changes through to the interrupt line, and the link comes up
     machine.perform(Event::Write(Reg::Ims.offset(), Causes::LSC.bits()))?;
     machine.perform(Event::Link(true))?;
-    println!(rt; "the link is up:          {}", line(&machine))?;
+    println!(rt; "the link is up:          {}", line(machine))?;
 
     // the routine acknowledges every cause before it asks which one it was
     machine.perform(Event::Write(Reg::Icr.offset(), u32::MAX))?;
-    println!(rt; "after the routine:       {}", line(&machine))?;
+    println!(rt; "after the routine:       {}", line(machine))?;
 
     // the newest event is taken back: it was that write that lost the cause
     machine.back()?;
-    println!(rt; "before its first access: {}", line(&machine))?;
+    println!(rt; "before its first access: {}", line(machine))?;
     Ok(())
 }
 

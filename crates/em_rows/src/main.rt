@@ -75,13 +75,30 @@ fn play(rt: &(impl Files + AllocGlobal), name: &str, printed: &mut Vec<u8>) -> R
         Ok(machine) => machine,
         Err(refusal) => return Ok(refusal.into()),
     };
-    let file = options.script.unwrap_or(SCRIPT);
+    let mut session = Session::new(alloc, machine);
+    play_script(
+        rt,
+        name,
+        options.script.unwrap_or(SCRIPT),
+        &mut session,
+        printed,
+    )
+}
+
+/// Runs a file of the row as a script.
+fn play_script(
+    rt: &(impl Files + AllocGlobal),
+    name: &str,
+    file: &str,
+    session: &mut Session,
+    printed: &mut Vec<u8>,
+) -> Result<Ending> {
+    let alloc = rt.alloc();
     let Ok(script) = fs::read(rt, format!(in alloc; "{name}/{file}")?) else {
         return Ok(Ending::Fault(BenchFault::Read));
     };
-    let mut session = Session::new(alloc, machine);
     let mut reader = script.as_slice();
-    Ok(run(alloc, &mut reader, printed, &mut session).into())
+    Ok(run(alloc, &mut reader, printed, session).into())
 }
 
 /// The words of a command line: the program's name, and the row's words.
