@@ -1,6 +1,6 @@
--- Steps back over a whole call of the driver.
+-- Steps back over whole calls of the driver, and events of others.
 use Rattle.std.proofs.Common.{◌≡◌, ◌∙◌, ℕ, zero, suc, ◌+◌, ◌≤◌, List, [], ◌∷◌, ◌++◌, length, drop, refl, sym}
-use Rattle.std.proofs.Common.{ap, subst}
+use Rattle.std.proofs.Common.{◌⊎◌, ap, subst}
 use Rattle.std.proofs.Common.{inl, inr, arith, append_assoc, append-nil, Result, Ok, Err}
 use Rattle.std.proofs.lemmas.List.{drop-drop, length-drop, take-append-drop}
 use Rattle.em_step.specs.Cost.{cost}
@@ -10,6 +10,7 @@ use Rattle.em_step.specs.Step.{step}
 use Rattle.em_step.specs.declared.event.Answer.{Answer}
 use Rattle.em_step.specs.declared.refusal.Refusal.{Refusal}
 use Rattle.em_journal.specs.View.{View, after_backs, after_event, back_to, reach, states}
+use Rattle.em_driver.specs.Back.{Leg, IsCall, IsEvent, AreLegs, after_legs, all_steps}
 use Rattle.em_driver.specs.Course.{Course, done, read, write, reset, peek, poke, room, Follows}
 use Rattle.em_driver.specs.Driven.{IsDriven}
 use Rattle.em_driver.specs.Turn.{event_of}
@@ -148,17 +149,66 @@ backs_lead : (k : ℕ) (m : View) (s : State) (rest : List State) → drop k (st
 backs_lead zero m s rest h = heads m.present s m.past rest h
 backs_lead (suc k) m s rest h = back_leads k m m.past s rest h (λ x e. backs_lead k x s rest e)
 
-pub back_to_start : {A : Type 0} (l : Layout) (course : Course A) (w v : World) (events k : ℕ) (answer : A)
-    → IsDriven l (present w) → Follows w course events answer v
-    → k + w.performed ≡ events + v.performed → k ≤ length v.machine.past
-    → ((after_backs k v.machine).present ≡ present w) × IsDriven l (after_backs k v.machine).present
-back_to_start l course w v events k answer h f count inside =
-    let b = follows_behind course w v events answer f in
-    let same : b.k ≡ k = omega (arith, b.count, count) in
-    let some = some_state (drop k (states v.machine)) (omega (arith, length-drop k (states v.machine))) in
-    let shown : states w.machine ≡ (some.0 ∷ some.1) ++ b.rest
-    = b.is ∙ ap (λ j. drop j (states v.machine) ++ b.rest) same ∙ ap (λ x. x ++ b.rest) some.2 in
-    let is : (after_backs k v.machine).present ≡ present w
-    = backs_lead k v.machine some.0 some.1 some.2
-    ∙ sym (heads w.machine.present some.0 w.machine.past (some.1 ++ b.rest) shown) in
-    (is, subst (IsDriven l) (sym is) h)
+-- ---- calls and events, one after another
+
+-- what the one view shows begins as what the other does behind its newest k states
+record IsBehind (m n : View) (k : ℕ) : Type 0 where
+  rest : List State
+  is : states m ≡ drop k (states n) ++ rest
+
+is_behind_on : (m n o : View) (a b : ℕ) → IsBehind m n a → IsBehind n o b → IsBehind m o (a + b)
+is_behind_on m n o a b h j =
+    let front = drop_front a (drop b (states o)) j.rest in
+    record {
+      rest = front.0 ++ h.rest;
+      is = h.is
+          ∙ ap (λ x. drop a x ++ h.rest) j.is
+          ∙ ap (λ x. x ++ h.rest) (front.1 ∙ ap (λ x. x ++ front.0) (drop-drop a b (states o)))
+          ∙ ap (λ k. (drop k (states o) ++ front.0) ++ h.rest) (omega arith)
+          ∙ append_assoc (drop (a + b) (states o)) front.0 h.rest;
+    }
+
+call_behind : (A : Type 0) (m : View) (leg : Leg) → IsCall A m leg → IsBehind m leg.now leg.steps
+call_behind A m leg c =
+    let b = follows_behind c.course c.before c.after c.events c.answer c.follows in
+    let same : b.k ≡ leg.steps = omega (arith, b.count, c.count) in
+    record {
+      rest = b.rest;
+      is = ap states (sym c.from) ∙ b.is ∙ ap (λ k. drop k (states c.after.machine) ++ b.rest) same
+          ∙ ap (λ n. drop leg.steps (states n) ++ b.rest) c.to;
+    }
+
+one_behind : (m : View) (leg : Leg) → IsEvent m leg → IsBehind m leg.now leg.steps
+one_behind m leg x =
+    let c : ℕ = cost m.present x.event in
+    let older : List State = drop (reach m.budget (c ∷ m.costs)) (states m) in
+    record {
+      rest = older;
+      is = event_behind m leg.now.present c ∙ ap (λ n. drop 1 (states n) ++ older) (sym x.does.1)
+          ∙ ap (λ k. drop k (states leg.now) ++ older) (sym x.count);
+    }
+
+leg_behind : (A : Type 0) (m : View) (leg : Leg) → IsCall A m leg ⊎ IsEvent m leg → IsBehind m leg.now leg.steps
+leg_behind A m leg (inl call) = call_behind A m leg call
+leg_behind A m leg (inr event) = one_behind m leg event
+
+legs_behind : (A : Type 0) (m : View) (legs : List Leg) → AreLegs A m legs
+    → IsBehind m (after_legs m legs) (all_steps legs)
+legs_behind A m [] are = record { rest = []; is = sym (append-nil (states m)) }
+legs_behind A m (leg ∷ legs) are =
+    is_behind_on m leg.now (after_legs leg.now legs) leg.steps (all_steps legs)
+    (leg_behind A m leg are.0) (legs_behind A leg.now legs are.1)
+
+pub back_to_start : (A : Type 0) (l : Layout) (m : View) (legs : List Leg) → AreLegs A m legs
+    → all_steps legs ≤ length (after_legs m legs).past
+    → ((after_backs (all_steps legs) (after_legs m legs)).present ≡ m.present)
+    × (IsDriven l m.present → IsDriven l (after_backs (all_steps legs) (after_legs m legs)).present)
+back_to_start A l m legs are inside =
+    let k : ℕ = all_steps legs in
+    let n : View = after_legs m legs in
+    let b = legs_behind A m legs are in
+    let some = some_state (drop k (states n)) (omega (arith, length-drop k (states n))) in
+    let shown : states m ≡ (some.0 ∷ some.1) ++ b.rest = b.is ∙ ap (λ x. x ++ b.rest) some.2 in
+    let is : (after_backs k n).present ≡ m.present
+    = backs_lead k n some.0 some.1 some.2 ∙ sym (heads m.present some.0 m.past (some.1 ++ b.rest) shown) in
+    (is, λ h. subst (IsDriven l) (sym is) h)

@@ -25,6 +25,7 @@ pub mod ReceiveOrderLaws
 pub mod HandLaws
 pub mod TransmitOrderLaws
 pub mod CallOrderLaws
+pub mod OthersLaws
 pub mod RunLaws
 pub mod BackLaws
 pub mod OffLaws

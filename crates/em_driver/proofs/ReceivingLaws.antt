@@ -14,9 +14,11 @@ use Rattle.em_mem.specs.Memory.{part, put}
 use Rattle.em_regs.specs.declared.reg.Reg.{Reg}
 use Rattle.em_regs.specs.declared.reg.Reg.TheVariants.{Ctrl, Rctl, Rdbal, Rdbah, Rdlen, Rdh, Rdt}
 use Rattle.em_regs.specs.RegFile as registers
+use Rattle.std.specs.FinMap as map
+use Rattle.em_regs.proofs.Entries.{at-insert_other}
 use Rattle.em_regs.specs.Setup.{value_of, pair, rx_setup, buffer_size}
 use Rattle.em_regs.specs.Storage.{Registers}
-use Rattle.em_regs.specs.Table.{offset_of}
+use Rattle.em_regs.specs.Table.{mask_of, offset_of}
 use Rattle.em_filter.specs.Bits.{lpe, vme}
 use Rattle.em_rx.specs.Frame.{Frame}
 use Rattle.em_rx.specs.Receive as rx
@@ -99,19 +101,25 @@ pair_by : (m n : Registers) → value_of n Rdbah ≡ value_of m Rdbah → value_
     → pair n Rdbah Rdbal ≡ pair m Rdbah Rdbal
 pair_by m n high low = λ i. high i * 0x1_0000_0000 + low i
 
+-- a word at another offset
+pub word_rx : (m : Registers) (o v : ℕ) → NotReceiving o → SameRx m (map.insert m o v)
+word_rx m o v out =
+    let kept = λ (reg : Reg) (other : offset_of reg ≢ o). at-insert_other m o v (offset_of reg) other in
+    record {
+      setup = record {
+        rctl = kept Rctl (λ e. out.rctl (sym e));
+        base = pair_by m (map.insert m o v) (kept Rdbah (λ e. omega (arith, out.ring)))
+            (kept Rdbal (λ e. omega (arith, out.ring)));
+        len = kept Rdlen (λ e. omega (arith, out.ring));
+        vme = vme_by m (map.insert m o v) (kept Ctrl (λ e. out.ctrl (sym e)));
+      };
+      head = kept Rdh (λ e. omega (arith, out.ring));
+      tail = kept Rdt (λ e. omega (arith, out.ring));
+    }
+
 -- a write of another register
 pub other_rx : (m : Registers) (reg : Reg) (v : ℕ) → NotReceiving (offset_of reg) → SameRx m (registers.put m reg v)
-other_rx m reg v out = record {
-  setup = record {
-    rctl = put_other m reg Rctl v (λ e. out.rctl (sym e));
-    base = pair_by m (registers.put m reg v) (put_other m reg Rdbah v (λ e. omega (arith, out.ring)))
-        (put_other m reg Rdbal v (λ e. omega (arith, out.ring)));
-    len = put_other m reg Rdlen v (λ e. omega (arith, out.ring));
-    vme = vme_by m (registers.put m reg v) (put_other m reg Ctrl v (λ e. out.ctrl (sym e)));
-  };
-  head = put_other m reg Rdh v (λ e. omega (arith, out.ring));
-  tail = put_other m reg Rdt v (λ e. omega (arith, out.ring));
-}
+other_rx m reg v out = word_rx m (offset_of reg) (bit_and v (mask_of reg)) out
 
 -- an index is kept whole
 pub index_kept : (m : Registers) (reg : Reg) (v : ℕ) → value_of (registers.put m reg v) reg ≡ bit_and v 0xFFFF

@@ -1,20 +1,21 @@
--- Calls of a driver and turns of other actors, one after another.
+-- Calls of a driver and events of others, one after another.
 use Rattle.std.proofs.Common.{◌≡◌, ◌∙◌, ℕ, List, [], ◌∷◌, ◌++◌, map, sym, ap, append_assoc, append-nil, Ok}
 use Rattle.std.proofs.lemmas.List.{append_cancel_left, map-append}
+use Rattle.em_step.specs.Event.{Event}
 use Rattle.em_step.specs.State.{State}
 use Rattle.em_step.specs.Step.{step}
 use Rattle.em_step.specs.Whole.{padded}
 use Rattle.em_step.specs.declared.event.Answer.{Answer}
 use Rattle.em_driver.specs.Driven.{IsDriven}
 use Rattle.em_driver.specs.Order.{InOrder, queued, waiting}
+use Rattle.em_driver.specs.Others.{IsOthers}
 use Rattle.em_driver.specs.Spans.{Span, IsSpan, AreSpans, all_stored, all_handed, all_taken, all_sent, after_spans}
 use Rattle.em_driver.specs.Spans.{IsPrefix}
 use Rattle.em_driver.specs.Started.{StartsInOrder}
-use Rattle.em_driver.specs.Turn.{event_of, stored_by}
+use Rattle.em_driver.specs.Turn.{stored_in}
 use Rattle.em_driver.specs.World.{World, present}
 use Rattle.em_driver.specs.declared.layout.Layout.{Layout}
-use Rattle.em_driver.specs.declared.turn.Turn.{Turn}
-use Rattle.em_driver.proofs.TurnLaws.{turn_moves}
+use Rattle.em_driver.proofs.OthersLaws.{others_move}
 
 -- ---- the spans
 
@@ -24,12 +25,13 @@ pub call_span : (l : Layout) (w v : World) (handed taken : List (List ℕ)) (h :
     (record { stored = h.stored; handed = handed; taken = taken; sent = h.sent; now = present v })
 call_span l w v handed taken h = record { receive = h.receive; transmit = h.transmit; is_sent = h.is_sent }
 
--- so is a turn
-pub turn_span : (l : Layout) (s : State) (t : Turn) (r : Answer × State) → IsDriven l s → step s (event_of t) ≡ Ok r
+-- so is an event of others
+pub event_span : (l : Layout) (s : State) (e : Event) (r : Answer × State) → IsDriven l s → IsOthers l e
+    → step s e ≡ Ok r
     → (sent : List (List ℕ))
-    × IsSpan l s (record { stored = stored_by t r.0; handed = []; taken = []; sent = sent; now = r.1 })
-turn_span l s t r h is =
-    let m = turn_moves l s t r h.but is in (
+    × IsSpan l s (record { stored = stored_in e r.0; handed = []; taken = []; sent = sent; now = r.1 })
+event_span l s e r h out is =
+    let m = others_move l s e r h.but out is in (
       m.sending.sent,
       record {
         receive = sym m.receiving.waiting;

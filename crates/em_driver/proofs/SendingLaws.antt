@@ -12,9 +12,11 @@ use Rattle.em_mem.specs.Memory.{part, put}
 use Rattle.em_regs.specs.declared.reg.Reg.{Reg}
 use Rattle.em_regs.specs.declared.reg.Reg.TheVariants.{Ctrl, Vet, Tctl, Tdbal, Tdbah, Tdlen, Tdh, Tdt}
 use Rattle.em_regs.specs.RegFile as registers
+use Rattle.std.specs.FinMap as map
+use Rattle.em_regs.proofs.Entries.{at-insert_other}
 use Rattle.em_regs.specs.Setup.{value_of, pair, tx_setup}
 use Rattle.em_regs.specs.Storage.{Registers}
-use Rattle.em_regs.specs.Table.{offset_of}
+use Rattle.em_regs.specs.Table.{mask_of, offset_of}
 use Rattle.em_filter.specs.Bits.{vme}
 use Rattle.em_tx.specs.Descriptor as tx_descriptors
 use Rattle.em_tx.specs.Ring as tx
@@ -74,19 +76,25 @@ pair_by : (m n : Registers) → value_of n Tdbah ≡ value_of m Tdbah → value_
     → pair n Tdbah Tdbal ≡ pair m Tdbah Tdbal
 pair_by m n high low = λ i. high i * 0x1_0000_0000 + low i
 
+-- a word at another offset
+pub word_tx : (m : Registers) (o v : ℕ) → NotSending o → SameTx m (map.insert m o v)
+word_tx m o v out =
+    let kept = λ (reg : Reg) (other : offset_of reg ≢ o). at-insert_other m o v (offset_of reg) other in
+    record {
+      setup = record {
+        tctl = kept Tctl (λ e. out.tctl (sym e));
+        base = pair_by m (map.insert m o v) (kept Tdbah (λ e. omega (arith, out.ring)))
+            (kept Tdbal (λ e. omega (arith, out.ring)));
+        len = kept Tdlen (λ e. omega (arith, out.ring));
+        vme = vme_by m (map.insert m o v) (kept Ctrl (λ e. out.ctrl (sym e)));
+      };
+      head = kept Tdh (λ e. omega (arith, out.ring));
+      tail = kept Tdt (λ e. omega (arith, out.ring));
+    }
+
 -- a write of another register
 pub other_tx : (m : Registers) (reg : Reg) (v : ℕ) → NotSending (offset_of reg) → SameTx m (registers.put m reg v)
-other_tx m reg v out = record {
-  setup = record {
-    tctl = put_other m reg Tctl v (λ e. out.tctl (sym e));
-    base = pair_by m (registers.put m reg v) (put_other m reg Tdbah v (λ e. omega (arith, out.ring)))
-        (put_other m reg Tdbal v (λ e. omega (arith, out.ring)));
-    len = put_other m reg Tdlen v (λ e. omega (arith, out.ring));
-    vme = vme_by m (registers.put m reg v) (put_other m reg Ctrl v (λ e. out.ctrl (sym e)));
-  };
-  head = put_other m reg Tdh v (λ e. omega (arith, out.ring));
-  tail = put_other m reg Tdt v (λ e. omega (arith, out.ring));
-}
+other_tx m reg v out = word_tx m (offset_of reg) (bit_and v (mask_of reg)) out
 
 pub setup_tdh : (m : Registers) (v : ℕ) → SameTxSetup m (registers.put m Tdh v)
 setup_tdh m v = record {

@@ -4,6 +4,7 @@ use Rattle.std.proofs.Common.{subst}
 use Rattle.std.proofs.Common.{append-nil, if◌then◌else◌, inl, inr, arith, Ok}
 use Rattle.em_regs.specs.declared.reg.Reg.TheVariants.{Rdh, Tdh}
 use Rattle.em_regs.specs.RegFile as registers
+use Rattle.std.specs.FinMap as map
 use Rattle.em_regs.specs.Setup.{rx_setup, tx_setup}
 use Rattle.em_rx.specs.Frame.{Frame}
 use Rattle.em_rx.specs.Receive as rx
@@ -25,11 +26,11 @@ use Rattle.em_driver.specs.declared.layout.Layout.{Layout}
 use Rattle.em_driver.specs.declared.turn.Turn.{Turn}
 use Rattle.em_driver.specs.declared.turn.Turn.TheVariants.{Arrive, RxStep, TxStep}
 use Rattle.em_driver.proofs.ReceivingLaws.{RxMoves, rx_moves_on, rx_kept, rx_same, same_ring, same_rx, other_rx}
-use Rattle.em_driver.proofs.ReceivingLaws.{rx_writes, fills}
+use Rattle.em_driver.proofs.ReceivingLaws.{rx_writes, fills, word_rx, NotReceiving}
 use Rattle.em_driver.proofs.ReceivingLaws.{moves_fill, buffer_whole, no_long_frames, SameRx}
 use Rattle.em_driver.proofs.SendingLaws.{TxMoves, tx_moves_on, SameTxRing, tx_same, same_tx_ring, same_tx, other_tx}
 use Rattle.em_driver.proofs.SendingLaws.{sends, moves_send, is_whole}
-use Rattle.em_driver.proofs.SendingLaws.{no_tags, pads, SameTx}
+use Rattle.em_driver.proofs.SendingLaws.{no_tags, pads, SameTx, word_tx, NotSending}
 use Rattle.em_driver.proofs.UnitLaws.{rx_ring, rx_buffers, tx_ring, tx_buffers}
 
 -- what a turn leaves, and the packets that it added to what waits
@@ -52,6 +53,17 @@ moves_same l s t h regs memory fifo gathered wire = record {
 
 pub moves_none : (l : Layout) (s : State) → IsDrivenBut l s → Moves l s s []
 moves_none l s h = moves_same l s s h refl refl refl refl refl
+
+-- a word of the registers that neither side goes by
+pub moves_word : (l : Layout) (s : State) (o v : ℕ) → IsDrivenBut l s → NotReceiving o → NotSending o
+    → Moves l s (record s { registers = map.insert s.registers o v }) []
+moves_word l s o v h rx tx =
+    let t : State = record s { registers = map.insert s.registers o v } in
+    record {
+      layout = laid_same l s t refl h.layout;
+      receiving = rx_same l s t h.receiving (same_ring l s t (word_rx s.registers o v rx) refl) refl;
+      sending = tx_same l s t h.sending (same_tx_ring l s t (word_tx s.registers o v tx) refl refl refl);
+    }
 
 -- ---- arrivals and receive steps
 
@@ -180,25 +192,10 @@ moves_on l s t u a b h k = record {
 
 -- ---- the link
 
-link_moves : (l : Layout) (s : State) (up b : Bool) → IsDrivenBut l s
+link_by : (l : Layout) (s : State) (up b : Bool) → IsDrivenBut l s
     → Moves l s (if b then record s { link = up; latches = after_raise s.latches 0x4 } else s) []
-link_moves l s up true h = moves_same l s _ h refl refl refl refl refl
-link_moves l s up false h = moves_none l s h
+link_by l s up true h = moves_same l s _ h refl refl refl refl refl
+link_by l s up false h = moves_none l s h
 
-abbrev wire_of : State → List (List ℕ)
-wire_of s = s.wire
-
-link_queued : (l : Layout) (s : State) (up b : Bool)
-    → (queued l (if b then record s { link = up; latches = after_raise s.latches 0x4 } else s) ≡ queued l s)
-    × (wire_of (if b then record s { link = up; latches = after_raise s.latches 0x4 } else s) ≡ s.wire)
-link_queued l s up true = (refl, refl)
-link_queued l s up false = (refl, refl)
-
-pub link_driven : (l : Layout) (s : State) (up : Bool) → IsDriven l s
-    → IsDriven l (after_link s up) × (waiting l (after_link s up) ≡ waiting l s)
-    × (queued l (after_link s up) ≡ queued l s) × ((after_link s up).wire ≡ s.wire)
-link_driven l s up h =
-    let b : Bool = differ up s.link in
-    let m : Moves l s (after_link s up) [] = link_moves l s up b h.but in
-    let same = link_queued l s up b in
-    (driven_moves l s (after_link s up) [] m h, m.receiving.waiting ∙ append-nil (waiting l s), same.0, same.1)
+pub moves_link : (l : Layout) (s : State) (up : Bool) → IsDrivenBut l s → Moves l s (after_link s up) []
+moves_link l s up h = link_by l s up (differ up s.link) h

@@ -8,6 +8,7 @@ use Rattle.std.proofs.lemmas.List.{take-take, drop-drop, take-append-drop, take_
 use Rattle.em_mem.specs.Memory.{IsHeld, part, put}
 use Rattle.em_mem.proofs.PutLaws.{drop_past-put, length-part, length-put, put_left, put_right}
 use Rattle.em_driver.specs.Layout.{Apart, IsDisjoint, IsGoodLayout, IsInside}
+use Rattle.em_driver.specs.Others.{IsNoDriverMemory}
 use Rattle.em_driver.specs.declared.layout.Layout.{Layout}
 
 -- ---- parts of a list
@@ -165,7 +166,25 @@ unit_apart l m good k k' i j o d a b inside two =
     part_apart m (unit_at l k i) (size_of k) (unit_at l k' j + o) d (omega arith)
     (part_of_apart _ _ _ _ o (length d) (units_apart l good.disjoint k k' i j a b two) inside)
 
--- and is a write to that one
+-- so does a write to memory that is none of the driver's
+outside : (a n b m x u : ℕ) → Apart a n b m → x + u ≤ m → Apart (b + x) u a n
+outside a n b m x u (inl h) p = inr (omega arith)
+outside a n b m x u (inr h) p = inl (omega arith)
+
+unit_free : (l : Layout) (a n : ℕ) → IsNoDriverMemory l a n → (k : Region) (i : ℕ) → i < count_of l k
+    → Apart (unit_at l k i) (size_of k) a n
+unit_free l a n h rx_ring i low = outside a n _ _ (16 * i) 16 h.rx_ring (omega arith)
+unit_free l a n h rx_buffers i low = outside a n _ _ (2048 * i) 2048 h.rx_buffers (omega arith)
+unit_free l a n h tx_ring i low = outside a n _ _ (16 * i) 16 h.tx_ring (omega arith)
+unit_free l a n h tx_buffers i low = outside a n _ _ (2048 * i) 2048 h.tx_buffers (omega arith)
+
+pub unit_outside : (l : Layout) (m : List ℕ) (a : ℕ) (d : List ℕ) → IsHeld m a (length d)
+    → IsNoDriverMemory l a (length d) → (k : Region) (i : ℕ) → i < count_of l k
+    → unit l (put m a d) k i ≡ unit l m k i
+unit_outside l m a d held h k i low =
+    part_apart m (unit_at l k i) (size_of k) a d held (unit_free l a (length d) h k i low)
+
+-- a write to a unit is a write to what it holds
 pub unit_within : (l : Layout) (m : List ℕ) → IsGoodLayout (length m) l → (k : Region) (j o : ℕ) (d : List ℕ)
     → j < count_of l k → o + length d ≤ size_of k
     → unit l (put m (unit_at l k j + o) d) k j ≡ put (unit l m k j) o d

@@ -4,13 +4,13 @@ use Rattle.std.proofs.Common.{◌++◌}
 use Rattle.std.proofs.Common.{length, map, refl, sym, ap, subst, inl, inr, arith, append_assoc, append-nil, Option}
 use Rattle.std.proofs.Common.{Some, None}
 use Rattle.std.proofs.Common.{Result, Ok, Err, if◌then◌else◌}
-use Rattle.std.specs.Prelude.{nat_lt}
+use Rattle.std.specs.Prelude.{nat_lt, bit_and}
 use Rattle.std.proofs.lemmas.List.{map-append}
 use Rattle.std.proofs.lemmas.Bool.Decides.{nat_tests}
 use Rattle.em_mem.specs.Memory.{put}
 use Rattle.em_regs.specs.declared.reg.Reg.{Reg}
 use Rattle.em_regs.specs.RegFile as registers
-use Rattle.em_regs.specs.Table.{offset_of, reg_at}
+use Rattle.em_regs.specs.Table.{mask_of, offset_of, reg_at}
 use Rattle.em_latch.specs.Latches as latches
 use Rattle.em_latch.specs.Latches.{is_latched}
 use Rattle.em_step.specs.Access.{after_read, after_write, gives}
@@ -27,11 +27,11 @@ use Rattle.em_driver.specs.Order.{InOrder, queued, waiting}
 use Rattle.em_driver.specs.Turn.{stored_by}
 use Rattle.em_driver.specs.World.{World, Accesses, Passes, present}
 use Rattle.em_driver.specs.declared.layout.Layout.{Layout}
-use Rattle.em_driver.proofs.ReceivingLaws.{NotReceiving, other_rx, rx_same, same_ring}
-use Rattle.em_driver.proofs.SendingLaws.{NotSending, other_tx, same_tx_ring, tx_same}
+use Rattle.em_driver.proofs.ReceivingLaws.{NotReceiving}
+use Rattle.em_driver.proofs.SendingLaws.{NotSending}
 use Rattle.em_driver.proofs.StageLaws.{At, IsClosed, passed_at, stored_same}
 use Rattle.em_driver.proofs.TurnLaws.{laid_same, Moves, moves_none, moves_on, moves_same, turn_moves, but_moves}
-use Rattle.em_driver.proofs.TurnLaws.{driven_moves}
+use Rattle.em_driver.proofs.TurnLaws.{driven_moves, moves_word}
 
 -- ---- turns
 
@@ -218,11 +218,7 @@ order_write l w v reg value rx tx there stored by h a =
     let s = present a.mid in
     let but = passed_but l w a.mid p in
     let u : State = record s { registers = registers.put s.registers reg value } in
-    let moves : Moves l s u [] = record {
-      layout = laid_same l s u refl but.layout;
-      receiving = rx_same l s u but.receiving (same_ring l s u (other_rx s.registers reg value rx) refl) refl;
-      sending = tx_same l s u but.sending (same_tx_ring l s u (other_tx s.registers reg value tx) refl refl refl);
-    } in
+    let moves : Moves l s u [] = moves_word l s (offset_of reg) (bit_and value (mask_of reg)) but rx tx in
     order_moved l w a.mid v h p
     (subst (λ x. Moves l s x [])
     (sym (written s (present v) (offset_of reg) reg value there stored by a.does.0)) moves)

@@ -20,4 +20,6 @@ pub mod Driven
 pub mod Order
 pub mod Off
 pub mod Spans
+pub mod Others
+pub mod Back
 pub mod Started

@@ -13,10 +13,14 @@ event_of (Arrive f) = arrives f
 event_of RxStep = receives
 event_of TxStep = transmits
 
--- the frames that it stored, by its answer
+-- the frames that an event stored, by its answer
+abbrev pub stored_in : Event → Answer → List (List ℕ)
+stored_in (arrives f) Stored = f ∷ []
+stored_in e answer = []
+
+-- and those that a turn stored
 abbrev pub stored_by : Turn → Answer → List (List ℕ)
-stored_by (Arrive f) Stored = f ∷ []
-stored_by t answer = []
+stored_by t answer = stored_in (event_of t) answer
 
 -- ---- how many there are
 

@@ -1,19 +1,21 @@
 //! What the definitions of a driver's calls say together.
-ghost use Rattle.std.specs.Prelude.{◌≡◌, ◌+◌, ◌≤◌, ◌++◌, ℕ, Bool, false, List, [], length, map, Ok, ⊤};
+ghost use Rattle.std.specs.Prelude.{◌≡◌, ◌≢◌, ◌+◌, ◌≤◌, ◌++◌, ℕ, Bool, false, List, [], length, map, Ok, ⊤};
 ghost use Rattle.em_journal.specs.History.{Call, Run};
+ghost use Rattle.em_step.specs.Event.{Event, transmits};
 ghost use Rattle.em_step.specs.State.{State};
 ghost use Rattle.em_step.specs.Step.{step};
 ghost use Rattle.em_step.specs.declared.event.Answer.{Answer};
-ghost use Rattle.em_journal.specs.View.{after_backs};
-ghost use Rattle.em_step.specs.Access.{after_link};
+ghost use Rattle.em_journal.specs.View.{View, after_backs};
 ghost use Rattle.em_step.specs.Whole.{padded};
 ghost use Rattle.em_driver.specs.World.{World, present};
 ghost use Rattle.em_driver.specs.Spans.{Span, IsSpan, AreSpans, IsPrefix, after_spans};
 ghost use Rattle.em_driver.specs.Spans.{all_handed, all_sent, all_stored, all_taken};
+ghost use Rattle.em_driver.specs.Back.{Leg, AreLegs, after_legs, all_steps};
+ghost use Rattle.em_driver.specs.Others.{IsOthers};
 ghost use Rattle.em_driver.specs.Driven.{IsDriven, IsDrivenBut};
 ghost use Rattle.em_driver.specs.Off.{IsOff, Rests};
 ghost use Rattle.em_driver.specs.Started.{StartsInOrder};
-ghost use Rattle.em_driver.specs.Turn.{event_of, stored_by};
+ghost use Rattle.em_driver.specs.Turn.{event_of, stored_by, stored_in};
 ghost use Rattle.em_driver.specs.Order.{InOrder, queued, waiting};
 ghost use Rattle.em_driver.specs.declared.turn.Turn.{Turn};
 ghost use Rattle.em_driver.specs.Course.{Course, Follows};
@@ -75,18 +77,24 @@ pub fn calls_tell_of_memory()
     ensures read_stats { (says : DeviceStats → Bool) (counted : DeviceStats) → Tells says (read_stats counted) }
 {}
 
-/// The law of one turn: from a state as a driver keeps it, but for the status octet of descriptor
-/// RDT + 1 at most, an arrival, a receive step or a transmit step leads to another such state, adds
-/// to what waits what it stored, and leaves the wire with what is queued as it is.
-pub fn one_turn()
-    ensures kept { (l : Layout) (s : State) (t : Turn) (r : Answer × State)
-        → IsDrivenBut l s → step s (event_of t) ≡ Ok r → IsDrivenBut l r.1 }
-    ensures driven { (l : Layout) (s : State) (t : Turn) (r : Answer × State)
-        → IsDriven l s → step s (event_of t) ≡ Ok r → IsDriven l r.1 }
-    ensures receive { (l : Layout) (s : State) (t : Turn) (r : Answer × State)
-        → IsDrivenBut l s → step s (event_of t) ≡ Ok r → waiting l r.1 ≡ waiting l s ++ stored_by t r.0 }
-    ensures transmit { (l : Layout) (s : State) (t : Turn) (r : Answer × State)
-        → IsDrivenBut l s → step s (event_of t) ≡ Ok r → r.1.wire ++ queued l r.1 ≡ s.wire ++ queued l s }
+/// The law of one event of others, which writes none of the driver's registers and none of its memory:
+/// from a state as a driver keeps it, but for the status octet of descriptor RDT + 1 at most, it leads
+/// to another such state and adds to what waits what it stored. What is queued and what is on the wire
+/// is as before, but that a transmit step may send.
+pub fn one_event_of_others()
+    ensures kept { (l : Layout) (s : State) (e : Event) (r : Answer × State)
+        → IsDrivenBut l s → IsOthers l e → step s e ≡ Ok r → IsDrivenBut l r.1 }
+    ensures driven { (l : Layout) (s : State) (e : Event) (r : Answer × State)
+        → IsDriven l s → IsOthers l e → step s e ≡ Ok r → IsDriven l r.1 }
+    ensures receive { (l : Layout) (s : State) (e : Event) (r : Answer × State)
+        → IsDrivenBut l s → IsOthers l e → step s e ≡ Ok r → waiting l r.1 ≡ waiting l s ++ stored_in e r.0 }
+    ensures transmit { (l : Layout) (s : State) (e : Event) (r : Answer × State)
+        → IsDrivenBut l s → IsOthers l e → step s e ≡ Ok r → r.1.wire ++ queued l r.1 ≡ s.wire ++ queued l s }
+    ensures rest { (l : Layout) (s : State) (e : Event) (r : Answer × State)
+        → IsDrivenBut l s → IsOthers l e → step s e ≡ Ok r → e ≢ transmits
+        → (r.1.wire ≡ s.wire) × (queued l r.1 ≡ queued l s) }
+    // the turns of a plan are such events
+    ensures turns { (l : Layout) (t : Turn) → IsOthers l (event_of t) }
 {}
 
 /// Before a start enables the device no turn moves anything: an arrival is dropped, and both engines
@@ -96,19 +104,20 @@ pub fn a_device_that_is_off_rests()
         → Rests s r.1 × (stored_by t r.0 ≡ []) }
 {}
 
-/// The law of the run, over every list of a driver's calls and of other actors' turns between them:
-/// the packets handed out are a prefix of the frames stored since a moment when those that wait were
-/// stored, and the frames sent are a prefix of the packets taken, padded, since a moment when none
-/// was queued. Each call that is in order is a span of such a list, and so is each turn. After a
-/// start these are the frames stored since its reset, and all the packets taken.
+/// The law of the run, over every list of a driver's calls and of other actors' events between them,
+/// whatever these are, as long as they write none of the driver's registers and none of its memory: the
+/// packets handed out are a prefix of the frames stored since a moment when those that wait were stored,
+/// and the frames sent are a prefix of the packets taken, padded, since a moment when none was queued.
+/// Each call that is in order is a span of such a list, and so is each event. After a start these are
+/// the frames stored since its reset, and all the packets taken.
 pub fn packets_in_order()
     ensures calls { (l : Layout) (w v : World) (handed taken : List (List ℕ)) (h : InOrder l w v handed taken)
         → IsSpan l (present w)
         (record { stored = h.stored; handed = handed; taken = taken; sent = h.sent; now = present v }) }
-    ensures turns { (l : Layout) (s : State) (t : Turn) (r : Answer × State)
-        → IsDriven l s → step s (event_of t) ≡ Ok r
+    ensures events { (l : Layout) (s : State) (e : Event) (r : Answer × State)
+        → IsDriven l s → IsOthers l e → step s e ≡ Ok r
         → (sent : List (List ℕ))
-        × IsSpan l s (record { stored = stored_by t r.0; handed = []; taken = []; sent = sent; now = r.1 }) }
+        × IsSpan l s (record { stored = stored_in e r.0; handed = []; taken = []; sent = sent; now = r.1 }) }
     ensures received { (l : Layout) (s : State) (spans : List Span) (before : List (List ℕ))
         → waiting l s ≡ before → AreSpans l s spans → IsPrefix (all_handed spans) (before ++ all_stored spans) }
     ensures sent { (l : Layout) (s : State) (spans : List Span)
@@ -121,19 +130,12 @@ pub fn packets_in_order()
         × IsPrefix (all_sent spans) (map padded (all_taken spans)) }
 {}
 
-/// The link goes up or down between two calls: a driven state stays so, with what waits, what is
-/// queued and what is on the wire.
-pub fn links_change_between_calls()
-    ensures { (l : Layout) (s : State) (up : Bool) → IsDriven l s
-        → IsDriven l (after_link s up) × (waiting l (after_link s up) ≡ waiting l s)
-        × (queued l (after_link s up) ≡ queued l s) × ((after_link s up).wire ≡ s.wire) }
-{}
-
-/// Steps back over a whole call, its own events and the turns before its accesses, lead to the state
-/// that it began in: from there the equations start again.
+/// Steps back over any list of calls and events, each call with the turns before its accesses, lead to
+/// the state that the first of them began in. So steps back that end where some call began lead to the
+/// state of that moment, which is driven if it was, and the equations start again from there.
 pub fn steps_back_start_again<A>()
-    ensures { (l : Layout) (course : Course A) (w v : World) (events k : ℕ) (answer : A)
-        → IsDriven l (present w) → Follows w course events answer v
-        → k + w.performed ≡ events + v.performed → k ≤ length v.machine.past
-        → ((after_backs k v.machine).present ≡ present w) × IsDriven l (after_backs k v.machine).present }
+    ensures { (l : Layout) (m : View) (legs : List Leg)
+        → AreLegs A m legs → all_steps legs ≤ length (after_legs m legs).past
+        → ((after_backs (all_steps legs) (after_legs m legs)).present ≡ m.present)
+        × (IsDriven l m.present → IsDriven l (after_backs (all_steps legs) (after_legs m legs)).present) }
 {}

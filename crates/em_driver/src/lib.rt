@@ -32,8 +32,8 @@ pub use driver::E1000;
 pub use frame::Frame;
 pub use laws::{
     a_call_happens, a_call_is_a_run, a_device_that_is_off_rests, a_fed_call_is_played,
-    answers_are_put_otherwise, calls_tell_of_memory, links_change_between_calls, one_turn,
-    packets_in_order, steps_back_start_again,
+    answers_are_put_otherwise, calls_tell_of_memory, one_event_of_others, packets_in_order,
+    steps_back_start_again,
 };
 pub use layout::Layout;
 pub use outcome::{Batch, Cause, StartRefused, Stopped};

@@ -1,11 +1,11 @@
-use Rattle.em_driver.proofs.RunLaws.{call_span, turn_span, handed_prefix, sent_prefix, wire_grows, started_prefix}
+use Rattle.em_driver.proofs.RunLaws.{call_span, event_span, handed_prefix, sent_prefix, wire_grows, started_prefix}
 use Rattle.em_driver.proofs.laws.packets_in_order.Goals as goal
 
 pub returns-clause-calls : goal.returns-clause-calls
 returns-clause-calls c = call_span
 
-pub returns-clause-turns : goal.returns-clause-turns
-returns-clause-turns c = turn_span
+pub returns-clause-events : goal.returns-clause-events
+returns-clause-events c = event_span
 
 pub returns-clause-received : goal.returns-clause-received
 returns-clause-received c = handed_prefix
