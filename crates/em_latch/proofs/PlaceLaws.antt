@@ -12,6 +12,7 @@ use Rattle.em_regs.specs.Storage.{Registers, words_at}
 use Rattle.em_regs.specs.RegFile.{at}
 use Rattle.em_regs.proofs.Words.{distinct, zeros, IsPlace, word_is, word_set}
 use Rattle.em_regs.proofs.PlaceLaws.{chosen}
+use Rattle.em_latch.specs.declared.undo.TheConstants.{WORDS}
 use Rattle.em_latch.specs.Storage.{offsets}
 use Rattle.em_latch.specs.Latches.{is_word, IsWord, fresh}
 
@@ -19,11 +20,11 @@ pub distinct-offsets : distinct offsets ≡ true
 unfolding offsets
 distinct-offsets = refl
 
-pub length-offsets : length offsets ≡ 28
+pub length-offsets : length offsets ≡ WORDS
 unfolding offsets
 length-offsets = refl
 
-pub fresh_is : fresh ≡ words_at offsets (zeros 28)
+pub fresh_is : fresh ≡ words_at offsets (zeros WORDS)
 unfolding fresh
 fresh_is = ap (λ n. words_at offsets (zeros n)) length-offsets
 
@@ -34,21 +35,21 @@ word_place Ims = 1
 word_place reg = 2 + (row_of reg).place
 
 abbrev pub placed : Reg → Bool
-placed reg = not (is_word reg) || (nat_lt (word_place reg) 28 && get_or offsets (word_place reg) 0 == offset_of reg)
+placed reg = not (is_word reg) || (nat_lt (word_place reg) WORDS && get_or offsets (word_place reg) 0 == offset_of reg)
 
 each_placed : (reg : Reg) → placed reg ≡ true
 unfolding offsets
 each_placed Ctrl = refl
 each_placed _ = refl
 
-both : (reg : Reg) → IsWord reg → (nat_lt (word_place reg) 28 ≡ true) ×
+both : (reg : Reg) → IsWord reg → (nat_lt (word_place reg) WORDS ≡ true) ×
     ((get_or offsets (word_place reg) 0 == offset_of reg) ≡ true)
 both reg h =
-    and_parts (nat_lt (word_place reg) 28) (get_or offsets (word_place reg) 0 == offset_of reg)
+    and_parts (nat_lt (word_place reg) WORDS) (get_or offsets (word_place reg) 0 == offset_of reg)
     (chosen (is_word reg) _ h (each_placed reg))
 
-pub place_within : (reg : Reg) → IsWord reg → word_place reg < 28
-place_within reg h = let t : nat_lt (word_place reg) 28 ≡ true = (both reg h).0 in grind (arith, nat_tests, t)
+pub place_within : (reg : Reg) → IsWord reg → word_place reg < WORDS
+place_within reg h = let t : nat_lt (word_place reg) WORDS ≡ true = (both reg h).0 in grind (arith, nat_tests, t)
 
 pub place_is : (reg : Reg) → IsWord reg → get_or offsets (word_place reg) 0 ≡ offset_of reg
 place_is reg h = eqb-true _ _ (both reg h).1
@@ -61,7 +62,7 @@ counter_place Ctrl n i = refl
 counter_place _ n i = refl
 
 -- a place of the latches
-pub is_place : (ws : List ℕ) (m : Registers) (i : ℕ) → i < 28 → length ws ≡ 28 → words_at offsets ws ≡ m
+pub is_place : (ws : List ℕ) (m : Registers) (i : ℕ) → i < WORDS → length ws ≡ WORDS → words_at offsets ws ≡ m
     → IsPlace offsets ws m i (get_or offsets i 0)
 is_place ws m i h size is = record {
   differ = distinct-offsets;
@@ -72,7 +73,7 @@ is_place ws m i h size is = record {
 }
 
 -- what the map holds at the offset of a place
-pub at_place : (ws : List ℕ) (m : Registers) (i : ℕ) → i < 28 → length ws ≡ 28 → words_at offsets ws ≡ m
+pub at_place : (ws : List ℕ) (m : Registers) (i : ℕ) → i < WORDS → length ws ≡ WORDS → words_at offsets ws ≡ m
     → at m (get_or offsets i 0) ≡ get_or ws i 0
 at_place ws m i h size is = ap (λ x. unwrap_or x 0) (word_is (is_place ws m i h size is))
 
@@ -82,7 +83,7 @@ pub record Swaps (old : Registers) (words : List ℕ) (i v w : ℕ) : Type 0 whe
   pub was : map.get old (get_or offsets i 0) ≡ Some w
   pub now : words_at offsets words ≡ map.insert old (get_or offsets i 0) v
 
-pub swaps : {old : Registers} {words : List ℕ} {i v w : ℕ} (ws : List ℕ) → i < 28 → length ws ≡ 28
+pub swaps : {old : Registers} {words : List ℕ} {i v w : ℕ} (ws : List ℕ) → i < WORDS → length ws ≡ WORDS
     → words_at offsets ws ≡ old
     → get_or ws i 0 ≡ w → words ≡ set ws i v → Swaps old words i v w
 swaps {old} {words} {i} {v} {w} ws h size is was now =

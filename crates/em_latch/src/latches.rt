@@ -25,8 +25,8 @@ const MASK: u8 = 1;
 
 const COUNTERS: u8 = 2;
 
-/// What the high half of a pair counts in.
-const HALF: u64 = 0x1_0000_0000;
+/// How many values a word has: what the high half of a pair counts in.
+const WORD_RANGE: u64 = 0x1_0000_0000;
 
 /// The interrupt registers and the counters (manual, chapter on register descriptions).
 #[derive(Drop)]
@@ -128,11 +128,35 @@ impl Latches {
         undo
     }
 
-    // What a frame does to the latches goes into one record: each change adds its old words to it.
-
     /// Sets causes in ICR.
     #[inline(always)]
-    pub fn raise(&mut self, causes: u32, undo: &mut LatchUndo)
+    pub fn raise(&mut self, causes: u32) -> LatchUndo
+        ensures state { self.new ≡ after_raise self.old causes }
+        ensures words { length result ≡ 1 }
+        ensures reverses { Reverses self.old self.new result }
+    {
+        let mut undo = LatchUndo::none();
+        self.raise_into(causes, &mut undo);
+        undo
+    }
+
+    /// Steps a counter by some number; it stops at its greatest value.
+    #[inline(always)]
+    pub fn count(&mut self, counter: Counter, by: u32) -> LatchUndo
+        ensures state { self.new ≡ after_count self.old counter by }
+        ensures words { length result ≡ width_of counter }
+        ensures reverses { Reverses self.old self.new result }
+    {
+        let mut undo = LatchUndo::none();
+        self.count_into(counter, by, &mut undo);
+        undo
+    }
+
+    // What a frame does to the latches goes into one record: each change adds its old words to it.
+
+    /// Sets causes in ICR, and adds the old word to a record.
+    #[inline(always)]
+    pub fn raise_into(&mut self, causes: u32, undo: &mut LatchUndo)
         requires { length undo.old + 1 ≤ MOST_WORDS }
         ensures state { self.new ≡ after_raise self.old causes }
         ensures words { length undo.new ≡ length undo.old + 1 }
@@ -142,9 +166,9 @@ impl Latches {
         self.replace(Reg::Icr, set | causes, undo);
     }
 
-    /// Steps a counter by some number; it stops at its greatest value.
+    /// Steps a counter by some number, and adds the old words to a record.
     #[inline(always)]
-    pub fn count(&mut self, counter: Counter, by: u32, undo: &mut LatchUndo)
+    pub fn count_into(&mut self, counter: Counter, by: u32, undo: &mut LatchUndo)
         requires { length undo.old + width_of counter ≤ MOST_WORDS }
         ensures state { self.new ≡ after_count self.old counter by }
         ensures words { length undo.new ≡ length undo.old + width_of counter }
@@ -168,23 +192,6 @@ impl Latches {
         self.word(Reg::Icr) & self.word(Reg::Ims) != 0
     }
 
-    /// Takes back the changes that gave out this record, and gives the record that makes them again.
-    #[inline(always)]
-    pub fn exchange(&mut self, taken: LatchUndo) -> LatchUndo
-        ensures state { self.new ≡ undo self.old taken }
-        ensures words { length result ≡ length taken }
-        ensures reverses { Reverses self.old self.new result }
-    {
-        // no record has more words than there is room for
-        let _words = taken.len();
-        let mut left = taken;
-        let mut again = LatchUndo::none();
-        while let Some(word) = left.pop() {
-            again.push(self.exchange_word(word));
-        }
-        again
-    }
-
     /// Takes back the changes that gave out this record.
     #[inline(always)]
     pub fn put_back(&mut self, taken: LatchUndo)
@@ -196,23 +203,13 @@ impl Latches {
         }
     }
 
+    /// A register's word.
     #[inline(always)]
     fn word(&self, reg: Reg) -> u32
         requires { IsWord reg }
         ensures { result ≡ registers.at self.now (offset_of reg) }
     {
         self.words[usize::from(place_of(reg))]
-    }
-
-    /// Puts an old word back, and gives the one that it replaces.
-    #[inline(always)]
-    fn exchange_word(&mut self, taken: OldWord) -> OldWord
-        ensures state { self.new ≡ registers.undo self.old taken }
-        ensures reverses { registers.Reverses self.old self.new result }
-    {
-        let OldWord { place, old } = taken;
-        let was = self.swap(place, old);
-        OldWord { place, old: was }
     }
 
     /// Stores the word at a place, and gives what it was.
@@ -270,9 +267,9 @@ impl Latches {
         ensures words { length undo.new ≡ length undo.old + 2 }
         ensures reverses { (base : Registers) → Reverses base self.old undo.old → Reverses base self.new undo.new }
     {
-        let old = u64::from(self.word(low)) + HALF * u64::from(self.word(high));
+        let old = u64::from(self.word(low)) + WORD_RANGE * u64::from(self.word(high));
         let sum = old.saturating_add(u64::from(by));
-        let (low_value, high_value) = ((sum % HALF) as u32, (sum / HALF) as u32);
+        let (low_value, high_value) = ((sum % WORD_RANGE) as u32, (sum / WORD_RANGE) as u32);
         self.replace_both(low, high, low_value, high_value, undo);
     }
 }

@@ -1,5 +1,6 @@
-//! What takes too many events to show by a script.
-use crate::{Counter, LatchUndo, Latches};
+//! What takes too many events to show by a script, and what the library is for.
+use crate::{Counter, Latches};
+use em_mem::Reversible;
 use em_regs::Reg;
 use std::test::Fail;
 
@@ -11,7 +12,7 @@ fn a_pair_of_halves_stops_at_its_greatest_value(rt: HostRuntime) -> Result<(), F
     ];
     for (counter, low, high) in pairs {
         let mut latches = Latches::with_counters(u32::MAX);
-        latches.count(counter, 1, &mut LatchUndo::none());
+        let _undo = latches.count(counter, 1);
         if !latches.holds(low) || !latches.holds(high) {
             return Err(Fail::from("a half is not among the latches"));
         }
@@ -24,10 +25,31 @@ fn a_pair_of_halves_stops_at_its_greatest_value(rt: HostRuntime) -> Result<(), F
 #[test]
 fn a_counter_stops_at_its_greatest_value(rt: HostRuntime) -> Result<(), Fail> {
     let mut latches = Latches::with_counters(u32::MAX - 1);
-    latches.count(Counter::Mpc, 3, &mut LatchUndo::none());
+    let _undo = latches.count(Counter::Mpc, 3);
     if !latches.holds(Reg::Mpc) {
         return Err(Fail::from("the counter is not among the latches"));
     }
     assert_eq!(rt; latches.look(Reg::Mpc), u32::MAX);
+    Ok(())
+}
+
+#[test]
+fn a_count_and_a_cause_are_taken_back(rt: HostRuntime) -> Result<(), Fail> {
+    let mut latches = Latches::with_counters(u32::MAX);
+    if !latches.holds(Reg::Ims) || !latches.holds(Reg::Icr) {
+        return Err(Fail::from("an interrupt register is not among the latches"));
+    }
+    let _mask = latches.write(Reg::Ims, 0x40);
+    let raised = latches.raise(0x40);
+    let counted = latches.count(Counter::Gorc, 1);
+    assert!(rt; latches.line());
+
+    latches.take_back(counted);
+    latches.take_back(raised);
+    assert!(rt; !latches.line());
+    if !latches.holds(Reg::Icr) {
+        return Err(Fail::from("ICR is not among the latches"));
+    }
+    assert_eq!(rt; latches.look(Reg::Icr), 0);
     Ok(())
 }

@@ -4,3 +4,4 @@ pub mod PageLaws
 pub mod TableLaws
 pub mod PieceLaws
 pub mod MadePages
+pub mod WriteLaws

@@ -107,9 +107,6 @@ pub put_here : (m : List ℕ) (a : ℕ) (d : List ℕ)
     → put m (PAGE_OCTETS * (a / PAGE_OCTETS) + a % PAGE_OCTETS) d ≡ put m a d
 put_here m a d = ap (λ k. put m k d) (at_address a)
 
-pub part_here : (m : List ℕ) (a n : ℕ) → part m (PAGE_OCTETS * (a / PAGE_OCTETS) + a % PAGE_OCTETS) n ≡ part m a n
-part_here m a n = ap (λ k. part m k n) (at_address a)
-
 div_mono : (a b : ℕ) → a ≤ b → a / PAGE_OCTETS ≤ b / PAGE_OCTETS
 div_mono a b l = omega arith
 

@@ -90,7 +90,7 @@ impl GuestMemory {
         FewOctets::new(addr, len, old)
     }
 
-    /// The same, page by page.
+    /// The record of a few octets from `addr` on, which may cross a page's end.
     #[inline(never)]
     fn keep_few_pieces(&self, addr: u64, len: usize) -> FewOctets
         requires held { IsHeld self.now.octets addr len }
@@ -111,16 +111,5 @@ impl GuestMemory {
         ensures { self.new ≡ undo self.old taken.now }
     {
         self.write(taken.place.addr(), &taken.octets[..usize::from(taken.len)]);
-    }
-
-    /// The same, where the record becomes the one that makes the write again.
-    pub fn exchange_few(&mut self, kept: &mut FewOctets)
-        requires { Fits self.old kept.old }
-        ensures state { self.new ≡ undo self.old kept.old }
-        ensures len { length kept.new.octets ≡ length kept.old.octets }
-        ensures reverses { Reverses self.old self.new kept.new }
-    {
-        let len = usize::from(kept.len);
-        self.swap(kept.place.addr(), &mut kept.octets[..len]);
     }
 }

@@ -11,6 +11,9 @@ use crate::{
 use std::alloc::{AllocError, Global};
 use std::marker::Model;
 
+/// How many octets `swap` reads out before it writes over them.
+const SWAPPED: usize = 64;
+
 /// The octets of the guest, in pages of 4,096. A page is made before it is first written, and never
 /// given back.
 #[derive(Drop)]
@@ -97,7 +100,7 @@ impl GuestMemory {
         }
     }
 
-    /// The same of octets that lie in memory: none where they do not lie in one page.
+    /// The `len` octets from `addr` on, which lie in memory; none where they do not lie in one page.
     #[inline(always)]
     pub fn piece(&self, addr: u64, len: usize) -> Option<&[u8]>
         requires { IsHeld self.now.octets addr len }
@@ -114,6 +117,7 @@ impl GuestMemory {
         Some(self.slice_in_page(at, len))
     }
 
+    /// The `len` octets from `addr` on, which lie in one page of memory.
     fn slice_in_page(&self, addr: usize, len: usize) -> &[u8]
         requires some { 0 < len }
         requires held { IsHeld self.now.octets addr len }
@@ -160,7 +164,7 @@ impl GuestMemory {
         }
     }
 
-    /// The same, page by page.
+    /// Copies the octets from `addr` on into `out`, page by page.
     #[inline(never)]
     fn read_pieces(&self, addr: u64, out: &mut [u8])
         requires { IsHeld self.now.octets addr (length out.old) }
@@ -205,7 +209,7 @@ impl GuestMemory {
         }
     }
 
-    /// The same, page by page.
+    /// Makes `kept` a record of the `len` octets from `addr` on, page by page.
     #[inline(never)]
     fn keep_pieces(&self, addr: u64, len: usize, kept: &mut MemUndo) -> Result<(), AllocError>
         requires held { IsHeld self.now.octets addr len }
@@ -236,7 +240,7 @@ impl GuestMemory {
         }
     }
 
-    /// The same, page by page.
+    /// Writes the octets from `addr` on, page by page.
     #[inline(never)]
     fn write_pieces(&mut self, addr: u64, written: &[u8])
         requires held { IsHeld self.old.octets addr (length written.now) }
@@ -291,6 +295,7 @@ impl GuestMemory {
         old
     }
 
+    /// Writes octets within one page, which is made.
     fn write_piece(&mut self, addr: u64, written: &[u8])
         requires some { 0 < length written.now }
         requires held { IsHeld self.old.octets addr (length written.now) }
@@ -301,7 +306,7 @@ impl GuestMemory {
     {
         let index = addr as usize / PAGE_OCTETS;
         let at = addr as usize % PAGE_OCTETS;
-        table::write_in_page(self.pages.as_mut_slice(), index, at, written);
+        page::write(&mut self.pages[index], at, written);
     }
 
     /// Writes the octets of `swapped` from `addr` on, and leaves the old ones in `swapped`. The range
@@ -322,35 +327,26 @@ impl GuestMemory {
         let mut done = 0;
         while addr + (done as u64) < end {
             let from = addr + done as u64;
-            let count = in_page(from, swapped.len() - done);
+            let count = (swapped.len() - done).min(SWAPPED);
             self.swap_piece(from, &mut swapped[done..done + count]);
             done += count;
         }
     }
 
-    /// Takes back the write that gave out this record, and gives the record that makes it again. It
-    /// takes no memory.
-    pub fn exchange(&mut self, taken: MemUndo) -> MemUndo
-        requires { Fits self.old taken }
-        ensures state { self.new ≡ undo self.old taken }
-        ensures len { length result.octets ≡ length taken.octets }
-        ensures reverses { Reverses self.old self.new result }
+    /// Writes at most 64 octets, and leaves the old ones in their place: they are read before the write.
+    fn swap_piece(&mut self, addr: u64, swapped: &mut [u8])
+        requires few { length swapped.old ≤ SWAPPED }
+        requires held { IsHeld self.old.octets addr (length swapped.old) }
+        requires made { IsMade self.old addr (length swapped.old) }
+        ensures octets { self.new.octets ≡ put self.old.octets addr swapped.old }
+        ensures made { self.new.made ≡ self.old.made }
+        ensures old { swapped.new ≡ part self.old.octets addr (length swapped.old) }
     {
-        let mut again = taken;
-        self.exchange_in_place(&mut again);
-        again
-    }
-
-    /// The same, where the record becomes the one that makes the write again.
-    pub fn exchange_in_place(&mut self, kept: &mut MemUndo)
-        requires { Fits self.old kept.old }
-        ensures state { self.new ≡ undo self.old kept.old }
-        ensures old { kept.new
-            ≡ record kept.old { octets = part self.old.octets kept.old.at (length kept.old.octets) } }
-        ensures len { length kept.new.octets ≡ length kept.old.octets }
-        ensures reverses { Reverses self.old self.new kept.new }
-    {
-        self.swap(kept.addr, kept.octets.as_mut_slice());
+        let mut room = [0; SWAPPED];
+        let old = &mut room[..swapped.len()];
+        self.read_into(addr, old);
+        self.write(addr, swapped);
+        swapped.copy_from_slice(old);
     }
 
     /// Takes back the write that gave out this record. It takes no memory.
@@ -359,24 +355,6 @@ impl GuestMemory {
         ensures { self.new ≡ undo self.old taken.now }
     {
         self.write(taken.addr, taken.octets.as_slice());
-    }
-
-    fn swap_piece(&mut self, addr: u64, swapped: &mut [u8])
-        requires some { 0 < length swapped.old }
-        requires held { IsHeld self.old.octets addr (length swapped.old) }
-        requires made { IsMade self.old addr (length swapped.old) }
-        requires one { IsInOnePage addr (length swapped.old) }
-        ensures octets { self.new.octets ≡ put self.old.octets addr swapped.old }
-        ensures made { self.new.made ≡ self.old.made }
-        ensures old { swapped.new ≡ part self.old.octets addr (length swapped.old) }
-    {
-        let at = addr as usize;
-        table::swap_in_page(
-            self.pages.as_mut_slice(),
-            at / PAGE_OCTETS,
-            at % PAGE_OCTETS,
-            swapped,
-        );
     }
 }
 

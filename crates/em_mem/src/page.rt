@@ -1,6 +1,6 @@
 //! One page of guest memory, made or not.
 ghost use Rattle.std.specs.Prelude.{◌≡◌, ◌+◌, ◌≤◌, IfOk, IsOk, OnErr, OnOk, length, true};
-ghost use Rattle.em_mem.specs.Memory.{part, put};
+ghost use Rattle.em_mem.specs.Memory.{put};
 ghost use Rattle.em_mem.specs.Pages.{zero_page, page_octets, is_made};
 
 use crate::PAGE_OCTETS;
@@ -54,20 +54,6 @@ fn make_now(alloc: Global, page: &mut Page) -> Result<(), AllocError>
     Ok(())
 }
 
-/// Exchanges octets of a made page with those of a slice.
-pub(crate) fn swap(page: &mut Page, at: usize, swapped: &mut [u8])
-    requires made { is_made page.old ≡ true }
-    requires range { at + length swapped.old ≤ length (page_octets page.old) }
-    ensures octets { page_octets page.new ≡ put (page_octets page.old) at swapped.old }
-    ensures made { is_made page.new ≡ true }
-    ensures old { swapped.new ≡ part (page_octets page.old) at (length swapped.old) }
-{
-    match page {
-        Some(octets) => exchange(octets.as_mut_slice(), at, swapped),
-        None => unreachable!(),
-    }
-}
-
 /// Writes octets over those of a made page.
 pub(crate) fn write(page: &mut Page, at: usize, written: &[u8])
     requires made { is_made page.old ≡ true }
@@ -76,24 +62,10 @@ pub(crate) fn write(page: &mut Page, at: usize, written: &[u8])
     ensures made { is_made page.new ≡ true }
 {
     match page {
-        Some(octets) => overwrite(octets.as_mut_slice(), at, written),
+        Some(octets) => {
+            let octets = octets.as_mut_slice();
+            octets[at..at + written.len()].copy_from_slice(written);
+        }
         None => unreachable!(),
     }
-}
-
-fn overwrite(octets: &mut [u8], at: usize, written: &[u8])
-    requires { at + length written.now ≤ length octets.old }
-    ensures { octets.new ≡ put octets.old at written.now }
-{
-    let end = at + written.len();
-    octets[at..end].copy_from_slice(written);
-}
-
-fn exchange(octets: &mut [u8], at: usize, swapped: &mut [u8])
-    requires { at + length swapped.old ≤ length octets.old }
-    ensures octets { octets.new ≡ put octets.old at swapped.old }
-    ensures old { swapped.new ≡ part octets.old at (length swapped.old) }
-{
-    let end = at + swapped.len();
-    octets[at..end].swap_with_slice(swapped);
 }

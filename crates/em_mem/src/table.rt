@@ -1,7 +1,6 @@
 //! The table of pages, of which one is read, written or made.
 ghost use Rattle.std.specs.Prelude.{◌≡◌, ◌+◌, ◌*◌, ◌<◌, ◌≤◌, ◌⊎◌, ℕ, IfOk, IsOk, OnOk, length, replicate, None};
-ghost use Rattle.em_mem.specs.Memory.{part, put};
-ghost use Rattle.em_mem.specs.Pages.{table_octets, table_made, AllMade, AllWhole, IsMadeAt};
+ghost use Rattle.em_mem.specs.Pages.{table_octets, AllMade, AllWhole, IsMadeAt};
 
 use crate::page::Page;
 use crate::{PAGE_OCTETS, page};
@@ -45,7 +44,7 @@ pub(crate) fn make_pages(
     }
 }
 
-/// The same, page by page.
+/// Makes the pages from the first to the last, one after another.
 #[inline(never)]
 fn make_each(alloc: Global, pages: &mut [Page], first: usize, last: usize) -> Result<(), AllocError>
     requires order { first ≤ last }
@@ -79,31 +78,4 @@ fn make_page(alloc: Global, pages: &mut [Page], index: usize) -> Result<(), Allo
     ensures ready { IsMadeAt pages.old index → IsOk result }
 {
     page::make(alloc, &mut pages[index])
-}
-
-/// Exchanges octets within one page, which is made, with those of a slice.
-pub(crate) fn swap_in_page(pages: &mut [Page], index: usize, at: usize, swapped: &mut [u8])
-    requires index { index < length pages.old }
-    requires made { IsMadeAt pages.old index }
-    requires range { at + length swapped.old ≤ PAGE_OCTETS }
-    requires whole { AllWhole pages.old }
-    ensures whole { AllWhole pages.new }
-    ensures octets { table_octets pages.new ≡ put (table_octets pages.old) (PAGE_OCTETS * index + at) swapped.old }
-    ensures old { swapped.new ≡ part (table_octets pages.old) (PAGE_OCTETS * index + at) (length swapped.old) }
-    ensures made { table_made pages.new ≡ table_made pages.old }
-{
-    page::swap(&mut pages[index], at, swapped);
-}
-
-/// Writes octets within one page, which is made.
-pub(crate) fn write_in_page(pages: &mut [Page], index: usize, at: usize, written: &[u8])
-    requires index { index < length pages.old }
-    requires made { IsMadeAt pages.old index }
-    requires range { at + length written.now ≤ PAGE_OCTETS }
-    requires whole { AllWhole pages.old }
-    ensures whole { AllWhole pages.new }
-    ensures octets { table_octets pages.new ≡ put (table_octets pages.old) (PAGE_OCTETS * index + at) written.now }
-    ensures made { table_made pages.new ≡ table_made pages.old }
-{
-    page::write(&mut pages[index], at, written);
 }

@@ -1,7 +1,7 @@
-ghost use Rattle.std.specs.Prelude.{IfOk};
+ghost use Rattle.std.specs.Prelude.{◌≡◌, IfOk};
 ghost use Rattle.em_mem.specs.Memory.{Fits};
 
-use crate::{GuestMemory, MOST_RECORD, MemRefusal, MemUndo, Reversible};
+use crate::{FEW, FewOctets, GuestMemory, MOST_RECORD, MemRefusal, MemUndo, Reversible};
 use std::alloc::Global;
 use std::test::Fail;
 
@@ -10,7 +10,32 @@ fn memory_of(alloc: Global, size: u64) -> Result<GuestMemory, MemRefusal> {
     GuestMemory::new(alloc, size)
 }
 
-fn poke(memory: &mut GuestMemory, addr: u64, octets: Vec<u8>) -> Result<MemUndo, Fail>
+/// Writes octets as an adapter does that a poke meets, and gives what takes the write back.
+fn poke(alloc: Global, memory: &mut GuestMemory, addr: u64, octets: &[u8]) -> Result<MemUndo, Fail>
+    ensures { IfOk result (λ undo. Fits memory.new undo) }
+{
+    if octets.len() > MOST_RECORD || !memory.holds(addr, octets.len() as u64) {
+        return Err(Fail::from("out of range"));
+    }
+    memory.touch(addr, octets.len() as u64)?;
+    let mut undo = MemUndo::new(0, Vec::new(alloc));
+    memory.write_keeping(addr, octets, &mut undo)?;
+    Ok(undo)
+}
+
+/// Writes 1 to 9 octets, whose record takes no memory.
+fn poke_few(memory: &mut GuestMemory, addr: u64, octets: &[u8]) -> Result<FewOctets, Fail>
+    ensures { IfOk result (λ undo. Fits memory.new undo) }
+{
+    if octets.is_empty() || octets.len() > FEW || !memory.holds(addr, octets.len() as u64) {
+        return Err(Fail::from("out of range"));
+    }
+    memory.touch(addr, octets.len() as u64)?;
+    Ok(memory.write_few(addr, octets))
+}
+
+/// Exchanges octets with memory's, so that the caller's own room becomes the record.
+fn exchange(memory: &mut GuestMemory, addr: u64, octets: Vec<u8>) -> Result<MemUndo, Fail>
     ensures { IfOk result (λ undo. Fits memory.new undo) }
 {
     if octets.len() > MOST_RECORD || !memory.holds(addr, octets.len() as u64) {
@@ -20,6 +45,14 @@ fn poke(memory: &mut GuestMemory, addr: u64, octets: Vec<u8>) -> Result<MemUndo,
     memory.touch(addr, octets.len() as u64)?;
     memory.swap(addr, octets.as_mut_slice());
     Ok(MemUndo::new(addr, octets))
+}
+
+/// Takes a change back, of whatever part of a model it is.
+fn undo<P: Reversible>(part: &mut P, change: P::Undo)
+    requires { P.fits part.old change }
+    ensures { part.new ≡ P.undone part.old change }
+{
+    part.take_back(change);
 }
 
 fn peek(memory: &GuestMemory, addr: u64, out: &mut [u8]) -> Result<(), Fail> {
@@ -55,8 +88,8 @@ fn has_the_least_size(rt: HostRuntime) -> Result<(), Fail> {
 #[test]
 fn writes_both_ends_of_the_greatest_memory(rt: HostRuntime) -> Result<(), Fail> {
     let mut memory = memory_of(rt.alloc(), 16_777_216)?;
-    poke(&mut memory, 0, [1].to_vec(rt.alloc())?)?;
-    poke(&mut memory, 16_777_215, [2].to_vec(rt.alloc())?)?;
+    poke(rt.alloc(), &mut memory, 0, &[1])?;
+    poke(rt.alloc(), &mut memory, 16_777_215, &[2])?;
     assert_eq!(rt; memory.slice(0, 2), Some(&[1, 0][..]));
     assert_eq!(rt; memory.slice(16_777_214, 2), Some(&[0, 2][..]));
     Ok(())
@@ -75,13 +108,45 @@ fn lends_no_slice_over_a_page_end(rt: HostRuntime) -> Result<(), Fail> {
 #[test]
 fn takes_back_a_write_over_two_pages(rt: HostRuntime) -> Result<(), Fail> {
     let mut memory = memory_of(rt.alloc(), 65_536)?;
-    let undo = poke(&mut memory, 0xFFE, [1, 2, 3, 4].to_vec(rt.alloc())?)?;
+    let written = [7; 40];
+    let undo = poke(rt.alloc(), &mut memory, 0xFFE, &written)?;
+    assert_eq!(rt; undo.len(), 40);
+    let mut out = [9; 42];
+    peek(&memory, 0xFFD, &mut out)?;
+    assert_eq!(rt; out[..2], [0, 7][..]);
+    assert_eq!(rt; out[40..], [7, 0][..]);
+
+    memory.put_back(&undo);
+    peek(&memory, 0xFFD, &mut out)?;
+    assert_eq!(rt; out, [0; 42]);
+    Ok(())
+}
+
+#[test]
+fn takes_back_a_few_octets_over_two_pages(rt: HostRuntime) -> Result<(), Fail> {
+    let mut memory = memory_of(rt.alloc(), 65_536)?;
+    let undo = poke_few(&mut memory, 0xFFE, &[1, 2, 3, 4])?;
     assert_eq!(rt; undo.len(), 4);
     let mut out = [9; 6];
     peek(&memory, 0xFFD, &mut out)?;
     assert_eq!(rt; out, [0, 1, 2, 3, 4, 0]);
 
-    memory.take_back(undo);
+    memory.put_back_few(&undo);
+    peek(&memory, 0xFFD, &mut out)?;
+    assert_eq!(rt; out, [0; 6]);
+    Ok(())
+}
+
+#[test]
+fn exchanges_octets_over_two_pages(rt: HostRuntime) -> Result<(), Fail> {
+    let mut memory = memory_of(rt.alloc(), 65_536)?;
+    let change = exchange(&mut memory, 0xFFE, [1, 2, 3, 4].to_vec(rt.alloc())?)?;
+    assert_eq!(rt; change.len(), 4);
+    let mut out = [9; 6];
+    peek(&memory, 0xFFD, &mut out)?;
+    assert_eq!(rt; out, [0, 1, 2, 3, 4, 0]);
+
+    undo(&mut memory, change);
     peek(&memory, 0xFFD, &mut out)?;
     assert_eq!(rt; out, [0; 6]);
     Ok(())
@@ -90,7 +155,7 @@ fn takes_back_a_write_over_two_pages(rt: HostRuntime) -> Result<(), Fail> {
 #[test]
 fn shows_the_same_where_a_page_is_refused(rt: HostRuntime) -> Result<(), Fail> {
     let mut memory = memory_of(rt.alloc(), 65_536)?;
-    poke(&mut memory, 0x2000, [7].to_vec(rt.alloc())?)?;
+    poke_few(&mut memory, 0x2000, &[7])?;
     assert!(rt; memory.holds(0x1FFF, 0x3000));
     if let Err(refusal) = memory.touch(0x1FFF, 0x3000) {
         assert_eq!(rt; refusal, MemRefusal::Memory);

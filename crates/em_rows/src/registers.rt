@@ -2,7 +2,7 @@
 //! in its definition alike is proved.
 
 use crate::tests::same;
-use em_latch::{Counter, LatchUndo, Latches};
+use em_latch::{Counter, Latches};
 use em_regs::Reg;
 use std::test::Fail;
 
@@ -125,7 +125,7 @@ fn reads(latches: &mut Latches, offset: u32, wanted: &[u32]) -> Result<(), Fail>
 }
 
 fn count(latches: &mut Latches, counter: Counter, by: u32) {
-    latches.count(counter, by, &mut LatchUndo::none());
+    let _undo = latches.count(counter, by);
 }
 
 /// The register lies at the offset, and says so.

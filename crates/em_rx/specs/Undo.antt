@@ -1,5 +1,5 @@
 -- What a record says, when it can be said of cells, and what it puts back.
-use Rattle.std.specs.Prelude.{◌≡◌, ℕ, ◌+◌, ◌<◌, ◌≤◌, List, length, set, Bool, true, false}
+use Rattle.std.specs.Prelude.{◌≡◌, ℕ, ◌+◌, ◌<◌, ◌≤◌, List, length, set, Bool}
 use Rattle.em_mem.specs.Memory as memory
 use Rattle.em_rx.specs.Ring.{ring_put}
 use Rattle.em_rx.specs.Descriptor.{written_back}
@@ -86,15 +86,6 @@ octets_held Nothing = 0
 octets_held (Places places) = 0
 octets_held (Frame patch) = length patch.value.octets
 octets_held (Step patch) = length patch.value.first.octets + length patch.value.second.octets
-
--- which change the record is of
-abbrev pub is_frame : RxUndo → Bool
-is_frame (Frame patch) = true
-is_frame r = false
-
-abbrev pub is_step : RxUndo → Bool
-is_step (Step patch) = true
-is_step r = false
 
 -- a receive step that was idle leaves nothing, and one that wrote leaves what it overwrote
 abbrev pub IsRecordOf : RxAnswer → RxUndo → Type 0

@@ -5,14 +5,14 @@ ghost use Rattle.em_mem.specs.Memory.{IsHeld, IsMade, part, put};
 ghost use Rattle.em_rx.specs.Frame.{stored_frame};
 ghost use Rattle.em_rx.specs.Fifo.{after_arrival, empty, first, fresh, HasRoom, IsFirst, IsSound, next, rest, shows};
 ghost use Rattle.em_rx.specs.Undo.{Fits, FitsFrame, FitsStep, IsMove, Reverses, ReversesStep, octets_held, undo_fifo};
-ghost use Rattle.em_rx.specs.Undo.{IsOverwritten, delivered, is_frame, is_step, undo_memory, with_both, with_patch};
+ghost use Rattle.em_rx.specs.Undo.{IsOverwritten, delivered, undo_memory, with_both, with_patch};
 ghost use Rattle.em_rx.specs.Ring.{ring_part};
 ghost use Rattle.em_rx.specs.declared.undo.RxUndo.TheVariants.{Frame};
 
 use crate::descriptor::{WRITTEN_OCTETS, written_back};
 use crate::frame::{stored_octets, tag_of};
 use crate::places::{Entry, Places};
-use crate::ring::{copy_into, exchange_entry, exchange_octets, put_octets, wrap, write_out};
+use crate::ring::{copy_into, exchange_entry, put_octets, wrap, write_out};
 use crate::{FramePatch, RxRefusal, RxUndo, StepPatch};
 use em_mem::{GuestMemory, SparesByLen};
 use std::alloc::{AllocError, Global};
@@ -107,7 +107,7 @@ impl Fifo {
         }
     }
 
-    /// The same for a tagged frame.
+    /// Stores a tagged frame, which comes last, without its octets 12 to 15.
     #[inline(never)]
     fn accept_tagged(&mut self, frame: &[u8]) -> Result<Box<FramePatch>, RxRefusal>
         requires least { 60 ≤ length frame.now }
@@ -245,35 +245,6 @@ impl Fifo {
         put_octets(&mut self.octets, patch.at as usize, octets);
     }
 
-    /// Puts a patch in, and leaves what it replaced in the patch.
-    fn exchange_frame(&mut self, patch: &mut FramePatch)
-        requires { FitsFrame self.old patch.old }
-        ensures state { self.new ≡ with_patch self.old patch.old }
-        ensures held { length patch.new.octets ≡ length patch.old.octets }
-        ensures reverses { FitsFrame self.new patch.new × (with_patch self.new patch.new ≡ self.old) }
-    {
-        exchange_octets(&mut self.octets, patch.at as usize, &mut patch.octets);
-        exchange_entry(&mut self.entries, patch.index as usize, &mut patch.entry);
-        std::mem::swap(&mut self.places, &mut patch.places);
-    }
-
-    /// Puts a step's patch in, and leaves what it replaced in the patch.
-    pub(crate) fn exchange_step(&mut self, memory: &mut GuestMemory, patch: &mut StepPatch)
-        requires { FitsStep self.old memory.old patch.old }
-        ensures fifo { self.new ≡ record self.old { places = patch.old.places } }
-        ensures memory { memory.new ≡ with_both memory.old patch.old }
-        ensures first { length patch.new.first.octets ≡ length patch.old.first.octets }
-        ensures second { length patch.new.second.octets ≡ length patch.old.second.octets }
-        ensures reverses { ReversesStep self.old self.new memory.old memory.new patch.new }
-    {
-        let mut end = [0; WRITTEN_OCTETS];
-        memory.read_into(patch.end_at, &mut end);
-        memory.exchange_in_place(&mut patch.piece);
-        memory.write(patch.end_at, &patch.end);
-        patch.end = end;
-        std::mem::swap(&mut self.places, &mut patch.places);
-    }
-
     /// Whether no frame waits.
     pub(crate) fn is_empty(&self) -> bool
         ensures { IsTrue result ↔ (length (shows self.now).frames ≡ 0) }
@@ -391,40 +362,6 @@ impl Fifo {
         write_out(memory, addr, ring, at as usize, count as usize);
     }
 
-    /// Takes back the change that gave out this record, and gives the record that makes it again. It
-    /// takes no memory.
-    pub fn exchange(&mut self, memory: &mut GuestMemory, taken: RxUndo) -> RxUndo
-        requires { Fits self.old memory.old taken }
-        ensures fifo { self.new ≡ undo_fifo self.old taken }
-        ensures memory { memory.new ≡ undo_memory memory.old taken }
-        ensures held { octets_held result ≡ octets_held taken }
-        ensures frame { is_frame result ≡ is_frame taken }
-        ensures step { is_step result ≡ is_step taken }
-        ensures reverses { Reverses self.old self.new memory.old memory.new result }
-    {
-        match taken {
-            RxUndo::Nothing => RxUndo::Nothing,
-            RxUndo::Places(places) => RxUndo::Places(self.exchange_places(places)),
-            RxUndo::Frame(mut patch) => {
-                self.exchange_frame(&mut patch);
-                RxUndo::Frame(patch)
-            }
-            RxUndo::Step(mut patch) => {
-                self.exchange_step(memory, &mut patch);
-                RxUndo::Step(patch)
-            }
-        }
-    }
-
-    fn exchange_places(&mut self, places: Places) -> Places
-        requires { IsSound (record self.old { places = places }) }
-        ensures state { self.new ≡ record self.old { places = places } }
-        ensures fits { IsSound (record self.new { places = result }) }
-        ensures restores { record self.new { places = result } ≡ self.old }
-    {
-        std::mem::replace(&mut self.places, places)
-    }
-
     /// Takes back the change that gave out this record. It takes no memory.
     pub fn take_back(&mut self, memory: &mut GuestMemory, taken: RxUndo)
         requires { Fits self.old memory.old taken }
@@ -433,9 +370,7 @@ impl Fifo {
     {
         match taken {
             RxUndo::Nothing => {}
-            RxUndo::Places(places) => {
-                let _again = self.exchange_places(places);
-            }
+            RxUndo::Places(places) => self.places = places,
             RxUndo::Frame(patch) => {
                 self.put_back_frame(&patch);
                 self.let_frame_go(patch);
@@ -447,7 +382,7 @@ impl Fifo {
         }
     }
 
-    /// Puts a patch in.
+    /// Puts back what an arrival replaced.
     fn put_back_frame(&mut self, patch: &FramePatch)
         requires { FitsFrame self.old patch.now }
         ensures { self.new ≡ with_patch self.old patch.now }
@@ -457,7 +392,7 @@ impl Fifo {
         self.places = patch.places;
     }
 
-    /// Puts a step's patch in.
+    /// Puts back what a receive step replaced: the octets of its buffer, and then the end of its descriptor.
     fn put_back_step(&mut self, memory: &mut GuestMemory, patch: &StepPatch)
         requires { FitsStep self.old memory.old patch.now }
         ensures fifo { self.new ≡ record self.old { places = patch.now.places } }

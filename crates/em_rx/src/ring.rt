@@ -70,36 +70,17 @@ pub(crate) fn write_out(memory: &mut GuestMemory, addr: u64, ring: &[u8], at: us
     memory.write(addr + high.len() as u64, &low[..len - high.len()]);
 }
 
-/// Exchanges the octets with those that lie in the ring from `at` on.
-pub(crate) fn exchange_octets(ring: &mut Vec<u8>, at: usize, octets: &mut Vec<u8>)
-    requires at { at ≤ length ring.old.items }
-    requires size { length octets.old.items ≤ length ring.old.items }
-    ensures ring { ring.new.items ≡ ring_put ring.old.items at octets.old.items }
-    ensures octets { octets.new.items ≡ ring_part ring.old.items at (length octets.old.items) }
-{
-    exchange(ring.as_mut_slice(), at, octets.as_mut_slice());
-}
-
 /// Writes the octets over those that lie in the ring from `at` on.
 pub(crate) fn put_octets(ring: &mut Vec<u8>, at: usize, octets: &[u8])
     requires at { at ≤ length ring.old.items }
     requires size { length octets.now ≤ length ring.old.items }
     ensures ring { ring.new.items ≡ ring_put ring.old.items at octets.now }
 {
-    put(ring.as_mut_slice(), at, octets);
-}
-
-/// Writes the octets over those that lie in the ring from `at` on.
-fn put(ring: &mut [u8], at: usize, octets: &[u8])
-    requires at { at ≤ length ring.old }
-    requires size { length octets.now ≤ length ring.old }
-    ensures ring { ring.new ≡ ring_put ring.old at octets.now }
-{
-    let (low, high) = ring.split_at_mut(at);
+    let (low, high) = ring.as_mut_slice().split_at_mut(at);
     put_over(high, low, octets);
 }
 
-/// The same where the ring's two parts are given, the one that comes first before the other.
+/// Writes the octets over those of a ring that is given in two parts, the one that comes first before the other.
 fn put_over(first: &mut [u8], second: &mut [u8], octets: &[u8])
     requires size { length octets.now ≤ length first.old + length second.old }
     ensures parts { first.new ++ second.new ≡ octets.now ++ drop (length octets.now) (first.old ++ second.old) }
@@ -130,42 +111,4 @@ pub(crate) fn exchange_entry(ring: &mut Vec<Entry>, index: usize, entry: &mut En
     ensures entry { entry.new ≡ get_or ring.old.items index entry.old }
 {
     std::mem::swap(&mut ring[index], entry);
-}
-
-/// Exchanges the octets with those that lie in the ring from `at` on.
-fn exchange(ring: &mut [u8], at: usize, octets: &mut [u8])
-    requires at { at ≤ length ring.old }
-    requires size { length octets.old ≤ length ring.old }
-    ensures ring { ring.new ≡ ring_put ring.old at octets.old }
-    ensures octets { octets.new ≡ ring_part ring.old at (length octets.old) }
-{
-    let (low, high) = ring.split_at_mut(at);
-    exchange_over(high, low, octets);
-}
-
-/// The same where the ring's two parts are given, the one that comes first before the other.
-fn exchange_over(first: &mut [u8], second: &mut [u8], octets: &mut [u8])
-    requires size { length octets.old ≤ length first.old + length second.old }
-    ensures parts { first.new ++ second.new ≡ octets.old ++ drop (length octets.old) (first.old ++ second.old) }
-    ensures first { length first.new ≡ length first.old }
-    ensures octets { octets.new ≡ take (length octets.old) (first.old ++ second.old) }
-{
-    let size = first.len();
-    if octets.len() <= size {
-        exchange_front(first, octets);
-    } else {
-        let (before, after) = octets.split_at_mut(size);
-        first.swap_with_slice(before);
-        exchange_front(second, after);
-    }
-}
-
-/// Exchanges the octets with those at the front of the slice.
-fn exchange_front(slice: &mut [u8], octets: &mut [u8])
-    requires size { length octets.old ≤ length slice.old }
-    ensures slice { slice.new ≡ octets.old ++ drop (length octets.old) slice.old }
-    ensures octets { octets.new ≡ take (length octets.old) slice.old }
-{
-    let count = octets.len();
-    slice[..count].swap_with_slice(octets);
 }

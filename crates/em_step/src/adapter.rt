@@ -23,7 +23,7 @@ use crate::refusal::Refusal;
 use crate::undo::{BeforeReset, LEAST_COST, MOST_COST, Part, Undo};
 use bitflags::Flags;
 use em_eeprom::Eeprom;
-use em_latch::{LatchUndo, Latches};
+use em_latch::Latches;
 use em_mem::{FEW, GuestMemory, MemRefusal, MemUndo, Spares, SparesByLen};
 use em_regs::{Causes, Ctrl, Eerd, Reg, RegFile, RegUndo, Status};
 use em_rx::{Fifo, FramePatch, RxUndo, StepPatch};
@@ -694,8 +694,7 @@ impl Adapter {
         if up == self.link {
             return Ok((Answer::Done, Undo::of_part(Part::Nothing)));
         }
-        let mut latches = LatchUndo::none();
-        self.latches.raise(Causes::LSC.bits(), &mut latches);
+        let latches = self.latches.raise(Causes::LSC.bits());
         let part = Part::Link(std::mem::replace(&mut self.link, up));
         Ok((Answer::Done, Undo { latches, part }))
     }

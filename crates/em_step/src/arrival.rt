@@ -17,7 +17,7 @@ use crate::refusal::Refusal;
 use crate::undo::{Part, Undo};
 use bitflags::Flags;
 use em_filter::{Kind, Verdict, tagged, verdict};
-use em_latch::{Counter, LatchUndo};
+use em_latch::Counter;
 use em_regs::{Rctl, Reg};
 use em_rx::{FramePatch, RxUndo};
 
@@ -145,9 +145,7 @@ impl Adapter {
         ensures cost { cost_of result ≡ least_cost }
         ensures reverses { Reverses self.old self.new result }
     {
-        let mut latches = LatchUndo::none();
-        self.latches.count(counter, 1, &mut latches);
-        Undo::of_latches(latches)
+        Undo::of_latches(self.latches.count(counter, 1))
     }
 
     /// Misses a frame.

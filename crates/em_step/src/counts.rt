@@ -32,9 +32,8 @@ pub(crate) fn count_miss(latches: &mut Latches, lacks_buffer: bool) -> LatchUndo
     ensures state { latches.new ≡ after_buffer_count lacks_buffer (after_miss_count latches.old) }
     ensures reverses { Reverses latches.old latches.new result }
 {
-    let mut undo = LatchUndo::none();
-    latches.count(Counter::Mpc, 1, &mut undo);
-    latches.raise(Causes::RXO.bits(), &mut undo);
+    let mut undo = latches.count(Counter::Mpc, 1);
+    latches.raise_into(Causes::RXO.bits(), &mut undo);
     count_buffer(latches, lacks_buffer, &mut undo);
     undo
 }
@@ -65,9 +64,9 @@ fn count_sizes(latches: &mut Latches, octets: u32, undo: &mut LatchUndo)
     ensures words { length undo.new ≡ 4 }
     ensures reverses { (base : Registers) → Reverses base latches.old undo.old → Reverses base latches.new undo.new }
 {
-    latches.count(Counter::Gprc, 1, undo);
-    latches.count(stored_counter(class_of(octets)), 1, undo);
-    latches.count(Counter::Gorc, octets, undo);
+    latches.count_into(Counter::Gprc, 1, undo);
+    latches.count_into(stored_counter(class_of(octets)), 1, undo);
+    latches.count_into(Counter::Gorc, octets, undo);
 }
 
 /// The size classes of frames, by their octets on the wire.
@@ -132,8 +131,8 @@ fn count_kind(latches: &mut Latches, kind: Kind, broadcasts: bool, undo: &mut La
     ensures reverses { (base : Registers) → Reverses base latches.old undo.old → Reverses base latches.new undo.new }
 {
     match kind {
-        Kind::Broadcast if broadcasts => latches.count(Counter::Bprc, 1, undo),
-        Kind::Multicast => latches.count(Counter::Mprc, 1, undo),
+        Kind::Broadcast if broadcasts => latches.count_into(Counter::Bprc, 1, undo),
+        Kind::Multicast => latches.count_into(Counter::Mprc, 1, undo),
         Kind::Broadcast | Kind::Unicast => {}
     }
 }
@@ -145,7 +144,7 @@ fn count_buffer(latches: &mut Latches, lacks_buffer: bool, undo: &mut LatchUndo)
     ensures reverses { (base : Registers) → Reverses base latches.old undo.old → Reverses base latches.new undo.new }
 {
     if lacks_buffer {
-        latches.count(Counter::Rnbc, 1, undo);
+        latches.count_into(Counter::Rnbc, 1, undo);
     }
 }
 
@@ -157,7 +156,7 @@ pub(crate) fn count_sent(latches: &mut Latches, octets: u32, kind: Kind, causes:
     let mut undo = LatchUndo::none();
     count_sent_sizes(latches, octets, &mut undo);
     count_sent_kind(latches, kind, &mut undo);
-    latches.raise(causes, &mut undo);
+    latches.raise_into(causes, &mut undo);
     undo
 }
 
@@ -171,9 +170,9 @@ fn count_sent_sizes(latches: &mut Latches, octets: u32, undo: &mut LatchUndo)
     if octets < LEAST {
         return;
     }
-    latches.count(Counter::Gptc, 1, undo);
-    latches.count(sent_counter(class_of(octets)), 1, undo);
-    latches.count(Counter::Gotc, octets, undo);
+    latches.count_into(Counter::Gptc, 1, undo);
+    latches.count_into(sent_counter(class_of(octets)), 1, undo);
+    latches.count_into(Counter::Gotc, octets, undo);
 }
 
 /// Counts a broadcast that was sent, or a frame to another group address.
@@ -184,8 +183,8 @@ fn count_sent_kind(latches: &mut Latches, kind: Kind, undo: &mut LatchUndo)
     ensures reverses { (base : Registers) → Reverses base latches.old undo.old → Reverses base latches.new undo.new }
 {
     match kind {
-        Kind::Broadcast => latches.count(Counter::Bptc, 1, undo),
-        Kind::Multicast => latches.count(Counter::Mptc, 1, undo),
+        Kind::Broadcast => latches.count_into(Counter::Bptc, 1, undo),
+        Kind::Multicast => latches.count_into(Counter::Mptc, 1, undo),
         Kind::Unicast => {}
     }
 }

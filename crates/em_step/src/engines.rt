@@ -11,7 +11,6 @@ use crate::counts::{CHECK_OCTETS, count_sent};
 use crate::event::Answer;
 use crate::refusal::Refusal;
 use crate::undo::{Part, Undo};
-use em_latch::LatchUndo;
 use em_regs::Reg;
 use em_rx::{RxAnswer, RxUndo, StepPatch};
 use em_tx::{TxAnswer, TxUndo, step};
@@ -36,8 +35,7 @@ impl Adapter {
                 },
                 RxUndo::Step(piece),
             ) => {
-                let mut latches = LatchUndo::none();
-                self.latches.raise(causes, &mut latches);
+                let latches = self.latches.raise(causes);
                 let head = self.registers.put(Reg::Rdh, next).old();
                 let part = Part::RxStep(head, piece);
                 Ok((Answer::Wrote { index }, Undo { latches, part }))
@@ -70,8 +68,7 @@ impl Adapter {
                 },
                 TxUndo::Step(change),
             ) => {
-                let mut latches = LatchUndo::none();
-                self.latches.raise(causes, &mut latches);
+                let latches = self.latches.raise(causes);
                 let head = self.registers.put(Reg::Tdh, next).old();
                 let part = Part::TxStep(change, head);
                 Ok((Answer::Fetched { index }, Undo { latches, part }))

@@ -22,13 +22,13 @@ const CSS: usize = 13;
 const SPECIAL: usize = 14;
 
 /// The bits of CMD that have an effect.
-const EOP: u8 = 0;
+const EOP: u8 = 0x01;
 
-const RS: u8 = 3;
+const RS: u8 = 0x08;
 
-const DEXT: u8 = 5;
+const DEXT: u8 = 0x20;
 
-const VLE: u8 = 6;
+const VLE: u8 = 0x40;
 
 /// A descriptor of the transmit ring, as software wrote it. Clauses see its octets.
 #[derive(Clone, Copy, PartialEq, Eq, Debug)]
@@ -111,7 +111,7 @@ impl TxDescriptor {
     pub fn eop(&self) -> bool
         ensures { result ≡ eop self.now }
     {
-        (self.command() >> EOP) % 2 == 1
+        self.command() / EOP % 2 == 1
     }
 
     /// CMD.RS: the status is to be reported.
@@ -119,7 +119,7 @@ impl TxDescriptor {
     pub fn rs(&self) -> bool
         ensures { result ≡ rs self.now }
     {
-        (self.command() >> RS) % 2 == 1
+        self.command() / RS % 2 == 1
     }
 
     /// CMD.DEXT: the descriptor is of another format.
@@ -127,7 +127,7 @@ impl TxDescriptor {
     pub fn dext(&self) -> bool
         ensures { result ≡ dext self.now }
     {
-        (self.command() >> DEXT) % 2 == 1
+        self.command() / DEXT % 2 == 1
     }
 
     /// CMD.VLE: a VLAN tag is to be inserted.
@@ -135,6 +135,6 @@ impl TxDescriptor {
     pub fn vle(&self) -> bool
         ensures { result ≡ vle self.now }
     {
-        (self.command() >> VLE) % 2 == 1
+        self.command() / VLE % 2 == 1
     }
 }

@@ -37,10 +37,6 @@ impl TxUndo {
 
 /// Takes a change back by its record. It takes no memory: a frame's octets come back from the wire as
 /// the gathered ones, cut to those that there were.
-///
-/// A record is used up: there is no exchange for the record that makes the step again. What the step
-/// gathered is cut off, and the record does not keep it; and to put a frame on the wire again is growth,
-/// for which the wire keeps no room. The step itself, done again, leads to the same.
 pub fn take_back(gather: &mut Gather, wire: &mut Wire, memory: &mut GuestMemory, taken: TxUndo)
     requires { Fits (cells gather.old wire.old memory.old) taken }
     ensures { cells gather.new wire.new memory.new ≡ undo (cells gather.old wire.old memory.old) taken }
@@ -51,6 +47,7 @@ pub fn take_back(gather: &mut Gather, wire: &mut Wire, memory: &mut GuestMemory,
     }
 }
 
+/// Takes back what a step changed: the wire and the gathered octets first, and then a status octet.
 fn take_change_back(gather: &mut Gather, wire: &mut Wire, memory: &mut GuestMemory, change: Change)
     requires { ChangeFits (cells gather.old wire.old memory.old) change }
     ensures { cells gather.new wire.new memory.new ≡ undo_change (cells gather.old wire.old memory.old) change }

@@ -3,6 +3,6 @@ use Rattle.em_step.proofs.counts.count_sent.Goals as goal
 
 pub returns-clause-reverses : goal.returns-clause-reverses
 returns-clause-reverses c =
-    c.raise.ensures.reverses _
+    c.raise_into.ensures.reverses _
     (c.count_sent_kind.ensures.reverses _
     (c.count_sent_sizes.ensures.reverses _ (nothing_done c.none-undo.ensures)))

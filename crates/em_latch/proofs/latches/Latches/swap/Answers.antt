@@ -1,4 +1,5 @@
 use Rattle.std.proofs.Common.{◌≡◌, ◌∙◌, ap, sym, arith, get_or, length, set}
+use Rattle.em_latch.specs.declared.undo.TheConstants.{WORDS}
 use Rattle.em_latch.proofs.PlaceLaws.{Swaps, swaps}
 use Rattle.em_latch.proofs.latches.Latches.swap.Goals as goal
 
@@ -7,7 +8,7 @@ done : (c : goal.After-replace)
     c.replace.result
 done c =
     let words = c.self.inside.words in
-    let size : length words ≡ 28 = omega arith in
+    let size : length words ≡ WORDS = omega arith in
     swaps words c.requires size c.self.view_is
     (ap (λ i. get_or words i 0) (sym c.from.ensures) ∙ sym c.replace.ensures.value)
     (ap (λ i. set words i c.replace.new.dest) c.from.ensures ∙ ap (set words c.args.place) c.replace.ensures.after)

@@ -1,9 +1,26 @@
-use Rattle.std.proofs.Common.{◌≡◌, ◌∙◌, ◌+◌, ◌-◌, take, drop, ap, sym, length, arith, length-drop}
+use Rattle.std.proofs.Common.{◌≡◌, ◌∙◌, ℕ, ◌+◌, ◌-◌, ◌/◌, ◌≤◌, Bool, true, false, List, take, drop, ap, sym, subst}
+use Rattle.std.proofs.Common.{length, arith, length-drop, slice_index_or}
 use Rattle.std.proofs.lemmas.List.{take_all, length-take-le}
 use Rattle.em_mem.specs.Memory.{part, put}
 use Rattle.em_mem.proofs.PutLaws.{write_reverses, length-part}
 use Rattle.em_mem.proofs.PieceLaws.{wrote_step, old_step, read_step, rest_step}
 use Rattle.em_mem.proofs.memory.GuestMemory.swap.Goals as goal
+
+-- how many octets a piece has
+piece_size : (done count : ℕ) (octets : List ℕ) → done + count ≤ length octets
+    → length (take (done + count - done) (drop done octets)) ≡ count
+piece_size done count octets within =
+    let same_count : done + count - done ≡ count = omega arith in
+    ap (λ n. length (take n (drop done octets))) same_count
+    ∙ length-take-le count (drop done octets) (omega (arith, length-drop done octets))
+
+pub swap_piece-requires-clause-made : goal.swap_piece-requires-clause-made
+swap_piece-requires-clause-made c = λ i l.
+    let done = c.loop-done.done in
+    let size = piece_size done c.min-count.result c.loop-done.swapped (omega arith) in
+    let at : c.args.addr + (done + i) ≡ c.args.addr + done + i = omega arith in
+    subst (λ (x : List Bool × ℕ). slice_index_or x.0 (x.1 / 4096) false ≡ true)
+    (λ k. (sym c.loop-done.invariant.kept k, at k)) (c.requires.made (done + i) (omega (arith, l, size)))
 
 pub loop-done-preserved : goal.loop-done-preserved
 loop-done-preserved c =
@@ -12,13 +29,11 @@ loop-done-preserved c =
     let written = c.args.swapped.now in
     let slice = c.loop-done.swapped in
     let done = c.loop-done.done in
-    let count = c.in_page-count.result in
+    let count = c.min-count.result in
     let same_count : done + count - done ≡ count = omega arith in
     let piece : take (done + count - done) (drop done slice) ≡ take count (drop done written) =
     (λ i. take (same_count i) (c.loop-done.invariant.rest i)) in
-    let size : length (take (done + count - done) (drop done slice)) ≡ count
-    = ap length (ap (λ j. take j (drop done slice)) same_count)
-    ∙ length-take-le count (drop done slice) (omega (arith, length-drop done slice)) in
+    let size = piece_size done count slice (omega arith) in
     let piece_old = c.swap_piece.ensures.old ∙ ap (part so_far (c.args.addr + done)) size in
     let old = old_step before so_far c.args.addr done count written c.swap_piece.new.swapped
     c.loop-done.invariant.wrote piece_old (omega arith) c.requires.held in

@@ -7,7 +7,6 @@ use Rattle.em_latch.specs.Latches.{Reverses}
 use Rattle.em_step.specs.Cells.{Cells, shows}
 use Rattle.em_step.specs.Engines.{rx_step}
 use Rattle.em_step.proofs.EngineLaws.{rx_wrote}
-use Rattle.em_step.proofs.ReversalLaws.{nothing_done}
 use Rattle.em_step.proofs.adapter.Adapter.receive_step.Goals as goal
 
 pub returns-in-Wrote-Step-clause-ok : goal.returns-in-Wrote-Step-clause-ok
@@ -16,10 +15,10 @@ returns-in-Wrote-Step-clause-ok c =
     ∙ rx_wrote _ _ (c.ring_rx.ensures.setup ∙ ap rx_setup c.deref.ensures) c.in_ok-answer.ensures.ok
     c.in-Wrote-Step.is-0
     (c.put.ensures.state ∙ ap (λ file. put file Rdh c.in-Wrote-Step.next) c.deref_mut.ensures.value)
-    c.raise.ensures.state refl refl refl refl
+    c.raise-latches.ensures.state refl refl refl refl
 
 pub returns-in-Wrote-Step-clause-reverses : goal.returns-in-Wrote-Step-clause-reverses
 returns-in-Wrote-Step-clause-reverses c =
-    let words : Reverses c.self.inside.latches c.raise.new.self c.raise.new.undo
-    = c.raise.ensures.reverses _ (nothing_done c.none-latches.ensures) in
+    let words : Reverses c.self.inside.latches c.raise-latches.new.self c.raise-latches.result
+    = c.raise-latches.ensures.reverses in
     search rules
