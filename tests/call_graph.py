@@ -1,8 +1,9 @@
 """Which function of the crates calls which, as far as types can be read off without a compiler.
 
-A call by a type's name, of a field's method and of a variable whose type is written or made by a known call goes to that
-one function; where a receiver's type is not known, it goes to every method of that name in the crates that the caller's
-crate stands on. A name that is written without a call counts as called. What std calls (From, Iterator, Read ..) runs.
+A call by a type's name, of a field's method and of a variable whose type is written or made by a known call goes to
+that one function; where a receiver's type is not known, it goes to every method of that name in the crates that the
+caller's crate stands on. A name that is written without a call counts as called. What std calls (From, Iterator, Read
+..) runs.
 """
 from collections import defaultdict
 
@@ -82,7 +83,8 @@ class Body:
         opens = next((at for at, token in enumerate(pattern) if token.text in ("(", "{")), None)
         if opens is None:
             return
-        inner, name = pattern[opens + 1 : past(pattern, opens) - 1], [t.text for t in pattern[:opens] if t.kind == "word"]
+        inner = pattern[opens + 1 : past(pattern, opens) - 1]
+        name = [token.text for token in pattern[:opens] if token.kind == "word"]
         if not name:
             for at, part in enumerate(split(inner)):
                 self.bind(part, kind.arg(at) if kind.name == "tuple" else UNKNOWN)
@@ -107,7 +109,9 @@ class Body:
 
     def own(self, kind: Type) -> Type:
         """A type, with Self as what it stands for."""
-        return Type(self.function.owner, [Type(name) for name in self.function.generics]) if kind.name == "Self" else kind
+        if kind.name != "Self":
+            return kind
+        return Type(self.function.owner, [Type(name) for name in self.function.generics])
 
     def field(self, kind: Type, name: str) -> Type:
         kind = self.own(kind)
@@ -150,7 +154,7 @@ class Body:
             return self.call(found), found
         if kind.name == "?":
             found = [one for one in self.graph.by_name[name] if one.owner and one.crate in self.seen]
-            return (self.call(found) if len(found) == 1 else (self.call(found), UNKNOWN)[1]), found
+            return self.call(found), found
         found = self.graph.by_owner.get((kind.name, name), [])
         if found:
             return self.call(found, kind), found
@@ -201,7 +205,8 @@ class Body:
             depth += (tokens[stop].text in OPEN) - (tokens[stop].text in CLOSE)
             stop += 1
         pattern, written = tokens[at + 1 : stop], None
-        colon = next((i for i, t in enumerate(pattern) if t.text == ":" and not any(u.text == "{" for u in pattern[:i])), None)
+        names = [token.text for token in pattern]
+        colon = names.index(":") if ":" in names and "{" not in names[: names.index(":")] else None
         if colon is not None:
             pattern, written = pattern[:colon], type_of(pattern[colon + 1 :])
         if stop >= len(tokens) or tokens[stop].text == ";":
@@ -265,7 +270,7 @@ class Body:
         return stop + 1
 
     def given(self, tokens: list[Token], found: list[Function], kind: Type) -> None:
-        """The words of a call; a closure among them gets its types from the function's bounds, or from what it goes over."""
+        """The words of a call; a closure among them gets its types from the function's bounds, or what it goes over."""
         for place, part in enumerate(split(tokens)):
             part = part[1:] if part[0].text == "move" else part
             if part and part[0].text == "|" and not (len(part) > 1 and part[1].text == "|"):
@@ -355,7 +360,8 @@ class Body:
             return self.graph.by_owner.get((names[-2], names[-1]), [])
         found = [one for one in self.graph.by_name[names[-1]] if not one.owner and one.crate in self.seen]
         here = [one for one in found if one.path == self.function.path] if len(names) == 1 else []
-        return here or [one for one in found if one.crate == self.function.crate] if len(names) == 1 and len(found) > 1 else found
+        own = [one for one in found if one.crate == self.function.crate] if len(names) == 1 else []
+        return here or own or found
 
     def tail(self, tokens: list[Token], at: int, kind: Type) -> tuple[int, Type]:
         while at < len(tokens):

@@ -1,4 +1,4 @@
-"""Reads the .rt files of the crates: their functions, types, traits and imports, as far as tests/unreached asks for them.
+"""Reads the .rt files of the crates: their functions, types, traits and imports, as tests/unreached asks for them.
 
 It is no compiler: clauses are skipped, and what it does not know it leaves out.
 """
@@ -11,6 +11,8 @@ TOKEN = re.compile(
     |(?P<life>'\w+)|(?P<word>[^\W\d]\w*)|(?P<number>\d[\w]*(?:\.\d\w*)?)|(?P<sign>::|->|=>|\S)""",
     re.X | re.S,
 )
+WITHOUT = {"&", "mut", "dyn", "impl", "*", "const"}
+ENDS_OF_TYPE = {"{", ";", "requires", "ensures", "decreases", "where", "ghost"}
 OPEN, CLOSE = {"(": ")", "[": "]", "{": "}"}, {")", "]", "}"}
 
 
@@ -37,16 +39,14 @@ class Function:
     crate: str
     path: Path
     owner: str  # the type or trait that it belongs to, or nothing
-    trait: str  # the trait that it implements or belongs to, or nothing
+    trait: str  # the trait that it implements or belongs to, or nothing; `const` and `derived` are no functions
     name: str
-    is_public: bool
-    is_test: bool  # it is a test
-    in_tests: bool  # it is compiled for tests alone
-    generics: dict  # by type parameter its bounds
-    params: list  # names with types
-    gives: Type
-    span: tuple  # from its first character to its last
-    body: list  # its tokens, none of a law or of a trait's method without a body
+    is_test: bool = False
+    generics: dict = field(default_factory=dict)  # by type parameter its bounds
+    params: list = field(default_factory=list)  # patterns with types
+    gives: Type = field(default_factory=lambda: Type("tuple"))
+    span: tuple = (-1, -1)  # from its first character to its last
+    body: list = field(default_factory=list)  # its tokens
     has_body: bool = True
     changes: bool = True  # something that it is lent
 
@@ -63,6 +63,27 @@ class Function:
     @property
     def label(self) -> str:
         return f"{self.crate} {self.owner + '::' if self.owner else ''}{self.name}"
+
+
+@dataclass
+class Head:
+    """What stands before an item."""
+
+    first: int = -1
+    attributes: list = field(default_factory=list)
+
+    def has(self, word: str) -> bool:
+        return word in [token.text for token in self.attributes]
+
+
+@dataclass
+class Within:
+    """What an item stands in: a type or a trait, or neither."""
+
+    owner: str = ""
+    trait: str = ""
+    generics: dict = field(default_factory=dict)
+    for_tests: bool = False
 
 
 @dataclass
@@ -121,7 +142,7 @@ def split(tokens: list[Token], by: str = ",") -> list[list[Token]]:
 
 def type_of(tokens: list[Token]) -> Type:
     at = 0
-    while at < len(tokens) and (tokens[at].text in ("&", "mut", "dyn", "impl", "*", "const") or tokens[at].kind == "life"):
+    while at < len(tokens) and (tokens[at].text in WITHOUT or tokens[at].kind == "life"):
         at += 1
     if at == len(tokens):
         return Type()
@@ -161,72 +182,66 @@ class Reader:
         self.tokens = tokens_of(path.read_text())
         self.modules = []  # of files that it names, and whether they are for tests alone
         self.aliases = crate.aliases.setdefault(path, {})
-        self.items(0, len(self.tokens), "", "", {}, in_tests)
+        self.items(0, len(self.tokens), Within(for_tests=in_tests))
 
-    def items(self, at: int, end: int, owner: str, trait: str, generics: dict, in_tests: bool) -> None:
-        marks, attributes, is_public, first = set(), [], False, None
+    def items(self, at: int, end: int, within: Within) -> None:
+        """Reads the items from one place to another."""
+        head = Head()
         while at < end:
             token = self.tokens[at]
-            first = token.at if first is None else first
+            after = self.tokens[at + 1].text
+            head.first = token.at if head.first < 0 else head.first
             if token.text == "#":
-                stop = past(self.tokens, at + 1 if self.tokens[at + 1].text == "[" else at + 2)
-                written = self.tokens[at:stop]
-                marks |= {it.text for it in written}
-                attributes += written
+                stop = past(self.tokens, at + 1 if after == "[" else at + 2)
+                head.attributes += self.tokens[at:stop]
                 at = stop
-                continue
-            if token.text == "pub":
-                is_public = self.tokens[at + 1].text != "("
-                at = at + 1 if is_public else past(self.tokens, at + 1)
-                continue
-            if token.text in ("unsafe", "extern", "default") or token.text == "const" and self.tokens[at + 1].text == "fn":
+            elif token.text == "pub":
+                at = past(self.tokens, at + 1) if after == "(" else at + 1
+            elif token.text in ("unsafe", "extern") or (token.text, after) == ("const", "fn"):
                 at += 1
-                continue
-            for_tests = in_tests or "test" in marks
-            is_shown = is_public or bool(trait) and owner == trait
-            if token.text == "fn":
-                at = self.function(at, (owner, trait, is_shown, "test" in marks and "cfg" not in marks, for_tests), generics, first)
-            elif token.text in ("impl", "trait"):
-                at = self.block(at, for_tests)
-            elif token.text in ("struct", "enum"):
-                self.derived(self.tokens[at + 1].text, attributes, first)
-                at = self.data(at)
-            elif token.text == "mod" and self.tokens[at + 2].text == ";":
-                self.modules.append((self.tokens[at + 1].text, for_tests))
-                at += 3
-            elif token.text == "use":
-                at = self.imports(at)
-            elif token.kind == "word" and self.tokens[at + 1].text == "!":
-                at = past(self.tokens, at + 2)
-            elif token.text in ("const", "static") and self.tokens[at + 1].kind == "word":
-                at = self.constant(at, owner, first, for_tests)
             else:
-                at = self.past_item(at)
-            marks, attributes, is_public, first = set(), [], False, None
+                at = self.item(at, head, within)
+                head = Head()
+
+    def item(self, at: int, head: Head, within: Within) -> int:
+        token, after = self.tokens[at], self.tokens[at + 1]
+        for_tests = within.for_tests or head.has("test")
+        if token.text == "fn":
+            return self.function(at, head, within)
+        if token.text in ("impl", "trait"):
+            return self.block(at, for_tests)
+        if token.text in ("struct", "enum"):
+            self.derived(after.text, head)
+            return self.data(at)
+        if token.text == "mod" and self.tokens[at + 2].text == ";":
+            self.modules.append((after.text, for_tests))
+            return at + 3
+        if token.text == "use":
+            return self.imports(at)
+        if token.kind == "word" and after.text == "!":
+            return past(self.tokens, at + 2)
+        if token.text in ("const", "static") and after.kind == "word":
+            return self.constant(at, head, within)
+        return self.past_item(at)
 
     def past_item(self, at: int) -> int:
         while at < len(self.tokens) and self.tokens[at].text != ";":
             at = past(self.tokens, at) if self.tokens[at].text in OPEN else at + 1
         return at + 1
 
-    def constant(self, at: int, owner: str, first: int, for_tests: bool) -> int:
-        """A constant is taken for a function that runs."""
-        stop, name = self.past_item(at), self.tokens[at + 1].text
-        body = self.tokens[at + 2 : stop]
-        span = (first, self.tokens[stop - 1].at)
-        made = Function(self.crate.name, self.path, owner, "const", name, False, False, for_tests, {}, [], Type(), span, body)
+    def constant(self, at: int, head: Head, within: Within) -> int:
+        """A constant is a function without parameters to whoever names it."""
+        stop = self.past_item(at)
+        made = Function(self.crate.name, self.path, within.owner, "const", self.tokens[at + 1].text)
+        made.span, made.body = (head.first, self.tokens[stop - 1].at), self.tokens[at + 2 : stop]
         self.crate.functions.append(made)
         return stop
 
-    def derived(self, owner: str, attributes: list[Token], first: int) -> None:
+    def derived(self, owner: str, head: Head) -> None:
         """What a derived method of a type calls by its attributes, as `#[error("{}", self.name())]`."""
-        if attributes:
-            params = [([Token("word", "self", first)], Type("Self"))]
-            made = Function(
-                self.crate.name, self.path, owner, "derived", "derived", False, False, False, {}, params, Type(), (first, first),
-                attributes,
-            )
-            self.crate.functions.append(made)
+        made = Function(self.crate.name, self.path, owner, "derived", "derived")
+        made.params, made.body = [([Token("word", "self", head.first)], Type("Self"))], head.attributes
+        self.crate.functions.append(made)
 
     def imports(self, at: int) -> int:
         stop = self.past_item(at)
@@ -239,7 +254,7 @@ class Reader:
     def data(self, at: int) -> int:
         kind, name = self.tokens[at].text, self.tokens[at + 1].text
         stop = past_angles(self.tokens, at + 2)
-        self.crate.parameters[name] = list(generics_of(self.tokens[at + 3 : stop - 1])) if stop > at + 2 else []
+        self.crate.parameters[name] = list(generics_of(self.tokens[at + 3 : stop - 1]))
         at = stop
         if self.tokens[at].text == ";":
             self.crate.fields[name] = {}
@@ -292,40 +307,40 @@ class Reader:
         else:
             trait = "" if at_for is None else type_of(head[:at_for]).name
             owner = type_of(head if at_for is None else head[at_for + 1 :]).name
-        self.items(opens + 1, end - 1, owner, trait, generics, for_tests)
+        self.items(opens + 1, end - 1, Within(owner, trait, generics, for_tests))
         return end
 
-    def function(self, at: int, how: tuple, generics: dict, first: int) -> int:
-        owner, trait, is_public, is_test, for_tests = how
-        name, opens = self.tokens[at + 1].text, past_angles(self.tokens, at + 2)
-        bounds = generics | (generics_of(self.tokens[at + 3 : opens - 1]) if opens > at + 2 else {})
+    def function(self, at: int, head: Head, within: Within) -> int:
+        made = Function(self.crate.name, self.path, within.owner, within.trait, self.tokens[at + 1].text)
+        opens = past_angles(self.tokens, at + 2)
+        made.generics = within.generics | generics_of(self.tokens[at + 3 : opens - 1])
         ends = past(self.tokens, opens)
-        params = []
-        for part in split(self.tokens[opens + 1 : ends - 1]):
-            colon = next((place for place, token in enumerate(part) if token.text == ":"), None)
-            if colon is not None:
-                params.append(([token for token in part[:colon] if token.text != "mut"], type_of(part[colon + 1 :])))
-            elif part[-1].text == "self":
-                params.append(([part[-1]], Type("Self")))
-        at, gives = ends, Type("tuple")
+        made.params = [self.parameter(part) for part in split(self.tokens[opens + 1 : ends - 1])]
+        made.changes = "mut" in [token.text for token in self.tokens[opens:ends]]
+        made.is_test = head.has("test") and not head.has("cfg")
+        at = ends
         if self.tokens[at].text == "->":
             stop = at = at + 1
-            while self.tokens[stop].text not in ("{", ";", "requires", "ensures", "decreases", "where", "ghost"):
+            while self.tokens[stop].text not in ENDS_OF_TYPE:
                 stop = past(self.tokens, stop) if self.tokens[stop].text in "([" else stop + 1
-            gives, at = type_of(self.tokens[at:stop]), stop
+            made.gives, at = type_of(self.tokens[at:stop]), stop
         while self.tokens[at].text not in ("{", ";"):  # the clauses
             while self.tokens[at].text != "{":
                 at += 1
             at = past(self.tokens, at)
-        end = past(self.tokens, at) if self.tokens[at].text == "{" else at + 1
-        body = self.tokens[at + 1 : end - 1]
-        span = (first, self.tokens[end - 1].at)
-        made = Function(
-            self.crate.name, self.path, owner, trait, name, is_public, is_test, for_tests, bounds, params, gives, span, body,
-            self.tokens[at].text == "{", "mut" in [token.text for token in self.tokens[opens:ends]],
-        )
+        made.has_body = self.tokens[at].text == "{"
+        end = past(self.tokens, at) if made.has_body else at + 1
+        made.body, made.span = self.tokens[at + 1 : end - 1], (head.first, self.tokens[end - 1].at)
         self.crate.functions.append(made)
         return end
+
+    def parameter(self, part: list[Token]) -> tuple[list[Token], Type]:
+        """A parameter's pattern, with its type."""
+        texts = [token.text for token in part]
+        if ":" not in texts:
+            return [part[-1]], Type("Self")
+        colon = texts.index(":")
+        return [token for token in part[:colon] if token.text != "mut"], type_of(part[colon + 1 :])
 
 
 def read_crate(folder: Path, stands_on: set) -> Crate:
