@@ -8,6 +8,13 @@ CRATES = TOP / "crates"
 PROGRAM = CRATES / "em_bench" / "out" / "em_bench"
 
 
+def below() -> dict[str, list[str]]:
+    """The crates of crates.txt with the crates of this repository that each names, lowest first."""
+    lines = [line.partition("#")[0] for line in (TOP / "crates.txt").read_text().splitlines()]
+    named = {head.split()[0]: deps.split() for head, colon, deps in (line.partition(":") for line in lines) if colon}
+    return {name: [dep for dep in deps if dep in named] for name, deps in named.items()}
+
+
 def program() -> str:
     """The program that a part is told to run, or the one that was built last."""
     named = sys.argv[1] if sys.argv[1:] else str(PROGRAM)
