@@ -18,17 +18,28 @@ RECEIVE, TRANSMIT = 0x2800, 0x3800  # the rings: base low, base high +4, length 
 TXDW, TXQE, LSC, RXDMT0, RXO, RXT0 = 1, 2, 4, 0x10, 0x40, 0x80
 MPC, RNBC, RUC, ROC = 0x4010, 0x40A0, 0x40A4, 0x40AC
 GPRC, BPRC, MPRC, GPTC, GORC, GOTC, MPTC, BPTC = 0x4074, 0x4078, 0x407C, 0x4080, 0x4088, 0x4090, 0x40F0, 0x40F4
-COUNTERS = {MPC, GPRC, BPRC, MPRC, GPTC, RNBC, RUC, ROC, MPTC, BPTC}
-COUNTERS |= {*range(0x405C, 0x4074, 4), *range(0x40D8, 0x40F0, 4)}
+# every register that is no array, by its offset and its name in the manual
+NAMES = {
+    CTRL: "CTRL", STATUS: "STATUS", EERD: "EERD", 0x18: "CTRL_EXT", 0x28: "FCAL", 0x2C: "FCAH", 0x30: "FCT", VET: "VET",
+    ICR: "ICR", 0xC4: "ITR", ICS: "ICS", IMS: "IMS", IMC: "IMC", RCTL: "RCTL", 0x170: "FCTTV", TCTL: "TCTL",
+    TIPG: "TIPG", 0xE00: "LEDCTL", 0x1000: "PBA", 0x2800: "RDBAL", 0x2804: "RDBAH", 0x2808: "RDLEN", 0x2810: "RDH",
+    0x2818: "RDT", 0x2820: "RDTR", 0x2828: "RXDCTL", 0x282C: "RADV", 0x3800: "TDBAL", 0x3804: "TDBAH", 0x3808: "TDLEN",
+    0x3810: "TDH", 0x3818: "TDT", 0x3820: "TIDV", 0x3828: "TXDCTL", 0x382C: "TADV", MPC: "MPC", 0x405C: "PRC64",
+    0x4060: "PRC127", 0x4064: "PRC255", 0x4068: "PRC511", 0x406C: "PRC1023", 0x4070: "PRC1522", GPRC: "GPRC",
+    BPRC: "BPRC", MPRC: "MPRC", GPTC: "GPTC", 0x4088: "GORCL", 0x408C: "GORCH", 0x4090: "GOTCL", 0x4094: "GOTCH",
+    RNBC: "RNBC", RUC: "RUC", ROC: "ROC", 0x40D8: "PTC64", 0x40DC: "PTC127", 0x40E0: "PTC255", 0x40E4: "PTC511",
+    0x40E8: "PTC1023", 0x40EC: "PTC1522", MPTC: "MPTC", BPTC: "BPTC", 0x5000: "RXCSUM",
+}
+PAIRS = {GORC, GORC + 4, GOTC, GOTC + 4}
+COUNTERS = {offset for offset in NAMES if 0x4000 <= offset < 0x5000} - PAIRS
 ARRAYS = {*range(0x5200, 0x5480, 4), *range(0x5600, 0x5800, 4)}
-PLAIN = {0x18, 0x28, 0x2C, 0x30, 0xC4, RCTL, 0x170, TCTL, TIPG, 0xE00, 0x1000, 0x2804, 0x2820, 0x2828, 0x282C, 0x3804}
-PLAIN |= {0x3820, 0x3828, 0x382C, 0x5000, CTRL} | ARRAYS
+REGISTERS = {*NAMES} | ARRAYS
 MASKS = {VET: 0xFFFF} | {ring + at: mask for ring in (RECEIVE, TRANSMIT)
                          for at, mask in ((0, 0xFFFFFFF0), (8, 0xFFF80), (0x10, 0xFFFF), (0x18, 0xFFFF))}
 MASKS |= {0x5404 + 8 * i: 0x8003FFFF for i in range(16)}
+PLAIN = REGISTERS - COUNTERS - PAIRS - {STATUS, EERD, ICR, ICS, IMS, IMC, *MASKS}
 # where the driver that a script starts keeps its rings and buffers
 RX_RING, TX_RING, RX_BUFFERS, TX_BUFFERS, DESCRIPTORS, BUFFER = 0, 0x80, 0x1000, 0x5000, 8, 2048
-REGISTERS = PLAIN | {*MASKS} | COUNTERS | {STATUS, EERD, ICR, ICS, IMS, IMC, GORC, GORC + 4, GOTC, GOTC + 4}
 
 
 class Refused(Exception):

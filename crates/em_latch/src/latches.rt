@@ -6,7 +6,7 @@ ghost use Rattle.em_regs.specs.Storage.{Registers};
 ghost use Rattle.em_regs.specs.RegFile as registers;
 ghost use Rattle.em_latch.specs.Storage.{offsets};
 ghost use Rattle.em_latch.specs.Latches.{fresh, is_latched, IsLatched, IsWord, gives, after_read, after_write};
-ghost use Rattle.em_latch.specs.Latches.{after_raise, after_pair_write, IsAsserted, Fits, undo, Reverses};
+ghost use Rattle.em_latch.specs.Latches.{after_raise, after_pair_clear, after_pair_write, IsAsserted, Fits, undo, Reverses};
 ghost use Rattle.em_latch.specs.Counter.{after_count, after_pair_count, width_of};
 
 use crate::counter::Counter;
@@ -96,14 +96,14 @@ impl Latches {
         ensures words { length result.1 ≤ 2 }
         ensures reverses { Reverses self.old self.new result.1 }
     {
-        let value = self.look(reg);
         let mut undo = LatchUndo::none();
-        match reg {
-            Reg::Ics | Reg::Ims | Reg::Imc | Reg::Gorcl | Reg::Gotcl => {}
-            Reg::Gorch => self.replace_both(Reg::Gorcl, Reg::Gorch, 0, 0, &mut undo),
-            Reg::Gotch => self.replace_both(Reg::Gotcl, Reg::Gotch, 0, 0, &mut undo),
-            _ => self.replace(reg, 0, &mut undo),
-        }
+        let value = match reg {
+            Reg::Imc | Reg::Ics => 0,
+            Reg::Ims | Reg::Gorcl | Reg::Gotcl => self.word(reg),
+            Reg::Gorch => self.clear_both(Reg::Gorcl, Reg::Gorch, &mut undo),
+            Reg::Gotch => self.clear_both(Reg::Gotcl, Reg::Gotch, &mut undo),
+            _ => self.clear(reg, &mut undo),
+        };
         (value, undo)
     }
 
@@ -234,6 +234,38 @@ impl Latches {
         let place = place_of(reg);
         let old = self.swap(place, value);
         undo.push(OldWord { place, old });
+    }
+
+    /// Clears a word, adds it to a record, and gives it.
+    #[inline(always)]
+    fn clear(&mut self, reg: Reg, undo: &mut LatchUndo) -> u32
+        requires word { IsWord reg }
+        requires room { length undo.old + 1 ≤ MOST_WORDS }
+        ensures value { result ≡ registers.at self.old (offset_of reg) }
+        ensures state { self.new ≡ map.insert self.old (offset_of reg) 0 }
+        ensures words { length undo.new ≡ length undo.old + 1 }
+        ensures reverses { (base : Registers) → Reverses base self.old undo.old → Reverses base self.new undo.new }
+    {
+        let place = place_of(reg);
+        let old = self.swap(place, 0);
+        undo.push(OldWord { place, old });
+        old
+    }
+
+    /// Clears both words of a pair, and gives the high one.
+    #[inline(always)]
+    fn clear_both(&mut self, low: Reg, high: Reg, undo: &mut LatchUndo) -> u32
+        requires low { IsWord low }
+        requires high { IsWord high }
+        requires room { length undo.old + 2 ≤ MOST_WORDS }
+        ensures value { result ≡ registers.at self.old (offset_of high) }
+        ensures state { self.new ≡ after_pair_clear self.old low high }
+        ensures words { length undo.new ≡ length undo.old + 2 }
+        ensures reverses { (base : Registers) → Reverses base self.old undo.old → Reverses base self.new undo.new }
+    {
+        let value = self.word(high);
+        self.replace_both(low, high, 0, 0, undo);
+        value
     }
 
     /// Stores two words, the low half of a pair and the high one.

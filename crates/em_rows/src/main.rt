@@ -16,6 +16,8 @@ use std::{fs, io};
 #[cfg(test)]
 mod filters;
 #[cfg(test)]
+mod offsets;
+#[cfg(test)]
 mod refusals;
 #[cfg(test)]
 mod registers;
