@@ -1,6 +1,6 @@
 //! The descriptors of the two rings, as a driver reads and writes them.
 ghost use Rattle.std.specs.Prelude.{◌≡◌, true, false, MatchOption};
-ghost use Rattle.em_driver.specs.Descriptor.{is_done as has_dd, is_whole, length_of, transmit_descriptor};
+ghost use Rattle.em_driver.specs.Descriptor.{is_done as has_dd, is_last as has_eop, is_whole, length_of, transmit_descriptor};
 
 use crate::layout::{BUFFER_OCTETS, DESCRIPTOR_OCTETS};
 use byteorder::{ByteOrder, LittleEndian};
@@ -34,16 +34,23 @@ pub(crate) fn is_done(descriptor: &Descriptor) -> bool
     descriptor[STATUS] & DD != 0
 }
 
+/// Whether the buffer of a receive descriptor has the last octet of its frame.
+#[tactic(auto, using(crate::proofs::BitLaws::second_bit), unfolding(crate::specs::Descriptor::is_last))]
+fn is_last(descriptor: &Descriptor) -> bool
+    ensures { result ≡ has_eop descriptor.now }
+{
+    descriptor[STATUS] & EOP != 0
+}
+
 /// How many octets the packet of a receive descriptor has; None where its buffer does not have a
 /// whole packet.
-#[tactic(auto, unfolding(crate::specs::Descriptor::is_last, crate::specs::Descriptor::length_of))]
+#[tactic(auto, unfolding(crate::specs::Descriptor::length_of))]
 pub(crate) fn packet_length(descriptor: &Descriptor) -> Option<u16>
     ensures { MatchOption result (is_whole descriptor.now ≡ false)
         (λ octets. (is_whole descriptor.now ≡ true) × (octets ≡ length_of descriptor.now)) }
 {
-    let is_last = descriptor[STATUS] & EOP != 0;
     let length = LittleEndian::read_u16(&descriptor[LENGTH..]);
-    if is_last && 0 < length && length <= BUFFER_OCTETS as u16 {
+    if is_last(descriptor) && 0 < length && length <= BUFFER_OCTETS as u16 {
         Some(length)
     } else {
         None

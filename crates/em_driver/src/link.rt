@@ -1,5 +1,5 @@
 //! The speed of the link.
-ghost use Rattle.std.specs.Prelude.{◌≡◌};
+ghost use Rattle.std.specs.Prelude.{◌≡◌, ◌/◌, ◌%◌, ◌==◌};
 ghost use Rattle.em_driver.specs.Calls.{speed_in};
 
 use bitflags::Flags;
@@ -8,11 +8,20 @@ use em_regs::Status;
 /// SPEED of STATUS, where it says 100 Mb/s.
 const SPEED_100: u32 = 0x40;
 
+/// Whether STATUS says that the link is up.
+#[tactic(auto, using(crate::proofs::BitLaws::second_bit))]
+fn is_up(status: u32) -> bool
+    ensures { result ≡ (status / 2 % 2 == 1) }
+{
+    Status::from_bits_retain(status).contains(Status::LU)
+}
+
 /// The speed that STATUS holds, in Mb/s; 0 where the link is down.
+#[tactic(auto, using(crate::proofs::BitLaws::speed_field))]
 pub(crate) fn speed_of(status: u32) -> u16
     ensures { result ≡ speed_in status }
 {
-    if !Status::from_bits_retain(status).contains(Status::LU) {
+    if !is_up(status) {
         return 0;
     }
     match status & Status::SPEED.bits() {
