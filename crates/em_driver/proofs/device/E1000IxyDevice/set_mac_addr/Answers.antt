@@ -24,10 +24,11 @@ first_two (x ∷ y ∷ xs) = refl
 
 pub returns-clause-course : goal.returns-clause-course
 returns-clause-course g c =
+    let half = little_number 2 (drop 4 c.args.address) in
+    let octets : c.from.result ≡ half = c.from.ensures ∙ c.read_u16-high.ensures ∙ first_two (drop 4 c.args.address) in
+    let high : c.from.result + c.bits.result ≡ half + 0x8000_0000 = rw (c.bits.ensures tt) (ap (λ x. x + 0x8000_0000) octets) in
     written_as _ _ _ _ _ _ _ _ 1 _ c.set.ensures.event c.read_u32-low.ensures refl
-    (written_as _ _ _ _ _ _ _ _ 0 _ c.set-2.ensures.event
-    (ap (λ x. x + 0x8000_0000) (c.from.ensures ∙ c.read_u16-high.ensures ∙ first_two (drop 4 c.args.address))) refl
-    (ends _ _))
+    (written_as _ _ _ _ _ _ _ _ 0 _ c.set-2.ensures.event high refl (ends _ _))
 
 pub returns-clause-order : goal.returns-clause-order
 returns-clause-order g c = λ h. set_mac_addr_order _ c.args.address _ _ 2 _ h (returns-clause-course g c)
