@@ -1,5 +1,5 @@
 -- What settings make, and when they make nothing.
-use Rattle.std.specs.Prelude.{◌≡◌, [], ◌∷◌}
+use Rattle.std.specs.Prelude.{◌≡◌, ℕ, List, [], ◌∷◌, codes}
 use Rattle.em_mem.specs.Memory.{IsMemorySize}
 use Rattle.em_eeprom.specs.Eeprom.{words_of_mac}
 use Rattle.em_step.specs.Cells.{fresh, shows}
@@ -9,11 +9,16 @@ use Rattle.em_journal.specs.declared.settings.Settings.{Settings}
 use Rattle.em_journal.specs.declared.settings.SettingsRefusal.{SettingsRefusal}
 use Rattle.em_journal.specs.declared.settings.SettingsRefusal.TheVariants.{Size, Budget, Memory}
 
--- 64 KiB of memory, 1 MiB for the journal, and an address that is administered locally: 52:54:00:12:34:56
-pub record IsDefault (settings : Settings) : Type 0 where
-  pub memory : settings.memory ≡ 65_536
-  pub budget : settings.budget ≡ 1_048_576
-  pub mac : settings.mac ≡ 0x52 ∷ 0x54 ∷ 0x00 ∷ 0x12 ∷ 0x34 ∷ 0x56 ∷ []
+-- where nobody says otherwise: 64 KiB of memory, 1 MiB for the journal, and an address that is administered locally
+abbrev pub defaults : Settings
+defaults = record {
+  memory = 65_536;
+  budget = 1_048_576;
+  mac = 0x52 ∷ 0x54 ∷ 0x00 ∷ 0x12 ∷ 0x34 ∷ 0x56 ∷ [];
+}
+
+abbrev pub IsDefault : Settings → Type 0
+IsDefault settings = settings ≡ defaults
 
 -- after a reset, over a memory of zeros, with the link down and nothing to take back
 abbrev pub new_machine : Settings → View
@@ -28,3 +33,9 @@ abbrev pub IsRefusedAs : Settings → SettingsRefusal → Type 0
 IsRefusedAs settings Size = IsMemorySize settings.memory → ⊥
 IsRefusedAs settings Budget = IsMemorySize settings.memory × (IsBudget settings.budget → ⊥)
 IsRefusedAs settings Memory = AreAllowed settings
+
+-- the name of what refused settings, as it is printed
+abbrev pub name_of : SettingsRefusal → List ℕ
+name_of Size = codes "Size"
+name_of Budget = codes "Budget"
+name_of Memory = codes "Memory"

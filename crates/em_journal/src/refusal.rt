@@ -1,17 +1,16 @@
 //! Why a journal is not made, and why nothing is taken back.
 ghost use Rattle.std.specs.Prelude.{◌≡◌};
-ghost use Rattle.em_journal.specs.Refusal.{code_of, code_of_empty};
+ghost use Rattle.em_journal.specs.Refusal.{code_of, code_of_empty, name_of, name_of_empty};
 
 use thiserror::Error;
 
 /// Why no machine was made.
 #[derive(Clone, Copy, PartialEq, Eq, Debug, Error)]
+#[error("{}", self.name())]
 pub enum JournalRefusal {
     /// The budget lies outside 65,536 to 16,777,216 octets of cost.
-    #[error("Budget")]
     Budget,
     /// The memory of the journal's places was refused.
-    #[error("Memory")]
     Memory,
 }
 
@@ -25,11 +24,21 @@ impl JournalRefusal {
             JournalRefusal::Memory => 9,
         }
     }
+
+    /// The name of the refusal, as it is printed.
+    pub fn name(self) -> &'static str
+        ensures { result.now ≡ name_of self }
+    {
+        match self {
+            JournalRefusal::Budget => "Budget",
+            JournalRefusal::Memory => "Memory",
+        }
+    }
 }
 
 /// The journal holds no event that could be taken back.
 #[derive(Clone, Copy, PartialEq, Eq, Debug, Error)]
-#[error("Empty")]
+#[error("{}", self.name())]
 pub struct Empty;
 
 impl Empty {
@@ -38,5 +47,12 @@ impl Empty {
         ensures { result ≡ code_of_empty }
     {
         8
+    }
+
+    /// The name of the refusal, as it is printed.
+    pub fn name(self) -> &'static str
+        ensures { result.now ≡ name_of_empty }
+    {
+        "Empty"
     }
 }

@@ -1,7 +1,7 @@
 //! What a machine is made of, and what it is made of where nobody says otherwise.
 ghost use Rattle.std.specs.Prelude.{◌≡◌, ◌↔◌, IfOk, IfErr, OnOk};
 ghost use Rattle.em_mem.specs.Memory.{IsMemorySize};
-ghost use Rattle.em_journal.specs.Settings.{new_machine, AreAllowed, IsRefusedAs};
+ghost use Rattle.em_journal.specs.Settings.{name_of, new_machine, AreAllowed, IsRefusedAs};
 
 use crate::machine::{Machine, is_budget};
 use crate::refusal::JournalRefusal;
@@ -11,8 +11,7 @@ use em_step::Adapter;
 use std::alloc::Global;
 use thiserror::Error;
 
-/// What a machine is made of. By default it has 65,536 octets of memory, a budget of 1,048,576 and
-/// the address 52:54:00:12:34:56.
+/// What a machine is made of; `Settings::default()` is what it is made of where nobody says otherwise.
 #[derive(Clone, Copy, PartialEq, Eq, Debug)]
 pub struct Settings {
     /// How many octets the guest's memory has: a multiple of 4,096 from 4,096 to 16,777,216.
@@ -23,32 +22,46 @@ pub struct Settings {
     pub mac: [u8; 6],
 }
 
+/// 64 KiB of memory, 1 MiB for the journal, and an address that is administered locally.
+const DEFAULTS: Settings = Settings {
+    memory: 65_536,
+    budget: 1_048_576,
+    mac: [0x52, 0x54, 0x00, 0x12, 0x34, 0x56],
+};
+
 impl Default for Settings {
     ghost use Rattle.em_journal.specs.Settings.{IsDefault};
 
     ghost is_default = { IsDefault };
 
     fn default() -> Settings {
-        Settings {
-            memory: 65_536,
-            budget: 1_048_576,
-            mac: [0x52, 0x54, 0x00, 0x12, 0x34, 0x56],
-        }
+        DEFAULTS
     }
 }
 
 /// Why settings made no machine. Where several causes are there, the first of them is named.
 #[derive(Clone, Copy, PartialEq, Eq, Debug, Error)]
+#[error("{}", self.name())]
 pub enum SettingsRefusal {
     /// The size of memory is not a multiple of 4,096 from 4,096 to 16,777,216.
-    #[error("Size")]
     Size,
     /// The budget lies outside 65,536 to 16,777,216 octets of cost.
-    #[error("Budget")]
     Budget,
     /// Memory was refused.
-    #[error("Memory")]
     Memory,
+}
+
+impl SettingsRefusal {
+    /// The name of the refusal, as it is printed.
+    pub fn name(self) -> &'static str
+        ensures { result.now ≡ name_of self }
+    {
+        match self {
+            SettingsRefusal::Size => "Size",
+            SettingsRefusal::Budget => "Budget",
+            SettingsRefusal::Memory => "Memory",
+        }
+    }
 }
 
 impl Settings {

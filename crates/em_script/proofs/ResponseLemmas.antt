@@ -39,7 +39,8 @@ says_behind front behind h =
 says_here : SaysMemory (codes " Memory\n")
 says_here = ([], [], refl)
 
-numbers_say : (word : List ℕ) (a b : ℕ) (behind : List ℕ) → SaysMemory behind → SaysMemory (numbers_text word a b behind)
+numbers_say : (word : List ℕ) (a b : ℕ) (behind : List ℕ) → SaysMemory behind
+    → SaysMemory (numbers_text word a b behind)
 numbers_say word a b behind h =
     says_behind word _ (says_behind (decimal_text a) _
     (says_behind (codes " ") _ (says_behind (decimal_text b) behind h)))

@@ -6,7 +6,8 @@ use Rattle.std.specs.Char.{digit_value}
 use Rattle.std.proofs.lemmas.Bool.{and_parts, cases_eq, eqb-true, agree_below, agree_below_at, not-true}
 use Rattle.std.proofs.lemmas.List.{get_or_default, length-map}
 use Rattle.std.proofs.lemmas.List.Sums.{prefix_len_passes}
-use Rattle.std.proofs.lemmas.Simd.{zip2_of_maps, splat_is_map, tops_compared, length-chunk, get_or-chunk, leading_from_mask_l}
+use Rattle.std.proofs.lemmas.Simd.{zip2_of_maps, splat_is_map, tops_compared, length-chunk, get_or-chunk}
+use Rattle.std.proofs.lemmas.Simd.{leading_from_mask_l}
 use Rattle.std.proofs.Math.ListN.{get_or-map}
 use Rattle.std.specs.Simd.Lanes.{zip2, sel_l, mask_l, top, chunk}
 use Rattle.hex.specs.Hex.{upper_digits}

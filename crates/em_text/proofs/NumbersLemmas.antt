@@ -1,5 +1,6 @@
 -- The number and the octets of a word, by cases.
-use Rattle.std.proofs.Common.{zero, suc, ◌≡◌, ◌≢◌, ◌%◌, ℕ, ◌+◌, ◌*◌, ◌^◌, ◌<◌, ◌≤◌, true, false, List, length, drop, get_or}
+use Rattle.std.proofs.Common.{zero, suc, ◌≡◌, ◌≢◌, ◌%◌, ℕ, ◌+◌, ◌*◌, ◌^◌, ◌<◌, ◌≤◌, true, false, List, length, drop}
+use Rattle.std.proofs.Common.{get_or}
 use Rattle.std.proofs.Common.{Option, Some, None, refl, sym, arith, add-one, take, Result, Ok, Err, ap, ◌∙◌, inl, inr}
 use Rattle.std.proofs.Common.{subst}
 use Rattle.std.specs.List.{list_all, AllPass}

@@ -1,5 +1,6 @@
 -- The octets that the word at the front of a text writes.
-use Rattle.std.proofs.Common.{◌≡◌, ◌≢◌, ◌⊎◌, ◌+◌, ◌*◌, ◌/◌, ◌%◌, ◌<◌, ◌≤◌, ℕ, true, false, List, length, take, not, subst}
+use Rattle.std.proofs.Common.{◌≡◌, ◌≢◌, ◌⊎◌, ◌+◌, ◌*◌, ◌/◌, ◌%◌, ◌<◌, ◌≤◌, ℕ, true, false, List, length, take, not}
+use Rattle.std.proofs.Common.{subst}
 use Rattle.std.proofs.Common.{Option, Some, None, refl, sym, ap, ◌∙◌, arith, inl, inr}
 use Rattle.std.specs.List.{before_first, position_or_len}
 use Rattle.std.specs.Prelude.{slice_index, option_map, IsSome}
@@ -24,10 +25,12 @@ pairs_no_blank text octets done pairs k lt =
     elim (cases_lt (k % 2) 1) [
       | inl even ↦
           let at : 2 * (k / 2) ≡ k = omega arith in
-          subst (λ j. is_blank (slice_index text j) ≡ false) at (hex_no_blank (slice_index text (2 * (k / 2))) pair.high)
+          subst (λ j. is_blank (slice_index text j) ≡ false) at
+          (hex_no_blank (slice_index text (2 * (k / 2))) pair.high)
       | inr odd ↦
           let at : 2 * (k / 2) + 1 ≡ k = omega arith in
-          subst (λ j. is_blank (slice_index text j) ≡ false) at (hex_no_blank (slice_index text (2 * (k / 2) + 1)) pair.low)
+          subst (λ j. is_blank (slice_index text j) ≡ false) at
+          (hex_no_blank (slice_index text (2 * (k / 2) + 1)) pair.low)
     ]
 
 -- so many octets stand before the first blank
@@ -50,7 +53,8 @@ front_octets text octets done some within room pairs end =
     let own : ArePairs word (take done octets) 0 (length (take done octets)) = λ k low lt.
     let below : k < done = omega (arith, few) in
     let pair = pairs k low below in
-    let high : slice_index word (2 * k) ≡ slice_index text (2 * k) = get_or-take (2 * done) text (2 * k) 0 (omega arith) in
+    let high : slice_index word (2 * k) ≡ slice_index text (2 * k) =
+    get_or-take (2 * done) text (2 * k) 0 (omega arith) in
     let second : slice_index word (2 * k + 1) ≡ slice_index text (2 * k + 1) =
     get_or-take (2 * done) text (2 * k + 1) 0 (omega arith) in
     let octet : slice_index (take done octets) k ≡ slice_index octets k = get_or-take done octets k 0 below in
@@ -59,7 +63,8 @@ front_octets text octets done some within room pairs end =
       low = rw second pair.low;
       value = octet ∙ pair.value ∙ sym (rw (high, second) refl);
     } in
-    (sym whole, rw (half, whole) (pairs_write word (take done octets) (omega (arith, long)) (omega (arith, long, few)) own))
+    let written = pairs_write word (take done octets) (omega (arith, long)) (omega (arith, long, few)) own in
+    (sym whole, rw (half, whole) written)
 
 -- where no pair stands behind them, and no blank or there is none of them, the word is of no octets
 pub front_no_octets : (text octets : List ℕ) (done : ℕ) → ArePairs text octets 0 done
@@ -88,7 +93,8 @@ front_no_octets text octets done pairs ends wrong =
           elim wrong [
             | inl none ↦ octets_of-empty word (omega (arith, long))
             | inr other ↦
-                let at : is_blank (slice_index text m) ≡ true = passes_at_first is_blank text 0 (omega (arith, other.0)) in
+                let at : is_blank (slice_index text m) ≡ true =
+                passes_at_first is_blank text 0 (omega (arith, other.0)) in
                 elim (cases_lt m (2 * done)) [
                   | inl before ↦ absurd (false≢true (sym (pairs_no_blank text octets done pairs m before) ∙ at))
                   | inr after ↦

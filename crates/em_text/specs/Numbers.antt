@@ -1,5 +1,6 @@
 -- The numbers and the octets that words write.
-use Rattle.std.specs.Prelude.{ℕ, ◌≡◌, ◌+◌, ◌-◌, ◌*◌, ◌<◌, ◌≤◌, ◌^◌, ◌⊎◌, ◌&&◌, ◌++◌, nat_lt, nat_le, replicate, slice_index}
+use Rattle.std.specs.Prelude.{ℕ, ◌≡◌, ◌+◌, ◌-◌, ◌*◌, ◌<◌, ◌≤◌, ◌^◌, ◌⊎◌, ◌&&◌, ◌++◌}
+use Rattle.std.specs.Prelude.{nat_lt, nat_le, replicate, slice_index}
 use Rattle.std.specs.Prelude.{if◌then◌else◌, List, length, take, get_or, true, false, Option, Some, None}
 use Rattle.std.specs.List.{list_all, prefix_len}
 use Rattle.std.specs.Char.{is_digit, digit_value}

@@ -7,13 +7,13 @@ ghost use Rattle.std.specs.Char.{digit_value};
 use std::simd::prelude::*;
 
 /// How many octets a loop without branches takes at a time.
-pub const AT_ONCE: usize = 16;
+pub const LANES: usize = 16;
 
 /// How many octets are still worth a loop without branches.
-pub const HALF: usize = 8;
+pub const HALF_LANES: usize = 8;
 
 /// How many octets at least are worth it where each is written by two digits.
-pub const QUARTER: usize = 4;
+pub const QUARTER_LANES: usize = 4;
 
 /// How many digits are numerals.
 const NUMERALS: u8 = 10;

@@ -1,7 +1,7 @@
 //! Octets of text, apart from any machine: the lines of a script, the words of a line, the numbers
 //! and octets that words write, a whole script from a reader, and texts to a writer.
 //!
-//! Nothing here but [`read_script`], [`octets_of`], [`octets_into`] and [`Words::octets_into`] takes memory.
+//! Nothing here but [`read_script`], [`octets_into`] and [`Words::octets_into`] takes memory.
 #![tactic(auto)]
 
 mod digits;
@@ -14,7 +14,7 @@ mod words;
 mod writer;
 
 pub use lines::next_line;
-pub use numbers::{decimal_number, is_octets, octets_into, octets_of};
+pub use numbers::{decimal_number, is_octets, octets_into};
 pub use reader::{MOST_SCRIPT, ReadFault, read_script};
 pub use words::{Words, is_name};
 pub use writer::{

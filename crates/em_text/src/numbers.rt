@@ -9,9 +9,9 @@ ghost use Rattle.em_text.specs.Numbers.{number, hex_number, hex_address, decimal
 ghost use Rattle.em_text.specs.Numbers.{ArePairs, IsNoNumber, LeadingNumber};
 ghost use Rattle.em_text.specs.Words.{is_blank, words_of, read_first};
 
-use crate::digits::{AT_ONCE, HALF, QUARTER, hex_values, value_of};
+use crate::digits::{HALF_LANES, LANES, QUARTER_LANES, hex_values, value_of};
 use crate::words::{Words, blanks_len, is_blank, word_len};
-use std::alloc::{AllocError, Global};
+use std::alloc::AllocError;
 use std::simd::prelude::*;
 
 const HEX: u8 = 16;
@@ -31,13 +31,13 @@ const HEX_ADDRESS_DIGITS: usize = 16;
 const DECIMAL_NUMBER_DIGITS: usize = 7;
 
 /// Two digits for each octet that is written at once.
-const DIGITS_AT_ONCE: usize = 2 * AT_ONCE;
+const DIGITS_AT_ONCE: usize = 2 * LANES;
 
 /// Two digits for each octet of a half of that.
-const HALF_DIGITS: usize = 2 * HALF;
+const HALF_DIGITS: usize = 2 * HALF_LANES;
 
 /// Two digits for each octet of a quarter of it.
-const QUARTER_DIGITS: usize = 2 * QUARTER;
+const QUARTER_DIGITS: usize = 2 * QUARTER_LANES;
 
 /// How many octets stand often behind a word of digits: a blank and a number of up to four digits.
 const NUMBER_BEHIND: usize = 5;
@@ -90,7 +90,7 @@ impl Words<'_> {
     {
         let line = self.0;
         let line = &line[blanks_len(line)..];
-        let Ok(found) = front_octets_into(octets, line) else {
+        let Ok(found) = octets_at_front_into(octets, line) else {
             return refused_for(&line[..word_len(line)]);
         };
         let Some(len) = found else {
@@ -113,7 +113,7 @@ impl Words<'_> {
     {
         let line = self.0;
         let line = &line[blanks_len(line)..];
-        let Some((value, len)) = front_number(line, base, most) else {
+        let Some((value, len)) = number_at_front(line, base, most) else {
             return None;
         };
         self.0 = &line[len..];
@@ -126,36 +126,37 @@ impl Words<'_> {
 pub fn decimal_number(word: &[u8]) -> Option<u32>
     ensures value { result ≡ decimal_number word.now }
 {
-    match leading_number(word, DECIMAL, DECIMAL_NUMBER_DIGITS) {
+    match scan_number(word, DECIMAL, DECIMAL_NUMBER_DIGITS) {
         Some((value, len)) if len == word.len() => Some(value as u32),
         _ => None,
     }
 }
 
 /// The number that the digits in this base at the front of a text write, and how many they are: one
-/// to `most`, up to a blank or the text's end. Where a whole value or a whole offset may stand there, a loop
-/// over just so many octets comes first.
+/// to `most`, up to a blank or the text's end. A whole value and a whole offset are the usual lengths: a loop
+/// over just so many octets is tried first.
 #[inline(always)]
-fn front_number(text: &[u8], base: u8, most: usize) -> Option<(u64, usize)>
+fn number_at_front(text: &[u8], base: u8, most: usize) -> Option<(u64, usize)>
     requires some { 0 < base }
     requires letters { base ≤ 36 }
     requires fits { base ^ most ≤ 2 ^ 64 }
     ensures none { IsNone result → IsNoNumber base most text.now }
     ensures some { IfSome result (λ found. LeadingNumber base most text.now found.0 found.1) }
 {
-    if let Some(found) = near_number::<HEX_NUMBER_DIGITS>(text, base, most) {
+    if let Some(found) = number_in_chunk::<HEX_NUMBER_DIGITS>(text, base, most) {
         return Some(found);
     }
-    if let Some(found) = near_number::<OFFSET_DIGITS>(text, base, most) {
+    if let Some(found) = number_in_chunk::<OFFSET_DIGITS>(text, base, most) {
         return Some(found);
     }
-    leading_number(text, base, most)
+    scan_number(text, base, most)
 }
 
-/// The same, if it ends among the first `N` octets, or just behind them: where the number of octets is known,
-/// the compiler makes a line of code of the loop over them. None also where more has to be read.
+/// The number at the front of a text, as [`scan_number`] reads it, if it ends among the first `N` octets or
+/// just behind them: the compiler unrolls a loop over a known number of octets. None also where more octets
+/// have to be read.
 #[inline(always)]
-fn near_number<const N: usize>(text: &[u8], base: u8, most: usize) -> Option<(u64, usize)>
+fn number_in_chunk<const N: usize>(text: &[u8], base: u8, most: usize) -> Option<(u64, usize)>
     requires near { N ≤ 16 }
     requires some { 0 < base }
     requires letters { base ≤ 36 }
@@ -165,7 +166,7 @@ fn near_number<const N: usize>(text: &[u8], base: u8, most: usize) -> Option<(u6
     let Some(near) = text.first_chunk::<N>() else {
         return None;
     };
-    let Some((value, len)) = leading_number(near, base, most) else {
+    let Some((value, len)) = scan_number(near, base, most) else {
         return None;
     };
     if len == N && len < text.len() && !is_blank(text[len]) {
@@ -177,7 +178,7 @@ fn near_number<const N: usize>(text: &[u8], base: u8, most: usize) -> Option<(u6
 /// The number that the digits in this base at the front of a text write, and how many they are: one
 /// to `most`, up to a blank or the text's end.
 #[inline(always)]
-fn leading_number(text: &[u8], base: u8, most: usize) -> Option<(u64, usize)>
+fn scan_number(text: &[u8], base: u8, most: usize) -> Option<(u64, usize)>
     requires some { 0 < base }
     requires fits { base ^ most ≤ 2 ^ 64 }
     ensures none { IsNone result → IsNoNumber base most text.now }
@@ -208,19 +209,6 @@ fn leading_number(text: &[u8], base: u8, most: usize) -> Option<(u64, usize)>
     Some((value, len))
 }
 
-/// The octets that an even number of hexadecimal digits write, 2 digits or more, in memory of
-/// their own.
-pub fn octets_of(alloc: Global, word: &[u8]) -> Result<Option<Vec<u8>>, AllocError>
-    ensures value { IfOk result (λ octets. option_map (λ v. v.items) octets ≡ octets_of word.now) }
-{
-    let mut octets = Vec::new(alloc);
-    if octets_into(&mut octets, word)? {
-        Ok(Some(octets))
-    } else {
-        Ok(None)
-    }
-}
-
 /// Whether an even number of hexadecimal digits stands there, 2 digits or more, and if so, the
 /// octets that they write, in place of what `octets` held.
 ///
@@ -233,7 +221,7 @@ pub fn octets_into(octets: &mut Vec<u8>, word: &[u8]) -> Result<bool, AllocError
     ensures memory { OnErr result (vec_capacity octets.old < length word.now / 2) }
     ensures digits { OnErr result (IsSome (octets_of word.now)) }
 {
-    let Ok(found) = front_octets_into(octets, word) else {
+    let Ok(found) = octets_at_front_into(octets, word) else {
         return refused_for(word);
     };
     match found {
@@ -261,7 +249,7 @@ fn refused_for(word: &[u8]) -> Result<bool, AllocError>
 /// How many digits the word has that a text begins with, up to a blank or the text's end, if it is of
 /// octets; and the octets, in place of what `octets` held, which is empty otherwise.
 #[inline(always)]
-fn front_octets_into(octets: &mut Vec<u8>, text: &[u8]) -> Result<Option<usize>, AllocError>
+fn octets_at_front_into(octets: &mut Vec<u8>, text: &[u8]) -> Result<Option<usize>, AllocError>
     ensures some { IfOk result (λ found. IfSome found (λ len. (len ≡ position_or_len is_blank text.now)
         × (octets_of (before_first is_blank text.now) ≡ Some octets.new.items))) }
     ensures none { IfOk result (λ found. IsNone found → (octets_of (before_first is_blank text.now) ≡ None)
@@ -274,7 +262,7 @@ fn front_octets_into(octets: &mut Vec<u8>, text: &[u8]) -> Result<Option<usize>,
         octets.clear();
         return Err(AllocError);
     }
-    let found = leading_octets(text, octets.as_mut_slice());
+    let found = scan_octets(text, octets.as_mut_slice());
     octets.truncate(found.unwrap_or(0) / 2);
     Ok(found)
 }
@@ -300,20 +288,20 @@ fn has_digits_alone(word: &[u8]) -> bool
 /// octets, which are written to the front of `octets`.
 ///
 /// The digits are read once, many at a time as long as all of them are digits.
-fn leading_octets(text: &[u8], octets: &mut [u8]) -> Option<usize>
+fn scan_octets(text: &[u8], octets: &mut [u8]) -> Option<usize>
     requires { length text.now / 2 ≤ length octets.old }
     ensures none { IsNone result → octets_of (before_first is_blank text.now) ≡ None }
     ensures some { IfSome result (λ len. (len ≡ position_or_len is_blank text.now)
         × (octets_of (before_first is_blank text.now) ≡ Some (take (len / 2) octets.new))) }
 {
     let mut done = 0;
-    while is_worth(text.len() - 2 * done, DIGITS_AT_ONCE)
-        && decode::<AT_ONCE, DIGITS_AT_ONCE>(text, octets, done)
+    while is_worth_a_vector(text.len() - 2 * done, DIGITS_AT_ONCE)
+        && decode::<LANES, DIGITS_AT_ONCE>(text, octets, done)
     {
-        done += AT_ONCE;
+        done += LANES;
     }
-    done += decode_if::<HALF, HALF_DIGITS>(text, octets, done);
-    done += decode_if::<QUARTER, QUARTER_DIGITS>(text, octets, done);
+    done += decode_if::<HALF_LANES, HALF_DIGITS>(text, octets, done);
+    done += decode_if::<QUARTER_LANES, QUARTER_DIGITS>(text, octets, done);
     while text.len() - 2 * done >= 2 {
         let high = value_of(text[2 * done]);
         let low = value_of(text[2 * done + 1]);
@@ -330,10 +318,10 @@ fn leading_octets(text: &[u8], octets: &mut [u8]) -> Option<usize>
     Some(len)
 }
 
-/// Whether so many octets are worth to be read as that many digits at once: not where a number may stand
-/// among them, behind a word of fewer digits.
+/// Whether a text of so many octets is worth reading that many digits at once: not where the word may be
+/// shorter and a number may stand behind it.
 #[inline(always)]
-fn is_worth(octets: usize, digits: usize) -> bool
+fn is_worth_a_vector(octets: usize, digits: usize) -> bool
     ensures { IsTrue result → digits ≤ octets }
 {
     octets == digits || octets > digits && octets - digits >= NUMBER_BEHIND

@@ -1,11 +1,12 @@
 //! The words of a line.
-ghost use Rattle.std.specs.Prelude.{◌≡◌, ◌+◌, ◌<◌, ◌≤◌, ◌↔◌, ◌∷◌, [], ℕ, false, length, slice_index, IsTrue, IfSome, IsNone};
+ghost use Rattle.std.specs.Prelude.{◌≡◌, ◌+◌, ◌<◌, ◌≤◌, ◌↔◌, ◌∷◌, [], ℕ, false, length, slice_index};
+ghost use Rattle.std.specs.Prelude.{IsTrue, IfSome, IsNone};
 ghost use Rattle.std.specs.List.{prefix_len, position_or_len};
 ghost use Rattle.std.specs.Str.{bytes_eq};
 ghost use Rattle.std.specs.Iterator.{YieldsFirstRef, item_count};
 ghost use Rattle.em_text.specs.Words.{words_of, is_blank};
 
-use crate::digits::{AT_ONCE, HALF};
+use crate::digits::{HALF_LANES, LANES};
 
 const SPACE: u8 = b' ';
 
@@ -81,7 +82,7 @@ pub fn blanks_len(line: &[u8]) -> usize
     }
 }
 
-/// The same, octet by octet.
+/// How many blanks a line begins with, octet by octet.
 #[inline(never)]
 fn many_blanks_len(line: &[u8]) -> usize
     ensures value { result ≡ prefix_len is_blank line.now }
@@ -98,11 +99,11 @@ pub fn word_len(line: &[u8]) -> usize
     ensures within { result ≤ length line.now }
 {
     let mut len = 0;
-    while line.len() - len >= AT_ONCE && is_all_above_blanks::<AT_ONCE>(line, len) {
-        len += AT_ONCE;
+    while line.len() - len >= LANES && is_all_above_blanks::<LANES>(line, len) {
+        len += LANES;
     }
-    if line.len() - len >= HALF && is_all_above_blanks::<HALF>(line, len) {
-        len += HALF;
+    if line.len() - len >= HALF_LANES && is_all_above_blanks::<HALF_LANES>(line, len) {
+        len += HALF_LANES;
     }
     while len < line.len() && !is_blank(line[len]) {
         len += 1;

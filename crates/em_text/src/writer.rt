@@ -4,7 +4,7 @@ ghost use Rattle.std.specs.List.{flat_map};
 ghost use Rattle.em_text.specs.Writer.{Writes, hex_text, hex_line_text, value_digits, value_text, register_line_text};
 ghost use Rattle.em_text.specs.Writer.{decimal_line_text, numbers_text};
 
-use crate::digits::{HALF, digit_pair, upper_digit};
+use crate::digits::{HALF_LANES, digit_pair, upper_digit};
 use itoa::write_digits;
 use std::io::Write;
 
@@ -223,7 +223,7 @@ fn fill_digits(octets: &[u8], digits: &mut [u8])
     requires { length digits.old ≡ 2 * length octets.now }
     ensures { digits.new ≡ hex_text octets.now }
 {
-    let even = octets.len() / HALF * HALF;
+    let even = octets.len() / HALF_LANES * HALF_LANES;
     for i in 0..even {
         let octet = octets[i];
         digits[2 * i] = upper_digit(octet >> 4);

@@ -16,4 +16,5 @@ returns g c =
     let six = where_below _ _ _ v n 6 long past_a past_a (splat_is_map v n 6 long) in
     let letters = with_splat _ _ v n 10 long six in
     let all = where_below _ _ _ v n 10 long numerals numerals letters in
-    lanes_are _ (λ octet. min (digit_value octet) 16) c.args.text.now c.args.from n _ c.requires c.type_inv.text all refl
+    lanes_are _ (λ octet. min (digit_value octet) 16) c.args.text.now c.args.from n _ c.requires
+    c.type_inv.text all refl

@@ -14,5 +14,5 @@ returns-in_default c =
 
 pub returns-in_default-2 : goal.returns-in_default-2
 returns-in_default-2 c =
-    let wrong = rw c.in_default.is at c.leading_number.ensures.none in
+    let wrong = rw c.in_default.is at c.scan_number.ensures.none in
     record { value = sym (number_none 10 7 c.args.word.now (wrong refl)) }

@@ -1,7 +1,7 @@
 use Rattle.std.proofs.Common.{arith, rules, subst}
 use Rattle.em_text.proofs.WordsLemmas.{HasNoBlank, front_more, word_ends}
 use Rattle.em_text.proofs.words.word_len.Goals as goal
-use Rattle.em_text.proofs.words.word_len.Goals.{then-line-len-ge-HALF+then-is_all_above_blanks-2, else-line-len-ge-HALF}
+use Rattle.em_text.proofs.words.word_len.Goals.{then-line-len-ge-HALF_LANES+then-is_all_above_blanks-2, else-line-len-ge-HALF_LANES}
 
 pub loop-len-preserved : goal.loop-len-preserved
 loop-len-preserved c =
@@ -11,11 +11,11 @@ loop-len-preserved c =
 pub loop-len-2-init : goal.loop-len-2-init
 loop-len-2-init c =
     let line = c.args.line.now in
-    elim c.if-line-len-ge-HALF.branch [
-      | then-line-len-ge-HALF+then-is_all_above_blanks-2 w ↦ subst (HasNoBlank line) (search rules)
+    elim c.if-line-len-ge-HALF_LANES.branch [
+      | then-line-len-ge-HALF_LANES+then-is_all_above_blanks-2 w ↦ subst (HasNoBlank line) (search rules)
           (front_more line c.loop-len.len 8 c.loop-len.invariant (omega arith)
-          (w.is_all_above_blanks-then-line-len-ge-HALF.ensures w.if-is_all_above_blanks-2.true))
-      | else-line-len-ge-HALF w ↦ subst (HasNoBlank line) (search rules) c.loop-len.invariant
+          (w.is_all_above_blanks-then-line-len-ge-HALF_LANES.ensures w.if-is_all_above_blanks-2.true))
+      | else-line-len-ge-HALF_LANES w ↦ subst (HasNoBlank line) (search rules) c.loop-len.invariant
     ]
 
 pub returns-else-not-is_blank-clause-value : goal.returns-else-not-is_blank-clause-value

@@ -7,7 +7,7 @@ pub returns-in_default-clause-value : goal.returns-in_default-clause-value
 returns-in_default-clause-value c =
     let line = c.args.self.now.0.now in
     let k = c.blanks_len.result in
-    let wrong = rw c.in_default.is at c.front_number.ensures.none in
+    let wrong = rw c.in_default.is at c.number_at_front.ensures.none in
     sym (no_number_read c.args.base c.args.most line k _ c.blanks_len.ensures.value (take_rest line k)
     c.requires.letters (wrong refl))
 

@@ -15,7 +15,8 @@ returns-in_default-clause-value c =
     let line = c.args.self.now.0.now in
     let k = c.blanks_len.result in
     let from = take (length line - k) (drop k line) in
-    let read = first_read octets_of line k from c.blanks_len.ensures.value (take_rest line k) (octets_of-empty _ refl) in
+    let read =
+    first_read octets_of line k from c.blanks_len.ensures.value (take_rest line k) (octets_of-empty _ refl) in
     IfOk-weaker c.refused_for.result _ _
     (λ found told.
     let none : octets_of (before_first is_blank from) ≡ None =
@@ -27,7 +28,8 @@ returns-in_default-clause-memory c =
     let line = c.args.self.now.0.now in
     let k = c.blanks_len.result in
     let from = take (length line - k) (drop k line) in
-    let read = first_read octets_of line k from c.blanks_len.ensures.value (take_rest line k) (octets_of-empty _ refl) in
+    let read =
+    first_read octets_of line k from c.blanks_len.ensures.value (take_rest line k) (octets_of-empty _ refl) in
     on_err_weaker c.refused_for.result
     (λ (some : IsSome (octets_of (take c.word_len.result from))).
     rw (read) (some_mapped _ (octets_of (before_first is_blank from)) (rw (c.word_len.ensures.value) at some)))
@@ -46,8 +48,9 @@ returns-clause-value c =
     let line = c.args.self.now.0.now in
     let k = c.blanks_len.result in
     let from = take (length line - k) (drop k line) in
-    let read = first_read octets_of line k from c.blanks_len.ensures.value (take_rest line k) (octets_of-empty _ refl) in
+    let read =
+    first_read octets_of line k from c.blanks_len.ensures.value (take_rest line k) (octets_of-empty _ refl) in
     let some = rw c.in-Some.is at c.in-Ok.ensures.some in
     let rest = ap (λ n. drop n from) (sym some.0) ∙ sym (take_rest from c.in-Some.len) in
     sym (read ∙ ap (option_map (λ octets. (octets, words_of (drop (position_or_len is_blank from) from)))) some.1
-    ∙ ap (λ left. Some (c.front_octets_into.new.octets.items, words_of left)) rest)
+    ∙ ap (λ left. Some (c.octets_at_front_into.new.octets.items, words_of left)) rest)

@@ -1,6 +1,6 @@
 use Rattle.std.proofs.Common.{◌≡◌, ◌*◌, ◌-◌, ◌≤◌, length}
 use Rattle.em_text.specs.Numbers.{ArePairs}
-use Rattle.em_text.proofs.numbers.leading_octets.Given as goal
+use Rattle.em_text.proofs.numbers.scan_octets.Given as goal
 
 abbrev pub invariant-loop-octets : goal.invariant-loop-octets
 invariant-loop-octets l =

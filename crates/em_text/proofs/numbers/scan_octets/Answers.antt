@@ -1,14 +1,16 @@
 use Rattle.std.proofs.Common.{◌+◌, ◌*◌, ◌∙◌, arith, rules, inl, inr}
 use Rattle.std.proofs.lemmas.List.{length-set}
 use Rattle.em_text.specs.Numbers.{ArePairs}
-use Rattle.em_text.proofs.numbers.leading_octets.Goals.{then-loop-octets-test+else-decode, else-loop-octets-test}
+use Rattle.em_text.proofs.numbers.scan_octets.Goals.{then-loop-octets-test+else-decode, else-loop-octets-test}
 use Rattle.em_text.proofs.NumbersLemmas.{ArePairs-more}
 use Rattle.em_text.proofs.OctetsLemmas.{front_octets, front_no_octets, pairs_joined}
-use Rattle.em_text.proofs.numbers.leading_octets.Goals as goal
-use Rattle.em_text.proofs.numbers.leading_octets.Goals.{else-loop-done-test, then-loop-done-test+then-high-ge-HEX}
-use Rattle.em_text.proofs.numbers.leading_octets.Goals.{then-high-ge-HEX-via-then-high-ge-HEX, then-high-ge-HEX-via-else-high-ge-HEX+then-low-ge-HEX}
-use Rattle.em_text.proofs.numbers.leading_octets.Goals.{then-done-eq0-via-then-done-eq0}
-use Rattle.em_text.proofs.numbers.leading_octets.Goals.{then-done-eq0-via-else-done-eq0+then-not-is_blank, then-len-text, else-len-text}
+use Rattle.em_text.proofs.numbers.scan_octets.Goals as goal
+use Rattle.em_text.proofs.numbers.scan_octets.Goals.{else-loop-done-test, then-loop-done-test+then-high-ge-HEX}
+use Rattle.em_text.proofs.numbers.scan_octets.Goals.{then-high-ge-HEX-via-then-high-ge-HEX}
+use Rattle.em_text.proofs.numbers.scan_octets.Goals.{then-high-ge-HEX-via-else-high-ge-HEX+then-low-ge-HEX}
+use Rattle.em_text.proofs.numbers.scan_octets.Goals.{then-done-eq0-via-then-done-eq0}
+use Rattle.em_text.proofs.numbers.scan_octets.Goals.{then-done-eq0-via-else-done-eq0+then-not-is_blank}
+use Rattle.em_text.proofs.numbers.scan_octets.Goals.{then-len-text, else-len-text}
 
 pub loop-done-preserved : goal.loop-done-preserved
 loop-done-preserved c =

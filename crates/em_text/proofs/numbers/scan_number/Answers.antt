@@ -7,9 +7,9 @@ use Rattle.std.specs.Char.{is_digit, digit_value}
 use Rattle.std.specs.Str.Parse.{digits_value}
 use Rattle.em_text.proofs.NumbersLemmas.{below_power, value_wraps, value_step}
 use Rattle.em_text.proofs.FrontLemmas.{below_next, digits_end}
-use Rattle.em_text.proofs.numbers.leading_number.Goals as goal
-use Rattle.em_text.proofs.numbers.leading_number.Goals.{else-loop-len-test}
-use Rattle.em_text.proofs.numbers.leading_number.Goals.{then-loop-len-test+then-digit-base+else-not-is_blank}
+use Rattle.em_text.proofs.numbers.scan_number.Goals as goal
+use Rattle.em_text.proofs.numbers.scan_number.Goals.{else-loop-len-test}
+use Rattle.em_text.proofs.numbers.scan_number.Goals.{then-loop-len-test+then-digit-base+else-not-is_blank}
 
 pub returns-then-not-is_blank-clause-none : goal.returns-then-not-is_blank-clause-none
 returns-then-not-is_blank-clause-none c = λ _.

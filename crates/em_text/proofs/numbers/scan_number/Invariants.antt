@@ -1,7 +1,7 @@
 use Rattle.std.proofs.Common.{◌≡◌, ◌-◌, ◌^◌, ◌<◌, ◌≤◌, ℕ, take, true, length, get_or}
 use Rattle.std.specs.Char.{is_digit}
 use Rattle.std.specs.Str.Parse.{digits_value}
-use Rattle.em_text.proofs.numbers.leading_number.Given as goal
+use Rattle.em_text.proofs.numbers.scan_number.Given as goal
 
 -- the octets so far are digits, and `value` is their number, unless they are too many
 abbrev pub invariant-loop-len : goal.invariant-loop-len
