@@ -606,6 +606,29 @@ FORMS = {name: re.compile(form) for name, form in {
     "turns": f"{TURN}(?: {TURN})*"}.items()}
 
 
+class BadWords(Exception):
+    """A command line is refused: with this line on standard error, or by its parser, whose line only begins so."""
+
+
+def options(words: list[str]) -> dict[str, int | str]:
+    """What a command line of options sets, each with its value in the same word, behind `=`, or in the next."""
+    parts = [part for word in words for part in (word.split("=", 1) if word.startswith("--") else [word])]
+    given = dict(zip(parts[::2], parts[1::2]))
+    mac = given.get("--mac", "525400123456")
+    numbers = given.get("--memory", "65536"), given.get("--budget", "1048576")
+    for number in numbers:
+        if not re.fullmatch(r"\+?[0-9]+", number) or int(number) >= 2**64:
+            raise BadWords("error")
+    memory, budget = map(int, numbers)
+    if not re.fullmatch(f"{HEX}{{12}}", mac):
+        raise BadWords("em_bench: Mac")
+    if memory % PAGE or not PAGE <= memory <= 16_777_216:
+        raise BadWords("em_bench: Size")
+    if not 65_536 <= budget <= 16_777_216:
+        raise BadWords("em_bench: Budget")
+    return {"memory": memory, "budget": budget, "mac": mac}
+
+
 def answers(script: str, **settings) -> list[tuple[int, str, list[str]]]:
     """The number, the octets and the printed lines of each line of a script, by one character for each octet."""
     session, played = Session(**settings), []
