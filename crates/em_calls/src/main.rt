@@ -17,6 +17,8 @@ mod setup;
 #[cfg(test)]
 mod tests;
 mod traffic;
+#[cfg(test)]
+mod wire_rows;
 
 /// How many courses there are, each of sixty calls by the random numbers of its own seed.
 const COURSES: u64 = 20;
