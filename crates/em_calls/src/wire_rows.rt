@@ -17,11 +17,11 @@ const FRAME: [u8; 60] = [
 #[test]
 fn two_descriptors_make_one_frame(rt: HostRuntime) -> Result<(), Fail> {
     let mut machine = Settings::default().machine(rt.alloc())?;
-    done(&mut machine, Event::Poke(0x1000, &FRAME[..20]))?;
-    done(&mut machine, Event::Poke(0x1100, &FRAME[20..42]))?;
+    poke(&mut machine, 0x1000, &FRAME[..20])?;
+    poke(&mut machine, 0x1100, &FRAME[20..42])?;
     // 20 octets, then 22 with EOP and RS
-    done(&mut machine, Event::Poke(0, &descriptor(0x10, 20, 0)))?;
-    done(&mut machine, Event::Poke(0x10, &descriptor(0x11, 22, 0x09)))?;
+    poke(&mut machine, 0, &descriptor(0x10, 20, 0))?;
+    poke(&mut machine, 0x10, &descriptor(0x11, 22, 0x09))?;
     ring(&mut machine, 0x0A, 2)?;
     both_are_sent(&mut machine)?;
     is_one_frame(&machine)?;
@@ -41,7 +41,7 @@ fn two_descriptors_make_one_frame(rt: HostRuntime) -> Result<(), Fail> {
 fn descriptor_without_octets_sends_no_frame(rt: HostRuntime) -> Result<(), Fail> {
     let mut machine = Settings::default().machine(rt.alloc())?;
     // DEXT, and no octets
-    done(&mut machine, Event::Poke(0, &descriptor(0, 0, 0x20)))?;
+    poke(&mut machine, 0, &descriptor(0, 0, 0x20))?;
     ring(&mut machine, 0x02, 1)?;
     same(
         "step",
@@ -50,7 +50,7 @@ fn descriptor_without_octets_sends_no_frame(rt: HostRuntime) -> Result<(), Fail>
     )?;
     reads(&mut machine, Reg::Tdh, 0)?;
     // EOP and RS in its place
-    done(&mut machine, Event::Poke(0x0B, &[0x09]))?;
+    poke(&mut machine, 0x0B, &[0x09])?;
     answers(&mut machine, Event::TxStep, Answer::Fetched { index: 0 })?;
     is_no_frame(&machine)?;
     octet(&machine, 0x0C, 1)?;
@@ -97,6 +97,10 @@ fn answers(machine: &mut Machine, event: Event<'_>, answer: Answer) -> Result<()
 
 fn done(machine: &mut Machine, event: Event<'_>) -> Result<(), Fail> {
     answers(machine, event, Answer::Done)
+}
+
+fn poke(machine: &mut Machine, addr: u64, octets: &[u8]) -> Result<(), Fail> {
+    done(machine, Event::Poke(addr, octets))
 }
 
 fn reads(machine: &mut Machine, reg: Reg, value: u32) -> Result<(), Fail> {

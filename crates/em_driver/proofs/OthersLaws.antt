@@ -8,15 +8,17 @@ use Rattle.std.proofs.lemmas.List.{append_cancel_left}
 use Rattle.em_mem.specs.Memory.{put}
 use Rattle.em_mem.proofs.PutLaws.{length-put}
 use Rattle.em_regs.specs.declared.reg.Reg.{Reg}
-use Rattle.em_regs.specs.declared.reg.Reg.TheVariants.{Ctrl, Status, Eerd}
+use Rattle.em_regs.specs.declared.reg.Reg.TheVariants.{Ctrl, Eerd}
+use Rattle.em_regs.specs.declared.table.Kind.{Kind}
+use Rattle.em_regs.specs.declared.table.Kind.TheVariants.{Stored, Control, EepromRead, Status, Interrupt, Counter}
 use Rattle.em_regs.specs.RegFile as registers
-use Rattle.em_regs.specs.Table.{IsReg, mask_of, offset_of, reg_at}
+use Rattle.em_regs.specs.Table.{IsReg, mask_of, offset_of, reg_at, row_of}
 use Rattle.em_regs.specs.Table as table
 use Rattle.em_regs.proofs.TableLaws.{reg_in_lies}
 use Rattle.em_latch.specs.Latches as latches
-use Rattle.em_latch.specs.Latches.{is_latched}
 use Rattle.em_eeprom.specs.Eeprom.{word_at}
-use Rattle.em_step.specs.Access.{after_eeprom_read, after_link, after_store, after_write, differ, eerd_address, has}
+use Rattle.em_step.specs.Access.{after_eeprom_read, after_latch_write, after_link, after_store, after_write}
+use Rattle.em_step.specs.Access.{after_write_by, differ, eerd_address, has}
 use Rattle.em_step.specs.Event.{Event, reads, writes, pokes, arrives, links, receives, transmits}
 use Rattle.em_step.specs.State.{State}
 use Rattle.em_step.specs.Step.{at_register, step}
@@ -61,26 +63,43 @@ word_still : (l : Layout) (s : State) (o v : ℕ) → IsDrivenBut l s → IsNoDr
 word_still l s o v h out =
     record { moves = moves_word l s o v h (not_receiving o out) (not_sending o out); wire = refl }
 
-store_still : (l : Layout) (s : State) (reg : Reg) (v : ℕ) (latched : Bool) → IsDrivenBut l s
-    → IsNoDriverRegister (offset_of reg)
-    → Still l s (if latched then record s { latches = latches.after_write s.latches reg v }
-    else record s { registers = registers.put s.registers reg v })
-store_still l s reg v true h out = record { moves = moves_same l s _ h refl refl refl refl refl; wire = refl }
-store_still l s reg v false h out = word_still l s (offset_of reg) (bit_and v (mask_of reg)) h out
+eerd_is_no_drivers : IsNoDriverRegister (offset_of Eerd)
+eerd_is_no_drivers = record {
+  ctrl = λ e. omega arith;
+  vet = λ e. omega arith;
+  rctl = λ e. omega arith;
+  tctl = λ e. omega arith;
+  rx_ring = λ from. omega arith;
+  tx_ring = λ from. omega arith;
+}
 
-eerd_still : (l : Layout) (s : State) (v : ℕ) (start : Bool) → IsDrivenBut l s → IsNoDriverRegister (offset_of Eerd)
+eerd_still : (l : Layout) (s : State) (v : ℕ) (start : Bool) → IsDrivenBut l s
     → Still l s (if start then after_eeprom_read s (eerd_address v) else after_store s Eerd v)
-eerd_still l s v true h out =
+eerd_still l s v true h =
     let a : ℕ = eerd_address v in
-    word_still l s (offset_of Eerd) (registers.eerd_value a (word_at s.eeprom a)) h out
-eerd_still l s v false h out = store_still l s Eerd v (is_latched Eerd) h out
+    word_still l s (offset_of Eerd) (registers.eerd_value a (word_at s.eeprom a)) h eerd_is_no_drivers
+eerd_still l s v false h = word_still l s (offset_of Eerd) (bit_and v (mask_of Eerd)) h eerd_is_no_drivers
+
+latch_still : (l : Layout) (s : State) (reg : Reg) (v : ℕ) → IsDrivenBut l s → Still l s (after_latch_write s reg v)
+latch_still l s reg v h = record { moves = moves_same l s _ h refl refl refl refl refl; wire = refl }
+
+-- only CTRL can reset
+no_control : (reg : Reg) → offset_of reg ≢ 0 → (row_of reg).kind ≢ Control
+no_control Ctrl out = absurd (out refl)
+no_control reg out = λ same. cc
+
+write_by : (l : Layout) (s : State) (reg : Reg) (v : ℕ) (kind : Kind) → kind ≢ Control → IsDrivenBut l s
+    → IsNoDriverRegister (offset_of reg) → Still l s (after_write_by kind s reg v)
+write_by l s reg v Stored other h out = word_still l s (offset_of reg) (bit_and v (mask_of reg)) h out
+write_by l s reg v Control other h out = absurd (other refl)
+write_by l s reg v EepromRead other h out = eerd_still l s v (has v 0x1) h
+write_by l s reg v Status other h out = record { moves = moves_none l s h; wire = refl }
+write_by l s reg v Interrupt other h out = latch_still l s reg v h
+write_by l s reg v Counter other h out = latch_still l s reg v h
 
 write_still : (l : Layout) (s : State) (reg : Reg) (v : ℕ) → IsDrivenBut l s → IsNoDriverRegister (offset_of reg)
     → Still l s (after_write s reg v)
-write_still l s Ctrl v h out = absurd (out.ctrl refl)
-write_still l s Status v h out = record { moves = moves_none l s h; wire = refl }
-write_still l s Eerd v h out = eerd_still l s v (has v 0x1) h out
-write_still l s reg v h out = store_still l s reg v (is_latched reg) h out
+write_still l s reg v h out = write_by l s reg v (row_of reg).kind (no_control reg out.ctrl) h out
 
 lies : (o : ℕ) → IfSome (reg_at o) (λ reg. IsReg reg × (offset_of reg ≡ o))
 unfolding reg_at
