@@ -1,3 +1,4 @@
+pub mod BitLaws
 pub mod CourseLaws
 pub mod AnswerLaws
 pub mod QuietLaws

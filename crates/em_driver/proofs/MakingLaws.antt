@@ -23,7 +23,7 @@ use Rattle.em_step.specs.declared.event.Answer.TheVariants.{Value}
 use Rattle.em_step.proofs.SetupLaws.{put_same, put_other}
 use Rattle.em_driver.specs.Course.{write}
 use Rattle.em_driver.specs.Layout.{IsGoodLayout, IsPlaced}
-use Rattle.em_driver.specs.Off.{IsOff, Rests}
+use Rattle.em_driver.specs.DeviceOff.{IsOff, Rests}
 use Rattle.em_driver.specs.Receive.{rx_buffer, rx_descriptor}
 use Rattle.em_driver.specs.Start.{Part, memory, fresh_descriptor, set_link_up, eeprom, receive_address}
 use Rattle.em_driver.specs.Start.{multicast_table, descriptors}

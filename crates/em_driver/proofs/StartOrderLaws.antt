@@ -13,7 +13,7 @@ use Rattle.em_step.specs.declared.event.Answer.TheVariants.{Done}
 use Rattle.em_step.proofs.ResetLaws.{zero_after_reset}
 use Rattle.em_driver.specs.Course.{done, write, Follows}
 use Rattle.em_driver.specs.Layout.{IsGoodLayout, IsPlaced}
-use Rattle.em_driver.specs.Off.{IsOff}
+use Rattle.em_driver.specs.DeviceOff.{IsOff}
 use Rattle.em_driver.specs.Start.{Start, device_reset, until_reset, after_reset, start, eeprom}
 use Rattle.em_driver.specs.Start.{receive_address, multicast_table, receive_ring, transmit_ring, descriptors}
 use Rattle.em_driver.specs.Started.{StartsInOrder}

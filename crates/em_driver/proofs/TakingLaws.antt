@@ -12,14 +12,14 @@ use Rattle.em_step.specs.declared.refusal.Refusal.TheVariants.{NoRegister, Range
 use Rattle.em_step.specs.declared.refusal.Refusal.TheVariants.{TooLong, Memory}
 use Rattle.em_journal.specs.History.{performs, refuses, Does}
 use Rattle.em_journal.specs.View.{View, after_event}
-use Rattle.em_driver.specs.Taking.{Takes, taken_of, world_with}
+use Rattle.em_driver.specs.Taking.{Takes, outcome_of, world_with}
 use Rattle.em_driver.specs.Turn.{event_of, stored_by}
 use Rattle.em_driver.specs.World.{World, after_outcome, after_turn, after_turns}
 use Rattle.em_driver.specs.declared.turn.Turn.{Turn}
 use Rattle.em_driver.specs.declared.turn.Turn.TheVariants.{Arrive}
 use Rattle.em_driver.specs.declared.taking.Counts.{Counts}
-use Rattle.em_driver.specs.declared.taking.Taken.{Taken}
-use Rattle.em_driver.specs.declared.taking.Taken.TheVariants.{Performed, Refused}
+use Rattle.em_driver.specs.declared.taking.TurnOutcome.{TurnOutcome}
+use Rattle.em_driver.specs.declared.taking.TurnOutcome.TheVariants.{Performed, Refused}
 
 -- ---- one turn
 
@@ -43,7 +43,7 @@ pub stored_none : (f : List ℕ) (answer : Answer) → (answer ≡ Stored → �
 stored_none f Stored h = absurd (h refl)
 stored_none f _ h = refl
 
-pub refused_as : (refusal : Refusal) → (refusal ≡ Memory → ⊥) → Refused ≡ taken_of refusal
+pub refused_as : (refusal : Refusal) → (refusal ≡ Memory → ⊥) → Refused ≡ outcome_of refusal
 refused_as Memory h = absurd (h refl)
 refused_as _ h = refl
 
@@ -53,7 +53,7 @@ by_table s e refusal h (inl lack) = absurd (h lack.0)
 by_table s e refusal h (inr is) = is
 
 pub takes_refused : (v w : View) (stored now : List (List ℕ)) (t : Turn) (refusal : Refusal)
-    → Does v (refuses (event_of t) refusal) w → now ≡ stored → Takes v stored t (taken_of refusal) w now
+    → Does v (refuses (event_of t) refusal) w → now ≡ stored → Takes v stored t (outcome_of refusal) w now
 takes_refused v w stored now t Memory did is = (did.0, did.1, is)
 takes_refused v w stored now t NoRegister did is =
     (NoRegister, by_table v.present (event_of t) NoRegister (λ h. cc) did.0, did.1, is)
@@ -75,7 +75,7 @@ engine_performed v w t answer none did stored =
     takes_performed v w stored stored t answer did
     (sym (append-nil stored) ∙ ap (λ fs. stored ++ fs) (sym none))
 
-pub engine_refused : (v w : View) (t : Turn) (refusal : Refusal) (taken : Taken) → taken ≡ taken_of refusal
+pub engine_refused : (v w : View) (t : Turn) (refusal : Refusal) (taken : TurnOutcome) → taken ≡ outcome_of refusal
     → Does v (refuses (event_of t) refusal) w → (stored : List (List ℕ)) → Takes v stored t taken w stored
 engine_refused v w t refusal taken is did stored =
     subst (λ x. Takes v stored t x w stored) (sym is) (takes_refused v w stored stored t refusal did refl)

@@ -5,7 +5,7 @@ use Rattle.std.specs.Prelude.{sum, ⊤}
 use Rattle.em_step.specs.Access.{has}
 use Rattle.em_driver.specs.Course.{Course, done}
 use Rattle.em_driver.specs.Play.{Tells}
-use Rattle.em_driver.specs.Told.{start_says, batch_says}
+use Rattle.em_driver.specs.TellsMemory.{start_says, batch_says}
 use Rattle.em_driver.specs.Calls.{get_mac_addr, set_mac_addr, read_stats}
 use Rattle.em_driver.specs.Descriptor.{is_done, is_whole, length_of}
 use Rattle.em_driver.specs.Receive.{Answered, rx_from, rx_packet, rx_batch, following, received, stopped}

@@ -11,16 +11,16 @@ use Rattle.em_driver.specs.Turn.{event_of, stored_by}
 use Rattle.em_driver.specs.World.{World, after_turns}
 use Rattle.em_driver.specs.declared.turn.Turn.{Turn}
 use Rattle.em_driver.specs.declared.taking.Counts.{Counts}
-use Rattle.em_driver.specs.declared.taking.Taken.{Taken}
-use Rattle.em_driver.specs.declared.taking.Taken.TheVariants.{Performed, Refused, Starved}
+use Rattle.em_driver.specs.declared.taking.TurnOutcome.{TurnOutcome}
+use Rattle.em_driver.specs.declared.taking.TurnOutcome.TheVariants.{Performed, Refused, Starved}
 
 -- what a refused turn is counted as
-abbrev pub taken_of : Refusal → Taken
-taken_of refusal.Memory = Starved
-taken_of _ = Refused
+abbrev pub outcome_of : Refusal → TurnOutcome
+outcome_of refusal.Memory = Starved
+outcome_of _ = Refused
 
 -- a turn was performed, or refused by the table, or found no memory
-abbrev pub Takes : View → List (List ℕ) → Turn → Taken → View → List (List ℕ) → Type 0
+abbrev pub Takes : View → List (List ℕ) → Turn → TurnOutcome → View → List (List ℕ) → Type 0
 Takes v stored t Performed w now =
     (answer : Answer) × (s : State) × (step v.present (event_of t) ≡ Ok (answer, s))
     × (w ≡ after_event v s (cost v.present (event_of t))) × (now ≡ stored ++ stored_by t answer)

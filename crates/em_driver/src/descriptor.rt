@@ -1,11 +1,12 @@
 //! The descriptors of the two rings, as a driver reads and writes them.
 ghost use Rattle.std.specs.Prelude.{◌≡◌, true, false, MatchOption};
-ghost use Rattle.em_driver.specs.Descriptor.{is_done as has_dd, is_whole, length_of, transmit_descriptor};
+ghost use Rattle.em_driver.specs.Descriptor.{is_done as has_dd, is_last as has_eop, is_whole, length_of, transmit_descriptor};
 
+use crate::layout::{BUFFER_OCTETS, DESCRIPTOR_OCTETS};
 use byteorder::{ByteOrder, LittleEndian};
 
-/// How many octets a descriptor has.
-pub(crate) const DESCRIPTOR_OCTETS: usize = 16;
+/// The octets of a descriptor.
+pub(crate) type Descriptor = [u8; DESCRIPTOR_OCTETS as usize];
 
 /// Where the length lies in a descriptor.
 const LENGTH: usize = 8;
@@ -17,35 +18,39 @@ const COMMAND: usize = 11;
 pub(crate) const STATUS: usize = 12;
 
 /// DD of a receive descriptor's status: the adapter wrote it back.
-const DD: u8 = 0;
+const DD: u8 = 0x01;
 
 /// EOP of a receive descriptor's status: the buffer has the last octet of the frame.
-const EOP: u8 = 1;
+const EOP: u8 = 0x02;
 
 /// CMD of a whole packet: EOP, IFCS and RS.
 const WHOLE_PACKET: u8 = 0x0B;
 
-/// The most octets of a buffer.
-const BUFFER_OCTETS: u16 = 2048;
-
 /// Whether the adapter wrote a receive descriptor back.
 #[tactic(auto, unfolding(crate::specs::Descriptor::is_done))]
-pub(crate) fn is_done(descriptor: &[u8; DESCRIPTOR_OCTETS]) -> bool
+pub(crate) fn is_done(descriptor: &Descriptor) -> bool
     ensures { result ≡ has_dd descriptor.now }
 {
-    (descriptor[STATUS] >> DD) % 2 == 1
+    descriptor[STATUS] & DD != 0
+}
+
+/// Whether the buffer of a receive descriptor has the last octet of its frame.
+#[tactic(auto, using(crate::proofs::BitLaws::second_bit), unfolding(crate::specs::Descriptor::is_last))]
+fn is_last(descriptor: &Descriptor) -> bool
+    ensures { result ≡ has_eop descriptor.now }
+{
+    descriptor[STATUS] & EOP != 0
 }
 
 /// How many octets the packet of a receive descriptor has; None where its buffer does not have a
 /// whole packet.
-#[tactic(auto, unfolding(crate::specs::Descriptor::is_last, crate::specs::Descriptor::length_of))]
-pub(crate) fn packet_length(descriptor: &[u8; DESCRIPTOR_OCTETS]) -> Option<u16>
+#[tactic(auto, unfolding(crate::specs::Descriptor::length_of))]
+pub(crate) fn packet_length(descriptor: &Descriptor) -> Option<u16>
     ensures { MatchOption result (is_whole descriptor.now ≡ false)
         (λ octets. (is_whole descriptor.now ≡ true) × (octets ≡ length_of descriptor.now)) }
 {
-    let is_last = (descriptor[STATUS] >> EOP) % 2 == 1;
     let length = LittleEndian::read_u16(&descriptor[LENGTH..]);
-    if is_last && 0 < length && length <= BUFFER_OCTETS {
+    if is_last(descriptor) && 0 < length && length <= BUFFER_OCTETS as u16 {
         Some(length)
     } else {
         None
@@ -53,10 +58,10 @@ pub(crate) fn packet_length(descriptor: &[u8; DESCRIPTOR_OCTETS]) -> Option<u16>
 }
 
 /// The transmit descriptor of a packet of `length` octets at `address`.
-pub(crate) fn of_packet(address: u64, length: u16) -> [u8; DESCRIPTOR_OCTETS]
+pub(crate) fn of_packet(address: u64, length: u16) -> Descriptor
     ensures { result ≡ transmit_descriptor address length }
 {
-    let mut octets = [0; DESCRIPTOR_OCTETS];
+    let mut octets = [0; DESCRIPTOR_OCTETS as usize];
     LittleEndian::write_u64(&mut octets, address);
     LittleEndian::write_u16(&mut octets[LENGTH..], length);
     octets[COMMAND] = WHOLE_PACKET;

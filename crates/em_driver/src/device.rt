@@ -11,9 +11,18 @@ ghost use Rattle.em_driver.specs.World.{present};
 
 use crate::bus::Bus;
 use crate::driver::E1000;
-use crate::outcome::{Batch, Stopped};
-use crate::stats::DeviceStats;
+use crate::link::speed_of;
+use crate::outcome::{Batch, Cause, Stopped};
+use crate::receive::{following, stop_after};
+use crate::stats::{DeviceStats, octets, sum};
+use crate::transmit::{free_descriptors, halt_after};
+use bitflags::Flags;
+use byteorder::{ByteOrder, LittleEndian};
+use em_regs::{Rah, Reg};
 use std::collections::VecDeque;
+
+/// The most packets that one call takes.
+const MOST_PACKETS: usize = 65536;
 
 /// The calls of a polled driver, by the names of ixy.rs.
 pub trait IxyDevice {
@@ -111,11 +120,16 @@ impl<B: Bus> IxyDevice for E1000<B> {
     }
 
     fn get_mac_addr(&mut self) -> [u8; 6] {
-        self.address()
+        let low = self.bus.read(Reg::Ral(0)).to_le_bytes();
+        let high = self.bus.read(Reg::Rah(0)).to_le_bytes();
+        [low[0], low[1], low[2], low[3], high[0], high[1]]
     }
 
     fn set_mac_addr(&mut self, address: [u8; 6]) {
-        self.set_address(address);
+        let low = LittleEndian::read_u32(&address);
+        let high = LittleEndian::read_u16(&address[4..]);
+        self.set(Reg::Ral(0), low);
+        self.set(Reg::Rah(0), u32::from(high) + Rah::AV.bits());
     }
 
     fn rx_batch(
@@ -124,22 +138,105 @@ impl<B: Bus> IxyDevice for E1000<B> {
         buffer: &mut VecDeque<Vec<u8>>,
         n: usize,
     ) -> Result<Batch, Stopped> {
-        self.receive(queue, buffer, n)
+        if queue != 0 {
+            return Err(Stopped {
+                count: 0,
+                events: 0,
+                cause: Cause::Queue,
+            });
+        }
+        if n == 0 {
+            return Ok(Batch {
+                count: 0,
+                events: 0,
+            });
+        }
+        let tail = self.bus.read(Reg::Rdt);
+        let ring = self.layout.rx_count;
+        if tail >= ring {
+            return Err(stop_after(0, Cause::Broken));
+        }
+        let mut index = following(tail, ring);
+        let mut count: u32 = 0;
+        for i in 0..n.min(MOST_PACKETS) {
+            match self.receive_packet(index, buffer) {
+                Ok(true) => {
+                    let next = following(index, ring);
+                    index = next;
+                    count += 1;
+                }
+                Ok(false) => break,
+                Err(cause) => return Err(stop_after(count, cause)),
+            }
+        }
+        Ok(Batch {
+            count,
+            events: 1 + 2 * count,
+        })
     }
 
     fn tx_batch(&mut self, queue: u16, buffer: &mut VecDeque<Vec<u8>>) -> Result<Batch, Stopped> {
-        self.transmit(queue, buffer)
+        if queue != 0 {
+            return Err(Stopped {
+                count: 0,
+                events: 0,
+                cause: Cause::Queue,
+            });
+        }
+        let Some(_) = buffer.front() else {
+            return Ok(Batch {
+                count: 0,
+                events: 0,
+            });
+        };
+        let tail = self.bus.read(Reg::Tdt);
+        let head = self.bus.read(Reg::Tdh);
+        let ring = self.layout.tx_count;
+        let Some(free) = free_descriptors(ring, head, tail) else {
+            return Err(halt_after(0, 0, Cause::Broken));
+        };
+        let mut index = tail;
+        let mut count: u32 = 0;
+        for i in 0..free {
+            match self.transmit_front(index, count, buffer) {
+                Ok(true) => {
+                    let next = following(index, ring);
+                    index = next;
+                    count += 1;
+                }
+                Ok(false) => break,
+                Err(stopped) => return Err(stopped),
+            }
+        }
+        Ok(Batch {
+            count,
+            events: 2 + 3 * count,
+        })
     }
 
     fn read_stats(&mut self, stats: &mut DeviceStats) {
-        self.add_stats(stats);
+        let rx_pkts = self.bus.read(Reg::Gprc);
+        let tx_pkts = self.bus.read(Reg::Gptc);
+        let rx_low = self.bus.read(Reg::Gorcl);
+        let rx_high = self.bus.read(Reg::Gorch);
+        let tx_low = self.bus.read(Reg::Gotcl);
+        let tx_high = self.bus.read(Reg::Gotch);
+        stats.rx_pkts = sum(stats.rx_pkts, u64::from(rx_pkts));
+        stats.tx_pkts = sum(stats.tx_pkts, u64::from(tx_pkts));
+        stats.rx_bytes = sum(stats.rx_bytes, octets(rx_low, rx_high));
+        stats.tx_bytes = sum(stats.tx_bytes, octets(tx_low, tx_high));
     }
 
     fn reset_stats(&mut self) {
-        self.clear_stats();
+        let _ = self.bus.read(Reg::Gprc);
+        let _ = self.bus.read(Reg::Gptc);
+        let _ = self.bus.read(Reg::Gorcl);
+        let _ = self.bus.read(Reg::Gorch);
+        let _ = self.bus.read(Reg::Gotcl);
+        let _ = self.bus.read(Reg::Gotch);
     }
 
     fn get_link_speed(&mut self) -> u16 {
-        self.link_speed()
+        speed_of(self.bus.read(Reg::Status))
     }
 }

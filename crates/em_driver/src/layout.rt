@@ -20,11 +20,11 @@ pub struct Layout {
     pub tx_buffers: u64,
 }
 
-/// Octets of a descriptor.
-const DESCRIPTOR: u64 = 16;
+/// How many octets a descriptor has.
+pub(crate) const DESCRIPTOR_OCTETS: u64 = 16;
 
-/// Octets of a buffer.
-const BUFFER: u64 = 2048;
+/// How many octets a buffer has.
+pub(crate) const BUFFER_OCTETS: u64 = 2048;
 
 /// A ring has a multiple of this many descriptors, and at least this many.
 const LEAST_COUNT: u32 = 8;
@@ -41,8 +41,8 @@ impl Layout {
     {
         is_count(self.rx_count)
             && is_count(self.tx_count)
-            && self.rx_ring % DESCRIPTOR == 0
-            && self.tx_ring % DESCRIPTOR == 0
+            && self.rx_ring % DESCRIPTOR_OCTETS == 0
+            && self.tx_ring % DESCRIPTOR_OCTETS == 0
             && self.is_inside(size)
             && self.is_disjoint()
     }
@@ -50,20 +50,33 @@ impl Layout {
     fn is_inside(&self, size: u64) -> bool
         ensures { IsTrue result ↔ IsInside size self.now }
     {
-        is_within(self.rx_ring, DESCRIPTOR * u64::from(self.rx_count), size)
-            && is_within(self.rx_buffers, BUFFER * u64::from(self.rx_count), size)
-            && is_within(self.tx_ring, DESCRIPTOR * u64::from(self.tx_count), size)
-            && is_within(self.tx_buffers, BUFFER * u64::from(self.tx_count), size)
+        is_within(
+            self.rx_ring,
+            DESCRIPTOR_OCTETS * u64::from(self.rx_count),
+            size,
+        ) && is_within(
+            self.rx_buffers,
+            BUFFER_OCTETS * u64::from(self.rx_count),
+            size,
+        ) && is_within(
+            self.tx_ring,
+            DESCRIPTOR_OCTETS * u64::from(self.tx_count),
+            size,
+        ) && is_within(
+            self.tx_buffers,
+            BUFFER_OCTETS * u64::from(self.tx_count),
+            size,
+        )
     }
 
     fn is_disjoint(&self) -> bool
         requires { IsInside 0xFFFF_FFFF_FFFF_FFFF self.now }
         ensures { IsTrue result ↔ IsDisjoint self.now }
     {
-        let rx_ring = DESCRIPTOR * u64::from(self.rx_count);
-        let rx_buffers = BUFFER * u64::from(self.rx_count);
-        let tx_ring = DESCRIPTOR * u64::from(self.tx_count);
-        let tx_buffers = BUFFER * u64::from(self.tx_count);
+        let rx_ring = DESCRIPTOR_OCTETS * u64::from(self.rx_count);
+        let rx_buffers = BUFFER_OCTETS * u64::from(self.rx_count);
+        let tx_ring = DESCRIPTOR_OCTETS * u64::from(self.tx_count);
+        let tx_buffers = BUFFER_OCTETS * u64::from(self.tx_count);
         are_apart(self.rx_ring, rx_ring, self.rx_buffers, rx_buffers)
             && are_apart(self.tx_ring, tx_ring, self.tx_buffers, tx_buffers)
             && are_apart(self.rx_ring, rx_ring, self.tx_ring, tx_ring)

@@ -1,7 +1,6 @@
 //! A polled driver of the adapter, one access at a time.
 #![tactic(auto)]
 
-mod address;
 mod bus;
 mod counting;
 mod descriptor;
@@ -15,7 +14,6 @@ mod machine;
 mod outcome;
 mod packet;
 mod receive;
-mod seat;
 mod set;
 mod start;
 mod start_access;

@@ -1,38 +1,32 @@
 //! The speed of the link.
-ghost use Rattle.std.specs.Prelude.{◌≡◌};
-ghost use Rattle.em_driver.specs.Course.{Follows};
-ghost use Rattle.em_driver.specs.Calls.{get_link_speed, speed_in};
+ghost use Rattle.std.specs.Prelude.{◌≡◌, ◌/◌, ◌%◌, ◌==◌};
+ghost use Rattle.em_driver.specs.Calls.{speed_in};
 
-use crate::bus::Bus;
-use crate::driver::E1000;
-use em_regs::Reg;
+use bitflags::Flags;
+use em_regs::Status;
 
-/// LU of STATUS: the link is up.
-const LU: u32 = 1;
+/// SPEED of STATUS, where it says 100 Mb/s.
+const SPEED_100: u32 = 0x40;
 
-/// The lower bit of SPEED of STATUS.
-const SPEED: u32 = 6;
-
-impl<B: Bus> E1000<B> {
-    /// Reads the speed of the link, in Mb/s; 0 where it is down.
-    pub(crate) fn link_speed(&mut self) -> u16
-        ensures course { Follows (B.world self.old.bus) get_link_speed 1 result (B.world self.new.bus) }
-        ensures layout { self.new.layout ≡ self.old.layout }
-    {
-        speed_of(self.bus.read(Reg::Status))
-    }
+/// Whether STATUS says that the link is up.
+#[tactic(auto, using(crate::proofs::BitLaws::second_bit))]
+fn is_up(status: u32) -> bool
+    ensures { result ≡ (status / 2 % 2 == 1) }
+{
+    Status::from_bits_retain(status).contains(Status::LU)
 }
 
-/// The speed that STATUS holds, in Mb/s.
-fn speed_of(status: u32) -> u16
+/// The speed that STATUS holds, in Mb/s; 0 where the link is down.
+#[tactic(auto, using(crate::proofs::BitLaws::speed_field))]
+pub(crate) fn speed_of(status: u32) -> u16
     ensures { result ≡ speed_in status }
 {
-    if (status >> LU) % 2 == 0 {
+    if !is_up(status) {
         return 0;
     }
-    match (status >> SPEED) % 4 {
+    match status & Status::SPEED.bits() {
         0 => 10,
-        1 => 100,
+        SPEED_100 => 100,
         _ => 1000,
     }
 }

@@ -4,6 +4,8 @@ ghost use Rattle.em_driver.specs.Start.{Performs, Gives, Stops};
 ghost use Rattle.em_driver.specs.Start as parts;
 
 use crate::bus::Bus;
+use crate::descriptor::Descriptor;
+use crate::layout::{BUFFER_OCTETS, DESCRIPTOR_OCTETS};
 use crate::outcome::Cause;
 use crate::start_access::Starting;
 use bitflags::Flags;
@@ -25,12 +27,6 @@ const WORD: u32 = 0x1_0000;
 
 /// How many words the multicast table has.
 const MTA_WORDS: u8 = 128;
-
-/// Octets of a descriptor.
-const DESCRIPTOR: u32 = 16;
-
-/// Octets of a buffer.
-const BUFFER: u32 = 2048;
 
 /// A base address has its low 32 bits in one register and the others in the next.
 const BASE_HIGH: u64 = 0x1_0000_0000;
@@ -149,8 +145,8 @@ impl<B: Bus> Starting<B> {
         ensures layout { self.new.driver.layout ≡ self.old.driver.layout }
     {
         for i in 0..count {
-            let addr = ring + u64::from(DESCRIPTOR * i);
-            let octets = fresh_descriptor(buffers + u64::from(BUFFER * i));
+            let addr = ring + DESCRIPTOR_OCTETS * u64::from(i);
+            let octets = fresh_descriptor(buffers + BUFFER_OCTETS * u64::from(i));
             self.poke(addr, &octets)?;
         }
         Ok(())
@@ -175,7 +171,7 @@ impl<B: Bus> Starting<B> {
         self.descriptors(ring, count, buffers)?;
         self.write(Reg::Rdbal, low(ring));
         self.write(Reg::Rdbah, high(ring));
-        self.write(Reg::Rdlen, DESCRIPTOR * count);
+        self.write(Reg::Rdlen, DESCRIPTOR_OCTETS as u32 * count);
         self.write(Reg::Rdh, 0);
         self.write(Reg::Rdt, count - 1);
         let control = Rctl::EN.union(Rctl::UPE).union(Rctl::MPE).union(Rctl::BAM);
@@ -202,7 +198,7 @@ impl<B: Bus> Starting<B> {
         self.descriptors(ring, count, buffers)?;
         self.write(Reg::Tdbal, low(ring));
         self.write(Reg::Tdbah, high(ring));
-        self.write(Reg::Tdlen, DESCRIPTOR * count);
+        self.write(Reg::Tdlen, DESCRIPTOR_OCTETS as u32 * count);
         self.write(Reg::Tdh, 0);
         self.write(Reg::Tdt, 0);
         self.write(Reg::Tipg, PACKET_GAPS);
@@ -213,10 +209,10 @@ impl<B: Bus> Starting<B> {
 }
 
 /// The octets of a descriptor that has a buffer, and nothing in it.
-fn fresh_descriptor(buffer: u64) -> [u8; 16]
+fn fresh_descriptor(buffer: u64) -> Descriptor
     ensures { result ≡ parts.fresh_descriptor buffer }
 {
-    let mut octets = [0; 16];
+    let mut octets = [0; DESCRIPTOR_OCTETS as usize];
     LittleEndian::write_u64(&mut octets, buffer);
     octets
 }

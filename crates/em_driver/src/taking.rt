@@ -1,6 +1,6 @@
 //! How the turns of a list are taken.
 ghost use Rattle.std.specs.Prelude.{◌≡◌, ◌+◌, ◌<◌, ◌≤◌, ℕ, List, length, vec_len, vec_capacity};
-ghost use Rattle.em_driver.specs.Taking.{Takes, TakesAll, taken_of, world_with};
+ghost use Rattle.em_driver.specs.Taking.{Takes, TakesAll, outcome_of, world_with};
 ghost use Rattle.em_driver.specs.Turn.{arrivals, is_arrival};
 
 use crate::frame::Frame;
@@ -17,7 +17,7 @@ pub struct Counts {
 
 /// What became of a turn.
 #[derive(Clone, Copy, Debug)]
-pub enum Taken {
+pub enum TurnOutcome {
     Performed,
     Refused,
     Starved,
@@ -42,16 +42,16 @@ pub fn take_all(
 {
     for turn in turns {
         match take(turn, machine, stored) {
-            Taken::Performed => counts.performed += 1,
-            Taken::Refused => counts.refused += 1,
-            Taken::Starved => return false,
+            TurnOutcome::Performed => counts.performed += 1,
+            TurnOutcome::Refused => counts.refused += 1,
+            TurnOutcome::Starved => return false,
         }
     }
     true
 }
 
 /// Takes one turn. There is room for a frame that arrives.
-fn take(turn: Turn, machine: &mut Machine, stored: &mut Vec<Frame>) -> Taken
+fn take(turn: Turn, machine: &mut Machine, stored: &mut Vec<Frame>) -> TurnOutcome
     requires { vec_len stored.old + is_arrival turn ≤ vec_capacity stored.old }
     ensures takes { Takes machine.old stored.old.items turn result machine.new stored.new.items }
     ensures room { vec_len stored.new ≤ vec_len stored.old + is_arrival turn }
@@ -65,7 +65,7 @@ fn take(turn: Turn, machine: &mut Machine, stored: &mut Vec<Frame>) -> Taken
 }
 
 /// A frame arrives, and is noted where it is stored. There is room for it.
-fn arrive(frame: Frame, machine: &mut Machine, stored: &mut Vec<Frame>) -> Taken
+fn arrive(frame: Frame, machine: &mut Machine, stored: &mut Vec<Frame>) -> TurnOutcome
     requires { vec_len stored.old < vec_capacity stored.old }
     ensures takes { Takes machine.old stored.old.items (Turn.Arrive frame) result machine.new stored.new.items }
     ensures room { vec_len stored.new ≤ vec_len stored.old + 1 }
@@ -77,38 +77,38 @@ fn arrive(frame: Frame, machine: &mut Machine, stored: &mut Vec<Frame>) -> Taken
                 Answer::Stored => stored.push_reserved(frame),
                 _ => {}
             }
-            Taken::Performed
+            TurnOutcome::Performed
         }
         Err(refusal) => not_performed(refusal),
     }
 }
 
 /// The receive engine handles one descriptor.
-fn receive(machine: &mut Machine) -> Taken
+fn receive(machine: &mut Machine) -> TurnOutcome
     ensures { (stored : List (List ℕ)) → Takes machine.old stored Turn.RxStep result machine.new stored }
 {
     match machine.perform(Event::RxStep) {
-        Ok(_) => Taken::Performed,
+        Ok(_) => TurnOutcome::Performed,
         Err(refusal) => not_performed(refusal),
     }
 }
 
 /// The transmit engine handles one descriptor.
-fn transmit(machine: &mut Machine) -> Taken
+fn transmit(machine: &mut Machine) -> TurnOutcome
     ensures { (stored : List (List ℕ)) → Takes machine.old stored Turn.TxStep result machine.new stored }
 {
     match machine.perform(Event::TxStep) {
-        Ok(_) => Taken::Performed,
+        Ok(_) => TurnOutcome::Performed,
         Err(refusal) => not_performed(refusal),
     }
 }
 
 /// What a refused turn is counted as.
-fn not_performed(refusal: Refusal) -> Taken
-    ensures { result ≡ taken_of refusal }
+fn not_performed(refusal: Refusal) -> TurnOutcome
+    ensures { result ≡ outcome_of refusal }
 {
     match refusal {
-        Refusal::Memory => Taken::Starved,
-        _ => Taken::Refused,
+        Refusal::Memory => TurnOutcome::Starved,
+        _ => TurnOutcome::Refused,
     }
 }

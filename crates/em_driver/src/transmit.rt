@@ -1,16 +1,15 @@
 //! Packets to send.
 ghost use Rattle.std.specs.Prelude.{◌≡◌, ◌<◌, ◌≤◌, ◌+◌, true, false, IfErr, IfOk, IfSome, OnOk, MatchOption};
-ghost use Rattle.em_driver.specs.Course.{Follows};
-ghost use Rattle.em_driver.specs.Outcome.{events_of};
 ghost use Rattle.em_driver.specs.Receive.{lists};
 ghost use Rattle.em_driver.specs.Transmit as spec;
-ghost use Rattle.em_driver.specs.Transmit.{tx_batch, Halts, HaltsAt, Sends, SendsOrNot};
+ghost use Rattle.em_driver.specs.Transmit.{Halts, HaltsAt, Sends, SendsOrNot};
 
 use crate::bus::Bus;
-use crate::descriptor::{DESCRIPTOR_OCTETS, of_packet};
+use crate::descriptor::of_packet;
 use crate::driver::E1000;
-use crate::outcome::{Batch, Cause, Stopped, cause_of};
-use crate::receive::{BUFFER_OCTETS, following};
+use crate::layout::{BUFFER_OCTETS, DESCRIPTOR_OCTETS};
+use crate::outcome::{Cause, Stopped, cause_of};
+use crate::receive::following;
 use em_regs::Reg;
 use std::collections::VecDeque;
 
@@ -21,57 +20,9 @@ const LEAST_PACKET: usize = 14;
 const MOST_PACKET: usize = 1518;
 
 impl<B: Bus> E1000<B> {
-    /// Takes packets from the front of `buffer`, while descriptors are free.
-    pub(crate) fn transmit(
-        &mut self,
-        queue: u16,
-        buffer: &mut VecDeque<Vec<u8>>,
-    ) -> Result<Batch, Stopped>
-        ensures course { Follows (B.world self.old.bus) (tx_batch self.old.layout queue (lists buffer.old.items))
-            (events_of result) (lists buffer.new.items, result) (B.world self.new.bus) }
-        ensures layout { self.new.layout ≡ self.old.layout }
-    {
-        if queue != 0 {
-            return Err(Stopped {
-                count: 0,
-                events: 0,
-                cause: Cause::Queue,
-            });
-        }
-        let Some(_) = buffer.front() else {
-            return Ok(Batch {
-                count: 0,
-                events: 0,
-            });
-        };
-        let tail = self.bus.read(Reg::Tdt);
-        let head = self.bus.read(Reg::Tdh);
-        let ring = self.layout.tx_count;
-        let Some(free) = free_descriptors(ring, head, tail) else {
-            return Err(halt_after(0, 0, Cause::Broken));
-        };
-        let mut index = tail;
-        let mut count: u32 = 0;
-        for i in 0..free {
-            match self.transmit_front(index, count, buffer) {
-                Ok(true) => {
-                    let next = following(index, ring);
-                    index = next;
-                    count += 1;
-                }
-                Ok(false) => break,
-                Err(stopped) => return Err(stopped),
-            }
-        }
-        Ok(Batch {
-            count,
-            events: 2 + 3 * count,
-        })
-    }
-
     /// Takes the first packet of `buffer` into descriptor `index`, where there is one; `count` packets
     /// went before.
-    fn transmit_front(
+    pub(crate) fn transmit_front(
         &mut self,
         index: u32,
         count: u32,
@@ -130,7 +81,7 @@ impl<B: Bus> E1000<B> {
         requires { index < self.now.layout.tx_count }
         ensures { result ≡ spec.tx_descriptor self.now.layout index }
     {
-        self.layout.tx_ring + DESCRIPTOR_OCTETS as u64 * u64::from(index)
+        self.layout.tx_ring + DESCRIPTOR_OCTETS * u64::from(index)
     }
 
     /// Where the buffer of descriptor `index` lies.
@@ -143,7 +94,7 @@ impl<B: Bus> E1000<B> {
 }
 
 /// How many descriptors are free in a ring of `count`; None where an index is outside of the ring.
-fn free_descriptors(count: u32, head: u32, tail: u32) -> Option<u32>
+pub(crate) fn free_descriptors(count: u32, head: u32, tail: u32) -> Option<u32>
     requires { count ≤ 4096 }
     ensures value { MatchOption result (spec.are_indices count head tail ≡ false) (λ free.
         (spec.are_indices count head tail ≡ true) × (free ≡ spec.free_from count head tail)) }
@@ -167,7 +118,7 @@ fn is_packet(packet: &[u8]) -> bool
 }
 
 /// A call that stopped after `count` packets, and `own` events of the packet after them.
-fn halt_after(count: u32, own: u32, cause: Cause) -> Stopped
+pub(crate) fn halt_after(count: u32, own: u32, cause: Cause) -> Stopped
     requires few { count ≤ 4096 }
     requires one { own ≤ 1 }
     ensures { result ≡ spec.halt_after count own cause }

@@ -7,7 +7,7 @@ use Rattle.em_driver.specs.World.{World}
 use Rattle.em_driver.specs.Course.{done, Follows}
 use Rattle.em_driver.specs.Play.{Played, Tells}
 use Rattle.em_driver.specs.Answering.{answering}
-use Rattle.em_driver.specs.Happened.{Happens}
+use Rattle.em_driver.specs.HappenedCall.{Happens}
 use Rattle.em_driver.specs.Start.{start as start_of}
 use Rattle.em_driver.specs.Receive.{rx_batch}
 use Rattle.em_driver.specs.Transmit.{tx_batch}

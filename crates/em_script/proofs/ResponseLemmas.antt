@@ -7,7 +7,7 @@ use Rattle.em_text.specs.Writer.{decimal_text, numbers_text}
 use Rattle.em_driver.specs.declared.turn.Turn.{Turn}
 use Rattle.em_driver.specs.World.{World}
 use Rattle.em_driver.specs.Play.{Played, wants_memory}
-use Rattle.em_driver.specs.Told.{is_memory}
+use Rattle.em_driver.specs.TellsMemory.{is_memory}
 use Rattle.em_driver.specs.declared.outcome.Cause.{Cause}
 use Rattle.em_driver.specs.declared.outcome.Cause.TheVariants.{Memory, Layout, Checksum, Queue, PacketLength, Broken}
 use Rattle.em_script.specs.Runner.{SaysMemory}

@@ -8,7 +8,7 @@ use Rattle.em_driver.specs.CourseCalls.{course_calls}
 use Rattle.em_driver.specs.declared.turn.Turn.{Turn}
 use Rattle.em_driver.specs.Play.{Played}
 use Rattle.em_driver.specs.Answering.{answering}
-use Rattle.em_driver.specs.Happened.{happened, CanHappen}
+use Rattle.em_driver.specs.HappenedCall.{happened, CanHappen}
 use Rattle.em_driver.specs.Start.{start as start_of}
 use Rattle.em_driver.specs.Receive.{rx_batch}
 use Rattle.em_driver.specs.Transmit.{tx_batch}

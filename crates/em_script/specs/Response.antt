@@ -4,7 +4,7 @@ use Rattle.em_journal.specs.View.{View}
 use Rattle.em_driver.specs.declared.turn.Turn.{Turn}
 use Rattle.em_driver.specs.World.{World, quiet}
 use Rattle.em_driver.specs.Play.{Played}
-use Rattle.em_driver.specs.Told.{start_says, result_says}
+use Rattle.em_driver.specs.TellsMemory.{start_says, result_says}
 use Rattle.em_driver.specs.declared.outcome.Batch.{Batch}
 use Rattle.em_driver.specs.declared.outcome.Stopped.{Stopped}
 use Rattle.em_driver.specs.declared.outcome.Cause.{Cause}

@@ -3,7 +3,7 @@ ghost use Rattle.std.specs.Prelude.{ℕ, Some};
 ghost use Rattle.em_driver.specs.World.{World};
 ghost use Rattle.em_driver.specs.Course.{Follows};
 ghost use Rattle.em_driver.specs.Play.{Played};
-ghost use Rattle.em_driver.specs.Happened.{Happens};
+ghost use Rattle.em_driver.specs.HappenedCall.{Happens};
 ghost use Rattle.em_script.specs.Session.{Session};
 ghost use Rattle.em_script.specs.Request.{Request};
 ghost use Rattle.em_script.specs.Response.{Response, says_memory, call_text};

@@ -1,5 +1,11 @@
+use Rattle.std.proofs.Common.{refl}
+use Rattle.em_driver.proofs.CourseLaws.{ends_with, reads_on}
 use Rattle.em_driver.proofs.CallOrderLaws.{get_link_speed_order}
 use Rattle.em_driver.proofs.device.E1000IxyDevice.get_link_speed.Goals as goal
 
+pub returns-clause-course : goal.returns-clause-course
+returns-clause-course g c =
+    reads_on _ _ _ _ _ _ _ 0 _ c.read.ensures refl (ends_with _ _ _ c.speed_of.ensures)
+
 pub returns-clause-order : goal.returns-clause-order
-returns-clause-order g c = λ h. get_link_speed_order _ _ _ _ _ h c.link_speed.ensures.course
+returns-clause-order g c = λ h. get_link_speed_order _ _ _ _ _ h (returns-clause-course g c)

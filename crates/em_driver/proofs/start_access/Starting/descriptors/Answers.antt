@@ -11,10 +11,10 @@ loop-i-init g c = record { counted = omega arith; layout = refl; comes = λ more
 pub loop-i-preserved : goal.loop-i-preserved
 loop-i-preserved g c =
     let i = c.loop-i.i in
-    let addr : c.args.ring + 16 * i ≡ c.args.ring + c.from.result = omega (arith, c.from.ensures) in
+    let addr : c.args.ring + 16 * i ≡ c.args.ring + 16 * c.from.result = omega (arith, c.from.ensures) in
     let octets : fresh_descriptor (c.args.buffers + 2048 * i) ≡ c.fresh_descriptor-octets.result =
     sym (c.fresh_descriptor-octets.ensures
-    ∙ ap (λ x. fresh_descriptor (c.args.buffers + x)) c.from-in-loop-i.ensures) in
+    ∙ ap (λ x. fresh_descriptor (c.args.buffers + 2048 * x)) c.from-in-loop-i.ensures) in
     record {
       counted = omega (arith, c.loop-i.invariant.counted, c.in_ok-poke.ensures.counted);
       layout = c.poke.ensures.layout ∙ c.loop-i.invariant.layout;
@@ -27,10 +27,10 @@ loop-i-preserved g c =
 pub returns-in_err-poke-clause-err : goal.returns-in_err-poke-clause-err
 returns-in_err-poke-clause-err g c =
     let i = c.loop-i.i in
-    let addr : c.args.ring + 16 * i ≡ c.args.ring + c.from.result = omega (arith, c.from.ensures) in
+    let addr : c.args.ring + 16 * i ≡ c.args.ring + 16 * c.from.result = omega (arith, c.from.ensures) in
     let octets : fresh_descriptor (c.args.buffers + 2048 * i) ≡ c.fresh_descriptor-octets.result =
     sym (c.fresh_descriptor-octets.ensures
-    ∙ ap (λ x. fresh_descriptor (c.args.buffers + x)) c.from-in-loop-i.ensures) in
+    ∙ ap (λ x. fresh_descriptor (c.args.buffers + 2048 * x)) c.from-in-loop-i.ensures) in
     let p = err_from_is_err_and c.from_residual.result c.from_residual.ensures.1 in
     rw (p.1, p.2)
     (each_stops _ _ _ (descriptors c.args.ring c.args.count c.args.buffers)

@@ -1,7 +1,7 @@
 use Rattle.std.proofs.Common.{◌≡◌, ◌-◌, ◌≤◌, ◌<◌}
 use Rattle.em_driver.specs.Receive.{lists}
-use Rattle.em_driver.proofs.TransmitLaws.{Going}
-use Rattle.em_driver.proofs.driver.E1000.transmit.Given as goal
+use Rattle.em_driver.proofs.ReceiveLaws.{Going}
+use Rattle.em_driver.proofs.device.E1000IxyDevice.rx_batch.Given as goal
 
 abbrev pub invariant-loop-i : goal.invariant-loop-i
 invariant-loop-i g l =
@@ -9,8 +9,7 @@ invariant-loop-i g l =
     record {
       layout : l.self.layout ≡ l.fn.self.layout;
       few : l.count ≤ l.i;
-      small : l.free < 4096;
-      within : l.index < l.fn.self.layout.tx_count;
-      going : Going (world l.fn.self.bus) l.fn.self.layout l.queue (l.free - l.i) l.index l.count
+      within : l.index < l.fn.self.layout.rx_count;
+      going : Going (world l.fn.self.bus) l.fn.self.layout l.queue l.n (l.i-end - l.i) l.index l.count
           (world l.self.bus) (lists l.fn.buffer.items) (lists l.buffer.items);
     }

@@ -1,9 +1,0 @@
-use Rattle.std.proofs.Common.{refl}
-use Rattle.em_driver.proofs.CourseLaws.{ends_with, reads_on}
-use Rattle.em_driver.proofs.driver.E1000.address.Goals as goal
-
-pub returns-clause-course : goal.returns-clause-course
-returns-clause-course g c =
-    reads_on _ _ _ _ _ _ _ 1 _ c.read.ensures refl
-    (reads_on _ _ _ _ _ _ _ 0 _ c.read-2.ensures refl
-    (ends_with _ _ _ (rw (c.to_le_bytes-low.ensures, c.to_le_bytes-high.ensures) refl)))
