@@ -8,8 +8,11 @@
 use anyhow::Result;
 
 mod digest;
-#[cfg(test)]
 mod driven;
+#[cfg(test)]
+mod expected;
+#[cfg(test)]
+mod held;
 mod plan;
 #[cfg(test)]
 mod refusals;
