@@ -1,6 +1,7 @@
 //! The numbers of the refusals, and what is refused by calls alone.
 
 use crate::tests::same;
+use em_driver::Cause;
 use em_journal::{Empty, JournalRefusal};
 use em_mem::MemRefusal;
 use em_step::Refusal;
@@ -25,4 +26,20 @@ fn refusals_have_their_numbers() -> Result<(), Fail> {
     same("empty", Empty.code(), 8)?;
     same("machine", JournalRefusal::Memory.code(), 9)?;
     same("budget", JournalRefusal::Budget.code(), 24)
+}
+
+#[test]
+fn causes_have_their_numbers() -> Result<(), Fail> {
+    let of_calls = [
+        (Cause::Memory, 9),
+        (Cause::Layout, 10),
+        (Cause::Checksum, 11),
+        (Cause::Queue, 12),
+        (Cause::PacketLength, 13),
+        (Cause::Broken, 14),
+    ];
+    for (cause, number) in of_calls {
+        same("call", (cause, cause.code()), (cause, number))?;
+    }
+    Ok(())
 }
