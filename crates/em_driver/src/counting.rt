@@ -7,7 +7,7 @@ use crate::turn::Turn;
 use std::collections::VecDeque;
 
 /// The arrivals of a plan.
-pub fn arrivals_of_plan(plan: &VecDeque<Vec<Turn>>) -> usize
+pub(crate) fn arrivals_of_plan(plan: &VecDeque<Vec<Turn>>) -> usize
     requires { plan_turns (planned plan.now.items) < 0x1_0000_0000 }
     ensures { result ≡ plan_arrivals (planned plan.now.items) }
 {

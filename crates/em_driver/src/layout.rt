@@ -36,7 +36,7 @@ impl Layout {
     /// Whether a driver can keep its descriptors and buffers so in a memory of `size` octets: both
     /// counts are multiples of 8 from 8 to 4,096, both rings begin at multiples of 16, and the four
     /// regions are inside memory and have no octet in common.
-    pub fn is_good(&self, size: u64) -> bool
+    pub(crate) fn is_good(&self, size: u64) -> bool
         ensures { IsTrue result ↔ IsGoodLayout size self.now }
     {
         is_count(self.rx_count)

@@ -25,7 +25,7 @@ pub enum TurnOutcome {
 
 /// Takes the turns of a list, in order, up to one that finds no memory, and gives whether there was
 /// none such. There is room for the frames that arrive.
-pub fn take_all(
+pub(crate) fn take_all(
     turns: Vec<Turn>,
     machine: &mut Machine,
     stored: &mut Vec<Frame>,
