@@ -61,7 +61,8 @@ side_by_side() {
   echo $((most < 1 ? 1 : most < amount ? most : amount))
 }
 
-# What crates.seconds says of each crate, or a minute; the longest chain above each; and which are on the longest of all.
+# What crates.seconds says of each crate, or a minute; the longest chain above each; and which are on the longest of
+# all.
 read_seconds() {
   local crate word at rest
   for crate in "${order[@]}"; do
@@ -112,7 +113,8 @@ show_how_far() {
   # what is done took longer than the table has it: so will the rest
   spent=$((chain[${order[0]}] - left))
   [ "$spent" -lt 60 ] || [ "$SECONDS" -lt "$spent" ] || left=$((left * SECONDS / spent))
-  text="em_bench: ${#proved[@]} of ${#order[@]} crates proved, $((SECONDS / 60)) min so far, about $(((left + 59) / 60)) left"
+  text="em_bench: ${#proved[@]} of ${#order[@]} crates proved, $((SECONDS / 60)) min so far"
+  text+=", about $(((left + 59) / 60)) left"
   if [ -t 2 ]; then
     text+=" (${!process[*]})"
     printf '\r%-*s' "$width" "${text:0:width}" >&2
@@ -175,8 +177,8 @@ end_all() {
   rm -rf -- "$room"
 }
 
-# Proves these crates and those below them, and builds these: side by side as far as processors and memory go, the longest
-# chain first.
+# Proves these crates and those below them, and builds these: side by side as far as processors and memory go, the
+# longest chain first.
 prove_and_build() {
   local crate most
   [ -w "$top/crates" ] || stop 73 "$top/crates cannot be written, so nothing can be built there"
