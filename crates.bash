@@ -1,5 +1,5 @@
 # What the scripts at the top know of crates: what each names, what it is made of, and how it is proved and built.
-# It is read into a script that has set `top`, and has `say` and `stop`.
+# It is read into a script that has set `top`, and its name as `me`.
 
 # by crate: what it names; the seconds that it took when all was proved from nothing on four processors; those of the
 # longest chain of crates above it, without and with it; and whether it is on the longest chain of all
@@ -10,6 +10,16 @@ declare -A process=() began=() place=() proved=()
 room='' shown='' table=$top/crates.seconds
 # crates, each after those that it stands on; the files that they are made of, and the folders that these lie in
 order=() files=() folders=()
+
+say() {
+  echo "$me: $*" >&2
+}
+
+# Ends with a status that is none of a program's.
+stop() {
+  say "$2"
+  exit "$1"
+}
 
 read_crates() {
   local line crate
@@ -113,7 +123,7 @@ show_how_far() {
   # what is done took longer than the table has it: so will the rest
   spent=$((chain[${order[0]}] - left))
   [ "$spent" -lt 60 ] || [ "$SECONDS" -lt "$spent" ] || left=$((left * SECONDS / spent))
-  text="em_bench: ${#proved[@]} of ${#order[@]} crates proved, $((SECONDS / 60)) min so far"
+  text="$me: ${#proved[@]} of ${#order[@]} crates proved, $((SECONDS / 60)) min so far"
   text+=", about $(((left + 59) / 60)) left"
   if [ -t 2 ]; then
     text+=" (${!process[*]})"
