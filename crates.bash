@@ -147,7 +147,7 @@ begin() {
   [ -z "${is_longest[$1]-}" ] || way=()
   # under -m it gets a group of processes of its own
   set -m
-  (cd -- "$top/crates/$1" && exec "${way[@]}" rt "$verb") </dev/null >"$room/$1" 2>&1 &
+  (CDPATH='' cd -- "$top/crates/$1" && exec "${way[@]}" rt "$verb") </dev/null >"$room/$1" 2>&1 &
   set +m
   process[$1]=$! began[$1]=$SECONDS
   place[$1]="crate ${#began[@]} of ${#order[@]}, $1"
