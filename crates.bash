@@ -6,8 +6,8 @@
 declare -A uses=() seconds=() above=() chain=() is_longest=()
 # by crate: its process, when that began, its place among them, and whether it is proved
 declare -A process=() began=() place=() proved=()
-# where what they print goes; what show_how_far said last; the table of seconds
-room='' shown='' table=$top/crates.seconds
+# where what they print goes, and what else an end removes; what show_how_far said last; the table of seconds
+room='' rooms=() shown='' table=$top/crates.seconds
 # crates, each after those that it stands on; the files that they are made of, and the folders that these lie in
 order=() files=() folders=()
 
@@ -184,7 +184,7 @@ end_all() {
     [ ! "$program" -nt "$room/began" ] || rm -f -- "$program"
   done
   clear_line
-  rm -rf -- "$room"
+  rm -rf -- "$room" "${rooms[@]}"
 }
 
 # Proves these crates and those below them, and builds these: side by side as far as processors and memory go, the
