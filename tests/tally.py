@@ -19,7 +19,7 @@ def program() -> str:
     """The program that a part is told to run, or the one that was built last."""
     named = sys.argv[1] if sys.argv[1:] else str(PROGRAM)
     if not Path(named).is_file():
-        sys.exit(f"{named} is not there: ./em_bench builds it")
+        sys.exit(f"{named} is not there: ./em_bench --build builds it")
     # a part may run it from another folder
     return str(Path(named).resolve())
 
