@@ -7,6 +7,8 @@
 
 use anyhow::Result;
 
+#[cfg(test)]
+mod adapter_alone;
 mod digest;
 mod driven;
 #[cfg(test)]

@@ -1,10 +1,25 @@
 //! The machine: an adapter with a journal of its latest events.
-ghost use Rattle.std.specs.Prelude.{◌≡◌, ◌≢◌, ◌+◌, ◌<◌, ◌↔◌, IfOk, IfErr, OnOk, OnErr, IsErrOf, IsTrue};
+//!
+//! `perform` is the way in. Which function an event then runs through, here; in `Adapter`; and below:
+//!
+//! - an access at an offset: `read`, `write`, where `Reg::of_offset` finds the register, and by its kind
+//!   - one that stores: `read_stored`, `write_stored`; the same in `Adapter`; `RegFile::look`, `put`
+//!   - an interrupt register, a counter: `read_latched`, `write_latched`; the same; `Latches::read`, `write`
+//!   - STATUS, and a write of CTRL or EERD: `read_other`, `write_other`; `read_register`, `write_register`;
+//!     `status`, `write_control`, `write_eerd`
+//! - a memory write: `poke`; `poke`; `GuestMemory::write_few`, `write_keeping`
+//! - an arriving frame: `arrive`; `arrive`, `dispose`, `judge`, `admit`, `accept`; em_filter, `Fifo::accept`
+//! - a change of the link: `set_link`; `set_link`; `Latches::raise`
+//! - a step of an engine: `receive_step`, `transmit_step`; the same; `Fifo::step`, em_tx's `step`
+//!
+//! Each function of `Adapter` gives an `Undo` too. `Records::keep` puts it first in the journal, and `back` gives
+//! it to `Adapter::take_back`: the words of the latches by `Latches::put_back`, and then its effect.
+ghost use Rattle.std.specs.Prelude.{◌≡◌, ◌+◌, ◌<◌, ◌↔◌, IfOk, IfErr, OnOk, OnErr, IsErrOf, IsTrue};
 ghost use Rattle.std.specs.Prelude.{length, min, replicate, slice_get};
 ghost use Rattle.std.specs.Option.{option_map};
 ghost use Rattle.em_mem.specs.Memory.{part};
 ghost use Rattle.em_regs.specs.Table.{IsReg, offset_of, reg_at};
-ghost use Rattle.em_regs.specs.RegFile.{IsStored};
+ghost use Rattle.em_regs.specs.RegFile.{IsStored, OnlyStores};
 ghost use Rattle.em_latch.specs.Latches.{IsAsserted, IsLatched};
 ghost use Rattle.em_step.specs.Access.{gives};
 ghost use Rattle.em_step.specs.Cells.{shows};
@@ -145,7 +160,7 @@ impl Machine {
         ensures kept { 0 < length self.new.past }
     {
         match reg.row().kind {
-            Kind::Stored => self.read_stored(reg),
+            Kind::Stored | Kind::Control | Kind::EepromRead => self.read_stored(reg),
             Kind::Interrupt | Kind::Counter => self.read_latched(reg),
             Kind::Status => self.read_other(reg),
         }
@@ -161,13 +176,10 @@ impl Machine {
         ensures err { IfErr result (λ refusal.
             Does self.old (refuses (writes (offset_of reg) value) refusal) self.new) }
     {
-        if matches!(reg, Reg::Ctrl | Reg::Eerd) {
-            return self.write_other(reg, value);
-        }
         match reg.row().kind {
             Kind::Stored => self.write_stored(reg, value),
             Kind::Interrupt | Kind::Counter => self.write_latched(reg, value),
-            Kind::Status => self.write_other(reg, value)?,
+            Kind::Control | Kind::EepromRead | Kind::Status => self.write_other(reg, value)?,
         }
         Ok(())
     }
@@ -215,8 +227,7 @@ impl Machine {
 
     #[inline(always)]
     fn write_stored(&mut self, reg: Reg, value: u32)
-        requires stored { IsStored reg }
-        requires alone { (reg ≢ Reg.Ctrl) × (reg ≢ Reg.Eerd) }
+        requires { OnlyStores reg }
         ensures does { Does self.old (performs (writes (offset_of reg) value) Answer.Done) self.new }
         ensures kept { 0 < length self.new.past }
     {
@@ -329,7 +340,9 @@ impl Machine {
     {
         match self.records.ring.pop_front() {
             Some(undo) => {
-                self.records.used -= u64::from(self.adapter.take_back(undo));
+                let cost = undo.cost();
+                self.adapter.take_back(undo);
+                self.records.used -= u64::from(cost);
                 Ok(())
             }
             None => Err(Empty),

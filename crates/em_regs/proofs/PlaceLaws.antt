@@ -7,6 +7,7 @@ use Rattle.std.proofs.lemmas.Bool.Decides.{nat_tests}
 use Rattle.em_regs.specs.declared.reg.Reg.{Reg}
 use Rattle.em_regs.specs.declared.reg.Reg.TheVariants.{Ctrl}
 use Rattle.em_regs.specs.declared.table.Row.{Row}
+use Rattle.em_regs.specs.declared.table.TheConstants.{STORED_WORDS}
 use Rattle.em_regs.specs.Table.{row_of, index_of, offset_of, place_of, is_stored}
 use Rattle.em_regs.specs.Storage.{offsets, words_at}
 use Rattle.em_regs.specs.RegFile.{IsStored, zeroed}
@@ -17,11 +18,11 @@ pub distinct-offsets : distinct offsets ≡ true
 unfolding offsets
 distinct-offsets = refl
 
-pub length-offsets : length offsets ≡ 319
+pub length-offsets : length offsets ≡ STORED_WORDS
 unfolding offsets
 length-offsets = refl
 
-pub zeroed_is : zeroed ≡ words_at offsets (zeros 319)
+pub zeroed_is : zeroed ≡ words_at offsets (zeros STORED_WORDS)
 unfolding zeroed
 zeroed_is = ap (λ n. words_at offsets (zeros n)) length-offsets
 

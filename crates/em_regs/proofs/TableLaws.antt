@@ -1,8 +1,8 @@
 -- The table of registers, read in both directions.
 use Rattle.std.proofs.Common.{◌≡◌, ℕ, zero, suc, ◌+◌, ◌*◌, ◌<◌, ◌≤◌, ◌-◌, ◌/◌, ◌%◌, Bool, true, false, ◌&&◌, ◌==◌}
 use Rattle.std.proofs.Common.{◌⊎◌, inl, inr, List, [], ◌∷◌, Option, Some, None, refl, sym, ap, ◌∙◌, subst, arith}
-use Rattle.std.proofs.Common.{slice_index_or, nat_lt, nat_le, leb-true, eqb-true}
-use Rattle.std.specs.Prelude.{IfSome, is_some}
+use Rattle.std.proofs.Common.{slice_index_or, length, nat_lt, nat_le, leb-true, eqb-true}
+use Rattle.std.specs.Prelude.{IfSome, IfNone, is_some}
 use Rattle.std.proofs.lemmas.Bool.{and_parts, cases_eq}
 use Rattle.std.proofs.lemmas.Bool.Decides.{nat_tests}
 use Rattle.em_regs.specs.declared.reg.Reg.{Reg}
@@ -113,10 +113,10 @@ reg_at-offset_of _ h = refl
 abbrev pub page_at : ℕ → ℕ
 page_at o = slice_index_or PAGE_AT (o / 64) 0
 
-abbrev pub entry_in : ℕ → ℕ → Reg
-entry_in page word = slice_index_or (slice_index_or PAGES page []) word Ctrl
+abbrev pub entry_in : ℕ → ℕ → Option Reg
+entry_in page word = slice_index_or (slice_index_or PAGES page []) word None
 
-abbrev pub entry_of : ℕ → Reg
+abbrev pub entry_of : ℕ → Option Reg
 entry_of o = entry_in (page_at o) ((o / 4) % 16)
 
 -- each number below n passes
@@ -133,38 +133,53 @@ all_below-at p (suc n) h i lt =
       | inr apart ↦ all_below-at p n parts.1 i (omega arith)
     ]
 
-pub page_is_there : (k : ℕ) → k < 352 → slice_index_or PAGE_AT k 0 < 33
+pub page_is_there : (k : ℕ) → k < 352 → slice_index_or PAGE_AT k 0 < length PAGES
 page_is_there k h =
-    let t : nat_lt (slice_index_or PAGE_AT k 0) 33 ≡ true = all_below-at
-    (λ i. nat_lt (slice_index_or PAGE_AT i 0) 33) 352 refl k h in
+    let t : nat_lt (slice_index_or PAGE_AT k 0) (length PAGES) ≡ true = all_below-at
+    (λ i. nat_lt (slice_index_or PAGE_AT i 0) (length PAGES)) 352 refl k h in
     grind (arith, nat_tests, t)
 
--- each entry names a register
+-- the page at the k-th 64 octets has each of its registers at the word where it lies
 abbrev is_reg : Reg → Bool
 is_reg reg = nat_lt (index_of reg) (row_of reg).words
 
-abbrev names_all : ℕ → Bool
-names_all page = all_below (λ word. is_reg (entry_in page word)) 16
+abbrev lies : ℕ → ℕ → Option Reg → Bool
+lies k word None = true
+lies k word (Some reg) = is_reg reg && offset_of reg == 64 * k + 4 * word
 
-pub entry_named : (page word : ℕ) → page < 33 → word < 16 → IsReg (entry_in page word)
-entry_named page word there within =
-    let all : names_all page ≡ true = all_below-at names_all 33 refl page there in
-    let t : is_reg (entry_in page word) ≡ true = all_below-at (λ k. is_reg (entry_in page k)) 16 all word within in
-    grind (arith, nat_tests, t)
+abbrev page_lies : ℕ → List (Option Reg) → Bool
+page_lies k page = all_below (λ word. lies k word (slice_index_or page word None)) 16
 
-entry_of-offset_of : (reg : Reg) → IsReg reg → entry_of (offset_of reg) ≡ reg
-entry_of-offset_of (Mta i) h = same_below (λ k. entry_of (offset_of (Mta k))) (λ k. Mta k) 128 refl i h
-entry_of-offset_of (Ral i) h = same_below (λ k. entry_of (offset_of (Ral k))) (λ k. Ral k) 16 refl i h
-entry_of-offset_of (Rah i) h = same_below (λ k. entry_of (offset_of (Rah k))) (λ k. Rah k) 16 refl i h
-entry_of-offset_of (Vfta i) h = same_below (λ k. entry_of (offset_of (Vfta k))) (λ k. Vfta k) 128 refl i h
+abbrev pages_lie : ℕ → Bool
+pages_lie k = page_lies k (slice_index_or PAGES (slice_index_or PAGE_AT k 0) [])
+
+each_lies : (k : ℕ) → k < 352 → pages_lie k ≡ true
+each_lies = all_below-at pages_lie 352 refl
+
+lies_there : (o : ℕ) (found : Option Reg) → o % 4 ≡ 0 → lies (o / 64) ((o / 4) % 16) found ≡ true
+    → IfSome found (λ reg. IsReg reg × (offset_of reg ≡ o))
+lies_there o None whole t = tt
+lies_there o (Some reg) whole t =
+    let parts = and_parts (is_reg reg) (offset_of reg == 64 * (o / 64) + 4 * ((o / 4) % 16)) t in
+    let at : 64 * (o / 64) + 4 * ((o / 4) % 16) ≡ o = omega (arith, whole) in
+    (grind (arith, nat_tests, parts.0), eqb-true _ _ parts.1 ∙ at)
+
+entry_lies : (o : ℕ) → o < 0x05800 → o % 4 ≡ 0 → IfSome (entry_of o) (λ reg. IsReg reg × (offset_of reg ≡ o))
+entry_lies o within whole =
+    let k = o / 64 in
+    let all : pages_lie k ≡ true = each_lies k (omega arith) in
+    let one : lies k ((o / 4) % 16) (entry_of o) ≡ true = all_below-at
+    (λ word. lies k word (slice_index_or (slice_index_or PAGES (slice_index_or PAGE_AT k 0) []) word None)) 16 all
+    ((o / 4) % 16) (omega arith) in
+    lies_there o (entry_of o) whole one
+
+entry_of-offset_of : (reg : Reg) → IsReg reg → entry_of (offset_of reg) ≡ Some reg
+entry_of-offset_of (Mta i) h = same_below (λ k. entry_of (offset_of (Mta k))) (λ k. Some (Mta k)) 128 refl i h
+entry_of-offset_of (Ral i) h = same_below (λ k. entry_of (offset_of (Ral k))) (λ k. Some (Ral k)) 16 refl i h
+entry_of-offset_of (Rah i) h = same_below (λ k. entry_of (offset_of (Rah k))) (λ k. Some (Rah k)) 16 refl i h
+entry_of-offset_of (Vfta i) h = same_below (λ k. entry_of (offset_of (Vfta k))) (λ k. Some (Vfta k)) 128 refl i h
 entry_of-offset_of Ctrl h = refl
 entry_of-offset_of _ h = refl
-
--- what the page gives is the register that lies there
-pub page_gives : (o page : ℕ) → page ≡ page_at o → (reg : Reg) → IsReg reg → offset_of reg ≡ o
-    → entry_in page ((o / 4) % 16) ≡ reg
-page_gives o page is reg has lies = ap (λ k. entry_in k ((o / 4) % 16)) is ∙ ap entry_of (sym lies)
-    ∙ entry_of-offset_of reg has
 
 -- each row ends within the registers' space
 abbrev pub ends_within : Reg → Bool
@@ -200,7 +215,31 @@ none_found o n = none_in o (reg_at o) (reg_in_lies registers o) n
 pub found_there : (o : ℕ) (found : Reg) → IsReg found × (offset_of found ≡ o) → Some found ≡ reg_at o
 found_there o found h = sym (reg_at-offset_of found h.0) ∙ ap reg_at h.1
 
--- ---- skip_bare
+given_at : (o : ℕ) (found : Option Reg) → found ≡ entry_of o → IfSome found (λ reg. IsReg reg × (offset_of reg ≡ o))
+    → found ≡ reg_at o
+given_at o None is there = none_found o (λ reg has lies.
+    let same : None ≡ Some reg = is ∙ ap entry_of (sym lies) ∙ entry_of-offset_of reg has in
+    cc)
+given_at o (Some reg) is there = found_there o reg there
+
+-- what the page gives is the register that lies there
+pub page_gives : (o page : ℕ) → page ≡ page_at o → o < 0x05800 → o % 4 ≡ 0
+    → entry_in page ((o / 4) % 16) ≡ reg_at o
+page_gives o page is within whole = ap (λ k. entry_in k ((o / 4) % 16)) is
+    ∙ given_at o (entry_of o) refl (entry_lies o within whole)
+
+-- what is found in the table lies there, and where nothing is found nothing does
+pub found_lies : (found : Option Reg) (o : ℕ) → found ≡ reg_at o → IfSome found (λ reg. IsReg reg × (offset_of reg ≡ o))
+unfolding reg_at
+found_lies found o is = subst (λ f. IfSome f (λ reg. IsReg reg × (offset_of reg ≡ o))) (sym is) (reg_in_lies registers o)
+
+pub none_lies : (found : Option Reg) (o : ℕ) → found ≡ reg_at o
+    → IfNone found ((reg : Reg) → IsReg reg → offset_of reg ≡ o → ⊥)
+none_lies None o is = λ reg has lies.
+    let same : None ≡ Some reg = is ∙ ap reg_at (sym lies) ∙ reg_at-offset_of reg has in cc
+none_lies (Some reg) o is = tt
+
+-- ---- next_page_with_registers
 -- a word that holds an offset where a register lies begins there
 abbrev pub lies_whole : Row → Bool
 lies_whole row = (row.offset % 4) == 0

@@ -19,7 +19,8 @@ use Rattle.std.specs.Coded.{Coded, coded_ℕ}
 use Rattle.std.specs.Int.{w16, w32, from_le_bytes}
 use Rattle.em_regs.specs.declared.reg.Reg.{Reg}
 use Rattle.em_regs.specs.declared.reg.Reg.TheVariants.{Eerd, Ral, Rah}
-use Rattle.em_regs.specs.Table.{IsReg, is_stored, offset_of, mask_of}
+use Rattle.em_regs.specs.declared.table.Kind.TheVariants.{Stored}
+use Rattle.em_regs.specs.Table.{IsReg, is_stored, row_of, offset_of, mask_of}
 use Rattle.em_regs.specs.Storage.{Registers, words_at, offsets}
 
 abbrev pub registers_code : Coded Registers
@@ -32,6 +33,10 @@ at m o = unwrap_or (map.get m o) 0
 -- a register of the table that keeps what software writes
 abbrev pub IsStored : Reg → Type 0
 IsStored reg = IsReg reg × IsTrue (is_stored reg)
+
+-- one whose write does nothing else
+abbrev pub OnlyStores : Reg → Type 0
+OnlyStores reg = IsReg reg × ((row_of reg).kind ≡ Stored)
 
 -- ---- writes
 -- the registers after a write of v

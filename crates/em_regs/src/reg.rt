@@ -1,8 +1,8 @@
 //! The registers by name.
 ghost use Rattle.std.specs.Prelude.{◌≡◌, ◌≤◌, ◌<◌, ◌%◌, ℕ, Option, None, IfSome, IfNone, IsSome};
-ghost use Rattle.em_regs.specs.Table.{IsReg, index_of, offset_of, is_counter, reg_at, NoneFrom};
+ghost use Rattle.em_regs.specs.Table.{IsReg, index_of, offset_of, reg_at, NoneFrom};
 
-use crate::table::{Kind, PAGE, SPACE, entry, is_bare};
+use crate::table::{PAGE, SPACE, WORD, is_bare, word_at};
 
 /// A register of the table, by the manual's name (manual, chapter on register descriptions).
 ///
@@ -153,20 +153,15 @@ impl Reg {
         ensures some { IfSome result (λ reg. IsReg reg × (offset_of reg ≡ offset)) }
         ensures none { IfNone result ((reg : Reg) → IsReg reg → offset_of reg ≡ offset → ⊥) }
     {
-        if offset >= SPACE {
+        if offset >= SPACE || offset % WORD != 0 {
             return None;
         }
-        let reg = entry(offset);
-        if reg.offset() == offset {
-            Some(reg)
-        } else {
-            None
-        }
+        word_at(offset)
     }
 
     /// The first offset at or behind an offset (a multiple of 4) in whose 64 octets a register lies;
     /// none where the table ends before. No register lies between the two.
-    pub fn skip_bare(offset: u32) -> Option<u32>
+    pub fn next_page_with_registers(offset: u32) -> Option<u32>
         requires { offset % 4 ≡ 0 }
         ensures found { IfSome result (λ next. (offset ≤ next) × (next < 0x05800) × (next % 4 ≡ 0)) }
         ensures first { IfSome result (NoneFrom offset) }
@@ -189,13 +184,6 @@ impl Reg {
     {
         let row = self.row();
         row.offset + row.spacing * u32::from(self.index())
-    }
-
-    /// Whether the register is a counter (manual, chapter on statistics registers).
-    pub fn is_counter(self) -> bool
-        ensures { result ≡ is_counter self }
-    {
-        matches!(self.row().kind, Kind::Counter)
     }
 
     /// Which of its row's words the register is: 0 where the row has one.

@@ -7,7 +7,7 @@ ghost use Rattle.em_regs.specs.RegFile.{at, IsStored, put, put_eerd, reset, zero
 
 use crate::bits::{Eerd, Rah};
 use crate::reg::Reg;
-use crate::table::{Kind, Row, STORED_WORDS};
+use crate::table::{Row, STORED_WORDS};
 use bitflags::Flags;
 use em_mem::Reversible;
 use std::marker::Model;
@@ -98,7 +98,7 @@ impl RegFile {
         ensures { IsTrue result ↔ IsStored reg }
     {
         let row = reg.row();
-        matches!(row.kind, Kind::Stored) && reg.index() < row.words
+        row.kind.is_stored() && reg.index() < row.words
     }
 
     /// What a read of the register gives.
@@ -132,24 +132,13 @@ impl RegFile {
         self.replace(Reg::Eerd, value)
     }
 
-    /// Puts back what a register held, and gives what it held instead.
+    /// Puts back what a register held.
     #[inline(always)]
-    pub fn restore(&mut self, reg: Reg, old: u32) -> u32
+    pub fn restore(&mut self, reg: Reg, old: u32)
         requires { IsStored reg }
-        ensures state { self.new ≡ undo self.old (record { at = offset_of reg; old = old }) }
-        ensures reverses { Reverses self.old self.new (record { at = offset_of reg; old = result }) }
+        ensures { self.new ≡ undo self.old (record { at = offset_of reg; old = old }) }
     {
-        self.replace(reg, old).old
-    }
-
-    /// Takes back the write that gave out this record, and gives the record that makes it again.
-    #[inline(always)]
-    pub fn exchange(&mut self, taken: RegUndo) -> RegUndo
-        ensures state { self.new ≡ undo self.old taken }
-        ensures reverses { Reverses self.old self.new result }
-    {
-        let RegUndo { place, old } = taken;
-        self.swap(place, old)
+        self.store(reg, old);
     }
 
     #[inline(always)]
@@ -201,8 +190,10 @@ impl Reversible for RegFile {
 
     ghost undone = { undo };
 
+    #[inline(always)]
     fn take_back(&mut self, undo: RegUndo) {
-        let _again = self.exchange(undo);
+        let RegUndo { place, old } = undo;
+        let _written = self.swap(place, old);
     }
 }
 

@@ -74,7 +74,7 @@ impl RegFile {
         let count = self.look(Reg::Rdlen) / DESCRIPTOR;
         RxSetup {
             enabled: Rctl::from_bits_retain(rctl).contains(Rctl::EN),
-            base: self.both(Reg::Rdbah, Reg::Rdbal),
+            base: self.register_pair(Reg::Rdbah, Reg::Rdbal),
             count,
             head: self.look(Reg::Rdh),
             tail: self.look(Reg::Rdt),
@@ -93,7 +93,7 @@ impl RegFile {
         TxSetup {
             enabled: tctl.contains(Tctl::EN),
             pad: tctl.contains(Tctl::PSP),
-            base: self.both(Reg::Tdbah, Reg::Tdbal),
+            base: self.register_pair(Reg::Tdbah, Reg::Tdbal),
             count: self.look(Reg::Tdlen) / DESCRIPTOR,
             head: self.look(Reg::Tdh),
             tail: self.look(Reg::Tdt),
@@ -102,7 +102,7 @@ impl RegFile {
     }
 
     /// Two registers as one number.
-    fn both(&self, high: Reg, low: Reg) -> u64
+    fn register_pair(&self, high: Reg, low: Reg) -> u64
         requires high { IsStored high }
         requires low { IsStored low }
         ensures { result ≡ pair self.now high low }

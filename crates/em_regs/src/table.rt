@@ -1,7 +1,7 @@
 //! The table of the registers: where each lies, what an access does, and which word keeps it.
-ghost use Rattle.std.specs.Prelude.{◌≡◌, ◌<◌, ◌+◌, ◌*◌, ◌/◌, IsTrue};
+ghost use Rattle.std.specs.Prelude.{◌≡◌, ◌<◌, ◌+◌, ◌*◌, ◌/◌, ◌%◌, IsTrue};
 ghost use Rattle.em_regs.specs.declared.reg.Reg.{Reg};
-ghost use Rattle.em_regs.specs.Table.{IsReg, row_of, offset_of, NoneFrom};
+ghost use Rattle.em_regs.specs.Table.{is_stored_kind, row_of, reg_at, NoneFrom};
 
 use crate::reg::Reg;
 
@@ -10,12 +10,26 @@ use crate::reg::Reg;
 pub enum Kind {
     /// A write stores the bits of the row's mask, and a read gives them.
     Stored,
+    /// CTRL: as `Stored`, but a write with RST resets the adapter and stores nothing.
+    Control,
+    /// EERD: as `Stored`, but a write with START reads a word of the EEPROM.
+    EepromRead,
     /// STATUS: a read gives the link, and a write does nothing.
     Status,
     /// An interrupt register (manual, chapter on interrupt registers).
     Interrupt,
     /// A counter (manual, chapter on statistics registers).
     Counter,
+}
+
+impl Kind {
+    /// Whether the register file keeps what is written.
+    #[inline(always)]
+    pub fn is_stored(self) -> bool
+        ensures { result ≡ is_stored_kind self }
+    {
+        matches!(self, Kind::Stored | Kind::Control | Kind::EepromRead)
+    }
 }
 
 /// A row of the table: a register, or the registers of an array.
@@ -94,86 +108,86 @@ impl Reg {
         ensures { result.now ≡ row_of self }
     {
         match self {
-            Reg::Ctrl =>        row!(0x00000,          Stored,    EVERY_BIT,   0),
-            Reg::Status =>      row!(0x00008,          Status,    EVERY_BIT,   0),
-            Reg::Eerd =>        row!(0x00014,          Stored,    EERD_BITS,   1),
-            Reg::CtrlExt =>     row!(0x00018,          Stored,    EVERY_BIT,   2),
-            Reg::Fcal =>        row!(0x00028,          Stored,    EVERY_BIT,   3),
-            Reg::Fcah =>        row!(0x0002C,          Stored,    EVERY_BIT,   4),
-            Reg::Fct =>         row!(0x00030,          Stored,    EVERY_BIT,   5),
-            Reg::Vet =>         row!(0x00038,          Stored,    INDEX_BITS,  6),
-            Reg::Icr =>         row!(0x000C0,          Interrupt, EVERY_BIT,   0),
-            Reg::Itr =>         row!(0x000C4,          Stored,    EVERY_BIT,   7),
-            Reg::Ics =>         row!(0x000C8,          Interrupt, EVERY_BIT,   0),
-            Reg::Ims =>         row!(0x000D0,          Interrupt, EVERY_BIT,   0),
-            Reg::Imc =>         row!(0x000D8,          Interrupt, EVERY_BIT,   0),
-            Reg::Rctl =>        row!(0x00100,          Stored,    EVERY_BIT,   8),
-            Reg::Fcttv =>       row!(0x00170,          Stored,    EVERY_BIT,   9),
-            Reg::Tctl =>        row!(0x00400,          Stored,    EVERY_BIT,   10),
-            Reg::Tipg =>        row!(0x00410,          Stored,    EVERY_BIT,   11),
-            Reg::Ledctl =>      row!(0x00E00,          Stored,    EVERY_BIT,   12),
-            Reg::Pba =>         row!(0x01000,          Stored,    EVERY_BIT,   13),
-            Reg::Rdbal =>       row!(0x02800,          Stored,    BASE_BITS,   14),
-            Reg::Rdbah =>       row!(0x02804,          Stored,    EVERY_BIT,   15),
-            Reg::Rdlen =>       row!(0x02808,          Stored,    LENGTH_BITS, 16),
-            Reg::Rdh =>         row!(0x02810,          Stored,    INDEX_BITS,  17),
-            Reg::Rdt =>         row!(0x02818,          Stored,    INDEX_BITS,  18),
-            Reg::Rdtr =>        row!(0x02820,          Stored,    EVERY_BIT,   19),
-            Reg::Rxdctl =>      row!(0x02828,          Stored,    EVERY_BIT,   20),
-            Reg::Radv =>        row!(0x0282C,          Stored,    EVERY_BIT,   21),
-            Reg::Tdbal =>       row!(0x03800,          Stored,    BASE_BITS,   22),
-            Reg::Tdbah =>       row!(0x03804,          Stored,    EVERY_BIT,   23),
-            Reg::Tdlen =>       row!(0x03808,          Stored,    LENGTH_BITS, 24),
-            Reg::Tdh =>         row!(0x03810,          Stored,    INDEX_BITS,  25),
-            Reg::Tdt =>         row!(0x03818,          Stored,    INDEX_BITS,  26),
-            Reg::Tidv =>        row!(0x03820,          Stored,    EVERY_BIT,   27),
-            Reg::Txdctl =>      row!(0x03828,          Stored,    EVERY_BIT,   28),
-            Reg::Tadv =>        row!(0x0382C,          Stored,    EVERY_BIT,   29),
-            Reg::Mpc =>         row!(0x04010,          Counter,   EVERY_BIT,   0),
-            Reg::Prc64 =>       row!(0x0405C,          Counter,   EVERY_BIT,   1),
-            Reg::Prc127 =>      row!(0x04060,          Counter,   EVERY_BIT,   2),
-            Reg::Prc255 =>      row!(0x04064,          Counter,   EVERY_BIT,   3),
-            Reg::Prc511 =>      row!(0x04068,          Counter,   EVERY_BIT,   4),
-            Reg::Prc1023 =>     row!(0x0406C,          Counter,   EVERY_BIT,   5),
-            Reg::Prc1522 =>     row!(0x04070,          Counter,   EVERY_BIT,   6),
-            Reg::Gprc =>        row!(0x04074,          Counter,   EVERY_BIT,   7),
-            Reg::Bprc =>        row!(0x04078,          Counter,   EVERY_BIT,   8),
-            Reg::Mprc =>        row!(0x0407C,          Counter,   EVERY_BIT,   9),
-            Reg::Gptc =>        row!(0x04080,          Counter,   EVERY_BIT,   10),
-            Reg::Gorcl =>       row!(0x04088,          Counter,   EVERY_BIT,   11),
-            Reg::Gorch =>       row!(0x0408C,          Counter,   EVERY_BIT,   12),
-            Reg::Gotcl =>       row!(0x04090,          Counter,   EVERY_BIT,   13),
-            Reg::Gotch =>       row!(0x04094,          Counter,   EVERY_BIT,   14),
-            Reg::Rnbc =>        row!(0x040A0,          Counter,   EVERY_BIT,   15),
-            Reg::Ruc =>         row!(0x040A4,          Counter,   EVERY_BIT,   16),
-            Reg::Roc =>         row!(0x040AC,          Counter,   EVERY_BIT,   17),
-            Reg::Ptc64 =>       row!(0x040D8,          Counter,   EVERY_BIT,   18),
-            Reg::Ptc127 =>      row!(0x040DC,          Counter,   EVERY_BIT,   19),
-            Reg::Ptc255 =>      row!(0x040E0,          Counter,   EVERY_BIT,   20),
-            Reg::Ptc511 =>      row!(0x040E4,          Counter,   EVERY_BIT,   21),
-            Reg::Ptc1023 =>     row!(0x040E8,          Counter,   EVERY_BIT,   22),
-            Reg::Ptc1522 =>     row!(0x040EC,          Counter,   EVERY_BIT,   23),
-            Reg::Mptc =>        row!(0x040F0,          Counter,   EVERY_BIT,   24),
-            Reg::Bptc =>        row!(0x040F4,          Counter,   EVERY_BIT,   25),
-            Reg::Rxcsum =>      row!(0x05000,          Stored,    EVERY_BIT,   30),
-            Reg::Mta(_) =>      row!(0x05200; 128, 4,  Stored,    EVERY_BIT,   31),
-            Reg::Ral(_) =>      row!(0x05400; 16, 8,   Stored,    EVERY_BIT,   159),
-            Reg::Rah(_) =>      row!(0x05404; 16, 8,   Stored,    RAH_BITS,    175),
-            Reg::Vfta(_) =>     row!(0x05600; 128, 4,  Stored,    EVERY_BIT,   191),
+            Reg::Ctrl =>        row!(0x00000,          Control,    EVERY_BIT,   0),
+            Reg::Status =>      row!(0x00008,          Status,     EVERY_BIT,   0),
+            Reg::Eerd =>        row!(0x00014,          EepromRead, EERD_BITS,   1),
+            Reg::CtrlExt =>     row!(0x00018,          Stored,     EVERY_BIT,   2),
+            Reg::Fcal =>        row!(0x00028,          Stored,     EVERY_BIT,   3),
+            Reg::Fcah =>        row!(0x0002C,          Stored,     EVERY_BIT,   4),
+            Reg::Fct =>         row!(0x00030,          Stored,     EVERY_BIT,   5),
+            Reg::Vet =>         row!(0x00038,          Stored,     INDEX_BITS,  6),
+            Reg::Icr =>         row!(0x000C0,          Interrupt,  EVERY_BIT,   0),
+            Reg::Itr =>         row!(0x000C4,          Stored,     EVERY_BIT,   7),
+            Reg::Ics =>         row!(0x000C8,          Interrupt,  EVERY_BIT,   0),
+            Reg::Ims =>         row!(0x000D0,          Interrupt,  EVERY_BIT,   0),
+            Reg::Imc =>         row!(0x000D8,          Interrupt,  EVERY_BIT,   0),
+            Reg::Rctl =>        row!(0x00100,          Stored,     EVERY_BIT,   8),
+            Reg::Fcttv =>       row!(0x00170,          Stored,     EVERY_BIT,   9),
+            Reg::Tctl =>        row!(0x00400,          Stored,     EVERY_BIT,   10),
+            Reg::Tipg =>        row!(0x00410,          Stored,     EVERY_BIT,   11),
+            Reg::Ledctl =>      row!(0x00E00,          Stored,     EVERY_BIT,   12),
+            Reg::Pba =>         row!(0x01000,          Stored,     EVERY_BIT,   13),
+            Reg::Rdbal =>       row!(0x02800,          Stored,     BASE_BITS,   14),
+            Reg::Rdbah =>       row!(0x02804,          Stored,     EVERY_BIT,   15),
+            Reg::Rdlen =>       row!(0x02808,          Stored,     LENGTH_BITS, 16),
+            Reg::Rdh =>         row!(0x02810,          Stored,     INDEX_BITS,  17),
+            Reg::Rdt =>         row!(0x02818,          Stored,     INDEX_BITS,  18),
+            Reg::Rdtr =>        row!(0x02820,          Stored,     EVERY_BIT,   19),
+            Reg::Rxdctl =>      row!(0x02828,          Stored,     EVERY_BIT,   20),
+            Reg::Radv =>        row!(0x0282C,          Stored,     EVERY_BIT,   21),
+            Reg::Tdbal =>       row!(0x03800,          Stored,     BASE_BITS,   22),
+            Reg::Tdbah =>       row!(0x03804,          Stored,     EVERY_BIT,   23),
+            Reg::Tdlen =>       row!(0x03808,          Stored,     LENGTH_BITS, 24),
+            Reg::Tdh =>         row!(0x03810,          Stored,     INDEX_BITS,  25),
+            Reg::Tdt =>         row!(0x03818,          Stored,     INDEX_BITS,  26),
+            Reg::Tidv =>        row!(0x03820,          Stored,     EVERY_BIT,   27),
+            Reg::Txdctl =>      row!(0x03828,          Stored,     EVERY_BIT,   28),
+            Reg::Tadv =>        row!(0x0382C,          Stored,     EVERY_BIT,   29),
+            Reg::Mpc =>         row!(0x04010,          Counter,    EVERY_BIT,   0),
+            Reg::Prc64 =>       row!(0x0405C,          Counter,    EVERY_BIT,   1),
+            Reg::Prc127 =>      row!(0x04060,          Counter,    EVERY_BIT,   2),
+            Reg::Prc255 =>      row!(0x04064,          Counter,    EVERY_BIT,   3),
+            Reg::Prc511 =>      row!(0x04068,          Counter,    EVERY_BIT,   4),
+            Reg::Prc1023 =>     row!(0x0406C,          Counter,    EVERY_BIT,   5),
+            Reg::Prc1522 =>     row!(0x04070,          Counter,    EVERY_BIT,   6),
+            Reg::Gprc =>        row!(0x04074,          Counter,    EVERY_BIT,   7),
+            Reg::Bprc =>        row!(0x04078,          Counter,    EVERY_BIT,   8),
+            Reg::Mprc =>        row!(0x0407C,          Counter,    EVERY_BIT,   9),
+            Reg::Gptc =>        row!(0x04080,          Counter,    EVERY_BIT,   10),
+            Reg::Gorcl =>       row!(0x04088,          Counter,    EVERY_BIT,   11),
+            Reg::Gorch =>       row!(0x0408C,          Counter,    EVERY_BIT,   12),
+            Reg::Gotcl =>       row!(0x04090,          Counter,    EVERY_BIT,   13),
+            Reg::Gotch =>       row!(0x04094,          Counter,    EVERY_BIT,   14),
+            Reg::Rnbc =>        row!(0x040A0,          Counter,    EVERY_BIT,   15),
+            Reg::Ruc =>         row!(0x040A4,          Counter,    EVERY_BIT,   16),
+            Reg::Roc =>         row!(0x040AC,          Counter,    EVERY_BIT,   17),
+            Reg::Ptc64 =>       row!(0x040D8,          Counter,    EVERY_BIT,   18),
+            Reg::Ptc127 =>      row!(0x040DC,          Counter,    EVERY_BIT,   19),
+            Reg::Ptc255 =>      row!(0x040E0,          Counter,    EVERY_BIT,   20),
+            Reg::Ptc511 =>      row!(0x040E4,          Counter,    EVERY_BIT,   21),
+            Reg::Ptc1023 =>     row!(0x040E8,          Counter,    EVERY_BIT,   22),
+            Reg::Ptc1522 =>     row!(0x040EC,          Counter,    EVERY_BIT,   23),
+            Reg::Mptc =>        row!(0x040F0,          Counter,    EVERY_BIT,   24),
+            Reg::Bptc =>        row!(0x040F4,          Counter,    EVERY_BIT,   25),
+            Reg::Rxcsum =>      row!(0x05000,          Stored,     EVERY_BIT,   30),
+            Reg::Mta(_) =>      row!(0x05200; 128, 4,  Stored,     EVERY_BIT,   31),
+            Reg::Ral(_) =>      row!(0x05400; 16, 8,   Stored,     EVERY_BIT,   159),
+            Reg::Rah(_) =>      row!(0x05404; 16, 8,   Stored,     RAH_BITS,    175),
+            Reg::Vfta(_) =>     row!(0x05600; 128, 4,  Stored,     EVERY_BIT,   191),
         }
     }
 }
 
-// The table read by offset. The proof of `entry` names a register that these pages miss.
+// The table read by offset. The proof of `word_at` names a register that these pages miss.
 
-/// A page is 16 words, and a `-` is a word with no register, which any register can stand for.
+/// A page is 16 words, and a `-` is a word with no register.
 macro_rules! page {
     ($($word:tt)*) => { [$(at!($word)),*] };
 }
 
 macro_rules! at {
-    (-) => { Reg::Ctrl };
-    ($name:ident) => { Reg::$name };
+    (-) => { None };
+    ($name:ident) => { Some(Reg::$name) };
 }
 
 /// A page of an array's words, from one of them on.
@@ -181,10 +195,10 @@ macro_rules! at {
 macro_rules! words {
     ($name:ident, $i:literal) => {
         [
-            Reg::$name($i), Reg::$name($i + 1), Reg::$name($i + 2), Reg::$name($i + 3),
-            Reg::$name($i + 4), Reg::$name($i + 5), Reg::$name($i + 6), Reg::$name($i + 7),
-            Reg::$name($i + 8), Reg::$name($i + 9), Reg::$name($i + 10), Reg::$name($i + 11),
-            Reg::$name($i + 12), Reg::$name($i + 13), Reg::$name($i + 14), Reg::$name($i + 15),
+            Some(Reg::$name($i)), Some(Reg::$name($i + 1)), Some(Reg::$name($i + 2)), Some(Reg::$name($i + 3)),
+            Some(Reg::$name($i + 4)), Some(Reg::$name($i + 5)), Some(Reg::$name($i + 6)), Some(Reg::$name($i + 7)),
+            Some(Reg::$name($i + 8)), Some(Reg::$name($i + 9)), Some(Reg::$name($i + 10)), Some(Reg::$name($i + 11)),
+            Some(Reg::$name($i + 12)), Some(Reg::$name($i + 13)), Some(Reg::$name($i + 14)), Some(Reg::$name($i + 15)),
         ]
     };
 }
@@ -194,17 +208,17 @@ macro_rules! words {
 macro_rules! addresses {
     ($i:literal) => {
         [
-            Reg::Ral($i), Reg::Rah($i), Reg::Ral($i + 1), Reg::Rah($i + 1),
-            Reg::Ral($i + 2), Reg::Rah($i + 2), Reg::Ral($i + 3), Reg::Rah($i + 3),
-            Reg::Ral($i + 4), Reg::Rah($i + 4), Reg::Ral($i + 5), Reg::Rah($i + 5),
-            Reg::Ral($i + 6), Reg::Rah($i + 6), Reg::Ral($i + 7), Reg::Rah($i + 7),
+            Some(Reg::Ral($i)), Some(Reg::Rah($i)), Some(Reg::Ral($i + 1)), Some(Reg::Rah($i + 1)),
+            Some(Reg::Ral($i + 2)), Some(Reg::Rah($i + 2)), Some(Reg::Ral($i + 3)), Some(Reg::Rah($i + 3)),
+            Some(Reg::Ral($i + 4)), Some(Reg::Rah($i + 4)), Some(Reg::Ral($i + 5)), Some(Reg::Rah($i + 5)),
+            Some(Reg::Ral($i + 6)), Some(Reg::Rah($i + 6)), Some(Reg::Ral($i + 7)), Some(Reg::Rah($i + 7)),
         ]
     };
 }
 
 /// The pages that differ, each at the first place where it lies.
 #[rattlefmt::skip]
-static PAGES: [[Reg; 16]; 33] = [
+static PAGES: [[Option<Reg>; 16]; 33] = [
     page![- - - - - - - - - - - - - - - -], // BARE
     page![Ctrl - Status - - Eerd CtrlExt - - - Fcal Fcah Fct - Vet -], // 0x00000
     page![Icr Itr Ics - Ims - Imc - - - - - - - - -], // 0x000C0
@@ -257,12 +271,12 @@ static PAGE_AT: [u8; 352] = [
     23, 24, 0, 0, 0, 0, 0, 0, 25, 26, 27, 28, 29, 30, 31, 32, // 0x05400
 ];
 
-/// The register at the offset, where one lies there, and any other where none does.
+/// The register at the offset, a multiple of 4 octets; none where none lies there.
 #[inline(always)]
-pub(crate) fn entry(offset: u32) -> Reg
-    requires { offset < SPACE }
-    ensures named { IsReg result }
-    ensures there { (reg : Reg) → IsReg reg → offset_of reg ≡ offset → result ≡ reg }
+pub(crate) fn word_at(offset: u32) -> Option<Reg>
+    requires within { offset < SPACE }
+    requires whole { offset % 4 ≡ 0 }
+    ensures { result ≡ reg_at offset }
 {
     let page = PAGE_AT[(offset / PAGE) as usize];
     PAGES[usize::from(page)][(offset / WORD % 16) as usize]

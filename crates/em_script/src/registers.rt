@@ -17,7 +17,7 @@ pub fn write_registers<W: Write>(writer: &mut W, machine: &Machine) -> Result<()
         (registers_text machine.now.present) }
 {
     let mut from = 0;
-    while let Some(offset) = Reg::skip_bare(from) {
+    while let Some(offset) = Reg::next_page_with_registers(from) {
         write_register(writer, machine, offset)?;
         from = offset + WORD;
     }

@@ -23,27 +23,27 @@ use Rattle.em_step.proofs.ArrivalLaws.{stored_most}
 use Rattle.em_step.specs.declared.refusal.Refusal.TheVariants.{Length}
 use Rattle.em_step.specs.Event.{Event, reads, writes, pokes, arrives, links, receives, transmits}
 use Rattle.em_step.specs.Step.{resets, step}
-use Rattle.em_step.specs.Cost.{least_cost, most_cost, cost, cost_of_part, cost_of}
+use Rattle.em_step.specs.Cost.{least_cost, most_cost, cost, cost_of_effect, cost_of}
 use Rattle.em_step.specs.declared.event.Answer.{Answer}
 use Rattle.em_step.specs.declared.event.Answer.TheVariants.{Stored}
 use Rattle.em_step.specs.declared.undo.Undo.{Undo}
-use Rattle.em_step.specs.declared.undo.Part.{Part}
-use Rattle.em_step.specs.declared.undo.Part.TheVariants.{Nothing, Register, Octets, FewOctets, Arrival}
-use Rattle.em_step.specs.declared.undo.Part.TheVariants.{RxStep, TxStep, Link, Reset}
+use Rattle.em_step.specs.declared.undo.Effect.{Effect}
+use Rattle.em_step.specs.declared.undo.Effect.TheVariants.{Nothing, Register, Octets, FewOctets, Arrival}
+use Rattle.em_step.specs.declared.undo.Effect.TheVariants.{RxStep, TxStep, Link, Reset}
 
-part_least : (p : Part) → least_cost ≤ cost_of_part p
-part_least Nothing = omega arith
-part_least (Register old) = omega arith
-part_least (Octets old) = omega arith
-part_least (FewOctets old) = omega arith
-part_least (Arrival old) = omega arith
-part_least (RxStep head old) = omega arith
-part_least (TxStep old head) = omega arith
-part_least (Link old) = omega arith
-part_least (Reset old) = omega arith
+effect_least : (p : Effect) → least_cost ≤ cost_of_effect p
+effect_least Nothing = omega arith
+effect_least (Register old) = omega arith
+effect_least (Octets old) = omega arith
+effect_least (FewOctets old) = omega arith
+effect_least (Arrival old) = omega arith
+effect_least (RxStep head old) = omega arith
+effect_least (TxStep old head) = omega arith
+effect_least (Link old) = omega arith
+effect_least (Reset old) = omega arith
 
 pub cost_of_least : (r : Undo) → least_cost ≤ cost_of r
-cost_of_least r = part_least r.part
+cost_of_least r = effect_least r.effect
 
 if_most : (b : Bool) → (if b then most_cost else least_cost) ≤ most_cost
 if_most true = omega arith

@@ -16,12 +16,12 @@ use Rattle.em_tx.specs.declared.undo.TxUndo.{TxUndo}
 use Rattle.em_tx.specs.declared.undo.TxUndo.TheVariants as tx_record
 use Rattle.em_tx.proofs.MadePages as tx_laws
 use Rattle.em_step.specs.Cells.{Cells, shows, MorePages}
-use Rattle.em_step.specs.Undo.{Fits, PartFits, tx_cells_of, undo, undo_octets, undo_part, undo_receive}
+use Rattle.em_step.specs.Undo.{Fits, EffectFits, tx_cells_of, undo, undo_octets, undo_effect, undo_receive}
 use Rattle.em_step.specs.Undo.{undo_register, undo_transmit, word}
 use Rattle.em_step.specs.declared.undo.Undo.{Undo}
-use Rattle.em_step.specs.declared.undo.Part.{Part}
-use Rattle.em_step.specs.declared.undo.Part.TheVariants.{Nothing, Register, Octets, FewOctets, Arrival}
-use Rattle.em_step.specs.declared.undo.Part.TheVariants.{RxStep, TxStep, Link, Reset}
+use Rattle.em_step.specs.declared.undo.Effect.{Effect}
+use Rattle.em_step.specs.declared.undo.Effect.TheVariants.{Nothing, Register, Octets, FewOctets, Arrival}
+use Rattle.em_step.specs.declared.undo.Effect.TheVariants.{RxStep, TxStep, Link, Reset}
 
 pub shows_after : (c d : Cells) → MorePages c d → shows d ≡ shows c
 shows_after c d more = λ i. record {
@@ -90,25 +90,25 @@ transmit_after c d r more =
       link = more.link;
     }
 
-part_fits_after : (c d : Cells) (p : Part) → MorePages c d → PartFits c p → PartFits d p
-part_fits_after c d Nothing more fits = tt
-part_fits_after c d (Register old) more fits = register_fits_after c d old more fits
-part_fits_after c d (Octets old) more fits = memory.fits_after c.memory d.memory old.value more.memory fits
-part_fits_after c d (FewOctets old) more fits = memory.fits_after c.memory d.memory old more.memory fits
-part_fits_after c d (Arrival old) more fits = receive_fits_after c d (Frame old) more fits
-part_fits_after c d (RxStep head old) more fits =
+effect_fits_after : (c d : Cells) (p : Effect) → MorePages c d → EffectFits c p → EffectFits d p
+effect_fits_after c d Nothing more fits = tt
+effect_fits_after c d (Register old) more fits = register_fits_after c d old more fits
+effect_fits_after c d (Octets old) more fits = memory.fits_after c.memory d.memory old.value more.memory fits
+effect_fits_after c d (FewOctets old) more fits = memory.fits_after c.memory d.memory old more.memory fits
+effect_fits_after c d (Arrival old) more fits = receive_fits_after c d (Frame old) more fits
+effect_fits_after c d (RxStep head old) more fits =
     (register_fits_after c d (word Rdh head) more fits.0, receive_fits_after c d (rx_record.Step old) more fits.1)
-part_fits_after c d (TxStep old head) more fits = (
+effect_fits_after c d (TxStep old head) more fits = (
   register_fits_after c d (word Tdh head) more fits.0,
   tx_laws.fits_after (tx_cells_of c) (tx_cells_of d) (tx_record.Step old) (sending_cells c d more) fits.1,
 )
-part_fits_after c d (Link old) more fits = tt
-part_fits_after c d (Reset old) more fits = receive_fits_after c d old.value.fifo more fits
+effect_fits_after c d (Link old) more fits = tt
+effect_fits_after c d (Reset old) more fits = receive_fits_after c d old.value.fifo more fits
 
 pub fits_after : (c d : Cells) (r : Undo) → MorePages c d → Fits c r → Fits d r
 fits_after c d r more fits = record {
   latches = subst (λ m. latches.Fits m r.latches) (sym more.latches) fits.latches;
-  part = part_fits_after c d r.part more fits.part;
+  effect = effect_fits_after c d r.effect more fits.effect;
 }
 
 -- octets of guest memory that are put back
@@ -124,19 +124,19 @@ octets_after c d old more = record {
   link = more.link;
 }
 
-part_after : (c d : Cells) (p : Part) → MorePages c d → MorePages (undo_part c p) (undo_part d p)
-part_after c d Nothing more = more
-part_after c d (Register old) more = register_after c d old more
-part_after c d (Octets old) more = octets_after c d old.value more
-part_after c d (FewOctets old) more = octets_after c d old more
-part_after c d (Arrival old) more = receive_after c d (Frame old) more
-part_after c d (RxStep head old) more =
+effect_after : (c d : Cells) (p : Effect) → MorePages c d → MorePages (undo_effect c p) (undo_effect d p)
+effect_after c d Nothing more = more
+effect_after c d (Register old) more = register_after c d old more
+effect_after c d (Octets old) more = octets_after c d old.value more
+effect_after c d (FewOctets old) more = octets_after c d old more
+effect_after c d (Arrival old) more = receive_after c d (Frame old) more
+effect_after c d (RxStep head old) more =
     receive_after (undo_register c (word Rdh head)) (undo_register d (word Rdh head)) (rx_record.Step old)
     (register_after c d (word Rdh head) more)
-part_after c d (TxStep old head) more =
+effect_after c d (TxStep old head) more =
     transmit_after (undo_register c (word Tdh head)) (undo_register d (word Tdh head)) (tx_record.Step old)
     (register_after c d (word Tdh head) more)
-part_after c d (Link old) more = record {
+effect_after c d (Link old) more = record {
   registers = more.registers;
   latches = more.latches;
   fifo = more.fifo;
@@ -146,7 +146,7 @@ part_after c d (Link old) more = record {
   eeprom = more.eeprom;
   link = refl;
 }
-part_after c d (Reset old) more = receive_after _ _ old.value.fifo record {
+effect_after c d (Reset old) more = receive_after _ _ old.value.fifo record {
   registers = refl;
   latches = refl;
   fifo = more.fifo;
@@ -158,7 +158,7 @@ part_after c d (Reset old) more = receive_after _ _ old.value.fifo record {
 }
 
 pub undo_after : (c d : Cells) (r : Undo) → MorePages c d → MorePages (undo c r) (undo d r)
-undo_after c d r more = part_after _ _ r.part record {
+undo_after c d r more = effect_after _ _ r.effect record {
   registers = more.registers;
   latches = ap (λ m. latches.undo m r.latches) more.latches;
   fifo = more.fifo;

@@ -1,19 +1,20 @@
--- Each register of the table but STATUS is kept in one of two places.
+-- What an access of a register does, by the kind of its row.
 use Rattle.std.proofs.Common.{◌∙◌, ◌≡◌, ◌≢◌, ◌⊎◌, ℕ, false, IsTrue, refl, sym, ap, subst, inl}
 use Rattle.std.specs.Prelude.{if◌then◌else◌, Option, Result, Ok, Err, IfErr, OnOk}
 use Rattle.em_regs.specs.declared.reg.Reg.{Reg}
-use Rattle.em_regs.specs.declared.reg.Reg.TheVariants.{Ctrl, Status, Eerd}
+use Rattle.em_regs.specs.declared.reg.Reg.TheVariants as named
 use Rattle.em_regs.specs.declared.table.Kind.{Kind}
-use Rattle.em_regs.specs.declared.table.Kind.TheVariants.{Stored, Status as StatusKind, Interrupt, Counter}
+use Rattle.em_regs.specs.declared.table.Kind.TheVariants.{Stored, Control, EepromRead, Status, Interrupt, Counter}
 use Rattle.em_regs.specs.Table.{IsReg, row_of, is_stored_kind, offset_of}
-use Rattle.em_regs.specs.RegFile.{IsStored}
+use Rattle.em_regs.specs.RegFile.{IsStored, OnlyStores}
 use Rattle.em_latch.specs.Latches.{is_latched, is_latched_kind}
 use Rattle.em_regs.proofs.TableLaws.{reg_at-offset_of}
 use Rattle.em_regs.specs.RegFile as registers
 use Rattle.em_regs.specs.Storage.{Registers}
-use Rattle.em_step.specs.State.{State}
+use Rattle.em_step.specs.State.{State, status}
 use Rattle.em_step.specs.Cells.{Cells, shows}
-use Rattle.em_step.specs.Access.{gives, after_read, after_store, after_write, is_reset}
+use Rattle.em_step.specs.Access.{gives, gives_by, after_read, after_store, after_latch_write, after_write, after_write_by}
+use Rattle.em_step.specs.Access.{is_reset, is_reset_by}
 use Rattle.em_latch.specs.Latches as latches
 use Rattle.em_step.specs.Cost.{cost, least_cost, most_cost}
 use Rattle.em_step.specs.Event.{reads, writes}
@@ -22,19 +23,10 @@ use Rattle.em_step.specs.declared.event.Answer.TheVariants.{Done, Value}
 use Rattle.em_step.specs.declared.refusal.Refusal.{Refusal}
 use Rattle.em_step.specs.declared.refusal.Refusal.TheVariants.{Memory}
 
-stored_kind : (kind : Kind) → kind ≢ StatusKind → is_latched_kind kind ≡ false → IsTrue (is_stored_kind kind)
-stored_kind Stored kept other = refl
-stored_kind StatusKind kept other = absurd (kept refl)
-stored_kind Interrupt kept other = cc
-stored_kind Counter kept other = cc
-
 -- no other register has the kind of STATUS
-status_alone : (reg : Reg) → reg ≢ Status → (row_of reg).kind ≢ StatusKind
-status_alone Status other = absurd (other refl)
+pub status_alone : (reg : Reg) → reg ≢ named.Status → (row_of reg).kind ≢ Status
+status_alone named.Status other = absurd (other refl)
 status_alone reg other = λ same. cc
-
-pub stored_otherwise : (reg : Reg) → IsReg reg → reg ≢ Status → is_latched reg ≡ false → IsStored reg
-stored_otherwise reg is kept other = (is, stored_kind (row_of reg).kind (status_alone reg kept) other)
 
 -- ---- the access of a register is that of its offset
 pub read_step : (s : State) (reg : Reg) → IsReg reg
@@ -60,48 +52,85 @@ write_refuses s reg v r is why =
     subst Refused (sym (reg_at-offset_of reg is)) (inl (why.0, why.1, refl))
 
 -- ---- a register that stores what is written
+gives_stored_by : (kind : Kind) (s : State) (reg : Reg) → IsTrue (is_stored_kind kind)
+    → gives_by kind s reg ≡ registers.at s.registers (offset_of reg)
+gives_stored_by Stored s reg stored = refl
+gives_stored_by Control s reg stored = refl
+gives_stored_by EepromRead s reg stored = refl
+gives_stored_by Status s reg stored = cc
+gives_stored_by Interrupt s reg stored = cc
+gives_stored_by Counter s reg stored = cc
+
+pub gives_stored : (s : State) (reg : Reg) → IsStored reg → gives s reg ≡ registers.at s.registers (offset_of reg)
+gives_stored s reg is = gives_stored_by (row_of reg).kind s reg is.1
+
 unlatched_kind : (kind : Kind) → IsTrue (is_stored_kind kind) → is_latched_kind kind ≡ false
-unlatched_kind Stored stored = refl
-unlatched_kind StatusKind stored = refl
 unlatched_kind Interrupt stored = cc
 unlatched_kind Counter stored = cc
+unlatched_kind kind stored = refl
 
-pub unlatched : (reg : Reg) → IsStored reg → is_latched reg ≡ false
-unlatched reg is = unlatched_kind (row_of reg).kind is.1
-
-pub stored_other : (reg : Reg) → IsStored reg → reg ≢ Status
-stored_other reg is = λ same. let stored : IsTrue (is_stored_kind StatusKind)
-    = subst (λ r. IsTrue (is_stored_kind (row_of r).kind)) same is.1 in cc
-
-pub read_leaves : (s : State) (reg : Reg) → is_latched reg ≡ false → after_read s reg ≡ s
+-- a read of one changes nothing
+read_leaves : (s : State) (reg : Reg) → is_latched reg ≡ false → after_read s reg ≡ s
 read_leaves s reg kept =
     ap (λ b. if b then record s { latches = latches.after_read s.latches reg } else s) kept
 
-pub write_stores : (s : State) (reg : Reg) (v : ℕ) → reg ≢ Ctrl → reg ≢ Status → reg ≢ Eerd
-    → after_write s reg v ≡ after_store s reg v
-write_stores s Ctrl v control status eerd = absurd (control refl)
-write_stores s Status v control status eerd = absurd (status refl)
-write_stores s Eerd v control status eerd = absurd (eerd refl)
-write_stores s reg v control status eerd = refl
+pub reads_stored : (cells now : Cells) (reg : Reg) {v : ℕ} → cells ≡ now → IsStored reg
+    → v ≡ registers.at cells.registers (offset_of reg)
+    → step (shows now) (reads (offset_of reg)) ≡ Ok (Value v, shows now)
+reads_stored cells now reg {v} same is value =
+    let s = shows cells in
+    let given = gives_stored s reg is ∙ sym value in
+    let left = read_leaves s reg (unlatched_kind (row_of reg).kind is.1) in
+    subst (λ (x : Cells). step (shows x) (reads (offset_of reg)) ≡ Ok (Value v, shows x)) same
+    (read_step s reg is.0 ∙ (λ i. Ok (Value (given i), left i)))
 
-no_reset : (reg : Reg) (v : ℕ) → reg ≢ Ctrl → is_reset reg v ≡ false
-no_reset Ctrl v control = absurd (control refl)
-no_reset reg v control = refl
+-- ---- STATUS
+pub reads_status : (s : State) (reg : Reg) {v : ℕ} → IsReg reg → (row_of reg).kind ≡ Status → v ≡ status s
+    → step s (reads (offset_of reg)) ≡ Ok (Value v, s)
+reads_status s reg {v} is same value =
+    let given : gives s reg ≡ v = ap (λ kind. gives_by kind s reg) same ∙ sym value in
+    let left : after_read s reg ≡ s = read_leaves s reg (ap is_latched_kind same) in
+    read_step s reg is ∙ (λ i. Ok (Value (given i), left i))
 
-pub store_costs : (s : State) (reg : Reg) (v : ℕ) → IsReg reg → reg ≢ Ctrl
-    → cost s (writes (offset_of reg) v) ≡ least_cost
-store_costs s reg v is control =
-    write_costs s reg v is ∙ ap (λ b. if b then most_cost else least_cost) (no_reset reg v control)
+-- ---- a write, where the kind is known
+-- a register whose write does nothing else is stored
+pub only_stored : (reg : Reg) → OnlyStores reg → IsStored reg
+only_stored reg is = (is.0, subst (λ kind. IsTrue (is_stored_kind kind)) (sym is.1) refl)
+
+pub writes_by : (kind : Kind) (s : State) (reg : Reg) (v : ℕ) {t : State} → IsReg reg → (row_of reg).kind ≡ kind
+    → t ≡ after_write_by kind s reg v → step s (writes (offset_of reg) v) ≡ Ok (Done, t)
+writes_by kind s reg v is same state =
+    write_step s reg v is ∙ ap (λ k. Ok (Done, after_write_by k s reg v)) same ∙ sym (ap (λ x. Ok (Done, x)) state)
+
+pub writes_stored : (cells now : Cells) (reg : Reg) (v : ℕ) {after : Registers}
+    → cells ≡ now → OnlyStores reg → after ≡ registers.put cells.registers reg v
+    → step (shows now) (writes (offset_of reg) v) ≡ Ok (Done, shows (record cells { registers = after }))
+writes_stored cells now reg v {after} same is state =
+    let s = shows cells in
+    subst (λ (x : Cells). step (shows x) (writes (offset_of reg) v) ≡ Ok (Done, shows (record cells { registers = after })))
+    same (writes_by Stored s reg v is.0 is.1 (ap (λ m. record s { registers = m }) state))
+
+pub costs_by : (kind : Kind) (s : State) (reg : Reg) (v : ℕ) → IsReg reg → (row_of reg).kind ≡ kind
+    → cost s (writes (offset_of reg) v) ≡ (if is_reset_by kind v then most_cost else least_cost)
+costs_by kind s reg v is same =
+    write_costs s reg v is ∙ ap (λ k. if is_reset_by k v then most_cost else least_cost) same
 
 -- ---- an interrupt register or a counter
-pub latched_apart : {reg other : Reg} → IsTrue (is_latched reg) → is_latched other ≡ false → reg ≢ other
-latched_apart latched kept = λ same.
-    let no : IsTrue false = subst (λ b. IsTrue b) kept (subst (λ r. IsTrue (is_latched r)) same latched) in cc
+gives_latched_by : (kind : Kind) (s : State) (reg : Reg) → IsTrue (is_latched_kind kind)
+    → gives_by kind s reg ≡ latches.gives s.latches reg
+gives_latched_by Interrupt s reg latched = refl
+gives_latched_by Counter s reg latched = refl
+gives_latched_by kind s reg latched = cc
 
-gives_latched : (s : State) (reg : Reg) → IsTrue (is_latched reg) → gives s reg ≡ latches.gives s.latches reg
-gives_latched s Status latched = cc
-gives_latched s reg latched =
-    ap (λ b. if b then latches.gives s.latches reg else registers.at s.registers (offset_of reg)) latched
+after_latched_by : (kind : Kind) (s : State) (reg : Reg) (v : ℕ) → IsTrue (is_latched_kind kind)
+    → after_write_by kind s reg v ≡ after_latch_write s reg v
+after_latched_by Interrupt s reg v latched = refl
+after_latched_by Counter s reg v latched = refl
+after_latched_by kind s reg v latched = cc
+
+no_reset_by : (kind : Kind) (v : ℕ) → IsTrue (is_latched_kind kind) → is_reset_by kind v ≡ false
+no_reset_by Control v latched = cc
+no_reset_by kind v latched = refl
 
 -- a read of one, where the latches are then as they are after it
 pub reads_latched : (cells now : Cells) (reg : Reg) {v : ℕ} {after : Registers}
@@ -113,7 +142,7 @@ reads_latched cells now reg {v} {after} same is latched value state =
     let left : after_read s reg ≡ record s { latches = after } =
     ap (λ b. if b then record s { latches = latches.after_read s.latches reg } else s) latched
     ∙ sym (ap (λ l. record s { latches = l }) state) in
-    let given = gives_latched s reg latched ∙ sym value in
+    let given = gives_latched_by (row_of reg).kind s reg latched ∙ sym value in
     subst (λ (x : Cells). step (shows x) (reads (offset_of reg)) ≡ Ok (Value v, shows (record cells { latches = after })))
     same (read_step s reg is ∙ (λ i. Ok (Value (given i), left i)))
 
@@ -123,14 +152,15 @@ pub writes_latched : (cells now : Cells) (reg : Reg) (v : ℕ) {after : Register
     → step (shows now) (writes (offset_of reg) v) ≡ Ok (Done, shows (record cells { latches = after }))
 writes_latched cells now reg v {after} same is latched state =
     let s = shows cells in
-    let left : after_store s reg v ≡ record s { latches = after } =
-    ap (λ b. if b then record s { latches = latches.after_write s.latches reg v }
-    else record s { registers = registers.put s.registers reg v }) latched
-    ∙ sym (ap (λ l. record s { latches = l }) state) in
-    let stores = write_stores s reg v (latched_apart latched refl) (latched_apart latched refl)
-    (latched_apart latched refl) in
+    let left = after_latched_by (row_of reg).kind s reg v latched ∙ sym (ap (λ l. record s { latches = l }) state) in
     subst (λ (x : Cells). step (shows x) (writes (offset_of reg) v) ≡ Ok (Done, shows (record cells { latches = after })))
-    same (write_step s reg v is ∙ ap (λ t. Ok (Done, t)) (stores ∙ left))
+    same (write_step s reg v is ∙ ap (λ t. Ok (Done, t)) left)
+
+pub latched_costs : (s : State) (reg : Reg) (v : ℕ) → IsReg reg → IsTrue (is_latched reg)
+    → cost s (writes (offset_of reg) v) ≡ least_cost
+latched_costs s reg v is latched =
+    write_costs s reg v is
+    ∙ ap (λ b. if b then most_cost else least_cost) (no_reset_by (row_of reg).kind v latched)
 
 -- ---- what follows for a result
 pub on_ok : {A E : Type 0} (r : Result A E) {P Q : Type 0} → (P → Q) → OnOk r P → OnOk r Q

@@ -1,9 +1,11 @@
 -- What registers give after a reset.
-use Rattle.std.proofs.Common.{◌≡◌, ◌≢◌, ℕ, ◌+◌, Bool, true, false, List, [], length, Some, refl, ◌∙◌, sym, ap, arith}
-use Rattle.std.specs.Prelude.{if◌then◌else◌}
+use Rattle.std.proofs.Common.{◌≡◌, ◌≢◌, ℕ, ◌+◌, false, List, [], length, Some, refl, ◌∙◌, sym, ap, arith}
 use Rattle.em_regs.specs.declared.reg.Reg.{Reg}
-use Rattle.em_regs.specs.declared.reg.Reg.TheVariants.{Status, Ics, Imc, Ral, Rah}
-use Rattle.em_regs.specs.Table.{IsReg, offset_of, reg_at}
+use Rattle.em_regs.specs.declared.reg.Reg.TheVariants as named
+use Rattle.em_regs.specs.declared.reg.Reg.TheVariants.{Ics, Imc, Ral, Rah}
+use Rattle.em_regs.specs.declared.table.Kind.{Kind}
+use Rattle.em_regs.specs.declared.table.Kind.TheVariants.{Status, Interrupt, Counter}
+use Rattle.em_regs.specs.Table.{IsReg, row_of, offset_of, reg_at}
 use Rattle.em_regs.specs.RegFile as registers
 use Rattle.em_regs.specs.RegFile.{zeroed, address_low, address_high}
 use Rattle.em_regs.specs.Storage as storage
@@ -12,14 +14,15 @@ use Rattle.em_regs.proofs.Entries.{at-insert_same, at-insert_other}
 use Rattle.em_regs.proofs.Words.{at-zeros}
 use Rattle.em_regs.proofs.TableLaws.{reg_at-offset_of}
 use Rattle.em_latch.specs.Latches as latches
-use Rattle.em_latch.specs.Latches.{is_latched, fresh}
+use Rattle.em_latch.specs.Latches.{fresh}
 use Rattle.em_latch.specs.Storage.{offsets}
 use Rattle.em_eeprom.specs.Eeprom.{mac_of}
 use Rattle.em_rx.specs.Fifo as rx
 use Rattle.em_step.specs.Cells as cells
 use Rattle.em_step.specs.Cells.{Cells, shows}
 use Rattle.em_step.specs.State.{State}
-use Rattle.em_step.specs.Access.{gives, reset}
+use Rattle.em_step.specs.Access.{gives, gives_by, reset}
+use Rattle.em_step.proofs.Registers.{status_alone}
 
 -- no latch holds anything
 fresh_at : (o : ℕ) → registers.at fresh o ≡ 0
@@ -37,9 +40,12 @@ apart p q is_p is_q other =
     λ same. let found : Some p ≡ Some q = sym (reg_at-offset_of p is_p) ∙ ap reg_at same ∙ reg_at-offset_of q is_q in
     other cc
 
-chosen : (b : Bool) (x y : ℕ) → x ≡ 0 → y ≡ 0 → (if b then x else y) ≡ 0
-chosen true x y h k = h
-chosen false x y h k = k
+by_kind : (kind : Kind) (s : State) (reg : Reg) → kind ≢ Status → latches.gives s.latches reg ≡ 0
+    → registers.at s.registers (offset_of reg) ≡ 0 → gives_by kind s reg ≡ 0
+by_kind Status s reg other latched stored = absurd (other refl)
+by_kind Interrupt s reg other latched stored = latched
+by_kind Counter s reg other latched stored = latched
+by_kind kind s reg other latched stored = stored
 
 -- nor does any other register of the file
 stored_zero : (mac : List ℕ) (o : ℕ) → o ≢ 0x05400 → o ≢ 0x05404 → registers.at (registers.reset mac) o ≡ 0
@@ -48,19 +54,10 @@ stored_zero mac o low high =
     at-insert_other _ _ _ o high ∙ at-insert_other _ _ _ o low ∙ at-zeros storage.offsets (length storage.offsets) o
 
 pub zero_after_reset :
-    (s : State) (reg : Reg) → IsReg reg → reg ≢ Status → reg ≢ Ral 0 → reg ≢ Rah 0 → gives (reset s) reg ≡ 0
-zero_after_reset s Status is other low high = absurd (other refl)
+    (s : State) (reg : Reg) → IsReg reg → reg ≢ named.Status → reg ≢ Ral 0 → reg ≢ Rah 0 → gives (reset s) reg ≡ 0
 zero_after_reset s reg is other low high =
-    let after : Registers = registers.reset (mac_of s.eeprom) in
-    chosen
-    (is_latched reg)
-    (latches.gives fresh reg)
-    (registers.at after (offset_of reg))
-    (fresh_gives reg)
-    (stored_zero
-    (mac_of s.eeprom)
-    (offset_of reg)
-    (apart reg (Ral 0) is (omega arith) low)
+    by_kind (row_of reg).kind (reset s) reg (status_alone reg other) (fresh_gives reg)
+    (stored_zero (mac_of s.eeprom) (offset_of reg) (apart reg (Ral 0) is (omega arith) low)
     (apart reg (Rah 0) is (omega arith) high))
 
 pub low_after_reset : (s : State) → gives (reset s) (Ral 0) ≡ address_low (mac_of s.eeprom)

@@ -1,8 +1,10 @@
 -- An access of a register: what a read gives, and the state after a read or a write. A reset, and a change of the link.
 use Rattle.std.specs.Prelude.{ℕ, ◌/◌, ◌%◌, ◌==◌, Bool, true, false, bit_and, if◌then◌else◌, []}
 use Rattle.em_regs.specs.declared.reg.Reg.{Reg}
-use Rattle.em_regs.specs.declared.reg.Reg.TheVariants.{Ctrl, Status, Eerd}
-use Rattle.em_regs.specs.Table.{offset_of}
+use Rattle.em_regs.specs.declared.reg.Reg.TheVariants.{Eerd}
+use Rattle.em_regs.specs.declared.table.Kind.{Kind}
+use Rattle.em_regs.specs.declared.table.Kind.TheVariants.{Stored, Control, EepromRead, Status, Interrupt, Counter}
+use Rattle.em_regs.specs.Table.{row_of, offset_of}
 use Rattle.em_regs.specs.RegFile as registers
 use Rattle.em_latch.specs.Latches as latches
 use Rattle.em_latch.specs.Latches.{is_latched}
@@ -10,12 +12,15 @@ use Rattle.em_eeprom.specs.Eeprom.{mac_of, word_at}
 use Rattle.em_rx.specs.Fifo.{empty}
 use Rattle.em_step.specs.State.{State, status}
 
--- what a read gives
+-- what a read gives, by the kind of the register's row
+abbrev pub gives_by : Kind → State → Reg → ℕ
+gives_by Status s reg = status s
+gives_by Interrupt s reg = latches.gives s.latches reg
+gives_by Counter s reg = latches.gives s.latches reg
+gives_by kind s reg = registers.at s.registers (offset_of reg)
+
 abbrev pub gives : State → Reg → ℕ
-gives s Status = status s
-gives s reg =
-    if is_latched reg then latches.gives s.latches reg
-    else registers.at s.registers (offset_of reg)
+gives s reg = gives_by (row_of reg).kind s reg
 
 -- the state after a read
 abbrev pub after_read : State → Reg → State
@@ -36,15 +41,16 @@ abbrev pub has : ℕ → ℕ → Bool
 has v bit = bit_and v bit == bit
 
 -- a write of CTRL with RST
+abbrev pub is_reset_by : Kind → ℕ → Bool
+is_reset_by Control v = has v 0x0400_0000
+is_reset_by kind v = false
+
 abbrev pub is_reset : Reg → ℕ → Bool
-is_reset Ctrl v = has v 0x0400_0000
-is_reset reg v = false
+is_reset reg v = is_reset_by (row_of reg).kind v
 
 -- a write that stores what the register's row keeps
 abbrev pub after_store : State → Reg → ℕ → State
-after_store s reg v =
-    if is_latched reg then record s { latches = latches.after_write s.latches reg v }
-    else record s { registers = registers.put s.registers reg v }
+after_store s reg v = record s { registers = registers.put s.registers reg v }
 
 -- the address in EERD: bits 15 to 8
 abbrev pub eerd_address : ℕ → ℕ
@@ -58,12 +64,21 @@ after_eeprom_read s a = record s { registers = registers.put_eerd s.registers a 
 abbrev pub after_eerd_write : State → ℕ → State
 after_eerd_write s v = if has v 0x1 then after_eeprom_read s (eerd_address v) else after_store s Eerd v
 
--- the state after a write of v
+-- a write of an interrupt register or a counter
+abbrev pub after_latch_write : State → Reg → ℕ → State
+after_latch_write s reg v = record s { latches = latches.after_write s.latches reg v }
+
+-- the state after a write of v, by the kind of the register's row
+abbrev pub after_write_by : Kind → State → Reg → ℕ → State
+after_write_by Stored s reg v = after_store s reg v
+after_write_by Control s reg v = if is_reset_by Control v then reset s else after_store s reg v
+after_write_by EepromRead s reg v = after_eerd_write s v
+after_write_by Status s reg v = s
+after_write_by Interrupt s reg v = after_latch_write s reg v
+after_write_by Counter s reg v = after_latch_write s reg v
+
 abbrev pub after_write : State → Reg → ℕ → State
-after_write s Ctrl v = if is_reset Ctrl v then reset s else after_store s Ctrl v
-after_write s Status v = s
-after_write s Eerd v = after_eerd_write s v
-after_write s reg v = after_store s reg v
+after_write s reg v = after_write_by (row_of reg).kind s reg v
 
 -- two truth values differ
 abbrev pub differ : Bool → Bool → Bool

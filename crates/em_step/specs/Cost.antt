@@ -12,9 +12,9 @@ use Rattle.em_step.specs.Engines.{sending}
 use Rattle.em_step.specs.Arrival.{arrival, octets_stored}
 use Rattle.em_step.specs.Step.{resets}
 use Rattle.em_step.specs.declared.undo.Undo.{Undo}
-use Rattle.em_step.specs.declared.undo.Part.{Part}
-use Rattle.em_step.specs.declared.undo.Part.TheVariants.{Nothing, Register, Octets, FewOctets, Arrival}
-use Rattle.em_step.specs.declared.undo.Part.TheVariants.{RxStep, TxStep, Link, Reset}
+use Rattle.em_step.specs.declared.undo.Effect.{Effect}
+use Rattle.em_step.specs.declared.undo.Effect.TheVariants.{Nothing, Register, Octets, FewOctets, Arrival}
+use Rattle.em_step.specs.declared.undo.Effect.TheVariants.{RxStep, TxStep, Link, Reset}
 
 -- of an event whose record holds no octets
 abbrev pub least_cost : ℕ
@@ -35,16 +35,16 @@ cost s receives = least_cost + octets_written (rx_setup s.registers) s.fifo
 cost s transmits = least_cost + tx.cost (tx_setup s.registers) (sending s)
 
 -- of the record that the event left
-abbrev pub cost_of_part : Part → ℕ
-cost_of_part Nothing = least_cost
-cost_of_part (Register old) = least_cost
-cost_of_part (Octets old) = least_cost + length old.value.octets
-cost_of_part (FewOctets old) = least_cost + length old.octets
-cost_of_part (Arrival old) = least_cost + octets_held (Frame old)
-cost_of_part (RxStep head old) = least_cost + octets_held (Step old)
-cost_of_part (TxStep old head) = least_cost + old.cost
-cost_of_part (Link old) = least_cost
-cost_of_part (Reset old) = most_cost
+abbrev pub cost_of_effect : Effect → ℕ
+cost_of_effect Nothing = least_cost
+cost_of_effect (Register old) = least_cost
+cost_of_effect (Octets old) = least_cost + length old.value.octets
+cost_of_effect (FewOctets old) = least_cost + length old.octets
+cost_of_effect (Arrival old) = least_cost + octets_held (Frame old)
+cost_of_effect (RxStep head old) = least_cost + octets_held (Step old)
+cost_of_effect (TxStep old head) = least_cost + old.cost
+cost_of_effect (Link old) = least_cost
+cost_of_effect (Reset old) = most_cost
 
 abbrev pub cost_of : Undo → ℕ
-cost_of r = cost_of_part r.part
+cost_of r = cost_of_effect r.effect

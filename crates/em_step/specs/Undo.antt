@@ -1,5 +1,5 @@
 -- What a record puts back, and when it can be put back into an adapter.
-use Rattle.std.specs.Prelude.{ℕ, Bool, true, false}
+use Rattle.std.specs.Prelude.{ℕ}
 use Rattle.em_mem.specs.Memory as memory
 use Rattle.em_regs.specs.declared.reg.Reg.{Reg}
 use Rattle.em_regs.specs.declared.reg.Reg.TheVariants.{Rdh, Tdh}
@@ -16,9 +16,9 @@ use Rattle.em_tx.specs.declared.undo.TxUndo.{TxUndo}
 use Rattle.em_tx.specs.declared.undo.TxUndo.TheVariants as tx_undo
 use Rattle.em_step.specs.Cells.{Cells, MorePages}
 use Rattle.em_step.specs.declared.undo.Undo.{Undo}
-use Rattle.em_step.specs.declared.undo.Part.{Part}
-use Rattle.em_step.specs.declared.undo.Part.TheVariants.{Nothing, Register, Octets, FewOctets, Arrival}
-use Rattle.em_step.specs.declared.undo.Part.TheVariants.{RxStep, TxStep, Link, Reset}
+use Rattle.em_step.specs.declared.undo.Effect.{Effect}
+use Rattle.em_step.specs.declared.undo.Effect.TheVariants.{Nothing, Register, Octets, FewOctets, Arrival}
+use Rattle.em_step.specs.declared.undo.Effect.TheVariants.{RxStep, TxStep, Link, Reset}
 
 -- a register that held so much
 abbrev pub word : Reg → ℕ → registers.OldWord
@@ -28,27 +28,22 @@ word reg old = record { at = offset_of reg; old = old }
 abbrev pub tx_cells_of : Cells → tx_cells.Cells
 tx_cells_of c = tx_cells.cells c.gathered c.wire c.memory
 
--- what the part names is in the cells
-abbrev pub PartFits : Cells → Part → Type 0
-PartFits c Nothing = Unit {0}
-PartFits c (Register old) = registers.Fits c.registers old
-PartFits c (Octets old) = memory.Fits c.memory old.value
-PartFits c (FewOctets old) = memory.Fits c.memory old
-PartFits c (Arrival old) = rx.Fits c.fifo c.memory (Frame old)
-PartFits c (RxStep head old) = registers.Fits c.registers (word Rdh head) × rx.Fits c.fifo c.memory (rx_undo.Step old)
-PartFits c (TxStep old head) = registers.Fits c.registers (word Tdh head) × tx.Fits (tx_cells_of c) (tx_undo.Step old)
-PartFits c (Link old) = Unit {0}
-PartFits c (Reset old) = rx.Fits c.fifo c.memory old.value.fifo
+-- what the effect names is in the cells
+abbrev pub EffectFits : Cells → Effect → Type 0
+EffectFits c Nothing = Unit {0}
+EffectFits c (Register old) = registers.Fits c.registers old
+EffectFits c (Octets old) = memory.Fits c.memory old.value
+EffectFits c (FewOctets old) = memory.Fits c.memory old
+EffectFits c (Arrival old) = rx.Fits c.fifo c.memory (Frame old)
+EffectFits c (RxStep head old) = registers.Fits c.registers (word Rdh head) × rx.Fits c.fifo c.memory (rx_undo.Step old)
+EffectFits c (TxStep old head) = registers.Fits c.registers (word Tdh head) × tx.Fits (tx_cells_of c) (tx_undo.Step old)
+EffectFits c (Link old) = Unit {0}
+EffectFits c (Reset old) = rx.Fits c.fifo c.memory old.value.fifo
 
 -- what the record names is in the cells
 pub record Fits (c : Cells) (r : Undo) : Type 0 where
   pub latches : latches.Fits c.latches r.latches
-  pub part : PartFits c r.part
-
--- a step of the transmit engine, which has no record that makes it again
-abbrev pub is_sending : Part → Bool
-is_sending (TxStep old head) = true
-is_sending part = false
+  pub effect : EffectFits c r.effect
 
 -- the cells with a record of the receive side put back
 abbrev pub undo_receive : Cells → RxUndo → Cells
@@ -69,24 +64,24 @@ undo_register c old = record c { registers = registers.undo c.registers old }
 abbrev pub undo_octets : Cells → memory.Patch → Cells
 undo_octets c old = record c { memory = memory.undo c.memory old }
 
--- the cells with the part put back
-abbrev pub undo_part : Cells → Part → Cells
-undo_part c Nothing = c
-undo_part c (Register old) = undo_register c old
-undo_part c (Octets old) = undo_octets c old.value
-undo_part c (FewOctets old) = undo_octets c old
-undo_part c (Arrival old) = undo_receive c (Frame old)
-undo_part c (RxStep head old) = undo_receive (undo_register c (word Rdh head)) (rx_undo.Step old)
-undo_part c (TxStep old head) = undo_transmit (undo_register c (word Tdh head)) (tx_undo.Step old)
-undo_part c (Link old) = record c { link = old }
-undo_part c (Reset old) =
+-- the cells with the effect put back
+abbrev pub undo_effect : Cells → Effect → Cells
+undo_effect c Nothing = c
+undo_effect c (Register old) = undo_register c old
+undo_effect c (Octets old) = undo_octets c old.value
+undo_effect c (FewOctets old) = undo_octets c old
+undo_effect c (Arrival old) = undo_receive c (Frame old)
+undo_effect c (RxStep head old) = undo_receive (undo_register c (word Rdh head)) (rx_undo.Step old)
+undo_effect c (TxStep old head) = undo_transmit (undo_register c (word Tdh head)) (tx_undo.Step old)
+undo_effect c (Link old) = record c { link = old }
+undo_effect c (Reset old) =
     undo_receive
     (record c { registers = old.value.registers.value; latches = old.value.latches; gathered = old.value.gathered })
     old.value.fifo
 
--- the cells with the record put back: the words of the latches, and then the part
+-- the cells with the record put back: the words of the latches, and then the effect
 abbrev pub undo : Cells → Undo → Cells
-undo c r = undo_part (record c { latches = latches.undo c.latches r.latches }) r.part
+undo c r = undo_effect (record c { latches = latches.undo c.latches r.latches }) r.effect
 
 -- the record takes a change of the cells back, but that pages which were made stay made
 pub record Reverses (old new : Cells) (r : Undo) : Type 0 where

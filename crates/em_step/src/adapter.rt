@@ -4,28 +4,27 @@ ghost use Rattle.std.specs.Prelude.{if◌then◌else◌, IsTrue, false, [], leng
 ghost use Rattle.std.specs.Prelude.{IfOk, IfErr, OnOk, OnErr, IsErrOf};
 ghost use Rattle.std.specs.Option.{option_map};
 ghost use Rattle.em_mem.specs.Memory.{IsHeld, IsMemorySize, part, put};
-ghost use Rattle.em_regs.specs.Table.{IsReg, offset_of, reg_at};
-ghost use Rattle.em_regs.specs.RegFile.{IsStored};
+ghost use Rattle.em_regs.specs.Table.{IsReg, row_of, offset_of, reg_at};
+ghost use Rattle.em_regs.specs.RegFile.{IsStored, OnlyStores};
 ghost use Rattle.em_latch.specs.Latches.{is_latched, IsLatched, IsAsserted};
 ghost use Rattle.em_eeprom.specs.Eeprom.{IsEeprom};
 ghost use Rattle.em_step.specs.State.{status};
-ghost use Rattle.em_step.specs.Access.{gives, after_read, after_write, after_store, after_eerd_write};
-ghost use Rattle.em_step.specs.Access.{is_reset, reset, after_link};
+ghost use Rattle.em_step.specs.Access.{gives, after_write_by, after_eerd_write};
+ghost use Rattle.em_step.specs.Access.{is_reset_by, reset};
 ghost use Rattle.em_step.specs.Cells.{fresh, shows, MorePages};
 ghost use Rattle.em_step.specs.Event.{links, plain, pokes, reads, writes};
 ghost use Rattle.em_step.specs.Step.{step, Refuses};
-ghost use Rattle.em_step.specs.Undo.{Fits, PartFits, Reverses, is_sending, undo, undo_part, undo_receive};
-ghost use Rattle.em_rx.specs.Undo as rx;
+ghost use Rattle.em_step.specs.Undo.{Fits, EffectFits, Reverses, undo, undo_effect};
 ghost use Rattle.em_step.specs.Cost.{cost, cost_of, least_cost, most_cost};
 
 use crate::event::{Answer, Event};
 use crate::refusal::Refusal;
-use crate::undo::{BeforeReset, LEAST_COST, MOST_COST, Part, Undo};
+use crate::undo::{BeforeReset, Effect, LEAST_COST, MOST_COST, Undo};
 use bitflags::Flags;
 use em_eeprom::Eeprom;
 use em_latch::Latches;
-use em_mem::{FEW, GuestMemory, MemRefusal, MemUndo, Spares, SparesByLen};
-use em_regs::{Causes, Ctrl, Eerd, Reg, RegFile, RegUndo, Status};
+use em_mem::{GuestMemory, MemRefusal, MemUndo, Reversible, Spares, SparesByLen};
+use em_regs::{Causes, Ctrl, Eerd, Kind, Reg, RegFile, RegUndo, Status};
 use em_rx::{Fifo, FramePatch, RxUndo, StepPatch};
 use em_tx::{Change, Gather, TxUndo, Wire, take_back};
 use std::alloc::{AllocError, Global};
@@ -182,8 +181,20 @@ impl Adapter {
         ensures same { OnErr result (MorePages self.old self.new) }
     {
         match event {
-            Event::Read(offset) => self.read_at(offset),
-            Event::Write(offset, value) => self.write_at(offset, value),
+            Event::Read(offset) => {
+                let Some(reg) = Reg::of_offset(offset) else {
+                    return Err(Refusal::NoRegister);
+                };
+                let (value, undo) = self.read_register(reg);
+                Ok((Answer::Value(value), undo))
+            }
+            Event::Write(offset, value) => {
+                let Some(reg) = Reg::of_offset(offset) else {
+                    return Err(Refusal::NoRegister);
+                };
+                let undo = self.write_register(reg, value)?;
+                Ok((Answer::Done, undo))
+            }
             Event::Poke(addr, octets) => self.poke(addr, octets),
             Event::Arrive(frame) => self.arrive(frame),
             Event::Link(up) => self.set_link(up),
@@ -192,37 +203,7 @@ impl Adapter {
         }
     }
 
-    /// Software reads the register at an offset. Refused only as NoRegister.
-    pub fn read_at(&mut self, offset: u32) -> Result<(Answer, Undo), Refusal>
-        ensures ok { IfOk result (λ r. step (shows self.old) (reads offset) ≡ Ok (r.0, shows self.new)) }
-        ensures cost { IfOk result (λ r. cost_of r.1 ≡ cost (shows self.old) (reads offset)) }
-        ensures reverses { IfOk result (λ r. Reverses self.old self.new r.1) }
-        ensures err { IfErr result (Refuses (shows self.old) (reads offset)) }
-        ensures same { OnErr result (self.new ≡ self.old) }
-    {
-        let Some(reg) = Reg::of_offset(offset) else {
-            return Err(Refusal::NoRegister);
-        };
-        let (value, undo) = self.read(reg);
-        Ok((Answer::Value(value), undo))
-    }
-
-    /// Software writes a value to the register at an offset. Refused as NoRegister, and as Memory where
-    /// it is a reset.
-    pub fn write_at(&mut self, offset: u32, value: u32) -> Result<(Answer, Undo), Refusal>
-        ensures ok { IfOk result (λ r. step (shows self.old) (writes offset value) ≡ Ok (r.0, shows self.new)) }
-        ensures cost { IfOk result (λ r. cost_of r.1 ≡ cost (shows self.old) (writes offset value)) }
-        ensures reverses { IfOk result (λ r. Reverses self.old self.new r.1) }
-        ensures err { IfErr result (Refuses (shows self.old) (writes offset value)) }
-        ensures same { OnErr result (self.new ≡ self.old) }
-    {
-        let Some(reg) = Reg::of_offset(offset) else {
-            return Err(Refusal::NoRegister);
-        };
-        Ok((Answer::Done, self.write(reg, value)?))
-    }
-
-    /// Software reads a register, as `read_at` does where it lies.
+    /// Software reads a register: the event of a read at its offset.
     #[inline(always)]
     pub fn read_register(&mut self, reg: Reg) -> (u32, Undo)
         requires { IsReg reg }
@@ -230,11 +211,15 @@ impl Adapter {
         ensures cost { cost_of result.1 ≡ cost (shows self.old) (reads (offset_of reg)) }
         ensures reverses { Reverses self.old self.new result.1 }
     {
-        self.read(reg)
+        match reg.row().kind {
+            Kind::Stored | Kind::Control | Kind::EepromRead => self.read_stored(reg),
+            Kind::Interrupt | Kind::Counter => self.read_latched(reg),
+            Kind::Status => (self.status(), Undo::of_effect(Effect::Nothing)),
+        }
     }
 
-    /// Software writes a value to a register, as `write_at` does where it lies. Refused as Memory, where
-    /// it is a reset.
+    /// Software writes a value to a register: the event of a write at its offset. Refused as Memory,
+    /// where it is a reset.
     #[inline(always)]
     pub fn write_register(&mut self, reg: Reg, value: u32) -> Result<Undo, Refusal>
         requires { IsReg reg }
@@ -245,7 +230,13 @@ impl Adapter {
         ensures err { IfErr result (Refuses (shows self.old) (writes (offset_of reg) value)) }
         ensures same { OnErr result (self.new ≡ self.old) }
     {
-        self.write(reg, value)
+        match reg.row().kind {
+            Kind::Stored => Ok(self.write_stored(reg, value)),
+            Kind::Control => self.write_control(reg, value),
+            Kind::EepromRead => Ok(Undo::of_effect(Effect::Register(self.write_eerd(value)))),
+            Kind::Interrupt | Kind::Counter => Ok(self.write_latched(reg, value)),
+            Kind::Status => Ok(Undo::of_effect(Effect::Nothing)),
+        }
     }
 
     /// Software reads a register that stores what is written: nothing changes.
@@ -256,19 +247,18 @@ impl Adapter {
         ensures cost { cost_of result.1 ≡ cost (shows self.old) (reads (offset_of reg)) }
         ensures reverses { Reverses self.old self.new result.1 }
     {
-        (self.stored(reg), Undo::of_part(Part::Nothing))
+        (self.registers.look(reg), Undo::of_effect(Effect::Nothing))
     }
 
     /// Software writes a value to a register that stores it and does nothing else.
     #[inline(always)]
     pub fn write_stored(&mut self, reg: Reg, value: u32) -> Undo
-        requires stored { IsStored reg }
-        requires alone { (reg ≢ Reg.Ctrl) × (reg ≢ Reg.Eerd) }
+        requires { OnlyStores reg }
         ensures ok { step (shows self.old) (writes (offset_of reg) value) ≡ Ok (Answer.Done, shows self.new) }
         ensures cost { cost_of result ≡ cost (shows self.old) (writes (offset_of reg) value) }
         ensures reverses { Reverses self.old self.new result }
     {
-        self.put(reg, value)
+        Undo::of_effect(Effect::Register(self.registers.put(reg, value)))
     }
 
     /// Software reads an interrupt register or a counter.
@@ -296,95 +286,59 @@ impl Adapter {
         Undo::of_latches(self.latches.write(reg, value))
     }
 
-    /// Takes an event back by its record, and gives what the record cost. It takes no memory.
+    /// Writes CTRL: with RST the adapter is reset, which is refused as Memory where there is none for what
+    /// it puts aside.
     #[inline(always)]
-    pub fn take_back(&mut self, taken: Undo) -> u32
-        requires { Fits self.old taken }
-        ensures state { self.new ≡ undo self.old taken }
-        ensures cost { result ≡ cost_of taken }
+    fn write_control(&mut self, reg: Reg, value: u32) -> Result<Undo, Refusal>
+        requires { IsStored reg }
+        ensures state { OnOk result (shows self.new ≡ after_write_by Kind.Control (shows self.old) reg value) }
+        ensures cost { IfOk result (λ r. cost_of r
+            ≡ (if is_reset_by Kind.Control value then most_cost else least_cost)) }
+        ensures reverses { IfOk result (λ r. Reverses self.old self.new r) }
+        ensures err { IfErr result (λ e. (e ≡ Refusal.Memory) × IsTrue (is_reset_by Kind.Control value)) }
+        ensures same { OnErr result (self.new ≡ self.old) }
     {
-        let Undo { latches, part } = taken;
-        self.latches.put_back(latches);
-        match part {
-            Part::Nothing => LEAST_COST,
-            Part::Register(old) => {
-                let _written = self.registers.exchange(old);
-                LEAST_COST
-            }
-            Part::Octets(octets) => {
-                let cost = LEAST_COST + octets.len();
-                self.take_back_octets(octets);
-                cost
-            }
-            Part::FewOctets(octets) => {
-                let cost = LEAST_COST + octets.len();
-                self.take_back_few_octets(octets);
-                cost
-            }
-            Part::Arrival(frame) => {
-                let cost = LEAST_COST + frame.len();
-                self.take_back_arrival(frame);
-                cost
-            }
-            Part::RxStep(head, piece) => {
-                let cost = LEAST_COST + piece.len();
-                self.take_back_receiving(head, piece);
-                cost
-            }
-            Part::TxStep(change, head) => {
-                let cost = LEAST_COST + change.cost();
-                self.take_back_sending(change, head);
-                cost
-            }
-            Part::Link(old) => {
-                self.link = old;
-                LEAST_COST
-            }
-            // what it put aside has every word of the latches
-            Part::Reset(old) => {
-                self.take_back_reset(old);
-                MOST_COST
-            }
+        if Ctrl::from_bits_retain(value).contains(Ctrl::RST) {
+            let before = self.reset()?;
+            Ok(Undo::of_effect(Effect::Reset(before)))
+        } else {
+            Ok(Undo::of_effect(Effect::Register(self.registers.put(reg, value))))
         }
     }
 
-    /// Takes an event back by its record, and gives the record that makes its change again. It takes
-    /// no memory, and so has no record of a step of the transmit engine: to send a frame again is
-    /// growth.
-    #[inline(always)]
-    pub fn exchange(&mut self, taken: Undo) -> Undo
-        requires fits { Fits self.old taken }
-        requires again { is_sending taken.part ≡ false }
-        ensures state { self.new ≡ undo self.old taken }
-        ensures cost { cost_of result ≡ cost_of taken }
-        ensures reverses { Reverses self.old self.new result }
+    /// Writes EERD: with START the word at the address is there at once.
+    fn write_eerd(&mut self, value: u32) -> RegUndo
+        ensures state { shows self.new ≡ after_eerd_write (shows self.old) value }
+        ensures reverses { Reverses self.old self.new (record { latches = []; effect = Effect.Register result }) }
     {
-        let Undo { latches, part } = taken;
-        let part = match part {
-            Part::Nothing => Part::Nothing,
-            Part::Register(old) => Part::Register(self.registers.exchange(old)),
-            Part::Octets(mut old) => {
-                // the box is kept for the other record, since this takes no memory
-                self.memory.exchange_in_place(&mut old);
-                Part::Octets(old)
-            }
-            Part::FewOctets(mut old) => {
-                self.memory.exchange_few(&mut old);
-                Part::FewOctets(old)
-            }
-            Part::Arrival(old) => Part::Arrival(self.exchange_frame(old)),
-            Part::RxStep(head, old) => {
-                let old = self.exchange_piece(old);
-                Part::RxStep(self.registers.restore(Reg::Rdh, head), old)
-            }
-            Part::TxStep(..) => unreachable!(),
-            Part::Link(old) => Part::Link(std::mem::replace(&mut self.link, old)),
+        if Eerd::from_bits_retain(value).contains(Eerd::START) {
+            let [_, address, _, _] = value.to_le_bytes();
+            let word = self.eeprom.word(address);
+            self.registers.put_eerd(address, word)
+        } else {
+            self.registers.put(Reg::Eerd, value)
+        }
+    }
+
+    /// Takes an event back by its record. It takes no memory.
+    #[inline(always)]
+    pub fn take_back(&mut self, taken: Undo)
+        requires { Fits self.old taken }
+        ensures { self.new ≡ undo self.old taken }
+    {
+        let Undo { latches, effect } = taken;
+        self.latches.put_back(latches);
+        match effect {
+            Effect::Nothing => {}
+            Effect::Register(old) => self.registers.take_back(old),
+            Effect::Octets(octets) => self.take_back_octets(octets),
+            Effect::FewOctets(octets) => self.take_back_few_octets(octets),
+            Effect::Arrival(frame) => self.take_back_arrival(frame),
+            Effect::RxStep(head, piece) => self.take_back_receiving(head, piece),
+            Effect::TxStep(change, head) => self.take_back_sending(change, head),
+            Effect::Link(old) => self.link = old,
             // what it put aside has every word of the latches
-            Part::Reset(old) => return Undo::of_part(Part::Reset(self.exchange_reset(old))),
-        };
-        Undo {
-            latches: self.latches.exchange(latches),
-            part,
+            Effect::Reset(old) => self.take_back_reset(old),
         }
     }
 
@@ -396,16 +350,16 @@ impl Adapter {
         ensures same { self.new ≡ self.old }
     {
         let cost = undo.cost();
-        match undo.part {
-            Part::Nothing
-            | Part::Register(_)
-            | Part::FewOctets(_)
-            | Part::Link(_)
-            | Part::TxStep(..) => {}
-            Part::Octets(octets) => self.let_octets_go(octets),
-            Part::Arrival(frame) => self.let_frame_go(frame),
-            Part::RxStep(_, piece) => self.let_piece_go(piece),
-            Part::Reset(kept) => self.let_reset_go(kept),
+        match undo.effect {
+            Effect::Nothing
+            | Effect::Register(_)
+            | Effect::FewOctets(_)
+            | Effect::Link(_)
+            | Effect::TxStep(..) => {}
+            Effect::Octets(octets) => self.let_octets_go(octets),
+            Effect::Arrival(frame) => self.let_frame_go(frame),
+            Effect::RxStep(_, piece) => self.let_piece_go(piece),
+            Effect::Reset(kept) => self.let_reset_go(kept),
         }
         cost
     }
@@ -439,10 +393,10 @@ impl Adapter {
     /// Takes a step of the transmit engine back.
     #[inline(never)]
     fn take_back_sending(&mut self, change: Change, head: u32)
-        requires { PartFits self.old (Part.TxStep change head) }
-        ensures { self.new ≡ undo_part self.old (Part.TxStep change head) }
+        requires { EffectFits self.old (Effect.TxStep change head) }
+        ensures { self.new ≡ undo_effect self.old (Effect.TxStep change head) }
     {
-        let _head = self.registers.restore(Reg::Tdh, head);
+        self.registers.restore(Reg::Tdh, head);
         take_back(
             &mut self.gather,
             &mut self.wire,
@@ -451,67 +405,19 @@ impl Adapter {
         );
     }
 
-    /// Takes an arrival back; the result is what makes it again.
-    fn exchange_frame(&mut self, old: Box<FramePatch>) -> Box<FramePatch>
-        requires { rx.Fits self.old.fifo self.old.memory (RxUndo.Frame old) }
-        ensures state { self.new ≡ undo_receive self.old (RxUndo.Frame old) }
-        ensures held { rx.octets_held (RxUndo.Frame result) ≡ rx.octets_held (RxUndo.Frame old) }
-        ensures reverses { rx.Reverses self.old.fifo self.new.fifo
-            self.old.memory self.new.memory (RxUndo.Frame result) }
-    {
-        match self.fifo.exchange(&mut self.memory, RxUndo::Frame(old)) {
-            RxUndo::Frame(again) => again,
-            _ => unreachable!(),
-        }
-    }
-
-    /// Takes a piece of a frame out of guest memory; the result is what puts it there again.
-    fn exchange_piece(&mut self, old: Box<StepPatch>) -> Box<StepPatch>
-        requires { rx.Fits self.old.fifo self.old.memory (RxUndo.Step old) }
-        ensures state { self.new ≡ undo_receive self.old (RxUndo.Step old) }
-        ensures held { rx.octets_held (RxUndo.Step result) ≡ rx.octets_held (RxUndo.Step old) }
-        ensures reverses { rx.Reverses self.old.fifo self.new.fifo
-            self.old.memory self.new.memory (RxUndo.Step result) }
-    {
-        match self.fifo.exchange(&mut self.memory, RxUndo::Step(old)) {
-            RxUndo::Step(again) => again,
-            _ => unreachable!(),
-        }
-    }
-
-    /// Takes a change of the FIFO back; the record that makes it again takes the place of the other.
-    fn exchange_frames(&mut self, old: &mut RxUndo)
-        requires { rx.Fits self.old.fifo self.old.memory old.old }
-        ensures state { self.new ≡ undo_receive self.old old.old }
-        ensures held { rx.octets_held old.new ≡ rx.octets_held old.old }
-        ensures reverses { rx.Reverses self.old.fifo self.new.fifo self.old.memory self.new.memory old.new }
-    {
-        let taken = std::mem::replace(old, RxUndo::Nothing);
-        *old = self.fifo.exchange(&mut self.memory, taken);
-    }
-
-    /// Takes a reset back.
+    /// Takes a reset back: what it put aside changes places with what the adapter holds, which is let go.
     #[inline(never)]
-    fn take_back_reset(&mut self, old: Box<BeforeReset>)
-        requires { PartFits self.old (Part.Reset old) }
-        ensures { self.new ≡ undo_part self.old (Part.Reset old) }
-    {
-        let again = self.exchange_reset(old);
-        self.let_reset_go(again);
-    }
-
-    /// Takes a reset back; what the adapter held is put aside in its place.
-    fn exchange_reset(&mut self, mut old: Box<BeforeReset>) -> Box<BeforeReset>
-        requires { PartFits self.old (Part.Reset old) }
-        ensures state { self.new ≡ undo_part self.old (Part.Reset old) }
-        ensures reverses { Reverses self.old self.new (record { latches = []; part = Part.Reset result }) }
+    fn take_back_reset(&mut self, mut old: Box<BeforeReset>)
+        requires { EffectFits self.old (Effect.Reset old) }
+        ensures { self.new ≡ undo_effect self.old (Effect.Reset old) }
     {
         let before = &mut *old;
         std::mem::swap(&mut self.registers, &mut before.registers);
         std::mem::swap(&mut self.latches, &mut before.latches);
         std::mem::swap(&mut self.gather, &mut before.gathered);
-        self.exchange_frames(&mut before.fifo);
-        old
+        let frames = std::mem::replace(&mut before.fifo, RxUndo::Nothing);
+        self.fifo.take_back(&mut self.memory, frames);
+        self.let_reset_go(old);
     }
 
     /// What a read would give.
@@ -519,12 +425,10 @@ impl Adapter {
         requires { IsReg reg }
         ensures { result ≡ gives (shows self.now) reg }
     {
-        if reg == Reg::Status {
-            self.status()
-        } else if self.latches.holds(reg) {
-            self.latches.look(reg)
-        } else {
-            self.registers.look(reg)
+        match reg.row().kind {
+            Kind::Stored | Kind::Control | Kind::EepromRead => self.registers.look(reg),
+            Kind::Interrupt | Kind::Counter => self.latches.look(reg),
+            Kind::Status => self.status(),
         }
     }
 
@@ -539,109 +443,13 @@ impl Adapter {
         status.bits()
     }
 
-    #[inline(always)]
-    fn read(&mut self, reg: Reg) -> (u32, Undo)
-        requires { IsReg reg }
-        ensures value { result.0 ≡ gives (shows self.old) reg }
-        ensures state { shows self.new ≡ after_read (shows self.old) reg }
-        ensures cost { cost_of result.1 ≡ least_cost }
-        ensures reverses { Reverses self.old self.new result.1 }
-    {
-        if self.latches.holds(reg) {
-            let (value, undo) = self.latches.read(reg);
-            return (value, Undo::of_latches(undo));
-        }
-        let value = match reg {
-            Reg::Status => self.status(),
-            _ => self.registers.look(reg),
-        };
-        (value, Undo::of_part(Part::Nothing))
-    }
-
-    #[inline(always)]
-    fn write(&mut self, reg: Reg, value: u32) -> Result<Undo, Refusal>
-        requires { IsReg reg }
-        ensures state { OnOk result (shows self.new ≡ after_write (shows self.old) reg value) }
-        ensures cost { IfOk result (λ r. cost_of r ≡ (if is_reset reg value then most_cost else least_cost)) }
-        ensures reverses { IfOk result (λ r. Reverses self.old self.new r) }
-        ensures err { IfErr result (λ e. (e ≡ Refusal.Memory) × IsTrue (is_reset reg value)) }
-        ensures same { OnErr result (self.new ≡ self.old) }
-    {
-        match reg {
-            Reg::Ctrl => {
-                if Ctrl::from_bits_retain(value).contains(Ctrl::RST) {
-                    let before = self.reset()?;
-                    Ok(Undo::of_part(Part::Reset(before)))
-                } else {
-                    Ok(self.store(Reg::Ctrl, value))
-                }
-            }
-            Reg::Eerd => Ok(Undo::of_part(Part::Register(self.write_eerd(value)))),
-            Reg::Status => Ok(Undo::of_part(Part::Nothing)),
-            _ => Ok(self.store(reg, value)),
-        }
-    }
-
-    /// What a register gives that stores what is written.
-    #[inline(always)]
-    fn stored(&self, reg: Reg) -> u32
-        requires stored { IsStored reg }
-        requires kept { is_latched reg ≡ false }
-        requires other { reg ≢ Reg.Status }
-        ensures { result ≡ gives (shows self.now) reg }
-    {
-        self.registers.look(reg)
-    }
-
-    /// Writes a register that stores what is written.
-    #[inline(always)]
-    fn put(&mut self, reg: Reg, value: u32) -> Undo
-        requires stored { IsStored reg }
-        requires kept { is_latched reg ≡ false }
-        ensures state { shows self.new ≡ after_store (shows self.old) reg value }
-        ensures cost { cost_of result ≡ least_cost }
-        ensures reverses { Reverses self.old self.new result }
-    {
-        Undo::of_part(Part::Register(self.registers.put(reg, value)))
-    }
-
-    /// Stores what a register's row keeps of a value.
-    #[inline(always)]
-    fn store(&mut self, reg: Reg, value: u32) -> Undo
-        requires reg { IsReg reg }
-        requires kept { IsStored reg ⊎ IsLatched reg }
-        ensures state { shows self.new ≡ after_store (shows self.old) reg value }
-        ensures cost { cost_of result ≡ least_cost }
-        ensures reverses { Reverses self.old self.new result }
-    {
-        if self.latches.holds(reg) {
-            Undo::of_latches(self.latches.write(reg, value))
-        } else {
-            self.put(reg, value)
-        }
-    }
-
-    /// Writes EERD: with START the word at the address is there at once.
-    fn write_eerd(&mut self, value: u32) -> RegUndo
-        ensures state { shows self.new ≡ after_eerd_write (shows self.old) value }
-        ensures reverses { Reverses self.old self.new (record { latches = []; part = Part.Register result }) }
-    {
-        if Eerd::from_bits_retain(value).contains(Eerd::START) {
-            let [_, address, _, _] = value.to_le_bytes();
-            let word = self.eeprom.word(address);
-            self.registers.put_eerd(address, word)
-        } else {
-            self.registers.put(Reg::Eerd, value)
-        }
-    }
-
     /// Resets the registers and latches, and empties the FIFO and the gathered octets. The place that keeps
     /// the old ones is made first.
     #[inline(never)]
     fn reset(&mut self) -> Result<Box<BeforeReset>, Refusal>
         ensures state { OnOk result (shows self.new ≡ reset (shows self.old)) }
         ensures reverses { IfOk result (λ before.
-            Reverses self.old self.new (record { latches = []; part = Part.Reset before })) }
+            Reverses self.old self.new (record { latches = []; effect = Effect.Reset before })) }
         ensures err { IfErr result (λ e. e ≡ Refusal.Memory) }
         ensures same { OnErr result (self.new ≡ self.old) }
     {
@@ -652,7 +460,7 @@ impl Adapter {
     /// Puts what a reset changes aside, and resets it.
     fn put_aside(&mut self, place: Box<BeforeReset>) -> Box<BeforeReset>
         ensures state { shows self.new ≡ reset (shows self.old) }
-        ensures reverses { Reverses self.old self.new (record { latches = []; part = Part.Reset result }) }
+        ensures reverses { Reverses self.old self.new (record { latches = []; effect = Effect.Reset result }) }
     {
         let mut kept = place;
         let before = &mut *kept;
@@ -692,10 +500,10 @@ impl Adapter {
         ensures same { OnErr result (self.new ≡ self.old) }
     {
         if up == self.link {
-            return Ok((Answer::Done, Undo::of_part(Part::Nothing)));
+            return Ok((Answer::Done, Undo::of_effect(Effect::Nothing)));
         }
         let latches = self.latches.raise(Causes::LSC.bits());
-        let part = Part::Link(std::mem::replace(&mut self.link, up));
-        Ok((Answer::Done, Undo { latches, part }))
+        let effect = Effect::Link(std::mem::replace(&mut self.link, up));
+        Ok((Answer::Done, Undo { latches, effect }))
     }
 }

@@ -8,13 +8,13 @@ ghost use Rattle.em_step.specs.Cells.{shows};
 ghost use Rattle.em_step.specs.Cost.{cost, cost_of, least_cost};
 ghost use Rattle.em_step.specs.Event.{arrives};
 ghost use Rattle.em_step.specs.Step.{step, Refuses};
-ghost use Rattle.em_step.specs.Undo.{PartFits, Reverses, undo_part};
+ghost use Rattle.em_step.specs.Undo.{EffectFits, Reverses, undo_effect};
 
 use crate::adapter::Adapter;
 use crate::counts::{CHECK_OCTETS, count_frame, count_miss};
 use crate::event::{Answer, Reason};
 use crate::refusal::Refusal;
-use crate::undo::{Part, Undo};
+use crate::undo::{Effect, Undo};
 use bitflags::Flags;
 use em_filter::{Kind, Verdict, tagged, verdict};
 use em_latch::Counter;
@@ -42,11 +42,11 @@ impl Adapter {
         if frame.len() < LEAST_FRAME || frame.len() > MOST_FRAME {
             return Err(Refusal::Length);
         }
-        self.receive(frame)
+        self.dispose(frame)
     }
 
     /// What becomes of a frame: the first test that fails drops it.
-    fn receive(&mut self, frame: &[u8]) -> Result<(Answer, Undo), Refusal>
+    fn dispose(&mut self, frame: &[u8]) -> Result<(Answer, Undo), Refusal>
         requires least { 14 ≤ length frame.now }
         requires most { length frame.now ≤ 20_000 }
         ensures ok { IfOk result (λ r. arrival (shows self.old) frame.now ≡ (r.0, shows self.new)) }
@@ -178,8 +178,8 @@ impl Adapter {
         let lacks = self.lacks_buffer();
         let octets = frame.len() as u32 + CHECK_OCTETS;
         let latches = count_frame(&mut self.latches, octets, kind, broadcasts, lacks);
-        let part = Part::Arrival(kept);
-        Ok((Answer::Stored, Undo { latches, part }))
+        let effect = Effect::Arrival(kept);
+        Ok((Answer::Stored, Undo { latches, effect }))
     }
 }
 
@@ -187,8 +187,8 @@ impl Adapter {
     /// Takes a frame that was stored back.
     #[inline(never)]
     pub(crate) fn take_back_arrival(&mut self, frame: Box<FramePatch>)
-        requires { PartFits self.old (Part.Arrival frame) }
-        ensures { self.new ≡ undo_part self.old (Part.Arrival frame) }
+        requires { EffectFits self.old (Effect.Arrival frame) }
+        ensures { self.new ≡ undo_effect self.old (Effect.Arrival frame) }
     {
         self.fifo.take_back(&mut self.memory, RxUndo::Frame(frame));
     }
@@ -197,7 +197,7 @@ impl Adapter {
 /// A frame was dropped that left no trace.
 fn unchanged(reason: Reason) -> (Answer, Undo)
     ensures answer { result.0 ≡ Answer.Dropped reason }
-    ensures undo { result.1 ≡ record { latches = []; part = Part.Nothing } }
+    ensures undo { result.1 ≡ record { latches = []; effect = Effect.Nothing } }
 {
-    (Answer::Dropped(reason), Undo::of_part(Part::Nothing))
+    (Answer::Dropped(reason), Undo::of_effect(Effect::Nothing))
 }

@@ -4,13 +4,13 @@ ghost use Rattle.em_step.specs.Cells.{shows, MorePages};
 ghost use Rattle.em_step.specs.Cost.{cost, cost_of};
 ghost use Rattle.em_step.specs.Event.{receives, transmits};
 ghost use Rattle.em_step.specs.Step.{step, Refuses};
-ghost use Rattle.em_step.specs.Undo.{PartFits, Reverses, undo_part};
+ghost use Rattle.em_step.specs.Undo.{EffectFits, Reverses, undo_effect};
 
 use crate::adapter::Adapter;
 use crate::counts::{CHECK_OCTETS, count_sent};
 use crate::event::Answer;
 use crate::refusal::Refusal;
-use crate::undo::{Part, Undo};
+use crate::undo::{Effect, Undo};
 use em_regs::Reg;
 use em_rx::{RxAnswer, RxUndo, StepPatch};
 use em_tx::{TxAnswer, TxUndo, step};
@@ -37,11 +37,11 @@ impl Adapter {
             ) => {
                 let latches = self.latches.raise(causes);
                 let head = self.registers.put(Reg::Rdh, next).old();
-                let part = Part::RxStep(head, piece);
-                Ok((Answer::Wrote { index }, Undo { latches, part }))
+                let effect = Effect::RxStep(head, piece);
+                Ok((Answer::Wrote { index }, Undo { latches, effect }))
             }
             (RxAnswer::Idle, RxUndo::Nothing) => {
-                Ok((Answer::Idle, Undo::of_part(Part::Nothing)))
+                Ok((Answer::Idle, Undo::of_effect(Effect::Nothing)))
             }
             _ => unreachable!(),
         }
@@ -70,8 +70,8 @@ impl Adapter {
             ) => {
                 let latches = self.latches.raise(causes);
                 let head = self.registers.put(Reg::Tdh, next).old();
-                let part = Part::TxStep(change, head);
-                Ok((Answer::Fetched { index }, Undo { latches, part }))
+                let effect = Effect::TxStep(change, head);
+                Ok((Answer::Fetched { index }, Undo { latches, effect }))
             }
             (
                 TxAnswer::Sent {
@@ -85,11 +85,11 @@ impl Adapter {
             ) => {
                 let latches = count_sent(&mut self.latches, octets + CHECK_OCTETS, kind, causes);
                 let head = self.registers.put(Reg::Tdh, next).old();
-                let part = Part::TxStep(change, head);
-                Ok((Answer::Sent { index, octets }, Undo { latches, part }))
+                let effect = Effect::TxStep(change, head);
+                Ok((Answer::Sent { index, octets }, Undo { latches, effect }))
             }
             (TxAnswer::Idle, TxUndo::Nothing) => {
-                Ok((Answer::Idle, Undo::of_part(Part::Nothing)))
+                Ok((Answer::Idle, Undo::of_effect(Effect::Nothing)))
             }
             _ => unreachable!(),
         }
@@ -98,10 +98,10 @@ impl Adapter {
     /// Takes a step of the receive engine back.
     #[inline(never)]
     pub(crate) fn take_back_receiving(&mut self, head: u32, piece: Box<StepPatch>)
-        requires { PartFits self.old (Part.RxStep head piece) }
-        ensures { self.new ≡ undo_part self.old (Part.RxStep head piece) }
+        requires { EffectFits self.old (Effect.RxStep head piece) }
+        ensures { self.new ≡ undo_effect self.old (Effect.RxStep head piece) }
     {
-        let _head = self.registers.restore(Reg::Rdh, head);
+        self.registers.restore(Reg::Rdh, head);
         self.fifo.take_back(&mut self.memory, RxUndo::Step(piece));
     }
 }

@@ -14,4 +14,4 @@ mod undo;
 pub use adapter::Adapter;
 pub use event::{Answer, Event, Reason};
 pub use refusal::Refusal;
-pub use undo::{BeforeReset, LEAST_COST, MOST_COST, Part, Undo};
+pub use undo::{BeforeReset, Effect, LEAST_COST, MOST_COST, Undo};

@@ -4,13 +4,13 @@ ghost use Rattle.em_mem.specs.Memory.{IsHeld, put};
 ghost use Rattle.em_step.specs.Cells.{shows, MorePages};
 ghost use Rattle.em_step.specs.Event.{pokes};
 ghost use Rattle.em_step.specs.Step.{step, Refuses};
-ghost use Rattle.em_step.specs.Undo.{PartFits, Reverses, undo_part};
-ghost use Rattle.em_step.specs.Cost.{cost, cost_of, cost_of_part, least_cost};
+ghost use Rattle.em_step.specs.Undo.{EffectFits, Reverses, undo_effect};
+ghost use Rattle.em_step.specs.Cost.{cost, cost_of, cost_of_effect, least_cost};
 
 use crate::adapter::Adapter;
 use crate::event::Answer;
 use crate::refusal::Refusal;
-use crate::undo::{Part, Undo};
+use crate::undo::{Effect, Undo};
 use em_mem::{FEW, FewOctets, MemUndo};
 use std::alloc::AllocError;
 
@@ -33,21 +33,21 @@ impl Adapter {
         if octets.is_empty() || octets.len() > MOST_POKE {
             return Err(Refusal::Length);
         }
-        let part = self.overwrite(addr, octets)?;
-        Ok((Answer::Done, Undo::of_part(part)))
+        let effect = self.overwrite(addr, octets)?;
+        Ok((Answer::Done, Undo::of_effect(effect)))
     }
 
     /// Writes octets of guest memory, of which a few lie in the record itself, and more in a box.
     #[inline(always)]
-    fn overwrite(&mut self, addr: u64, octets: &[u8]) -> Result<Part, Refusal>
+    fn overwrite(&mut self, addr: u64, octets: &[u8]) -> Result<Effect, Refusal>
         requires held { IsHeld (shows self.old).memory addr (length octets.now) }
         requires some { 0 < length octets.now }
         requires most { length octets.now ≤ 16_384 }
         ensures state { OnOk result (shows self.new
             ≡ record (shows self.old) { memory = put (shows self.old).memory addr octets.now }) }
-        ensures cost { IfOk result (λ part. cost_of_part part ≡ least_cost + length octets.now) }
-        ensures reverses { IfOk result (λ part.
-            Reverses self.old self.new (record { latches = []; part = part })) }
+        ensures cost { IfOk result (λ effect. cost_of_effect effect ≡ least_cost + length octets.now) }
+        ensures reverses { IfOk result (λ effect.
+            Reverses self.old self.new (record { latches = []; effect = effect })) }
         ensures err { IfErr result (λ e. e ≡ Refusal.Memory) }
         ensures same { OnErr result (MorePages self.old self.new) }
     {
@@ -55,11 +55,11 @@ impl Adapter {
             return Err(Refusal::Memory);
         }
         if octets.len() <= FEW {
-            return Ok(Part::FewOctets(self.memory.write_few(addr, octets)));
+            return Ok(Effect::FewOctets(self.memory.write_few(addr, octets)));
         }
         let mut old = self.room_for_octets(octets.len())?;
         self.memory.write_keeping(addr, octets, &mut old)?;
-        Ok(Part::Octets(old))
+        Ok(Effect::Octets(old))
     }
 
     /// A record for a write of so many octets, to be filled: one that was let go, if there is one.
@@ -74,8 +74,8 @@ impl Adapter {
 
     /// Takes a memory write back.
     pub(crate) fn take_back_octets(&mut self, octets: Box<MemUndo>)
-        requires { PartFits self.old (Part.Octets octets) }
-        ensures { self.new ≡ undo_part self.old (Part.Octets octets) }
+        requires { EffectFits self.old (Effect.Octets octets) }
+        ensures { self.new ≡ undo_effect self.old (Effect.Octets octets) }
     {
         self.memory.put_back(&octets);
         self.let_octets_go(octets);
@@ -84,8 +84,8 @@ impl Adapter {
     /// Takes a write of a few octets back.
     #[inline(never)]
     pub(crate) fn take_back_few_octets(&mut self, octets: FewOctets)
-        requires { PartFits self.old (Part.FewOctets octets) }
-        ensures { self.new ≡ undo_part self.old (Part.FewOctets octets) }
+        requires { EffectFits self.old (Effect.FewOctets octets) }
+        ensures { self.new ≡ undo_effect self.old (Effect.FewOctets octets) }
     {
         self.memory.put_back_few(&octets);
     }

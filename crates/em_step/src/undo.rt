@@ -20,12 +20,12 @@ pub const MOST_COST: u32 = 65_536;
 #[derive(Drop)]
 pub struct Undo {
     pub latches: LatchUndo,
-    pub part: Part,
+    pub effect: Effect,
 }
 
 /// What an event changed beside words of the latches, as it was.
 #[derive(Drop)]
-pub enum Part {
+pub enum Effect {
     /// Nothing else changed.
     Nothing,
     /// A register.
@@ -60,39 +60,40 @@ impl Undo {
     /// The record of an event that changed words of the latches alone.
     #[inline(always)]
     pub(crate) fn of_latches(latches: LatchUndo) -> Undo
-        ensures { result ≡ record { latches = latches; part = Part.Nothing } }
+        ensures { result ≡ record { latches = latches; effect = Effect.Nothing } }
     {
         Undo {
             latches,
-            part: Part::Nothing,
+            effect: Effect::Nothing,
         }
     }
 
-    /// The record of an event that changed no word of the latches beside its part.
+    /// The record of an event that changed no word of the latches.
     #[inline(always)]
-    pub(crate) fn of_part(part: Part) -> Undo
-        ensures { result ≡ record { latches = []; part = part } }
+    pub(crate) fn of_effect(effect: Effect) -> Undo
+        ensures { result ≡ record { latches = []; effect = effect } }
     {
         Undo {
             latches: LatchUndo::none(),
-            part,
+            effect,
         }
     }
 
     /// What the record counts for in a journal's budget, in octets of cost.
+    #[inline(always)]
     pub fn cost(&self) -> u32
         ensures cost { result ≡ cost_of self.now }
         ensures least { least_cost ≤ result }
         ensures most { result ≤ most_cost }
     {
-        match &self.part {
-            Part::Nothing | Part::Register(_) | Part::Link(_) => LEAST_COST,
-            Part::Octets(octets) => LEAST_COST + octets.len(),
-            Part::FewOctets(octets) => LEAST_COST + octets.len(),
-            Part::Arrival(frame) => LEAST_COST + frame.len(),
-            Part::RxStep(_, piece) => LEAST_COST + piece.len(),
-            Part::TxStep(change, _) => LEAST_COST + change.cost(),
-            Part::Reset(_) => MOST_COST,
+        match &self.effect {
+            Effect::Nothing | Effect::Register(_) | Effect::Link(_) => LEAST_COST,
+            Effect::Octets(octets) => LEAST_COST + octets.len(),
+            Effect::FewOctets(octets) => LEAST_COST + octets.len(),
+            Effect::Arrival(frame) => LEAST_COST + frame.len(),
+            Effect::RxStep(_, piece) => LEAST_COST + piece.len(),
+            Effect::TxStep(change, _) => LEAST_COST + change.cost(),
+            Effect::Reset(_) => MOST_COST,
         }
     }
 }

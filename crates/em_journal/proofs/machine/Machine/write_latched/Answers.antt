@@ -1,8 +1,8 @@
-use Rattle.std.proofs.Common.{refl, sym, ◌∙◌}
+use Rattle.std.proofs.Common.{sym, ◌∙◌}
 use Rattle.em_regs.specs.Table.{offset_of}
 use Rattle.em_step.specs.Cells.{shows}
 use Rattle.em_step.specs.Event.{writes}
-use Rattle.em_step.proofs.Registers.{latched_apart, store_costs}
+use Rattle.em_step.proofs.Registers.{latched_costs}
 use Rattle.em_journal.proofs.RecordsLaws.{event_does, journal_event}
 use Rattle.em_journal.proofs.machine.Machine.write_latched.Goals as goal
 
@@ -20,5 +20,4 @@ returns-clause-does c =
 pub keep-requires-clause-cost : goal.keep-requires-clause-cost
 keep-requires-clause-cost c =
     sym (c.write_latched-undo.ensures.cost
-    ∙ store_costs (shows c.self.inside.adapter) c.args.reg c.args.value c.requires.reg
-    (latched_apart c.requires.latched refl))
+    ∙ latched_costs (shows c.self.inside.adapter) c.args.reg c.args.value c.requires.reg c.requires.latched)

@@ -1,8 +1,9 @@
 use Rattle.std.proofs.Common.{sym, ◌∙◌}
 use Rattle.em_regs.specs.Table.{offset_of}
+use Rattle.em_regs.specs.declared.table.Kind.TheVariants.{Stored}
 use Rattle.em_step.specs.Cells.{shows}
 use Rattle.em_step.specs.Event.{writes}
-use Rattle.em_step.proofs.Registers.{store_costs}
+use Rattle.em_step.proofs.Registers.{costs_by}
 use Rattle.em_journal.proofs.RecordsLaws.{event_does, journal_event}
 use Rattle.em_journal.proofs.machine.Machine.write_stored.Goals as goal
 
@@ -20,4 +21,4 @@ returns-clause-does c =
 pub keep-requires-clause-cost : goal.keep-requires-clause-cost
 keep-requires-clause-cost c =
     sym (c.write_stored-undo.ensures.cost
-    ∙ store_costs (shows c.self.inside.adapter) c.args.reg c.args.value c.requires.stored.0 c.requires.alone.0)
+    ∙ costs_by Stored (shows c.self.inside.adapter) c.args.reg c.args.value c.requires.0 c.requires.1)

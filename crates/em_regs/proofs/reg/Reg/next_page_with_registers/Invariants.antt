@@ -1,6 +1,6 @@
 use Rattle.std.proofs.Common.{◌≡◌, ◌≤◌, ◌-◌, ◌%◌}
 use Rattle.em_regs.specs.Table.{NoneFrom}
-use Rattle.em_regs.proofs.reg.Reg.skip_bare.Given as goal
+use Rattle.em_regs.proofs.reg.Reg.next_page_with_registers.Given as goal
 
 abbrev pub invariant-loop-next : goal.invariant-loop-next
 invariant-loop-next l = record {

@@ -1,17 +1,19 @@
-use Rattle.std.proofs.Common.{◌∙◌, ap, sym, arith}
-use Rattle.em_regs.specs.Table.{offset_of}
-use Rattle.em_regs.proofs.TableLaws.{none_found, below_space, found_there}
+use Rattle.std.proofs.Common.{arith}
+use Rattle.em_regs.proofs.TableLaws.{below_space, found_lies, none_found, none_lies, whole_word}
+use Rattle.em_regs.proofs.reg.Reg.of_offset.Goals.{then-offset-ge-SPACE-via-then-offset-ge-SPACE, then-offset-ge-SPACE-via-else-offset-ge-SPACE+then-offset-ne0}
 use Rattle.em_regs.proofs.reg.Reg.of_offset.Goals as goal
 
 pub returns-then-offset-ge-SPACE-clause-table : goal.returns-then-offset-ge-SPACE-clause-table
-returns-then-offset-ge-SPACE-clause-table c = none_found c.args.offset
-    (λ reg has lies. let low = below_space reg has in omega (arith, low, lies, c.if-offset-ge-SPACE.true))
+returns-then-offset-ge-SPACE-clause-table c = none_found c.args.offset (λ reg has lies.
+    let low = below_space reg has in
+    let whole = whole_word reg in
+    elim c.then-offset-ge-SPACE.branch [
+      | then-offset-ge-SPACE-via-then-offset-ge-SPACE w ↦ omega (arith, low, lies, w.if-offset-ge-SPACE.true)
+      | then-offset-ge-SPACE-via-else-offset-ge-SPACE+then-offset-ne0 w ↦ omega (arith, whole, lies, w.if-offset-ne0.true)
+    ])
 
-pub returns-then-offset-clause-table : goal.returns-then-offset-clause-table
-returns-then-offset-clause-table c =
-    found_there c.args.offset c.entry-reg.result
-    (c.entry-reg.ensures.named, sym c.offset.ensures ∙ c.if-offset.true)
+pub returns-clause-some : goal.returns-clause-some
+returns-clause-some c = found_lies c.word_at.result c.args.offset c.word_at.ensures
 
-pub returns-else-offset-clause-table : goal.returns-else-offset-clause-table
-returns-else-offset-clause-table c = none_found c.args.offset
-    (λ reg has lies. c.if-offset.false (c.offset.ensures ∙ ap offset_of (c.entry-reg.ensures.there reg has lies) ∙ lies))
+pub returns-clause-none : goal.returns-clause-none
+returns-clause-none c = none_lies c.word_at.result c.args.offset c.word_at.ensures

@@ -10,7 +10,7 @@ returns-clause-reverses c =
     let memory = c.self.inside.memory in
     let frames = c.in-Ok.ensures.reverses memory in
     record {
-      fits = record { latches = words.fits; part = frames.fits };
+      fits = record { latches = words.fits; effect = frames.fits };
       restores = record {
         registers = ap (λ (x : Cells). x.registers) c.self.view_is;
         latches = words.restores ∙ ap (λ (x : Cells). x.latches) c.self.view_is;

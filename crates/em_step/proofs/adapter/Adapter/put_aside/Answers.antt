@@ -8,7 +8,7 @@ pub returns-clause-reverses : goal.returns-clause-reverses
 returns-clause-reverses c =
     let frames = c.clear-2.ensures.reverses c.self.inside.memory in
     record {
-      fits = record { latches = tt; part = frames.fits };
+      fits = record { latches = tt; effect = frames.fits };
       restores = record {
         registers = ap (λ file. file.value) c.swap.ensures.y_after ∙ ap (λ (x : Cells). x.registers) c.self.view_is;
         latches = c.replace-before.ensures.value ∙ ap (λ (x : Cells). x.latches) c.self.view_is;

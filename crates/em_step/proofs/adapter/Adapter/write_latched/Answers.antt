@@ -1,7 +1,7 @@
 use Rattle.std.proofs.Common.{ap, refl, sym, ◌∙◌}
 use Rattle.em_step.specs.Cells.{shows}
 use Rattle.em_step.specs.Cost.{cost_of}
-use Rattle.em_step.proofs.Registers.{latched_apart, store_costs, writes_latched}
+use Rattle.em_step.proofs.Registers.{latched_costs, writes_latched}
 use Rattle.em_step.proofs.adapter.Adapter.write_latched.Goals as goal
 
 pub returns-clause-ok : goal.returns-clause-ok
@@ -12,5 +12,4 @@ returns-clause-ok c =
 pub returns-clause-cost : goal.returns-clause-cost
 returns-clause-cost c =
     ap cost_of c.of_latches.ensures
-    ∙ sym (store_costs (shows c.args.self.now) c.args.reg c.args.value c.requires.reg
-    (latched_apart c.requires.latched refl))
+    ∙ sym (latched_costs (shows c.args.self.now) c.args.reg c.args.value c.requires.reg c.requires.latched)

@@ -1,0 +1,12 @@
+//! Scratch.
+#![tactic(auto)]
+
+#[cfg(test)]
+mod adapter_alone;
+
+use anyhow::Result;
+
+fn main(rt: HostRuntime) -> Result<()> {
+    println!(rt; "x")?;
+    Ok(())
+}
