@@ -40,6 +40,7 @@ MASKS |= {0x5404 + 8 * i: 0x8003FFFF for i in range(16)}
 PLAIN = REGISTERS - COUNTERS - PAIRS - {STATUS, EERD, ICR, ICS, IMS, IMC, *MASKS}
 # where the driver that a script starts keeps its rings and buffers
 RX_RING, TX_RING, RX_BUFFERS, TX_BUFFERS, DESCRIPTORS, BUFFER = 0, 0x80, 0x1000, 0x5000, 8, 2048
+IN_ORDER = sorted(REGISTERS)
 
 
 class Refused(Exception):
@@ -301,7 +302,7 @@ class Session:
         self, memory: int = 65536, budget: int = 1_048_576, mac: str = "525400123456", refused: tuple[int, int] = (0, 0)
     ) -> None:
         self.now, self.budget = State(memory, bytes.fromhex(mac)), budget
-        self.past, self.held = [], 0
+        self.past, self.held, self.performed = [], 0, 0
         # memory is refused in the line of a number, where that line takes memory for the nth time
         self.refused, self.number, self.taken = refused, 0, 0
         # the plan is a list of turns for each access of the driver; None where no line gave one
@@ -325,6 +326,7 @@ class Session:
         if (cost > 32 or text.startswith(("fetched", "sent"))) and not self.has_memory():
             return "refused Memory"
         self.past.append((self.now, cost))
+        self.performed += 1
         self.now, self.held = state, self.held + cost
         dropped = 0
         while self.held > self.budget:
@@ -452,7 +454,7 @@ class Session:
         if name == "line":
             return ["1" if s.at(ICR) & s.at(IMS) else "0"]
         if name == "regs":
-            return [f"{offset:05X} {s.look(offset):08X}" for offset in sorted(REGISTERS) if s.look(offset)]
+            return [f"{offset:05X} {value:08X}" for offset in IN_ORDER if (value := s.look(offset))]
         return [f"wire {len(s.wire)}"] + [frame.hex().upper() for frame in s.wire]
 
     def taken_back(self, args: list[str]) -> list[str] | None:
