@@ -7,8 +7,6 @@
 
 use anyhow::Result;
 
-#[cfg(test)]
-mod adapter_alone;
 mod digest;
 mod driven;
 #[cfg(test)]

@@ -9,3 +9,4 @@ pub mod EngineLaws
 pub mod SetupLaws
 pub mod PieceLaws
 pub mod WholeLaws
+pub mod InertLaws

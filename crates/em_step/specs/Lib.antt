@@ -10,5 +10,6 @@ pub mod Engines
 pub mod Step
 pub mod Pieces
 pub mod Whole
+pub mod Inert
 pub mod Undo
 pub mod Cost

@@ -16,6 +16,7 @@ ghost use Rattle.em_step.specs.Undo.{Fits, undo};
 ghost use Rattle.em_step.specs.Event.{Event, arrives, receives, transmits};
 ghost use Rattle.em_step.specs.Arrival.{arrival};
 ghost use Rattle.em_step.specs.Fate.{IsFate};
+ghost use Rattle.em_step.specs.Inert.{AgreeInRules, Alike, IsNoRead};
 ghost use Rattle.em_step.specs.Step.{step};
 ghost use Rattle.em_step.specs.Whole.{Admits, IsPlain, IsWhole, KeepsAllButFifo, ReceivesWhole, SendsWhole};
 ghost use Rattle.em_step.specs.Pieces.{AreReceived};
@@ -100,4 +101,11 @@ pub fn an_eeprom_stays()
     ensures stays { (s : State) (e : Event) (r : Answer × State) → step s e ≡ Ok r → r.1.eeprom ≡ s.eeprom }
     ensures above { (s : State) (a : ℕ) → IsEeprom s.eeprom → 64 ≤ a →
         after_eeprom_read s a ≡ record s { registers = put_eerd s.registers a 0 } }
+{}
+
+/// Registers and bits without a rule are inert: what they hold changes no answer of any event but a
+/// read's, no refusal, and nothing else that an event leaves. `AgreeInRules` lists those that have one.
+pub fn registers_without_a_rule_are_inert()
+    ensures { (s : State) (n : Registers) (e : Event) → AgreeInRules s.registers n → IsNoRead e
+        → Alike (step s e) (step (record s { registers = n }) e) }
 {}
