@@ -202,12 +202,12 @@ tagged_same m n f h = λ i. h.vme i && (nat_le 16 (length f) && type_of f == h.v
 
 alike_state : (s : State) (n : Registers) (answer : Answer) → AgreeInRules s.registers n
     → Alike (Ok (answer, s)) (Ok (answer, with_registers s n))
-alike_state s n answer h = (refl, n, refl, h)
+alike_state s n answer h = (refl, (n, refl, h))
 
 store_alike : (s : State) (n : Registers) (reg : Reg) (v : ℕ) → AgreeInRules s.registers n
     → Alike (Ok (Done, after_store s reg v)) (Ok (Done, after_store (with_registers s n) reg v))
 store_alike s n reg v h =
-    (refl, registers.put n reg v, refl, agree_on s.registers n (offset_of reg) (bit_and v (mask_of reg)) h)
+    (refl, (registers.put n reg v, refl, agree_on s.registers n (offset_of reg) (bit_and v (mask_of reg)) h))
 
 eerd_alike : (s : State) (n : Registers) (v : ℕ) (start : Bool) → AgreeInRules s.registers n
     → Alike (Ok (Done, if start then after_eeprom_read s (eerd_address v) else after_store s Eerd v))
@@ -216,14 +216,14 @@ eerd_alike : (s : State) (n : Registers) (v : ℕ) (start : Bool) → AgreeInRul
 eerd_alike s n v true h =
     let a : ℕ = eerd_address v in
     let word : ℕ = registers.eerd_value a (word_at s.eeprom a) in
-    (refl, insert n (offset_of Eerd) word, refl, agree_on s.registers n (offset_of Eerd) word h)
+    (refl, (insert n (offset_of Eerd) word, refl, agree_on s.registers n (offset_of Eerd) word h))
 eerd_alike s n v false h = store_alike s n Eerd v h
 
 control_alike : (s : State) (n : Registers) (reg : Reg) (v : ℕ) (resets : Bool) → AgreeInRules s.registers n
     → Alike (Ok (Done, if resets then reset s else after_store s reg v))
     (Ok (Done, if resets then reset (with_registers s n) else after_store (with_registers s n) reg v))
 control_alike s n reg v true h =
-    (refl, registers.reset (mac_of s.eeprom), refl, agree_same (registers.reset (mac_of s.eeprom)))
+    (refl, (registers.reset (mac_of s.eeprom), refl, agree_same (registers.reset (mac_of s.eeprom))))
 control_alike s n reg v false h = store_alike s n reg v h
 
 -- by the kind of the register's row
@@ -233,8 +233,8 @@ write_by s n reg v StoredKind h = store_alike s n reg v h
 write_by s n reg v Control h = control_alike s n reg v (is_reset_by Control v) h
 write_by s n reg v EepromRead h = eerd_alike s n v (access.has v 0x1) h
 write_by s n reg v Status h = alike_state s n Done h
-write_by s n reg v Interrupt h = (refl, n, refl, h)
-write_by s n reg v Counter h = (refl, n, refl, h)
+write_by s n reg v Interrupt h = (refl, (n, refl, h))
+write_by s n reg v Counter h = (refl, (n, refl, h))
 
 write_alike : (s : State) (n : Registers) (reg : Reg) (v : ℕ) → AgreeInRules s.registers n
     → Alike (Ok (Done, after_write s reg v)) (Ok (Done, after_write (with_registers s n) reg v))
@@ -250,8 +250,8 @@ linked_by : (s : State) (n : Registers) (up changes : Bool) → AgreeInRules s.r
     → Alike (Ok (Done, if changes then record s { link = up; latches = latches.after_raise s.latches 0x4 } else s))
     (Ok (Done, if changes then record (with_registers s n) { link = up; latches = latches.after_raise s.latches 0x4 }
     else with_registers s n))
-linked_by s n up true h = (refl, n, refl, h)
-linked_by s n up false h = (refl, n, refl, h)
+linked_by s n up true h = (refl, (n, refl, h))
+linked_by s n up false h = (refl, (n, refl, h))
 
 -- ---- a memory write
 
@@ -262,7 +262,7 @@ poked_by : (s : State) (n : Registers) (a : ℕ) (d : List ℕ) (past short : Bo
     else Ok (Done, record (with_registers s n) { memory = memory.put s.memory a d }))
 poked_by s n a d true short h = refl
 poked_by s n a d false true h = refl
-poked_by s n a d false false h = (refl, n, refl, h)
+poked_by s n a d false false h = (refl, (n, refl, h))
 
 -- ---- an arriving frame
 
@@ -281,8 +281,8 @@ admitted s f kind frame bam lacks full =
 admitted_alike : (s : State) (n : Registers) (f : List ℕ) (kind : Destination) (frame : Frame) (bam lacks full : Bool)
     → AgreeInRules s.registers n
     → Alike (Ok (admitted s f kind frame bam lacks full)) (Ok (admitted (with_registers s n) f kind frame bam lacks full))
-admitted_alike s n f kind frame bam lacks true h = (refl, n, refl, h)
-admitted_alike s n f kind frame bam lacks false h = (refl, n, refl, h)
+admitted_alike s n f kind frame bam lacks true h = (refl, (n, refl, h))
+admitted_alike s n f kind frame bam lacks false h = (refl, (n, refl, h))
 
 admission_alike : (s : State) (n : Registers) (f : List ℕ) (kind : Destination) → AgreeInRules s.registers n
     → Alike (Ok (admission s f kind)) (Ok (admission (with_registers s n) f kind))
@@ -301,9 +301,9 @@ admission_alike s n f kind h =
 
 judged_alike : (s : State) (n : Registers) (f : List ℕ) (v : Verdict) → AgreeInRules s.registers n
     → Alike (Ok (judgement s f v)) (Ok (judgement (with_registers s n) f v))
-judged_alike s n f outcome.Reject h = (refl, n, refl, h)
-judged_alike s n f outcome.Undersize h = (refl, n, refl, h)
-judged_alike s n f outcome.Oversize h = (refl, n, refl, h)
+judged_alike s n f outcome.Reject h = (refl, (n, refl, h))
+judged_alike s n f outcome.Undersize h = (refl, (n, refl, h))
+judged_alike s n f outcome.Oversize h = (refl, (n, refl, h))
 judged_alike s n f (outcome.Accept kind) h = admission_alike s n f kind h
 
 -- by the link, by EN and by the verdict
@@ -313,8 +313,8 @@ arrived s f up on v =
 
 arrived_by : (s : State) (n : Registers) (f : List ℕ) (up on : Bool) (v : Verdict) → AgreeInRules s.registers n
     → Alike (Ok (arrived s f up on v)) (Ok (arrived (with_registers s n) f up on v))
-arrived_by s n f false on v h = (refl, n, refl, h)
-arrived_by s n f true false v h = (refl, n, refl, h)
+arrived_by s n f false on v h = (refl, (n, refl, h))
+arrived_by s n f true false v h = (refl, (n, refl, h))
 arrived_by s n f true true v h = judged_alike s n f v h
 
 arrival_alike : (s : State) (n : Registers) (f : List ℕ) → AgreeInRules s.registers n
@@ -337,9 +337,9 @@ sized_by s n f false h = arrival_alike s n f h
 
 rx_answered : (s : State) (n : Registers) (a : RxAnswer) → AgreeInRules s.registers n
     → Alike (Ok (after_rx_answer s a)) (Ok (after_rx_answer (with_registers s n) a))
-rx_answered s n rx_answer.Idle h = (refl, n, refl, h)
+rx_answered s n rx_answer.Idle h = (refl, (n, refl, h))
 rx_answered s n (rx_answer.Wrote index next causes) h =
-    (refl, registers.put n Rdh next, refl, agree_on s.registers n (offset_of Rdh) (bit_and next (mask_of Rdh)) h)
+    (refl, (registers.put n Rdh next, refl, agree_on s.registers n (offset_of Rdh) (bit_and next (mask_of Rdh)) h))
 
 rx_by : (s : State) (n : Registers) (r : Result rx.Outcome RxRefusal) → AgreeInRules s.registers n
     → Alike (rx_stepped s r) (rx_stepped (with_registers s n) r)
@@ -356,11 +356,11 @@ receive_alike s n h =
 
 tx_answered : (s : State) (n : Registers) (a : TxAnswer) → AgreeInRules s.registers n
     → Alike (Ok (after_tx_answer s a)) (Ok (after_tx_answer (with_registers s n) a))
-tx_answered s n tx_answer.Idle h = (refl, n, refl, h)
+tx_answered s n tx_answer.Idle h = (refl, (n, refl, h))
 tx_answered s n (tx_answer.Fetched index next causes) h =
-    (refl, registers.put n Tdh next, refl, agree_on s.registers n (offset_of Tdh) (bit_and next (mask_of Tdh)) h)
+    (refl, (registers.put n Tdh next, refl, agree_on s.registers n (offset_of Tdh) (bit_and next (mask_of Tdh)) h))
 tx_answered s n (tx_answer.Sent index next causes octets kind) h =
-    (refl, registers.put n Tdh next, refl, agree_on s.registers n (offset_of Tdh) (bit_and next (mask_of Tdh)) h)
+    (refl, (registers.put n Tdh next, refl, agree_on s.registers n (offset_of Tdh) (bit_and next (mask_of Tdh)) h))
 
 tx_by : (s : State) (n : Registers) (r : Result (TxAnswer × Shown) TxRefusal) → AgreeInRules s.registers n
     → Alike (tx_stepped s r) (tx_stepped (with_registers s n) r)
@@ -379,12 +379,12 @@ transmit_alike s n h =
 
 pub alike : (s : State) (n : Registers) (e : Event) → AgreeInRules s.registers n → IsNoRead e
     → Alike (step s e) (step (record s { registers = n }) e)
-alike s n (reads o) h no = absurd no
-alike s n (writes o v) h no = written_by s n v (reg_at o) h
-alike s n (pokes a d) h no =
+alike s n (reads o) h noread = absurd noread
+alike s n (writes o v) h noread = written_by s n v (reg_at o) h
+alike s n (pokes a d) h noread =
     poked_by s n a d (nat_lt (length s.memory) (a + length d)) (length d == 0 || nat_lt 16_384 (length d)) h
-alike s n (arrives f) h no = sized_by s n f (nat_lt (length f) 14 || nat_lt 20_000 (length f)) h
-alike s n (links up) h no = linked_by s n up (differ up s.link) h
-alike s n receives h no = receive_alike s n h
-alike s n transmits h no = transmit_alike s n h
+alike s n (arrives f) h noread = sized_by s n f (nat_lt (length f) 14 || nat_lt 20_000 (length f)) h
+alike s n (links up) h noread = linked_by s n up (differ up s.link) h
+alike s n receives h noread = receive_alike s n h
+alike s n transmits h noread = transmit_alike s n h
 
