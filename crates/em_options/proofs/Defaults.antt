@@ -1,12 +1,15 @@
 -- What the options of the command have after a parse: each has a value, by the words or by its default, which passed
 -- its parser.
-use Rattle.std.proofs.Common.{zero, suc, not, ◌≡◌, ◌⊎◌, ◌∙◌, ◌<◌, ◌≤◌, ◌&&◌, ℕ, Bool, true, false, List, [], ◌∷◌}
+use Rattle.std.proofs.Common.{zero, suc, not, ◌≡◌, ◌∙◌, ◌<◌, ◌≤◌, ◌&&◌, ◌||◌, ℕ, Bool, true, false, List, [], ◌∷◌}
 use Rattle.std.proofs.Common.{map, length, is_some, Option, Some, None, refl, sym, ap, subst, inl, inr, arith, codes}
-use Rattle.std.specs.Prelude.{option_map, slice_get, IsSome, IsSomeAnd, find}
-use Rattle.std.specs.List.{All, list_all, slice_index_or}
+use Rattle.std.specs.Prelude.{option_map, slice_get, nat_lt, IsSome, IsSomeAnd, find}
+use Rattle.std.specs.List.{All, list_all, list_any, slice_index_or}
+use Rattle.std.specs.Option.{option_map_or}
 use Rattle.std.specs.Str.{bytes_eq}
 use Rattle.std.specs.Borrow.{Bor}
+use Rattle.std.proofs.lemmas.Bool.{eqb-true, ltb-true}
 use Rattle.std.proofs.lemmas.List.Elements.{All-get_or}
+use Rattle.std.proofs.lemmas.List.Folds.{list_any_at}
 use Rattle.std.proofs.lemmas.List.{length-map}
 use Rattle.std.proofs.lemmas.Slice.Eq.{bytes_eq-Decides}
 use Rattle.clap.specs.Built.{IsAuto, IsParsedFrom, IsPlain, IsPlainArg}
@@ -17,6 +20,7 @@ use Rattle.clap.specs.Texts.{items_of}
 use Rattle.clap.specs.Values.{Accepts}
 use Rattle.clap.specs.Walk.{Rule, Text, first_of, is_free_arg, is_simple_arg, rows_of, rule_of}
 use Rattle.clap.specs.Simple.{App, app_of}
+use Rattle.clap.specs.declared.builder.action.ArgAction.{ArgAction}
 use Rattle.clap.specs.declared.builder.action.ArgAction.TheVariants.{Count, Set}
 use Rattle.clap.specs.declared.builder.arg.Arg.{Arg}
 use Rattle.clap.specs.declared.builder.command.Command.{Command}
@@ -28,7 +32,8 @@ use Rattle.clap.specs.declared.parser.matches.MatchedArg.{MatchedArg}
 use Rattle.clap.proofs.CallerLemmas.{default_present, entry_by_id, same_rules_by_id}
 use Rattle.clap.proofs.SimpleLemmas.{HasPlainFields, is_false, is_nil, plain_fields}
 use Rattle.clap.proofs.WalkLemmas.{both, first_value-rows}
-use Rattle.em_options.specs.Options.{IsNumberText, em_bench, number_rule, option_rule, script_rule}
+use Rattle.em_options.specs.Options.{IsNumberText, em_bench, has_default, is_number, is_of_numbers, is_option}
+use Rattle.em_options.specs.Options.{rule_named, rules}
 
 -- ---- an option with a default, of any command that excludes nothing
 
@@ -154,10 +159,6 @@ rule_at [] k d = refl
 rule_at (x ∷ xs) zero d = refl
 rule_at (x ∷ xs) (suc k) d = rule_at xs k d
 
-some_of_map : {X Y : Type 0} (f : X → Y) (xs : List X) (y : Y) (ys : List Y) → map f xs ≡ y ∷ ys → 0 < length xs
-some_of_map f [] y ys e = cc
-some_of_map f (x ∷ xs) y ys e = omega arith
-
 is_none : {X : Type 0} (o : Option X) → not (is_some o) ≡ true → o ≡ None
 is_none None e = refl
 is_none (Some x) e = cc
@@ -187,28 +188,118 @@ undelimited a e =
     let s = both _ _ r.1 in
     (is_none _ s.0, is_nil _ q.0)
 
+abbrev is_set : Option ArgAction → Bool
+is_set (Some Set) = true
+is_set _ = false
+
+set_is : (o : Option ArgAction) → is_set o ≡ true → o ≡ Some Set
+set_is (Some Set) e = refl
+set_is _ e = cc
+
 -- an argument with the rule of an option
-option_arg : (a : Arg) (r : Rule) (name default : Text) → rule_of a ≡ r → r.action ≡ Some Set → r.range ≡ None
-    → r.defaults ≡ default ∷ [] → r.is_simple ≡ true
+option_arg : (a : Arg) (r : Rule) → rule_of a ≡ r → is_set r.action ≡ true → not (is_some r.range) ≡ true
+    → has_default r ≡ true → r.is_simple ≡ true
     → WantsDefault a × (a.action ≡ Some Set) × (a.val_delim ≡ None) × (1 ≤ least_values a)
-option_arg a r name default is action range defaults simple =
+option_arg a r is action range has simple =
     let free = undelimited a (ap (λ (x : Rule). x.is_simple) is ∙ simple) in
-    let one : a.num_vals ≡ None = ap (λ (x : Rule). x.range) is ∙ range in
-    let texts_are = ap (λ (x : Rule). x.defaults) is ∙ defaults in (
-      (free.1, some_of_map (λ (s : Bor Text). s.now) (items_of a.default_vals) default [] texts_are),
-      ap (λ (x : Rule). x.action) is ∙ action,
+    let one : a.num_vals ≡ None = is_none _ (rw (ap (λ (x : Rule). x.range) is) range) in
+    let some : 0 < length (items_of a.default_vals) =
+    omega (
+      arith,
+      ltb-true 0 (length r.defaults) has,
+      ap (λ (x : Rule). length x.defaults) is,
+      length-map (items_of a.default_vals) (λ (s : Bor Text). s.now),
+    ) in (
+      (free.1, some),
+      ap (λ (x : Rule). x.action) is ∙ set_is _ action,
       free.0,
       rw one (omega arith),
     )
 
--- ---- the three options
+-- ---- rules by their names
 
-abbrev rules_of : List Rule
-rules_of = number_rule (codes "memory") (codes "65536") ∷ number_rule (codes "budget") (codes "1048576")
-    ∷ option_rule (codes "mac") (codes "525400123456") ∷ script_rule ∷ []
+-- no two of these rules have one name
+abbrev are_apart : List Rule → Bool
+are_apart [] = true
+are_apart (r ∷ rs) = not (list_any (λ (s : Rule). bytes_eq s.id r.id) rs) && are_apart rs
+
+met : (r : Rule) (rs : List Rule) (k : ℕ) (d : Rule) → k < length rs → (slice_index_or rs k d).id ≡ r.id
+    → not (list_any (λ (s : Rule). bytes_eq s.id r.id) rs) ≡ true → ⊥
+met r rs k d lt same none =
+    let one = (bytes_eq-Decides (slice_index_or rs k d).id r.id).1 same in
+    let found = list_any_at (λ (s : Rule). bytes_eq s.id r.id) rs k d lt one in
+    let bad : false ≡ true = rw found at none in
+    cc
+
+apart : (rs : List Rule) → are_apart rs ≡ true → (j k : ℕ) (e d : Rule) → j < length rs → k < length rs
+    → (slice_index_or rs j e).id ≡ (slice_index_or rs k d).id → j ≡ k
+apart [] are j k e d below within same = absurd (omega arith)
+apart (r ∷ rs) are zero zero e d below within same = refl
+apart (r ∷ rs) are zero (suc k) e d below within same =
+    absurd (met r rs k d (omega arith) (sym same) (both _ _ are).0)
+apart (r ∷ rs) are (suc j) zero e d below within same = absurd (met r rs j e (omega arith) same (both _ _ are).0)
+apart (r ∷ rs) are (suc j) (suc k) e d below within same =
+    ap suc (apart rs (both _ _ are).1 j k e d (omega arith) (omega arith) same)
+
+passes_at : (p : Rule → Bool) (rs : List Rule) → list_all p rs ≡ true → (k : ℕ) (d : Rule) → k < length rs
+    → p (slice_index_or rs k d) ≡ true
+passes_at p [] all k d lt = absurd (omega arith)
+passes_at p (r ∷ rs) all zero d lt = (both _ _ all).0
+passes_at p (r ∷ rs) all (suc k) d lt = passes_at p rs (both _ _ all).1 k d (omega arith)
+
+-- a rule stands at this place, and has this name
+record IsAt (rs : List Rule) (k : ℕ) (name : Text) (r : Rule) : Type 0 where
+  within : k < length rs
+  rule : (d : Rule) → slice_index_or rs k d ≡ r
+  id : r.id ≡ name
+
+place_of : (rs : List Rule) (name : Text) (r : Rule) → find (λ (s : Rule). bytes_eq s.id name) rs ≡ Some r
+    → (k : ℕ) × IsAt rs k name r
+place_of [] name r found = cc
+place_of (x ∷ rs) name r found = go (bytes_eq x.id name) refl (place_of rs name r) found
+  where
+    go : (t : Bool) → bytes_eq x.id name ≡ t
+        → (find (λ (s : Rule). bytes_eq s.id name) rs ≡ Some r → (k : ℕ) × IsAt rs k name r)
+        → find (λ (s : Rule). bytes_eq s.id name) (x ∷ rs) ≡ Some r → (k : ℕ) × IsAt (x ∷ rs) k name r
+    go true t later here =
+        let some : Some x ≡ Some r = rw t at here in
+        let one : x ≡ r = cc in
+        let named : r.id ≡ name = subst (λ (s : Rule). s.id ≡ name) one ((bytes_eq-Decides x.id name).0 t) in
+        (0, record { within = omega arith; rule = λ d. one; id = named })
+    go false t later there =
+        let behind = later (rw t at there) in (
+          suc behind.0,
+          record {
+            within = omega (arith, behind.1.within);
+            rule = λ d. behind.1.rule d;
+            id = behind.1.id;
+          },
+        )
+
+-- ---- the options of the command
+
+-- of a rule with a default: its option takes one value, and the parser has no option of this name of its own
+abbrev is_own : Rule → Bool
+is_own r = (is_set r.action && not (is_some r.range)) && (r.is_simple && (nat_lt 0 (length r.id)
+    && (not (bytes_eq r.id (codes "help")) && not (bytes_eq r.id (codes "version")))))
+
+is_own_of : (r : Rule) → has_default r ≡ true → (not (has_default r) || is_own r) ≡ true → is_own r ≡ true
+is_own_of r has e = rw has at e
+
+is_other : (x y : Text) → not (bytes_eq x y) ≡ true → x ≡ y → ⊥
+is_other x y e same =
+    let one = (bytes_eq-Decides x y).1 same in
+    let bad : false ≡ true = rw one at e in
+    cc
+
+rules_are_apart : are_apart rules ≡ true
+rules_are_apart = refl
+
+options_are_own : list_all (λ (r : Rule). not (has_default r) || is_own r) rules ≡ true
+options_are_own = refl
 
 -- the command has these arguments, and nothing in it excludes anything
-arguments : (c : Command) → app_of c ≡ em_bench → map rule_of (args_of c) ≡ rules_of
+arguments : (c : Command) → app_of c ≡ em_bench → map rule_of (args_of c) ≡ rules
 unfolding em_bench
 arguments c same = ap (λ (a : App). a.top.rules) same
 
@@ -221,40 +312,49 @@ excludes_nothing c same =
     let are_plain = ap (list_all (λ (r : Rule). r.is_simple && r.is_free)) (arguments c same) in
     (plain_args (args_of c) are_plain, (plain_settings c same).groups)
 
--- an option of the command: its rule at its place, and that no other rule has its name
-record IsNamed (k : ℕ) (name default : Text) (parser : Option ValueParser) : Type 0 where
-  there : k < 4
-  rule : (s : Rule) → slice_index_or rules_of k s ≡ record (option_rule name default) { parser = parser }
-  alone : (j : ℕ) (s : Rule) → j < 4 → bytes_eq (slice_index_or rules_of j s).id name ≡ true → j ≡ k
-  some : name ≡ [] → ⊥
-  own : (name ≡ codes "help") ⊎ (name ≡ codes "version") → ⊥
-
 rule_by : (c : Command) (j : ℕ) (e : Arg) → app_of c ≡ em_bench
-    → rule_of (slice_index_or (args_of c) j e) ≡ slice_index_or rules_of j (rule_of e)
+    → rule_of (slice_index_or (args_of c) j e) ≡ slice_index_or rules j (rule_of e)
 rule_by c j e same =
     rule_at (args_of c) j e ∙ ap (λ (l : List Rule). slice_index_or l j (rule_of e)) (arguments c same)
 
-the_option : (c : Command) (k : ℕ) (d : Arg) (name default : Text) (parser : Option ValueParser)
-    → app_of c ≡ em_bench → IsNamed k name default parser
+the_option : (c : Command) (k : ℕ) (d : Arg) (name : Text) (r : Rule) → app_of c ≡ em_bench → IsAt rules k name r
+    → has_default r ≡ true
     → ((slice_index_or (args_of c) k d).id.now ≡ name)
-    × ((slice_index_or (args_of c) k d).value_parser ≡ parser) × IsOption c k d
-the_option c k d name default parser same n =
+    × ((slice_index_or (args_of c) k d).value_parser ≡ r.parser) × IsOption c k d
+the_option c k d name r same n has =
     let a = slice_index_or (args_of c) k d in
-    let many : length (args_of c) ≡ 4 = sym (length-map (args_of c) rule_of) ∙ ap length (arguments c same) in
-    let rule : rule_of a ≡ record (option_rule name default) { parser = parser } =
-    rule_by c k d same ∙ n.rule (rule_of d) in
-    let id : a.id.now ≡ name = ap (λ (r : Rule). r.id) rule in
-    let facts = option_arg a _ name default rule refl refl refl refl in (
+    let many : length (args_of c) ≡ length rules =
+    sym (length-map (args_of c) rule_of) ∙ ap length (arguments c same) in
+    let rule : rule_of a ≡ r = rule_by c k d same ∙ n.rule (rule_of d) in
+    let id : a.id.now ≡ name = ap (λ (x : Rule). x.id) rule ∙ n.id in
+    let fits : is_own r ≡ true =
+    is_own_of r has (subst (λ (x : Rule). (not (has_default x) || is_own x) ≡ true) (n.rule r)
+    (passes_at (λ (x : Rule). not (has_default x) || is_own x) rules options_are_own k r n.within)) in
+    let p = both _ _ fits in
+    let used = both _ _ p.0 in
+    let simple = both _ _ p.1 in
+    let named = both _ _ simple.1 in
+    let own = both _ _ named.1 in
+    let facts = option_arg a r rule used.0 used.1 has simple.0 in (
       id,
-      ap (λ (r : Rule). r.parser) rule,
+      ap (λ (x : Rule). x.parser) rule,
       record {
         plain = excludes_nothing c same;
         globals = (plain_settings c same).globals;
-        there = rw many n.there;
+        there = rw many n.within;
         alone = λ j e lt one.
-            n.alone j (rule_of e) (rw many at lt) (rw (ap (λ (r : Rule). r.id) (rule_by c j e same), id) at one);
-        named = λ empty. n.some (sym id ∙ empty);
-        own = λ auto. n.own (elim auto [ inl h ↦ inl (sym id ∙ h) | inr h ↦ inr (sym id ∙ h) ]);
+            apart rules rules_are_apart j k (rule_of e) (rule_of d) (rw many at lt) n.within
+            (sym (ap (λ (x : Rule). x.id) (rule_by c j e same))
+            ∙ (bytes_eq-Decides (slice_index_or (args_of c) j e).id.now a.id.now).0 one
+            ∙ ap (λ (x : Rule). x.id) (rule_by c k d same));
+        named = λ empty.
+            let none : length r.id ≡ 0 = ap length (n.id ∙ sym id ∙ empty) in
+            let some : 0 < length r.id = ltb-true 0 (length r.id) named.0 in
+            absurd (omega arith);
+        own = λ auto. elim auto [
+          | inl h ↦ is_other r.id (codes "help") own.0 (n.id ∙ sym id ∙ h)
+          | inr h ↦ is_other r.id (codes "version") own.1 (n.id ∙ sym id ∙ h)
+        ];
         wants = facts.0;
         action = facts.1;
         delimiter = facts.2;
@@ -262,108 +362,64 @@ the_option c k d name default parser same n =
       },
     )
 
--- texts that begin otherwise
-other : (x y : ℕ) (xs ys : Text) → (x ≡ y → ⊥) → x ∷ xs ≡ y ∷ ys → ⊥
-other x y xs ys apart e = apart (ap (λ (t : Text). slice_index_or t 0 0) e)
-
--- a letter that neither `help` nor `version` begins with
-not_own : (x : ℕ) (xs : Text) → (x ≡ 104 → ⊥) → (x ≡ 118 → ⊥) → (x ∷ xs ≡ codes "help") ⊎ (x ∷ xs ≡ codes "version") → ⊥
-not_own x xs h v e = elim e [ inl same ↦ other _ _ _ _ h same | inr same ↦ other _ _ _ _ v same ]
-
-abbrev numbers : Option ValueParser
-numbers = Some (Unsigned 0 18446744073709551615)
-
-memory_is : IsNamed 0 (codes "memory") (codes "65536") numbers
-memory_is = record {
-  there = omega arith;
-  rule = λ s. refl;
-  alone = alone;
-  some = λ e. (let bad : 6 ≡ 0 = ap length e in absurd (omega arith));
-  own = not_own 109 _ (λ x. absurd (omega arith)) (λ x. absurd (omega arith));
-}
-  where
-    alone : (j : ℕ) (s : Rule) → j < 4 → bytes_eq (slice_index_or rules_of j s).id (codes "memory") ≡ true → j ≡ 0
-    alone zero s lt e = refl
-    alone (suc zero) s lt e = cc
-    alone (suc (suc zero)) s lt e = cc
-    alone (suc (suc (suc zero))) s lt e = cc
-    alone (suc (suc (suc (suc j)))) s lt e = absurd (omega arith)
-
-budget_is : IsNamed 1 (codes "budget") (codes "1048576") numbers
-budget_is = record {
-  there = omega arith;
-  rule = λ s. refl;
-  alone = alone;
-  some = λ e. (let bad : 6 ≡ 0 = ap length e in absurd (omega arith));
-  own = not_own 98 _ (λ x. absurd (omega arith)) (λ x. absurd (omega arith));
-}
-  where
-    alone : (j : ℕ) (s : Rule) → j < 4 → bytes_eq (slice_index_or rules_of j s).id (codes "budget") ≡ true → j ≡ 1
-    alone zero s lt e = cc
-    alone (suc zero) s lt e = refl
-    alone (suc (suc zero)) s lt e = cc
-    alone (suc (suc (suc zero))) s lt e = cc
-    alone (suc (suc (suc (suc j)))) s lt e = absurd (omega arith)
-
-address_is : IsNamed 2 (codes "mac") (codes "525400123456") None
-address_is = record {
-  there = omega arith;
-  rule = λ s. refl;
-  alone = alone;
-  some = λ e. (let bad : 3 ≡ 0 = ap length e in absurd (omega arith));
-  own = not_own 109 _ (λ x. absurd (omega arith)) (λ x. absurd (omega arith));
-}
-  where
-    alone : (j : ℕ) (s : Rule) → j < 4 → bytes_eq (slice_index_or rules_of j s).id (codes "mac") ≡ true → j ≡ 2
-    alone zero s lt e = cc
-    alone (suc zero) s lt e = cc
-    alone (suc (suc zero)) s lt e = refl
-    alone (suc (suc (suc zero))) s lt e = cc
-    alone (suc (suc (suc (suc j)))) s lt e = absurd (omega arith)
-
 -- an argument of the command
-some_arg : (xs : List Arg) → map rule_of xs ≡ rules_of → Arg
-some_arg [] e = cc
-some_arg (x ∷ xs) e = x
+some_arg : (xs : List Arg) → 0 < length xs → Arg
+some_arg [] some = absurd (omega arith)
+some_arg (x ∷ xs) some = x
 
 -- after a parse the option has a text, which passed its parser
-given : (c : Command) (m : ArgMatches) (k : ℕ) (name default : Text) (parser : Option ValueParser)
-    → app_of c ≡ em_bench → IsParsedFrom c m → IsNamed k name default parser
-    → (d : Arg) × ((slice_index_or (args_of c) k d).value_parser ≡ parser)
-    × IsSomeAnd (first_of name (rows_of (found_of m))) (Passed (slice_index_or (args_of c) k d))
-given c m k name default parser same p n =
-    let d = some_arg (args_of c) (arguments c same) in
-    let o = the_option c k d name default parser same n in
-    let value = option_value c m p k d o.2 in
-    let found : Text → Type 0 = λ t.
-    IsSomeAnd (first_of t (rows_of (found_of m))) (Passed (slice_index_or (args_of c) k d)) in
-    (d, o.1, subst found o.0 value)
+given : (c : Command) (m : ArgMatches) (name : Text) (r : Rule) → app_of c ≡ em_bench → IsParsedFrom c m
+    → rule_named name ≡ Some r → has_default r ≡ true
+    → (a : Arg) × (a.value_parser ≡ r.parser) × IsSomeAnd (first_of name (rows_of (found_of m))) (Passed a)
+given c m name r same p found has =
+    let at = place_of rules name r found in
+    let many : length (args_of c) ≡ length rules =
+    sym (length-map (args_of c) rule_of) ∙ ap length (arguments c same) in
+    let d = some_arg (args_of c) (omega (arith, many, at.1.within)) in
+    let o = the_option c at.0 d name r same at.1 has in
+    let value = option_value c m p at.0 d o.2 in
+    let text : Text → Type 0 = λ t.
+    IsSomeAnd (first_of t (rows_of (found_of m))) (Passed (slice_index_or (args_of c) at.0 d)) in
+    (slice_index_or (args_of c) at.0 d, o.1, subst text o.0 value)
+
+of_numbers : (o : Option ValueParser) → is_of_numbers o ≡ true → o ≡ Some (Unsigned 0 18446744073709551615)
+of_numbers (Some (Unsigned least most)) e =
+    let p = both _ _ e in
+    let low : least ≡ 0 = eqb-true _ _ p.0 in
+    let high : most ≡ 18446744073709551615 = eqb-true _ _ p.1 in
+    rw (low, high) refl
+of_numbers _ e = cc
 
 -- and it is a number where that parser is one of numbers
-number_of : (a : Arg) (o : Option Text) → a.value_parser ≡ numbers → IsSomeAnd o (Passed a) → IsSomeAnd o IsNumberText
-number_of a None parser h = h
-number_of a (Some t) parser h =
-    let accepted = h (Unsigned 0 18446744073709551615) parser in
+number_text : (a : Arg) (o : Option Text) → is_of_numbers a.value_parser ≡ true → IsSomeAnd o (Passed a)
+    → IsSomeAnd o IsNumberText
+number_text a None parser h = h
+number_text a (Some t) parser h =
+    let accepted = h (Unsigned 0 18446744073709551615) (of_numbers a.value_parser parser) in
     (accepted.0, accepted.1)
 
 some_of : (a : Arg) (o : Option Text) → IsSomeAnd o (Passed a) → IsSome o
 some_of a None h = absurd h
 some_of a (Some t) h = refl
 
-pub memory_given : (c : Command) (m : ArgMatches) → app_of c ≡ em_bench → IsParsedFrom c m
-    → IsSomeAnd (first_of (codes "memory") (rows_of (found_of m))) IsNumberText
-memory_given c m same p =
-    let g = given c m 0 (codes "memory") (codes "65536") numbers same p memory_is in
-    number_of (slice_index_or (args_of c) 0 g.0) _ g.1 g.2
+pub option_given : (c : Command) (m : ArgMatches) (name : Text) → app_of c ≡ em_bench → IsParsedFrom c m
+    → is_option name ≡ true → IsSome (first_of name (rows_of (found_of m)))
+option_given c m name same p is = go (rule_named name) refl is
+  where
+    go : (o : Option Rule) → rule_named name ≡ o → option_map_or has_default o false ≡ true
+        → IsSome (first_of name (rows_of (found_of m)))
+    go None found has = cc
+    go (Some r) found has = let g = given c m name r same p found has in some_of g.0 _ g.2
 
-pub budget_given : (c : Command) (m : ArgMatches) → app_of c ≡ em_bench → IsParsedFrom c m
-    → IsSomeAnd (first_of (codes "budget") (rows_of (found_of m))) IsNumberText
-budget_given c m same p =
-    let g = given c m 1 (codes "budget") (codes "1048576") numbers same p budget_is in
-    number_of (slice_index_or (args_of c) 1 g.0) _ g.1 g.2
-
-pub address_given : (c : Command) (m : ArgMatches) → app_of c ≡ em_bench → IsParsedFrom c m
-    → IsSome (first_of (codes "mac") (rows_of (found_of m)))
-address_given c m same p =
-    let g = given c m 2 (codes "mac") (codes "525400123456") None same p address_is in
-    some_of (slice_index_or (args_of c) 2 g.0) _ g.2
+pub number_given : (c : Command) (m : ArgMatches) (name : Text) → app_of c ≡ em_bench → IsParsedFrom c m
+    → is_number name ≡ true → IsSomeAnd (first_of name (rows_of (found_of m))) IsNumberText
+number_given c m name same p is = go (rule_named name) refl is
+  where
+    go : (o : Option Rule) → rule_named name ≡ o
+        → option_map_or (λ (rule : Rule). has_default rule && is_of_numbers rule.parser) o false ≡ true
+        → IsSomeAnd (first_of name (rows_of (found_of m))) IsNumberText
+    go None found has = cc
+    go (Some r) found has =
+        let parts = both _ _ has in
+        let g = given c m name r same p found parts.0 in
+        number_text g.0 _ (rw g.1 parts.1) g.2

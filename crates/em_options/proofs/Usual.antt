@@ -1,49 +1,52 @@
 -- A command line without words says the defaults.
-use Rattle.std.proofs.Common.{◌≡◌, ◌∙◌, ◌≤◌, ℕ, List, [], ◌∷◌, Option, Some, Ok, length, refl, sym, subst, arith, codes}
+use Rattle.std.proofs.Common.{◌≡◌, ◌∙◌, ◌≤◌, ◌++◌, ℕ, List, [], ◌∷◌, Option, Some, None, Ok, length, refl, sym, ap}
+use Rattle.std.proofs.Common.{subst, arith}
+use Rattle.std.specs.Prelude.{decimal}
+use Rattle.std.specs.Str.Parse.{digits_value, without_leading_plus}
 use Rattle.hex.specs.Hex.{decode_of}
-use Rattle.hex.proofs.OnLiterals.{hex_on_literals}
-use Rattle.clap.specs.Words.{Text}
+use Rattle.clap.specs.Walk.{Row, Rule, Text, first_of, reading_by}
+use Rattle.clap.specs.Words.{matches_of}
+use Rattle.clap.specs.declared.parser.matches.ValueSource.TheVariants.{DefaultValue}
 use Rattle.clap.proofs.OnLiterals.{clap_on_literals}
-use Rattle.em_options.specs.Options.{SaysNumber, SaysOctets, em_bench, said}
+use Rattle.em_options.specs.Options.{SaysNumber, SaysOctets, em_bench, rules, said}
 
-said_memory : (words : List Text) → length words ≤ 1 → said (codes "memory") words ≡ Some (codes "65536")
-unfolding said em_bench clap_on_literals
-said_memory [] few = refl
-said_memory (name ∷ []) few = refl
-said_memory (name ∷ word ∷ words) few = absurd (omega arith)
+-- what is found for a rule that no word speaks of
+abbrev row_of_default : Rule → List Text → List Row
+row_of_default rule [] = []
+row_of_default rule (text ∷ texts) = record {
+  id = rule.id;
+  values = text ∷ texts;
+  count = None;
+  source = Some DefaultValue;
+  reading = reading_by rule;
+} ∷ []
 
-said_budget : (words : List Text) → length words ≤ 1 → said (codes "budget") words ≡ Some (codes "1048576")
-unfolding said em_bench clap_on_literals
-said_budget [] few = refl
-said_budget (name ∷ []) few = refl
-said_budget (name ∷ word ∷ words) few = absurd (omega arith)
+abbrev pub rows_of_defaults : List Rule → List Row
+rows_of_defaults [] = []
+rows_of_defaults (rule ∷ more) = row_of_default rule rule.defaults ++ rows_of_defaults more
 
-said_mac : (words : List Text) → length words ≤ 1 → said (codes "mac") words ≡ Some (codes "525400123456")
-unfolding said em_bench clap_on_literals
-said_mac [] few = refl
-said_mac (name ∷ []) few = refl
-said_mac (name ∷ word ∷ words) few = absurd (omega arith)
+usual_rows : (words : List Text) → length words ≤ 1 → matches_of em_bench words ≡ rows_of_defaults rules
+unfolding em_bench clap_on_literals
+usual_rows [] few = refl
+usual_rows (name ∷ []) few = refl
+usual_rows (name ∷ word ∷ words) few = absurd (omega arith)
 
-pub usual_memory : (words : List Text) (n : ℕ) → length words ≤ 1
-    → SaysNumber (said (codes "memory") words) n → n ≡ 65536
-usual_memory words n few says =
-    let known = subst (λ (o : Option Text). SaysNumber o n) (said_memory words few) says in
-    sym known.1
+pub usual_number : (name : Text) (words : List Text) (n default : ℕ) → length words ≤ 1
+    → first_of name (rows_of_defaults rules) ≡ Some (decimal default)
+    → digits_value 10 (without_leading_plus (decimal default)) ≡ default
+    → SaysNumber (said name words) n → n ≡ default
+unfolding said
+usual_number name words n default few is value says =
+    let known = ap (first_of name) (usual_rows words few) ∙ is in
+    let spelled = subst (λ (o : Option Text). SaysNumber o n) known says in
+    sym spelled.1 ∙ value
 
-pub usual_budget : (words : List Text) (n : ℕ) → length words ≤ 1
-    → SaysNumber (said (codes "budget") words) n → n ≡ 1048576
-usual_budget words n few says =
-    let known = subst (λ (o : Option Text). SaysNumber o n) (said_budget words few) says in
-    sym known.1
-
-usual_octets : decode_of (codes "525400123456") ≡ Ok (0x52 ∷ 0x54 ∷ 0x00 ∷ 0x12 ∷ 0x34 ∷ 0x56 ∷ [])
-unfolding hex_on_literals
-usual_octets = refl
-
-pub usual_mac : (words : List Text) (octets : List ℕ) → length words ≤ 1
-    → SaysOctets (said (codes "mac") words) octets
-    → octets ≡ 0x52 ∷ 0x54 ∷ 0x00 ∷ 0x12 ∷ 0x34 ∷ 0x56 ∷ []
-usual_mac words octets few says =
-    let known = subst (λ (o : Option Text). SaysOctets o octets) (said_mac words few) says in
-    let same = sym known ∙ usual_octets in
+pub usual_octets : (name : Text) (words : List Text) (octets : List ℕ) (text : Text) (default : List ℕ)
+    → length words ≤ 1 → first_of name (rows_of_defaults rules) ≡ Some text → decode_of text ≡ Ok default
+    → SaysOctets (said name words) octets → octets ≡ default
+unfolding said
+usual_octets name words octets text default few is value says =
+    let known = ap (first_of name) (usual_rows words few) ∙ is in
+    let spelled = subst (λ (o : Option Text). SaysOctets o octets) known says in
+    let same = sym spelled ∙ value in
     cc

@@ -1,10 +1,12 @@
 -- How the program ends: its status and its line on standard error, for each ending.
-use Rattle.std.specs.Prelude.{ℕ, List, [], ◌==◌, if◌then◌else◌, codes, Result, Ok, Err}
+use Rattle.std.specs.Prelude.{ℕ, List, [], ◌==◌, ◌++◌, if◌then◌else◌, codes, Result, Ok, Err}
 use Rattle.clap.specs.Words.{kind_of}
 use Rattle.clap.specs.declared.error.kind.ErrorKind.{ErrorKind}
 use Rattle.clap.specs.declared.error.kind.ErrorKind.TheVariants as kind
+use Rattle.em_journal.specs.Settings.{name_of as refusal_name}
 use Rattle.em_journal.specs.declared.settings.SettingsRefusal.{SettingsRefusal}
 use Rattle.em_journal.specs.declared.settings.SettingsRefusal.TheVariants as settings
+use Rattle.em_script.specs.Runner.{name_of as fault_name}
 use Rattle.em_script.specs.declared.runner.BenchFault.{BenchFault}
 use Rattle.em_script.specs.declared.runner.BenchFault.TheVariants as fault
 use Rattle.em_script.specs.declared.summary.Summary.{Summary}
@@ -23,22 +25,19 @@ status_of Size = 2
 status_of Budget = 2
 status_of (Fault why) = 3
 
--- the name of the fault after that of the program
-abbrev pub fault_line_of : BenchFault → List ℕ
-fault_line_of fault.Read = codes "em_bench: Read"
-fault_line_of fault.Write = codes "em_bench: Write"
-fault_line_of fault.TooLarge = codes "em_bench: TooLarge"
-fault_line_of fault.Memory = codes "em_bench: Memory"
+-- a name after that of the program
+abbrev pub line_of : List ℕ → List ℕ
+line_of name = codes "em_bench: " ++ name
 
 -- what the program says of its own on standard error; nothing where the parser has said it
 abbrev pub error_line_of : Ending → List ℕ
 error_line_of (Ran summary) = []
 error_line_of Help = []
 error_line_of Parser = []
-error_line_of Mac = codes "em_bench: Mac"
-error_line_of Size = codes "em_bench: Size"
-error_line_of Budget = codes "em_bench: Budget"
-error_line_of (Fault why) = fault_line_of why
+error_line_of Mac = line_of (codes "Mac")
+error_line_of Size = line_of (refusal_name settings.Size)
+error_line_of Budget = line_of (refusal_name settings.Budget)
+error_line_of (Fault why) = line_of (fault_name why)
 
 -- help and the version end well, and want of memory is no fault of the words
 abbrev pub ending_of_kind : ErrorKind → Ending

@@ -1,13 +1,14 @@
 //! The command, and what its parser makes of the words of a command line.
-ghost use Rattle.std.specs.Prelude.{◌≡◌, ◌↔◌, [], Ok, Some, IfOk, IfErr, OnOk, IfSome, IsSome, IsSomeAnd};
-ghost use Rattle.std.specs.Prelude.{map, string_bytes, codes, option_map, false, length, ◌≤◌};
+ghost use Rattle.std.specs.Prelude.{◌≡◌, ◌↔◌, [], Ok, Some, IfOk, IfErr, OnOk, IfSome, IsNone, IsSome, IsSomeAnd};
+ghost use Rattle.std.specs.Prelude.{List, map, string_bytes, codes, option_map, true, false, length, ◌≤◌};
 ghost use Rattle.hex.specs.Hex.{decode_of};
-ghost use Rattle.clap.specs.Words.{app_of, rule_of, found_of, rows_of, first_of, matches_of, fault_of, FailsBy};
+ghost use Rattle.clap.specs.Words.{Text, app_of, rule_of, with_rule, found_of, rows_of, first_of, fault_of, FailsBy};
 ghost use Rattle.em_journal.specs.Settings.{IsDefault};
-ghost use Rattle.em_options.specs.Options.{em_bench, number_rule, option_rule, script_rule, said, settings_of};
-ghost use Rattle.em_options.specs.Options.{IsMac, IsNumberText, IsRefusedFor, SaysNumber, SaysOctets};
+ghost use Rattle.em_options.specs.Options.{named, em_bench, number_rule, option_rule, script_rule, said, settings_of};
+ghost use Rattle.em_options.specs.Options.{is_number, is_option, HasMatches, IsMac, IsNoMac, IsNumberText};
+ghost use Rattle.em_options.specs.Options.{IsRefusedFor, SaysNumber, SaysOctets};
 
-use crate::help::{ABOUT, BUDGET, LANGUAGE, MAC, MEMORY, SCRIPT, VERSION};
+use crate::help;
 use crate::settings::{Options, OptionsRefused};
 use clap::{Arg, ArgAction, ArgMatches, Command, Error, value_parser};
 use hex::FromHex;
@@ -37,14 +38,12 @@ pub fn options<'a>(alloc: Global, words: &'a [String]) -> Result<Options<'a>, Op
         Ok(matches) => matches,
         Err(error) => return Err(OptionsRefused::Parser(error)),
     };
-    let memory = number_of(value_of(&matches, "memory"));
-    let budget = number_of(value_of(&matches, "budget"));
-    let Some(mac) = mac_of(value_of(&matches, "mac")) else {
+    let Some(mac) = mac_of(&matches, "mac") else {
         return Err(OptionsRefused::Mac);
     };
     Ok(Options {
-        memory,
-        budget,
+        memory: number_of(&matches, "memory"),
+        budget: number_of(&matches, "budget"),
         mac,
         script: matches.get_str("script"),
     })
@@ -52,32 +51,48 @@ pub fn options<'a>(alloc: Global, words: &'a [String]) -> Result<Options<'a>, Op
 
 /// The parser's matches. Each option has a value, and what has to be a number is one.
 fn parse<'a>(alloc: Global, words: &'a [String]) -> Result<ArgMatches<'a>, Error>
-    ensures rows { IfOk result (λ m.
-        rows_of (found_of m) ≡ matches_of em_bench (map string_bytes words.entry.now)) }
-    ensures memory { IfOk result (λ m.
-        IsSomeAnd (first_of (codes "memory") (rows_of (found_of m))) IsNumberText) }
-    ensures budget { IfOk result (λ m.
-        IsSomeAnd (first_of (codes "budget") (rows_of (found_of m))) IsNumberText) }
-    ensures mac { IfOk result (λ m. IsSome (first_of (codes "mac") (rows_of (found_of m)))) }
+    ensures matches { IfOk result (HasMatches (map string_bytes words.entry.now)) }
+    ensures options { IfOk result (λ m. (name : Text) → is_option name ≡ true
+        → IsSome (first_of name (rows_of (found_of m)))) }
+    ensures numbers { IfOk result (λ m. (name : Text) → is_number name ≡ true
+        → IsSomeAnd (first_of name (rows_of (found_of m))) IsNumberText) }
     ensures kinds { FailsBy (fault_of em_bench (map string_bytes words.entry.now)) result }
 {
     let command = command(alloc)?;
     command.try_get_matches_from(words)
 }
 
-/// The command with its options.
+/// The command with its options, in the order of the help.
 fn command<'a>(alloc: Global) -> Result<Command<'a>, AllocError>
     ensures { IfOk result (λ command. app_of command ≡ em_bench) }
 {
-    let plain = Command::new(alloc, "em_bench")
-        .version(VERSION)
-        .about(ABOUT)
-        .after_help(LANGUAGE);
-    let one = plain.arg(number(alloc, "memory", "65536", MEMORY))?;
-    let two = one.arg(number(alloc, "budget", "1048576", BUDGET))?;
-    let three = two.arg(option(alloc, "mac", "525400123456", "HEX12", MAC))?;
-    let four = three.arg(script(alloc))?;
-    Ok(four)
+    let command = bare(alloc);
+    let memory = "Octets of guest memory: a multiple of 4096 up to 16777216";
+    let command = with_arg(command, number(alloc, "memory", "65536", memory))?;
+    let budget = "Octets that the journal's records may cost together: from 65536 to 16777216";
+    let command = with_arg(command, number(alloc, "budget", "1048576", budget))?;
+    let mac = "The adapter's Ethernet address, octet 0 first";
+    let command = with_arg(command, option(alloc, "mac", "525400123456", "HEX12", mac))?;
+    let command = with_arg(command, script(alloc))?;
+    Ok(command)
+}
+
+/// The command without its options.
+fn bare<'a>(alloc: Global) -> Command<'a>
+    ensures { app_of result ≡ named }
+{
+    Command::new(alloc, "em_bench")
+        .version(help::VERSION)
+        .about(help::ABOUT)
+        .after_help(help::LANGUAGE)
+}
+
+/// The command with one more argument.
+fn with_arg<'a>(command: Command<'a>, arg: Arg<'a>) -> Result<Command<'a>, AllocError>
+    requires { arg.global ≡ false }
+    ensures { IfOk result (λ more. app_of more ≡ with_rule (app_of command.entry) (rule_of arg.entry)) }
+{
+    command.arg(arg)
 }
 
 /// `--name VALUE`, with a default.
@@ -99,7 +114,7 @@ fn option<'a>(
         .help(help)
 }
 
-/// The same, of a number that 64 bits hold.
+/// `--name N`, with a default: a number that 64 bits hold.
 fn number<'a>(alloc: Global, name: &'a str, default: &'a str, help: &'a str) -> Arg<'a>
     ensures rule { rule_of result ≡ number_rule name.entry.now default.entry.now }
     ensures own { result.global ≡ false }
@@ -112,7 +127,9 @@ fn script<'a>(alloc: Global) -> Arg<'a>
     ensures rule { rule_of result ≡ script_rule }
     ensures own { result.global ≡ false }
 {
-    Arg::new(alloc, "script").value_name("SCRIPT").help(SCRIPT)
+    Arg::new(alloc, "script").value_name("SCRIPT").help(
+        "The script's file; without one the script is read from standard input",
+    )
 }
 
 /// The text of an option that has one.
@@ -126,19 +143,30 @@ fn value_of<'a>(matches: &ArgMatches<'a>, name: &str) -> &'a str
     }
 }
 
-/// The number that a text spells.
-fn number_of(text: &str) -> u64
-    requires { IsNumberText text.now }
-    ensures { SaysNumber (Some text.now) result }
+/// The number that the words give an option.
+fn number_of(matches: &ArgMatches<'_>, name: &str) -> u64
+    requires { IsSomeAnd (first_of name.now (rows_of (found_of matches.now))) IsNumberText }
+    ensures { (words : List Text) → HasMatches words matches.now → SaysNumber (said name.now words) result }
 {
-    match text.parse() {
+    match value_of(matches, name).parse() {
         Ok(number) => number,
         Err(_) => unreachable!(),
     }
 }
 
+/// The address that the words give an option, if they are 12 hexadecimal digits.
+fn mac_of(matches: &ArgMatches<'_>, name: &str) -> Option<[u8; 6]>
+    requires { IsSome (first_of name.now (rows_of (found_of matches.now))) }
+    ensures value { IfSome result (λ mac. (words : List Text) → HasMatches words matches.now
+        → SaysOctets (said name.now words) mac) }
+    ensures none { IsNone result → (words : List Text) → HasMatches words matches.now
+        → IfSome (said name.now words) IsNoMac }
+{
+    address_of(value_of(matches, name))
+}
+
 /// The address that 12 hexadecimal digits spell.
-fn mac_of(text: &str) -> Option<[u8; 6]>
+fn address_of(text: &str) -> Option<[u8; 6]>
     ensures value { IfSome result (λ mac. decode_of text.now ≡ Ok mac) }
     ensures found { IsSome result ↔ IsMac text.now }
 {

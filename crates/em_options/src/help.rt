@@ -1,4 +1,4 @@
-//! What `--help` and `--version` say.
+//! What `--help` and `--version` say beside the options.
 
 /// The version that `--version` prints.
 pub const VERSION: &str = "0.1.0";
@@ -6,19 +6,6 @@ pub const VERSION: &str = "0.1.0";
 /// What the program is.
 pub const ABOUT: &str =
     "Runs a script on a software model of Intel's 82540EM network adapter that can be stepped backwards.";
-
-/// What `--memory` is.
-pub const MEMORY: &str = "Octets of guest memory: a multiple of 4096 up to 16777216";
-
-/// What `--budget` is.
-pub const BUDGET: &str =
-    "Octets that the journal's records may cost together: from 65536 to 16777216";
-
-/// What `--mac` is.
-pub const MAC: &str = "The adapter's Ethernet address, octet 0 first";
-
-/// What SCRIPT is.
-pub const SCRIPT: &str = "The script's file; without one the script is read from standard input";
 
 /// The lines of the language in brief, an example, and the statuses.
 pub const LANGUAGE: &str = "\

@@ -20,10 +20,10 @@ use Rattle.em_journal.proofs.HistoryLaws.{run_join, item_is}
 use Rattle.em_script.specs.Session.{Session}
 use Rattle.em_script.specs.Command.{Command, event, peek, back, back_by}
 use Rattle.em_script.specs.ParsedLine.{ParsedLine, says, asks, plans}
-use Rattle.em_script.specs.Lack.{Lack, before, within, named_of}
+use Rattle.em_script.specs.RefusedAt.{RefusedAt, before, within, named_of}
 use Rattle.em_script.specs.Request.{Request}
 use Rattle.em_script.specs.Calling.{has_driver, course_of, world_at, done_by, after_call, after_asked, made_calls}
-use Rattle.em_script.specs.Calling.{asked_calls, MayLack}
+use Rattle.em_script.specs.Calling.{asked_calls, MayBeRefusedAt}
 use Rattle.em_driver.specs.declared.turn.Turn.{Turn}
 use Rattle.em_driver.proofs.CallLaws.{play_runs}
 use Rattle.em_script.specs.Reply.{step_call, back_call, call_reply, done_reply, refusal_reply, calls_of, reply}
@@ -73,7 +73,7 @@ look_leaves : (b : Bool) (machine : View) (text other : List ℕ)
 look_leaves true machine text other = refl
 look_leaves false machine text other = refl
 
-command_runs : (memory : Option Lack) (command : Command) (machine : View) → IsAllowedTo memory command machine
+command_runs : (memory : Option RefusedAt) (command : Command) (machine : View) → IsAllowedTo memory command machine
     → Run machine (calls_of memory command machine) (reply memory command machine).machine
 command_runs None (event e) machine allowed =
     run_one machine _ (step_call e (step machine.present e)) (step_does e machine (step machine.present e) refl)
@@ -88,7 +88,7 @@ command_runs memory (peek addr n) machine allowed =
 command_runs memory _ machine allowed = refl
 
 -- what is asked of a driver
-call_runs : (memory : Option Lack) (request : Request) (session : Session) → MayLack memory request session
+call_runs : (memory : Option RefusedAt) (request : Request) (session : Session) → MayBeRefusedAt memory request session
     → Run session.machine (made_calls memory request session)
     (after_call (done_by (named_of memory) request session)).machine
 call_runs None request session allowed =
@@ -96,19 +96,19 @@ call_runs None request session allowed =
 call_runs (Some before) request session allowed = absurd allowed
 call_runs (Some (within did calls)) request session allowed = allowed.2
 
-request_runs : (memory : Option Lack) (request : Request) (session : Session) (stands : Bool)
-    → has_driver request session ≡ stands → MayLack memory request session
+request_runs : (memory : Option RefusedAt) (request : Request) (session : Session) (stands : Bool)
+    → has_driver request session ≡ stands → MayBeRefusedAt memory request session
     → Run session.machine (asked_calls memory request session) (after_asked (named_of memory) request session).machine
 request_runs memory request session true is allowed = rw is (call_runs memory request session allowed)
 request_runs memory request session false is allowed = rw is refl
 
 -- a plan is set, or not
-plan_runs : (memory : Option Lack) (plan : List (List Turn)) (session : Session)
+plan_runs : (memory : Option RefusedAt) (plan : List (List Turn)) (session : Session)
     → Run session.machine [] (after_plan memory plan session).machine
 plan_runs None plan session = refl
-plan_runs (Some lack) plan session = refl
+plan_runs (Some refused) plan session = refl
 
-line_runs : (memory : Option Lack) (parsed : ParsedLine) (session : Session) → IsAllowed memory parsed session
+line_runs : (memory : Option RefusedAt) (parsed : ParsedLine) (session : Session) → IsAllowed memory parsed session
     → Run session.machine (line_calls memory parsed session) (after_line memory parsed session).machine
 line_runs memory (says command) session allowed = command_runs memory command session.machine allowed
 line_runs memory (asks request) session allowed =

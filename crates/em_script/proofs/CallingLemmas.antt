@@ -24,49 +24,49 @@ use Rattle.em_driver.proofs.TellsLaws.{set_mac_addr_tells, read_stats_tells}
 use Rattle.em_driver.specs.declared.outcome.Cause.TheVariants as cause
 use Rattle.em_script.specs.Session.{Session}
 use Rattle.em_script.specs.Request.{Request, starts, sends, receives, stats, address, sets_address}
-use Rattle.em_script.specs.Response as response
-use Rattle.em_script.specs.Response.{Response, says_memory, call_text}
+use Rattle.em_script.specs.DriverAnswer as answers
+use Rattle.em_script.specs.DriverAnswer.{DriverAnswer, says_memory, call_text}
 use Rattle.em_script.specs.Runner.{SaysMemory}
 use Rattle.em_script.specs.Calling.{init_layout, no_stats, course_of, world_at, CanBeDone}
-use Rattle.em_script.proofs.ResponseLemmas.{call_says}
+use Rattle.em_script.proofs.DriverAnswerLemmas.{call_says}
 
-tells_done : (answer : Response) → Tells says_memory (done answer)
+tells_done : (answer : DriverAnswer) → Tells says_memory (done answer)
 unfolding Tells
 tells_done answer = tt
 
 init_tells : (b : Bool) → Tells says_memory (cond b
-    (answering (λ answer. response.start answer) (start_of init_layout)) (done (response.start (Some cause.Layout))))
-init_tells true = answering_tells (λ answer. response.start answer) says_memory (start_of init_layout)
+    (answering (λ answer. answers.start answer) (start_of init_layout)) (done (answers.start (Some cause.Layout))))
+init_tells true = answering_tells (λ answer. answers.start answer) says_memory (start_of init_layout)
     (start_tells init_layout)
-init_tells false = tells_done (response.start (Some cause.Layout))
+init_tells false = tells_done (answers.start (Some cause.Layout))
 
 pub request_tells : (request : Request) (w : World) → Tells says_memory (course_of request w)
 request_tells starts w = init_tells (nat_le 0x9000 (length w.machine.present.memory))
 request_tells (sends packets) w =
-    answering_tells (λ answer. response.batch [] answer.1) says_memory (tx_batch init_layout 0 packets)
+    answering_tells (λ answer. answers.batch [] answer.1) says_memory (tx_batch init_layout 0 packets)
     (tx_batch_tells init_layout 0 packets)
 request_tells (receives most) w =
-    answering_tells (λ answer. response.batch answer.0 answer.1) says_memory (rx_batch init_layout 0 most [])
+    answering_tells (λ answer. answers.batch answer.0 answer.1) says_memory (rx_batch init_layout 0 most [])
     (rx_batch_tells init_layout 0 most [])
 request_tells stats w =
-    answering_tells (λ answer. response.stats answer) says_memory (read_stats no_stats)
+    answering_tells (λ answer. answers.stats answer) says_memory (read_stats no_stats)
     (read_stats_tells (λ answer. false) no_stats)
 request_tells address w =
-    answering_tells (λ answer. response.address answer) says_memory get_mac_addr
+    answering_tells (λ answer. answers.address answer) says_memory get_mac_addr
     (get_mac_addr_tells (λ answer. false))
 request_tells (sets_address octets) w =
-    answering_tells (λ answer. response.set) says_memory (set_mac_addr octets)
+    answering_tells (λ answer. answers.set) says_memory (set_mac_addr octets)
     (set_mac_addr_tells (λ answer. false) octets)
 
 -- whatever was done to a request can be named
-pub request_happens : (request : Request) (w v : World) (events : ℕ) (answer : Response)
+pub request_happens : (request : Request) (w v : World) (events : ℕ) (answer : DriverAnswer)
     → Follows w (course_of request w) events answer v
     → Happens says_memory w (course_of request w) (record { events = events; answer = answer; world = v })
 request_happens request w v events answer follows =
     call_happens says_memory (course_of request w) w v events answer (request_tells request w) follows
 
 -- what is named says so
-pub named_says : (named : Played Response) (request : Request) (session : Session)
+pub named_says : (named : Played DriverAnswer) (request : Request) (session : Session)
     → CanBeDone (Some named) request session → SaysMemory (call_text session.plan named)
 named_says named request session can =
     let w = world_at session in
@@ -75,7 +75,7 @@ named_says named request session can =
     (ap (λ plan. unwrap_or plan []) none))
     can.1
 
--- ---- calls whose answers are put as responses
+-- ---- calls whose answers are put as answers
 
 -- nothing was counted
 pub is_no_stats : (s : DeviceStats) → s.rx_pkts ≡ 0 → s.tx_pkts ≡ 0 → s.rx_bytes ≡ 0 → s.tx_bytes ≡ 0 → s ≡ no_stats
@@ -86,31 +86,31 @@ is_no_stats s a b c d = four s.rx_pkts s.tx_pkts s.rx_bytes s.tx_bytes a b c d
     four rx tx received sent a b c d = rw (a, b, c, d) refl
 
 pub counted : (w v : World) (now : DeviceStats) → Follows w (read_stats no_stats) 6 now v
-    → Follows w (course_of stats w) 6 (response.stats now) v
-counted w v now follows = answering_follows (λ answer. response.stats answer) (read_stats no_stats) w v 6 now follows
+    → Follows w (course_of stats w) 6 (answers.stats now) v
+counted w v now follows = answering_follows (λ answer. answers.stats answer) (read_stats no_stats) w v 6 now follows
 
 pub received : (w v : World) (most events : ℕ) (answer : Answered) → Follows w (rx_batch init_layout 0 most []) events
     answer v
-    → Follows w (course_of (receives most) w) events (response.batch answer.0 answer.1) v
+    → Follows w (course_of (receives most) w) events (answers.batch answer.0 answer.1) v
 received w v most events answer follows =
-    answering_follows (λ (a : Answered). response.batch a.0 a.1) (rx_batch init_layout 0 most []) w v events answer
+    answering_follows (λ (a : Answered). answers.batch a.0 a.1) (rx_batch init_layout 0 most []) w v events answer
     follows
 
 pub sent : (w v : World) (packets : List (List ℕ)) (events : ℕ) (answer : Answered)
     → Follows w (tx_batch init_layout 0 packets) events answer v
-    → Follows w (course_of (sends packets) w) events (response.batch [] answer.1) v
+    → Follows w (course_of (sends packets) w) events (answers.batch [] answer.1) v
 sent w v packets events answer follows =
-    answering_follows (λ (a : Answered). response.batch [] a.1) (tx_batch init_layout 0 packets) w v events answer
+    answering_follows (λ (a : Answered). answers.batch [] a.1) (tx_batch init_layout 0 packets) w v events answer
     follows
 
 pub told_address : (w v : World) (octets : List ℕ) → Follows w get_mac_addr 2 octets v
-    → Follows w (course_of address w) 2 (response.address octets) v
+    → Follows w (course_of address w) 2 (answers.address octets) v
 told_address w v octets follows =
-    answering_follows (λ answer. response.address answer) get_mac_addr w v 2 octets follows
+    answering_follows (λ answer. answers.address answer) get_mac_addr w v 2 octets follows
 
 pub set_address : (w v : World) (octets : List ℕ) → Follows w (set_mac_addr octets) 2 tt v
-    → Follows w (course_of (sets_address octets) w) 2 response.set v
-set_address w v octets follows = answering_follows (λ answer. response.set) (set_mac_addr octets) w v 2 tt follows
+    → Follows w (course_of (sets_address octets) w) 2 answers.set v
+set_address w v octets follows = answering_follows (λ answer. answers.set) (set_mac_addr octets) w v 2 tt follows
 
 -- ---- a start
 
@@ -144,18 +144,18 @@ good_layout size good = omega (arith, good.inside.tx_buffers)
 
 -- a start on a memory that is large enough
 on_good : (w v : World) (events : ℕ) (answer : Option Cause) → 0x9000 ≤ length w.machine.present.memory
-    → Follows w (start_of init_layout) events answer v → Follows w (course_of starts w) events (response.start answer) v
+    → Follows w (start_of init_layout) events answer v → Follows w (course_of starts w) events (answers.start answer) v
 on_good w v events answer le follows =
     rw (le-leb 0x9000 (length w.machine.present.memory) le)
-    (answering_follows (λ a. response.start a) (start_of init_layout) w v events answer follows)
+    (answering_follows (λ a. answers.start a) (start_of init_layout) w v events answer follows)
 
 -- a driver was started
 pub started : (w v : World) (events : ℕ) → IsGoodLayout (length w.machine.present.memory) init_layout
-    → Follows w (start_of init_layout) events None v → Follows w (course_of starts w) events (response.start None) v
+    → Follows w (start_of init_layout) events None v → Follows w (course_of starts w) events (answers.start None) v
 started w v events good follows = on_good w v events None (good_layout _ good) follows
 
 -- nothing was done
-nothing : (w v : World) (events : ℕ) (answer answered : Response) → answered ≡ answer → events ≡ 0 → v ≡ w
+nothing : (w v : World) (events : ℕ) (answer answered : DriverAnswer) → answered ≡ answer → events ≡ 0 → v ≡ w
     → Follows w (done answer) events answered v
 unfolding Follows
 nothing w v events answer answered same none left = record { events_are = none; answer_is = same; world_is = left }
@@ -166,14 +166,14 @@ pub not_started : (w v : World) (events : ℕ) (why : Cause)
     → (why ≡ cause.Layout) × (events ≡ 0) × (v ≡ w))
     → (IsGoodLayout (length w.machine.present.memory) init_layout
     → Follows w (start_of init_layout) events (Some why) v)
-    → Follows w (course_of starts w) events (response.start (Some why)) v
+    → Follows w (course_of starts w) events (answers.start (Some why)) v
 not_started w v events why untouched stopped =
     let size = length w.machine.present.memory in
     elim (cases_lt size 0x9000) [
       | inl small ↦
           let left = untouched (λ good. omega (arith, good_layout size good, small)) in
           rw (lt-leb 0x9000 size small)
-          (nothing w v events (response.start (Some cause.Layout)) (response.start (Some why))
-          (ap (λ c. response.start (Some c)) left.0) left.1 left.2)
+          (nothing w v events (answers.start (Some cause.Layout)) (answers.start (Some why))
+          (ap (λ c. answers.start (Some c)) left.0) left.1 left.2)
       | inr le ↦ on_good w v events (Some why) le (stopped (good_size size le))
     ]

@@ -9,6 +9,6 @@ pub mod RegisterLemmas
 pub mod FrameLemmas
 pub mod WireLemmas
 pub mod RequestLemmas
-pub mod ResponseLemmas
+pub mod DriverAnswerLemmas
 pub mod TurnLemmas
 pub mod CallingLemmas

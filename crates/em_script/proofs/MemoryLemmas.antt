@@ -12,11 +12,11 @@ use Rattle.em_script.specs.Session.{Session}
 use Rattle.em_script.specs.Command.{event}
 use Rattle.em_script.specs.ParsedLine.{ParsedLine, says, asks, plans}
 use Rattle.em_driver.specs.Play.{Played}
-use Rattle.em_script.specs.Response.{Response}
+use Rattle.em_script.specs.DriverAnswer.{DriverAnswer}
 use Rattle.em_script.specs.Request.{Request}
-use Rattle.em_script.specs.Lack.{Lack, before, within}
+use Rattle.em_script.specs.RefusedAt.{RefusedAt, before, within}
 use Rattle.em_script.specs.Calling.{has_driver, asked_text, CanBeDone}
-use Rattle.em_script.proofs.ResponseLemmas.{says_before, says_behind}
+use Rattle.em_script.proofs.DriverAnswerLemmas.{says_before, says_behind}
 use Rattle.em_script.proofs.CallingLemmas.{named_says}
 use Rattle.em_script.specs.Grammar.{parsed_line}
 use Rattle.em_script.specs.Reply.{line_text, line_takes_memory, IsAllowed as IsLineAllowed}
@@ -30,13 +30,13 @@ HadMemory all = AllByRecursion (λ (played : PlayedLine). played.refused ≡ Non
 
 -- ---- where no line takes memory
 
-not_refused : (memory : Option Lack) (parsed : ParsedLine) (session : Session) → IsLineAllowed memory parsed session
-    → line_takes_memory parsed ≡ false → memory ≡ None
+not_refused : (memory : Option RefusedAt) (parsed : ParsedLine) (session : Session)
+    → IsLineAllowed memory parsed session → line_takes_memory parsed ≡ false → memory ≡ None
 not_refused None parsed session allowed none = refl
 not_refused (Some before) (says (event e)) session allowed none = absurd (false≢true (sym none ∙ allowed.0))
-not_refused (Some lack) (asks request) session allowed none = absurd (false≢true (sym none))
-not_refused (Some lack) (plans plan) session allowed none = absurd (false≢true (sym none))
-not_refused (Some lack) _ session allowed none = absurd allowed
+not_refused (Some refused) (asks request) session allowed none = absurd (false≢true (sym none))
+not_refused (Some refused) (plans plan) session allowed none = absurd (false≢true (sym none))
+not_refused (Some refused) _ session allowed none = absurd allowed
 
 took_none : (all : List PlayedLine) (session : Session) → AreAllowed all session
     → AllByRecursion (λ line. line_takes_memory (parsed_line line) ≡ false)
@@ -51,7 +51,7 @@ took_none (x ∷ xs) session allowed none = (
 -- ---- where no line that is written ends in ` Memory`
 
 -- a call to which memory was refused says so
-asked_says : (did : Played Response) (request : Request) (session : Session) (stands : Bool)
+asked_says : (did : Played DriverAnswer) (request : Request) (session : Session) (stands : Bool)
     → has_driver request session ≡ stands → IsTrue stands → CanBeDone (Some did) request session
     → SaysMemory (asked_text (Some did) request session)
 asked_says did request session true is stands can = rw is (named_says did request session can)
@@ -61,7 +61,7 @@ refusal_says : SaysMemory (codes "refused Memory\n")
 refusal_says = (codes "refused", [], refl)
 
 -- a line to which memory was refused says so
-refused_says : (number : ℕ) (memory : Option Lack) (parsed : ParsedLine) (session : Session)
+refused_says : (number : ℕ) (memory : Option RefusedAt) (parsed : ParsedLine) (session : Session)
     → IsLineAllowed memory parsed session
     → (memory ≡ None) ⊎ SaysMemory (line_text number memory parsed session)
 refused_says number None parsed session allowed = inl refl
@@ -69,7 +69,7 @@ refused_says number (Some before) (says (event e)) session allowed = inr refusal
 refused_says number (Some (within did calls)) (asks request) session allowed =
     inr (asked_says did request session (has_driver request session) refl allowed.0 allowed.1)
 refused_says number (Some before) (plans plan) session allowed = inr refusal_says
-refused_says number (Some lack) _ session allowed = absurd allowed
+refused_says number (Some refused) _ session allowed = absurd allowed
 
 said_none : (number : ℕ) (all : List PlayedLine) (session : Session) → AreAllowed all session
     → (SaysMemory (text_from number all session) → ⊥) → HadMemory all
@@ -89,7 +89,7 @@ had_memory : (all : List PlayedLine) → HadMemory all
     → all ≡ with_memory (map (λ (played : PlayedLine). played.line) all)
 had_memory [] h = refl
 had_memory (x ∷ xs) h =
-    let make : Option Lack → PlayedLine = λ r. record { line = x.line; refused = r } in
+    let make : Option RefusedAt → PlayedLine = λ r. record { line = x.line; refused = r } in
     ap₂ (λ (p : PlayedLine) ps. p ∷ ps) (ap make h.0) (had_memory xs h.1)
 
 own_text : {all : List PlayedLine} {first : Session} (script : List ℕ) → ArePlayed all (lines_of script) first

@@ -19,10 +19,11 @@ use Rattle.em_step.specs.declared.refusal.Refusal.TheVariants.{Memory}
 use Rattle.em_driver.specs.declared.turn.Turn.{Turn}
 use Rattle.em_script.specs.ParsedLine.{says, asks, plan_line}
 use Rattle.em_script.specs.Request.{Request, plain_call}
-use Rattle.em_script.specs.declared.call.Call.{Call as Asked}
-use Rattle.em_script.specs.declared.call.Call.TheVariants as asked
-use Rattle.em_script.specs.Response.{Response, called_text, call_text, counts_text, plan_text, response_text}
-use Rattle.em_script.specs.Response.{response_outcome, plain as plain_response}
+use Rattle.em_script.specs.declared.driver_call.DriverCall.{DriverCall as Asked}
+use Rattle.em_script.specs.declared.driver_call.DriverCall.TheVariants as asked
+use Rattle.em_script.specs.DriverAnswer.{DriverAnswer, driver_reply_text, call_text, counts_text, plan_text}
+use Rattle.em_script.specs.DriverAnswer.{driver_answer_text}
+use Rattle.em_script.specs.DriverAnswer.{driver_answer_outcome, plain as plain_answer}
 use Rattle.em_script.specs.Calling.{has_driver, IsCalled, CanBeDone, done_by, did_of, after_call, plan_counts}
 use Rattle.em_script.specs.Calling.{world_at, course_of}
 use Rattle.em_journal.specs.History.{Run}
@@ -31,10 +32,10 @@ use Rattle.em_driver.specs.World.{World}
 use Rattle.em_driver.proofs.CallLaws.{follows_run}
 use Rattle.em_script.proofs.CallingLemmas.{request_happens}
 use Rattle.em_script.specs.DriverText.{no_driver_text}
-use Rattle.em_script.specs.declared.called.Called.{Called}
+use Rattle.em_script.specs.declared.driver_reply.DriverReply.{DriverReply}
 use Rattle.std.specs.Prelude.{IsSome, IsTrue}
 use Rattle.em_script.specs.Session.{Session}
-use Rattle.em_script.specs.Lack.{before, within}
+use Rattle.em_script.specs.RefusedAt.{before, within}
 use Rattle.em_script.specs.Output.{Prints, answer_text, refusal_text, done_text}
 use Rattle.em_script.specs.Reply.{step_call, event_call, back_call, call_reply, Gives, Obeys, Performs}
 
@@ -71,10 +72,10 @@ pub event_refused : {e : Event} {first now : View} {old new : Option (List ℕ)}
     → Obeys (event e) first now old new result
 event_refused {e = e} {first = first} refusal did prints =
     elim did.0 [
-      | inl lack ↦ record {
+      | inl refused ↦ record {
         memory = Some before;
-        allowed = (lack.1, lack.2);
-        gives = record { prints = rw lack.0 at prints; machine = did.1 };
+        allowed = (refused.1, refused.2);
+        gives = record { prints = rw refused.0 at prints; machine = did.1 };
       }
       | inr is ↦ by_step (gives_of first (sym (ap (step_call e) is)) record { prints = prints; machine = did.1 })
     ]
@@ -126,21 +127,21 @@ plan_set {first = first} number (Some said) plan is after prints = record {
 }
 
 -- a plan found no memory
-pub plan_lacks : {first now : Session} {old new : Option (List ℕ)} {result : Result Outcome WriteFailed} (number : ℕ)
+pub plan_refused : {first now : Session} {old new : Option (List ℕ)} {result : Result Outcome WriteFailed} (number : ℕ)
     (said : Option (List (List Turn))) → IsSome said → now ≡ first
     → Prints (refusal_text Memory) outcome.Refused old new result
     → Performs number (plan_line said) first now old new result
-plan_lacks number None some same prints = cc some
-plan_lacks number (Some said) some same prints =
+plan_refused number None some same prints = cc some
+plan_refused number (Some said) some same prints =
     record { memory = Some before; allowed = tt; prints = prints; session = same }
 
 -- ---- calls of a driver
 
 -- the counts of the plan's turns are told as the world has them
-told : (plan : Option (List (List Turn))) (called : Called) (w : World) → called.plan ≡ plan_counts plan w
-    → called_text called ≡ call_text plan (did_of called w)
-told plan called w is =
-    ap (λ line. response_text called.events (plain_response called.response) ++ line)
+told : (plan : Option (List (List Turn))) (reply : DriverReply) (w : World) → reply.plan ≡ plan_counts plan w
+    → driver_reply_text reply ≡ call_text plan (did_of reply w)
+told plan reply w is =
+    ap (λ line. driver_answer_text reply.events (plain_answer reply.answer) ++ line)
     (ap counts_text is ∙ by_plan plan w)
   where
     by_plan : (plan : Option (List (List Turn))) (w : World) → counts_text (plan_counts plan w) ≡ plan_text plan w
@@ -149,11 +150,11 @@ told plan called w is =
 
 -- a call that did so was made, with memory or named
 by_named : {first now : Session} {old new : Option (List ℕ)} {result : Result Outcome WriteFailed} (number : ℕ)
-    (request : Request) (did : Played Response) (stand : Bool) → has_driver request first ≡ stand → IsTrue stand
+    (request : Request) (did : Played DriverAnswer) (stand : Bool) → has_driver request first ≡ stand → IsTrue stand
     → (calls : List Call) → Run first.machine calls did.world.machine
-    → (named : Option (Played Response)) → CanBeDone named request first → did ≡ done_by named request first
+    → (named : Option (Played DriverAnswer)) → CanBeDone named request first → did ≡ done_by named request first
     → now ≡ after_call did
-    → Prints (call_text first.plan did) (response_outcome did.answer) old new result
+    → Prints (call_text first.plan did) (driver_answer_outcome did.answer) old new result
     → Performs number (asks request) first now old new result
 by_named number request did false is stands calls run named can same after prints = absurd (false≢true stands)
 by_named {first = first} number request did true is stands calls run None can same after prints = record {
@@ -171,17 +172,17 @@ by_named {first = first} number request did true is stands calls run (Some named
 
 -- what a call printed and left
 pub call_made : {first now : Session} {old new : Option (List ℕ)} {result : Result Outcome WriteFailed} (number : ℕ)
-    (request : Request) (called : Called) → IsTrue (has_driver request first) → IsCalled request first now called
-    → Prints (called_text called) (response_outcome (plain_response called.response)) old new result
+    (request : Request) (reply : DriverReply) → IsTrue (has_driver request first) → IsCalled request first now reply
+    → Prints (driver_reply_text reply) (driver_answer_outcome (plain_answer reply.answer)) old new result
     → Performs number (asks request) first now old new result
-call_made {first = first} {now = now} {old = old} {new = new} {result = result} number request called stands made
+call_made {first = first} {now = now} {old = old} {new = new} {result = result} number request reply stands made
     prints =
     let w = world_at first in
     let course = course_of request w in
-    let did = did_of called made.world in
-    let happens = request_happens request w made.world called.events (plain_response called.response) made.follows in
-    let runs = follows_run course w made.world called.events (plain_response called.response) made.follows in
-    let text : called_text called ≡ call_text first.plan did = told first.plan called made.world made.plan in
+    let did = did_of reply made.world in
+    let happens = request_happens request w made.world reply.events (plain_answer reply.answer) made.follows in
+    let runs = follows_run course w made.world reply.events (plain_answer reply.answer) made.follows in
+    let text : driver_reply_text reply ≡ call_text first.plan did = told first.plan reply made.world made.plan in
     by_named number request did (has_driver request first) refl stands runs.calls runs.is happens.named happens.can
     happens.is made.session (rw text at prints)
 

@@ -8,9 +8,9 @@ use Rattle.em_script.specs.Session.{Session}
 use Rattle.em_script.specs.Seat.{IsReady, IsSeated, world_in, is_driven, session_of}
 use Rattle.em_script.specs.declared.seat.Seat.{Seat}
 use Rattle.em_script.specs.declared.seat.Seat.TheVariants.{Bare, Driven, Moved}
-use Rattle.em_script.specs.declared.called.Called.{Called}
+use Rattle.em_script.specs.declared.driver_reply.DriverReply.{DriverReply}
 use Rattle.em_script.specs.Request.{Request}
-use Rattle.em_script.specs.Response.{plain, is_started, world_of}
+use Rattle.em_script.specs.DriverAnswer.{plain, is_started, world_of}
 use Rattle.em_script.specs.Calling.{course_of, world_at, plan_counts, after_call, did_of, IsCalled}
 
 -- a line begins with a seat that was not moved
@@ -67,11 +67,11 @@ abbrev session_with : View → Bool → Option (List (List Turn)) → Session
 session_with machine started plan = record { machine = machine; started = started; plan = plan }
 
 -- the session that a call leaves
-left_session : (after : Seat) (rest : Bool) (called : Called) (w : World) → rest ≡ false
-    → is_driven after ≡ is_started (plain called.response) → world_in after ≡ quiet w.machine
-    → session_of after rest ≡ after_call (did_of called w)
-left_session after rest called w none driven is = parts (world_in after).machine w.machine (is_driven after)
-    (is_started (plain called.response)) rest (world_in after).plan (ap (λ (v : World). v.machine) is) driven none
+left_session : (after : Seat) (rest : Bool) (reply : DriverReply) (w : World) → rest ≡ false
+    → is_driven after ≡ is_started (plain reply.answer) → world_in after ≡ quiet w.machine
+    → session_of after rest ≡ after_call (did_of reply w)
+left_session after rest reply w none driven is = parts (world_in after).machine w.machine (is_driven after)
+    (is_started (plain reply.answer)) rest (world_in after).plan (ap (λ (v : World). v.machine) is) driven none
   where
     parts : (m v : View) (a b rest : Bool) (plan : List (List Turn)) → m ≡ v → a ≡ b → rest ≡ false
         → session_with m a (cond rest (Some plan) None) ≡ session_with v b None
@@ -79,17 +79,17 @@ left_session after rest called w none driven is = parts (world_in after).machine
 
 -- a call was made from a seat to a seat
 pub is_called : (request : Request) (seat after : Seat) (planned rest : Bool) (first : Session) (turns w : World)
-    (called : Called) → first ≡ session_of seat planned → IsSeated seat planned → turns ≡ world_in seat
-    → Follows turns (course_of request turns) called.events (plain called.response) w
-    → called.plan ≡ plan_counts (cond planned (Some []) None) w
-    → is_driven after ≡ is_started (plain called.response) → world_in after ≡ quiet w.machine → rest ≡ false
-    → IsCalled request first (session_of after rest) called
-is_called request seat after planned rest first turns w called is seated begins follows counts driven left none =
+    (reply : DriverReply) → first ≡ session_of seat planned → IsSeated seat planned → turns ≡ world_in seat
+    → Follows turns (course_of request turns) reply.events (plain reply.answer) w
+    → reply.plan ≡ plan_counts (cond planned (Some []) None) w
+    → is_driven after ≡ is_started (plain reply.answer) → world_in after ≡ quiet w.machine → rest ≡ false
+    → IsCalled request first (session_of after rest) reply
+is_called request seat after planned rest first turns w reply is seated begins follows counts driven left none =
     let same : world_at first ≡ turns = ap world_at is ∙ seated_world seat planned seated ∙ sym begins in
     record {
       world = w;
       follows = rw same follows;
       plan = counts ∙ counts_same planned [] (world_in seat).plan w ∙ ap (λ (s : Session). plan_counts s.plan w)
           (sym is);
-      session = left_session after rest called w none driven left;
+      session = left_session after rest reply w none driven left;
     }

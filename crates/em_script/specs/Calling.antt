@@ -21,13 +21,14 @@ use Rattle.em_script.specs.declared.outcome.Outcome.TheVariants.{Refused}
 use Rattle.em_script.specs.Session.{Session}
 use Rattle.em_script.specs.Request as request
 use Rattle.em_script.specs.Request.{Request}
-use Rattle.em_script.specs.Response.{Response, start, batch, stats, address, set, response_outcome, is_started}
-use Rattle.em_script.specs.Response.{says_memory, world_of, call_text}
-use Rattle.em_script.specs.Response as responses
+use Rattle.em_script.specs.DriverAnswer.{DriverAnswer, start, batch, stats, address, set, is_started}
+use Rattle.em_script.specs.DriverAnswer.{driver_answer_outcome}
+use Rattle.em_script.specs.DriverAnswer.{says_memory, world_of, call_text}
+use Rattle.em_script.specs.DriverAnswer as answers
 use Rattle.em_script.specs.DriverText.{no_driver_text}
-use Rattle.em_script.specs.Lack.{Lack, before, within}
-use Rattle.em_script.specs.declared.called.Called.{Called}
-use Rattle.em_script.specs.declared.called.PlanCounts.{PlanCounts}
+use Rattle.em_script.specs.RefusedAt.{RefusedAt, before, within}
+use Rattle.em_script.specs.declared.driver_reply.DriverReply.{DriverReply}
+use Rattle.em_script.specs.declared.driver_reply.PlanCounts.{PlanCounts}
 
 -- ---- what is asked
 
@@ -43,7 +44,7 @@ init_layout = record {
 }
 
 -- of a memory of so many octets, which is large enough, or not
-abbrev pub init_course : ℕ → Course Response
+abbrev pub init_course : ℕ → Course DriverAnswer
 init_course size =
     if nat_le 0x9000 size then answering (λ answer. start answer) (start_of init_layout)
     else done (start (Some cause.Layout))
@@ -52,7 +53,7 @@ abbrev pub no_stats : DeviceStats
 no_stats = record { rx_pkts = 0; tx_pkts = 0; rx_bytes = 0; tx_bytes = 0 }
 
 -- the course of a request to a driver over this world
-abbrev pub course_of : Request → World → Course Response
+abbrev pub course_of : Request → World → Course DriverAnswer
 course_of request.starts w = init_course (length w.machine.present.memory)
 course_of (request.sends packets) w = answering (λ answer. batch [] answer.1) (tx_batch init_layout 0 packets)
 course_of (request.receives most) w =
@@ -71,43 +72,43 @@ has_driver _ session = session.started
 abbrev pub world_at : Session → World
 world_at session = world_of session.machine session.plan
 
-abbrev pub done_by : Option (Played Response) → Request → Session → Played Response
+abbrev pub done_by : Option (Played DriverAnswer) → Request → Session → Played DriverAnswer
 done_by named request session = happened named (world_at session) (course_of request (world_at session))
 
-abbrev pub CanBeDone : Option (Played Response) → Request → Session → Type 0
+abbrev pub CanBeDone : Option (Played DriverAnswer) → Request → Session → Type 0
 CanBeDone named request session = CanHappen says_memory named (world_at session) (course_of request (world_at session))
 
 -- ---- what is printed and left; without a driver the plan stays
 
-abbrev pub asked_text : Option (Played Response) → Request → Session → List ℕ
+abbrev pub asked_text : Option (Played DriverAnswer) → Request → Session → List ℕ
 asked_text named request session =
     if has_driver request session then call_text session.plan (done_by named request session) else no_driver_text
 
-abbrev pub asked_outcome : Option (Played Response) → Request → Session → Outcome
+abbrev pub asked_outcome : Option (Played DriverAnswer) → Request → Session → Outcome
 asked_outcome named request session =
-    if has_driver request session then response_outcome (done_by named request session).answer else Refused
+    if has_driver request session then driver_answer_outcome (done_by named request session).answer else Refused
 
-abbrev pub after_call : Played Response → Session
+abbrev pub after_call : Played DriverAnswer → Session
 after_call did = record { machine = did.world.machine; started = is_started did.answer; plan = None }
 
-abbrev pub after_asked : Option (Played Response) → Request → Session → Session
+abbrev pub after_asked : Option (Played DriverAnswer) → Request → Session → Session
 after_asked named request session =
     if has_driver request session then after_call (done_by named request session) else session
 
 -- ---- the calls of the machine, by where memory was refused
 
-abbrev pub made_calls : Option Lack → Request → Session → List Call
+abbrev pub made_calls : Option RefusedAt → Request → Session → List Call
 made_calls (Some (within did calls)) request session = calls
 made_calls _ request session = course_calls (world_at session) (course_of request (world_at session))
 
-abbrev pub asked_calls : Option Lack → Request → Session → List Call
+abbrev pub asked_calls : Option RefusedAt → Request → Session → List Call
 asked_calls memory request session = if has_driver request session then made_calls memory request session else []
 
 -- Memory is refused to a call of a driver as the call can have it; and the calls of the machine lead where it does.
-abbrev pub MayLack : Option Lack → Request → Session → Type 0
-MayLack None request session = Unit {0}
-MayLack (Some before) request session = ⊥
-MayLack (Some (within did calls)) request session =
+abbrev pub MayBeRefusedAt : Option RefusedAt → Request → Session → Type 0
+MayBeRefusedAt None request session = Unit {0}
+MayBeRefusedAt (Some before) request session = ⊥
+MayBeRefusedAt (Some (within did calls)) request session =
     IsTrue (has_driver request session) × CanBeDone (Some did) request session
     × Run session.machine calls did.world.machine
 
@@ -119,13 +120,13 @@ plan_counts None w = None
 plan_counts (Some plan) w = Some record { performed = w.performed; refused = w.refused; starved = w.starved }
 
 -- the call did so, and left this world
-abbrev pub did_of : Called → World → Played Response
-did_of called w = record { events = called.events; answer = responses.plain called.response; world = w }
+abbrev pub did_of : DriverReply → World → Played DriverAnswer
+did_of reply w = record { events = reply.events; answer = answers.plain reply.answer; world = w }
 
 -- what was asked for was done, and the plan is used up
-pub record IsCalled (request : Request) (first now : Session) (called : Called) : Type 0 where
+pub record IsCalled (request : Request) (first now : Session) (reply : DriverReply) : Type 0 where
   pub world : World
-  pub follows : Follows (world_at first) (course_of request (world_at first)) called.events
-      (responses.plain called.response) world
-  pub plan : called.plan ≡ plan_counts first.plan world
-  pub session : now ≡ after_call (did_of called world)
+  pub follows : Follows (world_at first) (course_of request (world_at first)) reply.events
+      (answers.plain reply.answer) world
+  pub plan : reply.plan ≡ plan_counts first.plan world
+  pub session : now ≡ after_call (did_of reply world)

@@ -6,7 +6,8 @@ use Rattle.em_step.specs.Event.{reads, writes, pokes, arrives, links, receives, 
 use Rattle.em_text.specs.Words.{words_of}
 use Rattle.em_text.specs.Numbers.{hex_number, hex_address, decimal_number, octets_of}
 use Rattle.em_script.specs.Arguments.{Arguments, zero, one, two, arguments_of}
-use Rattle.em_script.specs.Command.{Command, event, peek, interrupt_line, back, back_by, registers, wire}
+use Rattle.em_script.specs.Command as command
+use Rattle.em_script.specs.Command.{Command, event}
 use Rattle.em_script.specs.ParsedLine.{ParsedLine, silent, bad, says, request_line, plan_line}
 use Rattle.em_script.specs.Plan.{plan_of}
 use Rattle.em_script.specs.Request.{request_form}
@@ -50,7 +51,7 @@ poke_form _ = bad
 
 -- peek ADDR LEN
 abbrev pub peek_form : Arguments → ParsedLine
-peek_form (two addr len) = with (hex_address addr) (λ a. with (count_to 16384 len) (λ n. says (peek a n)))
+peek_form (two addr len) = with (hex_address addr) (λ a. with (count_to 16384 len) (λ n. says (command.peek a n)))
 peek_form _ = bad
 
 -- arrive DATA, or arrive DATA LEN
@@ -59,8 +60,8 @@ arrive_form arguments = with (frame_of arguments) (λ octets. says (event (arriv
 
 -- back, or back N
 abbrev pub back_form : Arguments → ParsedLine
-back_form zero = says back
-back_form (one count) = with (count_to 65536 count) (λ n. says (back_by n))
+back_form zero = says command.back
+back_form (one count) = with (count_to 65536 count) (λ n. says (command.back_by n))
 back_form _ = bad
 
 -- the word up or the word down
@@ -79,9 +80,9 @@ link_form _ = bad
 abbrev pub look_form : List ℕ → Arguments → ParsedLine
 look_form name arguments =
     if bytes_eq name (codes "peek") then peek_form arguments else
-    if bytes_eq name (codes "line") then alone interrupt_line arguments else
-    if bytes_eq name (codes "regs") then alone registers arguments else
-    if bytes_eq name (codes "wire") then alone wire arguments else
+    if bytes_eq name (codes "line") then alone command.interrupt_line arguments else
+    if bytes_eq name (codes "regs") then alone command.registers arguments else
+    if bytes_eq name (codes "wire") then alone command.wire arguments else
     if bytes_eq name (codes "back") then back_form arguments else
     request_line (request_form name arguments)
 

@@ -12,8 +12,8 @@ pub mod Registers
 pub mod Wire
 pub mod Output
 pub mod DriverText
-pub mod Response
-pub mod Lack
+pub mod DriverAnswer
+pub mod RefusedAt
 pub mod Calling
 pub mod Reply
 pub mod PlayedLine

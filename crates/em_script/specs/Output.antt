@@ -6,6 +6,7 @@ use Rattle.em_step.specs.declared.event.Reason.{Reason}
 use Rattle.em_step.specs.declared.event.Reason.TheVariants.{Down, Disabled, Rejected, Undersize, Oversize, Missed}
 use Rattle.em_step.specs.declared.refusal.Refusal.{Refusal}
 use Rattle.em_step.specs.Refusal.{name_of}
+use Rattle.em_journal.specs.Refusal.{name_of_empty}
 use Rattle.em_text.specs.Writer.{Writes, value_text, decimal_line_text, numbers_text}
 use Rattle.em_text.specs.declared.writer.WriteFailed.{WriteFailed}
 use Rattle.em_script.specs.declared.outcome.Outcome.{Outcome}
@@ -55,7 +56,7 @@ refusal_text refusal = named_refusal_text (name_of refusal)
 
 -- of a step back where the journal is empty
 abbrev pub empty_text : List ℕ
-empty_text = named_refusal_text (codes "Empty")
+empty_text = named_refusal_text name_of_empty
 
 -- the text was written, or a front of it where the writer failed; with the text whole, the line came out so
 pub record Prints (text : List ℕ) (outcome : Outcome) (old new : Option (List ℕ)) (result : Result Outcome WriteFailed)

@@ -4,13 +4,13 @@ use Rattle.em_journal.specs.History.{Call}
 use Rattle.em_script.specs.declared.outcome.Outcome.{Outcome}
 use Rattle.em_script.specs.Session.{Session}
 use Rattle.em_script.specs.Grammar.{parsed_line}
-use Rattle.em_script.specs.Lack.{Lack}
+use Rattle.em_script.specs.RefusedAt.{RefusedAt}
 use Rattle.em_script.specs.Reply as replies
 
 -- a line, and where memory was refused to it, if it was
 pub record PlayedLine : Type 0 where
   pub line : List ℕ
-  pub refused : Option Lack
+  pub refused : Option RefusedAt
 
 abbrev pub played_text : ℕ → PlayedLine → Session → List ℕ
 played_text number played session = replies.line_text number played.refused (parsed_line played.line) session

@@ -18,10 +18,11 @@ use Rattle.em_text.specs.declared.writer.WriteFailed.{WriteFailed}
 use Rattle.em_script.specs.declared.outcome.Outcome.{Outcome}
 use Rattle.em_script.specs.declared.outcome.Outcome.TheVariants as outcome
 use Rattle.em_script.specs.Session.{Session}
-use Rattle.em_script.specs.Command.{Command, event, peek, interrupt_line, back, back_by, registers, wire}
+use Rattle.em_script.specs.Command as command
+use Rattle.em_script.specs.Command.{Command, event}
 use Rattle.em_script.specs.ParsedLine.{ParsedLine, silent, bad, says, asks, plans}
-use Rattle.em_script.specs.Lack.{Lack, before, within, named_of}
-use Rattle.em_script.specs.Calling.{asked_text, asked_outcome, after_asked, asked_calls, MayLack}
+use Rattle.em_script.specs.RefusedAt.{RefusedAt, before, within, named_of}
+use Rattle.em_script.specs.Calling.{asked_text, asked_outcome, after_asked, asked_calls, MayBeRefusedAt}
 use Rattle.em_driver.specs.declared.turn.Turn.{Turn}
 use Rattle.em_script.specs.Output.{done_text, bit_text, back_text, bad_line_text, answer_text, refusal_text, empty_text}
 use Rattle.em_script.specs.Output.{Prints}
@@ -36,9 +37,9 @@ step_call e (Ok r) = performs e r.0
 step_call e (Err refusal) = refuses e refusal
 
 -- an event, by whether memory was refused to it
-abbrev pub event_call : Option Lack → Event → View → Call
+abbrev pub event_call : Option RefusedAt → Event → View → Call
 event_call None e machine = step_call e (step machine.present e)
-event_call (Some lack) e machine = refuses e Memory
+event_call (Some refused) e machine = refuses e Memory
 
 -- a step back, by the states that there are to go back to
 abbrev pub back_call : List State → Call
@@ -46,10 +47,10 @@ back_call [] = is_empty
 back_call (s ∷ older) = goes_back
 
 -- those that a command makes, by where memory was refused
-abbrev pub calls_of : Option Lack → Command → View → List Call
+abbrev pub calls_of : Option RefusedAt → Command → View → List Call
 calls_of memory (event e) machine = event_call memory e machine ∷ []
-calls_of memory back machine = back_call machine.past ∷ []
-calls_of memory (back_by most) machine = replicate (min most (length machine.past)) goes_back
+calls_of memory command.back machine = back_call machine.past ∷ []
+calls_of memory (command.back_by most) machine = replicate (min most (length machine.past)) goes_back
 calls_of memory _ machine = []
 
 -- ---- replies
@@ -102,14 +103,14 @@ back_by_reply most machine =
     done_reply (back_text (min most (length machine.past))) (after_backs most machine)
 
 -- to a command, by where memory was refused
-abbrev pub reply : Option Lack → Command → View → Reply
+abbrev pub reply : Option RefusedAt → Command → View → Reply
 reply memory (event e) machine = call_reply (event_call memory e machine) machine
-reply memory (peek addr n) machine = peek_reply addr n machine
-reply memory interrupt_line machine = interrupt_line_reply machine
-reply memory back machine = call_reply (back_call machine.past) machine
-reply memory (back_by most) machine = back_by_reply most machine
-reply memory registers machine = registers_reply machine
-reply memory wire machine = wire_reply machine
+reply memory (command.peek addr n) machine = peek_reply addr n machine
+reply memory command.interrupt_line machine = interrupt_line_reply machine
+reply memory command.back machine = call_reply (back_call machine.past) machine
+reply memory (command.back_by most) machine = back_by_reply most machine
+reply memory command.registers machine = registers_reply machine
+reply memory command.wire machine = wire_reply machine
 
 -- ---- memory
 
@@ -119,55 +120,55 @@ command_takes_memory (event e) = takes_memory e
 command_takes_memory _ = false
 
 -- memory is refused to a command only before its event, which nothing else refuses and which drops no frame
-abbrev pub IsAllowedTo : Option Lack → Command → View → Type 0
+abbrev pub IsAllowedTo : Option RefusedAt → Command → View → Type 0
 IsAllowedTo None command machine = Unit {0}
 IsAllowedTo (Some before) (event e) machine = IsTrue (takes_memory e) × IsTrue (needs_memory (step machine.present e))
-IsAllowedTo (Some lack) command machine = ⊥
+IsAllowedTo (Some refused) command machine = ⊥
 
 -- ---- a line that sets the plan
 
-abbrev pub plan_reply : Option Lack → List ℕ
+abbrev pub plan_reply : Option RefusedAt → List ℕ
 plan_reply None = done_text
-plan_reply (Some lack) = refusal_text Memory
+plan_reply (Some refused) = refusal_text Memory
 
-abbrev pub plan_outcome : Option Lack → Outcome
+abbrev pub plan_outcome : Option RefusedAt → Outcome
 plan_outcome None = outcome.Done
-plan_outcome (Some lack) = outcome.Refused
+plan_outcome (Some refused) = outcome.Refused
 
 -- a plan that finds no memory leaves the one before it
-abbrev pub after_plan : Option Lack → List (List Turn) → Session → Session
+abbrev pub after_plan : Option RefusedAt → List (List Turn) → Session → Session
 after_plan None plan session = record session { plan = Some plan }
-after_plan (Some lack) plan session = session
+after_plan (Some refused) plan session = session
 
-abbrev pub MayLackPlan : Option Lack → Type 0
-MayLackPlan (Some (within did calls)) = ⊥
-MayLackPlan _ = Unit {0}
+abbrev pub MayRefusePlanAt : Option RefusedAt → Type 0
+MayRefusePlanAt (Some (within did calls)) = ⊥
+MayRefusePlanAt _ = Unit {0}
 
 -- ---- what a line says, by where memory was refused to it
 
 -- what it prints, where it has this number
-abbrev pub line_text : ℕ → Option Lack → ParsedLine → Session → List ℕ
+abbrev pub line_text : ℕ → Option RefusedAt → ParsedLine → Session → List ℕ
 line_text number memory silent session = []
 line_text number memory bad session = bad_line_text number
 line_text number memory (says command) session = (reply memory command session.machine).text
 line_text number memory (asks request) session = asked_text (named_of memory) request session
 line_text number memory (plans plan) session = plan_reply memory
 
-abbrev pub line_outcome : Option Lack → ParsedLine → Session → Outcome
+abbrev pub line_outcome : Option RefusedAt → ParsedLine → Session → Outcome
 line_outcome memory silent session = outcome.Silent
 line_outcome memory bad session = outcome.Bad
 line_outcome memory (says command) session = (reply memory command session.machine).outcome
 line_outcome memory (asks request) session = asked_outcome (named_of memory) request session
 line_outcome memory (plans plan) session = plan_outcome memory
 
-abbrev pub after_line : Option Lack → ParsedLine → Session → Session
+abbrev pub after_line : Option RefusedAt → ParsedLine → Session → Session
 after_line memory (says command) session = record session { machine = (reply memory command session.machine).machine }
 after_line memory (asks request) session = after_asked (named_of memory) request session
 after_line memory (plans plan) session = after_plan memory plan session
 after_line memory _ session = session
 
 -- the calls that it makes
-abbrev pub line_calls : Option Lack → ParsedLine → Session → List Call
+abbrev pub line_calls : Option RefusedAt → ParsedLine → Session → List Call
 line_calls memory (says command) session = calls_of memory command session.machine
 line_calls memory (asks request) session = asked_calls memory request session
 line_calls memory _ session = []
@@ -179,12 +180,12 @@ line_takes_memory (plans plan) = true
 line_takes_memory _ = false
 
 -- memory is refused only to what takes memory and is refused for nothing else
-abbrev pub IsAllowed : Option Lack → ParsedLine → Session → Type 0
+abbrev pub IsAllowed : Option RefusedAt → ParsedLine → Session → Type 0
 IsAllowed memory (says command) session = IsAllowedTo memory command session.machine
-IsAllowed memory (asks request) session = MayLack memory request session
-IsAllowed memory (plans plan) session = MayLackPlan memory
+IsAllowed memory (asks request) session = MayBeRefusedAt memory request session
+IsAllowed memory (plans plan) session = MayRefusePlanAt memory
 IsAllowed None _ session = Unit {0}
-IsAllowed (Some lack) _ session = ⊥
+IsAllowed (Some refused) _ session = ⊥
 
 -- ---- what a call does
 
@@ -197,14 +198,14 @@ pub record Gives (r : Reply) (now : View) (old new : Option (List ℕ)) (result 
 -- what the command says was done, and its text printed
 pub record Obeys (command : Command) (first now : View) (old new : Option (List ℕ))
     (result : Result Outcome WriteFailed) : Type 0 where
-  pub memory : Option Lack
+  pub memory : Option RefusedAt
   pub allowed : IsAllowedTo memory command first
   pub gives : Gives (reply memory command first) now old new result
 
 -- what the line of this number says was done, and its text printed
 pub record Performs (number : ℕ) (parsed : ParsedLine) (first now : Session) (old new : Option (List ℕ))
     (result : Result Outcome WriteFailed) : Type 0 where
-  pub memory : Option Lack
+  pub memory : Option RefusedAt
   pub allowed : IsAllowed memory parsed first
   pub prints : Prints (line_text number memory parsed first) (line_outcome memory parsed first) old new result
   pub session : now ≡ after_line memory parsed first

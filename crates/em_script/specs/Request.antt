@@ -7,8 +7,8 @@ use Rattle.em_text.specs.Numbers.{decimal_number, octets_of}
 use Rattle.em_script.specs.Arguments.{Arguments, zero, one}
 use Rattle.em_script.specs.Frame.{frame_of}
 use Rattle.em_driver.specs.Receive.{lists}
-use Rattle.em_script.specs.declared.call.Call.{Call}
-use Rattle.em_script.specs.declared.call.Call.TheVariants as call
+use Rattle.em_script.specs.declared.driver_call.DriverCall.{DriverCall}
+use Rattle.em_script.specs.declared.driver_call.DriverCall.TheVariants as call
 use Rattle.em_script.specs.declared.request.Request.{Request as Lent}
 use Rattle.em_script.specs.declared.request.Request.TheVariants as lent
 
@@ -26,7 +26,7 @@ pub data Request : Type 0 where
   sets_address : List ℕ → Request
 
 -- a request of the code without where its octets lie in memory
-abbrev pub plain_call : Call → Request
+abbrev pub plain_call : DriverCall → Request
 plain_call (call.Send packets) = sends (lists packets.items)
 plain_call (call.Receive most) = receives most
 plain_call call.Stats = stats

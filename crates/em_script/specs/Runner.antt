@@ -8,7 +8,7 @@ use Rattle.em_text.specs.Lines.{lines_of}
 use Rattle.em_text.specs.Reader.{most_script}
 use Rattle.em_script.specs.declared.summary.Summary.{Summary}
 use Rattle.em_script.specs.declared.runner.BenchFault.{BenchFault}
-use Rattle.em_script.specs.declared.runner.BenchFault.TheVariants.{Write, Memory}
+use Rattle.em_script.specs.declared.runner.BenchFault.TheVariants.{Read, Write, TooLarge, Memory}
 use Rattle.em_script.specs.Session.{Session}
 use Rattle.em_script.specs.ParsedLine.{brings_octets}
 use Rattle.em_script.specs.Grammar.{parsed_line}
@@ -83,3 +83,10 @@ abbrev pub StopsInScript : List ℕ → Session → Session → Option (List ℕ
 StopsInScript script first now old new Memory = StopsBeforeLine script first now old new
 StopsInScript script first now old new Write = FailsInLine script first now old new
 StopsInScript script first now old new _ = ⊥
+
+-- the name of a fault, as it is printed
+abbrev pub name_of : BenchFault → List ℕ
+name_of Read = codes "Read"
+name_of Write = codes "Write"
+name_of TooLarge = codes "TooLarge"
+name_of Memory = codes "Memory"

@@ -6,11 +6,11 @@ ghost use Rattle.em_driver.specs.Receive.{lists};
 ghost use Rattle.em_driver.specs.World.{quiet};
 ghost use Rattle.em_script.specs.Calling.{course_of, init_layout, plan_counts, IsCalled};
 ghost use Rattle.em_script.specs.Request.{plain_call, starts, sends, receives, stats, address, sets_address};
-ghost use Rattle.em_script.specs.Response.{is_started, plain};
+ghost use Rattle.em_script.specs.DriverAnswer.{is_started, plain};
 
-use crate::call::Call;
-use crate::called::{Called, PlanCounts};
-use crate::response::Response;
+use crate::driver_answer::DriverAnswer;
+use crate::driver_call::DriverCall;
+use crate::driver_reply::{DriverReply, PlanCounts};
 use crate::seat::Seat;
 use crate::session::Session;
 use crate::spare::take_empty;
@@ -30,7 +30,7 @@ const LAYOUT: Layout = Layout {
 };
 
 /// Starts a driver on the machine of a session, in the place of one that stands.
-pub fn start_driver(alloc: Global, session: &mut Session) -> Called
+pub fn start_driver(alloc: Global, session: &mut Session) -> DriverReply
     ensures { IsCalled starts session.old session.new result }
 {
     let turns = mem::replace(&mut session.seat, Seat::Moved).into_turns();
@@ -39,9 +39,9 @@ pub fn start_driver(alloc: Global, session: &mut Session) -> Called
         Ok((mut driver, events)) => {
             let plan = end_plan(driver.bus(), planned);
             session.seat = Seat::Driven(driver);
-            Called {
+            DriverReply {
                 events,
-                response: Response::Start(None),
+                answer: DriverAnswer::Start(None),
                 plan,
             }
         }
@@ -49,9 +49,9 @@ pub fn start_driver(alloc: Global, session: &mut Session) -> Called
             let mut turns = refused.bus;
             let plan = end_plan(&mut turns, planned);
             session.seat = Seat::Bare(turns);
-            Called {
+            DriverReply {
                 events: refused.events,
-                response: Response::Start(Some(refused.cause)),
+                answer: DriverAnswer::Start(Some(refused.cause)),
                 plan,
             }
         }
@@ -59,8 +59,8 @@ pub fn start_driver(alloc: Global, session: &mut Session) -> Called
 }
 
 /// Has the driver of a session do what is asked, if one stands.
-pub fn call_driver(alloc: Global, session: &mut Session, call: Call) -> Option<Called>
-    ensures stands { IfSome result (λ called. session.old.started ≡ true) }
+pub fn call_driver(alloc: Global, session: &mut Session, call: DriverCall) -> Option<DriverReply>
+    ensures stands { IfSome result (λ reply. session.old.started ≡ true) }
     ensures called { IfSome result (IsCalled (plain_call call) session.old session.new) }
     ensures none { IsNone result → session.old.started ≡ false }
     ensures same { IsNone result → session.new ≡ session.old }
@@ -68,12 +68,12 @@ pub fn call_driver(alloc: Global, session: &mut Session, call: Call) -> Option<C
     let Seat::Driven(driver) = &mut session.seat else {
         return None;
     };
-    let (events, response) = call_by(alloc, driver, &mut session.packets, call);
+    let (events, answer) = call_by(alloc, driver, &mut session.packets, call);
     let plan = end_plan(driver.bus(), session.planned);
     session.planned = false;
-    Some(Called {
+    Some(DriverReply {
         events,
-        response,
+        answer,
         plan,
     })
 }
@@ -98,8 +98,8 @@ fn call_by(
     alloc: Global,
     driver: &mut E1000<Turns>,
     spare: &mut VecDeque<Vec<u8>>,
-    call: Call,
-) -> (u32, Response)
+    call: DriverCall,
+) -> (u32, DriverAnswer)
     requires { driver.old.layout ≡ init_layout }
     ensures course { Follows driver.old.bus (course_of (plain_call call) driver.old.bus) result.0 (plain result.1)
         driver.new.bus }
@@ -107,15 +107,15 @@ fn call_by(
     ensures layout { driver.new.layout ≡ driver.old.layout }
 {
     match call {
-        Call::Send(packets) => send(driver, packets),
-        Call::Receive(most) => receive(driver, take_empty(alloc, spare), most),
-        Call::Stats => count(driver),
-        Call::Address => tell_address(driver),
-        Call::SetAddress(address) => set_address(driver, address),
+        DriverCall::Send(packets) => send(driver, packets),
+        DriverCall::Receive(most) => receive(driver, take_empty(alloc, spare), most),
+        DriverCall::Stats => count(driver),
+        DriverCall::Address => tell_address(driver),
+        DriverCall::SetAddress(address) => set_address(driver, address),
     }
 }
 
-fn send(driver: &mut E1000<Turns>, mut packets: VecDeque<Vec<u8>>) -> (u32, Response)
+fn send(driver: &mut E1000<Turns>, mut packets: VecDeque<Vec<u8>>) -> (u32, DriverAnswer)
     requires { driver.old.layout ≡ init_layout }
     ensures course { Follows driver.old.bus (course_of (sends (lists packets.items)) driver.old.bus)
         result.0 (plain result.1) driver.new.bus }
@@ -125,10 +125,14 @@ fn send(driver: &mut E1000<Turns>, mut packets: VecDeque<Vec<u8>>) -> (u32, Resp
     let result = driver.tx_batch(0, &mut packets);
     // What was not sent is no packet that came.
     packets.clear();
-    (events_of(&result), Response::Batch(packets, result))
+    (events_of(&result), DriverAnswer::Batch(packets, result))
 }
 
-fn receive(driver: &mut E1000<Turns>, mut packets: VecDeque<Vec<u8>>, most: u32) -> (u32, Response)
+fn receive(
+    driver: &mut E1000<Turns>,
+    mut packets: VecDeque<Vec<u8>>,
+    most: u32,
+) -> (u32, DriverAnswer)
     requires layout { driver.old.layout ≡ init_layout }
     requires empty { packets.items ≡ [] }
     ensures course { Follows driver.old.bus (course_of (receives most) driver.old.bus)
@@ -137,36 +141,36 @@ fn receive(driver: &mut E1000<Turns>, mut packets: VecDeque<Vec<u8>>, most: u32)
     ensures layout { driver.new.layout ≡ driver.old.layout }
 {
     let result = driver.rx_batch(0, &mut packets, most as usize);
-    (events_of(&result), Response::Batch(packets, result))
+    (events_of(&result), DriverAnswer::Batch(packets, result))
 }
 
-fn count(driver: &mut E1000<Turns>) -> (u32, Response)
+fn count(driver: &mut E1000<Turns>) -> (u32, DriverAnswer)
     ensures course { Follows driver.old.bus (course_of stats driver.old.bus) result.0 (plain result.1) driver.new.bus }
     ensures stands { is_started (plain result.1) ≡ true }
     ensures layout { driver.new.layout ≡ driver.old.layout }
 {
     let mut counted = DeviceStats::default();
     driver.read_stats(&mut counted);
-    (6, Response::Stats(counted))
+    (6, DriverAnswer::Stats(counted))
 }
 
-fn tell_address(driver: &mut E1000<Turns>) -> (u32, Response)
+fn tell_address(driver: &mut E1000<Turns>) -> (u32, DriverAnswer)
     ensures course { Follows driver.old.bus (course_of address driver.old.bus) result.0 (plain result.1)
         driver.new.bus }
     ensures stands { is_started (plain result.1) ≡ true }
     ensures layout { driver.new.layout ≡ driver.old.layout }
 {
-    (2, Response::Address(driver.get_mac_addr()))
+    (2, DriverAnswer::Address(driver.get_mac_addr()))
 }
 
-fn set_address(driver: &mut E1000<Turns>, octets: [u8; 6]) -> (u32, Response)
+fn set_address(driver: &mut E1000<Turns>, octets: [u8; 6]) -> (u32, DriverAnswer)
     ensures course { Follows driver.old.bus (course_of (sets_address octets) driver.old.bus)
         result.0 (plain result.1) driver.new.bus }
     ensures stands { is_started (plain result.1) ≡ true }
     ensures layout { driver.new.layout ≡ driver.old.layout }
 {
     driver.set_mac_addr(octets);
-    (2, Response::Set)
+    (2, DriverAnswer::Set)
 }
 
 /// How many events a call performed, whether it stopped or not.

@@ -3,16 +3,17 @@ ghost use Rattle.std.specs.Prelude.{◌≡◌, ◌++◌};
 ghost use Rattle.em_text.specs.Writer.{Writes};
 ghost use Rattle.em_driver.specs.Receive.{lists};
 ghost use Rattle.em_script.specs.Wire.{frames_text};
-ghost use Rattle.em_script.specs.Response.{plain, called_text, counts_text, response_text, response_outcome};
-ghost use Rattle.em_script.specs.Response.{result_text, result_outcome};
+ghost use Rattle.em_script.specs.DriverAnswer.{plain, driver_reply_text, counts_text};
+ghost use Rattle.em_script.specs.DriverAnswer.{driver_answer_text, driver_answer_outcome};
+ghost use Rattle.em_script.specs.DriverAnswer.{result_text, result_outcome};
 ghost use Rattle.em_script.specs.Output.{Prints};
 ghost use Rattle.em_script.specs.DriverText.{started_text, batch_text, stopped_text, stats_text, address_text};
 ghost use Rattle.em_script.specs.DriverText.{turns_text, turns_end, no_driver_text};
 
-use crate::called::{Called, PlanCounts};
+use crate::driver_answer::DriverAnswer;
+use crate::driver_reply::{DriverReply, PlanCounts};
 use crate::outcome::Outcome;
 use crate::output::write_done;
-use crate::response::Response;
 use em_driver::{Batch, Cause, DeviceStats, Stopped};
 use em_text::{
     WriteFailed, octet_digits, write_number_line, write_numbers_line, write_octets_line,
@@ -23,12 +24,15 @@ use std::collections::VecDeque;
 use std::io::Write;
 
 /// What a driver did on a line.
-pub fn write_called<W: Write>(writer: &mut W, called: &Called) -> Result<Outcome, WriteFailed>
-    ensures { Prints (called_text called.now) (response_outcome (plain called.now.response))
+pub fn write_driver_reply<W: Write>(
+    writer: &mut W,
+    reply: &DriverReply,
+) -> Result<Outcome, WriteFailed>
+    ensures { Prints (driver_reply_text reply.now) (driver_answer_outcome (plain reply.now.answer))
         (W.contents writer.old) (W.contents writer.new) result }
 {
-    let outcome = write_response(writer, called.events, &called.response)?;
-    write_plan(writer, called.plan)?;
+    let outcome = write_driver_answer(writer, reply.events, &reply.answer)?;
+    write_plan(writer, reply.plan)?;
     Ok(outcome)
 }
 
@@ -43,21 +47,21 @@ fn write_plan<W: Write>(writer: &mut W, plan: Option<PlanCounts>) -> Result<(), 
 }
 
 /// What a driver answered, with so many events.
-fn write_response<W: Write>(
+fn write_driver_answer<W: Write>(
     writer: &mut W,
     events: u32,
-    response: &Response,
+    answer: &DriverAnswer,
 ) -> Result<Outcome, WriteFailed>
-    ensures { Prints (response_text events (plain response.now)) (response_outcome (plain response.now))
+    ensures { Prints (driver_answer_text events (plain answer.now)) (driver_answer_outcome (plain answer.now))
         (W.contents writer.old) (W.contents writer.new) result }
 {
-    match response {
-        Response::Start(None) => write_started(writer, events),
-        Response::Start(Some(cause)) => write_stopped(writer, 0, events, *cause),
-        Response::Batch(packets, result) => write_moved(writer, packets, *result),
-        Response::Stats(stats) => write_stats(writer, *stats),
-        Response::Address(address) => write_address(writer, *address),
-        Response::Set => write_done(writer),
+    match answer {
+        DriverAnswer::Start(None) => write_started(writer, events),
+        DriverAnswer::Start(Some(cause)) => write_stopped(writer, 0, events, *cause),
+        DriverAnswer::Batch(packets, result) => write_moved(writer, packets, *result),
+        DriverAnswer::Stats(stats) => write_stats(writer, *stats),
+        DriverAnswer::Address(address) => write_address(writer, *address),
+        DriverAnswer::Set => write_done(writer),
     }
 }
 

@@ -17,18 +17,18 @@ const MOST_LEN: usize = 32_768;
 const DIGITS_OF_OCTET: usize = 2;
 
 /// Whether DATA, or DATA and LEN, are the words that are still to come, and if so, leaves their octets
-/// in `octets`: those of DATA and, with LEN, zero octets behind them up to LEN octets.
+/// in `data_buffer`: those of DATA and, with LEN, zero octets behind them up to LEN octets.
 ///
 /// LEN is at most 32,768, and not below DATA's octets. The words are read one after another where they
 /// stand; that memory was refused is answered only for octets that stand there.
 #[inline(never)]
-pub fn frame_words_into(octets: &mut Vec<u8>, words: Words<'_>) -> Result<bool, AllocError>
+pub fn frame_words_into(data_buffer: &mut Vec<u8>, words: Words<'_>) -> Result<bool, AllocError>
     ensures value { IfOk result (λ found.
-        frame_of (arguments_of (words_of words.entry.0.now)) ≡ (if found then Some octets.new.items else None)) }
+        frame_of (arguments_of (words_of words.entry.0.now)) ≡ (if found then Some data_buffer.new.items else None)) }
     ensures memory { OnErr result (IsSome (frame_of (arguments_of (words_of words.entry.0.now)))) }
 {
     let mut rest = words;
-    let Ok(found) = rest.octets_into(octets) else {
+    let Ok(found) = rest.octets_into(data_buffer) else {
         return refused_for(words);
     };
     if !found {
@@ -43,18 +43,19 @@ pub fn frame_words_into(octets: &mut Vec<u8>, words: Words<'_>) -> Result<bool, 
     if !rest.is_over() {
         return Ok(false);
     }
-    lengthen(octets, len as usize)
+    lengthen(data_buffer, len as usize)
 }
 
-/// The same of DATA alone.
+/// Whether DATA is the one word that is still to come, and if so, leaves its octets in `data_buffer`. That
+/// memory was refused is answered only for octets that stand there.
 #[inline(always)]
-pub fn data_words_into(octets: &mut Vec<u8>, words: Words<'_>) -> Result<bool, AllocError>
+pub fn data_words_into(data_buffer: &mut Vec<u8>, words: Words<'_>) -> Result<bool, AllocError>
     ensures value { IfOk result (λ found.
-        data_of (arguments_of (words_of words.entry.0.now)) ≡ (if found then Some octets.new.items else None)) }
+        data_of (arguments_of (words_of words.entry.0.now)) ≡ (if found then Some data_buffer.new.items else None)) }
     ensures memory { OnErr result (IsSome (data_of (arguments_of (words_of words.entry.0.now)))) }
 {
     let mut rest = words;
-    let Ok(found) = rest.octets_into(octets) else {
+    let Ok(found) = rest.octets_into(data_buffer) else {
         return refused_for_data(words);
     };
     Ok(found && rest.is_over())
@@ -74,7 +75,7 @@ fn refused_for(words: Words<'_>) -> Result<bool, AllocError>
     }
 }
 
-/// The same of DATA alone.
+/// Where memory was refused for the octets of DATA: words that are no DATA are none also then.
 #[inline(never)]
 fn refused_for_data(words: Words<'_>) -> Result<bool, AllocError>
     ensures value { IfOk result (λ found.
@@ -88,41 +89,45 @@ fn refused_for_data(words: Words<'_>) -> Result<bool, AllocError>
 }
 
 /// DATA, or DATA and LEN, that stand apart.
-pub fn frame_into(octets: &mut Vec<u8>, arguments: Arguments<'_>) -> Result<bool, AllocError>
+pub fn frame_into(data_buffer: &mut Vec<u8>, arguments: Arguments<'_>) -> Result<bool, AllocError>
     ensures value { IfOk result (λ found.
-        frame_of (plain arguments.entry) ≡ (if found then Some octets.new.items else None)) }
+        frame_of (plain arguments.entry) ≡ (if found then Some data_buffer.new.items else None)) }
 {
     match arguments {
-        Arguments::One(digits) => octets_into(octets, digits),
-        Arguments::Two(digits, len) => lengthened_data_into(octets, digits, len),
+        Arguments::One(digits) => octets_into(data_buffer, digits),
+        Arguments::Two(digits, len) => lengthened_data_into(data_buffer, digits, len),
         _ => Ok(false),
     }
 }
 
-/// Whether DATA and LEN stand there, and if so, leaves their octets in `octets`.
-fn lengthened_data_into(octets: &mut Vec<u8>, digits: &[u8], len: &[u8]) -> Result<bool, AllocError>
+/// Whether DATA and LEN stand there, and if so, leaves their octets in `data_buffer`.
+fn lengthened_data_into(
+    data_buffer: &mut Vec<u8>,
+    digits: &[u8],
+    len: &[u8],
+) -> Result<bool, AllocError>
     ensures value { IfOk result (λ found.
-        lengthened_data digits.now len.now ≡ (if found then Some octets.new.items else None)) }
+        lengthened_data digits.now len.now ≡ (if found then Some data_buffer.new.items else None)) }
 {
     let Some(len) = decimal_number(len) else {
         return Ok(false);
     };
-    if !octets_into(octets, digits)? {
+    if !octets_into(data_buffer, digits)? {
         return Ok(false);
     }
-    lengthen(octets, len as usize)
+    lengthen(data_buffer, len as usize)
 }
 
-/// Puts zero octets behind octets, up to `len` octets, if there may be so many.
-fn lengthen(octets: &mut Vec<u8>, len: usize) -> Result<bool, AllocError>
+/// Puts zero octets behind those of `data_buffer`, up to `len` octets, if there may be so many.
+fn lengthen(data_buffer: &mut Vec<u8>, len: usize) -> Result<bool, AllocError>
     ensures value { IfOk result (λ found.
-        lengthened len octets.old.items ≡ (if found then Some octets.new.items else None)) }
-    ensures memory { OnErr result (IsSome (lengthened len octets.old.items)) }
+        lengthened len data_buffer.old.items ≡ (if found then Some data_buffer.new.items else None)) }
+    ensures memory { OnErr result (IsSome (lengthened len data_buffer.old.items)) }
 {
-    if octets.len() > len || len > MOST_LEN {
+    if data_buffer.len() > len || len > MOST_LEN {
         return Ok(false);
     }
-    octets.resize(len, 0)?;
+    data_buffer.resize(len, 0)?;
     Ok(true)
 }
 

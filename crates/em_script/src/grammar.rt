@@ -71,7 +71,7 @@ pub fn write_form(mut words: Words<'_>) -> Option<Command<'static>>
 #[inline(always)]
 pub fn poke_form<'a>(
     mut words: Words<'_>,
-    octets: &'a mut Vec<u8>,
+    data_buffer: &'a mut Vec<u8>,
 ) -> Result<Option<Command<'a>>, AllocError>
     ensures value { IfOk result (λ command.
         command_line (option_map plain command) ≡ poke_form (arguments_of (words_of words.entry.0.now))) }
@@ -80,8 +80,8 @@ pub fn poke_form<'a>(
     let Some(addr) = words.hex_address() else {
         return Ok(None);
     };
-    if data_words_into(octets, words)? {
-        Ok(Some(Command::Event(Event::Poke(addr, octets.as_slice()))))
+    if data_words_into(data_buffer, words)? {
+        Ok(Some(Command::Event(Event::Poke(addr, data_buffer.as_slice()))))
     } else {
         Ok(None)
     }
@@ -109,14 +109,14 @@ pub fn peek_form(mut words: Words<'_>) -> Option<Command<'static>>
 #[inline(always)]
 pub fn arrive_form<'a>(
     words: Words<'_>,
-    octets: &'a mut Vec<u8>,
+    data_buffer: &'a mut Vec<u8>,
 ) -> Result<Option<Command<'a>>, AllocError>
     ensures value { IfOk result (λ command.
         command_line (option_map plain command) ≡ arrive_form (arguments_of (words_of words.entry.0.now))) }
     ensures memory { OnErr result (IsTrue (brings_octets (arrive_form (arguments_of (words_of words.entry.0.now))))) }
 {
-    if frame_words_into(octets, words)? {
-        Ok(Some(Command::Event(Event::Arrive(octets.as_slice()))))
+    if frame_words_into(data_buffer, words)? {
+        Ok(Some(Command::Event(Event::Arrive(data_buffer.as_slice()))))
     } else {
         Ok(None)
     }

@@ -6,16 +6,16 @@ ghost use Rattle.em_driver.specs.Play.{Played};
 ghost use Rattle.em_driver.specs.HappenedCall.{Happens};
 ghost use Rattle.em_script.specs.Session.{Session};
 ghost use Rattle.em_script.specs.Request.{Request};
-ghost use Rattle.em_script.specs.Response.{Response, says_memory, call_text};
+ghost use Rattle.em_script.specs.DriverAnswer.{DriverAnswer, says_memory, call_text};
 ghost use Rattle.em_script.specs.Runner.{SaysMemory};
 ghost use Rattle.em_script.specs.Calling.{course_of, CanBeDone};
 
 /// What a driver does on a request is its course as it is played, or memory was refused to the call
 /// or to a turn, and the text says so.
 pub fn a_request_is_played_or_says_so()
-    ensures happens { (request : Request) (w v : World) (events : ℕ) (answer : Response)
+    ensures happens { (request : Request) (w v : World) (events : ℕ) (answer : DriverAnswer)
         → Follows w (course_of request w) events answer v
         → Happens says_memory w (course_of request w) (record { events = events; answer = answer; world = v }) }
-    ensures says { (named : Played Response) (request : Request) (session : Session)
+    ensures says { (named : Played DriverAnswer) (request : Request) (session : Session)
         → CanBeDone (Some named) request session → SaysMemory (call_text session.plan named) }
 {}

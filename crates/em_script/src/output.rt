@@ -6,6 +6,7 @@ ghost use Rattle.em_script.specs.Output.{Prints, answer_text, reason_text, done_
 ghost use Rattle.em_script.specs.Output.{bad_line_text, refusal_text, empty_text, sent_text};
 
 use crate::outcome::Outcome;
+use em_journal::Empty;
 use em_step::{Answer, Reason, Refusal};
 use em_text::{
     WriteFailed, write_number_line, write_numbers_line, write_octets_line, write_pieces,
@@ -144,6 +145,6 @@ pub fn write_refusal<W: Write>(writer: &mut W, refusal: Refusal) -> Result<Outco
 pub fn write_empty<W: Write>(writer: &mut W) -> Result<Outcome, WriteFailed>
     ensures { Prints empty_text Outcome.Refused (W.contents writer.old) (W.contents writer.new) result }
 {
-    write_whole(writer, b"refused Empty\n")?;
+    write_pieces(writer, &[b"refused ", Empty.name().as_bytes(), b"\n"])?;
     Ok(Outcome::Refused)
 }

@@ -28,7 +28,7 @@ use std::io::Write;
 /// Plays the line of a number. Where memory is refused for the octets that it brings, nothing is
 /// done and nothing written.
 ///
-/// `octets` is for those, and `room` for the octets that a look at guest memory shows.
+/// `data_buffer` is for those, and `peek_buffer` for the octets that a look at guest memory shows.
 #[inline(always)]
 #[tactic(auto, unfolding(crate::specs::Grammar::parsed_line))]
 pub fn play_line<W: Write>(
@@ -37,8 +37,8 @@ pub fn play_line<W: Write>(
     session: &mut Session,
     number: u32,
     line: &[u8],
-    octets: &mut Vec<u8>,
-    room: &mut [u8; MOST_PEEK],
+    data_buffer: &mut Vec<u8>,
+    peek_buffer: &mut [u8; MOST_PEEK],
 ) -> Result<Result<Outcome, WriteFailed>, AllocError>
     requires { length line.now < 0xFFFF_FFFF }
     ensures value { IfOk result (λ replied. Performs number (parsed_line line.now)
@@ -54,7 +54,16 @@ pub fn play_line<W: Write>(
     if is_comment(name) {
         return Ok(Ok(Outcome::Silent));
     }
-    play_named(alloc, writer, session, number, name, words, octets, room)
+    play_named(
+        alloc,
+        writer,
+        session,
+        number,
+        name,
+        words,
+        data_buffer,
+        peek_buffer,
+    )
 }
 
 /// Plays a line of this name and the words behind it.
@@ -66,8 +75,8 @@ fn play_named<W: Write>(
     number: u32,
     name: &[u8],
     words: Words<'_>,
-    octets: &mut Vec<u8>,
-    room: &mut [u8; MOST_PEEK],
+    data_buffer: &mut Vec<u8>,
+    peek_buffer: &mut [u8; MOST_PEEK],
 ) -> Result<Result<Outcome, WriteFailed>, AllocError>
     requires { length (words_of words.0.now) < 0x1_0000_0000 }
     ensures value { IfOk result (λ replied. Performs number (named_form name.now (words_of words.entry.0.now))
@@ -79,7 +88,16 @@ fn play_named<W: Write>(
     if is_name(name, b"turns") {
         return Ok(play_turns(alloc, writer, session, number, words));
     }
-    play_event(alloc, writer, session, number, name, words, octets, room)
+    play_event(
+        alloc,
+        writer,
+        session,
+        number,
+        name,
+        words,
+        data_buffer,
+        peek_buffer,
+    )
 }
 
 /// Plays a line that says an event, or another command or request.
@@ -91,8 +109,8 @@ fn play_event<W: Write>(
     number: u32,
     name: &[u8],
     words: Words<'_>,
-    octets: &mut Vec<u8>,
-    room: &mut [u8; MOST_PEEK],
+    data_buffer: &mut Vec<u8>,
+    peek_buffer: &mut [u8; MOST_PEEK],
 ) -> Result<Result<Outcome, WriteFailed>, AllocError>
     ensures value { IfOk result (λ replied.
         Performs number (command_form name.now (arguments_of (words_of words.entry.0.now)))
@@ -103,31 +121,40 @@ fn play_event<W: Write>(
     ensures unwritten { OnErr result (W.contents writer.new ≡ W.contents writer.old) }
 {
     if is_name(name, b"r") {
-        return Ok(play_command(writer, session, number, read_form(words), room));
+        return Ok(play_command(writer, session, number, read_form(words), peek_buffer));
     }
     if is_name(name, b"w") {
-        return Ok(play_command(writer, session, number, write_form(words), room));
+        return Ok(play_command(writer, session, number, write_form(words), peek_buffer));
     }
     if is_name(name, b"poke") {
-        let command = poke_form(words, octets)?;
-        return Ok(play_command(writer, session, number, command, room));
+        let command = poke_form(words, data_buffer)?;
+        return Ok(play_command(writer, session, number, command, peek_buffer));
     }
     if is_name(name, b"arrive") {
-        let command = arrive_form(words, octets)?;
-        return Ok(play_command(writer, session, number, command, room));
+        let command = arrive_form(words, data_buffer)?;
+        return Ok(play_command(writer, session, number, command, peek_buffer));
     }
     if is_name(name, b"rx") {
         let command = alone(Command::Event(Event::RxStep), words);
-        return Ok(play_command(writer, session, number, command, room));
+        return Ok(play_command(writer, session, number, command, peek_buffer));
     }
     if is_name(name, b"tx") {
         let command = alone(Command::Event(Event::TxStep), words);
-        return Ok(play_command(writer, session, number, command, room));
+        return Ok(play_command(writer, session, number, command, peek_buffer));
     }
     if is_name(name, b"link") {
-        return Ok(play_command(writer, session, number, link_form(words), room));
+        return Ok(play_command(writer, session, number, link_form(words), peek_buffer));
     }
-    play_look(alloc, writer, session, number, name, words, octets, room)
+    play_look(
+        alloc,
+        writer,
+        session,
+        number,
+        name,
+        words,
+        data_buffer,
+        peek_buffer,
+    )
 }
 
 /// Plays a line that says a look or steps back, or asks something of a driver.
@@ -139,8 +166,8 @@ fn play_look<W: Write>(
     number: u32,
     name: &[u8],
     words: Words<'_>,
-    octets: &mut Vec<u8>,
-    room: &mut [u8; MOST_PEEK],
+    data_buffer: &mut Vec<u8>,
+    peek_buffer: &mut [u8; MOST_PEEK],
 ) -> Result<Result<Outcome, WriteFailed>, AllocError>
     ensures value { IfOk result (λ replied.
         Performs number (look_form name.now (arguments_of (words_of words.entry.0.now)))
@@ -151,24 +178,24 @@ fn play_look<W: Write>(
     ensures unwritten { OnErr result (W.contents writer.new ≡ W.contents writer.old) }
 {
     if is_name(name, b"peek") {
-        return Ok(play_command(writer, session, number, peek_form(words), room));
+        return Ok(play_command(writer, session, number, peek_form(words), peek_buffer));
     }
     if is_name(name, b"line") {
         let command = alone(Command::InterruptLine, words);
-        return Ok(play_command(writer, session, number, command, room));
+        return Ok(play_command(writer, session, number, command, peek_buffer));
     }
     if is_name(name, b"regs") {
         let command = alone(Command::Registers, words);
-        return Ok(play_command(writer, session, number, command, room));
+        return Ok(play_command(writer, session, number, command, peek_buffer));
     }
     if is_name(name, b"wire") {
         let command = alone(Command::Wire, words);
-        return Ok(play_command(writer, session, number, command, room));
+        return Ok(play_command(writer, session, number, command, peek_buffer));
     }
     if is_name(name, b"back") {
-        return Ok(play_command(writer, session, number, back_form(words), room));
+        return Ok(play_command(writer, session, number, back_form(words), peek_buffer));
     }
-    play_request(alloc, writer, session, number, name, words, octets)
+    play_request(alloc, writer, session, number, name, words, data_buffer)
 }
 
 /// Sets the plan that the words of a line say, if they say one.
@@ -199,7 +226,7 @@ fn play_request<W: Write>(
     number: u32,
     name: &[u8],
     words: Words<'_>,
-    octets: &mut Vec<u8>,
+    data_buffer: &mut Vec<u8>,
 ) -> Result<Result<Outcome, WriteFailed>, AllocError>
     ensures value { IfOk result (λ replied. Performs number
         (request_line (request_form name.now (arguments_of (words_of words.entry.0.now))))
@@ -209,7 +236,7 @@ fn play_request<W: Write>(
     ensures same { OnErr result (session.new ≡ session.old) }
     ensures unwritten { OnErr result (W.contents writer.new ≡ W.contents writer.old) }
 {
-    match request_form(alloc, name, words, octets, &mut session.packets)? {
+    match request_form(alloc, name, words, data_buffer, &mut session.packets)? {
         Some(request) => Ok(ask(alloc, writer, session, request)),
         None => Ok(write_bad_line(writer, number)),
     }
@@ -222,13 +249,13 @@ fn play_command<W: Write>(
     session: &mut Session,
     number: u32,
     command: Option<Command<'_>>,
-    room: &mut [u8; MOST_PEEK],
+    peek_buffer: &mut [u8; MOST_PEEK],
 ) -> Result<Outcome, WriteFailed>
     ensures { Performs number (command_line (option_map plain command.entry))
         session.old session.new (W.contents writer.old) (W.contents writer.new) result }
 {
     match command {
-        Some(command) => obey(writer, session, command, room),
+        Some(command) => obey(writer, session, command, peek_buffer),
         None => write_bad_line(writer, number),
     }
 }

@@ -12,7 +12,7 @@ ghost use Rattle.em_script.specs.Reply.{back_by_reply, wire_reply, Gives, Obeys,
 
 use crate::calling::{call_driver, start_driver};
 use crate::command::Command;
-use crate::driver_output::{write_called, write_no_driver};
+use crate::driver_output::{write_driver_reply, write_no_driver};
 use crate::outcome::Outcome;
 use crate::output::{
     write_answer, write_back, write_bit, write_done, write_empty, write_octets, write_refusal,
@@ -42,11 +42,11 @@ pub fn ask<W: Write>(
         session.old session.new (W.contents writer.old) (W.contents writer.new) result }
 {
     match request {
-        Request::Start => write_called(writer, &start_driver(alloc, session)),
+        Request::Start => write_driver_reply(writer, &start_driver(alloc, session)),
         Request::Call(call) => match call_driver(alloc, session, call) {
-            Some(called) => {
-                let written = write_called(writer, &called);
-                session.keep_packets(called.response);
+            Some(reply) => {
+                let written = write_driver_reply(writer, &reply);
+                session.keep_packets(reply.answer);
                 written
             }
             None => write_no_driver(writer),
@@ -80,14 +80,14 @@ pub fn obey<W: Write>(
     writer: &mut W,
     session: &mut Session,
     command: Command<'_>,
-    room: &mut [u8; MOST_PEEK],
+    peek_buffer: &mut [u8; MOST_PEEK],
 ) -> Result<Outcome, WriteFailed>
     ensures { (number : ℕ) → Performs number (says (plain_command command.entry))
         session.old session.new (W.contents writer.old) (W.contents writer.new) result }
 {
     match &mut session.seat {
-        Seat::Bare(turns) => perform(writer, turns.machine_mut(), command, room),
-        Seat::Driven(driver) => perform(writer, driver.bus().machine_mut(), command, room),
+        Seat::Bare(turns) => perform(writer, turns.machine_mut(), command, peek_buffer),
+        Seat::Driven(driver) => perform(writer, driver.bus().machine_mut(), command, peek_buffer),
         Seat::Moved => unreachable!(),
     }
 }
@@ -97,14 +97,14 @@ fn perform<W: Write>(
     writer: &mut W,
     machine: &mut Machine,
     command: Command<'_>,
-    room: &mut [u8; MOST_PEEK],
+    peek_buffer: &mut [u8; MOST_PEEK],
 ) -> Result<Outcome, WriteFailed>
     ensures { Obeys (plain_command command.entry)
         machine.old machine.new (W.contents writer.old) (W.contents writer.new) result }
 {
     match command {
         Command::Event(event) => perform_event(writer, machine, event),
-        Command::Peek(addr, len) => peek(writer, machine, addr, len, room),
+        Command::Peek(addr, len) => peek(writer, machine, addr, len, peek_buffer),
         Command::InterruptLine => interrupt_line(writer, machine),
         Command::Back => back(writer, machine),
         Command::BackBy(most) => back_by(writer, machine, most),
@@ -134,12 +134,12 @@ fn peek<W: Write>(
     machine: &Machine,
     addr: u64,
     len: PeekLen,
-    room: &mut [u8; MOST_PEEK],
+    peek_buffer: &mut [u8; MOST_PEEK],
 ) -> Result<Outcome, WriteFailed>
     ensures { Gives (peek_reply addr len.octets machine.now)
         machine.now (W.contents writer.old) (W.contents writer.new) result }
 {
-    let octets = &mut room[..len.octets];
+    let octets = &mut peek_buffer[..len.octets];
     match machine.peek(addr, octets) {
         Ok(()) => write_octets(writer, octets),
         Err(refusal) => write_refusal(writer, refusal),

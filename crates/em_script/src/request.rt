@@ -9,7 +9,7 @@ ghost use Rattle.em_script.specs.Request.{sets_address, address_of};
 ghost use Rattle.em_script.specs.ParsedLine.{brings_octets, request_line};
 
 use crate::arguments::{Arguments, arguments_of};
-use crate::call::Call;
+use crate::driver_call::DriverCall;
 use crate::frame::frame_words_into;
 use crate::spare::take_with_packet;
 use em_text::{Words, is_name, octets_into};
@@ -20,7 +20,7 @@ use std::collections::VecDeque;
 #[derive(Drop)]
 pub enum Request {
     Start,
-    Call(Call),
+    Call(DriverCall),
 }
 
 /// The most packets that one `recv` asks for.
@@ -30,12 +30,12 @@ const MOST_PACKETS: u32 = 1024;
 const ADDRESS_DIGITS: usize = 12;
 
 /// What is asked of a driver by a name and the words behind it. Memory is taken for the octets that
-/// it brings; `octets` holds them on the way, and a packet goes into the spare queue.
+/// it brings; `data_buffer` holds them on the way, and a packet goes into the spare queue.
 pub fn request_form(
     alloc: Global,
     name: &[u8],
     words: Words<'_>,
-    octets: &mut Vec<u8>,
+    data_buffer: &mut Vec<u8>,
     spare: &mut VecDeque<Vec<u8>>,
 ) -> Result<Option<Request>, AllocError>
     ensures value { IfOk result (λ request.
@@ -44,7 +44,7 @@ pub fn request_form(
         (request_form name.now (arguments_of (words_of words.entry.0.now)))))) }
 {
     if is_name(name, b"send") {
-        return send_form(alloc, words, octets, spare);
+        return send_form(alloc, words, data_buffer, spare);
     }
     if is_name(name, b"recv") {
         return Ok(receive_form(words));
@@ -53,10 +53,10 @@ pub fn request_form(
         return Ok(alone(Request::Start, words));
     }
     if is_name(name, b"stats") {
-        return Ok(alone(Request::Call(Call::Stats), words));
+        return Ok(alone(Request::Call(DriverCall::Stats), words));
     }
     if is_name(name, b"mac") {
-        return address_form(arguments_of(words), octets);
+        return address_form(arguments_of(words), data_buffer);
     }
     Ok(None)
 }
@@ -73,7 +73,7 @@ fn alone(request: Request, words: Words<'_>) -> Option<Request>
 fn send_form(
     alloc: Global,
     words: Words<'_>,
-    octets: &mut Vec<u8>,
+    data_buffer: &mut Vec<u8>,
     spare: &mut VecDeque<Vec<u8>>,
 ) -> Result<Option<Request>, AllocError>
     ensures value { IfOk result (λ request.
@@ -81,13 +81,13 @@ fn send_form(
     ensures memory { OnErr result
         (IsTrue (brings_octets (request_line (send_form (arguments_of (words_of words.entry.0.now)))))) }
 {
-    if !frame_words_into(octets, words)? {
+    if !frame_words_into(data_buffer, words)? {
         return Ok(None);
     }
     let (mut packets, mut packet) = take_with_packet(alloc, spare);
-    packet.extend_from_slice(octets.as_slice())?;
+    packet.extend_from_slice(data_buffer.as_slice())?;
     packets.push_back(packet)?;
-    Ok(Some(Request::Call(Call::Send(packets))))
+    Ok(Some(Request::Call(DriverCall::Send(packets))))
 }
 
 /// recv N
@@ -101,26 +101,26 @@ fn receive_form(mut words: Words<'_>) -> Option<Request>
     if most > MOST_PACKETS {
         return None;
     }
-    alone(Request::Call(Call::Receive(most)), words)
+    alone(Request::Call(DriverCall::Receive(most)), words)
 }
 
 fn address_form(
     arguments: Arguments<'_>,
-    octets: &mut Vec<u8>,
+    data_buffer: &mut Vec<u8>,
 ) -> Result<Option<Request>, AllocError>
     ensures value { IfOk result (λ request. option_map plain request ≡ address_form (plain_arguments arguments.entry)) }
     ensures memory { OnErr result (IsTrue (brings_octets (request_line
         (address_form (plain_arguments arguments.entry))))) }
 {
     match arguments {
-        Arguments::Zero => Ok(Some(Request::Call(Call::Address))),
-        Arguments::One(digits) => set_address_form(digits, octets),
+        Arguments::Zero => Ok(Some(Request::Call(DriverCall::Address))),
+        Arguments::One(digits) => set_address_form(digits, data_buffer),
         _ => Ok(None),
     }
 }
 
 /// The address that 12 digits write.
-fn set_address_form(digits: &[u8], octets: &mut Vec<u8>) -> Result<Option<Request>, AllocError>
+fn set_address_form(digits: &[u8], data_buffer: &mut Vec<u8>) -> Result<Option<Request>, AllocError>
     ensures value { IfOk result (λ request.
         option_map plain request ≡ option_map sets_address (option_and_then address_of (octets_of digits.now))) }
     ensures memory { OnErr result (IsTrue (brings_octets (request_line
@@ -130,10 +130,10 @@ fn set_address_form(digits: &[u8], octets: &mut Vec<u8>) -> Result<Option<Reques
     if digits.len() != ADDRESS_DIGITS {
         return Ok(None);
     }
-    if !octets_into(octets, digits)? {
+    if !octets_into(data_buffer, digits)? {
         return Ok(None);
     }
     let mut address = [0u8; 6];
-    address.copy_from_slice(octets.as_slice());
-    Ok(Some(Request::Call(Call::SetAddress(address))))
+    address.copy_from_slice(data_buffer.as_slice());
+    Ok(Some(Request::Call(DriverCall::SetAddress(address))))
 }

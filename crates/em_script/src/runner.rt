@@ -3,7 +3,7 @@ ghost use Rattle.std.specs.Prelude.{◌≡◌, ◌⊎◌, ℕ, ◌≤◌, ◌<�
 ghost use Rattle.std.specs.Io.KnownBytes.{Appends, Keeps};
 ghost use Rattle.em_text.specs.Reader.{most_script};
 ghost use Rattle.em_script.specs.Runner.{text, TakesNoMemory, SaysMemory, Answers, ReadsWhole, FailsInLine};
-ghost use Rattle.em_script.specs.Runner.{StopsBeforeLine, StopsInScript};
+ghost use Rattle.em_script.specs.Runner.{name_of, StopsBeforeLine, StopsInScript};
 
 use crate::peek_len::MOST_PEEK;
 use crate::play::play_line;
@@ -16,19 +16,30 @@ use thiserror::Error;
 
 /// Why a run stopped.
 #[derive(Clone, Copy, Debug, PartialEq, Eq, Error)]
+#[error("{}", self.name())]
 pub enum BenchFault {
     /// The reader failed.
-    #[error("Read")]
     Read,
     /// The writer failed, or took no octet.
-    #[error("Write")]
     Write,
     /// The script has more than 4,194,304 octets.
-    #[error("TooLarge")]
     TooLarge,
     /// Memory was refused while the script was read, or for the octets of a line.
-    #[error("Memory")]
     Memory,
+}
+
+impl BenchFault {
+    /// The name of the fault, as it is printed.
+    pub fn name(self) -> &'static str
+        ensures { result.now ≡ name_of self }
+    {
+        match self {
+            BenchFault::Read => "Read",
+            BenchFault::Write => "Write",
+            BenchFault::TooLarge => "TooLarge",
+            BenchFault::Memory => "Memory",
+        }
+    }
 }
 
 /// Reads a whole script, plays its lines one after another, and writes their answers.
@@ -79,28 +90,28 @@ pub fn run<R: Read, W: Write>(
         Err(ReadFault::TooLarge) => return Err(BenchFault::TooLarge),
         Err(ReadFault::Memory) => return Err(BenchFault::Memory),
     };
-    let mut octets = Vec::new(alloc);
-    let mut room = [0u8; MOST_PEEK];
+    let mut data_buffer = Vec::new(alloc);
+    let mut peek_buffer = [0u8; MOST_PEEK];
     run_lines(
         alloc,
         writer,
         session,
         script.as_slice(),
-        &mut octets,
-        &mut room,
+        &mut data_buffer,
+        &mut peek_buffer,
     )
 }
 
 /// Plays each line of a script.
 ///
-/// `octets` and `room` hold what one line says and shows, so that each is made once.
+/// `data_buffer` and `peek_buffer` hold what one line says and shows, so that each is made once.
 fn run_lines<W: Write>(
     alloc: Global,
     writer: &mut W,
     session: &mut Session,
     script: &[u8],
-    octets: &mut Vec<u8>,
-    room: &mut [u8; MOST_PEEK],
+    data_buffer: &mut Vec<u8>,
+    peek_buffer: &mut [u8; MOST_PEEK],
 ) -> Result<Summary, BenchFault>
     requires { length script.now ≤ most_script }
     ensures text { OnOk result (TakesNoMemory script.now
@@ -122,7 +133,15 @@ fn run_lines<W: Write>(
     let mut number = 1;
     while !rest.is_empty() {
         let (line, behind) = next_line(rest);
-        let Ok(played) = play_line(alloc, writer, session, number, line, octets, room) else {
+        let Ok(played) = play_line(
+            alloc,
+            writer,
+            session,
+            number,
+            line,
+            data_buffer,
+            peek_buffer,
+        ) else {
             return Err(BenchFault::Memory);
         };
         let outcome = match played {

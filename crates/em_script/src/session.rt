@@ -4,7 +4,7 @@ ghost use Rattle.em_driver.specs.Planned.{planned};
 ghost use Rattle.em_driver.specs.Turn.{plan_turns};
 ghost use Rattle.em_script.specs.Session.{bare};
 
-use crate::response::Response;
+use crate::driver_answer::DriverAnswer;
 use crate::seat::Seat;
 use em_driver::{PlanRefused, Turn, Turns};
 use em_journal::Machine;
@@ -63,11 +63,11 @@ impl Session {
         Ok(())
     }
 
-    /// Keeps the queue of a response for the next call that moves packets.
-    pub(crate) fn keep_packets(&mut self, response: Response)
+    /// Keeps the queue of a answer for the next call that moves packets.
+    pub(crate) fn keep_packets(&mut self, answer: DriverAnswer)
         ensures { self.new ≡ self.old }
     {
-        if let Response::Batch(packets, _) = response {
+        if let DriverAnswer::Batch(packets, _) = answer {
             self.packets = packets;
         }
     }

@@ -1,53 +1,34 @@
+use Rattle.std.proofs.Common.{◌≡◌, ◌∙◌, ◌≤◌, length, ap, refl, codes, map}
+use Rattle.std.specs.Prelude.{string_bytes}
 use Rattle.std.proofs.lemmas.List.{length-map}
-use Rattle.std.proofs.Common.{◌≡◌, ◌∙◌, ◌≤◌, length, ap, sym, subst, codes, map, Option, Some}
-use Rattle.std.specs.Prelude.{string_bytes, IfSome}
-use Rattle.clap.specs.Words.{Text, first_of, found_of}
+use Rattle.std.specs.Fmt.{digits}
+use Rattle.hex.specs.Hex.{encode_upper}
+use Rattle.hex.proofs.OnLiterals.{hex_on_literals}
+use Rattle.clap.specs.Words.{first_of, found_of}
 use Rattle.clap.proofs.WalkLemmas.{first_value-rows}
-use Rattle.em_options.specs.Options.{IsMac, SaysNumber, SaysOctets, said}
-use Rattle.em_options.proofs.Usual.{usual_budget, usual_mac, usual_memory}
+use Rattle.em_journal.specs.Settings.{defaults}
+use Rattle.em_options.specs.Options.{said}
+use Rattle.em_options.proofs.Usual.{usual_number, usual_octets}
 use Rattle.em_options.proofs.command.options.Goals as goal
-
-pub returns-clause-memory : goal.returns-clause-memory
-unfolding said
-returns-clause-memory c =
-    let same : said (codes "memory") (map string_bytes c.args.words.now) ≡ Some c.value_of.result.now =
-    ap (first_of (codes "memory")) (sym c.in-Ok.ensures.rows) ∙ c.value_of.ensures in
-    subst (λ (o : Option Text). SaysNumber o c.number_of-memory.result) (sym same) c.number_of-memory.ensures
-
-pub returns-clause-budget : goal.returns-clause-budget
-unfolding said
-returns-clause-budget c =
-    let same : said (codes "budget") (map string_bytes c.args.words.now) ≡ Some c.value_of-2.result.now =
-    ap (first_of (codes "budget")) (sym c.in-Ok.ensures.rows) ∙ c.value_of-2.ensures in
-    subst (λ (o : Option Text). SaysNumber o c.number_of-budget.result) (sym same) c.number_of-budget.ensures
-
-pub returns-clause-mac : goal.returns-clause-mac
-unfolding said
-returns-clause-mac c =
-    let same : said (codes "mac") (map string_bytes c.args.words.now) ≡ Some c.value_of-3.result.now =
-    ap (first_of (codes "mac")) (sym c.in-Ok.ensures.rows) ∙ c.value_of-3.ensures in
-    subst (λ (o : Option Text). SaysOctets o c.in-Some.mac) (sym same) c.in-Some.ensures.value
 
 pub returns-clause-script : goal.returns-clause-script
 unfolding said
 returns-clause-script c =
     let found = first_value-rows (found_of c.in-Ok.matches) (codes "script") in
-    c.get_str.ensures ∙ (found ∙ ap (first_of (codes "script")) c.in-Ok.ensures.rows)
+    c.get_str.ensures ∙ (found ∙ ap (first_of (codes "script")) c.in-Ok.ensures.matches)
 
-pub returns-in_default-clause-err : goal.returns-in_default-clause-err
-unfolding said
-returns-in_default-clause-err c =
-    let same : said (codes "mac") (map string_bytes c.args.words.now) ≡ Some c.value_of-3.result.now =
-    ap (first_of (codes "mac")) (sym c.in-Ok.ensures.rows) ∙ c.value_of-3.ensures in
-    let no_mac : IsMac c.value_of-3.result.now → ⊥ = λ h. let some = c.in_default.ensures.found.1 h in cc in
-    (c.in-Ok.ensures.kinds, subst (λ (o : Option Text). IfSome o (λ text. IsMac text → ⊥)) (sym same) no_mac)
-
+-- an option more is a line more
 pub returns-clause-usual : goal.returns-clause-usual
+unfolding hex_on_literals digits
 returns-clause-usual c few =
     let words = map string_bytes c.args.words.now in
-    let at_most_one : length words ≤ 1 = rw (length-map c.args.words.now (string_bytes)) few in
-    record {
-      memory = usual_memory words _ at_most_one (returns-clause-memory c);
-      budget = usual_budget words _ at_most_one (returns-clause-budget c);
-      mac = usual_mac words _ at_most_one (returns-clause-mac c);
-    }
+    let one : length words ≤ 1 = rw (length-map c.args.words.now (string_bytes)) few in
+    let found = c.in-Ok.ensures.matches in
+    let memory : c.number_of.result ≡ defaults.memory =
+    usual_number (codes "memory") words _ defaults.memory one refl refl (c.number_of.ensures words found) in
+    let budget : c.number_of-2.result ≡ defaults.budget =
+    usual_number (codes "budget") words _ defaults.budget one refl refl (c.number_of-2.ensures words found) in
+    let mac : c.in-Some.mac ≡ defaults.mac =
+    usual_octets (codes "mac") words _ (encode_upper defaults.mac) defaults.mac one refl refl
+    (c.in-Some.ensures.value words found) in
+    rw (memory, budget, mac) refl

@@ -3,7 +3,7 @@ use Rattle.std.specs.Prelude.{string_bytes}
 use Rattle.std.proofs.lemmas.Result.{IfOk-weaker}
 use Rattle.clap.specs.Words.{App, is_simple, is_simple_and_free, matches_of}
 use Rattle.em_options.specs.Options.{em_bench}
-use Rattle.em_options.proofs.Defaults.{address_given, memory_given, budget_given}
+use Rattle.em_options.proofs.Defaults.{number_given, option_given}
 use Rattle.em_options.proofs.command.parse.Goals as goal
 
 bench_is_simple : is_simple em_bench ≡ true
@@ -14,8 +14,8 @@ bench_is_free : is_simple_and_free em_bench ≡ true
 unfolding em_bench
 bench_is_free = refl
 
-pub returns-clause-rows : goal.returns-clause-rows
-returns-clause-rows c =
+pub returns-clause-matches : goal.returns-clause-matches
+returns-clause-matches c =
     let same = c.in_ok-command.ensures in
     let words = map string_bytes c.args.words.now in
     IfOk-weaker c.try_get_matches_from.result _ _
@@ -27,20 +27,14 @@ returns-clause-kinds c =
     let same = c.in_ok-command.ensures in
     rw (← same) (c.try_get_matches_from.ensures.kinds (ap is_simple_and_free same ∙ bench_is_free))
 
-pub returns-clause-memory : goal.returns-clause-memory
-returns-clause-memory c =
+pub returns-clause-options : goal.returns-clause-options
+returns-clause-options c =
     IfOk-weaker c.try_get_matches_from.result _ _
-    (λ m p. memory_given c.in_ok-command.command m c.in_ok-command.ensures p)
+    (λ m p name is. option_given c.in_ok-command.command m name c.in_ok-command.ensures p is)
     c.try_get_matches_from.ensures.parsed
 
-pub returns-clause-budget : goal.returns-clause-budget
-returns-clause-budget c =
+pub returns-clause-numbers : goal.returns-clause-numbers
+returns-clause-numbers c =
     IfOk-weaker c.try_get_matches_from.result _ _
-    (λ m p. budget_given c.in_ok-command.command m c.in_ok-command.ensures p)
-    c.try_get_matches_from.ensures.parsed
-
-pub returns-clause-mac : goal.returns-clause-mac
-returns-clause-mac c =
-    IfOk-weaker c.try_get_matches_from.result _ _
-    (λ m p. address_given c.in_ok-command.command m c.in_ok-command.ensures p)
+    (λ m p name is. number_given c.in_ok-command.command m name c.in_ok-command.ensures p is)
     c.try_get_matches_from.ensures.parsed

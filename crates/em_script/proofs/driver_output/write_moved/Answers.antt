@@ -1,6 +1,6 @@
 use Rattle.std.proofs.Common.{refl}
 use Rattle.em_driver.specs.Receive.{lists}
-use Rattle.em_script.specs.Response.{result_outcome, result_text}
+use Rattle.em_script.specs.DriverAnswer.{result_outcome, result_text}
 use Rattle.em_script.specs.Wire.{frames_text}
 use Rattle.em_script.proofs.PrintLemmas.{prints_part}
 use Rattle.em_script.proofs.driver_output.write_moved.Goals as goal

@@ -6,10 +6,10 @@ use Rattle.em_script.proofs.reply.ask.Goals as goal
 pub returns-in-Start : goal.returns-in-Start
 returns-in-Start g c = λ number.
     rw (c.in-Start.is) (call_made number starts c.start_driver.result refl c.start_driver.ensures
-    c.write_called.ensures)
+    c.write_driver_reply.ensures)
 
 pub returns-in-Some : goal.returns-in-Some
 returns-in-Some g c = λ number.
-    rw (c.in-Call.is, c.keep_packets.ensures) (call_made number (plain_call c.in-Call.call) c.in-Some.called
+    rw (c.in-Call.is, c.keep_packets.ensures) (call_made number (plain_call c.in-Call.call) c.in-Some.reply
     (has_driver_call c.in-Call.call c.args.session.now ∙ c.in-Some.ensures.stands) c.in-Some.ensures.called
-    c.write_called-written.ensures)
+    c.write_driver_reply-written.ensures)

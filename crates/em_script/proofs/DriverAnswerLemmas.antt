@@ -12,8 +12,9 @@ use Rattle.em_driver.specs.declared.outcome.Cause.{Cause}
 use Rattle.em_driver.specs.declared.outcome.Cause.TheVariants.{Memory, Layout, Checksum, Queue, PacketLength, Broken}
 use Rattle.em_script.specs.Runner.{SaysMemory}
 use Rattle.em_script.specs.DriverText.{stopped_text, turns_text}
-use Rattle.em_script.specs.Response.{Response, start, batch, stats, address, set, response_text, says_memory}
-use Rattle.em_script.specs.Response.{plan_text, call_text}
+use Rattle.em_script.specs.DriverAnswer.{DriverAnswer, start, batch, stats, address, set, says_memory}
+use Rattle.em_script.specs.DriverAnswer.{driver_answer_text}
+use Rattle.em_script.specs.DriverAnswer.{plan_text, call_text}
 
 -- ---- texts that say it
 
@@ -56,16 +57,16 @@ stopped_says count events Broken h = absurd (false≢true h)
 
 -- ---- calls that say it
 
-response_says : (events : ℕ) (response : Response) → says_memory response ≡ true
-    → SaysMemory (response_text events response)
-response_says events (start None) h = absurd (false≢true h)
-response_says events (start (Some cause)) h = stopped_says 0 events cause h
-response_says events (batch packets (Ok moved)) h = absurd (false≢true h)
-response_says events (batch packets (Err stopped)) h =
+driver_answer_says : (events : ℕ) (answer : DriverAnswer) → says_memory answer ≡ true
+    → SaysMemory (driver_answer_text events answer)
+driver_answer_says events (start None) h = absurd (false≢true h)
+driver_answer_says events (start (Some cause)) h = stopped_says 0 events cause h
+driver_answer_says events (batch packets (Ok moved)) h = absurd (false≢true h)
+driver_answer_says events (batch packets (Err stopped)) h =
     says_before _ _ (stopped_says stopped.count stopped.events stopped.cause h)
-response_says events (stats counted) h = absurd (false≢true h)
-response_says events (address octets) h = absurd (false≢true h)
-response_says events set h = absurd (false≢true h)
+driver_answer_says events (stats counted) h = absurd (false≢true h)
+driver_answer_says events (address octets) h = absurd (false≢true h)
+driver_answer_says events set h = absurd (false≢true h)
 
 turns_say : (performed refused : ℕ) (starved : Bool) → starved ≡ true
     → SaysMemory (turns_text performed refused starved)
@@ -82,10 +83,12 @@ either true b h = inl refl
 either false b h = inr h
 
 -- where a turn can be refused memory only under a plan
-pub call_says : (plan : Option (List (List Turn))) (did : Played Response) → (plan ≡ None → did.world.starved ≡ false)
+pub call_says : (plan : Option (List (List Turn))) (did : Played DriverAnswer)
+    → (plan ≡ None → did.world.starved ≡ false)
     → wants_memory says_memory did.answer did.world ≡ true → SaysMemory (call_text plan did)
 call_says plan did fed wants =
     elim (either (says_memory did.answer) did.world.starved wants) [
-      | inl says ↦ says_before (response_text did.events did.answer) _ (response_says did.events did.answer says)
-      | inr starved ↦ says_behind (response_text did.events did.answer) _ (by_plan plan did.world fed starved)
+      | inl says ↦
+          says_before (driver_answer_text did.events did.answer) _ (driver_answer_says did.events did.answer says)
+      | inr starved ↦ says_behind (driver_answer_text did.events did.answer) _ (by_plan plan did.world fed starved)
     ]

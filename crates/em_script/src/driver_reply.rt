@@ -1,6 +1,6 @@
 //! A call of a driver that was made.
 
-use crate::response::Response;
+use crate::driver_answer::DriverAnswer;
 
 /// What the turns of a plan came to: so many were performed and so many refused, and whether memory
 /// was refused to one.
@@ -14,8 +14,8 @@ pub struct PlanCounts {
 /// What a driver did on a line: so many events, what it answered, and the counts of the plan, where
 /// one was set.
 #[derive(Drop)]
-pub struct Called {
+pub struct DriverReply {
     pub events: u32,
-    pub response: Response,
+    pub answer: DriverAnswer,
     pub plan: Option<PlanCounts>,
 }

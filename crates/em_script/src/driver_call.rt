@@ -4,7 +4,7 @@ use std::collections::VecDeque;
 
 /// What a line asks a driver that stands.
 #[derive(Drop)]
-pub enum Call {
+pub enum DriverCall {
     /// Send these packets.
     Send(VecDeque<Vec<u8>>),
     /// Receive at most so many packets.

@@ -5,7 +5,7 @@ use std::collections::VecDeque;
 
 /// What a driver answers to a line.
 #[derive(Drop)]
-pub enum Response {
+pub enum DriverAnswer {
     /// To a start: why it stopped, if it did.
     Start(Option<Cause>),
     /// To a call that moves packets: those that came, and how many were moved or why it stopped.
