@@ -1,6 +1,6 @@
 -- An event of others, in a state as a driver keeps it.
 use Rattle.std.proofs.Common.{◌≡◌, ◌≢◌, ◌∙◌, ◌||◌, ◌==◌, ℕ, ◌+◌, ◌≤◌, Bool, true, false, List, [], ◌++◌, length}
-use Rattle.std.proofs.Common.{refl, sym, ap, subst, Option, Some, None, Ok, Err, if◌then◌else◌}
+use Rattle.std.proofs.Common.{refl, sym, ap, subst, arith, Option, Some, None, Ok, Err, if◌then◌else◌}
 use Rattle.std.specs.FinMap as map
 use Rattle.std.specs.Prelude.{bit_and, nat_lt, IfSome}
 use Rattle.std.proofs.lemmas.Bool.{ltb-false}
