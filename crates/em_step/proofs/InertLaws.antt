@@ -211,8 +211,11 @@ store_alike s n reg v h =
 
 eerd_alike : (s : State) (n : Registers) (v : ℕ) (start : Bool) → AgreeInRules s.registers n
     → Alike (Ok (Done, if start then after_eeprom_read s (eerd_address v) else after_store s Eerd v))
-    (Ok (Done, if start then after_eeprom_read (with_registers s n) (eerd_address v)
-    else after_store (with_registers s n) Eerd v))
+    (Ok (
+      Done,
+      if start then after_eeprom_read (with_registers s n) (eerd_address v)
+          else after_store (with_registers s n) Eerd v,
+    ))
 eerd_alike s n v true h =
     let a : ℕ = eerd_address v in
     let word : ℕ = registers.eerd_value a (word_at s.eeprom a) in
@@ -248,8 +251,11 @@ written_by s n v (Some reg) h = write_alike s n reg v h
 
 linked_by : (s : State) (n : Registers) (up changes : Bool) → AgreeInRules s.registers n
     → Alike (Ok (Done, if changes then record s { link = up; latches = latches.after_raise s.latches 0x4 } else s))
-    (Ok (Done, if changes then record (with_registers s n) { link = up; latches = latches.after_raise s.latches 0x4 }
-    else with_registers s n))
+    (Ok (
+      Done,
+      if changes then record (with_registers s n) { link = up; latches = latches.after_raise s.latches 0x4 }
+          else with_registers s n,
+    ))
 linked_by s n up true h = (refl, (n, refl, h))
 linked_by s n up false h = (refl, (n, refl, h))
 
@@ -387,4 +393,3 @@ alike s n (arrives f) h noread = sized_by s n f (nat_lt (length f) 14 || nat_lt 
 alike s n (links up) h noread = linked_by s n up (differ up s.link) h
 alike s n receives h noread = receive_alike s n h
 alike s n transmits h noread = transmit_alike s n h
-
