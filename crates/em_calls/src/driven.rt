@@ -1,37 +1,72 @@
-//! A driver as the courses and the tests call it. Its calls have no contracts here: else the prover would carry what
-//! they promise through all that comes after them.
+//! A driver as the tests call it. Its calls have no contracts here, so that a test is proved in little time.
+
+ghost use Rattle.std.specs.Prelude.{◌<◌};
+ghost use Rattle.em_driver.specs.Planned.{planned};
+ghost use Rattle.em_driver.specs.Turn.{plan_turns};
 
 use crate::digest::digest;
 use crate::plan::Plan;
 use crate::setup::{driver_with_turns, packet};
-use anyhow::Result;
-use em_driver::{Batch, E1000, IxyDevice, Stopped, Turns};
+use crate::tests::same;
+use em_driver::{Batch, Cause, DeviceStats, E1000, IxyDevice, PlanRefused, Stopped, Turn, Turns};
 use em_regs::Reg;
 use em_step::{Answer, Event};
 use std::alloc::Global;
 use std::collections::VecDeque;
+use std::test::Fail;
 
 /// A driver, with the packets that it received and those that it is to send.
 #[derive(Drop)]
 pub struct Driven {
-    pub(crate) alloc: Global,
-    pub(crate) driver: E1000<Turns>,
-    pub(crate) received: VecDeque<Vec<u8>>,
-    pub(crate) queue: VecDeque<Vec<u8>>,
+    alloc: Global,
+    driver: E1000<Turns>,
+    received: VecDeque<Vec<u8>>,
+    queue: VecDeque<Vec<u8>>,
 }
 
 /// What the counts of a plan's turns show: performed, refused, stored, starved.
 pub type Counts = (u32, u32, usize, bool);
 
+/// The answer of a call that moved so many packets.
+pub fn batch(count: u32, events: u32) -> Result<Batch, Stopped> {
+    Ok(Batch { count, events })
+}
+
+/// The answer of a call that was stopped.
+pub fn stopped(count: u32, events: u32, cause: Cause) -> Result<Batch, Stopped> {
+    Err(Stopped {
+        count,
+        events,
+        cause,
+    })
+}
+
+/// Does so with a driver on a machine with its link up.
+pub fn on_a_driver<F: FnOnce(&mut Driven) -> Result<(), Fail> + Drop>(
+    alloc: Global,
+    case: F,
+) -> Result<(), Fail>
+    requires { F.IsAlwaysCallable case }
+{
+    let mut driven = Driven {
+        alloc,
+        driver: driver_with_turns(alloc)?,
+        received: VecDeque::new(alloc),
+        queue: VecDeque::new(alloc),
+    };
+    case(&mut driven)
+}
+
 impl Driven {
-    /// A driver on a machine with its link up.
-    pub fn new(alloc: Global) -> Result<Driven> {
-        Ok(Driven {
-            alloc,
-            driver: driver_with_turns(alloc)?,
-            received: VecDeque::new(alloc),
-            queue: VecDeque::new(alloc),
-        })
+    /// Begins again, on a new machine.
+    pub fn renew(&mut self) -> Result<(), Fail> {
+        self.forget();
+        self.driver = driver_with_turns(self.alloc)?;
+        Ok(())
+    }
+
+    pub fn alloc(&self) -> Global {
+        self.alloc
     }
 
     // ---- the calls
@@ -44,29 +79,62 @@ impl Driven {
         self.driver.tx_batch(queue, &mut self.queue)
     }
 
+    pub fn get_link_speed(&mut self) -> u16 {
+        self.driver.get_link_speed()
+    }
+
+    pub fn get_mac_addr(&mut self) -> [u8; 6] {
+        self.driver.get_mac_addr()
+    }
+
+    pub fn set_mac_addr(&mut self, address: [u8; 6]) {
+        self.driver.set_mac_addr(address);
+    }
+
+    pub fn read_stats(&mut self, stats: &mut DeviceStats) {
+        self.driver.read_stats(stats);
+    }
+
+    pub fn reset_stats(&mut self) {
+        self.driver.reset_stats();
+    }
+
+    pub fn is_named(&self, name: &str) -> bool {
+        self.driver.get_driver_name() == name
+    }
+
     // ---- what is done beside them
 
-    pub fn perform(&mut self, event: Event<'_>) -> Result<Answer> {
+    pub fn perform(&mut self, event: Event<'_>) -> Result<Answer, Fail> {
         Ok(self.driver.bus().machine_mut().perform(event)?)
     }
 
-    pub fn back_by(&mut self, steps: usize) -> usize {
-        self.driver.bus().machine_mut().back_by(steps)
+    pub fn back_by(&mut self, events: u32) -> usize {
+        self.driver.bus().machine_mut().back_by(events as usize)
     }
 
-    pub fn set_plan(&mut self, plan: Plan) -> Result<()> {
-        plan.set(self.driver.bus())
+    pub fn set_plan(&mut self, plan: Plan) -> Result<(), Fail> {
+        Ok(plan.set(self.driver.bus())?)
     }
 
-    /// A packet is to be sent, behind the others.
-    pub fn give(&mut self, number: u32, len: usize) -> Result<()> {
-        self.queue.push_back(packet(self.alloc, number, len)?)?;
+    pub fn set_lists(&mut self, plan: VecDeque<Vec<Turn>>) -> Result<(), PlanRefused>
+        requires { plan_turns (planned plan.items) < 0x1_0000_0000 }
+    {
+        self.driver.bus().set_plan(plan)
+    }
+
+    /// A frame arrives, and the receive engine handles a descriptor.
+    pub fn arrive(&mut self, number: u32, len: usize) -> Result<(), Fail> {
+        let frame = packet(self.alloc, number, len)?;
+        let answer = self.perform(Event::Arrive(frame.as_slice()))?;
+        same("arrival", answer, Answer::Stored)?;
+        let _ = self.perform(Event::RxStep)?;
         Ok(())
     }
 
-    /// A copy of this packet is to be sent, behind the others.
-    pub fn give_copy(&mut self, packet: &[u8]) -> Result<()> {
-        self.queue.push_back(packet.to_vec(self.alloc)?)?;
+    /// A packet is to be sent, behind the others.
+    pub fn give(&mut self, number: u32, len: usize) -> Result<(), Fail> {
+        self.queue.push_back(packet(self.alloc, number, len)?)?;
         Ok(())
     }
 
@@ -74,11 +142,6 @@ impl Driven {
     pub fn forget(&mut self) {
         self.received.clear();
         self.queue.clear();
-    }
-
-    /// The first packet received, which goes.
-    pub fn take_received(&mut self) -> Option<Vec<u8>> {
-        self.received.pop_front()
     }
 
     // ---- what it shows
@@ -91,12 +154,12 @@ impl Driven {
         self.driver.look_bus().machine().look(reg.offset())
     }
 
-    pub fn wire_len(&self) -> usize {
-        self.driver.look_bus().machine().wire_len()
+    pub fn events(&self) -> usize {
+        self.driver.look_bus().machine().can_go_back()
     }
 
-    pub fn wire_frame(&self, index: usize) -> Option<&[u8]> {
-        self.driver.look_bus().machine().wire_frame(index)
+    pub fn wire_len(&self) -> usize {
+        self.driver.look_bus().machine().wire_len()
     }
 
     pub fn counts(&self) -> Counts {
@@ -109,16 +172,56 @@ impl Driven {
         )
     }
 
-    /// A frame that a turn of the plan stored.
-    pub fn stored(&self, index: usize) -> Option<&[u8]> {
-        self.driver.look_bus().stored(index)
-    }
-
     pub fn received_len(&self) -> usize {
         self.received.len()
     }
 
     pub fn queue_len(&self) -> usize {
         self.queue.len()
+    }
+
+    /// The octets of the first packet to send.
+    pub fn first_len(&self) -> usize {
+        self.queue.front().map_or(0, |packet| packet.len())
+    }
+
+    /// The first packet received, which goes.
+    pub fn take_received(&mut self) -> Option<Vec<u8>> {
+        self.received.pop_front()
+    }
+
+    // ---- what it is to answer
+
+    pub fn receives(&mut self, n: usize, wanted: Result<Batch, Stopped>) -> Result<(), Fail> {
+        let answer = self.rx_batch(0, n);
+        same("rx_batch", answer, wanted)
+    }
+
+    pub fn sends(&mut self, wanted: Result<Batch, Stopped>) -> Result<(), Fail> {
+        let answer = self.tx_batch(0);
+        same("tx_batch", answer, wanted)
+    }
+
+    pub fn counted(&self, wanted: Counts) -> Result<(), Fail> {
+        same("counts", self.counts(), wanted)
+    }
+
+    /// So many steps back lead to a state.
+    pub fn goes_back(&mut self, events: u32, state: u64) -> Result<(), Fail> {
+        let done = self.back_by(events);
+        same("steps", done, events as usize)?;
+        same("state", self.digest(), state)
+    }
+
+    /// So many packets were received, numbered from 0 on in octet 6.
+    pub fn received_in_order(&mut self, count: u32) -> Result<(), Fail> {
+        same("received", self.received.len(), count as usize)?;
+        for number in 0..count {
+            let octet = self
+                .take_received()
+                .and_then(|packet| packet.get(6).copied());
+            same("octet 6", octet.map(u32::from), Some(number))?;
+        }
+        Ok(())
     }
 }

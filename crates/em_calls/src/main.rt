@@ -8,11 +8,8 @@
 use anyhow::Result;
 
 mod digest;
+#[cfg(test)]
 mod driven;
-#[cfg(test)]
-mod expected;
-#[cfg(test)]
-mod held;
 mod plan;
 #[cfg(test)]
 mod refusals;
@@ -20,8 +17,6 @@ mod setup;
 #[cfg(test)]
 mod tests;
 mod traffic;
-#[cfg(test)]
-mod wire_rows;
 
 /// How many courses there are, each of sixty calls by the random numbers of its own seed.
 const COURSES: u64 = 20;

@@ -7,13 +7,13 @@ ghost use Rattle.std.specs.Prelude.{◌≡◌, ◌<◌, length, IfOk};
 ghost use Rattle.em_driver.specs.Planned.{planned};
 ghost use Rattle.em_driver.specs.Turn.{plan_turns};
 
-use crate::driven::Driven;
-use crate::expected::{batch, on_a_driver};
-use crate::held::on_a_machine;
+use crate::digest::digest;
+use crate::driven::{Driven, batch, on_a_driver};
 use crate::plan::Plan;
 use crate::setup::{LAYOUT, arrival, linked_machine};
 use crate::tests::same;
-use em_driver::{Cause, Stopped, Turn};
+use em_driver::{Cause, E1000, Stopped, Turn};
+use em_journal::Machine;
 use std::alloc::Global;
 use std::collections::VecDeque;
 use std::test::Fail;
@@ -37,22 +37,27 @@ const STARVED: [(u32, u32, usize, bool); 3] = [(0, 0, 0, true), (1, 0, 1, true),
 
 #[test]
 fn a_refused_start_can_be_made_again(rt: HostRuntime) -> Result<(), Fail> {
-    on_a_machine(rt.alloc(), linked_machine(rt.alloc())?, |held| {
-        let before = held.digest();
-        let (refused, events) = held.start(LAYOUT)?;
-        if refused.is_none() {
-            return same("events", events, 291);
+    let machine = linked_machine(rt.alloc())?;
+    let before = digest(&machine);
+    match E1000::start(rt.alloc(), machine, LAYOUT) {
+        Ok((_, events)) => same("events", events, 291),
+        Err(mut refused) => {
+            let events = refused.events;
+            let _ = refused.bus.back_by(events as usize);
+            let found = (refused.cause, digest(&refused.bus));
+            same("refused", found, (Cause::Memory, before))?;
+            starts(rt.alloc(), refused.bus)?;
+            Err(met("start", events, 0))
         }
-        let _ = held.back_by(events);
-        same(
-            "refused",
-            (refused, held.digest()),
-            (Some(Cause::Memory), before),
-        )?;
-        // with memory a driver starts
-        same("started", held.start(LAYOUT)?, (None, 291))?;
-        Err(met("start", events, 0))
-    })
+    }
+}
+
+/// With memory a driver starts.
+fn starts(alloc: Global, machine: Machine) -> Result<(), Fail> {
+    match E1000::start(alloc, machine, LAYOUT) {
+        Ok((_, events)) => same("events", events, 291),
+        Err(_) => Err(Fail::new("it does not start")),
+    }
 }
 
 #[test]

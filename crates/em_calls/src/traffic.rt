@@ -1,10 +1,10 @@
 //! A driver's calls under random turns.
 
-use crate::driven::Driven;
+use crate::digest::digest;
 use crate::plan::Plan;
-use crate::setup::{arrival, packet};
+use crate::setup::{arrival, driver_with_turns, packet};
 use anyhow::{Result, bail, ensure};
-use em_driver::Turn;
+use em_driver::{E1000, IxyDevice, Turn, Turns};
 use em_regs::Reg;
 use em_step::Event;
 use rand_core::utils::NextWord;
@@ -31,13 +31,13 @@ const LEAST_SENT: usize = 60;
 struct Traffic {
     alloc: Global,
     random: Pcg32,
-    // its queue has the packets that it has not taken yet
-    driven: Driven,
+    driver: E1000<Turns>,
     // how many packets were made
     packets: u32,
     // the frames that were stored and not received yet
     stored: VecDeque<Vec<u8>>,
-    // the packets that were not sent yet
+    // the packets that the driver has not taken yet, and those that were not sent yet
+    queue: VecDeque<Vec<u8>>,
     unsent: VecDeque<Vec<u8>>,
     // how many frames were sent
     sent: usize,
@@ -48,9 +48,10 @@ pub fn course(alloc: Global, seed: u64) -> Result<()> {
     let mut traffic = Traffic {
         alloc,
         random: Pcg32::new(seed, 0),
-        driven: Driven::new(alloc)?,
+        driver: driver_with_turns(alloc)?,
         packets: 0,
         stored: VecDeque::new(alloc),
+        queue: VecDeque::new(alloc),
         unsent: VecDeque::new(alloc),
         sent: 0,
     };
@@ -75,28 +76,23 @@ impl Traffic {
         self.plan()?;
         let is_taken_back = self.below(4) == 0;
         let before = if is_taken_back {
-            self.driven.digest()
+            digest(self.driver.look_bus().machine())
         } else {
             0
         };
-        let queued = self.driven.queue_len();
-        let events = self.receive_or_send()?;
+        let queued = self.queue.len();
+        let mut received = VecDeque::new(self.alloc);
+        let events = if self.below(2) == 0 {
+            let most = self.below(6) as usize;
+            self.driver.rx_batch(0, &mut received, most)?.events
+        } else {
+            self.driver.tx_batch(0, &mut self.queue)?.events
+        };
         if is_taken_back {
             self.take_back(events, queued, before)
         } else {
-            self.note()
+            self.note(received)
         }
-    }
-
-    /// The driver receives or sends, and tells its events.
-    fn receive_or_send(&mut self) -> Result<u32> {
-        let batch = if self.below(2) == 0 {
-            let most = self.below(6) as usize;
-            self.driven.rx_batch(0, most)?
-        } else {
-            self.driven.tx_batch(0)?
-        };
-        Ok(batch.events)
     }
 
     /// A number below a bound.
@@ -115,7 +111,7 @@ impl Traffic {
         for _ in 0..self.below(4) {
             let number = self.next_number();
             let len = 14 + self.below(100) as usize;
-            self.driven.give(number, len)?;
+            self.queue.push_back(packet(self.alloc, number, len)?)?;
             self.unsent.push_back(packet(self.alloc, number, len)?)?;
         }
         Ok(())
@@ -131,7 +127,7 @@ impl Traffic {
             }
             plan = plan.after(turns)?;
         }
-        self.driven.set_plan(plan)
+        plan.set(self.driver.bus())
     }
 
     /// A random turn.
@@ -148,74 +144,67 @@ impl Traffic {
 
     /// Takes a call back, with the turns before its accesses.
     fn take_back(&mut self, events: u32, queued: usize, before: u64) -> Result<()> {
-        let (turns, ..) = self.driven.counts();
-        let steps = events as usize + turns as usize;
-        ensure!(self.driven.back_by(steps) == steps, "steps are missing");
-        ensure!(self.driven.digest() == before, "the state is another");
-        // the driver has not received and not taken these packets
-        self.driven.forget();
-        let sent = self.unsent.len().saturating_sub(queued);
-        for packet in self.unsent.iter().skip(sent) {
-            self.driven.give_copy(packet.as_slice())?;
+        let bus = self.driver.bus();
+        let steps = events as usize + bus.performed() as usize;
+        ensure!(
+            bus.machine_mut().back_by(steps) == steps,
+            "steps are missing"
+        );
+        ensure!(digest(bus.machine()) == before, "the state is another");
+        // the driver has not taken these packets
+        self.queue.clear();
+        for packet in self
+            .unsent
+            .iter()
+            .skip(self.unsent.len().saturating_sub(queued))
+        {
+            self.queue.push_back(packet.as_slice().to_vec(self.alloc)?)?;
         }
         Ok(())
     }
 
-    /// Notes what a call and its turns did.
-    fn note(&mut self) -> Result<()> {
-        self.note_stored()?;
-        self.note_received()?;
-        self.note_sent()
-    }
-
-    /// The turns stored frames.
-    fn note_stored(&mut self) -> Result<()> {
-        let (_, _, stored, _) = self.driven.counts();
-        for index in 0..stored {
-            if let Some(frame) = self.driven.stored(index) {
+    /// Notes what a call and its turns did: what it received are the next stored frames, and what was sent
+    /// are the next packets.
+    fn note(&mut self, received: VecDeque<Vec<u8>>) -> Result<()> {
+        let bus = self.driver.look_bus();
+        for index in 0..bus.stored_len() {
+            if let Some(frame) = bus.stored(index) {
                 self.stored.push_back(frame.to_vec(self.alloc)?)?;
             }
         }
-        Ok(())
-    }
-
-    /// The packets received are the next stored frames.
-    fn note_received(&mut self) -> Result<()> {
-        for _ in 0..self.driven.received_len() {
+        for packet in received {
             ensure!(
-                self.stored.pop_front() == self.driven.take_received(),
+                self.stored.pop_front() == Some(packet),
                 "another packet was received"
             );
         }
-        Ok(())
-    }
-
-    /// The frames sent are the next packets.
-    fn note_sent(&mut self) -> Result<()> {
-        for index in self.sent..self.driven.wire_len() {
+        let machine = self.driver.look_bus().machine();
+        for index in self.sent..machine.wire_len() {
             let Some(mut packet) = self.unsent.pop_front() else {
                 bail!("a frame was sent that nobody gave");
             };
             packet.resize(packet.len().max(LEAST_SENT), 0)?;
             ensure!(
-                self.driven.wire_frame(index) == Some(packet.as_slice()),
+                machine.wire_frame(index) == Some(packet.as_slice()),
                 "another frame was sent"
             );
         }
-        self.sent = self.driven.wire_len();
+        self.sent = machine.wire_len();
         Ok(())
     }
 
     /// The engines handle what waits, and the driver takes what came and gives what is left.
     fn finish(&mut self) -> Result<()> {
-        self.driven.set_plan(Plan::new(self.alloc))?;
+        Plan::new(self.alloc).set(self.driver.bus())?;
         for _ in 0..8 {
-            self.driven.perform(Event::RxStep)?;
-            self.driven.perform(Event::TxStep)?;
+            let machine = self.driver.bus().machine_mut();
+            machine.perform(Event::RxStep)?;
+            machine.perform(Event::TxStep)?;
         }
-        self.driven.rx_batch(0, 8)?;
-        self.driven.tx_batch(0)?;
-        self.note()
+        let mut received = VecDeque::new(self.alloc);
+        self.driver.rx_batch(0, &mut received, 8)?;
+        self.driver.tx_batch(0, &mut self.queue)?;
+        self.note(received)
     }
 
     /// Every stored frame was received and every packet sent, and both rings were gone round.
@@ -223,7 +212,7 @@ impl Traffic {
         ensure!(self.stored.is_empty(), "a stored frame was not received");
         ensure!(self.unsent.is_empty(), "a packet was not sent");
         ensure!(self.sent > ROUNDS, "few packets were sent");
-        let stored = self.driven.look(Reg::Gprc);
+        let stored = self.driver.look_bus().machine().look(Reg::Gprc.offset());
         ensure!(stored > Some(ROUNDS as u32), "few frames were stored");
         Ok(())
     }

@@ -1,10 +1,8 @@
 //! What calls that are not stopped answer.
 
 use super::same;
-use crate::driven::Driven;
-use crate::expected::{batch, on_a_driver};
-use crate::held::on_a_machine;
-use crate::setup::{LAYOUT, linked_machine, packet};
+use crate::driven::{Driven, batch, on_a_driver};
+use crate::setup::packet;
 use em_driver::DeviceStats;
 use em_regs::Reg;
 use em_step::{Answer, Event};
@@ -17,20 +15,6 @@ fn tells_its_device_and_the_speed_of_the_link(rt: HostRuntime) -> Result<(), Fai
         same("up", driven.get_link_speed(), 1000)?;
         let _ = driven.perform(Event::Link(false))?;
         same("down", driven.get_link_speed(), 0)
-    })
-}
-
-/// A machine comes back out of a plan of turns as a driver left it: here as one without a plan.
-#[test]
-fn a_machine_comes_back_out_of_its_turns(rt: HostRuntime) -> Result<(), Fail> {
-    on_a_machine(rt.alloc(), linked_machine(rt.alloc())?, |held| {
-        let before = held.digest();
-        same("started", held.start(LAYOUT)?, (None, 291))?;
-        let state = held.digest();
-        let steps = held.back_by(291);
-        same("taken back", (steps, held.digest()), (291, before))?;
-        same("with turns", held.start_with_turns(LAYOUT)?, (None, 291))?;
-        same("state", held.digest(), state)
     })
 }
 

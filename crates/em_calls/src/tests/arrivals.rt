@@ -1,6 +1,6 @@
 //! Frames that arrive inside of a call.
 
-use crate::expected::{batch, on_a_driver};
+use crate::driven::{batch, on_a_driver};
 use crate::plan::Plan;
 use crate::setup::arrival;
 use em_driver::Turn;

@@ -1,8 +1,7 @@
 //! Layouts at each limit, and one past it.
 
 use super::same;
-use crate::held::on_a_machine;
-use em_driver::{Cause, Layout};
+use em_driver::{Cause, E1000, Layout, StartRefused};
 use em_journal::Settings;
 use std::alloc::Global;
 use std::test::Fail;
@@ -132,18 +131,15 @@ fn starts_or_not(alloc: Global, layout: Layout, good: bool) -> Result<(), Fail> 
         memory: MEMORY,
         ..Settings::default()
     };
-    let descriptors = layout.rx_count.saturating_add(layout.tx_count);
     let wanted = if good {
-        (None, descriptors.saturating_add(275))
+        let descriptors = layout.rx_count.saturating_add(layout.tx_count);
+        (Ok(()), descriptors.saturating_add(275), 0)
     } else {
-        (Some(Cause::Layout), 0)
+        (Err(Cause::Layout), 0, 0)
     };
-    on_a_machine(alloc, settings.machine(alloc)?, |held| {
-        same("started", (layout, held.start(layout)?), (layout, wanted))?;
-        same(
-            "events",
-            (layout, held.events()),
-            (layout, wanted.1 as usize),
-        )
-    })
+    let found = match E1000::start(alloc, settings.machine(alloc)?, layout) {
+        Ok((_driver, events)) => (Ok(()), events, 0),
+        Err(StartRefused { bus, cause, events }) => (Err(cause), events, bus.can_go_back()),
+    };
+    same("started", (layout, found), (layout, wanted))
 }

@@ -1,14 +1,18 @@
 //! Calls that stop before their end, and are taken back.
 
 use super::same;
-use crate::driven::Driven;
-use crate::expected::{batch, on_a_driver, stopped};
-use crate::held::{machine_of_words, on_a_machine};
+use crate::digest::digest;
+use crate::driven::{Driven, batch, on_a_driver, stopped};
 use crate::setup::LAYOUT;
-use em_driver::Cause;
+use em_driver::{Cause, E1000};
+use em_eeprom::Eeprom;
+use em_journal::{MOST_BUDGET, Machine};
 use em_regs::Reg;
-use em_step::Event;
+use em_step::{Adapter, Event};
 use std::test::Fail;
+
+/// How many octets the guest's memory has here.
+const MEMORY: u64 = 65_536;
 
 /// Where the second receive descriptor has its length, and its status octet.
 const SECOND_LENGTH: u64 = 16 + 8;
@@ -22,13 +26,19 @@ const EOP: u8 = 0x02;
 
 #[test]
 fn the_words_of_the_eeprom_have_a_sum(rt: HostRuntime) -> Result<(), Fail> {
-    let machine = machine_of_words(rt.alloc(), [0; 64])?;
-    on_a_machine(rt.alloc(), machine, |held| {
-        let before = held.digest();
-        same("refused", held.start(LAYOUT)?, (Some(Cause::Checksum), 132))?;
-        let steps = held.back_by(1000);
-        same("taken back", (steps, held.digest()), (132, before))
-    })
+    let adapter = Adapter::new(rt.alloc(), MEMORY, Eeprom::of_words([0; 64]))?;
+    let Ok(machine) = Machine::new(rt.alloc(), adapter, MOST_BUDGET) else {
+        return Err(Fail::new("no machine"));
+    };
+    let before = digest(&machine);
+    let found = match E1000::start(rt.alloc(), machine, LAYOUT) {
+        Ok(_) => return Err(Fail::new("it starts")),
+        Err(mut refused) => {
+            let steps = refused.bus.back_by(1000);
+            (refused.cause, refused.events, steps, digest(&refused.bus))
+        }
+    };
+    same("refused", found, (Cause::Checksum, 132, 132, before))
 }
 
 #[test]
