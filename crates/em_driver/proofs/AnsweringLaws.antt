@@ -2,7 +2,7 @@
 use Rattle.std.proofs.Common.{ℕ, Bool, ap, inl, inr}
 use Rattle.em_driver.specs.World.{World}
 use Rattle.em_driver.specs.Course.{Course, done, read, write, reset, peek, poke, room, Follows}
-use Rattle.em_driver.specs.Play.{Tells}
+use Rattle.em_driver.specs.Play.{Tells, TellsApart}
 use Rattle.em_driver.specs.Answering.{answering}
 
 pub answering_follows : {A B : Type 0} (f : A → B) (course : Course A) (w v : World) (n : ℕ) (a : A)
@@ -54,7 +54,7 @@ answering_follows f (room stopped more) w v n a (inr h) = inr (answering_follows
 
 pub answering_tells : {A B : Type 0} (f : A → B) (says : B → Bool) (course : Course A)
     → Tells (λ a. says (f a)) course → Tells says (answering f course)
-unfolding Tells answering
+unfolding TellsApart answering
 answering_tells f says (done answer) h = tt
 answering_tells f says (read reg next) h = λ value. answering_tells f says (next value) (h value)
 answering_tells f says (write reg value more) h = answering_tells f says more h

@@ -14,7 +14,7 @@ use Rattle.em_driver.specs.Back.{Leg, IsCall, IsEvent, AreLegs, after_legs, all_
 use Rattle.em_driver.specs.Course.{Course, done, read, write, reset, peek, poke, room, Follows}
 use Rattle.em_driver.specs.Driven.{IsDriven}
 use Rattle.em_driver.specs.Turn.{event_of}
-use Rattle.em_driver.specs.World.{World, Accesses, Passes, present, after_outcome, after_turn, after_turns}
+use Rattle.em_driver.specs.World.{World, Accesses, Passes, after_outcome, after_turn, after_turns}
 use Rattle.em_driver.specs.declared.layout.Layout.{Layout}
 use Rattle.em_driver.specs.declared.turn.Turn.{Turn}
 

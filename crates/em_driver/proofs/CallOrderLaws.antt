@@ -60,12 +60,12 @@ pub set_mac_addr_order : (l : Layout) (octets : List ℕ) (w v : World) (events 
 unfolding Follows
 set_mac_addr_order l octets w v events a h step =
     let one = order_write l w step.mid (Ral 0) _
-    (record { ctrl = λ e. omega arith; rctl = λ e. omega arith; ring = λ e. omega arith })
-    (record { ctrl = λ e. omega arith; tctl = λ e. omega arith; ring = λ e. omega arith })
+    (record { ctrl = λ e. omega arith; control = λ e. omega arith; ring = λ e. omega arith })
+    (record { ctrl = λ e. omega arith; control = λ e. omega arith; ring = λ e. omega arith })
     (reg_at-offset_of (Ral 0) (omega arith)) refl (λ x. refl) h step.step in
     let two = order_write l step.mid step.more.mid (Rah 0) _
-    (record { ctrl = λ e. omega arith; rctl = λ e. omega arith; ring = λ e. omega arith })
-    (record { ctrl = λ e. omega arith; tctl = λ e. omega arith; ring = λ e. omega arith })
+    (record { ctrl = λ e. omega arith; control = λ e. omega arith; ring = λ e. omega arith })
+    (record { ctrl = λ e. omega arith; control = λ e. omega arith; ring = λ e. omega arith })
     (reg_at-offset_of (Rah 0) (omega arith)) refl (λ x. refl) one.driven step.more.step in
     order_on l w step.mid v [] [] [] [] one
     (order_on l step.mid step.more.mid v [] [] [] [] two

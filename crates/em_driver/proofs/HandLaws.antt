@@ -22,8 +22,9 @@ use Rattle.em_driver.specs.Receive.{following}
 use Rattle.em_driver.specs.Transmit.{tx_buffer, tx_descriptor}
 use Rattle.em_driver.specs.declared.layout.Layout.{Layout}
 use Rattle.em_driver.proofs.PlaceLaws.{following_in, grow_other, distance_more, between_grow}
-use Rattle.em_driver.proofs.ReceivingLaws.{RxMoves, rx_same, same_ring, same_rx, other_rx, writes, index_kept}
-use Rattle.em_driver.proofs.SendingLaws.{TxMoves, TxKept, kept_queued, kept_sending, same_tx, setup_tdt}
+use Rattle.em_driver.proofs.ReceivingLaws.{RxMoves, rx_same, same_ring, writes, index_kept}
+use Rattle.em_driver.proofs.SendingLaws.{TxMoves, TxKept, kept_queued, kept_sending}
+use Rattle.em_driver.proofs.SideLaws.{rx_side, tx_side, is_rx_side, is_tx_side, same_side, put_other_side, put_tail}
 use Rattle.em_driver.proofs.TurnLaws.{laid_same}
 use Rattle.em_driver.proofs.UnitLaws.{rx_ring, rx_buffers, tx_ring, tx_buffers, unit, unit_at, part_front}
 
@@ -44,7 +45,8 @@ hands : (l : Layout) (s : State) (m : List ℕ) → IsDriven l s → length m �
 hands l s m h size ring buffers kept =
     let t : State = record s { memory = m } in
     let r : RxMoves l s t [] = rx_same l s t h.but.receiving
-    (record { registers = same_rx s.registers s.registers refl; descriptors = ring; buffers = buffers }) refl in
+    (record { registers = same_side rx_side s.registers s.registers refl; descriptors = ring; buffers = buffers })
+    refl in
     record {
       driven = record {
         but = record {
@@ -77,7 +79,7 @@ fills_buffer l s t packet h few is =
     let w = writes l s.memory m tx_buffers b 0 packet h.but.layout.good low (omega arith)
     (ap (λ a. put s.memory a packet) zero) in
     let kept : TxKept l s (record s { memory = m }) = record {
-      registers = same_tx s.registers s.registers refl;
+      registers = same_side tx_side s.registers s.registers refl;
       descriptors = λ i inside other. w.other tx_ring i inside tt;
       buffers = λ i inside other. w.other tx_buffers i inside other;
       address = ap (little_number 8) (w.other tx_ring b low tt) ∙ h.but.sending.addresses b low;
@@ -130,7 +132,7 @@ writes_descriptor l s t packet h few is =
     = w.here ∙ put_whole (unit l s.memory tx_ring b) d (w.long ∙ sym long) in
     let inside = h.but.layout.placed.inside.tx_buffers in
     let kept : TxKept l s (record s { memory = m }) = record {
-      registers = same_tx s.registers s.registers refl;
+      registers = same_side tx_side s.registers s.registers refl;
       descriptors = λ i inside other. w.other tx_ring i inside other;
       buffers = λ i inside other. w.other tx_buffers i inside tt;
       address = ap (little_number 8) here ∙ described_address (tx_buffer l b) (length packet) (omega (arith, inside));
@@ -192,7 +194,7 @@ queues l s t packet h ready free is =
     = index_kept s.registers Tdt next (put_same s.registers Tdt next)
     (omega (arith, h.but.layout.good.tx_count.most)) in
     let head : tdh u ≡ a = put_other s.registers Tdt Tdh next (λ e. omega arith) in
-    let setup = setup_tdt s.registers next in
+    let setup = put_tail is_tx_side s.registers next in
     let now : (i : ℕ) → is_queued l u i ≡ is_among n a next i = λ i p. is_among n (head p) (tail p) i in
     let there : (i : ℕ) → i < n → i ≢ b → is_queued l u i ≡ is_queued l s i
     = λ i inside other. now i ∙ grow_other n a b i k.head k.tail room inside other in
@@ -210,8 +212,8 @@ queues l s t packet h ready free is =
     let r : RxMoves l s u []
     = rx_same l s u h.but.receiving
     (same_ring l s u
-    (other_rx s.registers Tdt next
-    (record { ctrl = λ e. omega arith; rctl = λ e. omega arith; ring = λ e. omega arith }))
+    (put_other_side is_rx_side s.registers Tdt next
+    (record { ctrl = λ e. omega arith; control = λ e. omega arith; ring = λ e. omega arith }))
     refl) refl in
     let far : distance n (tdh u) (tdt u) ≡ distance n a next = λ p. distance n (head p) (tail p) in
     let more = distance_more n a b k.head k.tail room in
@@ -221,7 +223,7 @@ queues l s t packet h ready free is =
           layout = laid_same l s u refl h.but.layout;
           receiving = r.but;
           sending = record {
-            tctl = setup.tctl ∙ k.tctl;
+            tctl = setup.control ∙ k.tctl;
             base = setup.base ∙ k.base;
             len = setup.len ∙ k.len;
             head = subst (λ x. x < n) (sym head) k.head;

@@ -22,7 +22,7 @@ by_want says course w v n a false fed tells follows =
     record {
       named = None;
       can = tt;
-      is = sym (followed_is_played says course w v n a tells follows none.0 none.1);
+      is = sym (followed_is_played says says course w v n a tells follows none.0 (inl none.0) none.1);
     }
 
 pub call_happens : {A : Type 0} (says : A → Bool) (course : Course A) (w v : World) (n : ℕ) (a : A)

@@ -16,6 +16,7 @@ pub mod StartLaws
 pub mod PlaceLaws
 pub mod UnitLaws
 pub mod DescriptorLaws
+pub mod SideLaws
 pub mod ReceivingLaws
 pub mod SendingLaws
 pub mod TurnLaws

@@ -39,8 +39,9 @@ use Rattle.em_driver.proofs.HoldLaws.{Entries, Hold, are_others, hold_other, bas
 use Rattle.em_driver.proofs.MakingLaws.{IsMaking, making_closed, rx_entries}
 use Rattle.em_driver.proofs.OffLaws.{tx_idle}
 use Rattle.em_driver.proofs.PlaceLaws.{among_none, between_none}
-use Rattle.em_driver.proofs.ReceivingLaws.{NotReceiving, RxMoves, other_rx, rx_same, same_ring, same_rx}
+use Rattle.em_driver.proofs.ReceivingLaws.{RxMoves, rx_same, same_ring}
 use Rattle.em_driver.proofs.ReceivingLaws.{writes as writes_unit}
+use Rattle.em_driver.proofs.SideLaws.{rx_side, is_rx_side, same_side, IsOther, put_other_side}
 use Rattle.em_driver.proofs.StageLaws.{IsClosed, Brings, brings_all, brings_both, brings_memory, brings_write}
 use Rattle.em_driver.proofs.TurnLaws.{RxTurn, arrival_turn, receive_turn, laid_same}
 use Rattle.em_driver.proofs.UnitLaws.{rx_ring, rx_buffers, tx_ring, unit, unit_at}
@@ -87,7 +88,7 @@ listening_turn l sent entries k s t stored added few others h r = record {
   receiving = r.receiving.but;
   marked = r.receiving.mark h.marked;
   waits = r.receiving.waiting ∙ ap (λ x. x ++ added) h.waits;
-  tctl = r.sending.registers.setup.tctl ∙ h.tctl;
+  tctl = r.sending.registers.setup.control ∙ h.tctl;
   gathered = r.sending.gathered ∙ h.gathered;
   holds = hold_rdh s.registers t.registers entries others r.registers h.holds;
   fresh = λ i low. r.sending.descriptors i (omega arith) ∙ h.fresh i low;
@@ -174,7 +175,7 @@ receiving_enabled l sent placed =
 
 -- an offset of no register that the receive side goes by, nor of TCTL
 pub record IsQuiet (o : ℕ) : Type 0 where
-  pub receiving : NotReceiving o
+  pub receiving : IsOther rx_side o
   pub tctl : o ≢ 0x400
 
 listening_put : (l : Layout) (sent : List (List ℕ)) (entries : Entries) (k : ℕ) (s : State) (stored : List (List ℕ))
@@ -185,7 +186,8 @@ listening_put : (l : Layout) (sent : List (List ℕ)) (entries : Entries) (k : �
 listening_put l sent entries k s stored reg v u quiet others kept h =
     let t : State = record s { registers = registers.put s.registers reg v } in
     let r : RxMoves l s t []
-    = rx_same l s t h.receiving (same_ring l s t (other_rx s.registers reg v quiet.receiving) refl) refl in
+    = rx_same l s t h.receiving
+    (same_ring l s t (put_other_side is_rx_side s.registers reg v quiet.receiving) refl) refl in
     record {
       layout = laid_same l s t refl h.layout;
       receiving = r.but;
@@ -234,7 +236,7 @@ descriptor_made l sent k low =
     let r : RxMoves l s now []
     = rx_same l s now h.receiving
     (record {
-      registers = same_rx s.registers s.registers refl;
+      registers = same_side rx_side s.registers s.registers refl;
       descriptors = λ i below. w.other rx_ring i below tt;
       buffers = λ i below. w.other rx_buffers i below tt;
     }) refl in
@@ -280,7 +282,7 @@ tx_registers l more =
 quiet : (o : ℕ) → 0x0400 < o → (0x2800 ≤ o → 0x2818 < o) → IsQuiet o
 quiet o low ring =
     record {
-      receiving = record { ctrl = λ e. omega arith; rctl = λ e. omega arith; ring = ring };
+      receiving = record { ctrl = λ e. omega arith; control = λ e. omega arith; ring = ring };
       tctl = λ e. omega
           arith;
     }
@@ -343,8 +345,8 @@ enabled_sending l sent s stored h =
     let r : RxMoves l s t []
     = rx_same l s t h.receiving
     (same_ring l s t
-    (other_rx s.registers Tctl 0x4_010A
-    (record { ctrl = λ e. omega arith; rctl = λ e. omega arith; ring = λ e. omega arith }))
+    (put_other_side is_rx_side s.registers Tctl 0x4_010A
+    (record { ctrl = λ e. omega arith; control = λ e. omega arith; ring = λ e. omega arith }))
     refl) refl in
     record {
       driven = record {

@@ -32,8 +32,9 @@ use Rattle.em_driver.specs.Turn.{event_of, stored_in}
 use Rattle.em_driver.specs.declared.layout.Layout.{Layout}
 use Rattle.em_driver.specs.declared.turn.Turn.{Turn}
 use Rattle.em_driver.specs.declared.turn.Turn.TheVariants.{Arrive, RxStep, TxStep}
-use Rattle.em_driver.proofs.ReceivingLaws.{NotReceiving, rx_same, same_rx}
-use Rattle.em_driver.proofs.SendingLaws.{NotSending, tx_same, same_tx}
+use Rattle.em_driver.proofs.ReceivingLaws.{rx_same}
+use Rattle.em_driver.proofs.SendingLaws.{tx_same}
+use Rattle.em_driver.proofs.SideLaws.{rx_side, tx_side, same_side, IsOther}
 use Rattle.em_driver.proofs.TurnLaws.{Moves, moves_link, moves_none, moves_same, moves_word, laid_same, turn_moves}
 use Rattle.em_driver.proofs.TurnLaws.{arrival_turn, receive_turn}
 use Rattle.em_driver.proofs.UnitLaws.{rx_ring, rx_buffers, tx_ring, tx_buffers, unit_outside}
@@ -52,11 +53,11 @@ turns_are_others l TxStep = tt
 
 -- ---- a register
 
-not_receiving : (o : ℕ) → IsNoDriverRegister o → NotReceiving o
-not_receiving o h = record { ctrl = h.ctrl; rctl = h.rctl; ring = h.rx_ring }
+not_receiving : (o : ℕ) → IsNoDriverRegister o → IsOther rx_side o
+not_receiving o h = record { ctrl = h.ctrl; control = h.rctl; ring = h.rx_ring }
 
-not_sending : (o : ℕ) → IsNoDriverRegister o → NotSending o
-not_sending o h = record { ctrl = h.ctrl; tctl = h.tctl; ring = h.tx_ring }
+not_sending : (o : ℕ) → IsNoDriverRegister o → IsOther tx_side o
+not_sending o h = record { ctrl = h.ctrl; control = h.tctl; ring = h.tx_ring }
 
 word_still : (l : Layout) (s : State) (o v : ℕ) → IsDrivenBut l s → IsNoDriverRegister o
     → Still l s (record s { registers = map.insert s.registers o v })
@@ -123,12 +124,12 @@ memory_still l s a d h out held =
       moves = record {
         layout = laid_same l s t (length-put s.memory a d held) h.layout;
         receiving = rx_same l s t h.receiving (record {
-          registers = same_rx s.registers s.registers refl;
+          registers = same_side rx_side s.registers s.registers refl;
           descriptors = λ i low. unit_outside l s.memory a d held out rx_ring i low;
           buffers = λ i low. unit_outside l s.memory a d held out rx_buffers i low;
         }) refl;
         sending = tx_same l s t h.sending (record {
-          registers = same_tx s.registers s.registers refl;
+          registers = same_side tx_side s.registers s.registers refl;
           descriptors = λ i low. unit_outside l s.memory a d held out tx_ring i low;
           buffers = λ i low. unit_outside l s.memory a d held out tx_buffers i low;
           gathered = refl;
@@ -140,7 +141,8 @@ memory_still l s a d h out held =
 
 poked_by : (l : Layout) (s : State) (a : ℕ) (d : List ℕ) (past short : Bool) (r : Answer × State) → IsDrivenBut l s
     → IsNoDriverMemory l a (length d) → nat_lt (length s.memory) (a + length d) ≡ past
-    → (if past then Err Range else if short then Err Length else Ok (Done, record s { memory = put s.memory a d })) ≡ Ok r
+    → (if past then Err Range else if short then Err Length
+    else Ok (Done, record s { memory = put s.memory a d })) ≡ Ok r
     → Still l s r.1
 poked_by l s a d true short r h out is e = cc
 poked_by l s a d false true r h out is e = cc
@@ -189,4 +191,5 @@ pub queue_rests : (l : Layout) (s : State) (e : Event) (r : Answer × State) →
     → step s e ≡ Ok r → e ≢ transmits → queued l r.1 ≡ queued l s
 queue_rests l s e r h out is other =
     append_cancel_left s.wire (queued l r.1) (queued l s)
-    (ap (λ x. x ++ queued l r.1) (sym (wire_rests l s e r h out is other)) ∙ (others_move l s e r h out is).sending.wire)
+    (ap (λ x. x ++ queued l r.1) (sym (wire_rests l s e r h out is other))
+    ∙ (others_move l s e r h out is).sending.wire)

@@ -102,13 +102,14 @@ passed_access w m n e answer p a =
       is = refl;
     }
 
-pub passed_refusal : (w m : World) (n : View) (e : Event) (refusal : Refusal) → Passes w m
+pub passed_refusal : (w m : World) (n : View) (e : Event) (refusal : Refusal) → m.scarce ≡ true → Passes w m
     → IsRefused (quiet m.machine) e refusal (quiet n) → IsRefused w e refusal (record m { machine = n })
-passed_refusal w m n e refusal p a =
+passed_refusal w m n e refusal is p a =
     let same : n ≡ m.machine = ap (λ (x : World). x.machine) (pass_none (quiet m.machine) (quiet n) refl a.passes) in
     record {
       passes = subst (λ v. Passes w (record m { machine = v })) (sym same) p;
       refuses = a.refuses;
+      asked = λ want. is;
     }
 
 -- what follows from an access

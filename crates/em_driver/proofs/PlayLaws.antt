@@ -1,6 +1,6 @@
 -- A course that is followed where memory is refused nowhere is played.
-use Rattle.std.proofs.Common.{◌≡◌, ◌∙◌, ℕ, ◌+◌, ◌≤◌, ◌<◌, nat_lt, Bool, true, false, ◌||◌, cond, List, [], ◌∷◌, length}
-use Rattle.std.proofs.Common.{Result, Ok, Err, refl, sym, ap, ap₂, subst, inl, inr}
+use Rattle.std.proofs.Common.{◌≡◌, ◌∙◌, ◌⊎◌, ℕ, ◌+◌, ◌≤◌, ◌<◌, nat_lt, Bool, true, false, ◌||◌, cond}
+use Rattle.std.proofs.Common.{List, [], ◌∷◌, length, Result, Ok, Err, refl, sym, ap, ap₂, subst, inl, inr}
 use Rattle.std.proofs.lemmas.Bool.{false≢true, lt-ltb, le-ltb}
 use Rattle.em_mem.specs.Memory.{part}
 use Rattle.em_regs.specs.Table.{offset_of}
@@ -18,7 +18,7 @@ use Rattle.em_driver.specs.World.{World, present, after_outcome, after_turn, aft
 use Rattle.em_driver.specs.World.{Accesses}
 use Rattle.em_driver.specs.Course.{Course, done, read, write, reset, peek, poke, room, Follows}
 use Rattle.em_driver.specs.Play.{Played, ended, counted, passed, after_access, performed, value_of, unless_refused}
-use Rattle.em_driver.specs.Play.{play, Tells}
+use Rattle.em_driver.specs.Play.{play, TellsApart}
 
 -- ---- an access
 
@@ -118,14 +118,24 @@ held_is : {A : Type 0} (m : World) (addr len : ℕ) (p more other : Played A)
     → cond (nat_lt (length m.machine.present.memory) (addr + len)) other more ≡ p
 held_is m addr len p more other held is = ap (λ b. cond b other more) (le-ltb _ _ held) ∙ is
 
+-- the bus was refused no memory: it can't be, or the answer says so
+abbrev pub IsAmple : {A : Type 0} → (A → Bool) → A → World → Type 0
+IsAmple bus a v = (bus a ≡ false) ⊎ (v.scarce ≡ false)
+
+-- an answer that says that it was
+wanted : {A T : Type 0} {t u : T} (bus : A → Bool) (x a : A) (v : World) → a ≡ x → bus x ≡ true → v.scarce ≡ true
+    → IsAmple bus a v → t ≡ u
+wanted bus x a v is holds scarce (inl none) = said bus x a is holds none
+wanted bus x a v is holds scarce (inr ample) = absurd (false≢true (sym ample ∙ scarce))
+
 -- a memory write that is refused, but not for memory
-refused_is : {A : Type 0} (says : A → Bool) (stopped : Refusal → A) (m v : World) (e : Event) (refusal : Refusal)
-    (n : ℕ) (a : A) (more : Played A) → v ≡ m → Refuses (present v) e refusal → n ≡ 0 → a ≡ stopped refusal
-    → says (stopped Memory) ≡ true → says a ≡ false
+refused_is : {A : Type 0} (bus : A → Bool) (stopped : Refusal → A) (m v : World) (e : Event) (refusal : Refusal)
+    (n : ℕ) (a : A) (more : Played A) → v ≡ m → Refuses (present v) e refusal → (refusal ≡ Memory → v.scarce ≡ true)
+    → n ≡ 0 → a ≡ stopped refusal → bus (stopped Memory) ≡ true → IsAmple bus a v
     → unless_refused m stopped (step (present m) e) more ≡ record { events = n; answer = a; world = v }
-refused_is says stopped m v e refusal n a more at (inl lack) count is holds fails =
-    said says (stopped Memory) a (is ∙ ap stopped lack.0) holds fails
-refused_is says stopped m v e refusal n a more at (inr refused) count is holds fails =
+refused_is bus stopped m v e refusal n a more at (inl lack) asked count is holds ample =
+    wanted bus (stopped Memory) a v (is ∙ ap stopped lack.0) holds (asked lack.0) ample
+refused_is bus stopped m v e refusal n a more at (inr refused) asked count is holds ample =
     let here : step (present m) e ≡ Err refusal = ap (λ x. step (present x) e) (sym at) ∙ refused in
     ap (λ r. unless_refused m stopped r more) here ∙ ended_is m v n a (stopped refusal) at count is
 
@@ -139,60 +149,63 @@ pub neither : (a b : Bool) → (a || b) ≡ false → (a ≡ false) × (b ≡ fa
 neither true b h = absurd (false≢true (sym h))
 neither false b h = (refl, h)
 
--- where neither the answer nor the world that is left says that memory was refused
-pub followed_is_played : {A : Type 0} (says : A → Bool) (course : Course A) (w v : World) (n : ℕ) (a : A)
-    → Tells says course → Follows w course n a v → says a ≡ false → v.starved ≡ false
+-- where memory was refused neither to the call, nor to its bus, nor to a turn
+pub followed_is_played : {A : Type 0} (bus own : A → Bool) (course : Course A) (w v : World) (n : ℕ) (a : A)
+    → TellsApart bus own course → Follows w course n a v → own a ≡ false → IsAmple bus a v → v.starved ≡ false
     → play w course ≡ record { events = n; answer = a; world = v }
-unfolding Follows play Tells
-followed_is_played says (done answer) w v n a tells h none fed =
+unfolding Follows play TellsApart
+followed_is_played bus own (done answer) w v n a tells h none ample fed =
     ended_is w v n a answer h.world_is h.events_are h.answer_is
-followed_is_played says (read reg next) w v n a tells h none fed =
+followed_is_played bus own (read reg next) w v n a tells h none ample fed =
     let then = h.1 in
     let is = access_is w then.mid _ _ then.step (was_fed (next h.0) then.mid v then.others a then.more fed) in
-    let more = followed_is_played says (next h.0) then.mid v then.others a (tells h.0) then.more none fed in
+    let more = followed_is_played bus own (next h.0) then.mid v then.others a (tells h.0) then.more none ample fed in
     let value : h.0 ≡ value_of (step (present (passed w)) (reads (offset_of reg))) = sym (ap value_of is.2.1) in
     let m = passed w in
     let e = reads (offset_of reg) in
     counted_is (play (performed m e) (next (value_of (step (present m) e)))) v n then.others a
     (ap₂ (λ m x. play m (next x)) (sym is.0) (sym value) ∙ more) then.count
-followed_is_played says (write reg value more) w v n a tells h none fed =
+followed_is_played bus own (write reg value more) w v n a tells h none ample fed =
     let is = access_is w h.mid _ _ h.step (was_fed more h.mid v h.others a h.more fed) in
     counted_is (play (performed (passed w) (writes (offset_of reg) value)) more) v n h.others a
-    (ap (λ m. play m more) (sym is.0) ∙ followed_is_played says more h.mid v h.others a tells h.more none fed) h.count
-followed_is_played says (reset stopped more) w v n a tells (inl h) none fed =
-    said says _ a h.2 tells.0 none
-followed_is_played says (reset stopped more) w v n a tells (inr h) none fed =
+    (ap (λ m. play m more) (sym is.0)
+    ∙ followed_is_played bus own more h.mid v h.others a tells h.more none ample fed) h.count
+followed_is_played bus own (reset stopped more) w v n a tells (inl h) none ample fed =
+    wanted bus _ a v h.2 tells.0 (h.0.asked refl) ample
+followed_is_played bus own (reset stopped more) w v n a tells (inr h) none ample fed =
     let is = access_is w h.mid _ _ h.step (was_fed more h.mid v h.others a h.more fed) in
     counted_is (play (performed (passed w) (writes (offset_of Ctrl) 0x0400_0000)) more) v n h.others a
-    (ap (λ m. play m more) (sym is.0) ∙ followed_is_played says more h.mid v h.others a tells.1 h.more none fed) h.count
-followed_is_played says (peek addr len stopped next) w v n a tells (inl h) none fed =
+    (ap (λ m. play m more) (sym is.0)
+    ∙ followed_is_played bus own more h.mid v h.others a tells.1 h.more none ample fed) h.count
+followed_is_played bus own (peek addr len stopped next) w v n a tells (inl h) none ample fed =
     let m = passed w in
     past_is m v addr len n a stopped (play m (next (part (present m).memory addr len))) (pass_is w v h.0.passes fed).0
     h.0.past h.1 h.2
-followed_is_played says (peek addr len stopped next) w v n a tells (inr h) none fed =
+followed_is_played bus own (peek addr len stopped next) w v n a tells (inr h) none ample fed =
     let m = h.1 in
     let is = pass_is w m h.2.passes (was_fed (next h.0) m v n a h.3 fed) in
-    let more = followed_is_played says (next h.0) m v n a (tells h.0) h.3 none fed in
+    let more = followed_is_played bus own (next h.0) m v n a (tells h.0) h.3 none ample fed in
     let octets = h.2.gives ∙ ap (λ x. part (present x).memory addr len) is.0 in
     let here = passed w in
     held_is here addr len (record { events = n; answer = a; world = v })
     (play here (next (part (present here).memory addr len))) (ended here stopped)
     (subst (λ x. addr + len ≤ length (present x).memory) is.0 h.2.held)
     (ap₂ (λ x o. play x (next o)) (sym is.0) (sym octets) ∙ more)
-followed_is_played says (poke addr octets stopped more) w v n a tells (inl h) none fed =
+followed_is_played bus own (poke addr octets stopped more) w v n a tells (inl h) none ample fed =
     let m = passed w in
     let e = pokes addr octets in
-    refused_is says stopped m v e h.0 n a (play (performed m e) more) (pass_is w v h.1.passes fed).0 h.1.refuses h.2 h.3
-    tells.0 none
-followed_is_played says (poke addr octets stopped more) w v n a tells (inr h) none fed =
+    refused_is bus stopped m v e h.0 n a (play (performed m e) more) (pass_is w v h.1.passes fed).0 h.1.refuses
+    h.1.asked h.2 h.3 tells.0 ample
+followed_is_played bus own (poke addr octets stopped more) w v n a tells (inr h) none ample fed =
     let is = access_is w h.mid _ _ h.step (was_fed more h.mid v h.others a h.more fed) in
     let m = passed w in
     let e = pokes addr octets in
     let rest = play (performed m e) more in
     performed_is stopped m (step (present m) e) rest Done is.2.0 is.2.1
     ∙ counted_is rest v n h.others a
-    (ap (λ m. play m more) (sym is.0) ∙ followed_is_played says more h.mid v h.others a tells.1 h.more none fed) h.count
-followed_is_played says (room stopped more) w v n a tells (inl h) none fed =
-    said says _ a h.answer_is tells.0 none
-followed_is_played says (room stopped more) w v n a tells (inr h) none fed =
-    followed_is_played says more w v n a tells.1 h none fed
+    (ap (λ m. play m more) (sym is.0)
+    ∙ followed_is_played bus own more h.mid v h.others a tells.1 h.more none ample fed) h.count
+followed_is_played bus own (room stopped more) w v n a tells (inl h) none ample fed =
+    said own _ a h.answer_is tells.0 none
+followed_is_played bus own (room stopped more) w v n a tells (inr h) none ample fed =
+    followed_is_played bus own more w v n a tells.1 h none ample fed

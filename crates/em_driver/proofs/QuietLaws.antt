@@ -20,7 +20,7 @@ pub quiet_refusal : (v w : View) (e : Event) (refusal : Refusal) → Does v (ref
     → IsRefused (quiet v) e refusal (quiet w)
 quiet_refusal v w e refusal did =
     subst (λ x. IsRefused (quiet v) e refusal (quiet x)) (sym did.1)
-    record { passes = quiet_passes v; refuses = did.0 }
+    record { passes = quiet_passes v; refuses = did.0; asked = λ want. refl }
 
 pub quiet_poke : (v w : View) (addr : ℕ) (octets : List ℕ) (answer : Answer)
     → Does v (performs (pokes addr octets) answer) w

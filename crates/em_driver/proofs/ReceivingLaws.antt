@@ -12,14 +12,11 @@ use Rattle.std.proofs.Math.Nat.{mod-eq_of_lt}
 use Rattle.byteorder.specs.Endian.{little_number}
 use Rattle.em_mem.specs.Memory.{part, put}
 use Rattle.em_regs.specs.declared.reg.Reg.{Reg}
-use Rattle.em_regs.specs.declared.reg.Reg.TheVariants.{Ctrl, Rctl, Rdbal, Rdbah, Rdlen, Rdh, Rdt}
+use Rattle.em_regs.specs.declared.reg.Reg.TheVariants.{Rdh, Rdt}
 use Rattle.em_regs.specs.RegFile as registers
-use Rattle.std.specs.FinMap as map
-use Rattle.em_regs.proofs.Entries.{at-insert_other}
-use Rattle.em_regs.specs.Setup.{value_of, pair, rx_setup, buffer_size}
+use Rattle.em_regs.specs.Setup.{value_of, rx_setup, buffer_size}
 use Rattle.em_regs.specs.Storage.{Registers}
-use Rattle.em_regs.specs.Table.{mask_of, offset_of}
-use Rattle.em_filter.specs.Bits.{lpe, vme}
+use Rattle.em_filter.specs.Bits.{lpe}
 use Rattle.em_rx.specs.Frame.{Frame}
 use Rattle.em_rx.specs.Receive as rx
 use Rattle.em_step.specs.State.{State}
@@ -36,6 +33,7 @@ use Rattle.em_driver.specs.declared.layout.Layout.{Layout}
 use Rattle.em_driver.proofs.DescriptorLaws.{address_stays, filled_back, filled_length, filled_mark}
 use Rattle.em_driver.proofs.PlaceLaws.{following_in, following_apart, among_end, grow_here, grow_other}
 use Rattle.em_driver.proofs.PlaceLaws.{between_grow, between_same}
+use Rattle.em_driver.proofs.SideLaws.{rx_side, is_rx_side, SameSetup, SameSide, put_head}
 use Rattle.em_driver.proofs.UnitLaws.{Region, rx_ring, rx_buffers, AreTwo, count_of, size_of, unit, unit_at, unit_apart}
 use Rattle.em_driver.proofs.UnitLaws.{unit_within, unit_size, unit_long, part_front}
 
@@ -63,86 +61,10 @@ writes l m n k j o d good below inside is =
 
 -- ---- registers
 
--- an offset of no register that the receive side goes by
-pub record NotReceiving (o : ℕ) : Type 0 where
-  pub ctrl : o ≢ 0
-  pub rctl : o ≢ 0x100
-  pub ring : 0x2800 ≤ o → 0x2818 < o
-
--- the registers that the receive side goes by, but for RDH and RDT
-pub record SameRxSetup (m n : Registers) : Type 0 where
-  pub rctl : value_of n Rctl ≡ value_of m Rctl
-  pub base : pair n Rdbah Rdbal ≡ pair m Rdbah Rdbal
-  pub len : value_of n Rdlen ≡ value_of m Rdlen
-  pub vme : vme n ≡ vme m
-
--- all of them
-pub record SameRx (m n : Registers) : Type 0 where
-  pub setup : SameRxSetup m n
-  pub head : value_of n Rdh ≡ value_of m Rdh
-  pub tail : value_of n Rdt ≡ value_of m Rdt
-
-pub same_rx : (m n : Registers) → n ≡ m → SameRx m n
-same_rx m n is = record {
-  setup = record {
-    rctl = ap (λ x. value_of x Rctl) is;
-    base = ap (λ x. pair x Rdbah Rdbal) is;
-    len = ap (λ x. value_of x Rdlen) is;
-    vme = ap vme is;
-  };
-  head = ap (λ x. value_of x Rdh) is;
-  tail = ap (λ x. value_of x Rdt) is;
-}
-
-vme_by : (m n : Registers) → value_of n Ctrl ≡ value_of m Ctrl → vme n ≡ vme m
-vme_by m n is = ap (λ v. bit_and v 0x4000_0000 == 0x4000_0000) is
-
-pair_by : (m n : Registers) → value_of n Rdbah ≡ value_of m Rdbah → value_of n Rdbal ≡ value_of m Rdbal
-    → pair n Rdbah Rdbal ≡ pair m Rdbah Rdbal
-pair_by m n high low = λ i. high i * 0x1_0000_0000 + low i
-
--- a word at another offset
-pub word_rx : (m : Registers) (o v : ℕ) → NotReceiving o → SameRx m (map.insert m o v)
-word_rx m o v out =
-    let kept = λ (reg : Reg) (other : offset_of reg ≢ o). at-insert_other m o v (offset_of reg) other in
-    record {
-      setup = record {
-        rctl = kept Rctl (λ e. out.rctl (sym e));
-        base = pair_by m (map.insert m o v) (kept Rdbah (λ e. omega (arith, out.ring)))
-            (kept Rdbal (λ e. omega (arith, out.ring)));
-        len = kept Rdlen (λ e. omega (arith, out.ring));
-        vme = vme_by m (map.insert m o v) (kept Ctrl (λ e. out.ctrl (sym e)));
-      };
-      head = kept Rdh (λ e. omega (arith, out.ring));
-      tail = kept Rdt (λ e. omega (arith, out.ring));
-    }
-
--- a write of another register
-pub other_rx : (m : Registers) (reg : Reg) (v : ℕ) → NotReceiving (offset_of reg) → SameRx m (registers.put m reg v)
-other_rx m reg v out = word_rx m (offset_of reg) (bit_and v (mask_of reg)) out
-
 -- an index is kept whole
 pub index_kept : (m : Registers) (reg : Reg) (v : ℕ) → value_of (registers.put m reg v) reg ≡ bit_and v 0xFFFF
     → v < 65_536 → value_of (registers.put m reg v) reg ≡ v
 index_kept m reg v is less = is ∙ and_mask v 16 ∙ mod-eq_of_lt less
-
-pub setup_rdh : (m : Registers) (v : ℕ) → SameRxSetup m (registers.put m Rdh v)
-setup_rdh m v = record {
-  rctl = put_other m Rdh Rctl v (λ e. omega arith);
-  base = pair_by m (registers.put m Rdh v) (put_other m Rdh Rdbah v (λ e. omega arith))
-      (put_other m Rdh Rdbal v (λ e. omega arith));
-  len = put_other m Rdh Rdlen v (λ e. omega arith);
-  vme = vme_by m (registers.put m Rdh v) (put_other m Rdh Ctrl v (λ e. omega arith));
-}
-
-pub setup_rdt : (m : Registers) (v : ℕ) → SameRxSetup m (registers.put m Rdt v)
-setup_rdt m v = record {
-  rctl = put_other m Rdt Rctl v (λ e. omega arith);
-  base = pair_by m (registers.put m Rdt v) (put_other m Rdt Rdbah v (λ e. omega arith))
-      (put_other m Rdt Rdbal v (λ e. omega arith));
-  len = put_other m Rdt Rdlen v (λ e. omega arith);
-  vme = vme_by m (registers.put m Rdt v) (put_other m Rdt Ctrl v (λ e. omega arith));
-}
 
 -- ---- what an event of others leaves of the receive side
 
@@ -178,11 +100,12 @@ rx_moves_on l s t u a b h k =
 
 -- the ring and the buffers are as they were
 pub record SameRing (l : Layout) (s t : State) : Type 0 where
-  pub registers : SameRx s.registers t.registers
+  pub registers : SameSide rx_side s.registers t.registers
   pub descriptors : (i : ℕ) → i < l.rx_count → rx_at l t i ≡ rx_at l s i
   pub buffers : (i : ℕ) → i < l.rx_count → unit l t.memory rx_buffers i ≡ unit l s.memory rx_buffers i
 
-pub same_ring : (l : Layout) (s t : State) → SameRx s.registers t.registers → t.memory ≡ s.memory → SameRing l s t
+pub same_ring : (l : Layout) (s t : State) → SameSide rx_side s.registers t.registers → t.memory ≡ s.memory
+    → SameRing l s t
 same_ring l s t regs is = record {
   registers = regs;
   descriptors = λ i low. ap (λ m. unit l m rx_ring i) is;
@@ -218,7 +141,7 @@ rx_kept l s t more h same fifo plain =
     (same.buffers i low)) in
     record {
       but = record {
-        rctl = same.registers.setup.rctl ∙ h.rctl;
+        rctl = same.registers.setup.control ∙ h.rctl;
         base = same.registers.setup.base ∙ h.base;
         len = same.registers.setup.len ∙ h.len;
         head = subst (λ x. x < n) (sym same.registers.head) h.head;
@@ -257,7 +180,7 @@ rx_same l s t h same fifo =
 
 -- the frame f went into the descriptor at RDH
 pub record Fills (l : Layout) (s t : State) (f : List ℕ) (frames : List Frame) : Type 0 where
-  pub setup : SameRxSetup s.registers t.registers
+  pub setup : SameSetup rx_side s.registers t.registers
   pub head : rdh t ≡ following l.rx_count (rdh s)
   pub tail : rdt t ≡ rdt s
   pub apart : rdh s ≢ rdt s
@@ -305,7 +228,7 @@ moves_fill l s t f frames h k =
     ∙ (λ p. old p ++ k.packet p ∷ []) in
     record {
       but = record {
-        rctl = k.setup.rctl ∙ h.rctl;
+        rctl = k.setup.control ∙ h.rctl;
         base = k.setup.base ∙ h.base;
         len = k.setup.len ∙ h.len;
         head = subst (λ x. x < n) (sym k.head) (following_in n b h.head);
@@ -387,7 +310,7 @@ fills l s t f frames laid h r =
     let buffer : unit l t.memory rx_buffers b ≡ put (unit l s.memory rx_buffers b) 0 f
     = w.back.other rx_buffers b h.head tt ∙ w.packet.here in
     record {
-      setup = subst (SameRxSetup s.registers) (sym regs) (setup_rdh s.registers (following n b));
+      setup = subst (SameSetup rx_side s.registers) (sym regs) (put_head is_rx_side s.registers (following n b));
       head = ap (λ m. value_of m Rdh) regs
           ∙ index_kept s.registers Rdh (following n b) (put_same s.registers Rdh (following n b)) low;
       tail = ap (λ m. value_of m Rdt) regs ∙ put_other s.registers Rdh Rdt (following n b) (λ e. omega arith);

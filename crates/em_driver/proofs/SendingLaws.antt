@@ -9,15 +9,9 @@ use Rattle.std.proofs.lemmas.Bool.Decides.{nat_tests}
 use Rattle.std.proofs.Math.Nat.{mod-eq_of_lt, mod_self}
 use Rattle.byteorder.specs.Endian.{little_number}
 use Rattle.em_mem.specs.Memory.{part, put}
-use Rattle.em_regs.specs.declared.reg.Reg.{Reg}
-use Rattle.em_regs.specs.declared.reg.Reg.TheVariants.{Ctrl, Vet, Tctl, Tdbal, Tdbah, Tdlen, Tdh, Tdt}
+use Rattle.em_regs.specs.declared.reg.Reg.TheVariants.{Vet, Tdh, Tdt}
 use Rattle.em_regs.specs.RegFile as registers
-use Rattle.std.specs.FinMap as map
-use Rattle.em_regs.proofs.Entries.{at-insert_other}
-use Rattle.em_regs.specs.Setup.{value_of, pair, tx_setup}
-use Rattle.em_regs.specs.Storage.{Registers}
-use Rattle.em_regs.specs.Table.{mask_of, offset_of}
-use Rattle.em_filter.specs.Bits.{vme}
+use Rattle.em_regs.specs.Setup.{value_of, tx_setup}
 use Rattle.em_tx.specs.Descriptor as tx_descriptors
 use Rattle.em_tx.specs.Ring as tx
 use Rattle.em_step.specs.State.{State}
@@ -34,85 +28,8 @@ use Rattle.em_driver.proofs.DescriptorLaws.{address_stays}
 use Rattle.em_driver.proofs.PlaceLaws.{following_in, among_first, among_end, shrink_here, shrink_other, distance_less}
 use Rattle.em_driver.proofs.PlaceLaws.{between_shrink, between_same}
 use Rattle.em_driver.proofs.ReceivingLaws.{Writes, writes, index_kept}
+use Rattle.em_driver.proofs.SideLaws.{tx_side, is_tx_side, SameSetup, SameSide, put_head}
 use Rattle.em_driver.proofs.UnitLaws.{tx_ring, tx_buffers, unit, unit_held, unit_long, part_front}
-
--- ---- registers
-
--- an offset of no register that the transmit side goes by
-pub record NotSending (o : ℕ) : Type 0 where
-  pub ctrl : o ≢ 0
-  pub tctl : o ≢ 0x400
-  pub ring : 0x3800 ≤ o → 0x3818 < o
-
--- the registers that the transmit side goes by, but for TDH and TDT
-pub record SameTxSetup (m n : Registers) : Type 0 where
-  pub tctl : value_of n Tctl ≡ value_of m Tctl
-  pub base : pair n Tdbah Tdbal ≡ pair m Tdbah Tdbal
-  pub len : value_of n Tdlen ≡ value_of m Tdlen
-  pub vme : vme n ≡ vme m
-
--- all of them
-pub record SameTx (m n : Registers) : Type 0 where
-  pub setup : SameTxSetup m n
-  pub head : value_of n Tdh ≡ value_of m Tdh
-  pub tail : value_of n Tdt ≡ value_of m Tdt
-
-pub same_tx : (m n : Registers) → n ≡ m → SameTx m n
-same_tx m n is = record {
-  setup = record {
-    tctl = ap (λ x. value_of x Tctl) is;
-    base = ap (λ x. pair x Tdbah Tdbal) is;
-    len = ap (λ x. value_of x Tdlen) is;
-    vme = ap vme is;
-  };
-  head = ap (λ x. value_of x Tdh) is;
-  tail = ap (λ x. value_of x Tdt) is;
-}
-
-vme_by : (m n : Registers) → value_of n Ctrl ≡ value_of m Ctrl → vme n ≡ vme m
-vme_by m n is = ap (λ v. bit_and v 0x4000_0000 == 0x4000_0000) is
-
-pair_by : (m n : Registers) → value_of n Tdbah ≡ value_of m Tdbah → value_of n Tdbal ≡ value_of m Tdbal
-    → pair n Tdbah Tdbal ≡ pair m Tdbah Tdbal
-pair_by m n high low = λ i. high i * 0x1_0000_0000 + low i
-
--- a word at another offset
-pub word_tx : (m : Registers) (o v : ℕ) → NotSending o → SameTx m (map.insert m o v)
-word_tx m o v out =
-    let kept = λ (reg : Reg) (other : offset_of reg ≢ o). at-insert_other m o v (offset_of reg) other in
-    record {
-      setup = record {
-        tctl = kept Tctl (λ e. out.tctl (sym e));
-        base = pair_by m (map.insert m o v) (kept Tdbah (λ e. omega (arith, out.ring)))
-            (kept Tdbal (λ e. omega (arith, out.ring)));
-        len = kept Tdlen (λ e. omega (arith, out.ring));
-        vme = vme_by m (map.insert m o v) (kept Ctrl (λ e. out.ctrl (sym e)));
-      };
-      head = kept Tdh (λ e. omega (arith, out.ring));
-      tail = kept Tdt (λ e. omega (arith, out.ring));
-    }
-
--- a write of another register
-pub other_tx : (m : Registers) (reg : Reg) (v : ℕ) → NotSending (offset_of reg) → SameTx m (registers.put m reg v)
-other_tx m reg v out = word_tx m (offset_of reg) (bit_and v (mask_of reg)) out
-
-pub setup_tdh : (m : Registers) (v : ℕ) → SameTxSetup m (registers.put m Tdh v)
-setup_tdh m v = record {
-  tctl = put_other m Tdh Tctl v (λ e. omega arith);
-  base = pair_by m (registers.put m Tdh v) (put_other m Tdh Tdbah v (λ e. omega arith))
-      (put_other m Tdh Tdbal v (λ e. omega arith));
-  len = put_other m Tdh Tdlen v (λ e. omega arith);
-  vme = vme_by m (registers.put m Tdh v) (put_other m Tdh Ctrl v (λ e. omega arith));
-}
-
-pub setup_tdt : (m : Registers) (v : ℕ) → SameTxSetup m (registers.put m Tdt v)
-setup_tdt m v = record {
-  tctl = put_other m Tdt Tctl v (λ e. omega arith);
-  base = pair_by m (registers.put m Tdt v) (put_other m Tdt Tdbah v (λ e. omega arith))
-      (put_other m Tdt Tdbal v (λ e. omega arith));
-  len = put_other m Tdt Tdlen v (λ e. omega arith);
-  vme = vme_by m (registers.put m Tdt v) (put_other m Tdt Ctrl v (λ e. omega arith));
-}
 
 -- ---- what an event of others leaves of the transmit side
 
@@ -152,7 +69,7 @@ packet_same l s t i few same buffer =
 
 -- all is as it was, but at most the descriptor at TDT and its buffer, which still has its own address
 pub record TxKept (l : Layout) (s t : State) : Type 0 where
-  pub registers : SameTx s.registers t.registers
+  pub registers : SameSide tx_side s.registers t.registers
   pub descriptors : (i : ℕ) → i < l.tx_count → i ≢ tdt s → tx_at l t i ≡ tx_at l s i
   pub buffers : (i : ℕ) → i < l.tx_count → i ≢ tdt s → unit l t.memory tx_buffers i ≡ unit l s.memory tx_buffers i
   pub address : little_number 8 (tx_at l t (tdt s)) ≡ tx_buffer l (tdt s)
@@ -177,7 +94,7 @@ kept_sending l s t h k =
     let among : (i : ℕ) → is_queued l t i ≡ is_queued l s i
     = λ i p. is_among n (k.registers.head p) (k.registers.tail p) i in
     record {
-      tctl = k.registers.setup.tctl ∙ h.tctl;
+      tctl = k.registers.setup.control ∙ h.tctl;
       base = k.registers.setup.base ∙ h.base;
       len = k.registers.setup.len ∙ h.len;
       head = subst (λ x. x < n) (sym k.registers.head) h.head;
@@ -195,13 +112,13 @@ kept_sending l s t h k =
 
 -- nothing of the transmit side changed
 pub record SameTxRing (l : Layout) (s t : State) : Type 0 where
-  pub registers : SameTx s.registers t.registers
+  pub registers : SameSide tx_side s.registers t.registers
   pub descriptors : (i : ℕ) → i < l.tx_count → tx_at l t i ≡ tx_at l s i
   pub buffers : (i : ℕ) → i < l.tx_count → unit l t.memory tx_buffers i ≡ unit l s.memory tx_buffers i
   pub gathered : t.gathered ≡ s.gathered
   pub wire : t.wire ≡ s.wire
 
-pub same_tx_ring : (l : Layout) (s t : State) → SameTx s.registers t.registers → t.memory ≡ s.memory
+pub same_tx_ring : (l : Layout) (s t : State) → SameSide tx_side s.registers t.registers → t.memory ≡ s.memory
     → t.gathered ≡ s.gathered → t.wire ≡ s.wire → SameTxRing l s t
 same_tx_ring l s t regs is gathered wire = record {
   registers = regs;
@@ -239,7 +156,7 @@ tx_same l s t h same =
 
 -- the packet at TDH went onto the wire
 pub record Sends (l : Layout) (s t : State) : Type 0 where
-  pub setup : SameTxSetup s.registers t.registers
+  pub setup : SameSetup tx_side s.registers t.registers
   pub head : tdh t ≡ following l.tx_count (tdh s)
   pub tail : tdt t ≡ tdt s
   pub apart : tdh s ≢ tdt s
@@ -275,7 +192,7 @@ moves_send l s t h k =
     let far : distance n (tdh t) (tdt t) ≡ distance n (following n a) b = λ p. distance n (k.head p) (k.tail p) in
     record {
       sending = record {
-        tctl = k.setup.tctl ∙ h.tctl;
+        tctl = k.setup.control ∙ h.tctl;
         base = k.setup.base ∙ h.base;
         len = k.setup.len ∙ h.len;
         head = subst (λ x. x < n) (sym k.head) (following_in n a h.head);
@@ -364,7 +281,7 @@ sends l s t laid h r =
     ∙ ap (λ x. part s.memory x (length_of (tx_at l s a))) (h.addresses a h.head) in (
       w,
       record {
-        setup = subst (SameTxSetup s.registers) (sym regs) (setup_tdh s.registers (following n a));
+        setup = subst (SameSetup tx_side s.registers) (sym regs) (put_head is_tx_side s.registers (following n a));
         head = ap (λ m. value_of m Tdh) regs
             ∙ index_kept s.registers Tdh (following n a) (put_same s.registers Tdh (following n a)) low;
         tail = ap (λ m. value_of m Tdt) regs ∙ put_other s.registers Tdh Tdt (following n a) (λ e. omega arith);

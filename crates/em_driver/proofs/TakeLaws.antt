@@ -19,8 +19,9 @@ use Rattle.em_driver.specs.declared.layout.Layout.{Layout}
 use Rattle.em_driver.proofs.DescriptorLaws.{address_stays, status_length, cleared_mark}
 use Rattle.em_driver.proofs.PlaceLaws.{following_in, among_none, shrink_here, shrink_other, between_shrink}
 use Rattle.em_driver.proofs.PlaceLaws.{between_same}
-use Rattle.em_driver.proofs.ReceivingLaws.{RxMoves, writes, index_kept, setup_rdt, packet_same, first_same}
-use Rattle.em_driver.proofs.SendingLaws.{TxMoves, tx_same, same_tx, same_tx_ring, other_tx}
+use Rattle.em_driver.proofs.ReceivingLaws.{RxMoves, writes, index_kept, packet_same, first_same}
+use Rattle.em_driver.proofs.SendingLaws.{TxMoves, tx_same, same_tx_ring}
+use Rattle.em_driver.proofs.SideLaws.{tx_side, is_rx_side, is_tx_side, same_side, put_other_side, put_tail}
 use Rattle.em_driver.proofs.TurnLaws.{laid_same}
 use Rattle.em_driver.proofs.UnitLaws.{rx_ring, rx_buffers, tx_ring, tx_buffers, unit, unit_long, part_front}
 
@@ -93,7 +94,7 @@ clears l s t h filled is =
           taken = r.taken;
         };
         sending = (tx_same l s u h.but.sending (record {
-          registers = same_tx s.registers s.registers refl;
+          registers = same_side tx_side s.registers s.registers refl;
           descriptors = λ i inside. w.other tx_ring i inside tt;
           buffers = λ i inside. w.other tx_buffers i inside tt;
           gathered = refl;
@@ -106,7 +107,7 @@ clears l s t h filled is =
       packet = same a low filled;
       tail = refl;
       sending = tx_same l s u h.but.sending (record {
-        registers = same_tx s.registers s.registers refl;
+        registers = same_side tx_side s.registers s.registers refl;
         descriptors = λ i inside. w.other tx_ring i inside tt;
         buffers = λ i inside. w.other tx_buffers i inside tt;
         gathered = refl;
@@ -156,7 +157,7 @@ gives_back l s t h c is =
     = index_kept s.registers Rdt a (put_same s.registers Rdt a) (omega (arith, h.layout.good.rx_count.most)) in
     let head : rdh u ≡ b = put_other s.registers Rdt Rdh a (λ e. omega arith) in
     let next : first l u ≡ following n a = ap (following n) tail in
-    let setup = setup_rdt s.registers a in
+    let setup = put_tail is_rx_side s.registers a in
     let now : (i : ℕ) → is_filled l u i ≡ is_among n (following n a) b i = λ i p. is_among n (next p) (head p) i in
     let here : is_filled l u a ≡ false = now a ∙ shrink_here n a b low r.head apart in
     let there : (i : ℕ) → i < n → i ≢ a → is_filled l u i ≡ is_filled l s i
@@ -171,7 +172,8 @@ gives_back l s t h c is =
     let sent : TxMoves l s u
     = tx_same l s u h.sending
     (same_tx_ring l s u
-    (other_tx s.registers Rdt a (record { ctrl = λ e. omega arith; tctl = λ e. omega arith; ring = λ e. omega arith }))
+    (put_other_side is_tx_side s.registers Rdt a
+    (record { ctrl = λ e. omega arith; control = λ e. omega arith; ring = λ e. omega arith }))
     refl refl refl) in
     let low_next : first l u < n = subst (λ x. x < n) (sym next) (following_in n a low) in
     let all : Gives l s u = record {
@@ -179,7 +181,7 @@ gives_back l s t h c is =
         but = record {
           layout = laid_same l s u refl h.layout;
           receiving = record {
-            rctl = setup.rctl ∙ r.rctl;
+            rctl = setup.control ∙ r.rctl;
             base = setup.base ∙ r.base;
             len = setup.len ∙ r.len;
             head = subst (λ x. x < n) (sym head) r.head;

@@ -1,7 +1,7 @@
 -- One turn of another actor, in a state as a driver keeps it.
 use Rattle.std.proofs.Common.{◌≡◌, ◌∙◌, ◌⊎◌, ℕ, Bool, true, false, List, [], ◌∷◌, ◌++◌, length, refl, sym, ap}
 use Rattle.std.proofs.Common.{subst}
-use Rattle.std.proofs.Common.{append-nil, if◌then◌else◌, inl, inr, arith, Ok}
+use Rattle.std.proofs.Common.{if◌then◌else◌, inl, inr, arith, Ok}
 use Rattle.em_regs.specs.declared.reg.Reg.TheVariants.{Rdh, Tdh}
 use Rattle.em_regs.specs.RegFile as registers
 use Rattle.std.specs.FinMap as map
@@ -20,17 +20,18 @@ use Rattle.em_step.proofs.WholeLaws.{arrived, received_whole, sent_whole}
 use Rattle.std.proofs.lemmas.List.Elements.{All-cons, All-nil}
 use Rattle.em_driver.specs.Driven.{IsLaidOut, IsReceivingBut, IsDrivenBut, IsDriven}
 use Rattle.em_driver.specs.Layout.{IsGoodLayout}
-use Rattle.em_driver.specs.Order.{queued, waiting}
 use Rattle.em_driver.specs.Turn.{event_of, stored_by}
 use Rattle.em_driver.specs.declared.layout.Layout.{Layout}
 use Rattle.em_driver.specs.declared.turn.Turn.{Turn}
 use Rattle.em_driver.specs.declared.turn.Turn.TheVariants.{Arrive, RxStep, TxStep}
-use Rattle.em_driver.proofs.ReceivingLaws.{RxMoves, rx_moves_on, rx_kept, rx_same, same_ring, same_rx, other_rx}
-use Rattle.em_driver.proofs.ReceivingLaws.{rx_writes, fills, word_rx, NotReceiving}
-use Rattle.em_driver.proofs.ReceivingLaws.{moves_fill, buffer_whole, no_long_frames, SameRx}
-use Rattle.em_driver.proofs.SendingLaws.{TxMoves, tx_moves_on, SameTxRing, tx_same, same_tx_ring, same_tx, other_tx}
+use Rattle.em_driver.proofs.ReceivingLaws.{RxMoves, rx_moves_on, rx_kept, rx_same, same_ring}
+use Rattle.em_driver.proofs.ReceivingLaws.{rx_writes, fills}
+use Rattle.em_driver.proofs.ReceivingLaws.{moves_fill, buffer_whole, no_long_frames}
+use Rattle.em_driver.proofs.SendingLaws.{TxMoves, tx_moves_on, SameTxRing, tx_same, same_tx_ring}
 use Rattle.em_driver.proofs.SendingLaws.{sends, moves_send, is_whole}
-use Rattle.em_driver.proofs.SendingLaws.{no_tags, pads, SameTx, word_tx, NotSending}
+use Rattle.em_driver.proofs.SendingLaws.{no_tags, pads}
+use Rattle.em_driver.proofs.SideLaws.{rx_side, tx_side, is_rx_side, is_tx_side, SameSide, same_side, IsOther}
+use Rattle.em_driver.proofs.SideLaws.{word_other, put_other_side}
 use Rattle.em_driver.proofs.UnitLaws.{rx_ring, rx_buffers, tx_ring, tx_buffers}
 
 -- what a turn leaves, and the packets that it added to what waits
@@ -47,22 +48,23 @@ pub moves_same : (l : Layout) (s t : State) → IsDrivenBut l s → t.registers 
     → t.fifo ≡ s.fifo → t.gathered ≡ s.gathered → t.wire ≡ s.wire → Moves l s t []
 moves_same l s t h regs memory fifo gathered wire = record {
   layout = laid_same l s t (ap length memory) h.layout;
-  receiving = rx_same l s t h.receiving (same_ring l s t (same_rx s.registers t.registers regs) memory) fifo;
-  sending = tx_same l s t h.sending (same_tx_ring l s t (same_tx s.registers t.registers regs) memory gathered wire);
+  receiving = rx_same l s t h.receiving (same_ring l s t (same_side rx_side s.registers t.registers regs) memory) fifo;
+  sending = tx_same l s t h.sending
+      (same_tx_ring l s t (same_side tx_side s.registers t.registers regs) memory gathered wire);
 }
 
 pub moves_none : (l : Layout) (s : State) → IsDrivenBut l s → Moves l s s []
 moves_none l s h = moves_same l s s h refl refl refl refl refl
 
 -- a word of the registers that neither side goes by
-pub moves_word : (l : Layout) (s : State) (o v : ℕ) → IsDrivenBut l s → NotReceiving o → NotSending o
+pub moves_word : (l : Layout) (s : State) (o v : ℕ) → IsDrivenBut l s → IsOther rx_side o → IsOther tx_side o
     → Moves l s (record s { registers = map.insert s.registers o v }) []
 moves_word l s o v h rx tx =
     let t : State = record s { registers = map.insert s.registers o v } in
     record {
       layout = laid_same l s t refl h.layout;
-      receiving = rx_same l s t h.receiving (same_ring l s t (word_rx s.registers o v rx) refl) refl;
-      sending = tx_same l s t h.sending (same_tx_ring l s t (word_tx s.registers o v tx) refl refl refl);
+      receiving = rx_same l s t h.receiving (same_ring l s t (word_other is_rx_side s.registers o v rx) refl) refl;
+      sending = tx_same l s t h.sending (same_tx_ring l s t (word_other is_tx_side s.registers o v tx) refl refl refl);
     }
 
 -- ---- arrivals and receive steps
@@ -77,8 +79,8 @@ pub record RxTurn (l : Layout) (s t : State) (added : List (List ℕ)) : Type 0 
 nothing : (l : Layout) (s : State) → IsLaidOut l s → IsReceivingBut l s → RxTurn l s s []
 nothing l s laid h = record {
   layout = laid;
-  receiving = rx_same l s s h (same_ring l s s (same_rx s.registers s.registers refl) refl) refl;
-  sending = same_tx_ring l s s (same_tx s.registers s.registers refl) refl refl refl;
+  receiving = rx_same l s s h (same_ring l s s (same_side rx_side s.registers s.registers refl) refl) refl;
+  sending = same_tx_ring l s s (same_side tx_side s.registers s.registers refl) refl refl refl;
   registers = inl refl;
 }
 
@@ -88,8 +90,9 @@ admitted l s t f answer laid h k (inl dropped) =
     subst (RxTurn l s t) (sym (ap (stored_by (Arrive f)) dropped.1))
     (record {
       layout = laid_same l s t (ap length k.memory) laid;
-      receiving = rx_same l s t h (same_ring l s t (same_rx s.registers t.registers k.registers) k.memory) dropped.2;
-      sending = same_tx_ring l s t (same_tx s.registers t.registers k.registers) k.memory k.gathered k.wire;
+      receiving = rx_same l s t h (same_ring l s t (same_side rx_side s.registers t.registers k.registers) k.memory)
+          dropped.2;
+      sending = same_tx_ring l s t (same_side tx_side s.registers t.registers k.registers) k.memory k.gathered k.wire;
       registers = inl k.registers;
     })
 admitted l s t f answer laid h k (inr stored) =
@@ -97,9 +100,9 @@ admitted l s t f answer laid h k (inr stored) =
     (record {
       layout = laid_same l s t (ap length k.memory) laid;
       receiving = rx_kept l s t (plain f ∷ []) h
-          (same_ring l s t (same_rx s.registers t.registers k.registers) k.memory) stored.3
+          (same_ring l s t (same_side rx_side s.registers t.registers k.registers) k.memory) stored.3
           (All-cons IsPlain (plain f) [] (record { usual = stored.2; untagged = refl }) (All-nil IsPlain));
-      sending = same_tx_ring l s t (same_tx s.registers t.registers k.registers) k.memory k.gathered k.wire;
+      sending = same_tx_ring l s t (same_side tx_side s.registers t.registers k.registers) k.memory k.gathered k.wire;
       registers = inl k.registers;
     })
 
@@ -118,9 +121,9 @@ received l s t laid h (inr (f, frames, r)) =
       layout = laid_same l s t (w.back.size ∙ w.packet.size) laid;
       receiving = moves_fill l s t f frames h (fills l s t f frames laid h r);
       sending = record {
-        registers = subst (SameTx s.registers) (sym r.registers)
-            (other_tx s.registers Rdh next
-            (record { ctrl = λ e. omega arith; tctl = λ e. omega arith; ring = λ e. omega arith }));
+        registers = subst (SameSide tx_side s.registers) (sym r.registers)
+            (put_other_side is_tx_side s.registers Rdh next
+            (record { ctrl = λ e. omega arith; control = λ e. omega arith; ring = λ e. omega arith }));
         descriptors = λ i low. w.back.other tx_ring i low tt ∙ w.packet.other tx_ring i low tt;
         buffers = λ i low. w.back.other tx_buffers i low tt ∙ w.packet.other tx_buffers i low tt;
         gathered = r.gathered;
@@ -151,9 +154,9 @@ sent l s t h r =
     record {
       layout = laid_same l s t w.size h.layout;
       receiving = rx_same l s t h.receiving (record {
-        registers = subst (SameRx s.registers) (sym r.registers)
-            (other_rx s.registers Tdh (tx.next (tx_setup s.registers))
-            (record { ctrl = λ e. omega arith; rctl = λ e. omega arith; ring = λ e. omega arith }));
+        registers = subst (SameSide rx_side s.registers) (sym r.registers)
+            (put_other_side is_rx_side s.registers Tdh (tx.next (tx_setup s.registers))
+            (record { ctrl = λ e. omega arith; control = λ e. omega arith; ring = λ e. omega arith }));
         descriptors = λ i low. w.other rx_ring i low tt;
         buffers = λ i low. w.other rx_buffers i low tt;
       }) r.fifo;

@@ -27,10 +27,9 @@ use Rattle.em_driver.specs.Order.{InOrder, queued, waiting}
 use Rattle.em_driver.specs.Turn.{stored_by}
 use Rattle.em_driver.specs.World.{World, Accesses, Passes, present}
 use Rattle.em_driver.specs.declared.layout.Layout.{Layout}
-use Rattle.em_driver.proofs.ReceivingLaws.{NotReceiving}
-use Rattle.em_driver.proofs.SendingLaws.{NotSending}
+use Rattle.em_driver.proofs.SideLaws.{rx_side, tx_side, IsOther}
 use Rattle.em_driver.proofs.StageLaws.{At, IsClosed, passed_at, stored_same}
-use Rattle.em_driver.proofs.TurnLaws.{laid_same, Moves, moves_none, moves_on, moves_same, turn_moves, but_moves}
+use Rattle.em_driver.proofs.TurnLaws.{Moves, moves_none, moves_on, moves_same, turn_moves, but_moves}
 use Rattle.em_driver.proofs.TurnLaws.{driven_moves, moves_word}
 
 -- ---- turns
@@ -208,8 +207,8 @@ order_read l w v o a h k =
     (moves_read l (present k.mid) (present v) o a (passed_but l w k.mid p) k.does.0) (stored_same w v (reads o) a k)
 
 -- a write of a register that neither side goes by
-pub order_write : (l : Layout) (w v : World) (reg : Reg) (value : ℕ) → NotReceiving (offset_of reg)
-    → NotSending (offset_of reg) → reg_at (offset_of reg) ≡ Some reg → is_latched reg ≡ false
+pub order_write : (l : Layout) (w v : World) (reg : Reg) (value : ℕ) → IsOther rx_side (offset_of reg)
+    → IsOther tx_side (offset_of reg) → reg_at (offset_of reg) ≡ Some reg → is_latched reg ≡ false
     → ((x : State) → after_write x reg value
     ≡ (if is_latched reg then x else record x { registers = registers.put x.registers reg value }))
     → IsDriven l (present w) → Accesses w (writes (offset_of reg) value) Done v → InOrder l w v [] []

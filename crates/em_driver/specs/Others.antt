@@ -1,6 +1,6 @@
 -- What others may do on a driver's bus: every event that writes none of the driver's registers and none of its memory.
-use Rattle.std.specs.Prelude.{◌≢◌, ℕ, ◌*◌, ◌<◌, ◌≤◌, List, length}
-use Rattle.em_step.specs.Event.{Event, reads, writes, pokes, arrives, links, receives, transmits}
+use Rattle.std.specs.Prelude.{◌≢◌, ℕ, ◌*◌, ◌<◌, ◌≤◌, length}
+use Rattle.em_step.specs.Event.{Event, writes, pokes}
 use Rattle.em_driver.specs.Layout.{Apart}
 use Rattle.em_driver.specs.declared.layout.Layout.{Layout}
 

@@ -80,15 +80,20 @@ play w (room stopped more) = play w more
 
 -- ---- where memory is refused
 
--- Wherever memory is refused to a call with this course, its answer is one of those that say so.
-unfoldable pub Tells : {A : Type 0} → (A → Bool) → Course A → Type 0
-Tells says (done answer) = Unit {0}
-Tells says (read reg next) = (value : ℕ) → Tells says (next value)
-Tells says (write reg value more) = Tells says more
-Tells says (reset stopped more) = (says stopped ≡ true) × Tells says more
-Tells says (peek addr len stopped next) = (octets : List ℕ) → Tells says (next octets)
-Tells says (poke addr octets stopped more) = (says (stopped Memory) ≡ true) × Tells says more
-Tells says (room stopped more) = (says stopped ≡ true) × Tells says more
+-- Wherever memory is refused to a call with this course, its answer says so: by one test where the bus was refused it,
+-- and by another where it was to be the call's own.
+unfoldable pub TellsApart : {A : Type 0} → (A → Bool) → (A → Bool) → Course A → Type 0
+TellsApart bus own (done answer) = Unit {0}
+TellsApart bus own (read reg next) = (value : ℕ) → TellsApart bus own (next value)
+TellsApart bus own (write reg value more) = TellsApart bus own more
+TellsApart bus own (reset stopped more) = (bus stopped ≡ true) × TellsApart bus own more
+TellsApart bus own (peek addr len stopped next) = (octets : List ℕ) → TellsApart bus own (next octets)
+TellsApart bus own (poke addr octets stopped more) = (bus (stopped Memory) ≡ true) × TellsApart bus own more
+TellsApart bus own (room stopped more) = (own stopped ≡ true) × TellsApart bus own more
+
+-- by one test for both
+abbrev pub Tells : {A : Type 0} → (A → Bool) → Course A → Type 0
+Tells says course = TellsApart says says course
 
 -- Memory was refused, to the call or to a turn: the answer says so, or the world that is left does.
 abbrev pub wants_memory : {A : Type 0} → (A → Bool) → A → World → Bool

@@ -28,7 +28,7 @@ Takes v stored t Refused w now =
     (refusal : Refusal) × (step v.present (event_of t) ≡ Err refusal) × (w ≡ v) × (now ≡ stored)
 Takes v stored t Starved w now = Refuses v.present (event_of t) refusal.Memory × (w ≡ v) × (now ≡ stored)
 
--- a world with no plan left
+-- a machine's world with no plan left
 abbrev pub world_with : View → List (List ℕ) → Counts → World
 world_with v stored counts = record {
   machine = v;
@@ -37,6 +37,7 @@ world_with v stored counts = record {
   performed = counts.performed;
   refused = counts.refused;
   starved = false;
+  scarce = true;
 }
 
 -- all turns of a list were taken, or those before the one that found no memory

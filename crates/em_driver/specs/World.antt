@@ -27,27 +27,38 @@ pub record World : Type 0 where
   pub refused : ℕ
   -- whether memory was refused to a turn
   pub starved : Bool
+  -- whether the bus can be refused memory; that it can, a bus says only where it was
+  pub scarce : Bool
 
 abbrev pub world_code : Coded World
 world_code =
     code_by
-    (View × (List (List ℕ) × (List (List Turn) × (ℕ × (ℕ × Bool)))))
+    (View × (List (List ℕ) × (List (List Turn) × (ℕ × (ℕ × (Bool × Bool))))))
     (coded× view_code (coded× (coded_list (coded_list coded_ℕ)) (coded× (coded_list (coded_list turn_code))
-    (coded× coded_ℕ (coded× coded_ℕ coded_bool)))))
-    (λ w. (w.machine, (w.stored, (w.plan, (w.performed, (w.refused, w.starved))))))
+    (coded× coded_ℕ (coded× coded_ℕ (coded× coded_bool coded_bool))))))
+    (λ w. (w.machine, (w.stored, (w.plan, (w.performed, (w.refused, (w.starved, w.scarce)))))))
     (λ p. record {
       machine = p.0;
       stored = p.1.0;
       plan = p.1.1.0;
       performed = p.1.1.1.0;
       refused = p.1.1.1.1.0;
-      starved = p.1.1.1.1.1;
+      starved = p.1.1.1.1.1.0;
+      scarce = p.1.1.1.1.1.1;
     })
     (λ _. refl)
 
--- a bus on which nobody else acts
+-- a machine, which can always be refused memory, as a bus on which nobody else acts
 abbrev pub quiet : View → World
-quiet machine = record { machine = machine; stored = []; plan = []; performed = 0; refused = 0; starved = false }
+quiet machine = record {
+  machine = machine;
+  stored = [];
+  plan = [];
+  performed = 0;
+  refused = 0;
+  starved = false;
+  scarce = true;
+}
 
 abbrev pub present : World → State
 present w = w.machine.present
@@ -109,10 +120,12 @@ pub record Accesses (w : World) (e : Event) (answer : Answer) (v : World) : Type
   pub does : Does mid.machine (performs e answer) v.machine
   pub is : v ≡ record mid { machine = v.machine }
 
--- an event that is refused
+-- An event that the bus was asked for, and refused. Nothing but such a refusal says of a bus that it can be refused
+-- memory: so who answers that it was must have asked.
 pub record IsRefused (w : World) (e : Event) (refusal : Refusal) (v : World) : Type 0 where
   pub passes : Passes w v
   pub refuses : Refuses v.machine.present e refusal
+  pub asked : refusal ≡ Memory → v.scarce ≡ true
 
 -- octets of memory, which is no event
 pub record Peeks (w : World) (addr len : ℕ) (octets : List ℕ) (v : World) : Type 0 where

@@ -12,7 +12,8 @@ use em_step::Refusal;
 /// The registers and the memory of a machine, as a driver reaches them.
 ///
 /// Other actors may act before each access. What they do there, and what the machine was and is,
-/// contracts see as one world.
+/// contracts see as one world. That a bus can be refused memory is known only from a refusal as
+/// Memory: a driver that answers so has asked its bus.
 pub trait Bus {
     ghost use Rattle.em_driver.specs.World.{World};
 

@@ -1,6 +1,7 @@
 //! The descriptors of the two rings, as a driver reads and writes them.
 ghost use Rattle.std.specs.Prelude.{◌≡◌, true, false, MatchOption};
-ghost use Rattle.em_driver.specs.Descriptor.{is_done as has_dd, is_last as has_eop, is_whole, length_of, transmit_descriptor};
+ghost use Rattle.em_driver.specs.Descriptor.{is_done as has_dd, is_last as has_eop, is_whole};
+ghost use Rattle.em_driver.specs.Descriptor.{length_of, transmit_descriptor};
 
 use crate::layout::{BUFFER_OCTETS, DESCRIPTOR_OCTETS};
 use byteorder::{ByteOrder, LittleEndian};

@@ -5,8 +5,9 @@ use crate::bus::Bus;
 use crate::layout::Layout;
 use std::alloc::Global;
 
-/// A polled driver over a bus. It keeps its bus, its layout and the memory of one packet. Where its
-/// rings stand it reads from the device at each call.
+/// A polled driver over a bus. It stores its bus and its layout; where its rings stand it reads from
+/// the device at each call. Beside them it stores only the allocator, and the memory of the last packet
+/// that it sent, whose octets are never read: the next one that comes is written over them.
 #[derive(Drop)]
 pub struct E1000<B> {
     pub(crate) bus: B,

@@ -1,5 +1,5 @@
 //! What the definitions of a driver's calls say together.
-ghost use Rattle.std.specs.Prelude.{◌≡◌, ◌≢◌, ◌+◌, ◌≤◌, ◌++◌, ℕ, Bool, false, List, [], length, map, Ok, ⊤};
+ghost use Rattle.std.specs.Prelude.{◌≡◌, ◌≢◌, ◌+◌, ◌≤◌, ◌++◌, ℕ, Bool, false, List, [], length, map, Option, Ok, ⊤};
 ghost use Rattle.em_journal.specs.History.{Call, Run};
 ghost use Rattle.em_step.specs.Event.{Event, transmits};
 ghost use Rattle.em_step.specs.State.{State};
@@ -19,24 +19,29 @@ ghost use Rattle.em_driver.specs.Turn.{event_of, stored_by, stored_in};
 ghost use Rattle.em_driver.specs.Order.{InOrder, queued, waiting};
 ghost use Rattle.em_driver.specs.declared.turn.Turn.{Turn};
 ghost use Rattle.em_driver.specs.Course.{Course, Follows};
-ghost use Rattle.em_driver.specs.Play.{play, Tells, wants_memory};
+ghost use Rattle.em_driver.specs.Play.{play, Tells, TellsApart, wants_memory};
 ghost use Rattle.em_driver.specs.CourseCalls.{course_calls};
 ghost use Rattle.em_driver.specs.Answering.{answering};
 ghost use Rattle.em_driver.specs.HappenedCall.{Happens};
 ghost use Rattle.em_driver.specs.TellsMemory.{start_says, batch_says};
 ghost use Rattle.em_driver.specs.Start.{start};
-ghost use Rattle.em_driver.specs.Receive.{rx_batch};
+ghost use Rattle.em_driver.specs.Receive.{Answered, rx_batch};
 ghost use Rattle.em_driver.specs.Transmit.{tx_batch};
-ghost use Rattle.em_driver.specs.Calls.{get_mac_addr, set_mac_addr, read_stats};
+ghost use Rattle.em_driver.specs.Calls.{get_link_speed, get_mac_addr, read_stats, reset_stats, set_mac_addr};
 ghost use Rattle.em_driver.specs.declared.layout.Layout.{Layout};
+ghost use Rattle.em_driver.specs.declared.outcome.Cause.{Cause};
 ghost use Rattle.em_driver.specs.declared.stats.DeviceStats.{DeviceStats};
 
 /// The law of a call with memory: where neither the answer of a call nor the world that it leaves
-/// says that memory was refused, both are those of its course as it is played.
+/// says that memory was refused, both are those of its course as it is played. The bus says whether
+/// it can be refused memory: where it can't, only the call's own can be wanting.
 pub fn a_fed_call_is_played<A>()
-    ensures { (says : A → Bool) (course : Course A) (w v : World) (events : ℕ) (answer : A)
+    ensures said { (says : A → Bool) (course : Course A) (w v : World) (events : ℕ) (answer : A)
         → Tells says course → Follows w course events answer v → wants_memory says answer v ≡ false
         → play w course ≡ record { events = events; answer = answer; world = v } }
+    ensures ample { (bus own : A → Bool) (course : Course A) (w v : World) (events : ℕ) (answer : A)
+        → TellsApart bus own course → Follows w course events answer v → wants_memory own answer v ≡ false
+        → v.scarce ≡ false → play w course ≡ record { events = events; answer = answer; world = v } }
 {}
 
 /// The law of any call: either it is played, or the answer or the world says that memory was
@@ -66,15 +71,20 @@ pub fn answers_are_put_otherwise<A, B>()
         → Tells (λ a. says (f a)) course → Tells says (answering f course) }
 {}
 
-/// Wherever memory is refused to a call of the driver, its answer says so.
+/// Wherever memory is refused to a call of the driver, its answer says so. Only `rx_batch` takes
+/// memory of its own; the others can be refused it by their bus alone, whatever `own` is.
 pub fn calls_tell_of_memory()
-    ensures start { (l : Layout) → Tells start_says (start l) }
+    ensures start { (own : Option Cause → Bool) (l : Layout) → TellsApart start_says own (start l) }
     ensures rx_batch { (l : Layout) (number n : ℕ) (queue : List (List ℕ))
         → Tells batch_says (rx_batch l number n queue) }
-    ensures tx_batch { (l : Layout) (number : ℕ) (queue : List (List ℕ)) → Tells batch_says (tx_batch l number queue) }
-    ensures get_mac_addr { (says : List ℕ → Bool) → Tells says get_mac_addr }
-    ensures set_mac_addr { (says : ⊤ → Bool) (octets : List ℕ) → Tells says (set_mac_addr octets) }
-    ensures read_stats { (says : DeviceStats → Bool) (counted : DeviceStats) → Tells says (read_stats counted) }
+    ensures tx_batch { (own : Answered → Bool) (l : Layout) (number : ℕ) (queue : List (List ℕ))
+        → TellsApart batch_says own (tx_batch l number queue) }
+    ensures get_mac_addr { (bus own : List ℕ → Bool) → TellsApart bus own get_mac_addr }
+    ensures set_mac_addr { (bus own : ⊤ → Bool) (octets : List ℕ) → TellsApart bus own (set_mac_addr octets) }
+    ensures read_stats { (bus own : DeviceStats → Bool) (counted : DeviceStats)
+        → TellsApart bus own (read_stats counted) }
+    ensures reset_stats { (bus own : ⊤ → Bool) → TellsApart bus own reset_stats }
+    ensures get_link_speed { (bus own : ℕ → Bool) → TellsApart bus own get_link_speed }
 {}
 
 /// The law of one event of others, which writes none of the driver's registers and none of its memory:

@@ -1,5 +1,5 @@
 //! A machine on which other actors act by a plan.
-ghost use Rattle.std.specs.Prelude.{◌≡◌, ◌<◌, [], false, length, slice_get, IfErr, IsOk, OnErr, OnOk};
+ghost use Rattle.std.specs.Prelude.{◌≡◌, ◌<◌, false, length, slice_get, IfErr, IsOk, OnErr, OnOk};
 ghost use Rattle.std.specs.Option.{option_map};
 ghost use Rattle.std.specs.Borrow.{Lends, sem};
 ghost use Rattle.em_journal.specs.contracts.machine.Machine.{the_row as machine-row};
@@ -34,7 +34,7 @@ pub struct Turns {
 }
 
 impl Model for Turns {
-    ghost use Rattle.std.specs.Prelude.{◌+◌, ◌<◌, ◌≤◌, vec_len, vec_capacity, map};
+    ghost use Rattle.std.specs.Prelude.{◌+◌, ◌<◌, ◌≤◌, vec_len, vec_capacity, map, true};
     ghost use Rattle.em_driver.specs.Turn.{plan_arrivals, plan_turns};
     ghost use Rattle.em_driver.specs.World.{World, world_code};
     ghost use Rattle.em_driver.specs.Planned.{planned};
@@ -50,6 +50,7 @@ impl Model for Turns {
       performed = t.counts.performed;
       refused = t.counts.refused;
       starved = t.starved;
+      scarce = true;
     } };
 
     ghost invariant = { λ t. (vec_len t.stored + plan_arrivals (planned t.plan.items) ≤ vec_capacity t.stored)
@@ -140,13 +141,7 @@ impl Turns {
     /// A plan without arrivals takes no memory.
     pub fn set_plan(&mut self, plan: VecDeque<Vec<Turn>>) -> Result<(), PlanRefused>
         requires { plan_turns (planned plan.items) < 0x1_0000_0000 }
-        ensures ok { OnOk result (self.new ≡ record self.old {
-          stored = [];
-          plan = planned plan.items;
-          performed = 0;
-          refused = 0;
-          starved = false;
-        }) }
+        ensures ok { OnOk result (self.new ≡ record (quiet self.old.machine) { plan = planned plan.items }) }
         ensures err { IfErr result (λ e. e.plan ≡ plan) }
         ensures same { OnErr result (self.new ≡ self.old) }
         ensures still { plan_arrivals (planned plan.items) ≡ 0 → IsOk result }

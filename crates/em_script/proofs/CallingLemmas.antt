@@ -5,9 +5,10 @@ use Rattle.std.proofs.Common.{inl, inr, arith}
 use Rattle.std.specs.Prelude.{unwrap_or}
 use Rattle.em_driver.specs.World.{World}
 use Rattle.em_driver.specs.Course.{done, Follows}
-use Rattle.em_driver.specs.Play.{Played, Tells}
+use Rattle.em_driver.specs.Play.{Played, Tells, TellsApart}
 use Rattle.em_driver.specs.Answering.{answering}
 use Rattle.em_driver.specs.HappenedCall.{Happens}
+use Rattle.em_driver.specs.TellsMemory.{start_says, batch_says}
 use Rattle.em_driver.specs.Start.{start as start_of}
 use Rattle.em_driver.specs.Receive.{rx_batch}
 use Rattle.em_driver.specs.Transmit.{tx_batch}
@@ -31,32 +32,32 @@ use Rattle.em_script.specs.Calling.{init_layout, no_stats, course_of, world_at, 
 use Rattle.em_script.proofs.DriverAnswerLemmas.{call_says}
 
 tells_done : (answer : DriverAnswer) → Tells says_memory (done answer)
-unfolding Tells
+unfolding TellsApart
 tells_done answer = tt
 
 init_tells : (b : Bool) → Tells says_memory (cond b
     (answering (λ answer. answers.start answer) (start_of init_layout)) (done (answers.start (Some cause.Layout))))
 init_tells true = answering_tells (λ answer. answers.start answer) says_memory (start_of init_layout)
-    (start_tells init_layout)
+    (start_tells (λ answer. start_says answer) init_layout)
 init_tells false = tells_done (answers.start (Some cause.Layout))
 
 pub request_tells : (request : Request) (w : World) → Tells says_memory (course_of request w)
 request_tells starts w = init_tells (nat_le 0x9000 (length w.machine.present.memory))
 request_tells (sends packets) w =
     answering_tells (λ answer. answers.batch [] answer.1) says_memory (tx_batch init_layout 0 packets)
-    (tx_batch_tells init_layout 0 packets)
+    (tx_batch_tells (λ answer. batch_says answer) init_layout 0 packets)
 request_tells (receives most) w =
     answering_tells (λ answer. answers.batch answer.0 answer.1) says_memory (rx_batch init_layout 0 most [])
     (rx_batch_tells init_layout 0 most [])
 request_tells stats w =
     answering_tells (λ answer. answers.stats answer) says_memory (read_stats no_stats)
-    (read_stats_tells (λ answer. false) no_stats)
+    (read_stats_tells (λ answer. false) (λ answer. false) no_stats)
 request_tells address w =
     answering_tells (λ answer. answers.address answer) says_memory get_mac_addr
-    (get_mac_addr_tells (λ answer. false))
+    (get_mac_addr_tells (λ answer. false) (λ answer. false))
 request_tells (sets_address octets) w =
     answering_tells (λ answer. answers.set) says_memory (set_mac_addr octets)
-    (set_mac_addr_tells (λ answer. false) octets)
+    (set_mac_addr_tells (λ answer. false) (λ answer. false) octets)
 
 -- whatever was done to a request can be named
 pub request_happens : (request : Request) (w v : World) (events : ℕ) (answer : DriverAnswer)

@@ -22,11 +22,11 @@ not_moved Moved planned seated = absurd seated
 -- a call begins in the world that the seat holds
 ready_world : (w : World) (planned : Bool) → IsReady w planned
     → world_of w.machine (cond planned (Some w.plan) None) ≡ w
-ready_world w true ready = parts w.machine w.plan w.stored w.performed w.refused w.starved ready.stored ready.performed
-    ready.refused ready.fed
+ready_world w true ready = parts w.machine w.plan w.stored w.performed w.refused w.starved w.scarce ready.stored
+    ready.performed ready.refused ready.fed ready.scarce
   where
-    parts : (machine : View) (plan : List (List Turn)) (stored : List (List ℕ)) (performed refused : ℕ) (starved : Bool)
-        → stored ≡ [] → performed ≡ 0 → refused ≡ 0 → starved ≡ false
+    parts : (machine : View) (plan : List (List Turn)) (stored : List (List ℕ)) (performed refused : ℕ)
+        (starved scarce : Bool) → stored ≡ [] → performed ≡ 0 → refused ≡ 0 → starved ≡ false → scarce ≡ true
         → record (quiet machine) { plan = plan } ≡ record {
           machine = machine;
           stored = stored;
@@ -34,13 +34,15 @@ ready_world w true ready = parts w.machine w.plan w.stored w.performed w.refused
           performed = performed;
           refused = refused;
           starved = starved;
+          scarce = scarce;
         }
-    parts machine plan stored performed refused starved a b c d = rw (a, b, c, d) refl
-ready_world w false ready = parts w.machine w.plan w.stored w.performed w.refused w.starved (ready.none refl)
-    ready.stored ready.performed ready.refused ready.fed
+    parts machine plan stored performed refused starved scarce a b c d e = rw (a, b, c, d, e) refl
+ready_world w false ready = parts w.machine w.plan w.stored w.performed w.refused w.starved w.scarce (ready.none refl)
+    ready.stored ready.performed ready.refused ready.fed ready.scarce
   where
-    parts : (machine : View) (plan : List (List Turn)) (stored : List (List ℕ)) (performed refused : ℕ) (starved : Bool)
-        → plan ≡ [] → stored ≡ [] → performed ≡ 0 → refused ≡ 0 → starved ≡ false
+    parts : (machine : View) (plan : List (List Turn)) (stored : List (List ℕ)) (performed refused : ℕ)
+        (starved scarce : Bool)
+        → plan ≡ [] → stored ≡ [] → performed ≡ 0 → refused ≡ 0 → starved ≡ false → scarce ≡ true
         → quiet machine ≡ record {
           machine = machine;
           stored = stored;
@@ -48,8 +50,9 @@ ready_world w false ready = parts w.machine w.plan w.stored w.performed w.refuse
           performed = performed;
           refused = refused;
           starved = starved;
+          scarce = scarce;
         }
-    parts machine plan stored performed refused starved p a b c d = rw (p, a, b, c, d) refl
+    parts machine plan stored performed refused starved scarce p a b c d e = rw (p, a, b, c, d, e) refl
 
 seated_world : (seat : Seat) (planned : Bool) → IsSeated seat planned → world_at (session_of seat planned) ≡ world_in
     seat

@@ -31,6 +31,7 @@ pub record IsReady (w : World) (planned : Bool) : Type 0 where
   pub performed : w.performed ≡ 0
   pub refused : w.refused ≡ 0
   pub fed : w.starved ≡ false
+  pub scarce : w.scarce ≡ true
   pub none : planned ≡ false → w.plan ≡ []
 
 -- between two lines no seat is moved, and a driver is one that a line started

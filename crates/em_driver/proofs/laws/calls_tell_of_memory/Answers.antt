@@ -1,5 +1,5 @@
 use Rattle.em_driver.proofs.TellsLaws.{start_tells, rx_batch_tells, tx_batch_tells, get_mac_addr_tells}
-use Rattle.em_driver.proofs.TellsLaws.{set_mac_addr_tells, read_stats_tells}
+use Rattle.em_driver.proofs.TellsLaws.{set_mac_addr_tells, read_stats_tells, reset_stats_tells, get_link_speed_tells}
 use Rattle.em_driver.proofs.laws.calls_tell_of_memory.Goals as goal
 
 pub returns : goal.returns
@@ -10,4 +10,6 @@ returns c = record {
   get_mac_addr = get_mac_addr_tells;
   set_mac_addr = set_mac_addr_tells;
   read_stats = read_stats_tells;
+  reset_stats = reset_stats_tells;
+  get_link_speed = get_link_speed_tells;
 }
