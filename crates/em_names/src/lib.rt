@@ -1,0 +1,16 @@
+//! The manual's names of the registers, and of their bits and fields.
+#![tactic(auto)]
+
+mod bits;
+mod field;
+mod names;
+mod near;
+mod show;
+#[cfg(test)]
+mod tests;
+
+pub use bits::fields;
+pub use field::{Field, Form};
+pub use names::{LONGEST, name, parse};
+pub use near::nearest;
+pub use show::{write_bits, write_name, write_register};

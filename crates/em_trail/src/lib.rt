@@ -1,0 +1,10 @@
+//! A machine that knows what each event of its journal was, and who asked for it.
+#![tactic(auto)]
+
+mod note;
+#[cfg(test)]
+mod tests;
+mod traced;
+
+pub use note::{Kind, Note};
+pub use traced::Traced;

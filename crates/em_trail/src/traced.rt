@@ -1,0 +1,166 @@
+//! A machine with its trail.
+ghost use Rattle.std.specs.Prelude.{◌≡◌, ◌==◌, ◌<◌, ◌∷◌, [], length, take, slice_get, IfOk, IfErr, IfSome, OnOk, OnErr};
+ghost use Rattle.circular_buffer.specs.Buffer.{buffer};
+ghost use Rattle.em_step.specs.Event.{plain};
+ghost use Rattle.em_journal.specs.View.{states};
+ghost use Rattle.em_trail.specs.Trail.{IsTrail, Noted, RefusesNoted, TakesBack, TellsAt, starting};
+
+use crate::note::{Note, note_of};
+use circular_buffer::HeapCircularBuffer;
+use em_journal::{Empty, Machine};
+use em_step::{Answer, Event, Refusal};
+use std::alloc::Global;
+use std::marker::Model;
+
+/// How many places a trail has at first.
+const FIRST_PLACES: usize = 64;
+
+/// A machine, and a note of each event that it can take back.
+///
+/// A note goes when the record of its event goes: when the event is taken back, and when the journal drops its
+/// oldest record.
+#[derive(Drop)]
+pub struct Traced {
+    machine: Machine,
+    // the newest first
+    notes: HeapCircularBuffer<Note>,
+}
+
+impl Model for Traced {
+    ghost use Rattle.em_journal.specs.View.{view_code};
+    ghost use Rattle.em_trail.specs.Trail.{Trail, IsTrail};
+    ghost use Rattle.em_trail.specs.Trail.{trail_code};
+    ghost use Rattle.em_trail.specs.contracts.note.Note as one;
+
+    ghost Value = { Trail };
+
+    ghost coded = { trail_code view_code one.the_row.coded };
+
+    ghost view = { λ t. record { view = t.machine; notes = t.notes.items } };
+
+    ghost invariant = { λ t. IsTrail t.machine.present t.machine.past t.notes.items };
+}
+
+impl Traced {
+    /// A machine with an empty journal, and its empty trail. Where memory is refused, the machine comes back as it
+    /// was.
+    pub fn new(alloc: Global, machine: Machine) -> Result<Traced, (Machine, Refusal)>
+        requires { machine.past ≡ [] }
+        ensures ok { IfOk result (λ traced. traced ≡ starting machine) }
+        ensures memory { IfErr result (λ e. e.1 ≡ Refusal.Memory) }
+        ensures same { IfErr result (λ e. e.0 ≡ machine) }
+    {
+        match HeapCircularBuffer::with_capacity(alloc, FIRST_PLACES) {
+            Ok(notes) => Ok(Traced { machine, notes }),
+            Err(_) => Err((machine, Refusal::Memory)),
+        }
+    }
+
+    /// Performs an event, and notes it with a tag of the caller's.
+    ///
+    /// It is refused as `Machine::perform` refuses it, and as Memory where the note's memory is refused. A refused
+    /// event changes nothing.
+    #[inline(always)]
+    pub fn perform(&mut self, tag: u64, event: Event<'_>) -> Result<Answer, Refusal>
+        ensures ok { IfOk result (λ answer. Noted self.old self.new tag (plain event.entry) answer) }
+        // a performed event can always be taken back
+        ensures kept { OnOk result (0 < length self.new.notes) }
+        ensures err { IfErr result (λ refusal. RefusesNoted self.old.view.present (plain event.entry) refusal) }
+        ensures same { OnErr result (self.new ≡ self.old) }
+    {
+        make_room(&mut self.notes)?;
+        let answer = self.machine.perform(event)?;
+        let kept = self.machine.can_go_back();
+        keep(&mut self.notes, note_of(event, answer, tag), kept);
+        Ok(answer)
+    }
+
+    /// Takes the newest event back, and gives its note. Refused exactly where there is none.
+    #[inline(always)]
+    pub fn back(&mut self) -> Result<Note, Empty>
+        ensures ok { IfOk result (TakesBack self.old self.new) }
+        ensures empty { OnErr result (self.old.notes ≡ []) }
+        ensures same { OnErr result (self.new ≡ self.old) }
+    {
+        match self.machine.back() {
+            Ok(()) => {}
+            Err(Empty) => return Err(Empty),
+        }
+        let Some(note) = self.notes.pop_front() else {
+            unreachable!();
+        };
+        Ok(note)
+    }
+
+    /// The machine, to look at.
+    pub fn machine(&self) -> &Machine
+        ensures { result.now ≡ self.now.view }
+    {
+        &self.machine
+    }
+
+    /// The note of an event that can be taken back, that of the newest at 0; none where there are not so many.
+    pub fn note(&self, k: usize) -> Option<Note>
+        ensures value { result ≡ slice_get self.now.notes k }
+        // it tells of the event that led from the state behind to the state k steps back
+        ensures tells { IfSome result (λ note. TellsAt (states self.now.view) k note) }
+    {
+        self.notes.get(k).copied()
+    }
+
+    /// How many notes there are: as many as events that can be taken back.
+    pub fn len(&self) -> usize
+        ensures notes { result ≡ length self.now.notes }
+        ensures past { result ≡ length self.now.view.past }
+    {
+        self.notes.len()
+    }
+
+    /// Whether no event can be taken back.
+    pub fn is_empty(&self) -> bool
+        ensures { result ≡ (length self.now.view.past == 0) }
+    {
+        self.len() == 0
+    }
+}
+
+/// Makes room for one more note.
+#[inline(always)]
+fn make_room(notes: &mut HeapCircularBuffer<Note>) -> Result<(), Refusal>
+    ensures items { notes.new.items ≡ notes.old.items }
+    ensures ok { OnOk result (length notes.new.items < notes.new.capacity) }
+    ensures err { IfErr result (λ refusal. refusal ≡ Refusal.Memory) }
+{
+    if notes.len() < notes.capacity() {
+        Ok(())
+    } else {
+        grow(notes)
+    }
+}
+
+/// Doubles the places of notes.
+#[inline(never)]
+fn grow(notes: &mut HeapCircularBuffer<Note>) -> Result<(), Refusal>
+    ensures items { notes.new.items ≡ notes.old.items }
+    ensures ok { OnOk result (length notes.new.items < notes.new.capacity) }
+    ensures err { IfErr result (λ refusal. refusal ≡ Refusal.Memory) }
+{
+    let places = 2 * notes.capacity() + 1;
+    notes.resize(places)?;
+    Ok(())
+}
+
+/// Puts a note first, and keeps so many of them.
+#[inline(always)]
+fn keep(notes: &mut HeapCircularBuffer<Note>, note: Note, kept: usize)
+    requires { length notes.old.items < notes.old.capacity }
+    ensures { notes.new ≡ buffer (take kept (note ∷ notes.old.items)) notes.old.capacity }
+{
+    let Ok(()) = notes.try_push_front(note) else {
+        unreachable!();
+    };
+    // mostly the journal dropped no record
+    if notes.len() > kept {
+        notes.truncate_back(kept);
+    }
+}
