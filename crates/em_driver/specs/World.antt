@@ -27,7 +27,7 @@ pub record World : Type 0 where
   pub refused : ℕ
   -- whether memory was refused to a turn
   pub starved : Bool
-  -- whether the bus can be refused memory; that it can, a bus says only where it was
+  -- whether memory can be refused to the bus; that it can, a bus says only by such a refusal
   pub scarce : Bool
 
 abbrev pub world_code : Coded World
@@ -48,7 +48,7 @@ world_code =
     })
     (λ _. refl)
 
--- a machine, which can always be refused memory, as a bus on which nobody else acts
+-- a machine as a bus on which nobody else acts; memory can always be refused to it
 abbrev pub quiet : View → World
 quiet machine = record {
   machine = machine;
@@ -120,8 +120,8 @@ pub record Accesses (w : World) (e : Event) (answer : Answer) (v : World) : Type
   pub does : Does mid.machine (performs e answer) v.machine
   pub is : v ≡ record mid { machine = v.machine }
 
--- An event that the bus was asked for, and refused. Nothing but such a refusal says of a bus that it can be refused
--- memory: so who answers that it was must have asked.
+-- An event that the bus was asked for, and refused. That memory can be refused to a bus is known from such a refusal
+-- alone: so who answers that it was must have asked.
 pub record IsRefused (w : World) (e : Event) (refusal : Refusal) (v : World) : Type 0 where
   pub passes : Passes w v
   pub refuses : Refuses v.machine.present e refusal
