@@ -1,14 +1,14 @@
 -- No two registers have one name.
 use Rattle.std.proofs.Common.{◌≡◌, ℕ, ◌+◌, ◌*◌, ◌-◌, ◌<◌, Bool, true, false, ◌&&◌, ◌==◌, nat_lt, nat_le, if◌then◌else◌}
-use Rattle.std.proofs.Common.{◌≤◌, ◌/◌, suc, length, take, get_or, arith}
-use Rattle.std.proofs.Common.{◌⊎◌, inl, inr, List, [], ◌∷◌, ◌++◌, Option, Some, None, refl, sym, ap, ◌∙◌, subst, map}
+use Rattle.std.proofs.Common.{◌/◌, suc, length, take, get_or, arith}
+use Rattle.std.proofs.Common.{◌⊎◌, inl, inr, List, [], ◌∷◌, ◌++◌, Option, Some, None, refl, sym, ap, ◌∙◌, map}
 use Rattle.std.specs.Char.{to_ascii_lowercase}
 use Rattle.std.specs.Fmt.{digits}
 use Rattle.em_regs.specs.declared.reg.Reg.{Reg}
 use Rattle.em_regs.specs.declared.reg.Reg.TheVariants.{Ctrl, Mta, Ral, Rah, Vfta}
 use Rattle.em_regs.specs.Table.{IsReg, row_of, index_of, with_index, offset_of, registers, reg_in, reg_at, has_word_at}
 use Rattle.em_regs.proofs.TableLaws.{same_below, indexed, reg_at-offset_of}
-use Rattle.em_names.specs.Names.{stem_of, index_text, name_of, SameLetters, IsNamed}
+use Rattle.em_names.specs.Names.{stem_of, name_of, SameLetters, IsNamed}
 
 truth : (b : Bool) → (b ≡ true) ⊎ (b ≡ false)
 truth true = inl refl
@@ -50,10 +50,14 @@ read_name (reg ∷ regs) word = in_row reg (behind (lowered (stem_of reg)) word)
 
 pub read_name-name_of : (reg : Reg) → IsReg reg → read_name registers (lowered (name_of reg)) ≡ Some reg
 unfolding digits
-read_name-name_of (Mta i) h = same_below (λ k. read_name registers (lowered (name_of (Mta k)))) (λ k. Some (Mta k)) 128 refl i h
-read_name-name_of (Ral i) h = same_below (λ k. read_name registers (lowered (name_of (Ral k)))) (λ k. Some (Ral k)) 16 refl i h
-read_name-name_of (Rah i) h = same_below (λ k. read_name registers (lowered (name_of (Rah k)))) (λ k. Some (Rah k)) 16 refl i h
-read_name-name_of (Vfta i) h = same_below (λ k. read_name registers (lowered (name_of (Vfta k)))) (λ k. Some (Vfta k)) 128 refl i h
+read_name-name_of (Mta i) h =
+    same_below (λ k. read_name registers (lowered (name_of (Mta k)))) (λ k. Some (Mta k)) 128 refl i h
+read_name-name_of (Ral i) h =
+    same_below (λ k. read_name registers (lowered (name_of (Ral k)))) (λ k. Some (Ral k)) 16 refl i h
+read_name-name_of (Rah i) h =
+    same_below (λ k. read_name registers (lowered (name_of (Rah k)))) (λ k. Some (Rah k)) 16 refl i h
+read_name-name_of (Vfta i) h =
+    same_below (λ k. read_name registers (lowered (name_of (Vfta k)))) (λ k. Some (Vfta k)) 128 refl i h
 read_name-name_of Ctrl h = refl
 read_name-name_of _ h = refl
 
@@ -67,7 +71,8 @@ names_apart a b word ha hb na nb =
 
 -- ---- where a word begins with a stem
 
-pub front_same : (word stem rest : List ℕ) → SameLetters word (stem ++ rest) → SameLetters (take (length stem) word) stem
+pub front_same : (word stem rest : List ℕ) → SameLetters word (stem ++ rest)
+    → SameLetters (take (length stem) word) stem
 front_same word [] rest e = refl
 front_same [] (s ∷ ss) rest e = cc
 front_same (w ∷ ws) (s ∷ ss) rest e =
@@ -75,14 +80,6 @@ front_same (w ∷ ws) (s ∷ ss) rest e =
     let others : SameLetters ws (ss ++ rest) = cc in
     let behind_it = front_same ws ss rest others in
     cc
-
-pub long_enough : (word stem rest : List ℕ) → SameLetters word (stem ++ rest) → length stem ≤ length word
-long_enough word [] rest e = omega arith
-long_enough [] (s ∷ ss) rest e = cc
-long_enough (w ∷ ws) (s ∷ ss) rest e =
-    let others : SameLetters ws (ss ++ rest) = cc in
-    let le = long_enough ws ss rest others in
-    omega arith
 
 -- ---- the registers of a row
 

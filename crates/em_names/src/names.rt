@@ -2,7 +2,7 @@
 ghost use Rattle.std.specs.Prelude.{◌≡◌, ◌<◌, ◌++◌, ◌↔◌, ℕ, List, IsTrue, IfSome};
 ghost use Rattle.em_regs.specs.declared.reg.Reg.{Reg};
 ghost use Rattle.em_regs.specs.Table.{IsReg, row_of, with_index, registers};
-ghost use Rattle.em_names.specs.Names.{stem_of, index_text, name_of, IsNamed, SameLetters};
+ghost use Rattle.em_names.specs.Names.{stem_of, name_of, IsNamed, SameLetters};
 
 use arrayvec::ArrayString;
 use em_regs::Reg;

@@ -1,10 +1,11 @@
 //! A register's value in words.
-ghost use Rattle.std.specs.Prelude.{◌≡◌, ◌-◌, map, fold, bit_and, decimal};
+ghost use Rattle.std.specs.Prelude.{◌≡◌, ◌-◌, fold, bit_and, decimal};
 ghost use Rattle.std.specs.List.{flat_map};
 ghost use Rattle.em_text.specs.Writer.{Writes, value_digits};
 ghost use Rattle.em_names.specs.Names.{name_of};
 ghost use Rattle.em_regs.specs.Setup.{buffer_size};
-ghost use Rattle.em_names.specs.Bits.{row_of_field, number_in, row_text, with_value, four_digits, rest_text, bits_text, register_text};
+ghost use Rattle.em_names.specs.Bits.{row_of_field, number_in, row_text, with_value, four_digits};
+ghost use Rattle.em_names.specs.Bits.{rest_text, bits_text, register_text};
 
 use crate::bits::fields;
 use crate::field::{Field, Form};

@@ -1,8 +1,9 @@
 //! Expected texts are worked out from the manual's tables by hand. Each call here goes through a function without a
 //! contract: else the prover would carry what the call says on to all that a test asserts after it.
-use crate::{WriteFailed, fields, name, nearest, parse, write_name, write_register};
+use crate::{fields, name, nearest, parse, write_name, write_register};
 use bitflags::Flags;
 use em_regs::{Causes, Ctrl, Eerd, Rah, Rctl, Reg, Status, Tctl};
+use em_text::{WriteFailed, write_whole};
 use std::alloc::Global;
 use std::test::Fail;
 
@@ -19,7 +20,7 @@ fn is_called(reg: Reg, text: &str) -> bool {
 fn write_lines(text: &mut Vec<u8>, shown: &[(Reg, u32)]) -> Result<(), WriteFailed> {
     for (reg, value) in shown {
         write_register(text, *reg, *value)?;
-        em_text::write_whole(text, b"\n")?;
+        write_whole(text, b"\n")?;
     }
     Ok(())
 }

@@ -1,17 +1,19 @@
 -- A trail that grows, one of which the newest event is taken back, and what its notes tell.
-use Rattle.std.proofs.Common.{◌≡◌, ℕ, ◌≤◌, ◌<◌, zero, suc, List, [], ◌∷◌, length, take, drop, Some, refl, sym, ap, ◌∙◌, subst, arith}
+use Rattle.std.proofs.Common.{◌≡◌, ℕ, ◌<◌, zero, suc, List, [], ◌∷◌, length, take, drop, Some}
+use Rattle.std.proofs.Common.{refl, sym, ap, ◌∙◌, subst, arith}
 use Rattle.std.specs.Prelude.{slice_get, IfSome, Option, None}
 use Rattle.em_step.specs.State.{State}
 use Rattle.em_step.specs.Event.{Event}
 use Rattle.em_step.specs.Cost.{cost}
 use Rattle.em_step.specs.declared.event.Answer.{Answer}
-use Rattle.em_journal.specs.View.{View, states, reach, after_event, after_back, back_to}
+use Rattle.em_journal.specs.View.{View, states, reach, back_to}
 use Rattle.em_journal.specs.History.{Does, performs, goes_back}
 use Rattle.em_trail.specs.declared.note.Note.{Note}
 use Rattle.em_trail.specs.Note.{note_of}
 use Rattle.em_trail.specs.Trail.{Tells, IsTrail, TellsAt}
 
-pub length-trail : (s : State) (past : List State) (notes : List Note) → IsTrail s past notes → length notes ≡ length past
+pub length-trail : (s : State) (past : List State) (notes : List Note) → IsTrail s past notes
+    → length notes ≡ length past
 length-trail s [] [] h = refl
 length-trail s (p ∷ past) (n ∷ notes) h = ap suc (length-trail p past notes h.1)
 length-trail s [] (n ∷ notes) h = absurd h
@@ -48,7 +50,8 @@ trail-noted v w notes notes' note event answer tag old does noted is =
     let all : IsTrail w.present (states v) (note ∷ notes) = (newest, old) in
     let some = trail-take (length w.past) w.present (states v) (note ∷ notes) all in
     subst (IsTrail w.present w.past) (sym is)
-    (subst (λ past. IsTrail w.present past (take (length w.past) (note ∷ notes))) (sym (past_is v w event answer does)) some)
+    (subst (λ past. IsTrail w.present past (take (length w.past) (note ∷ notes)))
+    (sym (past_is v w event answer does)) some)
 
 newest_of : (past : List State) (v : View) → 0 < length past → past ≡ (back_to past v).present ∷ (back_to past v).past
 newest_of [] v h = absurd (omega arith)
@@ -86,8 +89,8 @@ tells_at k s [] [] note h e = cc
 tells_at k s [] (n ∷ notes) note h e = absurd h
 tells_at k s (p ∷ past) [] note h e = absurd h
 
-pub some_tells : (found : Option Note) (k : ℕ) (s : State) (past : List State) (notes : List Note) → IsTrail s past notes
-    → found ≡ slice_get notes k → IfSome found (λ note. TellsAt (s ∷ past) k note)
+pub some_tells : (found : Option Note) (k : ℕ) (s : State) (past : List State) (notes : List Note)
+    → IsTrail s past notes → found ≡ slice_get notes k → IfSome found (λ note. TellsAt (s ∷ past) k note)
 some_tells None k s past notes h e = tt
 some_tells (Some note) k s past notes h e = tells_at k s past notes note h (sym e)
 

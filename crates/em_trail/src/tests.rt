@@ -133,3 +133,19 @@ fn notes_find_room(rt: HostRuntime) -> Result<(), Fail> {
     assert_eq!(rt; tested.note(0), noted(2999, 0x30, 4, 1, Kind::Write));
     Ok(())
 }
+
+// Where memory is refused to a note, its event was not performed. Each request for memory is refused in turn.
+#[test]
+fn refused_notes_change_nothing(rt: HostRuntime) -> Result<(), Fail> {
+    let mut tested = new_tested(rt.alloc())?;
+    let mut performed = 0usize;
+    for tag in 0..200 {
+        match tested.perform(tag, Event::Write(Reg::Fct.offset(), 1)) {
+            Ok(_) => performed = performed.wrapping_add(1),
+            Err(refusal) => assert_eq!(rt; refusal, Refusal::Memory),
+        }
+    }
+    assert_eq!(rt; tested.len(), performed);
+    assert!(rt; tested.is_in_step());
+    Ok(())
+}

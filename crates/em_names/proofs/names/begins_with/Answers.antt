@@ -1,7 +1,7 @@
 use Rattle.std.proofs.Common.{◌≡◌, length, take, ap, sym, ◌∙◌, map, arith}
 use Rattle.std.specs.Char.{to_ascii_lowercase}
 use Rattle.std.specs.List.{slice_range}
-use Rattle.em_names.proofs.NameLaws.{front_same, long_enough}
+use Rattle.em_names.proofs.NameLaws.{front_same}
 use Rattle.em_names.proofs.names.begins_with.Goals as goal
 
 pub returns-in-Some : goal.returns-in-Some

@@ -1,4 +1,4 @@
-use Rattle.std.proofs.Common.{◌≡◌, ◌<◌, ap, sym, ◌∙◌, subst, Some, arith}
+use Rattle.std.proofs.Common.{◌≡◌, ◌<◌, ap, ◌∙◌, subst, Some, arith}
 use Rattle.em_regs.specs.Table.{row_of, with_index}
 use Rattle.em_names.specs.Names.{IsNamed}
 use Rattle.em_names.proofs.NameLaws.{names_apart, is_reg-with_index}

@@ -1,4 +1,4 @@
-use Rattle.std.proofs.Common.{◌<◌, length, ap, Some, arith}
+use Rattle.std.proofs.Common.{ap, Some, arith}
 use Rattle.em_names.proofs.NameLaws.{names_apart, names_none}
 use Rattle.em_names.proofs.names.parse.Goals as goal
 

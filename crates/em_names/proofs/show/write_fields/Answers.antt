@@ -6,6 +6,7 @@ use Rattle.em_names.proofs.show.write_fields.Goals as goal
 pub returns-in_err-write_field : goal.returns-in_err-write_field
 returns-in_err-write_field g c = record {
   writes = MatchResult-from_err _ _ _ c.from_residual.ensures.0 (λ _.
-      WritesPart-among (λ field. row_text c.args.value (row_of_field field)) c.args.fields.now c.loop-field.field-index _
+      WritesPart-among (λ field. row_text c.args.value (row_of_field field)) c.args.fields.now
+      c.loop-field.field-index _
       c.loop-field-test.true c.loop-field.invariant c.in_err-write_field.ensures.writes);
 }

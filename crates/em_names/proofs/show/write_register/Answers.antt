@@ -1,4 +1,4 @@
-use Rattle.std.proofs.Common.{◌++◌, ap, sym, ◌∙◌, append_assoc, refl}
+use Rattle.std.proofs.Common.{◌++◌, sym, ◌∙◌, append_assoc, refl}
 use Rattle.std.specs.Prelude.{codes}
 use Rattle.std.proofs.lemmas.Result.{MatchResult-from_err}
 use Rattle.em_text.specs.Writer.{value_digits}
@@ -25,7 +25,8 @@ returns-in_err-write_value g c =
     record {
       writes = MatchResult-from_err _ _ _ c.from_residual-in_err-write_value.ensures.0 (λ _.
           WritesPart-more (name ++ codes " ")
-          (Appends-more _ _ _ name (codes " ") _ c.in_ok-write_name.ensures.writes c.in_ok-write_whole.ensures.writes refl)
+          (Appends-more _ _ _ name (codes " ") _ c.in_ok-write_name.ensures.writes
+          c.in_ok-write_whole.ensures.writes refl)
           (WritesPart-front bits c.in_err-write_value.ensures.writes refl)
           (sym (append_assoc name (codes " ") (digits ++ bits))));
     }
@@ -38,7 +39,8 @@ returns g c =
     record {
       writes = Writes-more _ _ _ _ ((name ++ codes " ") ++ digits) bits _
           (Appends-more _ _ _ (name ++ codes " ") digits _
-          (Appends-more _ _ _ name (codes " ") _ c.in_ok-write_name.ensures.writes c.in_ok-write_whole.ensures.writes refl)
+          (Appends-more _ _ _ name (codes " ") _ c.in_ok-write_name.ensures.writes
+          c.in_ok-write_whole.ensures.writes refl)
           c.in_ok-write_value.ensures.writes refl)
           c.write_bits.ensures.writes
           (sym (append_assoc name (codes " ") (digits ++ bits)) ∙ sym (append_assoc (name ++ codes " ") digits bits));

@@ -1,4 +1,4 @@
-use Rattle.std.proofs.Common.{◌≡◌, arith}
+use Rattle.std.proofs.Common.{arith}
 use Rattle.std.specs.Prelude.{codes}
 use Rattle.em_text.specs.Writer.{value_digits}
 use Rattle.em_text.proofs.WritingLemmas.{Writes-more}

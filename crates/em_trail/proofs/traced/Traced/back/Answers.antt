@@ -8,7 +8,8 @@ invariant_of-self-2 c =
     let n = c.in-Some.note in
     let was = front_of c.self.inside.notes.items n (sym c.pop_front.ensures.value ∙ c.in-Some.is)
     ∙ ap (λ xs. n ∷ xs) (sym (ap (λ b. b.items) c.pop_front.ensures.items)) in
-    trail-back c.self.inside.machine c.back.new.self c.self.inside.notes.items _ n c.self.invariant c.in-Ok.ensures.ok was
+    trail-back c.self.inside.machine c.back.new.self c.self.inside.notes.items _ n c.self.invariant
+    c.in-Ok.ensures.ok was
 
 pub returns-clause-ok : goal.returns-clause-ok
 returns-clause-ok c =

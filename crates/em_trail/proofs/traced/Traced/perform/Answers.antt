@@ -1,4 +1,4 @@
-use Rattle.std.proofs.Common.{◌≡◌, ◌∷◌, length, take, ap, sym, ◌∙◌, subst}
+use Rattle.std.proofs.Common.{◌∷◌, length, take, ap, ◌∙◌, subst}
 use Rattle.em_step.specs.Event.{plain}
 use Rattle.em_trail.specs.Note.{note_of}
 use Rattle.em_trail.specs.Trail.{Trail, Noted}
@@ -26,5 +26,7 @@ returns-clause-ok c =
     ∙ ap (λ xs. take (length w.past) (note ∷ xs)) c.make_room.ensures.items
     ∙ ap (λ n. take (length w.past) (n ∷ c.self.inside.notes.items)) c.note_of.ensures in
     subst
-    (λ (t : Trail). Noted t (record { view = w; notes = c.keep.new.notes.items }) c.args.tag (plain c.args.event) c.in_ok-answer.answer)
+    (λ (t : Trail).
+    Noted t (record { view = w; notes = c.keep.new.notes.items }) c.args.tag (plain c.args.event)
+    c.in_ok-answer.answer)
     c.self.view_is (record { performed = c.in_ok-answer.ensures.ok; notes = is })
