@@ -36,17 +36,17 @@ pub struct StartRefused<B> {
 #[error("{}", self.name())]
 pub enum Cause {
     /// A growth was refused.
-    Memory,
+    Memory = 9,
     /// The layout is not good.
-    Layout,
+    Layout = 10,
     /// The words of the EEPROM do not have the sum that they need.
-    Checksum,
+    Checksum = 11,
     /// There is one queue, and its number is 0.
-    Queue,
+    Queue = 12,
     /// A packet to send outside 14 to 1,518 octets.
-    PacketLength,
+    PacketLength = 13,
     /// The device answered what this driver cannot use.
-    Broken,
+    Broken = 14,
 }
 
 impl Cause {
@@ -54,14 +54,7 @@ impl Cause {
     pub fn code(self) -> u32
         ensures { result ≡ code_of self }
     {
-        match self {
-            Cause::Memory => 9,
-            Cause::Layout => 10,
-            Cause::Checksum => 11,
-            Cause::Queue => 12,
-            Cause::PacketLength => 13,
-            Cause::Broken => 14,
-        }
+        self as u32
     }
 
     /// The name of the cause, as it is printed.
