@@ -13,14 +13,66 @@ const PIECE: usize = 4096;
 /// How many places of four octets the registers lie in.
 const REGISTER_PLACES: u32 = 0x1600;
 
-/// A number of all that the observing calls show of a machine.
+/// The observing calls, of a machine or of an adapter alone. They have no contracts here, so that what looks at
+/// a state is proved in little time.
+pub trait Shown {
+    fn register(&self, offset: u32) -> Option<u32>;
+    /// Whether the octets lie in memory.
+    fn octets(&self, addr: u64, out: &mut [u8]) -> bool;
+
+    fn has_line(&self) -> bool;
+
+    fn has_link(&self) -> bool;
+
+    fn frames(&self) -> usize;
+
+    fn frame(&self, index: usize) -> Option<&[u8]>;
+
+    fn size(&self) -> u64;
+}
+
+impl Shown for Machine {
+    fn register(&self, offset: u32) -> Option<u32> {
+        self.look(offset)
+    }
+
+    fn octets(&self, addr: u64, out: &mut [u8]) -> bool {
+        self.peek(addr, out).is_ok()
+    }
+
+    fn has_line(&self) -> bool {
+        self.line()
+    }
+
+    fn has_link(&self) -> bool {
+        self.link()
+    }
+
+    fn frames(&self) -> usize {
+        self.wire_len()
+    }
+
+    fn frame(&self, index: usize) -> Option<&[u8]> {
+        self.wire_frame(index)
+    }
+
+    fn size(&self) -> u64 {
+        self.memory_size()
+    }
+}
+
+/// A number of all that a machine shows, and of how far it can go back.
 pub fn digest(machine: &Machine) -> u64 {
-    let mut digest = with(START, machine.can_go_back() as u64);
-    digest = with(digest, u64::from(machine.line()));
-    digest = with(digest, u64::from(machine.link()));
-    digest = with_registers(digest, machine);
-    digest = with_memory(digest, machine);
-    with_wire(digest, machine)
+    with(digest_of(machine), machine.can_go_back() as u64)
+}
+
+/// A number of all that the observing calls show.
+pub fn digest_of<S: Shown>(shown: &S) -> u64 {
+    let mut digest = with(START, u64::from(shown.has_line()));
+    digest = with(digest, u64::from(shown.has_link()));
+    digest = with_registers(digest, shown);
+    digest = with_memory(digest, shown);
+    with_wire(digest, shown)
 }
 
 /// A digest with a number more.
@@ -36,31 +88,31 @@ fn with_octets(digest: u64, octets: &[u8]) -> u64 {
     digest
 }
 
-fn with_registers(digest: u64, machine: &Machine) -> u64 {
+fn with_registers<S: Shown>(digest: u64, shown: &S) -> u64 {
     let mut digest = digest;
     for place in 0..REGISTER_PLACES {
-        if let Some(value) = machine.look(4 * place) {
+        if let Some(value) = shown.register(4 * place) {
             digest = with(digest, u64::from(value));
         }
     }
     digest
 }
 
-fn with_memory(digest: u64, machine: &Machine) -> u64 {
-    let mut digest = digest;
+fn with_memory<S: Shown>(digest: u64, shown: &S) -> u64 {
+    let mut digest = with(digest, shown.size());
     let mut octets = [0; PIECE];
-    for piece in 0..machine.memory_size() / PIECE as u64 {
-        if machine.peek(PIECE as u64 * piece, &mut octets).is_ok() {
+    for piece in 0..shown.size() / PIECE as u64 {
+        if shown.octets(PIECE as u64 * piece, &mut octets) {
             digest = with_octets(digest, &octets);
         }
     }
     digest
 }
 
-fn with_wire(digest: u64, machine: &Machine) -> u64 {
-    let mut digest = digest;
-    for index in 0..machine.wire_len() {
-        if let Some(frame) = machine.wire_frame(index) {
+fn with_wire<S: Shown>(digest: u64, shown: &S) -> u64 {
+    let mut digest = with(digest, shown.frames() as u64);
+    for index in 0..shown.frames() {
+        if let Some(frame) = shown.frame(index) {
             digest = with_octets(digest, frame);
         }
     }

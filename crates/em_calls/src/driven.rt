@@ -8,7 +8,10 @@ use crate::digest::digest;
 use crate::plan::Plan;
 use crate::setup::{driver_with_turns, packet};
 use crate::tests::same;
-use em_driver::{Batch, Cause, DeviceStats, E1000, IxyDevice, PlanRefused, Stopped, Turn, Turns};
+use em_driver::{
+    Batch, Bus, Cause, DeviceStats, E1000, IxyDevice, Layout, PlanRefused, StartRefused, Stopped,
+    Turn, Turns,
+};
 use em_regs::Reg;
 use em_step::{Answer, Event};
 use std::alloc::Global;
@@ -22,6 +25,8 @@ pub struct Driven {
     driver: E1000<Turns>,
     received: VecDeque<Vec<u8>>,
     queue: VecDeque<Vec<u8>>,
+    // how many events there are behind its start
+    start: usize,
 }
 
 /// What the counts of a plan's turns show: performed, refused, stored, starved.
@@ -41,6 +46,17 @@ pub fn stopped(count: u32, events: u32, cause: Cause) -> Result<Batch, Stopped> 
     })
 }
 
+/// How a start went: why it was refused, where it was, and how many events it performed.
+pub type Started = (Option<Cause>, u32);
+
+/// Starts a driver on a bus, and takes the bus back.
+pub fn start_on<B: Bus + Drop>(alloc: Global, bus: B, layout: Layout) -> (B, Started) {
+    match E1000::start(alloc, bus, layout) {
+        Ok((driver, events)) => (driver.into_bus(), (None, events)),
+        Err(StartRefused { bus, cause, events }) => (bus, (Some(cause), events)),
+    }
+}
+
 /// Does so with a driver on a machine with its link up.
 pub fn on_a_driver<F: FnOnce(&mut Driven) -> Result<(), Fail> + Drop>(
     alloc: Global,
@@ -53,16 +69,20 @@ pub fn on_a_driver<F: FnOnce(&mut Driven) -> Result<(), Fail> + Drop>(
         driver: driver_with_turns(alloc)?,
         received: VecDeque::new(alloc),
         queue: VecDeque::new(alloc),
+        start: 0,
     };
+    driven.start = driven.events();
     case(&mut driven)
 }
 
 impl Driven {
-    /// Begins again, on a new machine.
+    /// Begins again: all that came behind the start is taken back.
     pub fn renew(&mut self) -> Result<(), Fail> {
         self.forget();
-        self.driver = driver_with_turns(self.alloc)?;
-        Ok(())
+        self.driver.bus().end_plan();
+        let steps = self.events().saturating_sub(self.start);
+        let done = self.driver.bus().machine_mut().back_by(steps);
+        same("steps", done, steps)
     }
 
     pub fn alloc(&self) -> Global {
@@ -138,6 +158,12 @@ impl Driven {
         Ok(())
     }
 
+    /// A copy of a packet is to be sent, behind the others.
+    pub fn give_copy(&mut self, packet: &[u8]) -> Result<(), Fail> {
+        self.queue.push_back(packet.to_vec(self.alloc)?)?;
+        Ok(())
+    }
+
     /// Nothing was received and nothing is to be sent.
     pub fn forget(&mut self) {
         self.received.clear();
@@ -160,6 +186,10 @@ impl Driven {
 
     pub fn wire_len(&self) -> usize {
         self.driver.look_bus().machine().wire_len()
+    }
+
+    pub fn wire_frame(&self, index: usize) -> Option<&[u8]> {
+        self.driver.look_bus().machine().wire_frame(index)
     }
 
     pub fn counts(&self) -> Counts {

@@ -11,6 +11,7 @@ mod digest;
 #[cfg(test)]
 mod driven;
 mod plan;
+mod random;
 #[cfg(test)]
 mod refusals;
 mod setup;

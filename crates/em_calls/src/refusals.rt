@@ -7,16 +7,56 @@ ghost use Rattle.std.specs.Prelude.{◌≡◌, ◌<◌, length, IfOk};
 ghost use Rattle.em_driver.specs.Planned.{planned};
 ghost use Rattle.em_driver.specs.Turn.{plan_turns};
 
-use crate::digest::digest;
-use crate::driven::{Driven, batch, on_a_driver};
+use crate::digest::{digest, digest_of};
+use crate::driven::{Driven, Started, batch, on_a_driver, start_on};
 use crate::plan::Plan;
 use crate::setup::{LAYOUT, arrival, linked_machine};
 use crate::tests::same;
-use em_driver::{Cause, E1000, Stopped, Turn};
-use em_journal::Machine;
+use em_driver::{Cause, Stopped, Turn};
+use em_eeprom::Eeprom;
+use em_journal::{JournalRefusal, Machine, Settings};
+use em_mem::MemRefusal;
+use em_regs::Reg;
+use em_step::{Adapter, Answer, Event, Refusal};
 use std::alloc::Global;
 use std::collections::VecDeque;
 use std::test::Fail;
+
+/// What an adapter with its journal is made of.
+const SETTINGS: Settings = Settings {
+    memory: 65_536,
+    budget: 65_536,
+    mac: [0x52, 0x54, 0x00, 0x12, 0x34, 0x56],
+};
+
+/// Rings of eight descriptors at 0 and at 80h: two receive descriptors from the second one on are the adapter's,
+/// and two transmit descriptors.
+const RINGS: [(Reg, u32); 8] = [
+    (Reg::Rdlen, 0x80),
+    (Reg::Rdh, 1),
+    (Reg::Rdt, 3),
+    // EN, BAM
+    (Reg::Rctl, 0x0000_8002),
+    (Reg::Tdbal, 0x80),
+    (Reg::Tdlen, 0x80),
+    (Reg::Tdt, 2),
+    // EN, PSP
+    (Reg::Tctl, 0x0000_000A),
+];
+
+/// CTRL.RST.
+const RESET: u32 = 0x0400_0000;
+
+/// A receive descriptor whose buffer lies at 2000h.
+const RECEIVING: [u8; 16] = [0, 0x20, 0, 0, 0, 0, 0, 0, 0, 0, 0, 0, 0, 0, 0, 0];
+
+/// Two transmit descriptors: 20 octets at 4FF0h, and 30 at 6000h with EOP and RS.
+const SENDING: [u8; 32] = [
+    0xF0, 0x4F, 0, 0, 0, 0, 0, 0, 20, 0, 0, 0x00, 0, 0, 0, 0, //
+    0x00, 0x60, 0, 0, 0, 0, 0, 0, 30, 0, 0, 0x09, 0, 0, 0, 0,
+];
+
+const BROADCAST: [u8; 60] = [0xFF; 60];
 
 /// How a call that receives two packets can stop: its count, its events, the packets received.
 const RECEIVED: [(u32, u32, usize); 2] = [(0, 1, 0), (1, 3, 1)];
@@ -36,27 +76,135 @@ const SENT: [(u32, u32, usize); 6] = [
 const STARVED: [(u32, u32, usize, bool); 3] = [(0, 0, 0, true), (1, 0, 1, true), (2, 0, 1, true)];
 
 #[test]
-fn a_refused_start_can_be_made_again(rt: HostRuntime) -> Result<(), Fail> {
-    let machine = linked_machine(rt.alloc())?;
-    let before = digest(&machine);
-    match E1000::start(rt.alloc(), machine, LAYOUT) {
-        Ok((_, events)) => same("events", events, 291),
-        Err(mut refused) => {
-            let events = refused.events;
-            let _ = refused.bus.back_by(events as usize);
-            let found = (refused.cause, digest(&refused.bus));
-            same("refused", found, (Cause::Memory, before))?;
-            starts(rt.alloc(), refused.bus)?;
-            Err(met("start", events, 0))
+fn a_refused_machine_is_named(rt: HostRuntime) -> Result<(), Fail> {
+    match Adapter::new(rt.alloc(), SETTINGS.memory, Eeprom::of_mac(SETTINGS.mac)) {
+        Ok(adapter) => has_a_journal(rt.alloc(), adapter),
+        Err(refusal) => {
+            same("refusal", refusal, MemRefusal::Memory)?;
+            Err(met_event("an adapter"))
         }
     }
 }
 
-/// With memory a driver starts.
-fn starts(alloc: Global, machine: Machine) -> Result<(), Fail> {
-    match E1000::start(alloc, machine, LAYOUT) {
-        Ok((_, events)) => same("events", events, 291),
-        Err(_) => Err(Fail::new("it does not start")),
+/// With memory it has a journal; without, it comes back as it was.
+fn has_a_journal(alloc: Global, adapter: Adapter) -> Result<(), Fail> {
+    let before = digest_of(&adapter);
+    match Machine::new(alloc, adapter, SETTINGS.budget) {
+        Ok(machine) => same("state", digest_of(&machine), before),
+        Err((adapter, refusal)) => comes_back(refusal, digest_of(&adapter), before),
+    }
+}
+
+fn comes_back(refusal: JournalRefusal, state: u64, before: u64) -> Result<(), Fail> {
+    same(
+        "refused",
+        (refusal, state),
+        (JournalRefusal::Memory, before),
+    )?;
+    Err(met_event("a journal"))
+}
+
+#[test]
+fn a_refused_event_changes_nothing(rt: HostRuntime) -> Result<(), Fail> {
+    let mut machine = linked_machine(rt.alloc())?;
+    every_growth(&mut machine)
+}
+
+/// Events that take memory, of each kind. One that is refused is performed the next time, and the others then do
+/// what they always do.
+fn every_growth(machine: &mut Machine) -> Result<(), Fail> {
+    for (reg, value) in RINGS {
+        let _ = machine.perform(Event::Write(reg.offset(), value))?;
+    }
+    let done = Answer::Done;
+    let mut refused = None;
+    for (what, event, wanted) in [
+        ("a write within a page", Event::Poke(0x10, &RECEIVING), done),
+        (
+            "a write over two pages",
+            Event::Poke(0x4FF0, &[7; 40]),
+            done,
+        ),
+        ("a write within a page", Event::Poke(0x80, &SENDING), done),
+        ("an arrival", Event::Arrive(&BROADCAST), Answer::Stored),
+        ("an arrival", Event::Arrive(&BROADCAST), Answer::Stored),
+        ("a receive step", Event::RxStep, Answer::Wrote { index: 1 }),
+        (
+            "a transmit step",
+            Event::TxStep,
+            Answer::Fetched { index: 0 },
+        ),
+        (
+            "a transmit step",
+            Event::TxStep,
+            Answer::Sent {
+                index: 1,
+                octets: 60,
+            },
+        ),
+        ("a reset", Event::Write(Reg::Ctrl.offset(), RESET), done),
+    ] {
+        if is_refused_at_first(machine, event, wanted)? {
+            refused = Some(what);
+        }
+    }
+    match refused {
+        None => Ok(()),
+        Some(what) => Err(met_event(what)),
+    }
+}
+
+/// Whether the event is refused, which changes nothing; it is then performed the next time.
+fn is_refused_at_first(
+    machine: &mut Machine,
+    event: Event<'_>,
+    wanted: Answer,
+) -> Result<bool, Fail> {
+    let before = digest(machine);
+    match machine.perform(event) {
+        Ok(answer) => {
+            same("answer", answer, wanted)?;
+            Ok(false)
+        }
+        Err(refusal) => {
+            same(
+                "refused",
+                (refusal, digest(machine)),
+                (Refusal::Memory, before),
+            )?;
+            same("again", machine.perform(event), Ok(wanted))?;
+            Ok(true)
+        }
+    }
+}
+
+#[test]
+fn a_refused_start_can_be_made_again(rt: HostRuntime) -> Result<(), Fail> {
+    let machine = linked_machine(rt.alloc())?;
+    let before = digest(&machine);
+    let (mut machine, (cause, events)) = start_on(rt.alloc(), machine, LAYOUT);
+    let _ = machine.back_by(events as usize);
+    let state = digest(&machine);
+    // with memory a driver starts
+    let (machine, again) = match cause {
+        None => (machine, (None, 291)),
+        Some(_) => start_on(rt.alloc(), machine, LAYOUT),
+    };
+    let _ = machine;
+    starts_again((cause, events), state == before, again)
+}
+
+/// A start was refused and taken back and then made, or was not refused.
+fn starts_again(first: Started, is_taken_back: bool, again: Started) -> Result<(), Fail> {
+    let found = (is_taken_back, again);
+    same("taken back, and started", found, (true, (None, 291)))?;
+    let (cause, events) = first;
+    match cause {
+        None => same("events", events, 291),
+        Some(cause) => {
+            same("cause", cause, Cause::Memory)?;
+            Err(met("start", events, 0))
+        }
     }
 }
 
@@ -109,11 +257,13 @@ fn a_refused_plan_comes_back(rt: HostRuntime) -> Result<(), Fail> {
             return Err(met("a turn", counts.0, 0));
         }
         driven.counted((3, 0, 1, false))?;
+        let before = driven.digest();
         match driven.set_lists(two_arrivals(driven.alloc())?) {
             Ok(()) => driven.counted((0, 0, 0, false)),
             Err(refused) => {
                 same("lists", refused.plan.len(), 2)?;
                 driven.counted((3, 0, 1, false))?;
+                same("state", driven.digest(), before)?;
                 Err(met("set_plan", 0, 0))
             }
         }
@@ -136,6 +286,11 @@ fn a_refused_turn_is_not_counted(rt: HostRuntime) -> Result<(), Fail> {
         driven.goes_back(counts.0.saturating_add(1), before)?;
         Err(met("a turn", counts.0, 0))
     })
+}
+
+/// What was refused.
+fn met_event(what: &str) -> Fail {
+    Fail::new(format_args!("error: refused {what}"))
 }
 
 /// What a test met.

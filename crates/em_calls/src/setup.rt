@@ -19,7 +19,8 @@ pub const LAYOUT: Layout = Layout {
 /// A machine with its link up.
 pub fn linked_machine(alloc: Global) -> Result<Machine> {
     let mut machine = Settings::default().machine(alloc)?;
-    machine.perform(Event::Link(true))?;
+    // it is never refused, and with a `?` here the prover would go over the machine once more
+    let _ = machine.perform(Event::Link(true));
     Ok(machine)
 }
 

@@ -2,13 +2,12 @@
 
 use crate::digest::digest;
 use crate::plan::Plan;
+use crate::random::Random;
 use crate::setup::{arrival, driver_with_turns, packet};
 use anyhow::{Result, bail, ensure};
 use em_driver::{E1000, IxyDevice, Turn, Turns};
 use em_regs::Reg;
 use em_step::Event;
-use rand_core::utils::NextWord;
-use rand_pcg::Pcg32;
 use std::alloc::Global;
 use std::collections::VecDeque;
 
@@ -30,7 +29,7 @@ const LEAST_SENT: usize = 60;
 #[derive(Drop)]
 struct Traffic {
     alloc: Global,
-    random: Pcg32,
+    random: Random,
     driver: E1000<Turns>,
     // how many packets were made
     packets: u32,
@@ -47,7 +46,7 @@ struct Traffic {
 pub fn course(alloc: Global, seed: u64) -> Result<()> {
     let mut traffic = Traffic {
         alloc,
-        random: Pcg32::new(seed, 0),
+        random: Random::new(seed),
         driver: driver_with_turns(alloc)?,
         packets: 0,
         stored: VecDeque::new(alloc),
@@ -74,7 +73,7 @@ impl Traffic {
     fn call(&mut self) -> Result<()> {
         self.give()?;
         self.plan()?;
-        let is_taken_back = self.below(4) == 0;
+        let is_taken_back = self.random.below(4) == 0;
         let before = if is_taken_back {
             digest(self.driver.look_bus().machine())
         } else {
@@ -82,8 +81,8 @@ impl Traffic {
         };
         let queued = self.queue.len();
         let mut received = VecDeque::new(self.alloc);
-        let events = if self.below(2) == 0 {
-            let most = self.below(6) as usize;
+        let events = if self.random.below(2) == 0 {
+            let most = self.random.below(6) as usize;
             self.driver.rx_batch(0, &mut received, most)?.events
         } else {
             self.driver.tx_batch(0, &mut self.queue)?.events
@@ -95,11 +94,6 @@ impl Traffic {
         }
     }
 
-    /// A number below a bound.
-    fn below(&mut self, bound: u32) -> u32 {
-        self.random.next_word().checked_rem(bound).unwrap_or(0)
-    }
-
     /// The number of the next packet.
     fn next_number(&mut self) -> u32 {
         self.packets = self.packets.wrapping_add(1);
@@ -108,9 +102,9 @@ impl Traffic {
 
     /// Up to three packets more are to be sent.
     fn give(&mut self) -> Result<()> {
-        for _ in 0..self.below(4) {
+        for _ in 0..self.random.below(4) {
             let number = self.next_number();
-            let len = 14 + self.below(100) as usize;
+            let len = 14 + self.random.below(100) as usize;
             self.queue.push_back(packet(self.alloc, number, len)?)?;
             self.unsent.push_back(packet(self.alloc, number, len)?)?;
         }
@@ -122,7 +116,7 @@ impl Traffic {
         let mut plan = Plan::new(self.alloc);
         for _ in 0..LISTS {
             let mut turns = Vec::new(self.alloc);
-            for _ in 0..self.below(MOST_TURNS) {
+            for _ in 0..self.random.below(MOST_TURNS) {
                 turns.push(self.turn()?)?;
             }
             plan = plan.after(turns)?;
@@ -132,10 +126,10 @@ impl Traffic {
 
     /// A random turn.
     fn turn(&mut self) -> Result<Turn> {
-        match self.below(3) {
+        match self.random.below(3) {
             0 => {
                 let number = self.next_number();
-                Ok(arrival(self.alloc, number, 60 + self.below(100) as usize)?)
+                Ok(arrival(self.alloc, number, 60 + self.random.below(100) as usize)?)
             }
             1 => Ok(Turn::RxStep),
             _ => Ok(Turn::TxStep),

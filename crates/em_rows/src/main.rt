@@ -14,6 +14,8 @@ use std::rt::Files;
 use std::{fs, io};
 
 #[cfg(test)]
+mod descriptors;
+#[cfg(test)]
 mod filters;
 #[cfg(test)]
 mod offsets;
@@ -23,6 +25,8 @@ mod refusals;
 mod registers;
 #[cfg(test)]
 mod tests;
+#[cfg(test)]
+mod wire;
 
 /// The file of a row that holds its script.
 const SCRIPT: &str = "script";

@@ -4,7 +4,7 @@
 use crate::offsets::{COUNTERS, SINGLE};
 use crate::tests::same;
 use em_latch::{Counter, Latches};
-use em_regs::Reg;
+use em_regs::{Reg, RegFile};
 use std::test::Fail;
 
 /// The counters of two registers, by the manual's offsets of the low and the high half.
@@ -75,6 +75,39 @@ fn no_other_offset_is_a_register() -> Result<(), Fail> {
         same("register", (offset, is), (offset, None))?;
     }
     Ok(())
+}
+
+/// Software's settings stay in the file; causes, mask and counters in the latches; STATUS in neither.
+#[test]
+fn each_register_is_kept_in_one_place() -> Result<(), Fail> {
+    for (offset, reg) in SINGLE {
+        let is_latched = matches!(reg, Reg::Icr | Reg::Ics | Reg::Ims | Reg::Imc)
+            || (0x04000..0x05000).contains(&offset);
+        let is_stored = !is_latched && reg != Reg::Status;
+        is_kept(reg, is_stored, is_latched)?;
+    }
+    for (reg, is_stored) in [
+        (Reg::Mta(127), true),
+        (Reg::Mta(128), false),
+        (Reg::Vfta(127), true),
+        (Reg::Ral(15), true),
+        (Reg::Rah(15), true),
+        (Reg::Rah(16), false),
+    ] {
+        is_kept(reg, is_stored, false)?;
+    }
+    Ok(())
+}
+
+fn is_kept(reg: Reg, is_stored: bool, is_latched: bool) -> Result<(), Fail> {
+    let file = RegFile::reset([0; 6]);
+    let latches = Latches::new();
+    let is = (reg, file.holds(reg), latches.holds(reg));
+    same(
+        "register, stored, latched",
+        is,
+        (reg, is_stored, is_latched),
+    )
 }
 
 #[test]

@@ -1,9 +1,10 @@
 //! What calls that are not stopped answer.
 
 use super::same;
-use crate::driven::{Driven, batch, on_a_driver};
-use crate::setup::packet;
-use em_driver::DeviceStats;
+use crate::digest::digest;
+use crate::driven::{Driven, Started, batch, on_a_driver, start_on};
+use crate::setup::{LAYOUT, linked_machine, packet};
+use em_driver::{DeviceStats, Turns};
 use em_regs::Reg;
 use em_step::{Answer, Event};
 use std::test::Fail;
@@ -16,6 +17,25 @@ fn tells_its_device_and_the_speed_of_the_link(rt: HostRuntime) -> Result<(), Fai
         let _ = driven.perform(Event::Link(false))?;
         same("down", driven.get_link_speed(), 0)
     })
+}
+
+/// A machine comes back out of its turns as a driver left it: as one that had none.
+#[test]
+fn a_machine_comes_back_out_of_its_turns(rt: HostRuntime) -> Result<(), Fail> {
+    let (mut machine, started) = start_on(rt.alloc(), linked_machine(rt.alloc())?, LAYOUT);
+    let state = digest(&machine);
+    let _ = machine.back_by(291);
+    let (turns, again): (Turns, Started) = start_on(
+        rt.alloc(),
+        Turns::new(rt.alloc(), machine),
+        LAYOUT,
+    );
+    let machine = turns.into_machine();
+    same(
+        "started, again, state",
+        (started, again, digest(&machine)),
+        ((None, 291), (None, 291), state),
+    )
 }
 
 #[test]

@@ -1,7 +1,8 @@
 //! Layouts at each limit, and one past it.
 
 use super::same;
-use em_driver::{Cause, E1000, Layout, StartRefused};
+use crate::driven::start_on;
+use em_driver::{Cause, Layout};
 use em_journal::Settings;
 use std::alloc::Global;
 use std::test::Fail;
@@ -131,15 +132,17 @@ fn starts_or_not(alloc: Global, layout: Layout, good: bool) -> Result<(), Fail> 
         memory: MEMORY,
         ..Settings::default()
     };
+    let descriptors = layout.rx_count.saturating_add(layout.tx_count);
     let wanted = if good {
-        let descriptors = layout.rx_count.saturating_add(layout.tx_count);
-        (Ok(()), descriptors.saturating_add(275), 0)
+        (None, descriptors.saturating_add(275))
     } else {
-        (Err(Cause::Layout), 0, 0)
+        (Some(Cause::Layout), 0)
     };
-    let found = match E1000::start(alloc, settings.machine(alloc)?, layout) {
-        Ok((_driver, events)) => (Ok(()), events, 0),
-        Err(StartRefused { bus, cause, events }) => (Err(cause), events, bus.can_go_back()),
-    };
-    same("started", (layout, found), (layout, wanted))
+    let (machine, started) = start_on(alloc, settings.machine(alloc)?, layout);
+    let events = machine.can_go_back();
+    same(
+        "layout, started, events",
+        (layout, started, events),
+        (layout, wanted, wanted.1 as usize),
+    )
 }

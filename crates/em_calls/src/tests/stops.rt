@@ -2,13 +2,14 @@
 
 use super::same;
 use crate::digest::digest;
-use crate::driven::{Driven, batch, on_a_driver, stopped};
+use crate::driven::{Driven, batch, on_a_driver, start_on, stopped};
 use crate::setup::LAYOUT;
-use em_driver::{Cause, E1000};
+use em_driver::Cause;
 use em_eeprom::Eeprom;
 use em_journal::{MOST_BUDGET, Machine};
 use em_regs::Reg;
 use em_step::{Adapter, Event};
+use std::alloc::Global;
 use std::test::Fail;
 
 /// How many octets the guest's memory has here.
@@ -26,19 +27,24 @@ const EOP: u8 = 0x02;
 
 #[test]
 fn the_words_of_the_eeprom_have_a_sum(rt: HostRuntime) -> Result<(), Fail> {
-    let adapter = Adapter::new(rt.alloc(), MEMORY, Eeprom::of_words([0; 64]))?;
-    let Ok(machine) = Machine::new(rt.alloc(), adapter, MOST_BUDGET) else {
-        return Err(Fail::new("no machine"));
-    };
+    let machine = machine_of_words(rt.alloc(), [0; 64])?;
     let before = digest(&machine);
-    let found = match E1000::start(rt.alloc(), machine, LAYOUT) {
-        Ok(_) => return Err(Fail::new("it starts")),
-        Err(mut refused) => {
-            let steps = refused.bus.back_by(1000);
-            (refused.cause, refused.events, steps, digest(&refused.bus))
-        }
-    };
-    same("refused", found, (Cause::Checksum, 132, 132, before))
+    let (mut machine, started) = start_on(rt.alloc(), machine, LAYOUT);
+    let steps = machine.back_by(1000);
+    same(
+        "started, steps back, state",
+        (started, steps, digest(&machine)),
+        ((Some(Cause::Checksum), 132), 132, before),
+    )
+}
+
+/// A machine with these words in its EEPROM.
+fn machine_of_words(alloc: Global, words: [u16; 64]) -> Result<Machine, Fail> {
+    let adapter = Adapter::new(alloc, MEMORY, Eeprom::of_words(words))?;
+    match Machine::new(alloc, adapter, MOST_BUDGET) {
+        Ok(machine) => Ok(machine),
+        Err(_) => Err(Fail::new("no machine")),
+    }
 }
 
 #[test]
