@@ -9,9 +9,9 @@ use thiserror::Error;
 #[error("{}", self.name())]
 pub enum JournalRefusal {
     /// The budget lies outside 65,536 to 16,777,216 octets of cost.
-    Budget,
+    Budget = 24,
     /// The memory of the journal's places was refused.
-    Memory,
+    Memory = 9,
 }
 
 impl JournalRefusal {
@@ -19,10 +19,7 @@ impl JournalRefusal {
     pub fn code(self) -> u32
         ensures { result ≡ code_of self }
     {
-        match self {
-            JournalRefusal::Budget => 24,
-            JournalRefusal::Memory => 9,
-        }
+        self as u32
     }
 
     /// The name of the refusal, as it is printed.
