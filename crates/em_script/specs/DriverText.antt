@@ -4,6 +4,7 @@ use Rattle.em_text.specs.Writer.{hex_text, decimal_text, decimal_line_text, numb
 use Rattle.em_driver.specs.Outcome.{name_of}
 use Rattle.em_driver.specs.declared.outcome.Cause.{Cause}
 use Rattle.em_driver.specs.declared.stats.DeviceStats.{DeviceStats}
+use Rattle.em_script.specs.NoDriver.{name_of as name_of_no_driver}
 use Rattle.em_script.specs.Output.{named_refusal_text}
 
 -- a driver was started, with so many events
@@ -44,4 +45,4 @@ turns_text performed refused starved = numbers_text (codes "turns ") performed r
 
 -- of a call without a driver
 abbrev pub no_driver_text : List ℕ
-no_driver_text = named_refusal_text (codes "NoDriver")
+no_driver_text = named_refusal_text name_of_no_driver

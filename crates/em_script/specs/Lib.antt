@@ -11,6 +11,7 @@ pub mod Seat
 pub mod Registers
 pub mod Wire
 pub mod Output
+pub mod NoDriver
 pub mod DriverText
 pub mod DriverAnswer
 pub mod RefusedAt

@@ -84,6 +84,13 @@ StopsInScript script first now old new Memory = StopsBeforeLine script first now
 StopsInScript script first now old new Write = FailsInLine script first now old new
 StopsInScript script first now old new _ = ⊥
 
+-- the number of a fault
+abbrev pub code_of : BenchFault → ℕ
+code_of Read = 20
+code_of Write = 21
+code_of TooLarge = 22
+code_of Memory = 9
+
 -- the name of a fault, as it is printed
 abbrev pub name_of : BenchFault → List ℕ
 name_of Read = codes "Read"

@@ -1,5 +1,5 @@
 //! Calling a driver on the machine of a session.
-ghost use Rattle.std.specs.Prelude.{◌≡◌, [], true, false, if◌then◌else◌, Some, None, IfSome, IsNone};
+ghost use Rattle.std.specs.Prelude.{◌≡◌, [], true, false, if◌then◌else◌, Some, None, IfOk, OnOk, OnErr};
 ghost use Rattle.em_driver.specs.Course.{Follows};
 ghost use Rattle.em_driver.specs.Outcome as outcome;
 ghost use Rattle.em_driver.specs.Receive.{lists};
@@ -11,6 +11,7 @@ ghost use Rattle.em_script.specs.DriverAnswer.{is_started, plain};
 use crate::driver_answer::DriverAnswer;
 use crate::driver_call::DriverCall;
 use crate::driver_reply::{DriverReply, PlanCounts};
+use crate::no_driver::NoDriver;
 use crate::seat::Seat;
 use crate::session::Session;
 use crate::spare::take_empty;
@@ -59,19 +60,23 @@ pub fn start_driver(alloc: Global, session: &mut Session) -> DriverReply
 }
 
 /// Has the driver of a session do what is asked, if one stands.
-pub fn call_driver(alloc: Global, session: &mut Session, call: DriverCall) -> Option<DriverReply>
-    ensures stands { IfSome result (λ reply. session.old.started ≡ true) }
-    ensures called { IfSome result (IsCalled (plain_call call) session.old session.new) }
-    ensures none { IsNone result → session.old.started ≡ false }
-    ensures same { IsNone result → session.new ≡ session.old }
+pub fn call_driver(
+    alloc: Global,
+    session: &mut Session,
+    call: DriverCall,
+) -> Result<DriverReply, NoDriver>
+    ensures stands { OnOk result (session.old.started ≡ true) }
+    ensures called { IfOk result (IsCalled (plain_call call) session.old session.new) }
+    ensures none { OnErr result (session.old.started ≡ false) }
+    ensures same { OnErr result (session.new ≡ session.old) }
 {
     let Seat::Driven(driver) = &mut session.seat else {
-        return None;
+        return Err(NoDriver);
     };
     let (events, answer) = call_by(alloc, driver, &mut session.packets, call);
     let plan = end_plan(driver.bus(), session.planned);
     session.planned = false;
-    Some(DriverReply {
+    Ok(DriverReply {
         events,
         answer,
         plan,

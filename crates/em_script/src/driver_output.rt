@@ -12,12 +12,13 @@ ghost use Rattle.em_script.specs.DriverText.{turns_text, turns_end, no_driver_te
 
 use crate::driver_answer::DriverAnswer;
 use crate::driver_reply::{DriverReply, PlanCounts};
+use crate::no_driver::NoDriver;
 use crate::outcome::Outcome;
 use crate::output::write_done;
 use em_driver::{Batch, Cause, DeviceStats, Stopped};
 use em_text::{
     WriteFailed, octet_digits, write_number_line, write_numbers_line, write_octets_line,
-    write_pieces, write_whole,
+    write_pieces,
 };
 use itoa::Buffer;
 use std::collections::VecDeque;
@@ -217,6 +218,6 @@ fn turns_end(starved: bool) -> &'static [u8]
 pub fn write_no_driver<W: Write>(writer: &mut W) -> Result<Outcome, WriteFailed>
     ensures { Prints no_driver_text Outcome.Refused (W.contents writer.old) (W.contents writer.new) result }
 {
-    write_whole(writer, b"refused NoDriver\n")?;
+    write_pieces(writer, &[b"refused ", NoDriver.name().as_bytes(), b"\n"])?;
     Ok(Outcome::Refused)
 }

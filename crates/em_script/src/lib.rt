@@ -17,6 +17,7 @@ mod driver_reply;
 mod frame;
 mod grammar;
 mod laws;
+mod no_driver;
 mod outcome;
 mod output;
 mod peek_len;
@@ -34,6 +35,7 @@ mod turn_word;
 mod wire;
 
 pub use laws::a_request_is_played_or_says_so;
+pub use no_driver::NoDriver;
 pub use runner::{BenchFault, run};
 pub use session::Session;
 pub use summary::Summary;

@@ -13,6 +13,7 @@ ghost use Rattle.em_script.specs.Reply.{back_by_reply, wire_reply, Gives, Obeys,
 use crate::calling::{call_driver, start_driver};
 use crate::command::Command;
 use crate::driver_output::{write_driver_reply, write_no_driver};
+use crate::no_driver::NoDriver;
 use crate::outcome::Outcome;
 use crate::output::{
     write_answer, write_back, write_bit, write_done, write_empty, write_octets, write_refusal,
@@ -44,12 +45,12 @@ pub fn ask<W: Write>(
     match request {
         Request::Start => write_driver_reply(writer, &start_driver(alloc, session)),
         Request::Call(call) => match call_driver(alloc, session, call) {
-            Some(reply) => {
+            Ok(reply) => {
                 let written = write_driver_reply(writer, &reply);
                 session.keep_packets(reply.answer);
                 written
             }
-            None => write_no_driver(writer),
+            Err(NoDriver) => write_no_driver(writer),
         },
     }
 }

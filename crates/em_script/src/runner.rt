@@ -3,7 +3,7 @@ ghost use Rattle.std.specs.Prelude.{◌≡◌, ◌⊎◌, ℕ, ◌≤◌, ◌<�
 ghost use Rattle.std.specs.Io.KnownBytes.{Appends, Keeps};
 ghost use Rattle.em_text.specs.Reader.{most_script};
 ghost use Rattle.em_script.specs.Runner.{text, TakesNoMemory, SaysMemory, Answers, ReadsWhole, FailsInLine};
-ghost use Rattle.em_script.specs.Runner.{name_of, StopsBeforeLine, StopsInScript};
+ghost use Rattle.em_script.specs.Runner.{code_of, name_of, StopsBeforeLine, StopsInScript};
 
 use crate::peek_len::MOST_PEEK;
 use crate::play::play_line;
@@ -19,16 +19,23 @@ use thiserror::Error;
 #[error("{}", self.name())]
 pub enum BenchFault {
     /// The reader failed.
-    Read,
+    Read = 20,
     /// The writer failed, or took no octet.
-    Write,
+    Write = 21,
     /// The script has more than 4,194,304 octets.
-    TooLarge,
+    TooLarge = 22,
     /// Memory was refused while the script was read, or for the octets of a line.
-    Memory,
+    Memory = 9,
 }
 
 impl BenchFault {
+    /// The number of the fault: 20 for `Read`, 21 for `Write`, 22 for `TooLarge`, 9 for `Memory`.
+    pub fn code(self) -> u32
+        ensures { result ≡ code_of self }
+    {
+        self as u32
+    }
+
     /// The name of the fault, as it is printed.
     pub fn name(self) -> &'static str
         ensures { result.now ≡ name_of self }

@@ -8,8 +8,8 @@ returns-in-Start g c = λ number.
     rw (c.in-Start.is) (call_made number starts c.start_driver.result refl c.start_driver.ensures
     c.write_driver_reply.ensures)
 
-pub returns-in-Some : goal.returns-in-Some
-returns-in-Some g c = λ number.
-    rw (c.in-Call.is, c.keep_packets.ensures) (call_made number (plain_call c.in-Call.call) c.in-Some.reply
-    (has_driver_call c.in-Call.call c.args.session.now ∙ c.in-Some.ensures.stands) c.in-Some.ensures.called
+pub returns-in-Ok : goal.returns-in-Ok
+returns-in-Ok g c = λ number.
+    rw (c.in-Call.is, c.keep_packets.ensures) (call_made number (plain_call c.in-Call.call) c.in-Ok.reply
+    (has_driver_call c.in-Call.call c.args.session.now ∙ c.in-Ok.ensures.stands) c.in-Ok.ensures.called
     c.write_driver_reply-written.ensures)
