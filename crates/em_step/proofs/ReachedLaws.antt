@@ -1,6 +1,7 @@
 -- The receive ring of a state that an adapter comes to.
 use Rattle.std.proofs.Common.{◌≡◌, ◌≢◌, ◌⊎◌, ◌≤◌, ℕ, Bool, true, false, List, [], ◌∷◌, inl, inr, refl, sym, subst}
-use Rattle.std.proofs.Common.{arith, length, nat_lt, not, ◌||◌, ◌==◌, if◌then◌else◌, Option, Some, None, Result, Ok, Err}
+use Rattle.std.proofs.Common.{arith, length, nat_lt, not, ◌||◌, ◌==◌, if◌then◌else◌, Option, Some, None}
+use Rattle.std.proofs.Common.{Result, Ok, Err}
 use Rattle.std.proofs.lemmas.Nat.{and_le_r}
 use Rattle.std.specs.Prelude.{bit_and, ◌+◌}
 use Rattle.em_regs.specs.declared.reg.Reg.{Reg}
@@ -27,8 +28,8 @@ use Rattle.em_tx.specs.Cells.{Shown}
 use Rattle.em_tx.specs.declared.answer.TxAnswer.{TxAnswer}
 use Rattle.em_tx.specs.declared.answer.TxAnswer.TheVariants as tx_answer
 use Rattle.em_tx.specs.declared.refusal.TxRefusal.{TxRefusal}
-use Rattle.em_step.specs.Access.{after_eeprom_read, after_link, after_read, after_store, after_write, after_write_by, differ}
-use Rattle.em_step.specs.Access.{eerd_address, gives, has, is_reset_by, reset}
+use Rattle.em_step.specs.Access.{after_eeprom_read, after_link, after_read, after_store, after_write, after_write_by}
+use Rattle.em_step.specs.Access.{differ, eerd_address, gives, has, is_reset_by, reset}
 use Rattle.em_step.specs.Arrival.{after_accept, after_miss, arrival, is_enabled, judged, judgement, lacks_room}
 use Rattle.em_step.specs.Cells.{fresh, shows}
 use Rattle.em_step.specs.Engines.{after_rx_answer, after_tx_answer, received, rx_stepped, transmitted}

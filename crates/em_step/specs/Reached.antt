@@ -9,7 +9,8 @@ use Rattle.em_step.specs.declared.event.Answer.{Answer}
 -- events, the newest first and none of them refused, lead from one state to the other
 abbrev pub ArePerformed : List Event → State → State → Type 0
 ArePerformed [] s t = t ≡ s
-ArePerformed (e ∷ events) s t = (m : State) × ArePerformed events s m × ((answer : Answer) × (step m e ≡ Ok (answer, t)))
+ArePerformed (e ∷ events) s t =
+    (m : State) × ArePerformed events s m × ((answer : Answer) × (step m e ≡ Ok (answer, t)))
 
 -- some events lead a new adapter to this state
 pub record IsReached (s : State) : Type 0 where
