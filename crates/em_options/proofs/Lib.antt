@@ -1,2 +1,3 @@
 pub mod Defaults
 pub mod Usual
+pub mod PlayingLemmas

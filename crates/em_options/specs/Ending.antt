@@ -1,9 +1,14 @@
 -- How the program ends: its status and its line on standard error, for each ending.
-use Rattle.std.specs.Prelude.{ℕ, List, [], ◌==◌, ◌++◌, if◌then◌else◌, codes, Result, Ok, Err}
+use Rattle.std.specs.Prelude.{ℕ, Bool, true, false, List, [], ◌∷◌, ◌==◌, ◌++◌, if◌then◌else◌, codes}
+use Rattle.std.specs.Prelude.{◌≡◌, Option, Some, None, Result, Ok, Err}
+use Rattle.std.specs.declared.io.ErrorKind.{ErrorKind as IoKind}
+use Rattle.std.specs.declared.io.ErrorKind.TheVariants as io
 use Rattle.clap.specs.Words.{kind_of}
+use Rattle.clap.specs.declared.error.Error.{Error}
 use Rattle.clap.specs.declared.error.kind.ErrorKind.{ErrorKind}
 use Rattle.clap.specs.declared.error.kind.ErrorKind.TheVariants as kind
-use Rattle.em_journal.specs.Settings.{name_of as refusal_name}
+use Rattle.em_journal.specs.Settings.{name_of as refusal_name, IsRefusedAs}
+use Rattle.em_journal.specs.declared.settings.Settings.{Settings}
 use Rattle.em_journal.specs.declared.settings.SettingsRefusal.{SettingsRefusal}
 use Rattle.em_journal.specs.declared.settings.SettingsRefusal.TheVariants as settings
 use Rattle.em_script.specs.Runner.{name_of as fault_name}
@@ -39,6 +44,15 @@ error_line_of Size = line_of (refusal_name settings.Size)
 error_line_of Budget = line_of (refusal_name settings.Budget)
 error_line_of (Fault why) = line_of (fault_name why)
 
+-- a line, where there is one
+abbrev pub as_line : List ℕ → List ℕ
+as_line [] = []
+as_line (octet ∷ octets) = (octet ∷ octets) ++ codes "\n"
+
+-- what stands on standard error, where it can be written
+abbrev pub told_text : Ending → List ℕ
+told_text ending = as_line (error_line_of ending)
+
 -- help and the version end well, and want of memory is no fault of the words
 abbrev pub ending_of_kind : ErrorKind → Ending
 ending_of_kind kind.DisplayHelp = Help
@@ -51,11 +65,49 @@ abbrev pub ending_of_refusal : OptionsRefused → Ending
 ending_of_refusal (refused.Parser error) = ending_of_kind (kind_of error)
 ending_of_refusal refused.Mac = Mac
 
+-- the parser's error where it has a text for the user: help or the version, or what is wrong with the words; of want of
+-- memory it says nothing
+abbrev pub told_by_kind : ErrorKind → Error → Option Error
+told_by_kind kind.OutOfMemory error = None
+told_by_kind other error = Some error
+
+abbrev pub told_error : OptionsRefused → Option Error
+told_error (refused.Parser error) = told_by_kind (kind_of error) error
+told_error refused.Mac = None
+
+-- the parser's text was printed, or could not be: help that can't be printed is a fault
+abbrev pub after_print : Bool → Ending → Ending
+after_print false Help = Fault fault.Write
+after_print printed ending = ending
+
+-- want of memory is named as such, wherever it comes
+abbrev pub memory_or : IoKind → Ending → Ending
+memory_or io.OutOfMemory other = Fault fault.Memory
+memory_or kind other = other
+
+-- words that can't be had: for want of memory, or since one of them is no text
+abbrev pub ending_of_words : IoKind → Ending
+ending_of_words kind = memory_or kind Parser
+
+-- a script that can't be opened
+abbrev pub ending_of_open : IoKind → Ending
+ending_of_open kind = memory_or kind (Fault fault.Read)
+
 -- settings of which no machine was made
 abbrev pub ending_of_settings : SettingsRefusal → Ending
 ending_of_settings settings.Size = Size
 ending_of_settings settings.Budget = Budget
 ending_of_settings settings.Memory = Fault fault.Memory
+
+-- the name of what refused a command line
+abbrev pub name_of : OptionsRefused → List ℕ
+name_of (refused.Parser error) = codes "Parser"
+name_of refused.Mac = codes "Mac"
+
+-- no machine was made of the settings, and the program ends by what refused them
+abbrev pub EndsWithoutMachine : Settings → Ending → Type 0
+EndsWithoutMachine settings ending =
+    (refusal : SettingsRefusal) × IsRefusedAs settings refusal × (ending ≡ ending_of_settings refusal)
 
 -- a script that was run, or stopped
 abbrev pub ending_of_run : Result Summary BenchFault → Ending

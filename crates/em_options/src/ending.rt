@@ -1,13 +1,18 @@
 //! How a run of the program ends.
 ghost use Rattle.std.specs.Prelude.{◌≡◌};
+ghost use Rattle.std.specs.IoError.{error_kind};
 ghost use Rattle.clap.specs.Words.{kind_of};
-ghost use Rattle.em_options.specs.Ending.{ending_of_kind, ending_of_refusal, ending_of_run};
-ghost use Rattle.em_options.specs.Ending.{ending_of_settings, error_line_of, status_of};
+ghost use Rattle.em_text.specs.Writer.{Writes};
+ghost use Rattle.em_options.specs.Ending.{after_print, ending_of_kind, ending_of_open, ending_of_refusal};
+ghost use Rattle.em_options.specs.Ending.{ending_of_run, ending_of_settings, ending_of_words, error_line_of};
+ghost use Rattle.em_options.specs.Ending.{memory_or, status_of, told_text};
 
 use crate::settings::OptionsRefused;
 use clap::error::ErrorKind;
 use em_journal::SettingsRefusal;
 use em_script::{BenchFault, Summary};
+use em_text::{WriteFailed, write_pieces};
+use std::io::{self, Write};
 
 /// The status where no line was bad, or help was asked for.
 const WELL: u8 = 0;
@@ -73,6 +78,44 @@ impl Ending {
     }
 }
 
+impl Ending {
+    /// How it ends where the words of its command line can't be had: for want of memory, or since one
+    /// of them is no text.
+    pub fn without_words(error: &io::Error) -> Ending
+        ensures { result ≡ ending_of_words (error_kind error.now) }
+    {
+        memory_or(error, Ending::Parser)
+    }
+
+    /// How it ends where the script can't be opened.
+    pub fn without_script(error: &io::Error) -> Ending
+        ensures { result ≡ ending_of_open (error_kind error.now) }
+    {
+        memory_or(error, Ending::Fault(BenchFault::Read))
+    }
+
+    /// How it ends once the parser's text was printed, or could not be.
+    pub fn after_print(self, is_printed: bool) -> Ending
+        ensures { result ≡ after_print is_printed self }
+    {
+        match self {
+            Ending::Help if !is_printed => Ending::Fault(BenchFault::Write),
+            _ => self,
+        }
+    }
+
+    /// Writes the line of its own that the program has for this ending, if there is one.
+    pub fn tell<W: Write>(&self, writer: &mut W) -> Result<(), WriteFailed>
+        ensures { Writes (W.contents writer.old) (W.contents writer.new) result (told_text self.now) }
+    {
+        let line = self.error_line();
+        if line.is_empty() {
+            return Ok(());
+        }
+        write_pieces(writer, &[line.as_bytes(), b"\n"])
+    }
+}
+
 impl OptionsRefused {
     /// How the program ends where its command line is refused.
     pub fn ending(&self) -> Ending
@@ -82,6 +125,16 @@ impl OptionsRefused {
             OptionsRefused::Parser(error) => parser_ending(error.kind()),
             OptionsRefused::Mac => Ending::Mac,
         }
+    }
+}
+
+/// Want of memory is named as such, wherever it comes.
+fn memory_or(error: &io::Error, other: Ending) -> Ending
+    ensures { result ≡ memory_or (error_kind error.now) other }
+{
+    match error.kind() {
+        io::ErrorKind::OutOfMemory => Ending::Fault(BenchFault::Memory),
+        _ => other,
     }
 }
 

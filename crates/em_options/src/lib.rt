@@ -13,10 +13,12 @@
 mod command;
 mod ending;
 mod help;
+mod playing;
 mod settings;
 #[cfg(test)]
 mod tests;
 
 pub use command::options;
 pub use ending::Ending;
+pub use playing::play;
 pub use settings::{Options, OptionsRefused};

@@ -1,9 +1,18 @@
 //! What a command line asks for, and why one is refused.
-ghost use Rattle.std.specs.Prelude.{◌≡◌};
+ghost use Rattle.std.specs.Prelude.{◌≡◌, IfOk, IfErr, OnOk};
+ghost use Rattle.std.specs.Option.{option_map};
+ghost use Rattle.clap.specs.Words.{kind_of};
+ghost use Rattle.em_journal.specs.Settings.{new_machine, AreAllowed};
+ghost use Rattle.em_script.specs.Session.{bare};
+ghost use Rattle.em_options.specs.Ending.{name_of, told_by_kind, told_error, EndsWithoutMachine};
 ghost use Rattle.em_options.specs.Options.{settings_of};
 
+use crate::ending::Ending;
 use clap::Error as ParserError;
+use clap::error::ErrorKind;
 use em_journal::Settings;
+use em_script::Session;
+use std::alloc::Global;
 use thiserror::Error;
 
 /// What the words of a command line ask for. That the size and the budget are allowed is decided
@@ -31,16 +40,61 @@ impl Options<'_> {
             mac: self.mac,
         }
     }
+
+    /// A session over a new machine that is made as these words say, or how the program ends where
+    /// there is none.
+    pub fn session(&self, alloc: Global) -> Result<Session, Ending>
+        ensures ok { IfOk result (λ session. session ≡ bare (new_machine (settings_of self.now))) }
+        ensures allowed { OnOk result (AreAllowed (settings_of self.now)) }
+        ensures err { IfErr result (EndsWithoutMachine (settings_of self.now)) }
+    {
+        match self.settings().machine(alloc) {
+            Ok(machine) => Ok(Session::new(alloc, machine)),
+            Err(refusal) => Err(refusal.into()),
+        }
+    }
 }
 
 /// Why a command line is refused.
 #[derive(Debug, Drop, Error)]
+#[error("{}", self.name())]
 pub enum OptionsRefused {
     /// The parser refused the words, or was asked for help, or had no memory: it says which, and
     /// has the text for the user.
-    #[error("{0}")]
     Parser(ParserError),
     /// The text after `--mac` is not 12 hexadecimal digits.
-    #[error("Mac")]
     Mac,
+}
+
+impl OptionsRefused {
+    /// The name of the refusal, as it is printed.
+    pub fn name(&self) -> &'static str
+        ensures { result.now ≡ name_of self.now }
+    {
+        match self {
+            OptionsRefused::Parser(_) => "Parser",
+            OptionsRefused::Mac => "Mac",
+        }
+    }
+
+    /// The parser's error where it has a text for the user: help or the version, or what is wrong with
+    /// the words. Of want of memory it says nothing.
+    pub fn told(&self) -> Option<&ParserError>
+        ensures { option_map (λ error. error.now) result ≡ told_error self.now }
+    {
+        match self {
+            OptionsRefused::Parser(error) => told_by_kind(error),
+            OptionsRefused::Mac => None,
+        }
+    }
+}
+
+/// The error where the parser has a text for it.
+fn told_by_kind(error: &ParserError) -> Option<&ParserError>
+    ensures { option_map (λ told. told.now) result ≡ told_by_kind (kind_of error.now) error.now }
+{
+    match error.kind() {
+        ErrorKind::OutOfMemory => None,
+        _ => Some(error),
+    }
 }

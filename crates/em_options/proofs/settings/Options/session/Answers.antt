@@ -1,0 +1,6 @@
+use Rattle.std.proofs.Common.{rules}
+use Rattle.em_options.proofs.settings.Options.session.Goals as goal
+
+pub returns-in-Err-clause-err : goal.returns-in-Err-clause-err
+returns-in-Err-clause-err c =
+    (c.in-Err.refusal, rw (c.settings.ensures) at c.in-Err.ensures.err, search rules)
