@@ -10,3 +10,4 @@ pub mod SetupLaws
 pub mod PieceLaws
 pub mod WholeLaws
 pub mod InertLaws
+pub mod BeforeLaws
