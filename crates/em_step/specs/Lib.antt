@@ -9,6 +9,7 @@ pub mod Fate
 pub mod Engines
 pub mod Step
 pub mod Pieces
+pub mod Reached
 pub mod Whole
 pub mod Inert
 pub mod Undo

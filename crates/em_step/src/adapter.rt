@@ -95,7 +95,7 @@ impl Adapter {
             registers,
             latches: Latches::new(),
             fifo,
-            gather: Gather::new(alloc)?,
+            gather: Gather::new(alloc),
             wire: Wire::new(alloc),
             eeprom,
             link: false,
@@ -421,7 +421,8 @@ impl Adapter {
         let before = &mut *old;
         std::mem::swap(&mut self.registers, &mut before.registers);
         std::mem::swap(&mut self.latches, &mut before.latches);
-        std::mem::swap(&mut self.gather, &mut before.gathered);
+        let gathered = std::mem::replace(&mut before.gathered, TxUndo::Nothing);
+        take_back(&mut self.gather, &mut self.wire, &mut self.memory, gathered);
         let frames = std::mem::replace(&mut before.fifo, RxUndo::Nothing);
         self.fifo.take_back(&mut self.memory, frames);
         self.let_reset_go(old);
@@ -468,11 +469,10 @@ impl Adapter {
         let mut kept = place;
         let before = &mut *kept;
         before.registers.reset_in_place(self.eeprom.mac());
-        before.gathered.clear();
         std::mem::swap(&mut self.registers, &mut before.registers);
-        std::mem::swap(&mut self.gather, &mut before.gathered);
         before.latches = std::mem::replace(&mut self.latches, Latches::new());
         before.fifo = self.fifo.clear();
+        before.gathered = self.gather.clear();
         kept
     }
 
@@ -488,7 +488,7 @@ impl Adapter {
             registers: Box::new(self.alloc, RegFile::reset(self.eeprom.mac()))?,
             latches: Latches::new(),
             fifo: RxUndo::Nothing,
-            gathered: Gather::new(self.alloc)?,
+            gathered: TxUndo::Nothing,
         };
         Ok(Box::new(self.alloc, fresh)?)
     }
