@@ -11,4 +11,4 @@ returns-clause-before c =
     let is : has_sent c.args.self.now.sent ≡ c.is_frame.result
     = ap (λ (r : Change). has_sent r.sent) (sym c.self.view_is) ∙ sym c.is_frame.ensures in
     λ cells fits. wire_taken cells c.args.self.now.count c.args.self.now.sent fits.0
-    ∙ ap (λ b. length (undo_change cells c.args.self.now).wire + (if b then 1 else 0)) is
+    ∙ ap (λ (b : Bool). length (undo_change cells c.args.self.now).wire + (if b then 1 else 0)) is
