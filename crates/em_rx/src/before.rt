@@ -2,7 +2,7 @@
 ghost use Rattle.std.specs.Prelude.{◌≡◌, length, unwrap_or};
 ghost use Rattle.em_mem.specs.Memory as memory;
 ghost use Rattle.em_mem.specs.Window.{IsWindow};
-ghost use Rattle.em_rx.specs.Before.{frames_of};
+ghost use Rattle.em_rx.specs.Before.{frames_of, laid, laid_step};
 ghost use Rattle.em_rx.specs.Fifo.{Cells, shows};
 ghost use Rattle.em_rx.specs.Undo.{Fits, FitsStep, undo_fifo, undo_memory, with_both};
 
@@ -24,7 +24,8 @@ impl StepPatch {
     /// of its descriptor. The window is then what it was before the step.
     #[inline(always)]
     pub fn lay_over(&self, addr: u64, window: &mut [u8])
-        ensures { (c : Cells) (m : memory.Cells) → FitsStep c m self.now → IsWindow m.octets addr window.old
+        ensures octets { window.new ≡ laid_step self.now addr window.old }
+        ensures before { (c : Cells) (m : memory.Cells) → FitsStep c m self.now → IsWindow m.octets addr window.old
             → IsWindow (with_both m self.now).octets addr window.new }
     {
         self.piece.lay_over(addr, window);
@@ -49,7 +50,8 @@ impl RxUndo {
 
     /// Lays what the change overwrote over a window of memory from `addr` on. The window is then what it was before.
     pub fn lay_over(&self, addr: u64, window: &mut [u8])
-        ensures { (c : Cells) (m : memory.Cells) → Fits c m self.now → IsWindow m.octets addr window.old
+        ensures octets { window.new ≡ laid self.now addr window.old }
+        ensures before { (c : Cells) (m : memory.Cells) → Fits c m self.now → IsWindow m.octets addr window.old
             → IsWindow (undo_memory m self.now).octets addr window.new }
     {
         if let RxUndo::Step(patch) = self {

@@ -9,5 +9,5 @@ use Rattle.em_rx.proofs.undo.RxUndo.frames.Goals as goal
 pub returns-in-Places-clause-before : goal.returns-in-Places-clause-before
 returns-in-Places-clause-before c =
     let P : RxUndo → Type 0 = λ r. (cells : Cells) (m : memory.Cells) → Fits cells m r
-        → length (shows (undo_fifo cells r)).frames ≡ c.in-Places.places.count in
+    → length (shows (undo_fifo cells r)).frames ≡ c.in-Places.places.count in
     subst P (sym c.in-Places.is) (λ cells m sound. length-frames (record cells { places = c.in-Places.places }) sound)
