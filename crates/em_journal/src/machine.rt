@@ -379,7 +379,7 @@ impl Machine {
     /// journal has no such event. The machine stays where it is.
     #[inline(always)]
     pub fn record(&self, k: usize) -> Option<&Undo>
-        ensures found { IfSome result (λ record. IsRecordAt self.now k record.now) }
+        ensures found { IfSome result (λ undo. IsRecordAt self.now k undo.now) }
         ensures none { IsNone result ↔ length self.now.past ≤ k }
     {
         self.records.ring.get(k)

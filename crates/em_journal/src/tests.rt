@@ -135,10 +135,22 @@ impl Tested {
         let Some(record) = self.machine.record(k) else {
             return Err(Fail::from("no record"));
         };
-        let Watched { vet: Some(vet), head: Some(head), sent_to: Some(sent_to), .. } = after else {
+        let Watched {
+            vet: Some(vet),
+            head: Some(head),
+            sent_to: Some(sent_to),
+            ..
+        } = after
+        else {
             return Err(Fail::from("no register"));
         };
-        let Watched { causes: Some(causes), received: Some(received), status: Some(status), .. } = after else {
+        let Watched {
+            causes: Some(causes),
+            received: Some(received),
+            status: Some(status),
+            ..
+        } = after
+        else {
             return Err(Fail::from("no register"));
         };
         let mut octets = after.octets;
@@ -152,7 +164,11 @@ impl Tested {
             status: Some(record.register_before(Reg::Status, status)),
             link: record.link_before(after.link),
             frames: record.frames_before(after.frames),
-            sent: if record.takes_off_wire() { after.sent.saturating_sub(1) } else { after.sent },
+            sent: if record.takes_off_wire() {
+                after.sent.saturating_sub(1)
+            } else {
+                after.sent
+            },
             octets,
         })
     }

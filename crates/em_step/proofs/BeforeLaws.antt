@@ -2,7 +2,8 @@
 use Rattle.std.proofs.Common.{◌≡◌, ◌∙◌, ◌+◌, ℕ, Bool, true, false, List, length, refl, sym, ap, arith, subst}
 use Rattle.std.specs.Prelude.{if◌then◌else◌, unwrap_or}
 use Rattle.em_mem.specs.Memory as memory
-use Rattle.em_mem.specs.Window.{IsWindow}
+use Rattle.em_mem.specs.Window.{IsWindow, lay_over}
+use Rattle.em_mem.proofs.WindowLaws.{window-undone}
 use Rattle.em_regs.specs.declared.reg.Reg.{Reg}
 use Rattle.em_regs.specs.declared.reg.Reg.TheVariants.{Ics, Imc, Rdh, Tdh}
 use Rattle.em_regs.specs.declared.table.Kind.{Kind}
@@ -16,13 +17,20 @@ use Rattle.em_latch.specs.Latches as latches
 use Rattle.em_latch.proofs.BeforeLaws.{at-undone}
 use Rattle.em_rx.specs.Before as rx_before
 use Rattle.em_rx.specs.Fifo as rx
+use Rattle.em_rx.specs.StepPatch.{StepPatch}
 use Rattle.em_rx.specs.Undo as rx_undo
 use Rattle.em_rx.specs.declared.undo.RxUndo.{RxUndo}
 use Rattle.em_rx.specs.declared.undo.RxUndo.TheVariants as rx_variant
 use Rattle.em_rx.proofs.BeforeLaws.{length-frames}
-use Rattle.em_tx.proofs.BeforeLaws.{wire_taken}
+use Rattle.em_tx.specs.Undo as tx
+use Rattle.em_tx.specs.Before as tx_before
+use Rattle.em_tx.specs.Cells as tx_cells
+use Rattle.em_tx.specs.declared.undo.TxUndo.{TxUndo}
+use Rattle.em_tx.specs.declared.undo.TxUndo.TheVariants as tx_variant
+use Rattle.em_tx.proofs.BeforeLaws.{status_window, wire_undone as tx_undone}
 use Rattle.em_step.specs.Access.{gives_by}
 use Rattle.em_step.specs.Before.{PutsBackWindow, frames_before, has_sent, latch_before, latched_before, link_before}
+use Rattle.em_step.specs.Before.{octets_before}
 use Rattle.em_step.specs.Before.{register_before_by, status_before, stored_before}
 use Rattle.em_step.specs.Cells.{Cells, shows}
 use Rattle.em_step.specs.State.{status}
@@ -52,7 +60,7 @@ latch_undone m words Imc = refl
 latch_undone m words reg = at-undone m words (offset_of reg)
 
 -- the cells with the words of the latches put back
-abbrev with_words : Cells → List OldWord → Cells
+abbrev pub with_words : Cells → List OldWord → Cells
 with_words c words = record c { latches = latches.undo c.latches words }
 
 latched_undone : (c : Cells) (words : List OldWord) (e : Effect) (reg : Reg)
@@ -128,7 +136,8 @@ frames_undone c (Arrival old) fits = fifo_undone c.fifo c.memory (rx_variant.Fra
 frames_undone c (RxStep head old) fits = fifo_undone c.fifo c.memory (rx_variant.Step old) fits.1
 frames_undone c (TxStep old head) fits = refl
 frames_undone c (Link old) fits = refl
-frames_undone c (Reset old) fits = fifo_undone c.fifo c.memory old.value.fifo fits
+frames_undone c (Reset old) fits =
+    fifo_undone c.fifo (tx.undo (tx_cells_of c) old.value.gathered).memory old.value.fifo fits.1
 
 pub frames_put_back : (r : Undo) (c : Cells) → Fits c r
     → length (shows (undo c r)).fifo.frames ≡ frames_before r.effect (length (shows c).fifo.frames)
@@ -143,9 +152,9 @@ wire_undone c (Octets old) fits = omega arith
 wire_undone c (FewOctets old) fits = omega arith
 wire_undone c (Arrival old) fits = omega arith
 wire_undone c (RxStep head old) fits = omega arith
-wire_undone c (TxStep old head) fits = wire_taken (tx_cells_of c) old.count old.sent fits.1.0
+wire_undone c (TxStep old head) fits = tx_undone (tx_cells_of c) (tx_variant.Step old) fits.1
 wire_undone c (Link old) fits = omega arith
-wire_undone c (Reset old) fits = omega arith
+wire_undone c (Reset old) fits = tx_undone (tx_cells_of c) old.value.gathered fits.0
 
 pub wire_put_back : (r : Undo) (c : Cells) → Fits c r
     → length (shows c).wire ≡ length (shows (undo c r)).wire + (if has_sent r.effect then 1 else 0)
@@ -153,13 +162,48 @@ wire_put_back r c fits =
     wire_undone (with_words c r.latches) r.effect (fits_with c r.latches r.effect fits.effect)
 
 -- ---- windows of memory
--- the window is another one once the effect is put back
-abbrev pub TurnsWindow : Effect → ℕ → List ℕ → List ℕ → Type 0
-TurnsWindow e a now before =
-    (c : Cells) → EffectFits c e → IsWindow c.memory.octets a now → IsWindow (undo_effect c e).memory.octets a before
+-- the window is another one once the octets are put back
+abbrev Turns : memory.Cells → memory.Cells → ℕ → List ℕ → List ℕ → Type 0
+Turns m before a now older = IsWindow m.octets a now → IsWindow before.octets a older
 
-pub window_of : (r : Undo) (a : ℕ) (now before : List ℕ) (e : Effect) → r.effect ≡ e → TurnsWindow e a now before
+step_window : (m : memory.Cells) (p : StepPatch) (a : ℕ) (w : List ℕ) → memory.Fits m p.first
+    → memory.Fits (memory.undo m p.first) p.second → Turns m (rx_undo.with_both m p) a w (rx_before.laid_step p a w)
+step_window m p a w first second window =
+    window-undone a (lay_over a w p.first) (rx_before.laid_step p a w) p.second refl (memory.undo m p.first) second
+    (window-undone a w (lay_over a w p.first) p.first refl m first window)
+
+fifo_window : (c : rx.Cells) (m : memory.Cells) (r : RxUndo) (a : ℕ) (w : List ℕ) → rx_undo.Fits c m r
+    → Turns m (rx_undo.undo_memory m r) a w (rx_before.laid r a w)
+fifo_window c m rx_variant.Nothing a w fits window = window
+fifo_window c m (rx_variant.Places places) a w fits window = window
+fifo_window c m (rx_variant.Frame patch) a w fits window = window
+fifo_window c m (rx_variant.Step patch) a w fits window = step_window m patch.value a w fits.first fits.second window
+
+tx_window : (c : tx_cells.Cells) (r : TxUndo) (a : ℕ) (w : List ℕ) → tx.Fits c r
+    → Turns c.memory (tx.undo c r).memory a w (tx_before.laid r a w)
+tx_window c tx_variant.Nothing a w fits window = window
+tx_window c (tx_variant.Step change) a w fits window =
+    status_window change.status c.memory a w (tx_before.laid_status change.status a w) refl fits.1 window
+tx_window c (tx_variant.Cleared old) a w fits window = window
+
+effect_window : (c : Cells) (e : Effect) (a : ℕ) (w : List ℕ) → EffectFits c e
+    → Turns c.memory (undo_effect c e).memory a w (octets_before e a w)
+effect_window c Nothing a w fits window = window
+effect_window c (Register old) a w fits window = window
+effect_window c (Octets old) a w fits window =
+    window-undone a w (lay_over a w old.value) old.value refl c.memory fits window
+effect_window c (FewOctets old) a w fits window = window-undone a w (lay_over a w old) old refl c.memory fits window
+effect_window c (Arrival old) a w fits window = window
+effect_window c (RxStep head old) a w fits window =
+    fifo_window c.fifo c.memory (rx_variant.Step old) a w fits.1 window
+effect_window c (TxStep old head) a w fits window = tx_window (tx_cells_of c) (tx_variant.Step old) a w fits.1 window
+effect_window c (Link old) a w fits window = window
+effect_window c (Reset old) a w fits window =
+    fifo_window c.fifo (tx.undo (tx_cells_of c) old.value.gathered).memory old.value.fifo a
+    (tx_before.laid old.value.gathered a w) fits.1 (tx_window (tx_cells_of c) old.value.gathered a w fits.0 window)
+
+pub window_put_back : (r : Undo) (a : ℕ) (now before : List ℕ) → before ≡ octets_before r.effect a now
     → PutsBackWindow r a now before
-window_of r a now before e is turns = λ c fits window.
-    subst (λ x. TurnsWindow x a now before) (sym is) turns (with_words c r.latches)
-    (fits_with c r.latches r.effect fits.effect) window
+window_put_back r a now before is c fits window =
+    subst (IsWindow (shows (undo c r)).memory a) (sym is)
+    (effect_window (with_words c r.latches) r.effect a now (fits_with c r.latches r.effect fits.effect) window)

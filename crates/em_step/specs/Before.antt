@@ -1,6 +1,6 @@
 -- What a record tells of the state before the event, without being put back.
 use Rattle.std.specs.Prelude.{◌≡◌, ℕ, ◌+◌, Bool, true, false, if◌then◌else◌, List, length, unwrap_or}
-use Rattle.em_mem.specs.Window.{IsWindow}
+use Rattle.em_mem.specs.Window.{IsWindow, lay_over}
 use Rattle.em_regs.specs.declared.reg.Reg.{Reg}
 use Rattle.em_regs.specs.declared.reg.Reg.TheVariants.{Ics, Imc, Rdh, Tdh}
 use Rattle.em_regs.specs.declared.table.Kind.{Kind}
@@ -72,6 +72,15 @@ register_before_by kind r reg now = stored_before r.effect reg now
 abbrev pub register_before : Undo → Reg → ℕ → ℕ
 register_before r reg now = register_before_by (row_of reg).kind r reg now
 
+-- of a window of memory from address a on
+abbrev pub octets_before : Effect → ℕ → List ℕ → List ℕ
+octets_before (Octets old) a now = lay_over a now old.value
+octets_before (FewOctets old) a now = lay_over a now old
+octets_before (RxStep head old) a now = rx.laid_step old.value a now
+octets_before (TxStep old head) a now = tx.laid_status old.status a now
+octets_before (Reset old) a now = rx.laid old.value.fifo a (tx.laid old.value.gathered a now)
+octets_before effect a now = now
+
 -- of the number of frames in the FIFO
 abbrev pub frames_before : Effect → ℕ → ℕ
 frames_before (Arrival old) now = old.value.places.count
@@ -82,4 +91,5 @@ frames_before effect now = now
 -- whether it sent a frame
 abbrev pub has_sent : Effect → Bool
 has_sent (TxStep old head) = tx.has_sent old.sent
+has_sent (Reset old) = tx.has_sent_by old.value.gathered
 has_sent effect = false

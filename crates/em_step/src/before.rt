@@ -8,7 +8,8 @@ ghost use Rattle.em_regs.specs.RegFile.{IsStored};
 ghost use Rattle.em_latch.specs.Latches.{IsLatched};
 ghost use Rattle.em_step.specs.Access.{gives};
 ghost use Rattle.em_step.specs.Before.{PutsBack, PutsBackWindow, TakesOffWire, frames_before, has_sent};
-ghost use Rattle.em_step.specs.Before.{latched_before, link_before, register_before, status_before, stored_before};
+ghost use Rattle.em_step.specs.Before.{latched_before, link_before, octets_before, register_before, status_before};
+ghost use Rattle.em_step.specs.Before.{stored_before};
 ghost use Rattle.em_step.specs.Undo.{word};
 
 use crate::adapter::status_of;
@@ -29,16 +30,10 @@ impl Undo {
     /// Makes a window of guest memory, the octets from `addr` on, what it was before the event.
     #[inline(always)]
     pub fn octets_before(&self, addr: u64, window: &mut [u8])
-        ensures { PutsBackWindow self.now addr window.old window.new }
+        ensures octets { window.new ≡ octets_before self.now.effect addr window.old }
+        ensures before { PutsBackWindow self.now addr window.old window.new }
     {
-        match &self.effect {
-            Effect::Octets(old) => old.lay_over(addr, window),
-            Effect::FewOctets(old) => old.lay_over(addr, window),
-            Effect::RxStep(_, old) => old.lay_over(addr, window),
-            Effect::TxStep(old, _) => old.lay_over(addr, window),
-            Effect::Reset(old) => old.fifo.lay_over(addr, window),
-            _ => {}
-        }
+        self.effect.octets_before(addr, window);
     }
 
     /// Whether the link was up before the event, where it is `now` after it.
@@ -124,6 +119,24 @@ impl Effect {
         }
     }
 
+    /// Makes a window what it was.
+    #[inline(always)]
+    fn octets_before(&self, addr: u64, window: &mut [u8])
+        ensures { window.new ≡ octets_before self.now addr window.old }
+    {
+        match self {
+            Effect::Octets(old) => old.lay_over(addr, window),
+            Effect::FewOctets(old) => old.lay_over(addr, window),
+            Effect::RxStep(_, old) => old.lay_over(addr, window),
+            Effect::TxStep(old, _) => old.lay_over(addr, window),
+            Effect::Reset(old) => {
+                old.gathered.lay_over(addr, window);
+                old.fifo.lay_over(addr, window);
+            }
+            _ => {}
+        }
+    }
+
     /// What the link was.
     #[inline(always)]
     fn link_before(&self, now: bool) -> bool
@@ -155,6 +168,7 @@ impl Effect {
     {
         match self {
             Effect::TxStep(old, _) => old.has_sent(),
+            Effect::Reset(old) => old.gathered.has_sent(),
             _ => false,
         }
     }
