@@ -11,3 +11,4 @@ pub mod PieceLaws
 pub mod ReachedLaws
 pub mod WholeLaws
 pub mod InertLaws
+pub mod BeforeLaws

@@ -14,3 +14,4 @@ pub mod Whole
 pub mod Inert
 pub mod Undo
 pub mod Cost
+pub mod Before

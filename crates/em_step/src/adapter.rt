@@ -142,6 +142,13 @@ impl Adapter {
         self.link
     }
 
+    /// How many frames lie in the FIFO.
+    pub fn frames(&self) -> usize
+        ensures { result ≡ length (shows self.now).fifo.frames }
+    {
+        self.fifo.frames()
+    }
+
     /// How many frames were sent.
     pub fn wire_len(&self) -> usize
         ensures { result ≡ length (shows self.now).wire }
@@ -437,11 +444,7 @@ impl Adapter {
     fn status(&self) -> u32
         ensures { result ≡ status (shows self.now) }
     {
-        let mut status = Status::FD.union(Status::SPEED_1000);
-        if self.link {
-            status.insert(Status::LU);
-        }
-        status.bits()
+        status_of(self.link)
     }
 
     /// Resets the registers and latches, and empties the FIFO and the gathered octets. The place that keeps
@@ -506,4 +509,15 @@ impl Adapter {
         let effect = Effect::Link(std::mem::replace(&mut self.link, up));
         Ok((Answer::Done, Undo { latches, effect }))
     }
+}
+
+/// STATUS, which follows the link.
+pub(crate) fn status_of(link: bool) -> u32
+    ensures { result ≡ (if link then 0x83 else 0x81) }
+{
+    let mut status = Status::FD.union(Status::SPEED_1000);
+    if link {
+        status.insert(Status::LU);
+    }
+    status.bits()
 }
