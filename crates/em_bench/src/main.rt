@@ -1,30 +1,25 @@
 //! The bench program: runs a script on a machine that the options describe, and answers on standard
 //! output.
 //!
-//! `Ending` says with which status it ends, and with which line on standard error.
+//! It only joins what em_options promises: what the words say, the session over a new machine, the
+//! script played and written out, and how all this ends.
 #![tactic(auto)]
 
-use em_options::{Ending, Options, OptionsRefused, options};
-use em_script::{BenchFault, Session, run};
+use em_options::{Ending, Options, OptionsRefused, options, play};
+use em_script::{BenchFault, Session};
 use std::fs::File;
-use std::io::{self, BufReader, BufWriter, ErrorKind, Read, Write};
+use std::io::{self, BufWriter, Read};
 use std::process::ExitCode;
 use std::rt::{Env, Files};
 use std::{env, mem};
-
-/// How many octets of a script are read at a time.
-const READ_AT_ONCE: usize = 65_536;
 
 /// How many octets of text are written at a time.
 const WRITTEN_AT_ONCE: usize = 65_536;
 
 fn main(rt: HostRuntime) -> ExitCode {
     let ending = bench(&rt);
-    let line = ending.error_line();
-    if !line.is_empty() {
-        // The status says it too, also where standard error can't be written.
-        let _ = eprintln!(rt; "{line}");
-    }
+    // The status says it too, also where standard error can't be written.
+    let _ = ending.tell(&mut rt.stderr());
     ExitCode::from(ending.status())
 }
 
@@ -45,78 +40,60 @@ fn words(rt: &(impl Env + AllocGlobal)) -> io::Result<Vec<String>> {
     Ok(env::args(rt)?.collect(rt.alloc())?)
 }
 
-/// Ends a run whose words can't be had: for want of memory, or since one of them is no text.
+/// Ends a run whose words can't be had.
 fn without_words(rt: &impl Eprint, error: &io::Error) -> Ending {
-    if error.kind() == ErrorKind::OutOfMemory {
-        return Ending::Fault(BenchFault::Memory);
+    let ending = Ending::without_words(error);
+    if ending == Ending::Parser {
+        let _ = eprintln!(rt; "error: the command line is not UTF-8");
     }
-    let _ = eprintln!(rt; "error: the command line is not UTF-8");
-    Ending::Parser
+    ending
 }
 
-/// Ends a run whose words are refused. The parser says why on standard error, and the help on
-/// standard output; of want of memory it says nothing.
+/// Ends a run whose words are refused, with what the parser has to say of them.
 fn without_options(rt: &(impl Print + Eprint), refused: &OptionsRefused) -> Ending {
-    let ending = refused.ending();
-    if let OptionsRefused::Parser(error) = refused {
-        match ending {
-            Ending::Help if error.print(rt).is_err() => return Ending::Fault(BenchFault::Write),
-            Ending::Parser => {
-                let _ = error.print(rt);
-            }
-            _ => {}
-        }
-    }
-    ending
-}
-
-/// Makes the machine, then opens the script and runs it.
-fn with_options(rt: &(impl Files + Input + Print + AllocGlobal), options: &Options<'_>) -> Ending {
-    let machine = match options.settings().machine(rt.alloc()) {
-        Ok(machine) => machine,
-        Err(refusal) => return refusal.into(),
+    let is_printed = match refused.told() {
+        Some(error) => error.print(rt).is_ok(),
+        None => true,
     };
-    let mut session = Session::new(rt.alloc(), machine);
-    let ending = with_session(rt, options.script, &mut session);
-    // The system takes its memory back when the program ends, all at once.
-    mem::forget(session);
-    ending
+    refused.ending().after_print(is_printed)
 }
 
-/// Opens the script, which is standard input where it has no path, and runs it.
+/// Makes the machine, then opens the script and plays it.
+fn with_options(rt: &(impl Files + Input + Print + AllocGlobal), options: &Options<'_>) -> Ending {
+    match options.session(rt.alloc()) {
+        Ok(mut session) => {
+            let ending = with_session(rt, options.script, &mut session);
+            // The system takes its memory back when the program ends, all at once.
+            mem::forget(session);
+            ending
+        }
+        Err(ending) => ending,
+    }
+}
+
+/// Opens the script, which is standard input where it has no path, and plays it.
 fn with_session(
     rt: &(impl Files + Input + Print + AllocGlobal),
     script: Option<&str>,
     session: &mut Session,
 ) -> Ending {
     match script {
-        None => play(rt, rt.reader(), session),
+        None => with_script(rt, &mut rt.reader(), session),
         Some(path) => match File::open(rt, path) {
-            Ok(file) => play(rt, file, session),
-            Err(error) if error.kind() == ErrorKind::OutOfMemory => Ending::Fault(
-                BenchFault::Memory,
-            ),
-            Err(_) => Ending::Fault(BenchFault::Read),
+            Ok(mut file) => with_script(rt, &mut file, session),
+            Err(error) => Ending::without_script(&error),
         },
     }
 }
 
-/// Runs the script. What was answered is written out whole, also where the run then stopped.
-fn play(
+/// Plays the script to standard output.
+fn with_script(
     rt: &(impl Print + AllocGlobal),
-    script: impl Read + Drop,
+    script: &mut impl Read,
     session: &mut Session,
 ) -> Ending {
-    let Ok(mut reader) = BufReader::with_capacity(rt.alloc(), READ_AT_ONCE, script) else {
-        return Ending::Fault(BenchFault::Memory);
-    };
-    let Ok(mut writer) = BufWriter::with_capacity(rt.alloc(), WRITTEN_AT_ONCE, io::writer(rt))
-    else {
-        return Ending::Fault(BenchFault::Memory);
-    };
-    let ran = run(rt.alloc(), &mut reader, &mut writer, session);
-    if writer.flush().is_err() {
-        return Ending::Fault(BenchFault::Write);
+    match BufWriter::with_capacity(rt.alloc(), WRITTEN_AT_ONCE, io::writer(rt)) {
+        Ok(mut writer) => play(rt.alloc(), script, &mut writer, session),
+        Err(_) => Ending::Fault(BenchFault::Memory),
     }
-    ran.into()
 }

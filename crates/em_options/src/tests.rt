@@ -4,7 +4,7 @@
 //! asserts after them.
 use crate::{Ending, Options, OptionsRefused, options};
 use em_journal::{Empty, JournalRefusal, Settings, SettingsRefusal};
-use em_script::BenchFault;
+use em_script::{BenchFault, NoDriver};
 use std::alloc::Global;
 use std::fmt::Display;
 use std::test::Fail;
@@ -106,7 +106,8 @@ fn prints<T: Display>(alloc: Global, value: &T, text: &str) -> Result<bool, Fail
 fn refusals_print_their_names(rt: HostRuntime) -> Result<(), Fail> {
     let alloc = rt.alloc();
     assert!(rt; prints(alloc, &Empty, Empty.name())?);
-    assert!(rt; prints(alloc, &OptionsRefused::Mac, "Mac")?);
+    assert!(rt; prints(alloc, &NoDriver, NoDriver.name())?);
+    assert!(rt; prints(alloc, &OptionsRefused::Mac, OptionsRefused::Mac.name())?);
     for refusal in [JournalRefusal::Budget, JournalRefusal::Memory] {
         assert!(rt; prints(alloc, &refusal, refusal.name())?);
     }

@@ -4,6 +4,7 @@ use crate::tests::same;
 use em_driver::Cause;
 use em_journal::{Empty, JournalRefusal};
 use em_mem::MemRefusal;
+use em_script::{BenchFault, NoDriver};
 use em_step::Refusal;
 use std::test::Fail;
 
@@ -42,4 +43,18 @@ fn causes_have_their_numbers() -> Result<(), Fail> {
         same("call", (cause, cause.code()), (cause, number))?;
     }
     Ok(())
+}
+
+#[test]
+fn faults_of_a_run_have_their_numbers() -> Result<(), Fail> {
+    let of_runs = [
+        (BenchFault::Read, 20),
+        (BenchFault::Write, 21),
+        (BenchFault::TooLarge, 22),
+        (BenchFault::Memory, 9),
+    ];
+    for (fault, number) in of_runs {
+        same("run", (fault, fault.code()), (fault, number))?;
+    }
+    same("no driver", NoDriver.code(), 23)
 }
