@@ -1,0 +1,2 @@
+pub mod TracedLaws
+pub mod SearchLaws
