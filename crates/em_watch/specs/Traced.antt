@@ -3,14 +3,13 @@ use Rattle.std.specs.Prelude.{◌≡◌, ℕ, ◌+◌, ◌-◌, nat_lt, if◌the
 use Rattle.std.specs.Prelude.{slice_get, Some}
 use Rattle.em_mem.specs.Memory.{part}
 use Rattle.em_regs.specs.declared.reg.Reg.{Reg}
-use Rattle.em_regs.specs.declared.reg.Reg.TheVariants.{Icr, Ims}
 use Rattle.em_regs.specs.Table.{IsReg, index_of, row_of}
 use Rattle.em_latch.specs.Latches.{causes, mask}
 use Rattle.em_step.specs.State.{State}
 use Rattle.em_step.specs.Access.{gives}
 use Rattle.em_step.specs.declared.undo.Undo.{Undo}
 use Rattle.em_journal.specs.View.{View, states}
-use Rattle.em_watch.specs.Stub as stub
+use Rattle.em_watch.specs.Stub.{LeadsFrom}
 use Rattle.em_watch.specs.Change.{IsNextChange, NeverDiffers}
 use Rattle.em_watch.specs.Watching.{is_asserted}
 use Rattle.em_watch.specs.declared.range.TheConstants.{MOST_WATCHED}
@@ -54,19 +53,17 @@ abbrev pub IsTraceable : Traced → Type 0
 IsTraceable (Register reg value) = IsReg reg
 IsTraceable _ = Unit {0}
 
--- the octets of a range, and what lies behind them, before the event of a record
-abbrev pub octets_before : Undo → ℕ → ℕ → List ℕ → List ℕ
-octets_before r a n octets = stub.octets_before r a (take n octets) ++ drop n octets
+-- the record makes of it what it was before the event, of whatever is watched
+abbrev pub TakesBack : Undo → Traced → Traced → Type 0
+TakesBack r t u = (w : Watch) (after before : State) → LeadsFrom r after before → traced w after ≡ t → traced w before ≡ u
 
--- before the event of a record
-abbrev pub before : Undo → Traced → Traced
-before r Nothing = Nothing
-before r (Register reg value) = Register reg (stub.register_before r reg value)
-before r (Octets range octets) = Octets range (octets_before r range.addr range.len octets)
-before r (Line causes mask) = Line (stub.register_before r Icr causes) (stub.register_before r Ims mask)
-before r (Link up) = Link (stub.link_before r up)
-before r (Frames count) = Frames (stub.frames_before r count)
-before r (Sent count) = Sent (stub.sent_before r count)
+-- the octets of a range are those before the event, and what lies behind them stays
+pub record OctetsGoBack (r : Undo) (range : MemoryRange) (octets new : List ℕ) : Type 0 where
+  pub size : length new ≡ length octets
+  pub behind : drop range.len new ≡ drop range.len octets
+  pub window : (after before : State) → LeadsFrom r after before
+    → part after.memory range.addr range.len ≡ take range.len octets
+    → part before.memory range.addr range.len ≡ take range.len new
 
 -- so many steps back
 abbrev pub IsTraced : Watch → View → ℕ → Traced → Type 0

@@ -5,6 +5,8 @@ mod change;
 mod range;
 mod search;
 mod stub;
+#[cfg(test)]
+mod tests;
 mod traced;
 mod watch;
 

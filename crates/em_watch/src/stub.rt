@@ -1,14 +1,10 @@
 //! Stand-ins for calls of the crates below, until those are proved.
 ghost use Rattle.std.specs.Prelude.{◌≡◌, ◌-◌, ◌<◌, ◌≤◌, IfSome, IfNone, length};
+ghost use Rattle.em_mem.specs.Memory.{part};
 ghost use Rattle.em_regs.specs.Table.{IsReg};
-ghost use Rattle.em_watch.specs.Stub.{
-  IsRecordAt,
-  register_before,
-  octets_before,
-  link_before,
-  frames_before,
-  sent_before,
-};
+ghost use Rattle.em_step.specs.Access.{gives};
+ghost use Rattle.em_step.specs.State.{State};
+ghost use Rattle.em_watch.specs.Stub.{IsRecordAt, LeadsFrom};
 
 use em_journal::Machine;
 use em_regs::Reg;
@@ -32,7 +28,7 @@ pub(crate) fn frames(machine: &Machine) -> usize
 
 pub(crate) fn register_before(undo: &Undo, reg: Reg, now: u32) -> u32
     requires { IsReg reg }
-    ensures { result ≡ register_before undo.now reg now }
+    ensures { (s t : State) → LeadsFrom undo.now s t → gives s reg ≡ now → gives t reg ≡ result }
 {
     let _ = undo;
     let _ = reg;
@@ -40,7 +36,9 @@ pub(crate) fn register_before(undo: &Undo, reg: Reg, now: u32) -> u32
 }
 
 pub(crate) fn octets_before(undo: &Undo, addr: u64, window: &mut [u8])
-    ensures { window.new ≡ octets_before undo.now addr window.old }
+    ensures { (s t : State) → LeadsFrom undo.now s t
+        → part s.memory addr (length window.old) ≡ window.old
+        → part t.memory addr (length window.old) ≡ window.new }
 {
     let _ = undo;
     let _ = addr;
@@ -48,21 +46,22 @@ pub(crate) fn octets_before(undo: &Undo, addr: u64, window: &mut [u8])
 }
 
 pub(crate) fn link_before(undo: &Undo, now: bool) -> bool
-    ensures { result ≡ link_before undo.now now }
+    ensures { (s t : State) → LeadsFrom undo.now s t → s.link ≡ now → t.link ≡ result }
 {
     let _ = undo;
     now
 }
 
 pub(crate) fn frames_before(undo: &Undo, now: usize) -> usize
-    ensures { result ≡ frames_before undo.now now }
+    ensures { (s t : State) → LeadsFrom undo.now s t
+        → length s.fifo.frames ≡ now → length t.fifo.frames ≡ result }
 {
     let _ = undo;
     now
 }
 
 pub(crate) fn sent_before(undo: &Undo, now: usize) -> usize
-    ensures { result ≡ sent_before undo.now now }
+    ensures { (s t : State) → LeadsFrom undo.now s t → length s.wire ≡ now → length t.wire ≡ result }
 {
     let _ = undo;
     now

@@ -2,7 +2,8 @@
 ghost use Rattle.std.specs.Prelude.{◌≡◌, ◌≢◌, true, false};
 ghost use Rattle.em_regs.specs.Table.{IsReg};
 ghost use Rattle.em_step.specs.Access.{gives};
-ghost use Rattle.em_watch.specs.Traced.{traced, traced_register, traced_octets, before, octets_before, shown, IsTraceable};
+ghost use Rattle.em_watch.specs.Traced.{traced, traced_register, traced_octets, shown, IsTraceable};
+ghost use Rattle.em_watch.specs.Traced.{TakesBack, OctetsGoBack};
 
 use crate::range::{MOST_WATCHED, MemoryRange};
 use crate::stub;
@@ -64,7 +65,7 @@ impl Traced {
     #[inline(always)]
     pub(crate) fn before(self, undo: &Undo) -> Traced
         requires { IsTraceable self }
-        ensures before { result ≡ before undo.now self }
+        ensures before { TakesBack undo.now self result }
         ensures register { IsTraceable result }
     {
         match self {
@@ -122,7 +123,7 @@ fn traced_octets(machine: &Machine, range: MemoryRange) -> Traced
 /// The octets of a range, with zeros behind them, before the event of a record.
 #[inline(always)]
 fn octets_before(undo: &Undo, range: MemoryRange, octets: [u8; MOST_WATCHED]) -> [u8; MOST_WATCHED]
-    ensures { result ≡ octets_before undo.now range.addr range.len octets }
+    ensures { OctetsGoBack undo.now range octets result }
 {
     let mut window = octets;
     stub::octets_before(undo, range.addr(), &mut window[..range.len()]);
