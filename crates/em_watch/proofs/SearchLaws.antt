@@ -1,12 +1,12 @@
 -- What was seen in the states that a search went through.
-use Rattle.std.proofs.Common.{◌≡◌, ℕ, ◌+◌, ◌-◌, ◌<◌, ◌≤◌, ◌⊎◌, inl, inr, Some, refl, sym, ap, ◌∙◌, subst, arith, length}
+use Rattle.std.proofs.Common.{◌≡◌, ℕ, ◌+◌, ◌-◌, ◌<◌, ◌≤◌, ◌⊎◌, inl, inr, Some, None, refl, sym, ap, ◌∙◌, subst, arith, length}
 use Rattle.std.specs.Prelude.{◌≢◌, slice_get}
 use Rattle.std.proofs.lemmas.Bool.Decides.{nat_tests}
 use Rattle.std.proofs.lemmas.List.{length-map}
-use Rattle.std.proofs.lemmas.Option.{slice_get_within}
+use Rattle.std.proofs.lemmas.Option.{slice_get_within, slice_get_past}
 use Rattle.em_journal.specs.View.{View, states}
 use Rattle.em_watch.specs.Change.{SeesSame, IsNextChange, NeverDiffers}
-use Rattle.em_watch.specs.Traced.{IsTraced, shown, LeadsBack, ChangesNext, StaysAsItIs}
+use Rattle.em_watch.specs.Traced.{IsTraced, traced, shown, LeadsBack, ChangesNext, StaysAsItIs}
 use Rattle.em_watch.specs.Watching.{sight, sights}
 use Rattle.em_watch.specs.declared.change.Change.{Change}
 use Rattle.em_watch.specs.declared.watch.Watch.{Watch}
@@ -78,3 +78,14 @@ fewer_left w v from change is =
     let there = slice_get_within (sights w v) change.back change.before is.before in
     let all = length-map (states v) (sight w) in
     omega (arith, is.older)
+
+-- ---- so many steps back from now
+
+pub seen_from_now : (w : Watch) (v : View) (back : ℕ) (now t : Traced) (seen : Sight) → now ≡ traced w v.present
+    → LeadsBack v 0 now back t → seen ≡ shown t → Some seen ≡ slice_get (sights w v) back
+seen_from_now w v back now t seen is leads same =
+    ap Some same ∙ sym (seen_there w v back t (leads w (ap Some (sym is))))
+
+pub not_seen : (w : Watch) (v : View) (back : ℕ) → length v.past < back → None ≡ slice_get (sights w v) back
+not_seen w v back past =
+    sym (slice_get_past (sights w v) back (omega (arith, length-map (states v) (sight w))))

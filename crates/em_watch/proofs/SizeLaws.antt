@@ -1,5 +1,5 @@
 -- What is put back leaves the size of memory.
-use Rattle.std.proofs.Common.{◌≡◌, ℕ, length, refl, ap, sym, ◌∙◌}
+use Rattle.std.proofs.Common.{◌≡◌, ℕ, length, refl, ◌∙◌}
 use Rattle.std.specs.Prelude.{Option, Some, None}
 use Rattle.em_mem.specs.Memory as memory
 use Rattle.em_mem.proofs.PutLaws.{length-put}
@@ -11,14 +11,12 @@ use Rattle.em_rx.specs.Undo as rx
 use Rattle.em_rx.specs.declared.undo.RxUndo.{RxUndo}
 use Rattle.em_rx.specs.declared.undo.RxUndo.TheVariants as rx_undo
 use Rattle.em_tx.specs.Undo as tx
-use Rattle.em_step.specs.State.{State}
 use Rattle.em_step.specs.Cells.{Cells, shows}
 use Rattle.em_step.specs.Undo.{EffectFits, Fits, undo, undo_effect}
 use Rattle.em_step.specs.declared.undo.Undo.{Undo}
 use Rattle.em_step.specs.declared.undo.Effect.{Effect}
 use Rattle.em_step.specs.declared.undo.Effect.TheVariants.{Nothing, Register, Octets, FewOctets, Arrival}
 use Rattle.em_step.specs.declared.undo.Effect.TheVariants.{RxStep, TxStep, Link, Reset}
-use Rattle.em_watch.specs.Stub.{LeadsFrom}
 
 size_patch : (m : memory.Cells) (p : memory.Patch) → memory.Fits m p
     → length (memory.undo m p).octets ≡ length m.octets
@@ -54,9 +52,6 @@ size_effect c l (Link old) fits = refl
 size_effect c l (Reset old) fits = size_receive c.fifo c.memory old.value.fifo fits
 
 -- before an event memory was as large as after it
-pub memory_size : (r : Undo) (after before : State) → LeadsFrom r after before
-    → length before.memory ≡ length after.memory
-memory_size r after before is =
-    ap (λ (s : State). length s.memory) (sym is.before)
-    ∙ size_effect is.cells (latches.undo is.cells.latches r.latches) r.effect is.fits.effect
-    ∙ ap (λ (s : State). length s.memory) is.after
+pub memory_size : (c : Cells) (r : Undo) → Fits c r
+    → length (shows (undo c r)).memory ≡ length (shows c).memory
+memory_size c r fits = size_effect c (latches.undo c.latches r.latches) r.effect fits.effect

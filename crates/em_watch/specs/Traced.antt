@@ -7,9 +7,11 @@ use Rattle.em_regs.specs.Table.{IsReg, index_of, row_of}
 use Rattle.em_latch.specs.Latches.{causes, mask}
 use Rattle.em_step.specs.State.{State}
 use Rattle.em_step.specs.Access.{gives}
+use Rattle.em_step.specs.Cells.{Cells, shows}
+use Rattle.em_step.specs.Undo.{Fits, undo}
 use Rattle.em_step.specs.declared.undo.Undo.{Undo}
 use Rattle.em_journal.specs.View.{View, states}
-use Rattle.em_watch.specs.Stub.{LeadsFrom}
+use Rattle.em_watch.specs.Stub.{PutsBackWindow}
 use Rattle.em_watch.specs.Change.{IsNextChange, NeverDiffers}
 use Rattle.em_watch.specs.Watching.{is_asserted}
 use Rattle.em_watch.specs.declared.range.TheConstants.{MOST_WATCHED}
@@ -55,15 +57,14 @@ IsTraceable _ = Unit {0}
 
 -- the record makes of it what it was before the event, of whatever is watched
 abbrev pub TakesBack : Undo → Traced → Traced → Type 0
-TakesBack r t u = (w : Watch) (after before : State) → LeadsFrom r after before → traced w after ≡ t → traced w before ≡ u
+TakesBack r t u =
+    (w : Watch) (c : Cells) → Fits c r → traced w (shows c) ≡ t → traced w (shows (undo c r)) ≡ u
 
--- the octets of a range are those before the event, and what lies behind them stays
-pub record OctetsGoBack (r : Undo) (range : MemoryRange) (octets new : List ℕ) : Type 0 where
+-- the first n octets are those of memory from a on before the event, and what lies behind them stays
+pub record OctetsGoBack (r : Undo) (a n : ℕ) (octets new : List ℕ) : Type 0 where
+  pub window : PutsBackWindow r a (take n octets) (take n new)
+  pub behind : drop n new ≡ drop n octets
   pub size : length new ≡ length octets
-  pub behind : drop range.len new ≡ drop range.len octets
-  pub window : (after before : State) → LeadsFrom r after before
-    → part after.memory range.addr range.len ≡ take range.len octets
-    → part before.memory range.addr range.len ≡ take range.len new
 
 -- so many steps back
 abbrev pub IsTraced : Watch → View → ℕ → Traced → Type 0

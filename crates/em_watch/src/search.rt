@@ -1,8 +1,8 @@
 //! Which event changed what is watched.
-ghost use Rattle.std.specs.Prelude.{◌≡◌, ◌≢◌, true, false, ◌+◌, ◌<◌, ◌≤◌, IfSome, IfNone, length};
+ghost use Rattle.std.specs.Prelude.{◌≡◌, ◌≢◌, true, false, ◌+◌, ◌<◌, ◌≤◌, IfSome, IfNone, length, slice_get};
 ghost use Rattle.em_watch.specs.Change.{IsNextChange, NeverDiffers};
 ghost use Rattle.em_watch.specs.Traced.{IsTraceable, LeadsBack, ChangesNext, StaysAsItIs};
-ghost use Rattle.em_watch.specs.Watching.{sight};
+ghost use Rattle.em_watch.specs.Watching.{sight, sights};
 
 use crate::change::Change;
 use crate::stub;
@@ -16,6 +16,17 @@ pub fn seen(machine: &Machine, watch: Watch) -> Sight
     ensures { result ≡ sight watch machine.now.present }
 {
     Traced::of(machine, watch).sight()
+}
+
+/// What a watch saw so many steps back; none where steps back do not lead so far.
+pub fn seen_back(machine: &Machine, watch: Watch, back: usize) -> Option<Sight>
+    ensures { result ≡ slice_get (sights watch machine.now) back }
+{
+    if back > machine.can_go_back() {
+        return None;
+    }
+    let now = Traced::of(machine, watch);
+    Some(follow(machine, 0, back, now).sight())
 }
 
 /// The newest change of a watched thing; none where no step back that the journal holds shows another.
@@ -115,7 +126,7 @@ impl<'a> Iterator for ChangeIter<'a> {
 }
 
 /// Follows a watched thing from so many steps back to more.
-fn follow(machine: &Machine, from: usize, to: usize, traced: Traced) -> Traced
+pub(crate) fn follow(machine: &Machine, from: usize, to: usize, traced: Traced) -> Traced
     requires older { from ≤ to }
     requires there { to ≤ length machine.now.past }
     requires register { IsTraceable traced }
@@ -149,7 +160,7 @@ fn next_other(machine: &Machine, from: usize, traced: Traced) -> Option<(usize, 
 
 /// A watched thing, traced so many steps back, as it was one step before.
 #[inline(always)]
-fn step_back(machine: &Machine, k: usize, traced: Traced) -> Traced
+pub(crate) fn step_back(machine: &Machine, k: usize, traced: Traced) -> Traced
     requires there { k < length machine.now.past }
     requires register { IsTraceable traced }
     ensures back { LeadsBack machine.now k traced (k + 1) result }
@@ -163,7 +174,7 @@ fn step_back(machine: &Machine, k: usize, traced: Traced) -> Traced
 
 /// Whether two sights are not the same.
 #[inline(always)]
-fn differ(one: Sight, other: Sight) -> bool
+pub(crate) fn differ(one: Sight, other: Sight) -> bool
     ensures different { result ≡ true → one ≢ other }
     ensures same { result ≡ false → one ≡ other }
 {

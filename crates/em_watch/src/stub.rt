@@ -1,18 +1,16 @@
 //! Stand-ins for calls of the crates below, until those are proved.
-ghost use Rattle.std.specs.Prelude.{◌≡◌, ◌-◌, ◌<◌, ◌≤◌, IfSome, IfNone, length};
-ghost use Rattle.em_mem.specs.Memory.{part};
+ghost use Rattle.std.specs.Prelude.{◌≡◌, ◌≤◌, ◌↔◌, IfSome, IsNone, length};
 ghost use Rattle.em_regs.specs.Table.{IsReg};
 ghost use Rattle.em_step.specs.Access.{gives};
-ghost use Rattle.em_step.specs.State.{State};
-ghost use Rattle.em_watch.specs.Stub.{IsRecordAt, LeadsFrom};
+ghost use Rattle.em_watch.specs.Stub.{IsRecordAt, PutsBack, PutsBackWindow, TakesOffWire};
 
 use em_journal::Machine;
 use em_regs::Reg;
 use em_step::Undo;
 
 pub(crate) fn record(machine: &Machine, k: usize) -> Option<&Undo>
-    ensures some { IfSome result (λ r. (k < length machine.now.past) × IsRecordAt machine.now k r.now) }
-    ensures none { IfNone result (length machine.now.past ≤ k) }
+    ensures found { IfSome result (λ r. IsRecordAt machine.now k r.now) }
+    ensures none { IsNone result ↔ length machine.now.past ≤ k }
 {
     let _ = machine;
     let _ = k;
@@ -28,7 +26,7 @@ pub(crate) fn frames(machine: &Machine) -> usize
 
 pub(crate) fn register_before(undo: &Undo, reg: Reg, now: u32) -> u32
     requires { IsReg reg }
-    ensures { (s t : State) → LeadsFrom undo.now s t → gives s reg ≡ now → gives t reg ≡ result }
+    ensures before { PutsBack undo.now (λ s. gives s reg) now result }
 {
     let _ = undo;
     let _ = reg;
@@ -36,9 +34,7 @@ pub(crate) fn register_before(undo: &Undo, reg: Reg, now: u32) -> u32
 }
 
 pub(crate) fn octets_before(undo: &Undo, addr: u64, window: &mut [u8])
-    ensures { (s t : State) → LeadsFrom undo.now s t
-        → part s.memory addr (length window.old) ≡ window.old
-        → part t.memory addr (length window.old) ≡ window.new }
+    ensures { PutsBackWindow undo.now addr window.old window.new }
 {
     let _ = undo;
     let _ = addr;
@@ -46,23 +42,22 @@ pub(crate) fn octets_before(undo: &Undo, addr: u64, window: &mut [u8])
 }
 
 pub(crate) fn link_before(undo: &Undo, now: bool) -> bool
-    ensures { (s t : State) → LeadsFrom undo.now s t → s.link ≡ now → t.link ≡ result }
+    ensures before { PutsBack undo.now (λ s. s.link) now result }
 {
     let _ = undo;
     now
 }
 
 pub(crate) fn frames_before(undo: &Undo, now: usize) -> usize
-    ensures { (s t : State) → LeadsFrom undo.now s t
-        → length s.fifo.frames ≡ now → length t.fifo.frames ≡ result }
+    ensures before { PutsBack undo.now (λ s. length s.fifo.frames) now result }
 {
     let _ = undo;
     now
 }
 
-pub(crate) fn sent_before(undo: &Undo, now: usize) -> usize
-    ensures { (s t : State) → LeadsFrom undo.now s t → length s.wire ≡ now → length t.wire ≡ result }
+pub(crate) fn takes_off_wire(undo: &Undo) -> bool
+    ensures before { TakesOffWire undo.now result }
 {
     let _ = undo;
-    now
+    false
 }

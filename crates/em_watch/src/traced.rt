@@ -1,7 +1,8 @@
 //! A watched thing, followed back over records.
-ghost use Rattle.std.specs.Prelude.{◌≡◌, ◌≢◌, true, false};
+ghost use Rattle.std.specs.Prelude.{◌≡◌, length};
 ghost use Rattle.em_regs.specs.Table.{IsReg};
 ghost use Rattle.em_step.specs.Access.{gives};
+ghost use Rattle.em_watch.specs.Stub.{PutsBack};
 ghost use Rattle.em_watch.specs.Traced.{traced, traced_register, traced_octets, shown, IsTraceable};
 ghost use Rattle.em_watch.specs.Traced.{TakesBack, OctetsGoBack};
 
@@ -84,7 +85,7 @@ impl Traced {
             ),
             Traced::Link(up) => Traced::Link(stub::link_before(undo, up)),
             Traced::Frames(count) => Traced::Frames(stub::frames_before(undo, count)),
-            Traced::Sent(count) => Traced::Sent(stub::sent_before(undo, count)),
+            Traced::Sent(count) => Traced::Sent(sent_before(undo, count)),
         }
     }
 }
@@ -123,9 +124,21 @@ fn traced_octets(machine: &Machine, range: MemoryRange) -> Traced
 /// The octets of a range, with zeros behind them, before the event of a record.
 #[inline(always)]
 fn octets_before(undo: &Undo, range: MemoryRange, octets: [u8; MOST_WATCHED]) -> [u8; MOST_WATCHED]
-    ensures { OctetsGoBack undo.now range octets result }
+    ensures { OctetsGoBack undo.now range.addr range.len octets result }
 {
     let mut window = octets;
     stub::octets_before(undo, range.addr(), &mut window[..range.len()]);
     window
+}
+
+/// How many frames were sent before the event of a record.
+#[inline(always)]
+fn sent_before(undo: &Undo, now: usize) -> usize
+    ensures { PutsBack undo.now (λ s. length s.wire) now result }
+{
+    if stub::takes_off_wire(undo) {
+        now.saturating_sub(1)
+    } else {
+        now
+    }
 }
