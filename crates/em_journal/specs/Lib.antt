@@ -4,3 +4,4 @@ pub mod History
 pub mod Refusal
 pub mod Settings
 pub mod View
+pub mod Record

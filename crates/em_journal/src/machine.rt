@@ -14,7 +14,8 @@
 //!
 //! Each function of `Adapter` gives an `Undo` too. `Records::keep` puts it first in the journal, and `back` gives
 //! it to `Adapter::take_back`: the words of the latches by `Latches::put_back`, and then its effect.
-ghost use Rattle.std.specs.Prelude.{◌≡◌, ◌+◌, ◌<◌, ◌↔◌, IfOk, IfErr, OnOk, OnErr, IsErrOf, IsTrue};
+ghost use Rattle.std.specs.Prelude.{◌≡◌, ◌+◌, ◌<◌, ◌≤◌, ◌↔◌, IfOk, IfErr, OnOk, OnErr, IsErrOf, IsTrue};
+ghost use Rattle.std.specs.Prelude.{IfSome, IsNone};
 ghost use Rattle.std.specs.Prelude.{length, min, replicate, slice_get};
 ghost use Rattle.std.specs.Option.{option_map};
 ghost use Rattle.em_mem.specs.Memory.{part};
@@ -26,6 +27,7 @@ ghost use Rattle.em_step.specs.Cells.{shows};
 ghost use Rattle.em_step.specs.Event.{plain, reads, writes, pokes, arrives, links, receives, transmits};
 ghost use Rattle.em_journal.specs.Budget.{IsBudget};
 ghost use Rattle.em_journal.specs.History.{performs, refuses, goes_back, is_empty, Does, Run};
+ghost use Rattle.em_journal.specs.Record.{IsRecordAt};
 ghost use Rattle.em_journal.specs.View.{opening, after_backs};
 
 use crate::records::Records;
@@ -373,6 +375,16 @@ impl Machine {
         self.records.ring.len()
     }
 
+    /// The record of the event that step back number `k` from here takes back, the newest one's at 0; none where the
+    /// journal has no such event. The machine stays where it is.
+    #[inline(always)]
+    pub fn record(&self, k: usize) -> Option<&Undo>
+        ensures found { IfSome result (λ undo. IsRecordAt self.now k undo.now) }
+        ensures none { IsNone result ↔ length self.now.past ≤ k }
+    {
+        self.records.ring.get(k)
+    }
+
     /// What a read of the register at an offset (octets) would give, with nothing cleared; none
     /// where no register lies there.
     pub fn look(&self, offset: u32) -> Option<u32>
@@ -404,6 +416,13 @@ impl Machine {
         ensures { result ≡ self.now.present.link }
     {
         self.adapter.link()
+    }
+
+    /// How many frames lie in the FIFO.
+    pub fn frames(&self) -> usize
+        ensures { result ≡ length self.now.present.fifo.frames }
+    {
+        self.adapter.frames()
     }
 
     /// How many frames were sent.

@@ -1,5 +1,6 @@
 use crate::{Empty, JournalRefusal, LEAST_BUDGET, MOST_BUDGET, Machine};
 use em_eeprom::Eeprom;
+use em_regs::Reg;
 use em_step::{Adapter, Answer, Event, Refusal};
 use std::alloc::Global;
 use std::fmt::Debug;
@@ -28,6 +29,24 @@ struct Shown {
     memory_size: u64,
     start: [u8; 16],
     over_the_pages: [u8; 16],
+}
+
+// where the status octet of a transmit descriptor at F0h lies, and behind it a buffer at 100h
+const WATCHED: u64 = 0xFC;
+
+// what is asked of records
+#[derive(Clone, Copy, PartialEq, Eq, Debug)]
+struct Watched {
+    vet: Option<u32>,
+    head: Option<u32>,
+    sent_to: Option<u32>,
+    causes: Option<u32>,
+    received: Option<u32>,
+    status: Option<u32>,
+    link: bool,
+    frames: usize,
+    sent: usize,
+    octets: [u8; 8],
 }
 
 // A machine as the tests call it. Its calls have no contracts here: else the prover would carry what each call says of
@@ -91,6 +110,66 @@ impl Tested {
             memory_size: self.machine.memory_size(),
             start: self.peek(0)?,
             over_the_pages: self.peek(0xFF8)?,
+        })
+    }
+
+    fn watch(&self) -> Result<Watched, Fail> {
+        let mut octets = [0; 8];
+        self.machine.peek(WATCHED, &mut octets)?;
+        Ok(Watched {
+            vet: self.machine.look(0x38),
+            head: self.machine.look(0x2810),
+            sent_to: self.machine.look(0x3810),
+            causes: self.machine.look(0xC0),
+            received: self.machine.look(0x4088),
+            status: self.machine.look(0x8),
+            link: self.machine.link(),
+            frames: self.machine.frames(),
+            sent: self.machine.wire_len(),
+            octets,
+        })
+    }
+
+    // What the record number `k` tells of what was before, where it is so after its event.
+    fn before(&self, k: usize, after: Watched) -> Result<Watched, Fail> {
+        let Some(record) = self.machine.record(k) else {
+            return Err(Fail::from("no record"));
+        };
+        let Watched {
+            vet: Some(vet),
+            head: Some(head),
+            sent_to: Some(sent_to),
+            ..
+        } = after
+        else {
+            return Err(Fail::from("no register"));
+        };
+        let Watched {
+            causes: Some(causes),
+            received: Some(received),
+            status: Some(status),
+            ..
+        } = after
+        else {
+            return Err(Fail::from("no register"));
+        };
+        let mut octets = after.octets;
+        record.octets_before(WATCHED, &mut octets);
+        Ok(Watched {
+            vet: Some(record.register_before(Reg::Vet, vet)),
+            head: Some(record.register_before(Reg::Rdh, head)),
+            sent_to: Some(record.register_before(Reg::Tdh, sent_to)),
+            causes: Some(record.register_before(Reg::Icr, causes)),
+            received: Some(record.register_before(Reg::Gorcl, received)),
+            status: Some(record.register_before(Reg::Status, status)),
+            link: record.link_before(after.link),
+            frames: record.frames_before(after.frames),
+            sent: if record.takes_off_wire() {
+                after.sent.saturating_sub(1)
+            } else {
+                after.sent
+            },
+            octets,
         })
     }
 
@@ -267,4 +346,49 @@ fn grows(tested: &mut Tested) -> Result<(), Fail> {
     tested.holds(1)?;
     tested.does_at_last(Event::Poke(0xFFE, b"over"))?;
     tested.holds(2)
+}
+
+// A frame arrives, is received into a buffer that is sent then, and all is reset. What the records tell of each moment
+// before is what was seen then, and at last what a new machine shows.
+#[test]
+fn records_tell_what_was_before(rt: HostRuntime) -> Result<(), Fail> {
+    on_a_machine(rt.alloc(), MEMORY, MOST_BUDGET, |tested| {
+        let events = [
+            Event::Link(true),
+            Event::Write(0x38, 0x8100),
+            Event::Poke(0xFE, &[1, 2, 3]),
+            Event::Read(0xC0),
+            Event::Write(0x2800, 0x1000),
+            Event::Write(0x2808, 0x80),
+            Event::Write(0x2818, 1),
+            Event::Poke(0x1000, &[0, 1, 0, 0, 0, 0, 0, 0]),
+            Event::Write(0x100, 0x8002),
+            Event::Arrive(&[0xFF; 60]),
+            Event::RxStep,
+            Event::Write(0x3800, 0xF0),
+            Event::Write(0x3808, 0x80),
+            Event::Write(0x3818, 1),
+            Event::Poke(0xF0, &[0, 1, 0, 0, 0, 0, 0, 0, 60, 0, 0, 9, 0, 0, 0, 0]),
+            Event::Write(0x400, 2),
+            Event::TxStep,
+            Event::Write(0, 0x0400_0000),
+            Event::Link(false),
+        ];
+        let opening = tested.watch()?;
+        let mut seen = Vec::new(rt.alloc());
+        for event in events {
+            seen.push(tested.watch()?)?;
+            tested.perform(event)?;
+        }
+        let mut watched = tested.watch()?;
+        same("sent", watched.sent, 1)?;
+        same("octets", watched.octets, [1, 0, 0, 0, 255, 255, 255, 255])?;
+        for k in 0..tested.can_go_back() {
+            watched = tested.before(k, watched)?;
+            same("seen", Some(watched), seen.pop())?;
+        }
+        same("opening", watched, opening)?;
+        same("octets", watched.octets, [0; 8])?;
+        same("none left", tested.machine.record(19).is_none(), true)
+    })
 }

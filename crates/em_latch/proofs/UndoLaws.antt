@@ -4,7 +4,7 @@ use Rattle.std.proofs.Common.{refl, sym, ap, ◌∙◌, arith, add-one, subst}
 use Rattle.std.specs.Prelude.{slice_index, slice_set}
 use Rattle.std.proofs.lemmas.List.{get_or-set_other, get_or-set_same}
 use Rattle.std.proofs.Math.Nat.{pow-le-pow_right, pow-suc}
-use Rattle.em_latch.specs.declared.undo.TheConstants.{MOST_WORDS, WORDS}
+use Rattle.em_latch.specs.declared.undo.TheConstants.{MOST_WORDS}
 use Rattle.em_latch.specs.Storage.{offsets}
 use Rattle.em_regs.specs.Storage.{Registers}
 use Rattle.em_regs.specs.RegFile as registers

@@ -11,11 +11,14 @@ use Rattle.std.specs.Prelude.{
   [],
   ◌∷◌,
   IsTrue,
+  Option,
+  None,
   bit_and,
   bit_or,
   length,
   replicate,
 }
+use Rattle.std.specs.Option.{option_or}
 use Rattle.std.specs.FinMap as map
 use Rattle.em_regs.specs.declared.reg.Reg.{Reg}
 use Rattle.em_regs.specs.declared.reg.Reg.TheVariants.{Icr, Ics, Ims, Imc, Gorcl, Gorch, Gotcl, Gotch}
@@ -119,6 +122,11 @@ Fits m (w ∷ ws) = registers.Fits m w × Fits (registers.undo m w) ws
 abbrev pub undo : Registers → List OldWord → Registers
 undo m [] = m
 undo m (w ∷ ws) = undo (registers.undo m w) ws
+
+-- what they put back at an offset: of several words there the oldest, which is put back last; none where there is none
+abbrev pub oldest_at : List OldWord → ℕ → Option ℕ
+oldest_at [] o = None
+oldest_at (w ∷ ws) o = option_or (oldest_at ws o) (registers.old_at w o)
 
 -- the words take the changes from the old registers to the new ones back
 pub record Reverses (old new : Registers) (ws : List OldWord) : Type 0 where

@@ -322,7 +322,7 @@ impl Reversible for Latches {
 
 /// The place of the register's word, as an old word names it.
 #[inline(always)]
-fn place_of(reg: Reg) -> u8
+pub(crate) fn place_of(reg: Reg) -> u8
     requires { IsWord reg }
     ensures within { result < WORDS }
     ensures place { slice_index offsets result ≡ offset_of reg }

@@ -53,3 +53,23 @@ fn a_count_and_a_cause_are_taken_back(rt: HostRuntime) -> Result<(), Fail> {
     assert_eq!(rt; latches.look(Reg::Icr), 0);
     Ok(())
 }
+
+#[test]
+fn a_record_tells_the_old_words(rt: HostRuntime) -> Result<(), Fail> {
+    let mut latches = Latches::with_counters(7);
+    if !latches.holds(Reg::Ims) {
+        return Err(Fail::from("IMS is not among the latches"));
+    }
+    let mask = latches.write(Reg::Ims, 0x40);
+    assert_eq!(rt; mask.old_of(Reg::Ims), Some(0));
+    assert_eq!(rt; mask.old_of(Reg::Icr), None);
+
+    // two causes and a counter in one record: of the causes the oldest word counts
+    let mut undo = latches.raise(0x40);
+    latches.count_into(Counter::Mpc, 1, &mut undo);
+    latches.raise_into(0x80, &mut undo);
+    assert_eq!(rt; undo.old_of(Reg::Icr), Some(0));
+    assert_eq!(rt; undo.old_of(Reg::Mpc), Some(7));
+    assert_eq!(rt; undo.old_of(Reg::Gorcl), None);
+    Ok(())
+}

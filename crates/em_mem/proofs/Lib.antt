@@ -5,3 +5,4 @@ pub mod TableLaws
 pub mod PieceLaws
 pub mod MadePages
 pub mod WriteLaws
+pub mod WindowLaws

@@ -1,3 +1,4 @@
 pub mod MemRefusal
 pub mod Memory
 pub mod Pages
+pub mod Window

@@ -44,6 +44,15 @@ impl FewOctets {
         }
     }
 
+    /// Where they lay, and the octets.
+    #[inline(always)]
+    pub(crate) fn parts(&self) -> (u64, &[u8])
+        ensures at { result.0 ≡ self.now.at }
+        ensures octets { result.1.now ≡ self.now.octets }
+    {
+        (self.place.addr(), &self.octets[..usize::from(self.len)])
+    }
+
     /// How many octets it holds, at most 9.
     pub fn len(&self) -> u32
         ensures len { result ≡ length self.now.octets }

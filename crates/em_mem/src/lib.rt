@@ -9,6 +9,7 @@ pub use refusal::MemRefusal;
 pub use reversible::Reversible;
 pub use spares::{Spares, SparesByLen, empty_for, refill};
 pub use undo::MemUndo;
+pub use window::lay_over;
 
 mod few_octets;
 mod memory;
@@ -21,6 +22,7 @@ mod table;
 #[cfg(test)]
 mod tests;
 mod undo;
+mod window;
 
 /// The octets of one page.
 pub const PAGE_OCTETS: usize = 4096;

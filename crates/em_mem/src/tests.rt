@@ -1,7 +1,7 @@
 ghost use Rattle.std.specs.Prelude.{◌≡◌, IfOk};
 ghost use Rattle.em_mem.specs.Memory.{Fits};
 
-use crate::{FEW, FewOctets, GuestMemory, MOST_RECORD, MemRefusal, MemUndo, Reversible};
+use crate::{FEW, FewOctets, GuestMemory, MOST_RECORD, MemRefusal, MemUndo, Reversible, lay_over};
 use std::alloc::Global;
 use std::test::Fail;
 
@@ -164,5 +164,31 @@ fn shows_the_same_where_a_page_is_refused(rt: HostRuntime) -> Result<(), Fail> {
     peek(&memory, 0x1FFF, &mut out)?;
     assert_eq!(rt; out, [0, 7, 0]);
     assert_eq!(rt; memory.len(), 65_536);
+    Ok(())
+}
+
+#[test]
+fn lays_old_octets_over_a_window(rt: HostRuntime) -> Result<(), Fail> {
+    let mut memory = memory_of(rt.alloc(), 65_536)?;
+    let few = poke_few(&mut memory, 0x100, &[1, 2, 3, 4])?;
+    let undo = poke(rt.alloc(), &mut memory, 0x102, &[7, 8, 9])?;
+    // from 100h on: 1 2 7 8 9, before the second write 1 2 3 4 0, and before the first one zeros
+    let mut whole = [9; 7];
+    peek(&memory, 0xFF, &mut whole)?;
+    assert_eq!(rt; whole, [0, 1, 2, 7, 8, 9, 0]);
+    undo.lay_over(0xFF, &mut whole);
+    assert_eq!(rt; whole, [0, 1, 2, 3, 4, 0, 0]);
+    few.lay_over(0xFF, &mut whole);
+    assert_eq!(rt; whole, [0, 0, 0, 0, 0, 0, 0]);
+
+    let mut end = [8, 9];
+    undo.lay_over(0x103, &mut end);
+    assert_eq!(rt; end, [4, 0]);
+    let mut apart = [1, 2];
+    undo.lay_over(0x100, &mut apart);
+    undo.lay_over(0x105, &mut apart);
+    assert_eq!(rt; apart, [1, 2]);
+    lay_over(0x101, &[5, 6], 0x100, &mut apart);
+    assert_eq!(rt; apart, [1, 5]);
     Ok(())
 }

@@ -31,6 +31,18 @@ lacks-at x [] i h lt = absurd (omega arith)
 lacks-at x (o ∷ os) zero h lt = differ x o (and_parts (not (x == o)) (lacks x os) h).0
 lacks-at x (o ∷ os) (suc i) h lt = lacks-at x os i (and_parts (not (x == o)) (lacks x os) h).1 (omega arith)
 
+-- numbers that differ are at other places than each other
+pub apart-at : (os : List ℕ) (i j : ℕ) → distinct os ≡ true → i < length os → j < length os → i ≢ j
+    → get_or os i 0 ≢ get_or os j 0
+apart-at [] i j h l k other = absurd (omega arith)
+apart-at (o ∷ os) zero zero h l k other = absurd (other refl)
+apart-at (o ∷ os) zero (suc j) h l k other =
+    λ same. lacks-at o os j (and_parts (lacks o os) (distinct os) h).0 (omega arith) (sym same)
+apart-at (o ∷ os) (suc i) zero h l k other =
+    lacks-at o os i (and_parts (lacks o os) (distinct os) h).0 (omega arith)
+apart-at (o ∷ os) (suc i) (suc j) h l k other =
+    apart-at os i j (and_parts (lacks o os) (distinct os) h).1 (omega arith) (omega arith) (λ same. other (ap suc same))
+
 find-zip : (os ws : List ℕ) (i d : ℕ) → distinct os ≡ true → i < length os → i < length ws
     → find nat_cmp (get_or os i 0) (zip os ws) ≡ Some (get_or ws i d)
 find-zip [] ws i d apart h l = absurd (omega arith)

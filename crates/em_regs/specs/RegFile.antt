@@ -8,6 +8,11 @@ use Rattle.std.specs.Prelude.{
   [],
   ◌∷◌,
   IsTrue,
+  Option,
+  Some,
+  None,
+  ◌==◌,
+  if◌then◌else◌,
   unwrap_or,
   bit_and,
   slice_index,
@@ -84,6 +89,10 @@ Fits m w = IsTrue (map.contains_key m w.at)
 -- the register holds what it held
 abbrev pub undo : Registers → OldWord → Registers
 undo m w = map.insert m w.at w.old
+
+-- what it puts back at an offset; none where it is the word of another one
+abbrev pub old_at : OldWord → ℕ → Option ℕ
+old_at w o = if w.at == o then Some w.old else None
 
 -- the word takes the change from the old registers to the new ones back
 pub record Reverses (old new : Registers) (w : OldWord) : Type 0 where

@@ -1,9 +1,9 @@
 //! The registers that keep what software writes.
-ghost use Rattle.std.specs.Prelude.{◌≡◌, ◌↔◌, ◌<◌, IsTrue, get_or, slice_index, Some};
+ghost use Rattle.std.specs.Prelude.{◌≡◌, ◌↔◌, ◌<◌, IsTrue, get_or, slice_index, Some, unwrap_or};
 ghost use Rattle.std.specs.FinMap as map;
 ghost use Rattle.em_regs.specs.Table.{offset_of, row_of};
-ghost use Rattle.em_regs.specs.Storage.{offsets};
-ghost use Rattle.em_regs.specs.RegFile.{at, IsStored, put, put_eerd, reset, zeroed, Fits, undo, Reverses};
+ghost use Rattle.em_regs.specs.Storage.{Registers, offsets};
+ghost use Rattle.em_regs.specs.RegFile.{at, IsStored, put, put_eerd, reset, zeroed, Fits, old_at, undo, Reverses};
 
 use crate::bits::{Eerd, Rah};
 use crate::reg::Reg;
@@ -59,6 +59,21 @@ impl RegUndo {
         ensures { result ≡ self.now.old }
     {
         self.old
+    }
+
+    /// What it puts back of a register; none where it is of another one, which then stays as it is.
+    #[inline(always)]
+    pub fn old_of(&self, reg: Reg) -> Option<u32>
+        requires { IsStored reg }
+        ensures old { result ≡ old_at self.now (offset_of reg) }
+        ensures before { (m : Registers) → at (undo m self.now) (offset_of reg)
+            ≡ unwrap_or result (at m (offset_of reg)) }
+    {
+        if usize::from(self.place) == place_of(reg) {
+            Some(self.old)
+        } else {
+            None
+        }
     }
 }
 

@@ -7,3 +7,4 @@ pub mod BackLaws
 pub mod StepLaws
 pub mod MadePages
 pub mod PieceLaws
+pub mod BeforeLaws

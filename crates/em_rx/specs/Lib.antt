@@ -8,3 +8,4 @@ pub mod Undo
 pub mod Descriptor
 pub mod Receive
 pub mod Pieces
+pub mod Before

@@ -81,6 +81,13 @@ impl Fifo {
         })
     }
 
+    /// How many frames lie in it.
+    pub fn frames(&self) -> usize
+        ensures { result ≡ length (shows self.now).frames }
+    {
+        self.places.count as usize
+    }
+
     /// Whether a frame of `len` stored octets has room.
     pub fn has_room(&self, len: usize) -> bool
         ensures { IsTrue result ↔ HasRoom (shows self.now) len }

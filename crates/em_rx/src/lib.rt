@@ -9,6 +9,7 @@ pub use receive::RxAnswer;
 pub use refusal::RxRefusal;
 pub use undo::{FramePatch, MOST_HELD, RxUndo, StepPatch};
 
+mod before;
 mod descriptor;
 mod fifo;
 mod frame;

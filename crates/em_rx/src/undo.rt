@@ -1,6 +1,7 @@
 //! The record of a change of the FIFO.
 ghost use Rattle.std.specs.Prelude.{◌≡◌, ◌+◌, ◌≤◌, length};
-ghost use Rattle.em_rx.specs.Undo.{octets_held};
+ghost use Rattle.em_rx.specs.Fifo.{Cells, shows};
+ghost use Rattle.em_rx.specs.Undo.{FitsFrame, octets_held, with_patch};
 
 use crate::descriptor::WRITTEN_OCTETS;
 use crate::places::{Entry, Places};
@@ -54,6 +55,15 @@ impl FramePatch {
         ensures most { result ≤ MOST_HELD }
     {
         self.octets.len() as u32
+    }
+
+    /// How many frames lay in the FIFO before the arrival.
+    #[inline(always)]
+    pub fn frames(&self) -> usize
+        ensures count { result ≡ self.now.places.count }
+        ensures before { (c : Cells) → FitsFrame c self.now → length (shows (with_patch c self.now)).frames ≡ result }
+    {
+        self.places.count as usize
     }
 }
 

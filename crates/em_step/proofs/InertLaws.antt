@@ -21,7 +21,7 @@ use Rattle.em_regs.proofs.Entries.{at-insert}
 use Rattle.em_latch.specs.Latches as latches
 use Rattle.em_eeprom.specs.Eeprom.{mac_of, word_at}
 use Rattle.em_filter.specs.Address.{accepts, is_in_table}
-use Rattle.em_filter.specs.Bits.{bam, bit, lpe, mo, mpe, rctl, upe, vfe, vme}
+use Rattle.em_filter.specs.Bits.{bam, bit, rctl}
 use Rattle.em_filter.specs.Filters.{verdict}
 use Rattle.em_filter.specs.Kind.{destination, is_broadcast, is_group, is_unicast, kind_of}
 use Rattle.em_filter.specs.Vlan.{passes_vlan, tag_of, tagged, type_of}
@@ -42,7 +42,7 @@ use Rattle.em_tx.specs.declared.refusal.TxRefusal.{TxRefusal}
 use Rattle.em_step.specs.Access.{after_eeprom_read, after_link, after_store, after_write, after_write_by, differ}
 use Rattle.em_step.specs.Access.{eerd_address, is_reset_by, reset}
 use Rattle.em_step.specs.Access as access
-use Rattle.em_step.specs.Arrival.{admission, arrival, is_enabled, judgement, lacks_buffer}
+use Rattle.em_step.specs.Arrival.{admission, arrival, is_enabled, judgement}
 use Rattle.em_step.specs.Counts.{after_buffer_count, after_frame_count, after_miss_count}
 use Rattle.em_step.specs.Engines.{after_rx_answer, after_tx_answer, rx_step, rx_stepped, sending, tx_step, tx_stepped}
 use Rattle.em_step.specs.Engines.{with_outcome, with_shown}
@@ -53,7 +53,6 @@ use Rattle.em_step.specs.Step.{at_register, step}
 use Rattle.em_step.specs.declared.event.Answer.{Answer}
 use Rattle.em_step.specs.declared.event.Answer.TheVariants.{Done, Stored, Dropped}
 use Rattle.em_step.specs.declared.event.Reason.TheVariants.{Down, Disabled, Missed}
-use Rattle.em_step.specs.declared.refusal.Refusal.{Refusal}
 use Rattle.em_step.specs.declared.refusal.Refusal.TheVariants.{Range, Length}
 
 -- the state with other registers

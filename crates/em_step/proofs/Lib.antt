@@ -8,5 +8,7 @@ pub mod CostLaws
 pub mod EngineLaws
 pub mod SetupLaws
 pub mod PieceLaws
+pub mod ReachedLaws
 pub mod WholeLaws
 pub mod InertLaws
+pub mod BeforeLaws

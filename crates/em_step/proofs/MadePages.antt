@@ -29,7 +29,7 @@ shows_after c d more = λ i. record {
   latches = more.latches i;
   fifo = rx.shows (more.fifo i);
   memory = more.memory.octets i;
-  gathered = more.gathered i;
+  gathered = more.gathered.octets i;
   wire = more.wire i;
   eeprom = more.eeprom i;
   link = more.link i;
@@ -103,7 +103,10 @@ effect_fits_after c d (TxStep old head) more fits = (
   tx_laws.fits_after (tx_cells_of c) (tx_cells_of d) (tx_record.Step old) (sending_cells c d more) fits.1,
 )
 effect_fits_after c d (Link old) more fits = tt
-effect_fits_after c d (Reset old) more fits = receive_fits_after c d old.value.fifo more fits
+effect_fits_after c d (Reset old) more fits = (
+  tx_laws.fits_after (tx_cells_of c) (tx_cells_of d) old.value.gathered (sending_cells c d more) fits.0,
+  receive_fits_after _ _ old.value.fifo (transmit_after c d old.value.gathered more) fits.1,
+)
 
 pub fits_after : (c d : Cells) (r : Undo) → MorePages c d → Fits c r → Fits d r
 fits_after c d r more fits = record {
@@ -146,16 +149,17 @@ effect_after c d (Link old) more = record {
   eeprom = more.eeprom;
   link = refl;
 }
-effect_after c d (Reset old) more = receive_after _ _ old.value.fifo record {
-  registers = refl;
-  latches = refl;
-  fifo = more.fifo;
-  memory = more.memory;
-  gathered = refl;
-  wire = more.wire;
-  eeprom = more.eeprom;
-  link = more.link;
-}
+effect_after c d (Reset old) more =
+    receive_after _ _ old.value.fifo (transmit_after _ _ old.value.gathered record {
+      registers = refl;
+      latches = refl;
+      fifo = more.fifo;
+      memory = more.memory;
+      gathered = more.gathered;
+      wire = more.wire;
+      eeprom = more.eeprom;
+      link = more.link;
+    })
 
 pub undo_after : (c d : Cells) (r : Undo) → MorePages c d → MorePages (undo c r) (undo d r)
 undo_after c d r more = effect_after _ _ r.effect record {

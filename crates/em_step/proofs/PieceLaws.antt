@@ -19,9 +19,11 @@ use Rattle.em_rx.proofs.PieceLaws as rx_laws
 use Rattle.em_step.specs.Engines.{after_rx_answer, rx_stepped, with_outcome}
 use Rattle.em_step.specs.Event.{receives}
 use Rattle.em_step.specs.Pieces.{AreReceived}
+use Rattle.em_step.specs.Reached.{IsReached}
 use Rattle.em_step.specs.State.{State}
 use Rattle.em_step.specs.Step.{step}
 use Rattle.em_step.specs.declared.event.Answer.{Answer}
+use Rattle.em_step.proofs.ReachedLaws.{few_reached}
 use Rattle.em_step.proofs.SetupLaws.{rx_setup-head}
 
 -- what the receive engine works on
@@ -126,12 +128,13 @@ lifted s few (suc k) e is =
     )
 
 -- a frame that goes in j pieces is in its buffers after j receive steps
-pub pieces : (s : State) (frame : Frame) (frames : List Frame) (j : ℕ) →
+pub pieces : (s : State) (frame : Frame) (frames : List Frame) (j : ℕ) → IsReached s →
     GoesInPieces (rx_setup s.registers) s.memory frame j →
-    s.fifo ≡ record { frames = frame ∷ frames; taken = 0 } → (rx_setup s.registers).count ≤ 65_536 →
+    s.fifo ≡ record { frames = frame ∷ frames; taken = 0 } →
     (t : State) × AreReceived j s t × (t.fifo ≡ record { frames = frames; taken = 0 })
     × ((i : ℕ) → i < j → IsDelivered (rx_setup s.registers) s.memory t.memory frame j i)
-pieces s frame frames j fit holds few =
+pieces s frame frames j reached fit holds =
+    let few : (rx_setup s.registers).count ≤ 65_536 = few_reached s reached in
     let q : RxSetup = rx_setup s.registers in
     let (e, is, gone, done) = rx_laws.pieces q s.memory frame frames j fit s.fifo holds in
     let (t, steps, there, count) = lifted s few j e is in (

@@ -13,7 +13,7 @@ use Rattle.em_regs.specs.RegFile as registers
 use Rattle.em_regs.specs.Storage.{Registers}
 use Rattle.em_step.specs.State.{State, status}
 use Rattle.em_step.specs.Cells.{Cells, shows}
-use Rattle.em_step.specs.Access.{gives, gives_by, after_read, after_store, after_latch_write, after_write, after_write_by}
+use Rattle.em_step.specs.Access.{gives, gives_by, after_read, after_latch_write, after_write, after_write_by}
 use Rattle.em_step.specs.Access.{is_reset, is_reset_by}
 use Rattle.em_latch.specs.Latches as latches
 use Rattle.em_step.specs.Cost.{cost, least_cost, most_cost}

@@ -48,7 +48,7 @@ by_kind Counter s reg other latched stored = latched
 by_kind kind s reg other latched stored = stored
 
 -- nor does any other register of the file
-stored_zero : (mac : List ℕ) (o : ℕ) → o ≢ 0x05400 → o ≢ 0x05404 → registers.at (registers.reset mac) o ≡ 0
+pub stored_zero : (mac : List ℕ) (o : ℕ) → o ≢ 0x05400 → o ≢ 0x05404 → registers.at (registers.reset mac) o ≡ 0
 unfolding zeroed
 stored_zero mac o low high =
     at-insert_other _ _ _ o high ∙ at-insert_other _ _ _ o low ∙ at-zeros storage.offsets (length storage.offsets) o

@@ -5,7 +5,8 @@ use Rattle.em_latch.specs.Latches as latches
 use Rattle.em_regs.specs.Storage.{Registers}
 use Rattle.em_regs.specs.RegFile.{OldWord}
 use Rattle.em_latch.proofs.UndoLaws.{nothing_reversed}
-use Rattle.std.specs.Prelude.{List, []}
+use Rattle.em_tx.specs.Cells.{Gathered, MoreRoom}
+use Rattle.std.specs.Prelude.{IsTrue, List, []}
 
 -- the same pages are no fewer
 pub more_same : (c d : memory.Cells) → d ≡ c → memory.MorePages c d
@@ -13,6 +14,20 @@ more_same c d same = record {
   octets = ap (λ (m : memory.Cells). m.octets) same;
   made = λ p made. subst (λ (m : memory.Cells). memory.IsPageMade m p) (sym same) made;
 }
+
+-- the same room is no less
+pub room_same : (g h : Gathered) → h ≡ g → MoreRoom g h
+room_same g h same = record {
+  octets = ap (λ (x : Gathered). x.octets) same;
+  room = subst (λ (x : Gathered). IsTrue x.room) (sym same);
+}
+
+-- no fewer than the same
+pub pages_from : {a b c : memory.Cells} → a ≡ b → memory.MorePages a c → memory.MorePages b c
+pages_from {c = c} same = subst (λ x. memory.MorePages x c) same
+
+pub room_from : {g h k : Gathered} → g ≡ h → MoreRoom g k → MoreRoom h k
+room_from {k = k} same = subst (λ x. MoreRoom x k) same
 
 -- old words of the latches that are known to be others
 pub reversed_words : {old new : Registers} {us ws : List OldWord} → us ≡ ws → latches.Reverses old new ws

@@ -1,6 +1,6 @@
 -- What the registers say of a ring once one of them is written.
-use Rattle.std.proofs.Common.{◌≡◌, ◌≢◌, ℕ, ◌<◌, ◌≤◌, ◌∙◌, arith}
-use Rattle.std.proofs.lemmas.Nat.{and_le_r, and_mask}
+use Rattle.std.proofs.Common.{◌≡◌, ◌≢◌, ℕ, ◌<◌, ◌∙◌, arith}
+use Rattle.std.proofs.lemmas.Nat.{and_mask}
 use Rattle.std.proofs.Math.Nat.{mod-eq_of_lt}
 use Rattle.std.specs.Prelude.{bit_and, ◌+◌, ◌*◌, ◌/◌, ◌%◌, ◌^◌, Some, None, if◌then◌else◌}
 use Rattle.em_regs.specs.declared.reg.Reg.{Reg}
@@ -98,10 +98,3 @@ tx_setup-tail m v less =
     same_tx_ring m n (kept Tctl (λ e. omega arith)) (kept Tdbah (λ e. omega arith)) (kept Tdbal (λ e. omega arith))
     (kept Tdlen (λ e. omega arith)) (kept Ctrl (λ e. omega arith)) (kept Vet (λ e. omega arith))
     ∙ λ i. record (tx_setup m) { head = head i; tail = tail i }
-
--- no write of RDLEN makes a ring of more descriptors than 16 bits can name
-pub few_descriptors : (m : Registers) (v : ℕ) → (rx_setup (put m Rdlen v)).count ≤ 65_536
-few_descriptors m v =
-    let len : value_of (put m Rdlen v) Rdlen ≡ bit_and v 0xF_FF80 = put_same m Rdlen v in
-    let most : bit_and v 0xF_FF80 ≤ 0xF_FF80 = and_le_r v 0xF_FF80 in
-    omega (arith, len, most)

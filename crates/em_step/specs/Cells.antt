@@ -8,6 +8,7 @@ use Rattle.em_regs.specs.RegFile as registers
 use Rattle.em_latch.specs.Latches as latches
 use Rattle.em_eeprom.specs.Eeprom.{mac_of}
 use Rattle.em_rx.specs.Fifo as rx
+use Rattle.em_tx.specs.Cells.{Gathered, MoreRoom, gathered_code, none_gathered}
 use Rattle.em_step.specs.State.{State}
 
 pub record Cells : Type 0 where
@@ -15,7 +16,7 @@ pub record Cells : Type 0 where
   pub latches : Registers
   pub fifo : rx.Cells
   pub memory : memory.Cells
-  pub gathered : List ℕ
+  pub gathered : Gathered
   pub wire : List (List ℕ)
   pub eeprom : List ℕ
   pub link : Bool
@@ -24,9 +25,9 @@ pub record Cells : Type 0 where
 abbrev pub cells_code : Coded Cells
 cells_code =
     code_by
-    (Registers × (Registers × (rx.Cells × (memory.Cells × (List ℕ × (List (List ℕ) × (List ℕ × Bool)))))))
+    (Registers × (Registers × (rx.Cells × (memory.Cells × (Gathered × (List (List ℕ) × (List ℕ × Bool)))))))
     (coded× registers_code (coded× registers_code (coded× rx.cells_code
-    (coded× memory.cells_code (coded× (coded_list coded_ℕ) (coded× (coded_list (coded_list coded_ℕ))
+    (coded× memory.cells_code (coded× gathered_code (coded× (coded_list (coded_list coded_ℕ))
     (coded× (coded_list coded_ℕ) coded_bool)))))))
     (λ c. (c.registers, (c.latches, (c.fifo, (c.memory, (c.gathered, (c.wire, (c.eeprom, c.link))))))))
     (λ p. record {
@@ -41,14 +42,14 @@ cells_code =
     })
     (λ _. refl)
 
--- all but which pages are made, and what the FIFO keeps beside its frames
+-- all but which pages are made, what the FIFO keeps beside its frames, and whether there is room for gathered octets
 abbrev pub shows : Cells → State
 shows c = record {
   registers = c.registers;
   latches = c.latches;
   fifo = rx.shows c.fifo;
   memory = c.memory.octets;
-  gathered = c.gathered;
+  gathered = c.gathered.octets;
   wire = c.wire;
   eeprom = c.eeprom;
   link = c.link;
@@ -62,19 +63,19 @@ fresh size eeprom = record {
   latches = latches.fresh;
   fifo = rx.fresh;
   memory = memory.fresh size;
-  gathered = [];
+  gathered = none_gathered;
   wire = [];
   eeprom = eeprom;
   link = false;
 }
 
--- d is c, but that d may have more pages made
+-- d is c, but that d may have more pages made, and room for gathered octets
 pub record MorePages (c d : Cells) : Type 0 where
   pub registers : d.registers ≡ c.registers
   pub latches : d.latches ≡ c.latches
   pub fifo : d.fifo ≡ c.fifo
   pub memory : memory.MorePages c.memory d.memory
-  pub gathered : d.gathered ≡ c.gathered
+  pub gathered : MoreRoom c.gathered d.gathered
   pub wire : d.wire ≡ c.wire
   pub eeprom : d.eeprom ≡ c.eeprom
   pub link : d.link ≡ c.link

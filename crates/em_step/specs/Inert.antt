@@ -1,7 +1,6 @@
 -- Registers and bits that have no rule: nothing goes by them, so all they do is to be read.
 use Rattle.std.specs.Prelude.{◌≡◌, ℕ, ◌/◌, ◌%◌, ◌^◌, Result, Ok, Err}
-use Rattle.em_regs.specs.declared.reg.Reg.{Reg}
-use Rattle.em_regs.specs.declared.reg.Reg.TheVariants.{Rctl, Vet, Rdbal, Rdbah, Rdlen, Rdh, Rdt}
+use Rattle.em_regs.specs.declared.reg.Reg.TheVariants.{Vet, Rdbal, Rdbah, Rdlen, Rdh, Rdt}
 use Rattle.em_regs.specs.declared.reg.Reg.TheVariants.{Tctl, Tdbal, Tdbah, Tdlen, Tdh, Tdt, Mta, Ral, Rah, Vfta}
 use Rattle.em_regs.specs.Setup.{has, value_of}
 use Rattle.em_regs.specs.Storage.{Registers}

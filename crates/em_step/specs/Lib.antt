@@ -9,7 +9,9 @@ pub mod Fate
 pub mod Engines
 pub mod Step
 pub mod Pieces
+pub mod Reached
 pub mod Whole
 pub mod Inert
 pub mod Undo
 pub mod Cost
+pub mod Before

@@ -38,7 +38,9 @@ EffectFits c (Arrival old) = rx.Fits c.fifo c.memory (Frame old)
 EffectFits c (RxStep head old) = registers.Fits c.registers (word Rdh head) × rx.Fits c.fifo c.memory (rx_undo.Step old)
 EffectFits c (TxStep old head) = registers.Fits c.registers (word Tdh head) × tx.Fits (tx_cells_of c) (tx_undo.Step old)
 EffectFits c (Link old) = Unit {0}
-EffectFits c (Reset old) = rx.Fits c.fifo c.memory old.value.fifo
+EffectFits c (Reset old) =
+    tx.Fits (tx_cells_of c) old.value.gathered
+    × rx.Fits c.fifo (tx.undo (tx_cells_of c) old.value.gathered).memory old.value.fifo
 
 -- what the record names is in the cells
 pub record Fits (c : Cells) (r : Undo) : Type 0 where
@@ -76,14 +78,14 @@ undo_effect c (TxStep old head) = undo_transmit (undo_register c (word Tdh head)
 undo_effect c (Link old) = record c { link = old }
 undo_effect c (Reset old) =
     undo_receive
-    (record c { registers = old.value.registers.value; latches = old.value.latches; gathered = old.value.gathered })
+    (undo_transmit (record c { registers = old.value.registers.value; latches = old.value.latches }) old.value.gathered)
     old.value.fifo
 
 -- the cells with the record put back: the words of the latches, and then the effect
 abbrev pub undo : Cells → Undo → Cells
 undo c r = undo_effect (record c { latches = latches.undo c.latches r.latches }) r.effect
 
--- the record takes a change of the cells back, but that pages which were made stay made
+-- the record takes a change of the cells back, but that pages which were made stay made, and room that was taken stays
 pub record Reverses (old new : Cells) (r : Undo) : Type 0 where
   pub fits : Fits new r
   pub restores : MorePages old (undo new r)

@@ -95,7 +95,7 @@ impl Adapter {
             registers,
             latches: Latches::new(),
             fifo,
-            gather: Gather::new(alloc)?,
+            gather: Gather::new(alloc),
             wire: Wire::new(alloc),
             eeprom,
             link: false,
@@ -140,6 +140,13 @@ impl Adapter {
         ensures { result ≡ (shows self.now).link }
     {
         self.link
+    }
+
+    /// How many frames lie in the FIFO.
+    pub fn frames(&self) -> usize
+        ensures { result ≡ length (shows self.now).fifo.frames }
+    {
+        self.fifo.frames()
     }
 
     /// How many frames were sent.
@@ -414,7 +421,8 @@ impl Adapter {
         let before = &mut *old;
         std::mem::swap(&mut self.registers, &mut before.registers);
         std::mem::swap(&mut self.latches, &mut before.latches);
-        std::mem::swap(&mut self.gather, &mut before.gathered);
+        let gathered = std::mem::replace(&mut before.gathered, TxUndo::Nothing);
+        take_back(&mut self.gather, &mut self.wire, &mut self.memory, gathered);
         let frames = std::mem::replace(&mut before.fifo, RxUndo::Nothing);
         self.fifo.take_back(&mut self.memory, frames);
         self.let_reset_go(old);
@@ -436,11 +444,7 @@ impl Adapter {
     fn status(&self) -> u32
         ensures { result ≡ status (shows self.now) }
     {
-        let mut status = Status::FD.union(Status::SPEED_1000);
-        if self.link {
-            status.insert(Status::LU);
-        }
-        status.bits()
+        status_of(self.link)
     }
 
     /// Resets the registers and latches, and empties the FIFO and the gathered octets. The place that keeps
@@ -465,11 +469,10 @@ impl Adapter {
         let mut kept = place;
         let before = &mut *kept;
         before.registers.reset_in_place(self.eeprom.mac());
-        before.gathered.clear();
         std::mem::swap(&mut self.registers, &mut before.registers);
-        std::mem::swap(&mut self.gather, &mut before.gathered);
         before.latches = std::mem::replace(&mut self.latches, Latches::new());
         before.fifo = self.fifo.clear();
+        before.gathered = self.gather.clear();
         kept
     }
 
@@ -485,7 +488,7 @@ impl Adapter {
             registers: Box::new(self.alloc, RegFile::reset(self.eeprom.mac()))?,
             latches: Latches::new(),
             fifo: RxUndo::Nothing,
-            gathered: Gather::new(self.alloc)?,
+            gathered: TxUndo::Nothing,
         };
         Ok(Box::new(self.alloc, fresh)?)
     }
@@ -506,4 +509,15 @@ impl Adapter {
         let effect = Effect::Link(std::mem::replace(&mut self.link, up));
         Ok((Answer::Done, Undo { latches, effect }))
     }
+}
+
+/// STATUS, which follows the link.
+pub(crate) fn status_of(link: bool) -> u32
+    ensures { result ≡ (if link then 0x83 else 0x81) }
+{
+    let mut status = Status::FD.union(Status::SPEED_1000);
+    if link {
+        status.insert(Status::LU);
+    }
+    status.bits()
 }

@@ -3,7 +3,7 @@ ghost use Rattle.std.specs.Prelude.{◌≡◌, ◌≢◌, ◌⊎◌, ◌+◌, �
 ghost use Rattle.em_regs.specs.declared.reg.Reg.{Reg};
 ghost use Rattle.em_regs.specs.Table.{IsReg};
 ghost use Rattle.em_regs.specs.Storage.{Registers};
-ghost use Rattle.em_regs.specs.RegFile.{address_low, address_high, put, put_eerd};
+ghost use Rattle.em_regs.specs.RegFile.{address_low, address_high, put_eerd};
 ghost use Rattle.em_regs.specs.Setup.{rx_setup, tx_setup, value_of};
 ghost use Rattle.em_eeprom.specs.Eeprom.{IsEeprom, mac_of};
 ghost use Rattle.em_filter.specs.Bits.{lpe, vme};
@@ -20,6 +20,7 @@ ghost use Rattle.em_step.specs.Inert.{AgreeInRules, Alike, IsNoRead};
 ghost use Rattle.em_step.specs.Step.{step};
 ghost use Rattle.em_step.specs.Whole.{Admits, IsPlain, IsWhole, KeepsAllButFifo, ReceivesWhole, SendsWhole};
 ghost use Rattle.em_step.specs.Pieces.{AreReceived};
+ghost use Rattle.em_step.specs.Reached.{IsReached};
 ghost use Rattle.em_step.specs.Cost.{cost, most_cost};
 ghost use Rattle.em_step.specs.declared.event.Answer.{Answer};
 ghost use Rattle.em_step.specs.declared.undo.Undo.{Undo};
@@ -61,17 +62,20 @@ pub fn fates()
 {}
 
 /// A frame that goes in j pieces is in its buffers after j receive steps with nothing between them:
-/// each piece in its own, as its descriptor says, and the frame has left the FIFO. The ring may have
-/// as many descriptors as any write of RDLEN gives it.
+/// each piece in its own, as its descriptor says, and the frame has left the FIFO.
 pub fn pieces()
-    ensures delivered { (s : State) (frame : Frame) (frames : List Frame) (j : ℕ) →
+    ensures { (s : State) (frame : Frame) (frames : List Frame) (j : ℕ) →
+        IsReached s →
         GoesInPieces (rx_setup s.registers) s.memory frame j →
         s.fifo ≡ record { frames = frame ∷ frames; taken = 0 } →
-        (rx_setup s.registers).count ≤ 65_536 →
         (t : State) × AreReceived j s t
         × (t.fifo ≡ record { frames = frames; taken = 0 })
         × ((i : ℕ) → i < j → IsDelivered (rx_setup s.registers) s.memory t.memory frame j i) }
-    ensures count { (m : Registers) (v : ℕ) → (rx_setup (put m Reg.Rdlen v)).count ≤ 65_536 }
+{}
+
+/// In every state that an adapter comes to, RDH can name each descriptor of the receive ring.
+pub fn rings_are_small()
+    ensures { (s : State) → IsReached s → (rx_setup s.registers).count ≤ 65_536 }
 {}
 
 /// Where each frame has one descriptor and lies whole in its buffer of 2,048 octets, with no VLAN tag:

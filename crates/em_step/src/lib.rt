@@ -3,6 +3,7 @@
 
 mod adapter;
 mod arrival;
+mod before;
 mod counts;
 mod engines;
 mod event;

@@ -12,19 +12,19 @@ use thiserror::Error;
 #[error("{}", self.name())]
 pub enum Refusal {
     /// No register lies at the offset.
-    NoRegister,
+    NoRegister = 1,
     /// The range leaves guest memory.
-    Range,
+    Range = 2,
     /// A memory write outside 1 to 16,384 octets, or a frame outside 14 to 20,000.
-    Length,
+    Length = 3,
     /// A descriptor or its buffer leaves guest memory.
-    DmaRange,
+    DmaRange = 4,
     /// A transmit descriptor is extended (DEXT).
-    Extended,
+    Extended = 5,
     /// The gathered octets would exceed 16,380.
-    TooLong,
+    TooLong = 6,
     /// A growth was refused.
-    Memory,
+    Memory = 9,
 }
 
 impl Refusal {
@@ -32,15 +32,7 @@ impl Refusal {
     pub fn code(self) -> u32
         ensures { result ≡ code_of self }
     {
-        match self {
-            Refusal::NoRegister => 1,
-            Refusal::Range => 2,
-            Refusal::Length => 3,
-            Refusal::DmaRange => 4,
-            Refusal::Extended => 5,
-            Refusal::TooLong => 6,
-            Refusal::Memory => 9,
-        }
+        self as u32
     }
 
     /// The name of the refusal, as it is printed.

@@ -6,7 +6,7 @@ use em_latch::{LatchUndo, Latches};
 use em_mem::{FewOctets, MemUndo};
 use em_regs::{RegFile, RegUndo};
 use em_rx::{FramePatch, RxUndo, StepPatch};
-use em_tx::{Change, Gather};
+use em_tx::{Change, TxUndo};
 use std::mem::size_of;
 
 /// What a record costs that holds no octets.
@@ -53,7 +53,7 @@ pub struct BeforeReset {
     pub registers: Box<RegFile>,
     pub latches: Latches,
     pub fifo: RxUndo,
-    pub gathered: Gather,
+    pub gathered: TxUndo,
 }
 
 impl Undo {

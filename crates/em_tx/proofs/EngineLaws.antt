@@ -30,7 +30,7 @@ use Rattle.em_tx.specs.declared.answer.TxAnswer.TheVariants.{Idle}
 use Rattle.em_tx.specs.declared.refusal.TxRefusal.{TxRefusal}
 use Rattle.em_tx.specs.declared.refusal.TxRefusal.TheVariants.{DmaRange, Memory}
 use Rattle.em_mem.specs.Memory as mem
-use Rattle.em_tx.specs.Cells.{Shown, cells, shows}
+use Rattle.em_tx.specs.Cells.{Gathered, Shown, cells, shows}
 use Rattle.em_tx.specs.Engine.{refusal, handle, unless, transmit, Refuses}
 use Rattle.em_tx.specs.Ring.{is_idle, place}
 
@@ -74,6 +74,6 @@ Refuses-memory q s d {e = e} some held is allowed memory =
     inl (memory, turn, well)
 
 -- the same is shown where the parts are the same
-pub shows-same : {g h : List ℕ} {w v : List (List ℕ)} (m n : mem.Cells)
-    → g ≡ h → w ≡ v → m.octets ≡ n.octets → shows (cells g w m) ≡ shows (cells h v n)
-shows-same m n gathered wire octets = λ i. record { gathered = gathered i; wire = wire i; memory = octets i }
+pub shows-same : (g h : Gathered) {w v : List (List ℕ)} (m n : mem.Cells)
+    → g.octets ≡ h.octets → w ≡ v → m.octets ≡ n.octets → shows (cells g w m) ≡ shows (cells h v n)
+shows-same g h m n gathered wire octets = λ i. record { gathered = gathered i; wire = wire i; memory = octets i }

@@ -4,3 +4,4 @@ pub mod ReverseLaws
 pub mod EngineLaws
 pub mod WireLaws
 pub mod MadePages
+pub mod BeforeLaws

@@ -1,11 +1,11 @@
 -- What takes a step back.
-use Rattle.std.proofs.Common.{◌≡◌, ℕ, ◌-◌, Bool, cond, true, false, List, [], ◌∷◌, ◌++◌, length, get_or}
+use Rattle.std.proofs.Common.{◌≡◌, ℕ, ◌-◌, IsTrue, Bool, cond, true, false, List, [], ◌∷◌, ◌++◌, length, get_or}
 use Rattle.std.proofs.Common.{take, Option, refl, sym, ap, ◌∙◌, subst, arith, length-append}
 use Rattle.std.specs.Prelude.{is_some}
 use Rattle.std.proofs.lemmas.List.{take_at, get_or-append-add}
 use Rattle.em_mem.specs.Memory as mem
 use Rattle.em_regs.specs.declared.setup.TxSetup.{TxSetup}
-use Rattle.em_tx.specs.Cells.{Cells, cells}
+use Rattle.em_tx.specs.Cells.{Cells, cells, with_room}
 use Rattle.em_tx.specs.Frame.{tag_of, frame, without_tag}
 use Rattle.em_tx.specs.Change.{sent_with}
 use Rattle.em_tx.specs.Undo.{ChangeReverses, FrameFits, SentFits, StatusReverses, front_of, gathered_before}
@@ -31,9 +31,10 @@ MorePages-same m n is = record {
 }
 
 -- a change with a frame says so of the frame, whether it has a tag or none
-fits_with : (c : Cells) (n : ℕ) (tagged : Bool) → FrameFits c.wire n tagged → SentFits c n (sent_with tagged)
-fits_with c n true fits = fits
-fits_with c n false fits = fits
+fits_with : (c : Cells) (n : ℕ) (tagged : Bool) → FrameFits c.wire n tagged → IsTrue c.gathered.room
+    → SentFits c n (sent_with tagged)
+fits_with c n true fits room = (fits, room)
+fits_with c n false fits room = (fits, room)
 
 gathered_with : (c : Cells) (n : ℕ) (tagged : Bool)
     → gathered_before c n (sent_with tagged) ≡ take n (without_tag tagged (last_of c.wire))
@@ -49,7 +50,7 @@ pub Reverses-send : (q : TxSetup) (d : List ℕ) {old o : List ℕ} (new g : Lis
     (m n : mem.Cells) (cost : ℕ) {count : ℕ} {tagged : Bool} {status : Option mem.Patch}
     → o ≡ old ++ new → v ≡ w ++ frame q d o ∷ [] → tagged ≡ is_some (tag_of q.vlan d (length o))
     → count ≡ length old → StatusReverses m n status
-    → ChangeReverses (cells old w m) (cells g v n)
+    → ChangeReverses (cells (with_room old) w m) (cells (with_room g) v n)
     (record { count = count; cost = cost; status = status; sent = sent_with tagged })
 Reverses-send q d {old = old} {o = o} new g {w = w} {v = v} m n cost {count = k} {tagged = tagged} {status = status}
     is_o is_v tag count back =
@@ -66,15 +67,18 @@ Reverses-send q d {old = old} {o = o} new g {w = w} {v = v} m n cost {count = k}
     ∙ cut_frame q d old new o is_o in
     record {
       fits = (
-        fits_with (cells g v n) k tagged (
+        fits_with (cells (with_room g) v n) k tagged (
           omega (arith, ap length is_v, length-append w (f ∷ [])),
           omega (arith, p.tagged, ap length last, ap beside tag),
           omega (arith, ap length body, length-append o p.padding, ap length is_o, length-append old new, count),
-        ),
+        ) refl,
         back.fits,
       );
       restores = record {
-        gathered = gathered_with (cells g v n) k tagged ∙ cut;
+        gathered = record {
+          octets = gathered_with (cells (with_room g) v n) k tagged ∙ cut;
+          room = λ room. room;
+        };
         wire = wire_with v tagged ∙ front;
         memory = MorePages-same m (status_undo n status) back.restores;
       };

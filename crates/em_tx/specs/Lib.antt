@@ -7,3 +7,4 @@ pub mod Cells
 pub mod Change
 pub mod Undo
 pub mod Engine
+pub mod Before

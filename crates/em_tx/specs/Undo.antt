@@ -17,14 +17,15 @@ use Rattle.std.specs.Prelude.{
   Some,
   None,
   [],
+  IsTrue,
 }
 use Rattle.em_mem.specs.Memory as mem
-use Rattle.em_tx.specs.Cells.{Cells, MorePages, cells}
+use Rattle.em_tx.specs.Cells.{Cells, Gathered, MorePages, cells}
 use Rattle.em_tx.specs.Frame.{without_tag}
 use Rattle.em_tx.specs.declared.answer.TxAnswer.{TxAnswer}
 use Rattle.em_tx.specs.declared.answer.TxAnswer.TheVariants.{Idle}
 use Rattle.em_tx.specs.declared.undo.TxUndo.{TxUndo}
-use Rattle.em_tx.specs.declared.undo.TxUndo.TheVariants.{Nothing, Step}
+use Rattle.em_tx.specs.declared.undo.TxUndo.TheVariants.{Nothing, Step, Cleared}
 use Rattle.em_tx.specs.declared.change.Sent.{Sent}
 use Rattle.em_tx.specs.declared.change.Sent.TheVariants.{NoFrame, Untagged, Tagged}
 use Rattle.em_tx.specs.Change.{Change}
@@ -54,11 +55,12 @@ abbrev pub FrameFits : List (List ℕ) → ℕ → Bool → Type 0
 FrameFits w n tagged =
     (0 < length w) × ((if tagged then 16 else 0) ≤ length (last_of w)) × (n ≤ length (without_tag tagged (last_of w)))
 
--- the n old octets are among the gathered ones, or among those of the last frame, beside its tag
+-- the n old octets are among the gathered ones; or among those of the last frame, beside its tag, and there is room
+-- to gather them again
 abbrev pub SentFits : Cells → ℕ → Sent → Type 0
-SentFits c n NoFrame = n ≤ length c.gathered
-SentFits c n Untagged = FrameFits c.wire n false
-SentFits c n Tagged = FrameFits c.wire n true
+SentFits c n NoFrame = n ≤ length c.gathered.octets
+SentFits c n Untagged = FrameFits c.wire n false × IsTrue c.gathered.room
+SentFits c n Tagged = FrameFits c.wire n true × IsTrue c.gathered.room
 
 abbrev pub ChangeFits : Cells → Change → Type 0
 ChangeFits c r = SentFits c r.count r.sent × StatusFits c.memory r.status
@@ -66,10 +68,11 @@ ChangeFits c r = SentFits c r.count r.sent × StatusFits c.memory r.status
 abbrev pub Fits : Cells → TxUndo → Type 0
 Fits c Nothing = Unit {0}
 Fits c (Step change) = ChangeFits c change
+Fits c (Cleared old) = Unit {0}
 
 -- the gathered octets are cut to the n that there were; a frame comes off the wire, without its tag
 abbrev pub gathered_before : Cells → ℕ → Sent → List ℕ
-gathered_before c n NoFrame = take n c.gathered
+gathered_before c n NoFrame = take n c.gathered.octets
 gathered_before c n Untagged = take n (without_tag false (last_of c.wire))
 gathered_before c n Tagged = take n (without_tag true (last_of c.wire))
 
@@ -78,14 +81,21 @@ wire_before w NoFrame = w
 wire_before w Untagged = front_of w
 wire_before w Tagged = front_of w
 
+-- their room stays
+abbrev pub undo_gathered : Cells → ℕ → Sent → Gathered
+undo_gathered c n sent = record { octets = gathered_before c n sent; room = c.gathered.room }
+
 abbrev pub undo_change : Cells → Change → Cells
-undo_change c r = cells (gathered_before c r.count r.sent) (wire_before c.wire r.sent) (status_undo c.memory r.status)
+undo_change c r = cells (undo_gathered c r.count r.sent) (wire_before c.wire r.sent) (status_undo c.memory r.status)
 
 abbrev pub undo : Cells → TxUndo → Cells
 undo c Nothing = c
 undo c (Step change) = undo_change c change
+-- what was gathered comes back with its room
+undo c (Cleared old) = record c { gathered = old }
 
--- the record takes the change from the old cells to the new ones back, but that more pages may be made
+-- the record takes the change from the old cells to the new ones back, but that more pages may be made, and room for
+-- gathered octets
 pub record ChangeReverses (old new : Cells) (r : Change) : Type 0 where
   pub fits : ChangeFits new r
   pub restores : MorePages old (undo_change new r)
@@ -109,3 +119,4 @@ IsRecordOf answer r = ⊥
 abbrev pub cost_of : TxUndo → ℕ
 cost_of Nothing = 0
 cost_of (Step change) = change.cost
+cost_of (Cleared old) = 0

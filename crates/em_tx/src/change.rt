@@ -16,8 +16,8 @@ pub const MOST_COST: u32 = 32_765;
 /// The status octet of a descriptor before it was reported.
 #[derive(Drop)]
 pub(crate) struct Status {
-    place: Place,
-    octet: [u8; 1],
+    pub(crate) place: Place,
+    pub(crate) octet: [u8; 1],
 }
 
 impl Model for Status {
@@ -80,8 +80,8 @@ impl Sent {
 pub struct Change {
     cost: u16,
     count: u16,
-    status: Option<Status>,
-    sent: Sent,
+    pub(crate) status: Option<Status>,
+    pub(crate) sent: Sent,
 }
 
 impl Model for Change {

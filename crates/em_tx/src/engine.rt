@@ -3,7 +3,7 @@ ghost use Rattle.std.specs.Prelude.{◌≡◌, ◌+◌, ◌<◌, ◌≤◌, ◌+
 ghost use Rattle.std.specs.Prelude.{None, Ok, OnErr, OnOk, false, is_some, length, vec_capacity, vec_len};
 ghost use Rattle.em_mem.specs.Memory as mem;
 ghost use Rattle.em_mem.specs.Memory.{IsHeld, IsMade, part};
-ghost use Rattle.em_tx.specs.Cells.{MorePages, cells, shows};
+ghost use Rattle.em_tx.specs.Cells.{MorePages, cells, shows, with_room};
 ghost use Rattle.em_tx.specs.Descriptor.{address, length_of, rs};
 ghost use Rattle.em_tx.specs.Engine.{Allows, Refuses, cost, handle, handling_cost, refusal, report, sends, with_buffer};
 ghost use Rattle.em_tx.specs.Engine.{octets_sent, transmit};
@@ -77,8 +77,8 @@ fn perform(
     requires place { at ≡ place setup.now }
     requires held { IsHeld memory.old.octets (place setup.now) 16 }
     requires octets { descriptor.now ≡ part memory.old.octets (place setup.now) 16 }
-    requires allowed { refusal gather.old memory.old.octets descriptor.now ≡ None }
-    requires allows { Allows gather.old memory.old.octets descriptor.now }
+    requires allowed { refusal gather.old.octets memory.old.octets descriptor.now ≡ None }
+    requires allows { Allows gather.old.octets memory.old.octets descriptor.now }
     ensures ok { IfOk result (λ r.
         transmit setup.now (shows (cells gather.old wire.old memory.old))
         ≡ Ok (r.0, shows (cells gather.new wire.new memory.new))) }
@@ -93,7 +93,7 @@ fn perform(
 {
     let octets = &mut gather.octets;
     let frames = &mut wire.frames;
-    if let Err(refused) = make_room(octets.len(), frames, memory, at, setup, descriptor) {
+    if let Err(refused) = make_room(octets, frames, memory, at, setup, descriptor) {
         return Err(refused);
     }
     let (answer, change) = handle(octets, frames, memory, at, setup, descriptor);
@@ -103,8 +103,8 @@ fn perform(
 /// Why a descriptor is refused, if it is.
 #[tactic(auto, unfolding(crate::specs::Engine::refusal))]
 fn refusal_of(gather: &Gather, memory: &GuestMemory, descriptor: &TxDescriptor) -> Option<TxRefusal>
-    ensures value { result ≡ refusal gather.now memory.now.octets descriptor.now }
-    ensures none { IfNone result (Allows gather.now memory.now.octets descriptor.now) }
+    ensures value { result ≡ refusal gather.now.octets memory.now.octets descriptor.now }
+    ensures none { IfNone result (Allows gather.now.octets memory.now.octets descriptor.now) }
 {
     let length = descriptor.length();
     if descriptor.dext() {
@@ -119,27 +119,31 @@ fn refusal_of(gather: &Gather, memory: &GuestMemory, descriptor: &TxDescriptor) 
     None
 }
 
-/// Makes room for all that the descriptor needs over so many gathered octets, and changes nothing.
+/// Makes room for all that the descriptor needs, and changes nothing.
 fn make_room(
-    gathered: usize,
+    octets: &mut Vec<u8>,
     frames: &mut Frames,
     memory: &mut GuestMemory,
     at: u64,
     setup: &TxSetup,
     descriptor: &TxDescriptor,
 ) -> Result<(), TxRefusal>
-    requires few { gathered + length_of descriptor.now ≤ 16380 }
+    requires few { vec_len octets.old + length_of descriptor.now ≤ 16380 }
     requires held { IsHeld memory.old.octets at 16 }
+    ensures gathered { octets.new.items ≡ octets.old.items }
+    ensures capacity { vec_capacity octets.old ≤ vec_capacity octets.new }
     ensures octets { frames.new.octets.items ≡ frames.old.octets.items }
     ensures ends { frames.new.ends.items ≡ frames.old.ends.items }
     ensures memory { mem.MorePages memory.old memory.new }
+    ensures room { OnOk result (ROOM ≤ vec_capacity octets.new) }
     ensures place { OnOk result
-        (IsTrue (sends descriptor.now (gathered + length_of descriptor.now))
-        → HasRoom frames.new (frame_len setup.now descriptor.now (gathered + length_of descriptor.now))) }
+        (IsTrue (sends descriptor.now (vec_len octets.old + length_of descriptor.now))
+        → HasRoom frames.new (frame_len setup.now descriptor.now (vec_len octets.old + length_of descriptor.now))) }
     ensures made { OnOk result (IsTrue (rs descriptor.now) → IsMade memory.new (at + 12) 1) }
     ensures refused { IfErr result (λ e. e ≡ TxRefusal.Memory) }
 {
-    let count = gathered + usize::from(descriptor.length());
+    octets.reserve(ROOM - octets.len())?;
+    let count = octets.len() + usize::from(descriptor.length());
     if descriptor.eop() && count > 0 {
         frames.reserve(frame::len_of(setup, descriptor, count))?;
     }
@@ -184,16 +188,17 @@ fn handle(
     requires frames { IsTrue (sends descriptor.now (vec_len octets.old + length_of descriptor.now))
         → HasRoom frames.old (frame_len setup.now descriptor.now (vec_len octets.old + length_of descriptor.now)) }
     requires made { IsTrue (rs descriptor.now) → IsMade memory.old (at + 12) 1 }
-    ensures state { (result.0, shows (cells octets.new.items (plain frames.new) memory.new))
-        ≡ handle setup.now descriptor.now (shows (cells octets.old.items (plain frames.old) memory.old)) }
+    ensures state { (result.0, shows (cells (with_room octets.new.items) (plain frames.new) memory.new)) ≡ handle
+        setup.now descriptor.now (shows (cells (with_room octets.old.items) (plain frames.old) memory.old)) }
     ensures room { ROOM ≤ vec_capacity octets.new }
     ensures laid { AreLaid frames.new }
     ensures handled { IsHandled result.0 }
     ensures most { octets_sent result.0 ≤ 16384 }
     ensures cost { result.1.cost
-        ≡ handling_cost setup.now descriptor.now (shows (cells octets.old.items (plain frames.old) memory.old)) }
-    ensures reverses { ChangeReverses (cells octets.old.items (plain frames.old) memory.old)
-        (cells octets.new.items (plain frames.new) memory.new) result.1 }
+        ≡ handling_cost setup.now descriptor.now
+        (shows (cells (with_room octets.old.items) (plain frames.old) memory.old)) }
+    ensures reverses { ChangeReverses (cells (with_room octets.old.items) (plain frames.old) memory.old)
+        (cells (with_room octets.new.items) (plain frames.new) memory.new) result.1 }
 {
     let count = octets.len();
     let cost = u32::from(descriptor.length()) + u32::from(descriptor.rs());

@@ -1,63 +1,75 @@
 //! The octets that are gathered for the next frame.
-ghost use Rattle.std.specs.Prelude.{◌≡◌, ◌≤◌, [], IfOk, IsTrue, List, ℕ, length, take};
+ghost use Rattle.std.specs.Prelude.{◌≡◌, ◌≤◌, IsTrue, List, ℕ, length, take};
+ghost use Rattle.em_mem.specs.Memory as mem;
+ghost use Rattle.em_tx.specs.Cells.{cells, none_gathered, with_room};
 ghost use Rattle.em_tx.specs.Frame.{without_tag};
+ghost use Rattle.em_tx.specs.Undo.{Reverses};
 
 use crate::frame;
-use std::alloc::{AllocError, Global};
+use crate::undo::TxUndo;
+use std::alloc::Global;
 use std::marker::Model;
 
-/// There is room for so many octets from the start: the longest frame with its tag. So a step that is taken back
-/// finds room for what it puts back.
+/// The longest frame with its tag has so many octets at most. The first step that handles a descriptor makes room for
+/// them at once. So a step that is taken back finds room for what it gathers again.
 pub(crate) const ROOM: usize = 16_384;
 
-/// The octets of the buffers that were fetched since the last frame was sent. Clauses see their list.
+/// The octets of the buffers that were fetched since the last frame was sent. Clauses see their list, and whether there
+/// is room.
 #[derive(Drop)]
 pub struct Gather {
     pub(crate) octets: Vec<u8>,
 }
 
 impl Model for Gather {
-    ghost use Rattle.std.specs.Prelude.{◌≤◌, List, ℕ, vec_capacity};
+    ghost use Rattle.std.specs.Prelude.{nat_le, vec_capacity};
     ghost use Rattle.em_tx.specs.declared.gather.TheConstants.{ROOM};
+    ghost use Rattle.em_tx.specs.Cells.{Gathered, gathered_code};
 
-    ghost Value = { List ℕ };
+    ghost Value = { Gathered };
 
-    ghost view = { λ gather. gather.octets.items };
+    ghost coded = { gathered_code };
 
-    ghost invariant = { λ gather. ROOM ≤ vec_capacity gather.octets };
+    ghost view = { λ g. record { octets = g.octets.items; room = nat_le ROOM (vec_capacity g.octets) } };
 }
 
 impl Gather {
-    /// Nothing gathered.
-    pub fn new(alloc: Global) -> Result<Gather, AllocError>
-        ensures { IfOk result (λ gather. gather ≡ []) }
+    /// Nothing gathered. It takes no memory.
+    pub fn new(alloc: Global) -> Gather
+        ensures { result ≡ none_gathered }
     {
-        let octets = Vec::with_capacity(alloc, ROOM)?;
-        Ok(Gather { octets })
+        Gather {
+            octets: Vec::new(alloc),
+        }
     }
 
-    /// Lets the gathered octets go. Their room stays.
-    pub fn clear(&mut self)
-        ensures { self.new ≡ [] }
+    /// Puts the gathered octets aside, with their room. It takes no memory.
+    pub fn clear(&mut self) -> TxUndo
+        ensures empty { self.new ≡ none_gathered }
+        ensures reverses { (wire : List (List ℕ)) (memory : mem.Cells) →
+            Reverses (cells self.old wire memory) (cells self.new wire memory) result }
     {
-        self.octets.clear();
+        let alloc = *self.octets.allocator();
+        TxUndo::Cleared(std::mem::replace(self, Gather::new(alloc)))
     }
 
     /// Cuts the gathered octets to so many.
     pub(crate) fn cut(&mut self, count: usize)
-        ensures { self.new ≡ take count self.old }
+        ensures octets { self.new.octets ≡ take count self.old.octets }
+        ensures room { self.new.room ≡ self.old.room }
     {
         self.octets.truncate(count);
     }
 
-    /// Gathers the first octets of a frame, without its tag.
+    /// Gathers the first octets of a frame, without its tag, in place of those that there are.
     pub(crate) fn take_frame(&mut self, frame: &[u8], tagged: bool, count: usize)
         requires tagged { IsTrue tagged → 16 ≤ length frame.now }
         requires within { count ≤ length (without_tag tagged frame.now) }
         requires few { count ≤ ROOM }
-        ensures { self.new ≡ take count (without_tag tagged frame.now) }
+        requires room { IsTrue self.old.room }
+        ensures { self.new ≡ with_room (take count (without_tag tagged frame.now)) }
     {
-        self.clear();
+        self.octets.clear();
         if tagged {
             frame::gather_beside_tag(&mut self.octets, frame, count);
         } else {

@@ -3,6 +3,7 @@
 #![tactic(auto)]
 
 mod answer;
+mod before;
 mod change;
 mod descriptor;
 mod engine;

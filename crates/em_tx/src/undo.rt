@@ -1,8 +1,8 @@
 //! What takes a step back.
-ghost use Rattle.std.specs.Prelude.{◌≡◌, ◌≤◌, ◌+◌, ◌∷◌, [], take};
+ghost use Rattle.std.specs.Prelude.{◌≡◌, ◌≤◌, ◌+◌, ◌∷◌, [], IsTrue, take};
 ghost use Rattle.em_mem.specs.Memory as mem;
 ghost use Rattle.em_mem.specs.Memory.{IsHeld, IsMade, put};
-ghost use Rattle.em_tx.specs.Cells.{cells};
+ghost use Rattle.em_tx.specs.Cells.{cells, with_room};
 ghost use Rattle.em_tx.specs.Descriptor.{rs};
 ghost use Rattle.em_tx.specs.Frame.{without_tag};
 ghost use Rattle.em_tx.specs.Undo.{ChangeFits, Fits, FrameFits, StatusFits, cost_of, front_of, last_of};
@@ -20,6 +20,8 @@ pub enum TxUndo {
     Nothing,
     /// What a step changed.
     Step(Change),
+    /// What was gathered when it was put aside.
+    Cleared(Gather),
 }
 
 impl TxUndo {
@@ -29,7 +31,7 @@ impl TxUndo {
         ensures most { result ≤ MOST_COST }
     {
         match self {
-            TxUndo::Nothing => 0,
+            TxUndo::Nothing | TxUndo::Cleared(_) => 0,
             TxUndo::Step(change) => change.cost(),
         }
     }
@@ -44,6 +46,7 @@ pub fn take_back(gather: &mut Gather, wire: &mut Wire, memory: &mut GuestMemory,
     match taken {
         TxUndo::Nothing => {}
         TxUndo::Step(change) => take_change_back(gather, wire, memory, change),
+        TxUndo::Cleared(old) => *gather = old,
     }
 }
 
@@ -65,7 +68,8 @@ fn take_change_back(gather: &mut Gather, wire: &mut Wire, memory: &mut GuestMemo
 fn take_frame_back(gather: &mut Gather, wire: &mut Wire, tagged: bool, count: usize)
     requires fits { FrameFits wire.old count tagged }
     requires few { count ≤ ROOM }
-    ensures gathered { gather.new ≡ take count (without_tag tagged (last_of wire.old)) }
+    requires room { IsTrue gather.old.room }
+    ensures gathered { gather.new ≡ with_room (take count (without_tag tagged (last_of wire.old))) }
     ensures wire { wire.new ≡ front_of wire.old }
 {
     gather.take_frame(wire.last(), tagged, count);

@@ -1,5 +1,5 @@
 use Rattle.std.proofs.Common.{◌≡◌, ◌+◌, ◌∙◌, ap, arith, length, refl, sym, subst}
-use Rattle.em_tx.specs.Cells.{cells}
+use Rattle.em_tx.specs.Cells.{cells, with_room}
 use Rattle.em_tx.specs.Change.{sent_with}
 use Rattle.em_tx.specs.Undo.{ChangeReverses}
 use Rattle.em_tx.specs.Wire.{plain}
@@ -11,8 +11,8 @@ returns-then-count-from-gt0-clause-reverses c =
     let count : c.len-count.result ≡ length c.args.octets.now.items = omega arith in
     let sent = c.send-sent in
     let status = c.report-status in
-    let old = cells c.args.octets.now.items (plain c.args.frames.now) c.args.memory.now in
-    let new = cells sent.new.octets.items (plain sent.new.frames) status.new.memory in
+    let old = cells (with_room c.args.octets.now.items) (plain c.args.frames.now) c.args.memory.now in
+    let new = cells (with_room sent.new.octets.items) (plain sent.new.frames) status.new.memory in
     let same : c.new.result ≡ record {
       count = c.len-count.result;
       cost = c.from.result + c.from-2.result + sent.result.octets;

@@ -1,5 +1,5 @@
 use Rattle.std.proofs.Common.{◌≡◌, ◌∙◌, ap}
-use Rattle.em_tx.specs.Cells.{cells, shows}
+use Rattle.em_tx.specs.Cells.{Gathered, cells, shows, with_room}
 use Rattle.em_tx.specs.Engine.{handle}
 use Rattle.em_tx.specs.Wire.{frames_from, plain}
 use Rattle.em_tx.proofs.EngineLaws.{transmit-handle, Refuses-memory, shows-same}
@@ -14,9 +14,10 @@ pub returns-clause-ok : goal.returns-clause-ok
 returns-clause-ok c =
     let r = c.requires in
     let made = c.make_room in
-    let room : shows (cells c.gather.inside.octets.items (plain made.new.frames) made.new.memory)
+    let room : shows (cells (with_room made.new.octets.items) (plain made.new.frames) made.new.memory)
     ≡ shows (cells c.args.gather.now c.args.wire.now c.args.memory.now)
-    = shows-same made.new.memory c.args.memory.now c.gather.view_is
+    = shows-same (with_room made.new.octets.items) c.args.gather.now made.new.memory c.args.memory.now
+    (made.ensures.gathered ∙ ap (λ (g : Gathered). g.octets) c.gather.view_is)
     ((λ i. frames_from 0 (made.ensures.ends i) (made.ensures.octets i)) ∙ c.wire.view_is) made.ensures.memory.octets in
     transmit-handle c.args.setup.now _ c.args.descriptor.now r.turn r.held r.octets r.allowed
     (c.handle-answer.ensures.state ∙ ap (handle c.args.setup.now c.args.descriptor.now) room)

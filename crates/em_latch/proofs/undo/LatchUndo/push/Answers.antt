@@ -1,4 +1,4 @@
-use Rattle.std.proofs.Common.{◌≡◌, ◌∙◌, ◌<◌, ◌/◌, ◌%◌, ◌+◌, ◌*◌, ◌∷◌, ap, sym, arith, length}
+use Rattle.std.proofs.Common.{◌∙◌, ◌<◌, ◌/◌, ◌%◌, ◌+◌, ◌*◌, ◌∷◌, ap, arith, length}
 use Rattle.em_latch.specs.declared.undo.TheConstants.{MOST_WORDS}
 use Rattle.em_latch.specs.Undo.{words_of}
 use Rattle.em_latch.proofs.UndoLaws.{length-words_of, places_fit, pushed}

@@ -1,4 +1,4 @@
-use Rattle.std.proofs.Common.{ap, refl, sym, ◌∙◌}
+use Rattle.std.proofs.Common.{ap, sym, ◌∙◌}
 use Rattle.em_step.specs.Cells.{shows}
 use Rattle.em_step.specs.Cost.{cost_of}
 use Rattle.em_step.proofs.Registers.{latched_costs, writes_latched}

@@ -1,0 +1,209 @@
+-- What a record tells is what it puts back.
+use Rattle.std.proofs.Common.{◌≡◌, ◌∙◌, ◌+◌, ℕ, Bool, true, false, List, length, refl, sym, ap, arith, subst}
+use Rattle.std.specs.Prelude.{if◌then◌else◌, unwrap_or}
+use Rattle.em_mem.specs.Memory as memory
+use Rattle.em_mem.specs.Window.{IsWindow, lay_over}
+use Rattle.em_mem.proofs.WindowLaws.{window-undone}
+use Rattle.em_regs.specs.declared.reg.Reg.{Reg}
+use Rattle.em_regs.specs.declared.reg.Reg.TheVariants.{Ics, Imc, Rdh, Tdh}
+use Rattle.em_regs.specs.declared.table.Kind.{Kind}
+use Rattle.em_regs.specs.declared.table.Kind.TheVariants.{Interrupt, Counter, Status, Stored}
+use Rattle.em_regs.specs.Table.{offset_of}
+use Rattle.em_regs.specs.Storage.{Registers}
+use Rattle.em_regs.specs.RegFile as registers
+use Rattle.em_regs.specs.RegFile.{OldWord}
+use Rattle.em_regs.proofs.Entries.{at-undo}
+use Rattle.em_latch.specs.Latches as latches
+use Rattle.em_latch.proofs.BeforeLaws.{at-undone}
+use Rattle.em_rx.specs.Before as rx_before
+use Rattle.em_rx.specs.Fifo as rx
+use Rattle.em_rx.specs.StepPatch.{StepPatch}
+use Rattle.em_rx.specs.Undo as rx_undo
+use Rattle.em_rx.specs.declared.undo.RxUndo.{RxUndo}
+use Rattle.em_rx.specs.declared.undo.RxUndo.TheVariants as rx_variant
+use Rattle.em_rx.proofs.BeforeLaws.{length-frames}
+use Rattle.em_tx.specs.Undo as tx
+use Rattle.em_tx.specs.Before as tx_before
+use Rattle.em_tx.specs.Cells as tx_cells
+use Rattle.em_tx.specs.declared.undo.TxUndo.{TxUndo}
+use Rattle.em_tx.specs.declared.undo.TxUndo.TheVariants as tx_variant
+use Rattle.em_tx.proofs.BeforeLaws.{status_window, wire_undone as tx_undone}
+use Rattle.em_step.specs.Access.{gives_by}
+use Rattle.em_step.specs.Before.{PutsBackWindow, frames_before, has_sent, latch_before, latched_before, link_before}
+use Rattle.em_step.specs.Before.{octets_before}
+use Rattle.em_step.specs.Before.{register_before_by, status_before, stored_before}
+use Rattle.em_step.specs.Cells.{Cells, shows}
+use Rattle.em_step.specs.State.{status}
+use Rattle.em_step.specs.Undo.{EffectFits, Fits, tx_cells_of, undo, undo_effect, word}
+use Rattle.em_step.specs.declared.undo.Undo.{Undo}
+use Rattle.em_step.specs.declared.undo.Effect.{Effect}
+use Rattle.em_step.specs.declared.undo.Effect.TheVariants.{Nothing, Register, Octets, FewOctets, Arrival}
+use Rattle.em_step.specs.declared.undo.Effect.TheVariants.{RxStep, TxStep, Link, Reset}
+
+-- ---- registers
+stored_undone : (c : Cells) (e : Effect) (reg : Reg) → registers.at (undo_effect c e).registers (offset_of reg)
+    ≡ stored_before e reg (registers.at c.registers (offset_of reg))
+stored_undone c Nothing reg = refl
+stored_undone c (Register old) reg = at-undo c.registers old (offset_of reg)
+stored_undone c (Octets old) reg = refl
+stored_undone c (FewOctets old) reg = refl
+stored_undone c (Arrival old) reg = refl
+stored_undone c (RxStep head old) reg = at-undo c.registers (word Rdh head) (offset_of reg)
+stored_undone c (TxStep old head) reg = at-undo c.registers (word Tdh head) (offset_of reg)
+stored_undone c (Link old) reg = refl
+stored_undone c (Reset old) reg = refl
+
+latch_undone : (m : Registers) (words : List OldWord) (reg : Reg)
+    → latches.gives (latches.undo m words) reg ≡ latch_before words reg (latches.gives m reg)
+latch_undone m words Ics = refl
+latch_undone m words Imc = refl
+latch_undone m words reg = at-undone m words (offset_of reg)
+
+-- the cells with the words of the latches put back
+abbrev pub with_words : Cells → List OldWord → Cells
+with_words c words = record c { latches = latches.undo c.latches words }
+
+latched_undone : (c : Cells) (words : List OldWord) (e : Effect) (reg : Reg)
+    → latches.gives (undo_effect (with_words c words) e).latches reg
+    ≡ latched_before words e reg (latches.gives c.latches reg)
+latched_undone c words Nothing reg = latch_undone c.latches words reg
+latched_undone c words (Register old) reg = latch_undone c.latches words reg
+latched_undone c words (Octets old) reg = latch_undone c.latches words reg
+latched_undone c words (FewOctets old) reg = latch_undone c.latches words reg
+latched_undone c words (Arrival old) reg = latch_undone c.latches words reg
+latched_undone c words (RxStep head old) reg = latch_undone c.latches words reg
+latched_undone c words (TxStep old head) reg = latch_undone c.latches words reg
+latched_undone c words (Link old) reg = latch_undone c.latches words reg
+latched_undone c words (Reset old) reg = refl
+
+pub link_undone : (c : Cells) (e : Effect) → (undo_effect c e).link ≡ link_before e c.link
+link_undone c Nothing = refl
+link_undone c (Register old) = refl
+link_undone c (Octets old) = refl
+link_undone c (FewOctets old) = refl
+link_undone c (Arrival old) = refl
+link_undone c (RxStep head old) = refl
+link_undone c (TxStep old head) = refl
+link_undone c (Link old) = refl
+link_undone c (Reset old) = refl
+
+status_undone : (c : Cells) (e : Effect) → status (shows (undo_effect c e)) ≡ status_before e (status (shows c))
+status_undone c Nothing = refl
+status_undone c (Register old) = refl
+status_undone c (Octets old) = refl
+status_undone c (FewOctets old) = refl
+status_undone c (Arrival old) = refl
+status_undone c (RxStep head old) = refl
+status_undone c (TxStep old head) = refl
+status_undone c (Link old) = refl
+status_undone c (Reset old) = refl
+
+pub register_undone : (kind : Kind) (c : Cells) (r : Undo) (reg : Reg)
+    → gives_by kind (shows (undo c r)) reg ≡ register_before_by kind r reg (gives_by kind (shows c) reg)
+register_undone Status c r reg = status_undone (with_words c r.latches) r.effect
+register_undone Interrupt c r reg = latched_undone c r.latches r.effect reg
+register_undone Counter c r reg = latched_undone c r.latches r.effect reg
+register_undone Stored c r reg = stored_undone (with_words c r.latches) r.effect reg
+register_undone _ c r reg = stored_undone (with_words c r.latches) r.effect reg
+
+-- ---- frames
+fifo_undone : (c : rx.Cells) (m : memory.Cells) (r : RxUndo) → rx_undo.Fits c m r
+    → length (rx.shows (rx_undo.undo_fifo c r)).frames ≡ unwrap_or (rx_before.frames_of r) (length (rx.shows c).frames)
+fifo_undone c m rx_variant.Nothing fits = refl
+fifo_undone c m (rx_variant.Places places) fits = length-frames (record c { places = places }) fits
+fifo_undone c m (rx_variant.Frame patch) fits = length-frames (rx_undo.with_patch c patch.value) fits.sound
+fifo_undone c m (rx_variant.Step patch) fits = length-frames (record c { places = patch.value.places }) fits.sound
+
+-- the effect fits whatever the latches hold
+fits_with : (c : Cells) (words : List OldWord) (e : Effect) → EffectFits c e → EffectFits (with_words c words) e
+fits_with c words Nothing fits = fits
+fits_with c words (Register old) fits = fits
+fits_with c words (Octets old) fits = fits
+fits_with c words (FewOctets old) fits = fits
+fits_with c words (Arrival old) fits = fits
+fits_with c words (RxStep head old) fits = fits
+fits_with c words (TxStep old head) fits = fits
+fits_with c words (Link old) fits = fits
+fits_with c words (Reset old) fits = fits
+
+frames_undone : (c : Cells) (e : Effect) → EffectFits c e
+    → length (rx.shows (undo_effect c e).fifo).frames ≡ frames_before e (length (rx.shows c.fifo).frames)
+frames_undone c Nothing fits = refl
+frames_undone c (Register old) fits = refl
+frames_undone c (Octets old) fits = refl
+frames_undone c (FewOctets old) fits = refl
+frames_undone c (Arrival old) fits = fifo_undone c.fifo c.memory (rx_variant.Frame old) fits
+frames_undone c (RxStep head old) fits = fifo_undone c.fifo c.memory (rx_variant.Step old) fits.1
+frames_undone c (TxStep old head) fits = refl
+frames_undone c (Link old) fits = refl
+frames_undone c (Reset old) fits =
+    fifo_undone c.fifo (tx.undo (tx_cells_of c) old.value.gathered).memory old.value.fifo fits.1
+
+pub frames_put_back : (r : Undo) (c : Cells) → Fits c r
+    → length (shows (undo c r)).fifo.frames ≡ frames_before r.effect (length (shows c).fifo.frames)
+frames_put_back r c fits =
+    frames_undone (with_words c r.latches) r.effect (fits_with c r.latches r.effect fits.effect)
+
+wire_undone : (c : Cells) (e : Effect) → EffectFits c e
+    → length c.wire ≡ length (undo_effect c e).wire + (if has_sent e then 1 else 0)
+wire_undone c Nothing fits = omega arith
+wire_undone c (Register old) fits = omega arith
+wire_undone c (Octets old) fits = omega arith
+wire_undone c (FewOctets old) fits = omega arith
+wire_undone c (Arrival old) fits = omega arith
+wire_undone c (RxStep head old) fits = omega arith
+wire_undone c (TxStep old head) fits = tx_undone (tx_cells_of c) (tx_variant.Step old) fits.1
+wire_undone c (Link old) fits = omega arith
+wire_undone c (Reset old) fits = tx_undone (tx_cells_of c) old.value.gathered fits.0
+
+pub wire_put_back : (r : Undo) (c : Cells) → Fits c r
+    → length (shows c).wire ≡ length (shows (undo c r)).wire + (if has_sent r.effect then 1 else 0)
+wire_put_back r c fits =
+    wire_undone (with_words c r.latches) r.effect (fits_with c r.latches r.effect fits.effect)
+
+-- ---- windows of memory
+-- the window is another one once the octets are put back
+abbrev Turns : memory.Cells → memory.Cells → ℕ → List ℕ → List ℕ → Type 0
+Turns m before a now older = IsWindow m.octets a now → IsWindow before.octets a older
+
+step_window : (m : memory.Cells) (p : StepPatch) (a : ℕ) (w : List ℕ) → memory.Fits m p.first
+    → memory.Fits (memory.undo m p.first) p.second → Turns m (rx_undo.with_both m p) a w (rx_before.laid_step p a w)
+step_window m p a w first second window =
+    window-undone a (lay_over a w p.first) (rx_before.laid_step p a w) p.second refl (memory.undo m p.first) second
+    (window-undone a w (lay_over a w p.first) p.first refl m first window)
+
+fifo_window : (c : rx.Cells) (m : memory.Cells) (r : RxUndo) (a : ℕ) (w : List ℕ) → rx_undo.Fits c m r
+    → Turns m (rx_undo.undo_memory m r) a w (rx_before.laid r a w)
+fifo_window c m rx_variant.Nothing a w fits window = window
+fifo_window c m (rx_variant.Places places) a w fits window = window
+fifo_window c m (rx_variant.Frame patch) a w fits window = window
+fifo_window c m (rx_variant.Step patch) a w fits window = step_window m patch.value a w fits.first fits.second window
+
+tx_window : (c : tx_cells.Cells) (r : TxUndo) (a : ℕ) (w : List ℕ) → tx.Fits c r
+    → Turns c.memory (tx.undo c r).memory a w (tx_before.laid r a w)
+tx_window c tx_variant.Nothing a w fits window = window
+tx_window c (tx_variant.Step change) a w fits window =
+    status_window change.status c.memory a w (tx_before.laid_status change.status a w) refl fits.1 window
+tx_window c (tx_variant.Cleared old) a w fits window = window
+
+effect_window : (c : Cells) (e : Effect) (a : ℕ) (w : List ℕ) → EffectFits c e
+    → Turns c.memory (undo_effect c e).memory a w (octets_before e a w)
+effect_window c Nothing a w fits window = window
+effect_window c (Register old) a w fits window = window
+effect_window c (Octets old) a w fits window =
+    window-undone a w (lay_over a w old.value) old.value refl c.memory fits window
+effect_window c (FewOctets old) a w fits window = window-undone a w (lay_over a w old) old refl c.memory fits window
+effect_window c (Arrival old) a w fits window = window
+effect_window c (RxStep head old) a w fits window =
+    fifo_window c.fifo c.memory (rx_variant.Step old) a w fits.1 window
+effect_window c (TxStep old head) a w fits window = tx_window (tx_cells_of c) (tx_variant.Step old) a w fits.1 window
+effect_window c (Link old) a w fits window = window
+effect_window c (Reset old) a w fits window =
+    fifo_window c.fifo (tx.undo (tx_cells_of c) old.value.gathered).memory old.value.fifo a
+    (tx_before.laid old.value.gathered a w) fits.1 (tx_window (tx_cells_of c) old.value.gathered a w fits.0 window)
+
+pub window_put_back : (r : Undo) (a : ℕ) (now before : List ℕ) → before ≡ octets_before r.effect a now
+    → PutsBackWindow r a now before
+window_put_back r a now before is c fits window =
+    subst (IsWindow (shows (undo c r)).memory a) (sym is)
+    (effect_window (with_words c r.latches) r.effect a now (fits_with c r.latches r.effect fits.effect) window)

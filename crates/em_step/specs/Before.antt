@@ -1,0 +1,95 @@
+-- What a record tells of the state before the event, without being put back.
+use Rattle.std.specs.Prelude.{◌≡◌, ℕ, ◌+◌, Bool, true, false, if◌then◌else◌, List, length, unwrap_or}
+use Rattle.em_mem.specs.Window.{IsWindow, lay_over}
+use Rattle.em_regs.specs.declared.reg.Reg.{Reg}
+use Rattle.em_regs.specs.declared.reg.Reg.TheVariants.{Ics, Imc, Rdh, Tdh}
+use Rattle.em_regs.specs.declared.table.Kind.{Kind}
+use Rattle.em_regs.specs.declared.table.Kind.TheVariants.{Interrupt, Counter, Status}
+use Rattle.em_regs.specs.Table.{row_of, offset_of}
+use Rattle.em_regs.specs.RegFile as registers
+use Rattle.em_regs.specs.RegFile.{OldWord}
+use Rattle.em_latch.specs.Latches as latches
+use Rattle.em_rx.specs.Before as rx
+use Rattle.em_tx.specs.Before as tx
+use Rattle.em_step.specs.Cells.{Cells, shows}
+use Rattle.em_step.specs.State.{State}
+use Rattle.em_step.specs.Undo.{Fits, undo, word}
+use Rattle.em_step.specs.declared.undo.Undo.{Undo}
+use Rattle.em_step.specs.declared.undo.Effect.{Effect}
+use Rattle.em_step.specs.declared.undo.Effect.TheVariants.{Nothing, Register, Octets, FewOctets, Arrival}
+use Rattle.em_step.specs.declared.undo.Effect.TheVariants.{RxStep, TxStep, Link, Reset}
+
+-- ---- what an answer about a record means: in any cells that the record fits
+-- what reads so now reads so once the record is put back
+abbrev pub PutsBack : {A : Type 0} → Undo → (State → A) → A → A → Type 0
+PutsBack r read now before = (c : Cells) → Fits c r → read (shows c) ≡ now → read (shows (undo c r)) ≡ before
+
+-- the window of memory from address a on is another one once it is put back
+abbrev pub PutsBackWindow : Undo → ℕ → List ℕ → List ℕ → Type 0
+PutsBackWindow r a now before =
+    (c : Cells) → Fits c r → IsWindow (shows c).memory a now → IsWindow (shows (undo c r)).memory a before
+
+-- one frame comes off the wire, or none
+abbrev pub TakesOffWire : Undo → Bool → Type 0
+TakesOffWire r off =
+    (c : Cells) → Fits c r → length (shows c).wire ≡ length (shows (undo c r)).wire + (if off then 1 else 0)
+
+-- ---- what each effect tells, where it is so much now
+-- of a register that keeps what software writes
+abbrev pub stored_before : Effect → Reg → ℕ → ℕ
+stored_before (Register old) reg now = unwrap_or (registers.old_at old (offset_of reg)) now
+stored_before (RxStep head old) reg now = unwrap_or (registers.old_at (word Rdh head) (offset_of reg)) now
+stored_before (TxStep old head) reg now = unwrap_or (registers.old_at (word Tdh head) (offset_of reg)) now
+stored_before (Reset old) reg now = registers.at old.value.registers.value (offset_of reg)
+stored_before effect reg now = now
+
+-- of an interrupt register or a counter: ICS and IMC always read as 0
+abbrev pub latch_before : List OldWord → Reg → ℕ → ℕ
+latch_before words Ics now = now
+latch_before words Imc now = now
+latch_before words reg now = unwrap_or (latches.oldest_at words (offset_of reg)) now
+
+abbrev pub latched_before : List OldWord → Effect → Reg → ℕ → ℕ
+latched_before words (Reset old) reg now = latches.gives old.value.latches reg
+latched_before words effect reg now = latch_before words reg now
+
+abbrev pub link_before : Effect → Bool → Bool
+link_before (Link old) now = old
+link_before effect now = now
+
+-- of STATUS, which follows the link
+abbrev pub status_before : Effect → ℕ → ℕ
+status_before (Link old) now = if old then 0x83 else 0x81
+status_before effect now = now
+
+-- of any register, by the kind of its row
+abbrev pub register_before_by : Kind → Undo → Reg → ℕ → ℕ
+register_before_by Status r reg now = status_before r.effect now
+register_before_by Interrupt r reg now = latched_before r.latches r.effect reg now
+register_before_by Counter r reg now = latched_before r.latches r.effect reg now
+register_before_by kind r reg now = stored_before r.effect reg now
+
+abbrev pub register_before : Undo → Reg → ℕ → ℕ
+register_before r reg now = register_before_by (row_of reg).kind r reg now
+
+-- of a window of memory from address a on
+abbrev pub octets_before : Effect → ℕ → List ℕ → List ℕ
+octets_before (Octets old) a now = lay_over a now old.value
+octets_before (FewOctets old) a now = lay_over a now old
+octets_before (RxStep head old) a now = rx.laid_step old.value a now
+octets_before (TxStep old head) a now = tx.laid_status old.status a now
+octets_before (Reset old) a now = rx.laid old.value.fifo a (tx.laid old.value.gathered a now)
+octets_before effect a now = now
+
+-- of the number of frames in the FIFO
+abbrev pub frames_before : Effect → ℕ → ℕ
+frames_before (Arrival old) now = old.value.places.count
+frames_before (RxStep head old) now = old.value.places.count
+frames_before (Reset old) now = unwrap_or (rx.frames_of old.value.fifo) now
+frames_before effect now = now
+
+-- whether it sent a frame
+abbrev pub has_sent : Effect → Bool
+has_sent (TxStep old head) = tx.has_sent old.sent
+has_sent (Reset old) = tx.has_sent_by old.value.gathered
+has_sent effect = false

@@ -1,0 +1,187 @@
+//! What a record tells of the state before its event, without being put back: who changed something last is found by
+//! asking each record of a journal, the newest first. A record that has nothing to do with the question takes a few
+//! instructions.
+ghost use Rattle.std.specs.Prelude.{◌≡◌, length, unwrap_or};
+ghost use Rattle.em_regs.specs.Table.{IsReg, offset_of};
+ghost use Rattle.em_regs.specs.RegFile as registers;
+ghost use Rattle.em_regs.specs.RegFile.{IsStored};
+ghost use Rattle.em_latch.specs.Latches.{IsLatched};
+ghost use Rattle.em_step.specs.Access.{gives};
+ghost use Rattle.em_step.specs.Before.{PutsBack, PutsBackWindow, TakesOffWire, frames_before, has_sent};
+ghost use Rattle.em_step.specs.Before.{latched_before, link_before, octets_before, register_before, status_before};
+ghost use Rattle.em_step.specs.Before.{stored_before};
+ghost use Rattle.em_step.specs.Undo.{word};
+
+use crate::adapter::status_of;
+use crate::undo::{Effect, Undo};
+use em_regs::{Kind, Reg};
+
+impl Undo {
+    /// What a look at a register gave before the event, where it gives `now` after it.
+    #[inline(always)]
+    pub fn register_before(&self, reg: Reg, now: u32) -> u32
+        requires { IsReg reg }
+        ensures value { result ≡ register_before self.now reg now }
+        ensures before { PutsBack self.now (λ s. gives s reg) now result }
+    {
+        self.register_told(reg, now)
+    }
+
+    /// Makes a window of guest memory, the octets from `addr` on, what it was before the event.
+    #[inline(always)]
+    pub fn octets_before(&self, addr: u64, window: &mut [u8])
+        ensures octets { window.new ≡ octets_before self.now.effect addr window.old }
+        ensures before { PutsBackWindow self.now addr window.old window.new }
+    {
+        self.effect.octets_before(addr, window);
+    }
+
+    /// Whether the link was up before the event, where it is `now` after it.
+    #[inline(always)]
+    pub fn link_before(&self, now: bool) -> bool
+        ensures value { result ≡ link_before self.now.effect now }
+        ensures before { PutsBack self.now (λ s. s.link) now result }
+    {
+        self.effect.link_before(now)
+    }
+
+    /// How many frames lay in the FIFO before the event, where there are `now` after it.
+    #[inline(always)]
+    pub fn frames_before(&self, now: usize) -> usize
+        ensures value { result ≡ frames_before self.now.effect now }
+        ensures before { PutsBack self.now (λ s. length s.fifo.frames) now result }
+    {
+        self.effect.frames_before(now)
+    }
+
+    /// Whether the event put a frame on the wire, which comes off when it is taken back.
+    #[inline(always)]
+    pub fn takes_off_wire(&self) -> bool
+        ensures value { result ≡ has_sent self.now.effect }
+        ensures before { TakesOffWire self.now result }
+    {
+        self.effect.has_sent()
+    }
+
+    /// What a register was, by the kind of its row.
+    #[inline(always)]
+    fn register_told(&self, reg: Reg, now: u32) -> u32
+        requires { IsReg reg }
+        ensures { result ≡ register_before self.now reg now }
+    {
+        match reg.row().kind {
+            Kind::Stored | Kind::Control | Kind::EepromRead => self.effect.stored_before(reg, now),
+            Kind::Interrupt | Kind::Counter => self.latched_before(reg, now),
+            Kind::Status => self.effect.status_before(now),
+        }
+    }
+
+    /// What an interrupt register or a counter was.
+    #[inline(always)]
+    fn latched_before(&self, reg: Reg, now: u32) -> u32
+        requires { IsLatched reg }
+        ensures { result ≡ latched_before self.now.latches self.now.effect reg now }
+    {
+        if let Effect::Reset(old) = &self.effect {
+            return old.latches.look(reg);
+        }
+        match reg {
+            Reg::Ics | Reg::Imc => now,
+            _ => self.latches.old_of(reg).unwrap_or(now),
+        }
+    }
+}
+
+impl Effect {
+    /// What a register that keeps what software writes was.
+    #[inline(always)]
+    fn stored_before(&self, reg: Reg, now: u32) -> u32
+        requires { IsStored reg }
+        ensures { result ≡ stored_before self.now reg now }
+    {
+        match self {
+            Effect::Register(old) => old.old_of(reg).unwrap_or(now),
+            Effect::RxStep(head, _) => head_before(reg, Reg::Rdh, *head, now),
+            Effect::TxStep(_, head) => head_before(reg, Reg::Tdh, *head, now),
+            Effect::Reset(old) => old.registers.look(reg),
+            _ => now,
+        }
+    }
+
+    /// What STATUS was.
+    #[inline(always)]
+    fn status_before(&self, now: u32) -> u32
+        ensures { result ≡ status_before self.now now }
+    {
+        match self {
+            Effect::Link(up) => status_of(*up),
+            _ => now,
+        }
+    }
+
+    /// Makes a window what it was.
+    #[inline(always)]
+    fn octets_before(&self, addr: u64, window: &mut [u8])
+        ensures { window.new ≡ octets_before self.now addr window.old }
+    {
+        match self {
+            Effect::Octets(old) => old.lay_over(addr, window),
+            Effect::FewOctets(old) => old.lay_over(addr, window),
+            Effect::RxStep(_, old) => old.lay_over(addr, window),
+            Effect::TxStep(old, _) => old.lay_over(addr, window),
+            Effect::Reset(old) => {
+                old.gathered.lay_over(addr, window);
+                old.fifo.lay_over(addr, window);
+            }
+            _ => {}
+        }
+    }
+
+    /// What the link was.
+    #[inline(always)]
+    fn link_before(&self, now: bool) -> bool
+        ensures { result ≡ link_before self.now now }
+    {
+        match self {
+            Effect::Link(old) => *old,
+            _ => now,
+        }
+    }
+
+    /// How many frames lay in the FIFO.
+    #[inline(always)]
+    fn frames_before(&self, now: usize) -> usize
+        ensures { result ≡ frames_before self.now now }
+    {
+        match self {
+            Effect::Arrival(old) => old.frames(),
+            Effect::RxStep(_, old) => old.frames(),
+            Effect::Reset(old) => old.fifo.frames().unwrap_or(now),
+            _ => now,
+        }
+    }
+
+    /// Whether a frame was sent.
+    #[inline(always)]
+    fn has_sent(&self) -> bool
+        ensures { result ≡ has_sent self.now }
+    {
+        match self {
+            Effect::TxStep(old, _) => old.has_sent(),
+            Effect::Reset(old) => old.gathered.has_sent(),
+            _ => false,
+        }
+    }
+}
+
+/// What a register was before a step that moved a head, RDH or TDH.
+#[inline(always)]
+fn head_before(reg: Reg, moved: Reg, head: u32, now: u32) -> u32
+    ensures { result ≡ unwrap_or (registers.old_at (word moved head) (offset_of reg)) now }
+{
+    if moved.offset() == reg.offset() {
+        head
+    } else {
+        now
+    }
+}

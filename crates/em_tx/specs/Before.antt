@@ -1,0 +1,30 @@
+-- What a record tells of what was before.
+use Rattle.std.specs.Prelude.{ℕ, Bool, true, false, List, Option, Some, None}
+use Rattle.em_mem.specs.Memory as mem
+use Rattle.em_mem.specs.Window.{lay_over}
+use Rattle.em_tx.specs.declared.change.Sent.{Sent}
+use Rattle.em_tx.specs.declared.change.Sent.TheVariants.{NoFrame, Untagged, Tagged}
+use Rattle.em_tx.specs.declared.undo.TxUndo.{TxUndo}
+use Rattle.em_tx.specs.declared.undo.TxUndo.TheVariants.{Nothing, Step, Cleared}
+
+-- a frame was sent
+abbrev pub has_sent : Sent → Bool
+has_sent NoFrame = false
+has_sent Untagged = true
+has_sent Tagged = true
+
+abbrev pub has_sent_by : TxUndo → Bool
+has_sent_by Nothing = false
+has_sent_by (Step change) = has_sent change.sent
+has_sent_by (Cleared old) = false
+
+-- a window of memory from address a on under the status octet, where one was overwritten
+abbrev pub laid_status : Option mem.Patch → ℕ → List ℕ → List ℕ
+laid_status None a window = window
+laid_status (Some status) a window = lay_over a window status
+
+-- and under any record
+abbrev pub laid : TxUndo → ℕ → List ℕ → List ℕ
+laid Nothing a window = window
+laid (Step change) a window = laid_status change.status a window
+laid (Cleared old) a window = window
