@@ -47,7 +47,9 @@ use Rattle.em_step.specs.Undo.{Fits, undo}
 use Rattle.em_step.specs.Access.{gives}
 use Rattle.em_step.specs.declared.undo.Undo.{Undo}
 use Rattle.em_journal.specs.View.{View, states}
-use Rattle.em_watch.specs.Stub.{IsWindow, IsRecordAt, PutsBack}
+use Rattle.em_mem.specs.Window.{IsWindow}
+use Rattle.em_step.specs.Before.{PutsBack}
+use Rattle.em_journal.specs.Record.{IsRecordAt}
 use Rattle.em_watch.specs.Watching.{sight, sights}
 use Rattle.em_watch.specs.Traced.{traced, traced_octets, shown}
 use Rattle.em_watch.specs.Traced.{IsTraceable, IsTraced, TakesBack, OctetsGoBack, LeadsBack}

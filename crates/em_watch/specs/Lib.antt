@@ -1,4 +1,3 @@
-pub mod Stub
 pub mod Watching
 pub mod Change
 pub mod Traced

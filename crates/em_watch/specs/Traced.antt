@@ -11,7 +11,7 @@ use Rattle.em_step.specs.Cells.{Cells, shows}
 use Rattle.em_step.specs.Undo.{Fits, undo}
 use Rattle.em_step.specs.declared.undo.Undo.{Undo}
 use Rattle.em_journal.specs.View.{View, states}
-use Rattle.em_watch.specs.Stub.{PutsBackWindow}
+use Rattle.em_step.specs.Before.{PutsBackWindow}
 use Rattle.em_watch.specs.Change.{IsNextChange, NeverDiffers}
 use Rattle.em_watch.specs.Watching.{is_asserted}
 use Rattle.em_watch.specs.declared.range.TheConstants.{MOST_WATCHED}

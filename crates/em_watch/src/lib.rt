@@ -5,7 +5,6 @@ mod change;
 mod difference;
 mod range;
 mod search;
-mod stub;
 #[cfg(test)]
 mod tests;
 mod traced;

@@ -5,7 +5,6 @@ ghost use Rattle.em_watch.specs.Traced.{IsTraceable, LeadsBack, ChangesNext, Sta
 ghost use Rattle.em_watch.specs.Watching.{sight, sights};
 
 use crate::change::Change;
-use crate::stub;
 use crate::traced::Traced;
 use crate::watch::{Sight, Watch};
 use em_journal::Machine;
@@ -166,7 +165,7 @@ pub(crate) fn step_back(machine: &Machine, k: usize, traced: Traced) -> Traced
     ensures back { LeadsBack machine.now k traced (k + 1) result }
     ensures register { IsTraceable result }
 {
-    match stub::record(machine, k) {
+    match machine.record(k) {
         Some(record) => traced.before(record),
         None => unreachable!(),
     }

@@ -2,12 +2,11 @@
 ghost use Rattle.std.specs.Prelude.{◌≡◌, length};
 ghost use Rattle.em_regs.specs.Table.{IsReg};
 ghost use Rattle.em_step.specs.Access.{gives};
-ghost use Rattle.em_watch.specs.Stub.{PutsBack};
+ghost use Rattle.em_step.specs.Before.{PutsBack};
 ghost use Rattle.em_watch.specs.Traced.{traced, traced_register, traced_octets, shown, IsTraceable};
 ghost use Rattle.em_watch.specs.Traced.{TakesBack, OctetsGoBack};
 
 use crate::range::{MOST_WATCHED, MemoryRange};
-use crate::stub;
 use crate::watch::{Sight, Watch};
 use em_journal::Machine;
 use em_regs::Reg;
@@ -42,7 +41,7 @@ impl Traced {
             Watch::Octets(range) => traced_octets(machine, range),
             Watch::Line => Traced::Line(look(machine, Reg::Icr), look(machine, Reg::Ims)),
             Watch::Link => Traced::Link(machine.link()),
-            Watch::Frames => Traced::Frames(stub::frames(machine)),
+            Watch::Frames => Traced::Frames(machine.frames()),
             Watch::Sent => Traced::Sent(machine.wire_len()),
         }
     }
@@ -71,20 +70,17 @@ impl Traced {
     {
         match self {
             Traced::Nothing => Traced::Nothing,
-            Traced::Register(reg, value) => Traced::Register(
-                reg,
-                stub::register_before(undo, reg, value),
-            ),
+            Traced::Register(reg, value) => Traced::Register(reg, undo.register_before(reg, value)),
             Traced::Octets(range, octets) => Traced::Octets(
                 range,
                 octets_before(undo, range, octets),
             ),
             Traced::Line(causes, mask) => Traced::Line(
-                stub::register_before(undo, Reg::Icr, causes),
-                stub::register_before(undo, Reg::Ims, mask),
+                undo.register_before(Reg::Icr, causes),
+                undo.register_before(Reg::Ims, mask),
             ),
-            Traced::Link(up) => Traced::Link(stub::link_before(undo, up)),
-            Traced::Frames(count) => Traced::Frames(stub::frames_before(undo, count)),
+            Traced::Link(up) => Traced::Link(undo.link_before(up)),
+            Traced::Frames(count) => Traced::Frames(undo.frames_before(count)),
             Traced::Sent(count) => Traced::Sent(sent_before(undo, count)),
         }
     }
@@ -127,7 +123,7 @@ fn octets_before(undo: &Undo, range: MemoryRange, octets: [u8; MOST_WATCHED]) ->
     ensures { OctetsGoBack undo.now range.addr range.len octets result }
 {
     let mut window = octets;
-    stub::octets_before(undo, range.addr(), &mut window[..range.len()]);
+    undo.octets_before(range.addr(), &mut window[..range.len()]);
     window
 }
 
@@ -136,7 +132,7 @@ fn octets_before(undo: &Undo, range: MemoryRange, octets: [u8; MOST_WATCHED]) ->
 fn sent_before(undo: &Undo, now: usize) -> usize
     ensures { PutsBack undo.now (λ s. length s.wire) now result }
 {
-    if stub::takes_off_wire(undo) {
+    if undo.takes_off_wire() {
         now.saturating_sub(1)
     } else {
         now

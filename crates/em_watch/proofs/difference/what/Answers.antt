@@ -22,7 +22,7 @@ returns-then-differ-clause-difference c =
     })
     c.sight-then-differ.ensures c.sight-then-differ-2.ensures
     (λ e. c.differ.ensures.different c.if-differ.true
-      (c.sight.ensures ∙ sym c.sight-then-differ.ensures ∙ e ∙ c.sight-then-differ-2.ensures ∙ sym c.sight-2.ensures))
+    (c.sight.ensures ∙ sym c.sight-then-differ.ensures ∙ e ∙ c.sight-then-differ-2.ensures ∙ sym c.sight-2.ensures))
 
 pub returns-else-differ-clause-none : goal.returns-else-differ-clause-none
 returns-else-differ-clause-none c =
