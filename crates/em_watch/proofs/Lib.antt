@@ -1,0 +1,4 @@
+pub mod SizeLaws
+pub mod TracedLaws
+pub mod SearchLaws
+pub mod DifferenceLaws

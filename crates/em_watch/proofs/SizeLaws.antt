@@ -1,0 +1,57 @@
+-- What is put back leaves the size of memory.
+use Rattle.std.proofs.Common.{◌≡◌, ℕ, length, refl, ◌∙◌}
+use Rattle.std.specs.Prelude.{Option, Some, None}
+use Rattle.em_mem.specs.Memory as memory
+use Rattle.em_mem.proofs.PutLaws.{length-put}
+use Rattle.em_regs.specs.Storage.{Registers}
+use Rattle.em_latch.specs.Latches as latches
+use Rattle.em_rx.specs.Fifo as fifo
+use Rattle.em_rx.specs.StepPatch.{StepPatch}
+use Rattle.em_rx.specs.Undo as rx
+use Rattle.em_rx.specs.declared.undo.RxUndo.{RxUndo}
+use Rattle.em_rx.specs.declared.undo.RxUndo.TheVariants as rx_undo
+use Rattle.em_tx.specs.Undo as tx
+use Rattle.em_step.specs.Cells.{Cells, shows}
+use Rattle.em_step.specs.Undo.{EffectFits, Fits, undo, undo_effect}
+use Rattle.em_step.specs.declared.undo.Undo.{Undo}
+use Rattle.em_step.specs.declared.undo.Effect.{Effect}
+use Rattle.em_step.specs.declared.undo.Effect.TheVariants.{Nothing, Register, Octets, FewOctets, Arrival}
+use Rattle.em_step.specs.declared.undo.Effect.TheVariants.{RxStep, TxStep, Link, Reset}
+
+size_patch : (m : memory.Cells) (p : memory.Patch) → memory.Fits m p
+    → length (memory.undo m p).octets ≡ length m.octets
+size_patch m p fits = length-put m.octets p.at p.octets fits.held
+
+size_both : (c : fifo.Cells) (m : memory.Cells) (p : StepPatch) → rx.FitsStep c m p
+    → length (rx.with_both m p).octets ≡ length m.octets
+size_both c m p fits =
+    size_patch (memory.undo m p.first) p.second fits.second ∙ size_patch m p.first fits.first
+
+size_receive : (c : fifo.Cells) (m : memory.Cells) (r : RxUndo) → rx.Fits c m r
+    → length (rx.undo_memory m r).octets ≡ length m.octets
+size_receive c m rx_undo.Nothing fits = refl
+size_receive c m (rx_undo.Places places) fits = refl
+size_receive c m (rx_undo.Frame patch) fits = refl
+size_receive c m (rx_undo.Step patch) fits = size_both c m patch.value fits
+
+size_status : (m : memory.Cells) (status : Option memory.Patch) → tx.StatusFits m status
+    → length (tx.status_undo m status).octets ≡ length m.octets
+size_status m None fits = refl
+size_status m (Some status) fits = size_patch m status fits
+
+size_effect : (c : Cells) (l : Registers) (e : Effect) → EffectFits c e
+    → length (undo_effect (record c { latches = l }) e).memory.octets ≡ length c.memory.octets
+size_effect c l Nothing fits = refl
+size_effect c l (Register old) fits = refl
+size_effect c l (Octets old) fits = size_patch c.memory old.value fits
+size_effect c l (FewOctets old) fits = size_patch c.memory old fits
+size_effect c l (Arrival old) fits = refl
+size_effect c l (RxStep head old) fits = size_both c.fifo c.memory old.value fits.1
+size_effect c l (TxStep old head) fits = size_status c.memory old.status fits.1.1
+size_effect c l (Link old) fits = refl
+size_effect c l (Reset old) fits = size_receive c.fifo c.memory old.value.fifo fits
+
+-- before an event memory was as large as after it
+pub memory_size : (c : Cells) (r : Undo) → Fits c r
+    → length (shows (undo c r)).memory ≡ length (shows c).memory
+memory_size c r fits = size_effect c (latches.undo c.latches r.latches) r.effect fits.effect

@@ -1,0 +1,84 @@
+-- What has to be known of a state to see a watched thing in it, and how a record takes that back.
+use Rattle.std.specs.Prelude.{◌≡◌, ℕ, ◌+◌, ◌-◌, nat_lt, if◌then◌else◌, List, ◌++◌, length, take, drop, replicate, map}
+use Rattle.std.specs.Prelude.{slice_get, Some}
+use Rattle.em_mem.specs.Memory.{part}
+use Rattle.em_regs.specs.declared.reg.Reg.{Reg}
+use Rattle.em_regs.specs.Table.{IsReg, index_of, row_of}
+use Rattle.em_latch.specs.Latches.{causes, mask}
+use Rattle.em_step.specs.State.{State}
+use Rattle.em_step.specs.Access.{gives}
+use Rattle.em_step.specs.Cells.{Cells, shows}
+use Rattle.em_step.specs.Undo.{Fits, undo}
+use Rattle.em_step.specs.declared.undo.Undo.{Undo}
+use Rattle.em_journal.specs.View.{View, states}
+use Rattle.em_step.specs.Before.{PutsBackWindow}
+use Rattle.em_watch.specs.Change.{IsNextChange, NeverDiffers}
+use Rattle.em_watch.specs.Watching.{is_asserted}
+use Rattle.em_watch.specs.declared.range.TheConstants.{MOST_WATCHED}
+use Rattle.em_watch.specs.declared.range.MemoryRange.{MemoryRange}
+use Rattle.em_watch.specs.declared.watch.Watch.{Watch}
+use Rattle.em_watch.specs.declared.watch.Watch.TheVariants as watch
+use Rattle.em_watch.specs.declared.watch.Sight.{Sight}
+use Rattle.em_watch.specs.declared.watch.Sight.TheVariants as sight
+use Rattle.em_watch.specs.declared.traced.Traced.{Traced}
+use Rattle.em_watch.specs.declared.traced.Traced.TheVariants.{Nothing, Register, Octets, Line, Link, Frames, Sent}
+
+abbrev pub traced_register : State → Reg → Traced
+traced_register s reg = if nat_lt (index_of reg) (row_of reg).words then Register reg (gives s reg) else Nothing
+
+abbrev pub traced_octets : List ℕ → MemoryRange → Traced
+traced_octets memory range =
+    if nat_lt (length memory) (range.addr + range.len) then Nothing
+    else Octets range (part memory range.addr range.len ++ replicate (MOST_WATCHED - range.len) 0)
+
+-- in a state
+abbrev pub traced : Watch → State → Traced
+traced (watch.Register reg) s = traced_register s reg
+traced (watch.Octets range) s = traced_octets s.memory range
+traced watch.Line s = Line (causes s.latches) (mask s.latches)
+traced watch.Link s = Link s.link
+traced watch.Frames s = Frames (length s.fifo.frames)
+traced watch.Sent s = Sent (length s.wire)
+
+-- what is seen
+abbrev pub shown : Traced → Sight
+shown Nothing = sight.Nothing
+shown (Register reg value) = sight.Value value
+shown (Octets range octets) = sight.Octets octets
+shown (Line causes mask) = sight.Line (is_asserted causes mask)
+shown (Link up) = sight.Link up
+shown (Frames count) = sight.Count count
+shown (Sent count) = sight.Count count
+
+-- the table has the register
+abbrev pub IsTraceable : Traced → Type 0
+IsTraceable (Register reg value) = IsReg reg
+IsTraceable _ = Unit {0}
+
+-- the record makes of it what it was before the event, of whatever is watched
+abbrev pub TakesBack : Undo → Traced → Traced → Type 0
+TakesBack r t u =
+    (w : Watch) (c : Cells) → Fits c r → traced w (shows c) ≡ t → traced w (shows (undo c r)) ≡ u
+
+-- the first n octets are those of memory from a on before the event, and what lies behind them stays
+pub record OctetsGoBack (r : Undo) (a n : ℕ) (octets new : List ℕ) : Type 0 where
+  pub window : PutsBackWindow r a (take n octets) (take n new)
+  pub behind : drop n new ≡ drop n octets
+  pub size : length new ≡ length octets
+
+-- so many steps back
+abbrev pub IsTraced : Watch → View → ℕ → Traced → Type 0
+IsTraced w v k t = slice_get (map (traced w) (states v)) k ≡ Some t
+
+-- what is traced so many steps back is that further back, of whatever is watched
+abbrev pub LeadsBack : View → ℕ → Traced → ℕ → Traced → Type 0
+LeadsBack v from t to u = (w : Watch) → IsTraced w v from t → IsTraced w v to u
+
+-- and there is the next change
+abbrev pub ChangesNext : View → ℕ → Traced → ℕ → Traced → Type 0
+ChangesNext v from t to u =
+    (w : Watch) → IsTraced w v from t → IsNextChange w v from (record { back = to; before = shown u })
+
+-- what is traced so many steps back is seen so as far as steps back lead
+abbrev pub StaysAsItIs : View → ℕ → Traced → Type 0
+StaysAsItIs v from t = (w : Watch) → IsTraced w v from t → NeverDiffers w v from

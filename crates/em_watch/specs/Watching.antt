@@ -1,0 +1,43 @@
+-- What is seen of a watched thing.
+use Rattle.std.specs.Prelude.{ℕ, ◌+◌, ◌-◌, ◌==◌, Bool, not, nat_lt, if◌then◌else◌, List, ◌++◌, length, map, replicate}
+use Rattle.std.specs.Prelude.{bit_and}
+use Rattle.em_mem.specs.Memory.{part}
+use Rattle.em_regs.specs.declared.reg.Reg.{Reg}
+use Rattle.em_regs.specs.Storage.{Registers}
+use Rattle.em_regs.specs.Table.{index_of, row_of}
+use Rattle.em_latch.specs.Latches.{causes, mask}
+use Rattle.em_step.specs.State.{State}
+use Rattle.em_step.specs.Access.{gives}
+use Rattle.em_journal.specs.View.{View, states}
+use Rattle.em_watch.specs.declared.range.TheConstants.{MOST_WATCHED}
+use Rattle.em_watch.specs.declared.watch.Watch.{Watch}
+use Rattle.em_watch.specs.declared.watch.Watch.TheVariants as watch
+use Rattle.em_watch.specs.declared.watch.Sight.{Sight}
+use Rattle.em_watch.specs.declared.watch.Sight.TheVariants.{Nothing, Value, Octets, Line, Link, Count}
+
+-- of a register, if the table has it: what a look shows
+abbrev pub register_sight : State → Reg → Sight
+register_sight s reg = if nat_lt (index_of reg) (row_of reg).words then Value (gives s reg) else Nothing
+
+-- of n octets from a on, if memory has them: the octets, and zeros behind them
+abbrev pub octets_sight : List ℕ → ℕ → ℕ → Sight
+octets_sight memory a n =
+    if nat_lt (length memory) (a + n) then Nothing
+    else Octets (part memory a n ++ replicate (MOST_WATCHED - n) 0)
+
+-- some cause is set that the mask lets through
+abbrev pub is_asserted : ℕ → ℕ → Bool
+is_asserted causes mask = not (bit_and causes mask == 0)
+
+-- what is seen in a state
+abbrev pub sight : Watch → State → Sight
+sight (watch.Register reg) s = register_sight s reg
+sight (watch.Octets range) s = octets_sight s.memory range.addr range.len
+sight watch.Line s = Line (is_asserted (causes s.latches) (mask s.latches))
+sight watch.Link s = Link s.link
+sight watch.Frames s = Count (length s.fifo.frames)
+sight watch.Sent s = Count (length s.wire)
+
+-- what is seen in the present state and in those before it
+abbrev pub sights : Watch → View → List Sight
+sights w v = map (sight w) (states v)

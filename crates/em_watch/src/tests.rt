@@ -1,0 +1,272 @@
+use crate::{Change, MemoryRange, Sight, Watch, change_before, changes, last_change, seen};
+use em_eeprom::Eeprom;
+use em_journal::{LEAST_BUDGET, MOST_BUDGET, Machine};
+use em_regs::Reg;
+use em_step::{Adapter, Event};
+use std::alloc::Global;
+use std::fmt::Debug;
+use std::test::Fail;
+
+const MAC: [u8; 6] = [0x52, 0x54, 0, 0x12, 0x34, 0x56];
+
+// two pages
+const MEMORY: u64 = 8192;
+
+// a write of CTRL with RST
+const RESET: Event<'static> = Event::Write(0, 0x0400_0000);
+
+// a broadcast, with another octet at each place behind its addresses
+const BROADCAST: [u8; 60] =
+    *b"\xFF\xFF\xFF\xFF\xFF\xFFhost..MNOPQRSTUVWXYZabcdefghijklmnopqrstuvwxyz01234567";
+
+// A machine as the tests call it. Its calls have no contracts here, so that the prover carries none on.
+#[derive(Drop)]
+struct Tested {
+    machine: Machine,
+}
+
+// Does so with a new machine.
+fn on_a_machine<F: FnOnce(&mut Tested) -> Result<(), Fail> + Drop>(
+    alloc: Global,
+    budget: u64,
+    case: F,
+) -> Result<(), Fail>
+    requires { F.IsAlwaysCallable case }
+{
+    let adapter = Adapter::new(alloc, MEMORY, Eeprom::of_mac(MAC))?;
+    match Machine::new(alloc, adapter, budget) {
+        Ok(machine) => case(&mut Tested { machine }),
+        Err((_, _)) => Err(Fail::from("no machine")),
+    }
+}
+
+impl Tested {
+    fn does(&mut self, event: Event<'_>) -> Result<(), Fail> {
+        self.machine.perform(event)?;
+        Ok(())
+    }
+
+    fn writes(&mut self, reg: Reg, value: u32) -> Result<(), Fail> {
+        self.does(Event::Write(reg.offset(), value))
+    }
+
+    fn reads(&mut self, reg: Reg) -> Result<(), Fail> {
+        self.does(Event::Read(reg.offset()))
+    }
+
+    fn refuses(&mut self, event: Event<'_>) -> Result<(), Fail> {
+        same("refused", self.machine.perform(event).is_err(), true)
+    }
+
+    fn next(&self, watch: Watch, back: usize) -> Option<Change> {
+        change_before(&self.machine, watch, back)
+    }
+
+    // These are all changes of it, the newest first: how many steps back lead before each, and what was seen then.
+    fn changed(&self, watch: Watch, wanted: &[(usize, Sight)]) -> Result<(), Fail> {
+        let newest = last_change(&self.machine, watch);
+        same("newest", newest, self.next(watch, 0))?;
+        let mut found = changes(&self.machine, watch);
+        let mut from = 0;
+        for (back, before) in wanted {
+            let change = Some(Change {
+                back: *back,
+                before: *before,
+            });
+            same("change", found.next(), change)?;
+            same("change before", self.next(watch, from), change)?;
+            from = *back;
+        }
+        same("change", found.next(), None)?;
+        same("change before", self.next(watch, from), None)
+    }
+
+    fn register(&self, reg: Reg, wanted: &[(usize, Sight)]) -> Result<(), Fail> {
+        self.changed(Watch::Register(reg), wanted)
+    }
+
+    fn octets(&self, addr: u64, len: usize, wanted: &[(usize, Sight)]) -> Result<(), Fail> {
+        self.changed(octets_at(addr, len)?, wanted)
+    }
+
+    fn sees(&self, watch: Watch, wanted: Sight) -> Result<(), Fail> {
+        same("seen", seen(&self.machine, watch), wanted)
+    }
+}
+
+fn octets_at(addr: u64, len: usize) -> Result<Watch, Fail> {
+    match MemoryRange::new(addr, len) {
+        Some(range) => Ok(Watch::Octets(range)),
+        None => Err(Fail::from("no range")),
+    }
+}
+
+// Fails where a value is not the one that is wanted.
+fn same<T: PartialEq + Debug + Drop>(what: &str, is: T, wanted: T) -> Result<(), Fail> {
+    if is == wanted {
+        Ok(())
+    } else {
+        Err(Fail::new(format_args!("{what}: {is:?}, and not {wanted:?}")))
+    }
+}
+
+#[test]
+fn a_read_that_clears_is_a_change(rt: HostRuntime) -> Result<(), Fail> {
+    on_a_machine(rt.alloc(), MOST_BUDGET, |tested| {
+        // link status changes are let through, and the link comes up
+        tested.writes(Reg::Ims, 4)?;
+        tested.does(Event::Link(true))?;
+        tested.reads(Reg::Icr)?;
+        // what is there already, and what is refused
+        tested.writes(Reg::Ims, 4)?;
+        tested.refuses(Event::Read(4))?;
+        tested.refuses(Event::Poke(MEMORY, b"a"))?;
+
+        tested.changed(
+            Watch::Line,
+            &[(2, Sight::Line(true)), (3, Sight::Line(false))],
+        )?;
+        tested.register(Reg::Icr, &[(2, Sight::Value(4)), (3, Sight::Value(0))])?;
+        tested.register(Reg::Ims, &[(4, Sight::Value(0))])?;
+        tested.register(Reg::Imc, &[])?;
+        tested.register(Reg::Status, &[(3, Sight::Value(0x81))])?;
+        tested.changed(Watch::Link, &[(3, Sight::Link(false))])
+    })
+}
+
+#[test]
+fn nothing_is_seen_where_nothing_is(rt: HostRuntime) -> Result<(), Fail> {
+    on_a_machine(rt.alloc(), MOST_BUDGET, |tested| {
+        // the last octets of memory, and the register that lies where Mta(128) would
+        tested.does(Event::Poke(MEMORY - 2, b"ab"))?;
+        tested.writes(Reg::Ral(0), 1)?;
+
+        tested.sees(octets_at(MEMORY - 2, 3)?, Sight::Nothing)?;
+        tested.octets(MEMORY - 2, 3, &[])?;
+        tested.octets(MEMORY - 2, 2, &[(2, Sight::Octets([0; 16]))])?;
+        tested.sees(Watch::Register(Reg::Mta(128)), Sight::Nothing)?;
+        tested.register(Reg::Mta(128), &[])?;
+        same("no octet", MemoryRange::new(0, 0), None)?;
+        same("17 octets", MemoryRange::new(0, 17), None)
+    })
+}
+
+#[test]
+fn a_change_back_is_a_change(rt: HostRuntime) -> Result<(), Fail> {
+    on_a_machine(rt.alloc(), MOST_BUDGET, |tested| {
+        for octet in [b"a", b"b", b"a"] {
+            tested.does(Event::Poke(0x100, octet))?;
+        }
+        // 20 octets from F0h to 103h
+        tested.does(Event::Poke(0xF0, b"ABCDEFGHIJKLMNOPQRST"))?;
+
+        let one = |octet: u8| Sight::Octets([octet, 0, 0, 0, 0, 0, 0, 0, 0, 0, 0, 0, 0, 0, 0, 0]);
+        tested.octets(
+            0x100,
+            1,
+            &[(1, one(b'a')), (2, one(b'b')), (3, one(b'a')), (4, one(0))],
+        )?;
+        tested.octets(0xF0, 16, &[(1, one(0))])?;
+        tested.octets(0x104, 16, &[])?;
+        tested.octets(0xE0, 16, &[])
+    })
+}
+
+// A receive ring at 1000h, whose first buffer lies over its own descriptor and the next one, and a broadcast in it.
+fn receive_over_the_ring(tested: &mut Tested) -> Result<(), Fail> {
+    tested.writes(Reg::Rdbal, 0x1000)?;
+    tested.writes(Reg::Rdlen, 0x80)?;
+    tested.does(Event::Poke(0x1000, b"\x00\x10"))?;
+    tested.does(Event::Poke(0x1010, b"\x00\x18"))?;
+    tested.writes(Reg::Rdt, 3)?;
+    // EN and BAM
+    tested.writes(Reg::Rctl, 0x8002)?;
+    tested.does(Event::Link(true))?;
+    tested.does(Event::Arrive(&BROADCAST))?;
+    tested.does(Event::RxStep)
+}
+
+#[test]
+fn a_buffer_over_descriptors_is_followed(rt: HostRuntime) -> Result<(), Fail> {
+    on_a_machine(rt.alloc(), MOST_BUDGET, |tested| {
+        receive_over_the_ring(tested)?;
+
+        // the descriptor that was handled: the frame's octets, and over the last eight of them length and status
+        tested.sees(
+            octets_at(0x1000, 16)?,
+            Sight::Octets(*b"\xFF\xFF\xFF\xFF\xFF\xFFho\x3C\0\0\0\x07\0\0\0"),
+        )?;
+        let none = Sight::Octets([0; 16]);
+        let own = Sight::Octets(*b"\x00\x10\0\0\0\0\0\0\0\0\0\0\0\0\0\0");
+        tested.octets(0x1000, 16, &[(1, own), (7, none)])?;
+        tested.octets(0x1008, 8, &[(1, none)])?;
+        // the next descriptor
+        let next = Sight::Octets(*b"\x00\x18\0\0\0\0\0\0\0\0\0\0\0\0\0\0");
+        tested.octets(0x1010, 8, &[(1, next), (6, none)])?;
+        // the last octets of the frame, and those behind
+        tested.octets(0x1030, 16, &[(1, none)])?;
+        tested.octets(0x103C, 16, &[])?;
+        tested.register(Reg::Rdh, &[(1, Sight::Value(0))])?;
+        // RXT0 beside LSC
+        tested.register(Reg::Icr, &[(1, Sight::Value(4)), (3, Sight::Value(0))])
+    })
+}
+
+#[test]
+fn a_reset_is_a_change_of_what_it_clears(rt: HostRuntime) -> Result<(), Fail> {
+    on_a_machine(rt.alloc(), MOST_BUDGET, |tested| {
+        receive_over_the_ring(tested)?;
+        // a read of the high half clears both
+        tested.reads(Reg::Gorch)?;
+        tested.does(Event::Arrive(&BROADCAST))?;
+        tested.does(RESET)?;
+
+        tested.register(
+            Reg::Rctl,
+            &[(1, Sight::Value(0x8002)), (7, Sight::Value(0))],
+        )?;
+        tested.register(Reg::Ral(0), &[])?;
+        tested.changed(Watch::Link, &[(6, Sight::Link(false))])?;
+        let (none, one) = (Sight::Count(0), Sight::Count(1));
+        tested.changed(Watch::Frames, &[(1, one), (2, none), (4, one), (5, none)])?;
+        let (zero, octets) = (Sight::Value(0), Sight::Value(64));
+        tested.register(
+            Reg::Gorcl,
+            &[(1, octets), (2, zero), (3, octets), (5, zero)],
+        )?;
+        tested.register(Reg::Gorch, &[])
+    })
+}
+
+#[test]
+fn a_sent_frame_is_followed(rt: HostRuntime) -> Result<(), Fail> {
+    on_a_machine(rt.alloc(), MOST_BUDGET, |tested| {
+        tested.writes(Reg::Tdbal, 0x1000)?;
+        tested.writes(Reg::Tdlen, 0x80)?;
+        // a buffer of 60 octets at 1800h; EOP, IFCS and RS
+        tested.does(Event::Poke(0x1000, b"\x00\x18\0\0\0\0\0\0\x3C\0\0\x0B\0\0\0\0"))?;
+        tested.writes(Reg::Tdt, 1)?;
+        tested.writes(Reg::Tctl, 2)?;
+        tested.does(Event::TxStep)?;
+
+        tested.changed(Watch::Sent, &[(1, Sight::Count(0))])?;
+        tested.octets(0x100C, 1, &[(1, Sight::Octets([0; 16]))])?;
+        tested.register(Reg::Tdh, &[(1, Sight::Value(0))])?;
+        tested.register(Reg::Gotcl, &[(1, Sight::Value(0))])?;
+        // TXDW and TXQE
+        tested.register(Reg::Icr, &[(1, Sight::Value(0))])
+    })
+}
+
+#[test]
+fn a_change_that_the_budget_dropped_is_none(rt: HostRuntime) -> Result<(), Fail> {
+    on_a_machine(rt.alloc(), LEAST_BUDGET, |tested| {
+        tested.does(Event::Poke(0x100, b"a"))?;
+        tested.writes(Reg::Rctl, 2)?;
+        tested.octets(0x100, 1, &[(2, Sight::Octets([0; 16]))])?;
+        // the least budget holds the reset alone
+        tested.does(RESET)?;
+        tested.octets(0x100, 1, &[])?;
+        tested.register(Reg::Rctl, &[(1, Sight::Value(2))])
+    })
+}

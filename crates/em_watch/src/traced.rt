@@ -1,0 +1,140 @@
+//! A watched thing, followed back over records.
+ghost use Rattle.std.specs.Prelude.{◌≡◌, length};
+ghost use Rattle.em_regs.specs.Table.{IsReg};
+ghost use Rattle.em_step.specs.Access.{gives};
+ghost use Rattle.em_step.specs.Before.{PutsBack};
+ghost use Rattle.em_watch.specs.Traced.{traced, traced_register, traced_octets, shown, IsTraceable};
+ghost use Rattle.em_watch.specs.Traced.{TakesBack, OctetsGoBack};
+
+use crate::range::{MOST_WATCHED, MemoryRange};
+use crate::watch::{Sight, Watch};
+use em_journal::Machine;
+use em_regs::Reg;
+use em_step::Undo;
+
+/// What has to be known of a state to see a watched thing in it, and in those before it.
+#[derive(Clone, Copy)]
+pub(crate) enum Traced {
+    /// Nothing is ever seen.
+    Nothing,
+    /// A register, and what a look at it shows.
+    Register(Reg, u32),
+    /// A range of memory, and its octets, with zeros behind them.
+    Octets(MemoryRange, [u8; MOST_WATCHED]),
+    /// The causes that are set, and those that the mask lets through to the line.
+    Line(u32, u32),
+    /// Whether the link is up.
+    Link(bool),
+    /// How many frames lie in the FIFO.
+    Frames(usize),
+    /// How many frames were sent.
+    Sent(usize),
+}
+
+impl Traced {
+    /// A watched thing as it is now.
+    pub(crate) fn of(machine: &Machine, watch: Watch) -> Traced
+        ensures { result ≡ traced watch machine.now.present }
+    {
+        match watch {
+            Watch::Register(reg) => traced_register(machine, reg),
+            Watch::Octets(range) => traced_octets(machine, range),
+            Watch::Line => Traced::Line(look(machine, Reg::Icr), look(machine, Reg::Ims)),
+            Watch::Link => Traced::Link(machine.link()),
+            Watch::Frames => Traced::Frames(machine.frames()),
+            Watch::Sent => Traced::Sent(machine.wire_len()),
+        }
+    }
+
+    /// What is seen of it.
+    #[inline(always)]
+    pub(crate) fn sight(self) -> Sight
+        ensures { result ≡ shown self }
+    {
+        match self {
+            Traced::Nothing => Sight::Nothing,
+            Traced::Register(_, value) => Sight::Value(value),
+            Traced::Octets(_, octets) => Sight::Octets(octets),
+            Traced::Line(causes, mask) => Sight::Line(causes & mask != 0),
+            Traced::Link(up) => Sight::Link(up),
+            Traced::Frames(count) | Traced::Sent(count) => Sight::Count(count),
+        }
+    }
+
+    /// The watched thing as it was before the event of a record.
+    #[inline(always)]
+    pub(crate) fn before(self, undo: &Undo) -> Traced
+        requires { IsTraceable self }
+        ensures before { TakesBack undo.now self result }
+        ensures register { IsTraceable result }
+    {
+        match self {
+            Traced::Nothing => Traced::Nothing,
+            Traced::Register(reg, value) => Traced::Register(reg, undo.register_before(reg, value)),
+            Traced::Octets(range, octets) => Traced::Octets(
+                range,
+                octets_before(undo, range, octets),
+            ),
+            Traced::Line(causes, mask) => Traced::Line(
+                undo.register_before(Reg::Icr, causes),
+                undo.register_before(Reg::Ims, mask),
+            ),
+            Traced::Link(up) => Traced::Link(undo.link_before(up)),
+            Traced::Frames(count) => Traced::Frames(undo.frames_before(count)),
+            Traced::Sent(count) => Traced::Sent(sent_before(undo, count)),
+        }
+    }
+}
+
+/// A register of the table, as a look at it shows it.
+fn look(machine: &Machine, reg: Reg) -> u32
+    requires { IsReg reg }
+    ensures { result ≡ gives machine.now.present reg }
+{
+    match machine.look(reg.offset()) {
+        Some(value) => value,
+        None => unreachable!(),
+    }
+}
+
+fn traced_register(machine: &Machine, reg: Reg) -> Traced
+    ensures { result ≡ traced_register machine.now.present reg }
+{
+    if reg.index() < reg.row().words {
+        Traced::Register(reg, look(machine, reg))
+    } else {
+        Traced::Nothing
+    }
+}
+
+fn traced_octets(machine: &Machine, range: MemoryRange) -> Traced
+    ensures { result ≡ traced_octets machine.now.present.memory range }
+{
+    let mut octets = [0; MOST_WATCHED];
+    match machine.peek(range.addr(), &mut octets[..range.len()]) {
+        Ok(()) => Traced::Octets(range, octets),
+        Err(_) => Traced::Nothing,
+    }
+}
+
+/// The octets of a range, with zeros behind them, before the event of a record.
+#[inline(always)]
+fn octets_before(undo: &Undo, range: MemoryRange, octets: [u8; MOST_WATCHED]) -> [u8; MOST_WATCHED]
+    ensures { OctetsGoBack undo.now range.addr range.len octets result }
+{
+    let mut window = octets;
+    undo.octets_before(range.addr(), &mut window[..range.len()]);
+    window
+}
+
+/// How many frames were sent before the event of a record.
+#[inline(always)]
+fn sent_before(undo: &Undo, now: usize) -> usize
+    ensures { PutsBack undo.now (λ s. length s.wire) now result }
+{
+    if undo.takes_off_wire() {
+        now.saturating_sub(1)
+    } else {
+        now
+    }
+}
