@@ -6,6 +6,7 @@ use bitflags::Flags;
 use em_journal::{Machine, Settings};
 use em_regs::{Causes, Reg};
 use em_step::Event;
+use em_watch::{Watch, last_change};
 
 fn main(rt: HostRuntime) -> Result<()> {
     // 64 KiB of guest memory, a journal of 1 MiB, the link down
@@ -24,8 +25,11 @@ fn lose_an_interrupt(rt: &impl Print, machine: &mut Machine) -> Result<()> {
     machine.perform(Event::Write(Reg::Icr.offset(), u32::MAX))?;
     println!(rt; "after the routine:       {}", line(machine))?;
 
-    // the newest event is taken back: it was that write that lost the cause
-    machine.back()?;
+    // who changed the line last? That write, one step back: it lost the cause, and is taken back
+    if let Some(change) = last_change(machine, Watch::Line) {
+        println!(rt; "the line changed:        {} step back", change.back)?;
+        machine.back_by(change.back);
+    }
     println!(rt; "before its first access: {}", line(machine))?;
     Ok(())
 }
