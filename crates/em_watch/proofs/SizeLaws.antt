@@ -10,9 +10,12 @@ use Rattle.em_rx.specs.StepPatch.{StepPatch}
 use Rattle.em_rx.specs.Undo as rx
 use Rattle.em_rx.specs.declared.undo.RxUndo.{RxUndo}
 use Rattle.em_rx.specs.declared.undo.RxUndo.TheVariants as rx_undo
+use Rattle.em_tx.specs.Cells as tx_cells
 use Rattle.em_tx.specs.Undo as tx
+use Rattle.em_tx.specs.declared.undo.TxUndo.{TxUndo}
+use Rattle.em_tx.specs.declared.undo.TxUndo.TheVariants as tx_undo
 use Rattle.em_step.specs.Cells.{Cells, shows}
-use Rattle.em_step.specs.Undo.{EffectFits, Fits, undo, undo_effect}
+use Rattle.em_step.specs.Undo.{EffectFits, Fits, tx_cells_of, undo, undo_effect}
 use Rattle.em_step.specs.declared.undo.Undo.{Undo}
 use Rattle.em_step.specs.declared.undo.Effect.{Effect}
 use Rattle.em_step.specs.declared.undo.Effect.TheVariants.{Nothing, Register, Octets, FewOctets, Arrival}
@@ -39,6 +42,12 @@ size_status : (m : memory.Cells) (status : Option memory.Patch) → tx.StatusFit
 size_status m None fits = refl
 size_status m (Some status) fits = size_patch m status fits
 
+size_transmit : (c : tx_cells.Cells) (r : TxUndo) → tx.Fits c r
+    → length (tx.undo c r).memory.octets ≡ length c.memory.octets
+size_transmit c tx_undo.Nothing fits = refl
+size_transmit c (tx_undo.Step change) fits = size_status c.memory change.status fits.1
+size_transmit c (tx_undo.Cleared old) fits = refl
+
 size_effect : (c : Cells) (l : Registers) (e : Effect) → EffectFits c e
     → length (undo_effect (record c { latches = l }) e).memory.octets ≡ length c.memory.octets
 size_effect c l Nothing fits = refl
@@ -49,7 +58,9 @@ size_effect c l (Arrival old) fits = refl
 size_effect c l (RxStep head old) fits = size_both c.fifo c.memory old.value fits.1
 size_effect c l (TxStep old head) fits = size_status c.memory old.status fits.1.1
 size_effect c l (Link old) fits = refl
-size_effect c l (Reset old) fits = size_receive c.fifo c.memory old.value.fifo fits
+size_effect c l (Reset old) fits =
+    size_receive c.fifo (tx.undo (tx_cells_of c) old.value.gathered).memory old.value.fifo fits.1
+    ∙ size_transmit (tx_cells_of c) old.value.gathered fits.0
 
 -- before an event memory was as large as after it
 pub memory_size : (c : Cells) (r : Undo) → Fits c r
