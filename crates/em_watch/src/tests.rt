@@ -1,4 +1,7 @@
-use crate::{Change, MemoryRange, Sight, Watch, change_before, changes, last_change, seen};
+use crate::{
+    Change, Difference, MemoryRange, RegisterChange, Sight, Watch, change_before, changes,
+    last_change, registers_changed, seen, seen_back, what,
+};
 use em_eeprom::Eeprom;
 use em_journal::{LEAST_BUDGET, MOST_BUDGET, Machine};
 use em_regs::Reg;
@@ -268,5 +271,65 @@ fn a_change_that_the_budget_dropped_is_none(rt: HostRuntime) -> Result<(), Fail>
         tested.does(RESET)?;
         tested.octets(0x100, 1, &[])?;
         tested.register(Reg::Rctl, &[(1, Sight::Value(2))])
+    })
+}
+
+// What an event did to a register.
+fn to_register(reg: Reg, before: u32, after: u32) -> Option<RegisterChange> {
+    let difference = Difference {
+        before: Sight::Value(before),
+        after: Sight::Value(after),
+    };
+    Some(RegisterChange { reg, difference })
+}
+
+impl Tested {
+    // The newest event changed these two registers and no others.
+    fn changed_two(
+        &self,
+        first: Option<RegisterChange>,
+        second: Option<RegisterChange>,
+    ) -> Result<(), Fail> {
+        if self.machine.can_go_back() == 0 {
+            return Err(Fail::from("no event"));
+        }
+        let mut found = registers_changed(&self.machine, 1);
+        same("first register", found.next(), first)?;
+        same("second register", found.next(), second)?;
+        same("no other register", found.next(), None)
+    }
+
+    // What the newest event did to the link, and that it left memory as it was.
+    fn linked(&self, before: bool, after: bool) -> Result<(), Fail> {
+        if self.machine.can_go_back() == 0 {
+            return Err(Fail::from("no event"));
+        }
+        let difference = Some(Difference {
+            before: Sight::Link(before),
+            after: Sight::Link(after),
+        });
+        same("link", what(&self.machine, Watch::Link, 1), difference)?;
+        same("memory", what(&self.machine, octets_at(0, 16)?, 1), None)
+    }
+}
+
+#[test]
+fn an_event_did_so_much(rt: HostRuntime) -> Result<(), Fail> {
+    on_a_machine(rt.alloc(), MOST_BUDGET, |tested| {
+        tested.does(Event::Poke(0, b"a"))?;
+        tested.does(Event::Link(true))?;
+        // STATUS has LU, and ICR has LSC
+        tested.changed_two(
+            to_register(Reg::Status, 0x81, 0x83),
+            to_register(Reg::Icr, 0, 4),
+        )?;
+        tested.linked(false, true)?;
+        let link = seen_back(&tested.machine, Watch::Link, 1);
+        same("link before", link, Some(Sight::Link(false)))?;
+        same(
+            "too far back",
+            seen_back(&tested.machine, Watch::Link, 3),
+            None,
+        )
     })
 }
