@@ -1,5 +1,5 @@
 -- What is put back leaves the size of memory.
-use Rattle.std.proofs.Common.{◌≡◌, ℕ, length, refl, ◌∙◌}
+use Rattle.std.proofs.Common.{◌≡◌, length, refl, ◌∙◌}
 use Rattle.std.specs.Prelude.{Option, Some, None}
 use Rattle.em_mem.specs.Memory as memory
 use Rattle.em_mem.proofs.PutLaws.{length-put}

@@ -1,35 +1,6 @@
 -- A watched thing, followed back over records.
-use Rattle.std.proofs.Common.{
-  ◌≡◌,
-  ℕ,
-  ◌+◌,
-  ◌-◌,
-  ◌<◌,
-  ◌≤◌,
-  Bool,
-  true,
-  false,
-  cond,
-  List,
-  [],
-  ◌∷◌,
-  ◌++◌,
-  zero,
-  suc,
-  length,
-  length-append,
-  take,
-  drop,
-  map,
-  refl,
-  sym,
-  ap,
-  ◌∙◌,
-  subst,
-  arith,
-  Some,
-  None,
-}
+use Rattle.std.proofs.Common.{◌≡◌, ℕ, ◌+◌, ◌-◌, ◌≤◌, Bool, true, false, cond, List, [], ◌∷◌, ◌++◌, zero, suc}
+use Rattle.std.proofs.Common.{length, length-append, take, drop, map, refl, sym, ap, ◌∙◌, subst, arith, Some}
 use Rattle.std.specs.Prelude.{nat_lt, slice_get, replicate}
 use Rattle.std.specs.Option.{option_map}
 use Rattle.std.proofs.Math.Seq.{take-append_seam, drop-append_seam}
@@ -40,7 +11,7 @@ use Rattle.em_mem.specs.Memory.{part}
 use Rattle.em_mem.proofs.PutLaws.{length-part}
 use Rattle.em_regs.specs.declared.reg.Reg.{Reg}
 use Rattle.em_regs.specs.declared.reg.Reg.TheVariants.{Icr, Ims}
-use Rattle.em_regs.specs.Table.{IsReg, index_of, row_of}
+use Rattle.em_regs.specs.Table.{index_of, row_of}
 use Rattle.em_step.specs.Cells.{Cells, shows}
 use Rattle.em_step.specs.State.{State}
 use Rattle.em_step.specs.Undo.{Fits, undo}

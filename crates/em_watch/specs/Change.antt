@@ -1,6 +1,6 @@
 -- Which event changed a watched thing.
-use Rattle.std.specs.Prelude.{◌≡◌, ◌≢◌, ℕ, ◌<◌, ◌≤◌, length, slice_get, Some, List, [], ◌∷◌}
-use Rattle.em_journal.specs.View.{View, states}
+use Rattle.std.specs.Prelude.{◌≡◌, ◌≢◌, ℕ, ◌<◌, ◌≤◌, length, slice_get, Some}
+use Rattle.em_journal.specs.View.{View}
 use Rattle.em_watch.specs.Watching.{sights}
 use Rattle.em_watch.specs.declared.watch.Watch.{Watch}
 use Rattle.em_watch.specs.declared.change.Change.{Change}

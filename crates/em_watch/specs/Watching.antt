@@ -3,7 +3,6 @@ use Rattle.std.specs.Prelude.{ℕ, ◌+◌, ◌-◌, ◌==◌, Bool, not, nat_lt
 use Rattle.std.specs.Prelude.{bit_and}
 use Rattle.em_mem.specs.Memory.{part}
 use Rattle.em_regs.specs.declared.reg.Reg.{Reg}
-use Rattle.em_regs.specs.Storage.{Registers}
 use Rattle.em_regs.specs.Table.{index_of, row_of}
 use Rattle.em_latch.specs.Latches.{causes, mask}
 use Rattle.em_step.specs.State.{State}

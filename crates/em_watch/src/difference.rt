@@ -1,7 +1,8 @@
 //! What one event did.
 ghost use Rattle.std.specs.Prelude.{◌≡◌, ◌<◌, ◌≤◌, IfSome, IfNone, length};
 ghost use Rattle.em_regs.specs.Table.{IsReg, offset_of};
-ghost use Rattle.em_watch.specs.Difference.{IsDifference, IsRegisterChange, LeavesAsItIs, LeavesOffset, LeavesRegisters};
+ghost use Rattle.em_watch.specs.Difference.{IsDifference, IsRegisterChange};
+ghost use Rattle.em_watch.specs.Difference.{LeavesAsItIs, LeavesOffset, LeavesRegisters};
 
 use crate::search::{differ, follow, step_back};
 use crate::traced::Traced;

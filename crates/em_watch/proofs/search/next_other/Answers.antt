@@ -1,5 +1,4 @@
-use Rattle.std.proofs.Common.{◌≡◌, ◌∙◌, sym, arith}
-use Rattle.em_watch.specs.Traced.{shown}
+use Rattle.std.proofs.Common.{◌∙◌, sym, arith}
 use Rattle.em_watch.proofs.SearchLaws.{changes_next, same_more}
 use Rattle.em_watch.proofs.search.next_other.Goals as goal
 

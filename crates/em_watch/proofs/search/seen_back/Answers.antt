@@ -1,4 +1,4 @@
-use Rattle.em_watch.proofs.SearchLaws.{not_seen, seen_from_now}
+use Rattle.em_watch.proofs.SearchLaws.{seen_from_now}
 use Rattle.em_watch.proofs.TracedLaws.{traceable_now}
 use Rattle.em_watch.proofs.search.seen_back.Goals as goal
 

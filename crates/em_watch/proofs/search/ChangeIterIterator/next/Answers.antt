@@ -1,4 +1,4 @@
-use Rattle.std.proofs.Common.{◌≡◌, ap, arith, length}
+use Rattle.std.proofs.Common.{ap, arith, length}
 use Rattle.em_watch.specs.Search.{Search}
 use Rattle.em_watch.proofs.SearchLaws.{fewer_left}
 use Rattle.em_watch.proofs.TracedLaws.{traceable_there}
