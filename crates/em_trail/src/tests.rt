@@ -1,11 +1,13 @@
 //! Each call here goes through a function without a contract: else the prover would carry what the call says on to
-//! all that a test asserts after it.
+//! all that a test asks after it. The trail is made in one function and lent to the others: else each way out of a
+//! test would prove again that it can be let go.
 use crate::{Kind, Note, Traced};
 use em_eeprom::Eeprom;
 use em_journal::{LEAST_BUDGET, Machine};
 use em_regs::Reg;
-use em_step::{Adapter, Answer, Event, Reason, Refusal};
+use em_step::{Adapter, Event, Reason, Refusal};
 use std::alloc::Global;
+use std::fmt::Debug;
 use std::test::Fail;
 
 const MAC: [u8; 6] = [0x52, 0x54, 0, 0x12, 0x34, 0x56];
@@ -19,46 +21,75 @@ struct Tested {
     traced: Traced,
 }
 
-fn new_tested(alloc: Global) -> Result<Tested, Fail> {
+// Does so with a new trail.
+fn on_a_trail<F: FnOnce(&mut Tested) -> Result<(), Fail> + Drop>(
+    alloc: Global,
+    case: F,
+) -> Result<(), Fail>
+    requires { F.IsAlwaysCallable case }
+{
     let adapter = Adapter::new(alloc, MEMORY, Eeprom::of_mac(MAC))?;
     let Ok(machine) = Machine::new(alloc, adapter, LEAST_BUDGET) else {
         return Err(Fail::from("no machine"));
     };
     match Traced::new(alloc, machine) {
-        Ok(traced) => Ok(Tested { traced }),
+        Ok(traced) => case(&mut Tested { traced }),
         Err((_, refusal)) => Err(Fail::from(refusal.name())),
     }
 }
 
 impl Tested {
-    fn perform(&mut self, tag: u64, event: Event<'_>) -> Result<Answer, Refusal> {
-        self.traced.perform(tag, event)
+    fn performs(&mut self, tag: u64, event: Event<'_>) -> Result<(), Fail> {
+        self.traced.perform(tag, event)?;
+        Ok(())
     }
 
-    fn back(&mut self) -> Option<Note> {
-        self.traced.back().ok()
+    fn refuses(&mut self, tag: u64, event: Event<'_>, refusal: Refusal) -> Result<(), Fail> {
+        same("refused", self.traced.perform(tag, event), Err(refusal))
     }
 
-    fn note(&self, k: usize) -> Option<Note> {
-        self.traced.note(k)
+    fn notes(&self, k: usize, wanted: Option<Note>) -> Result<(), Fail> {
+        same("note", self.traced.note(k), wanted)
     }
 
-    fn len(&self) -> usize {
-        self.traced.len()
+    fn goes_back(&mut self, wanted: Option<Note>) -> Result<(), Fail> {
+        same("back", self.traced.back().ok(), wanted)
     }
 
-    // as many as the machine can take back
-    fn is_in_step(&self) -> bool {
-        let steps = self.traced.machine().can_go_back();
-        self.traced.len() == steps && self.traced.is_empty() == (steps == 0)
+    // There are so many notes, and as many steps that the machine can take back.
+    fn has(&self, count: usize) -> Result<(), Fail> {
+        same("notes", self.traced.len(), count)?;
+        same("steps", self.traced.machine().can_go_back(), count)?;
+        same("none", self.traced.is_empty(), count == 0)
     }
 
     // Writes of no effect, with tags from 0 on.
-    fn perform_many(&mut self, count: u64) -> Result<(), Fail> {
+    fn performs_many(&mut self, count: u64) -> Result<(), Fail> {
         for tag in 0..count {
-            self.perform(tag, Event::Write(Reg::Fct.offset(), 1))?;
+            self.performs(tag, Event::Write(Reg::Fct.offset(), 1))?;
         }
         Ok(())
+    }
+
+    // The same, as many as memory is there for; how many were performed.
+    fn performs_some(&mut self, count: u64) -> Result<usize, Fail> {
+        let mut performed = 0usize;
+        for tag in 0..count {
+            match self.traced.perform(tag, Event::Write(Reg::Fct.offset(), 1)) {
+                Ok(_) => performed = performed.wrapping_add(1),
+                Err(refusal) => same("refused", refusal, Refusal::Memory)?,
+            }
+        }
+        Ok(performed)
+    }
+}
+
+// Fails where a value is not the one that is wanted.
+fn same<T: PartialEq + Debug + Drop>(what: &str, is: T, wanted: T) -> Result<(), Fail> {
+    if is == wanted {
+        Ok(())
+    } else {
+        Err(Fail::new(format_args!("{what}: {is:?}, and not {wanted:?}")))
     }
 }
 
@@ -74,78 +105,67 @@ fn noted(tag: u64, at: u64, length: u32, value: u32, kind: Kind) -> Option<Note>
 
 #[test]
 fn notes_tell(rt: HostRuntime) -> Result<(), Fail> {
-    let mut tested = new_tested(rt.alloc())?;
-    tested.perform(11, Event::Link(true))?;
-    tested.perform(12, Event::Read(Reg::Icr.offset()))?;
-    tested.perform(13, Event::Write(Reg::Ims.offset(), 0x9D))?;
-    tested.perform(14, Event::Poke(0x2000, &[1, 2, 3]))?;
-    tested.perform(15, Event::Arrive(&[0xFF; 60]))?;
-    tested.perform(16, Event::RxStep)?;
-    tested.perform(u64::MAX, Event::TxStep)?;
-    assert!(rt; tested.is_in_step());
-    assert_eq!(rt; tested.note(7), None);
-    assert_eq!(rt; tested.note(6), noted(11, 0, 0, 0, Kind::LinkUp));
-    // LSC
-    assert_eq!(rt; tested.note(5), noted(12, 0xC0, 4, 0x4, Kind::Read));
-    assert_eq!(rt; tested.note(4), noted(13, 0xD0, 4, 0x9D, Kind::Write));
-    assert_eq!(rt; tested.note(3), noted(14, 0x2000, 3, 0, Kind::Poke));
-    assert_eq!(rt;
-        tested.note(2),
-        noted(15, 0, 60, 0, Kind::Dropped(Reason::Disabled))
-    );
-    assert_eq!(rt; tested.note(1), noted(16, 0, 0, 0, Kind::ReceiveIdle));
-    assert_eq!(rt; tested.back(), noted(u64::MAX, 0, 0, 0, Kind::TransmitIdle));
-    assert_eq!(rt; tested.note(0), noted(16, 0, 0, 0, Kind::ReceiveIdle));
-    assert!(rt; tested.is_in_step());
-    Ok(())
+    on_a_trail(rt.alloc(), |tested| {
+        tested.performs(11, Event::Link(true))?;
+        tested.performs(12, Event::Read(Reg::Icr.offset()))?;
+        tested.performs(13, Event::Write(Reg::Ims.offset(), 0x9D))?;
+        tested.performs(14, Event::Poke(0x2000, &[1, 2, 3]))?;
+        tested.performs(15, Event::Arrive(&[0xFF; 60]))?;
+        tested.performs(16, Event::RxStep)?;
+        tested.performs(u64::MAX, Event::TxStep)?;
+        tested.has(7)?;
+        tested.notes(7, None)?;
+        tested.notes(6, noted(11, 0, 0, 0, Kind::LinkUp))?;
+        // LSC
+        tested.notes(5, noted(12, 0xC0, 4, 0x4, Kind::Read))?;
+        tested.notes(4, noted(13, 0xD0, 4, 0x9D, Kind::Write))?;
+        tested.notes(3, noted(14, 0x2000, 3, 0, Kind::Poke))?;
+        tested.notes(2, noted(15, 0, 60, 0, Kind::Dropped(Reason::Disabled)))?;
+        tested.notes(1, noted(16, 0, 0, 0, Kind::ReceiveIdle))?;
+        tested.goes_back(noted(u64::MAX, 0, 0, 0, Kind::TransmitIdle))?;
+        tested.notes(0, noted(16, 0, 0, 0, Kind::ReceiveIdle))?;
+        tested.has(6)
+    })
 }
 
 #[test]
 fn refused_events_leave_no_note(rt: HostRuntime) -> Result<(), Fail> {
-    let mut tested = new_tested(rt.alloc())?;
-    assert_eq!(rt; tested.perform(1, Event::Read(4)), Err(Refusal::NoRegister));
-    assert!(rt; tested.is_in_step());
-    assert_eq!(rt; tested.back(), None);
-    Ok(())
+    on_a_trail(rt.alloc(), |tested| {
+        tested.refuses(1, Event::Read(4), Refusal::NoRegister)?;
+        tested.has(0)?;
+        tested.goes_back(None)
+    })
 }
 
 // The least budget holds three of these records, which cost 32 + 16,384.
 #[test]
 fn a_note_goes_with_its_record(rt: HostRuntime) -> Result<(), Fail> {
-    let mut tested = new_tested(rt.alloc())?;
-    for tag in 0..5 {
-        tested.perform(tag, Event::Poke(0, &LARGEST))?;
-    }
-    assert!(rt; tested.is_in_step());
-    assert_eq!(rt; tested.note(2), noted(2, 0, 16_384, 0, Kind::Poke));
-    assert_eq!(rt; tested.note(3), None);
-    Ok(())
+    on_a_trail(rt.alloc(), |tested| {
+        for tag in 0..5 {
+            tested.performs(tag, Event::Poke(0, &LARGEST))?;
+        }
+        tested.has(3)?;
+        tested.notes(2, noted(2, 0, 16_384, 0, Kind::Poke))?;
+        tested.notes(3, None)
+    })
 }
 
 // The least budget holds 2,048 of the cheapest records.
 #[test]
 fn notes_find_room(rt: HostRuntime) -> Result<(), Fail> {
-    let mut tested = new_tested(rt.alloc())?;
-    tested.perform_many(3000)?;
-    assert!(rt; tested.is_in_step());
-    assert_eq!(rt; tested.len(), 2048);
-    assert_eq!(rt; tested.note(2047), noted(952, 0x30, 4, 1, Kind::Write));
-    assert_eq!(rt; tested.note(0), noted(2999, 0x30, 4, 1, Kind::Write));
-    Ok(())
+    on_a_trail(rt.alloc(), |tested| {
+        tested.performs_many(3000)?;
+        tested.has(2048)?;
+        tested.notes(2047, noted(952, 0x30, 4, 1, Kind::Write))?;
+        tested.notes(0, noted(2999, 0x30, 4, 1, Kind::Write))
+    })
 }
 
 // Where memory is refused to a note, its event was not performed. Each request for memory is refused in turn.
 #[test]
 fn refused_notes_change_nothing(rt: HostRuntime) -> Result<(), Fail> {
-    let mut tested = new_tested(rt.alloc())?;
-    let mut performed = 0usize;
-    for tag in 0..200 {
-        match tested.perform(tag, Event::Write(Reg::Fct.offset(), 1)) {
-            Ok(_) => performed = performed.wrapping_add(1),
-            Err(refusal) => assert_eq!(rt; refusal, Refusal::Memory),
-        }
-    }
-    assert_eq!(rt; tested.len(), performed);
-    assert!(rt; tested.is_in_step());
-    Ok(())
+    on_a_trail(rt.alloc(), |tested| {
+        let performed = tested.performs_some(200)?;
+        tested.has(performed)
+    })
 }
