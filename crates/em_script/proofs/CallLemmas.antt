@@ -18,10 +18,10 @@ use Rattle.em_journal.specs.History.{without_last}
 use Rattle.em_journal.proofs.BackLaws.{run_back, no_more_back, past_left}
 use Rattle.em_journal.proofs.HistoryLaws.{run_join, item_is}
 use Rattle.em_script.specs.Session.{Session}
-use Rattle.em_script.specs.Command.{Command, event, peek, back, back_by}
-use Rattle.em_script.specs.ParsedLine.{ParsedLine, says, asks, plans}
+use Rattle.em_line.specs.Command.{Command, event, peek, back, back_by}
+use Rattle.em_line.specs.ParsedLine.{ParsedLine, says, asks, plans}
 use Rattle.em_script.specs.RefusedAt.{RefusedAt, before, within, named_of}
-use Rattle.em_script.specs.Request.{Request}
+use Rattle.em_line.specs.Request.{Request}
 use Rattle.em_script.specs.Calling.{has_driver, course_of, world_at, done_by, after_call, after_asked, made_calls}
 use Rattle.em_script.specs.Calling.{asked_calls, MayBeRefusedAt}
 use Rattle.em_driver.specs.declared.turn.Turn.{Turn}
@@ -29,7 +29,7 @@ use Rattle.em_driver.proofs.CallLaws.{play_runs}
 use Rattle.em_script.specs.Reply.{step_call, back_call, call_reply, done_reply, refusal_reply, calls_of, reply}
 use Rattle.em_script.specs.Reply.{line_calls, after_line, after_plan, IsAllowed, IsAllowedTo}
 use Rattle.em_script.specs.PlayedLine.{PlayedLine, AreAllowed, played_calls, after_played, calls, after_all}
-use Rattle.em_script.specs.Grammar.{parsed_line}
+use Rattle.em_line.specs.Grammar.{parsed_line}
 use Rattle.em_script.specs.Runner.{IsFold}
 
 -- one call

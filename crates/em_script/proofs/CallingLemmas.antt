@@ -24,7 +24,7 @@ use Rattle.em_driver.proofs.TellsLaws.{start_tells, rx_batch_tells, tx_batch_tel
 use Rattle.em_driver.proofs.TellsLaws.{set_mac_addr_tells, read_stats_tells}
 use Rattle.em_driver.specs.declared.outcome.Cause.TheVariants as cause
 use Rattle.em_script.specs.Session.{Session}
-use Rattle.em_script.specs.Request.{Request, starts, sends, receives, stats, address, sets_address}
+use Rattle.em_line.specs.Request.{Request, starts, sends, receives, stats, address, sets_address}
 use Rattle.em_script.specs.DriverAnswer as answers
 use Rattle.em_script.specs.DriverAnswer.{DriverAnswer, says_memory, call_text}
 use Rattle.em_script.specs.Runner.{SaysMemory}

@@ -1,14 +1,10 @@
 pub mod PrintLemmas
-pub mod PlanLemmas
 pub mod SeatLemmas
 pub mod ReplyLemmas
 pub mod RunLemmas
 pub mod MemoryLemmas
 pub mod CallLemmas
 pub mod RegisterLemmas
-pub mod FrameLemmas
 pub mod WireLemmas
-pub mod RequestLemmas
 pub mod DriverAnswerLemmas
-pub mod TurnLemmas
 pub mod CallingLemmas

@@ -9,16 +9,16 @@ use Rattle.std.proofs.lemmas.Bool.{false≢true}
 use Rattle.std.proofs.lemmas.List.{append_cancel_left}
 use Rattle.em_text.specs.Lines.{lines_of}
 use Rattle.em_script.specs.Session.{Session}
-use Rattle.em_script.specs.Command.{event}
-use Rattle.em_script.specs.ParsedLine.{ParsedLine, says, asks, plans}
+use Rattle.em_line.specs.Command.{event}
+use Rattle.em_line.specs.ParsedLine.{ParsedLine, says, asks, plans}
 use Rattle.em_driver.specs.Play.{Played}
 use Rattle.em_script.specs.DriverAnswer.{DriverAnswer}
-use Rattle.em_script.specs.Request.{Request}
+use Rattle.em_line.specs.Request.{Request}
 use Rattle.em_script.specs.RefusedAt.{RefusedAt, before, within}
 use Rattle.em_script.specs.Calling.{has_driver, asked_text, CanBeDone}
 use Rattle.em_script.proofs.DriverAnswerLemmas.{says_before, says_behind}
 use Rattle.em_script.proofs.CallingLemmas.{named_says}
-use Rattle.em_script.specs.Grammar.{parsed_line}
+use Rattle.em_line.specs.Grammar.{parsed_line}
 use Rattle.em_script.specs.Reply.{line_text, line_takes_memory, IsAllowed as IsLineAllowed}
 use Rattle.em_script.specs.PlayedLine.{PlayedLine, played_text, after_played, AreAllowed, text_from, ArePlayed}
 use Rattle.em_script.specs.PlayedLine.{with_memory}

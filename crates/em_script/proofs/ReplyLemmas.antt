@@ -14,13 +14,13 @@ use Rattle.em_journal.specs.History.{Call, performs, refuses, goes_back, is_empt
 use Rattle.em_text.specs.declared.writer.WriteFailed.{WriteFailed}
 use Rattle.em_script.specs.declared.outcome.Outcome.{Outcome}
 use Rattle.em_script.specs.declared.outcome.Outcome.TheVariants as outcome
-use Rattle.em_script.specs.Command.{Command, event}
+use Rattle.em_line.specs.Command.{Command, event}
 use Rattle.em_step.specs.declared.refusal.Refusal.TheVariants.{Memory}
 use Rattle.em_driver.specs.declared.turn.Turn.{Turn}
-use Rattle.em_script.specs.ParsedLine.{says, asks, plan_line}
-use Rattle.em_script.specs.Request.{Request, plain_call}
-use Rattle.em_script.specs.declared.driver_call.DriverCall.{DriverCall as Asked}
-use Rattle.em_script.specs.declared.driver_call.DriverCall.TheVariants as asked
+use Rattle.em_line.specs.ParsedLine.{says, asks, plan_line}
+use Rattle.em_line.specs.Request.{Request, plain_call}
+use Rattle.em_line.specs.declared.driver_call.DriverCall.{DriverCall as Asked}
+use Rattle.em_line.specs.declared.driver_call.DriverCall.TheVariants as asked
 use Rattle.em_script.specs.DriverAnswer.{DriverAnswer, driver_reply_text, call_text, counts_text, plan_text}
 use Rattle.em_script.specs.DriverAnswer.{driver_answer_text}
 use Rattle.em_script.specs.DriverAnswer.{driver_answer_outcome, plain as plain_answer}
@@ -31,7 +31,6 @@ use Rattle.em_driver.specs.Play.{Played}
 use Rattle.em_driver.specs.World.{World}
 use Rattle.em_driver.proofs.CallLaws.{follows_run}
 use Rattle.em_script.proofs.CallingLemmas.{request_happens}
-use Rattle.em_script.specs.DriverText.{no_driver_text}
 use Rattle.em_script.specs.declared.driver_reply.DriverReply.{DriverReply}
 use Rattle.std.specs.Prelude.{IsSome, IsTrue}
 use Rattle.em_script.specs.Session.{Session}
@@ -185,18 +184,6 @@ call_made {first = first} {now = now} {old = old} {new = new} {result = result} 
     let text : driver_reply_text reply ≡ call_text first.plan did = told first.plan reply made.world made.plan in
     by_named number request did (has_driver request first) refl stands runs.calls runs.is happens.named happens.can
     happens.is made.session (rw text at prints)
-
--- without a driver
-pub no_call : {first now : Session} {old new : Option (List ℕ)} {result : Result Outcome WriteFailed} (number : ℕ)
-    (request : Request) → has_driver request first ≡ false → now ≡ first
-    → Prints no_driver_text outcome.Refused old new result
-    → Performs number (asks request) first now old new result
-no_call {first = first} number request none same prints = record {
-  memory = None;
-  allowed = tt;
-  prints = rw none prints;
-  session = rw none same;
-}
 
 -- a call needs a driver that stands
 pub has_driver_call : (call : Asked) (session : Session) → has_driver (plain_call call) session ≡ session.started

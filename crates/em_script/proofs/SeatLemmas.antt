@@ -1,5 +1,5 @@
 -- Calls of a driver, from one session to the next.
-use Rattle.std.proofs.Common.{◌≡◌, ◌≢◌, ◌∙◌, ℕ, Bool, true, false, cond, List, [], Option, Some, None, refl, sym, ap}
+use Rattle.std.proofs.Common.{◌≡◌, ◌∙◌, ℕ, Bool, true, false, cond, List, [], Option, Some, None, refl, sym, ap}
 use Rattle.em_journal.specs.View.{View}
 use Rattle.em_driver.specs.declared.turn.Turn.{Turn}
 use Rattle.em_driver.specs.World.{World, quiet}
@@ -9,15 +9,9 @@ use Rattle.em_script.specs.Seat.{IsReady, IsSeated, world_in, is_driven, session
 use Rattle.em_script.specs.declared.seat.Seat.{Seat}
 use Rattle.em_script.specs.declared.seat.Seat.TheVariants.{Bare, Driven, Moved}
 use Rattle.em_script.specs.declared.driver_reply.DriverReply.{DriverReply}
-use Rattle.em_script.specs.Request.{Request}
+use Rattle.em_line.specs.Request.{Request}
 use Rattle.em_script.specs.DriverAnswer.{plain, is_started, world_of}
 use Rattle.em_script.specs.Calling.{course_of, world_at, plan_counts, after_call, did_of, IsCalled}
-
--- a line begins with a seat that was not moved
-pub not_moved : (seat : Seat) (planned : Bool) → IsSeated seat planned → seat ≢ Moved
-not_moved (Bare turns) planned seated = λ e. cc e
-not_moved (Driven driver) planned seated = λ e. cc e
-not_moved Moved planned seated = absurd seated
 
 -- a call begins in the world that the seat holds
 ready_world : (w : World) (planned : Bool) → IsReady w planned

@@ -19,8 +19,8 @@ use Rattle.em_driver.specs.declared.stats.DeviceStats.{DeviceStats}
 use Rattle.em_script.specs.declared.outcome.Outcome.{Outcome}
 use Rattle.em_script.specs.declared.outcome.Outcome.TheVariants.{Refused}
 use Rattle.em_script.specs.Session.{Session}
-use Rattle.em_script.specs.Request as request
-use Rattle.em_script.specs.Request.{Request}
+use Rattle.em_line.specs.Request as request
+use Rattle.em_line.specs.Request.{Request}
 use Rattle.em_script.specs.DriverAnswer.{DriverAnswer, start, batch, stats, address, set, is_started}
 use Rattle.em_script.specs.DriverAnswer.{driver_answer_outcome}
 use Rattle.em_script.specs.DriverAnswer.{says_memory, world_of, call_text}

@@ -3,7 +3,7 @@ use Rattle.std.specs.Prelude.{◌≡◌, ℕ, ◌+◌, List, [], ◌∷◌, ◌+
 use Rattle.em_journal.specs.History.{Call}
 use Rattle.em_script.specs.declared.outcome.Outcome.{Outcome}
 use Rattle.em_script.specs.Session.{Session}
-use Rattle.em_script.specs.Grammar.{parsed_line}
+use Rattle.em_line.specs.Grammar.{parsed_line}
 use Rattle.em_script.specs.RefusedAt.{RefusedAt}
 use Rattle.em_script.specs.Reply as replies
 

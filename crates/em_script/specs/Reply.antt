@@ -18,9 +18,9 @@ use Rattle.em_text.specs.declared.writer.WriteFailed.{WriteFailed}
 use Rattle.em_script.specs.declared.outcome.Outcome.{Outcome}
 use Rattle.em_script.specs.declared.outcome.Outcome.TheVariants as outcome
 use Rattle.em_script.specs.Session.{Session}
-use Rattle.em_script.specs.Command as command
-use Rattle.em_script.specs.Command.{Command, event}
-use Rattle.em_script.specs.ParsedLine.{ParsedLine, silent, bad, says, asks, plans}
+use Rattle.em_line.specs.Command as command
+use Rattle.em_line.specs.Command.{Command, event}
+use Rattle.em_line.specs.ParsedLine.{ParsedLine, silent, bad, says, asks, plans}
 use Rattle.em_script.specs.RefusedAt.{RefusedAt, before, within, named_of}
 use Rattle.em_script.specs.Calling.{asked_text, asked_outcome, after_asked, asked_calls, MayBeRefusedAt}
 use Rattle.em_driver.specs.declared.turn.Turn.{Turn}

@@ -10,8 +10,8 @@ use Rattle.em_script.specs.declared.summary.Summary.{Summary}
 use Rattle.em_script.specs.declared.runner.BenchFault.{BenchFault}
 use Rattle.em_script.specs.declared.runner.BenchFault.TheVariants.{Read, Write, TooLarge, Memory}
 use Rattle.em_script.specs.Session.{Session}
-use Rattle.em_script.specs.ParsedLine.{brings_octets}
-use Rattle.em_script.specs.Grammar.{parsed_line}
+use Rattle.em_line.specs.ParsedLine.{brings_octets}
+use Rattle.em_line.specs.Grammar.{parsed_line}
 use Rattle.em_script.specs.Reply.{line_takes_memory}
 use Rattle.em_script.specs.PlayedLine.{PlayedLine, played_text, after_played, IsAllowed, text_from, after_all, outcomes}
 use Rattle.em_script.specs.PlayedLine.{ArePlayed, with_memory, calls}

@@ -5,17 +5,16 @@ ghost use Rattle.em_driver.specs.Outcome as outcome;
 ghost use Rattle.em_driver.specs.Receive.{lists};
 ghost use Rattle.em_driver.specs.World.{quiet};
 ghost use Rattle.em_script.specs.Calling.{course_of, init_layout, plan_counts, IsCalled};
-ghost use Rattle.em_script.specs.Request.{plain_call, starts, sends, receives, stats, address, sets_address};
+ghost use Rattle.em_line.specs.Request.{plain_call, starts, sends, receives, stats, address, sets_address};
 ghost use Rattle.em_script.specs.DriverAnswer.{is_started, plain};
 
 use crate::driver_answer::DriverAnswer;
-use crate::driver_call::DriverCall;
 use crate::driver_reply::{DriverReply, PlanCounts};
 use crate::no_driver::NoDriver;
 use crate::seat::Seat;
 use crate::session::Session;
-use crate::spare::take_empty;
 use em_driver::{Batch, DeviceStats, E1000, IxyDevice, Layout, Stopped, Turns};
+use em_line::{DriverCall, take_empty};
 use std::alloc::Global;
 use std::collections::VecDeque;
 use std::mem;
@@ -39,7 +38,7 @@ pub fn start_driver(alloc: Global, session: &mut Session) -> DriverReply
     match E1000::start(alloc, turns, LAYOUT) {
         Ok((mut driver, events)) => {
             let plan = end_plan(driver.bus(), planned);
-            session.seat = Seat::Driven(driver);
+            session.seat.put(Seat::Driven(driver));
             DriverReply {
                 events,
                 answer: DriverAnswer::Start(None),
@@ -49,7 +48,7 @@ pub fn start_driver(alloc: Global, session: &mut Session) -> DriverReply
         Err(refused) => {
             let mut turns = refused.bus;
             let plan = end_plan(&mut turns, planned);
-            session.seat = Seat::Bare(turns);
+            session.seat.put(Seat::Bare(turns));
             DriverReply {
                 events: refused.events,
                 answer: DriverAnswer::Start(Some(refused.cause)),

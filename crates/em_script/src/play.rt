@@ -2,24 +2,21 @@
 ghost use Rattle.std.specs.Prelude.{◌≡◌, ◌<◌, length, IfOk, OnErr, IsTrue};
 ghost use Rattle.std.specs.Option.{option_map};
 ghost use Rattle.em_text.specs.Words.{words_of};
-ghost use Rattle.em_script.specs.Arguments.{arguments_of};
-ghost use Rattle.em_script.specs.Command.{plain};
-ghost use Rattle.em_script.specs.Grammar.{parsed_line, named_form, command_form, look_form, turns_form};
-ghost use Rattle.em_script.specs.ParsedLine.{brings_octets, command_line, request_line};
-ghost use Rattle.em_script.specs.Request.{request_form};
+ghost use Rattle.em_line.specs.Arguments.{arguments_of};
+ghost use Rattle.em_line.specs.Command.{plain};
+ghost use Rattle.em_line.specs.Grammar.{parsed_line, named_form, command_form, look_form, turns_form};
+ghost use Rattle.em_line.specs.ParsedLine.{brings_octets, command_line, request_line};
+ghost use Rattle.em_line.specs.Request.{request_form};
 ghost use Rattle.em_script.specs.Reply.{Performs};
 
-use crate::command::Command;
-use crate::grammar::{
-    alone, arrive_form, back_form, is_comment, link_form, peek_form, poke_form, read_form,
-    turns_form, write_form,
-};
 use crate::outcome::Outcome;
 use crate::output::write_bad_line;
-use crate::peek_len::MOST_PEEK;
 use crate::reply::{ask, obey, set_plan};
-use crate::request::request_form;
 use crate::session::Session;
+use em_line::{
+    Command, MOST_PEEK, alone, arrive_form, back_form, is_comment, link_form, peek_form, poke_form,
+    read_form, request_form, turns_form, write_form,
+};
 use em_step::Event;
 use em_text::{Words, WriteFailed, is_name};
 use std::alloc::{AllocError, Global};
@@ -30,7 +27,7 @@ use std::io::Write;
 ///
 /// `data_buffer` is for those, and `peek_buffer` for the octets that a look at guest memory shows.
 #[inline(always)]
-#[tactic(auto, unfolding(crate::specs::Grammar::parsed_line))]
+#[tactic(auto, unfolding(em_line::specs::Grammar::parsed_line))]
 pub fn play_line<W: Write>(
     alloc: Global,
     writer: &mut W,

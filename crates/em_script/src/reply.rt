@@ -2,30 +2,27 @@
 //! inlined, since its room on the stack would be taken for every line.
 ghost use Rattle.std.specs.Prelude.{ℕ};
 ghost use Rattle.em_step.specs.Event.{plain as plain_event};
-ghost use Rattle.em_script.specs.Command.{plain as plain_command, event as event_command};
+ghost use Rattle.em_line.specs.Command.{plain as plain_command, event as event_command};
 ghost use Rattle.em_text.specs.Words.{words_of};
-ghost use Rattle.em_script.specs.ParsedLine.{says, asks, plan_line};
-ghost use Rattle.em_script.specs.Plan.{plan_of};
-ghost use Rattle.em_script.specs.Request.{plain as plain_request};
+ghost use Rattle.em_line.specs.ParsedLine.{says, asks, plan_line};
+ghost use Rattle.em_line.specs.Plan.{plan_of};
+ghost use Rattle.em_line.specs.Request.{plain as plain_request};
 ghost use Rattle.em_script.specs.Reply.{peek_reply, interrupt_line_reply, registers_reply, back_call, call_reply};
 ghost use Rattle.em_script.specs.Reply.{back_by_reply, wire_reply, Gives, Obeys, Performs};
 
 use crate::calling::{call_driver, start_driver};
-use crate::command::Command;
 use crate::driver_output::{write_driver_reply, write_no_driver};
 use crate::no_driver::NoDriver;
 use crate::outcome::Outcome;
 use crate::output::{
     write_answer, write_back, write_bit, write_done, write_empty, write_octets, write_refusal,
 };
-use crate::peek_len::{MOST_PEEK, PeekLen};
-use crate::plan::{PlanWords, plan_of};
 use crate::registers::write_registers;
-use crate::request::Request;
 use crate::seat::Seat;
 use crate::session::Session;
 use crate::wire::write_wire;
 use em_journal::{Empty, Machine};
+use em_line::{Command, MOST_PEEK, PeekLen, PlanWords, Request, plan_of};
 use em_step::{Event, Refusal};
 use em_text::WriteFailed;
 use std::alloc::Global;

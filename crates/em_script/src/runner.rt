@@ -5,10 +5,10 @@ ghost use Rattle.em_text.specs.Reader.{most_script};
 ghost use Rattle.em_script.specs.Runner.{text, TakesNoMemory, SaysMemory, Answers, ReadsWhole, FailsInLine};
 ghost use Rattle.em_script.specs.Runner.{code_of, name_of, StopsBeforeLine, StopsInScript};
 
-use crate::peek_len::MOST_PEEK;
 use crate::play::play_line;
 use crate::session::Session;
 use crate::summary::{Summary, count};
+use em_line::MOST_PEEK;
 use em_text::{ReadFault, WriteFailed, next_line, read_script};
 use std::alloc::Global;
 use std::io::{Read, Write};

@@ -25,4 +25,12 @@ impl Seat {
             Seat::Moved => unreachable!(),
         }
     }
+
+    /// Puts a machine into the seat. This has a function of its own, since the prover checks here that what
+    /// was in the seat may be dropped, which takes long.
+    pub fn put(&mut self, seat: Seat)
+        ensures { self.new ≡ seat }
+    {
+        *self = seat;
+    }
 }

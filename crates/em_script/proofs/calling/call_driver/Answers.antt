@@ -1,5 +1,5 @@
 use Rattle.std.proofs.Common.{refl, ap, sym}
-use Rattle.em_script.specs.Request.{plain_call}
+use Rattle.em_line.specs.Request.{plain_call}
 use Rattle.em_script.specs.Seat.{world_in}
 use Rattle.em_script.specs.declared.seat.Seat.{Seat}
 use Rattle.em_script.specs.declared.seat.Seat.TheVariants.{Driven}

@@ -1,5 +1,5 @@
 use Rattle.std.proofs.Common.{◌∙◌, refl, ap, sym}
-use Rattle.em_script.specs.Request.{starts}
+use Rattle.em_line.specs.Request.{starts}
 use Rattle.em_script.specs.Seat.{world_in}
 use Rattle.em_script.specs.declared.seat.Seat.{Seat}
 use Rattle.em_script.specs.declared.seat.Seat.TheVariants.{Bare, Driven}
@@ -15,10 +15,9 @@ returns-in-Ok c =
     let left = rw (c.bus.ensures.value) at c.end_plan-plan.ensures.turns in
     let d = c.in-Ok.driver in
     let after : Seat = Driven (record d { bus = c.end_plan-plan.new.turns }) in
-    is_called starts c.session.inside.seat after c.session.inside.planned c.replace-planned.new.dest c.args.session.now
-    c.into_turns-turns.result c.in-Ok.driver.bus _ (sym c.session.view_is) c.session.invariant begins follows counts
-    refl left
-    c.replace-planned.ensures.after
+    rw (c.put.ensures) (is_called starts c.session.inside.seat after c.session.inside.planned
+    c.replace-planned.new.dest c.args.session.now c.into_turns-turns.result c.in-Ok.driver.bus _
+    (sym c.session.view_is) c.session.invariant begins follows counts refl left c.replace-planned.ensures.after)
 
 pub returns-in-Err : goal.returns-in-Err
 returns-in-Err c =
@@ -26,7 +25,7 @@ returns-in-Err c =
     let refused = c.in-Err.refused in
     let follows = not_started _ _ refused.events refused.cause c.in-Err.ensures.untouched c.in-Err.ensures.stopped in
     let counts = rw (c.replace-planned.ensures.value) at c.end_plan-plan-in-Err.ensures.counts in
-    is_called starts c.session.inside.seat (Bare c.end_plan-plan-in-Err.new.turns) c.session.inside.planned
-    c.replace-planned.new.dest c.args.session.now
-    c.into_turns-turns.result refused.bus _ (sym c.session.view_is) c.session.invariant begins follows counts refl
-    c.end_plan-plan-in-Err.ensures.turns c.replace-planned.ensures.after
+    rw (c.put-in-Err.ensures) (is_called starts c.session.inside.seat (Bare c.end_plan-plan-in-Err.new.turns)
+    c.session.inside.planned c.replace-planned.new.dest c.args.session.now c.into_turns-turns.result refused.bus _
+    (sym c.session.view_is) c.session.invariant begins follows counts refl c.end_plan-plan-in-Err.ensures.turns
+    c.replace-planned.ensures.after)

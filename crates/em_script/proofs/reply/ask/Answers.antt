@@ -1,5 +1,5 @@
 use Rattle.std.proofs.Common.{◌∙◌, refl}
-use Rattle.em_script.specs.Request.{plain_call, starts}
+use Rattle.em_line.specs.Request.{plain_call, starts}
 use Rattle.em_script.proofs.ReplyLemmas.{call_made, has_driver_call}
 use Rattle.em_script.proofs.reply.ask.Goals as goal
 

@@ -1,6 +1,6 @@
 use Rattle.std.proofs.Common.{rules, refl}
 use Rattle.em_text.specs.Words.{words_of}
-use Rattle.em_script.specs.Plan.{plan_of}
+use Rattle.em_line.specs.Plan.{plan_of}
 use Rattle.em_script.proofs.ReplyLemmas.{plan_set, plan_refused}
 use Rattle.em_script.proofs.reply.set_plan.Goals as goal
 

@@ -1,0 +1,38 @@
+-- What a line says, as data.
+use Rattle.std.specs.Prelude.{Bool, true, false, List, Option, Some, None}
+use Rattle.em_step.specs.Event.{pokes, arrives}
+use Rattle.em_driver.specs.declared.turn.Turn.{Turn}
+use Rattle.em_line.specs.Command.{Command, event}
+use Rattle.em_line.specs.Request.{Request, sends, sets_address}
+
+-- a line prints nothing, or is bad, or says a command, or asks something of a driver, or sets the plan
+pub data ParsedLine : Type 0 where
+  silent : ParsedLine
+  bad : ParsedLine
+  says : Command → ParsedLine
+  asks : Request → ParsedLine
+  plans : List (List Turn) → ParsedLine
+
+-- a command, if words say one
+abbrev pub command_line : Option Command → ParsedLine
+command_line None = bad
+command_line (Some command) = says command
+
+-- what is asked, if words ask something
+abbrev pub request_line : Option Request → ParsedLine
+request_line None = bad
+request_line (Some request) = asks request
+
+-- a plan, if words say one
+abbrev pub plan_line : Option (List (List Turn)) → ParsedLine
+plan_line None = bad
+plan_line (Some plan) = plans plan
+
+-- the lines whose octets take memory before anything is done: those of a memory write, of a frame, of a packet, or of
+-- an address
+abbrev pub brings_octets : ParsedLine → Bool
+brings_octets (says (event (pokes addr octets))) = true
+brings_octets (says (event (arrives octets))) = true
+brings_octets (asks (sends packets)) = true
+brings_octets (asks (sets_address octets)) = true
+brings_octets _ = false
