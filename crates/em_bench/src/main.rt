@@ -1,11 +1,12 @@
 //! The bench program: runs a script on a machine that the options describe, and answers on standard
 //! output.
 //!
-//! It only joins what em_options promises: what the words say, the session over a new machine, the
-//! script played and written out, and how all this ends.
+//! It only joins what em_options and em_ending promise: what the words say, the session over a new
+//! machine, the script played and written out, and how all this ends.
 #![tactic(auto)]
 
-use em_options::{Ending, Options, OptionsRefused, options, play};
+use em_ending::{Ending, play, session};
+use em_options::{Options, OptionsRefused, options};
 use em_script::{BenchFault, Session};
 use std::fs::File;
 use std::io::{self, BufWriter, Read};
@@ -55,12 +56,12 @@ fn without_options(rt: &(impl Print + Eprint), refused: &OptionsRefused) -> Endi
         Some(error) => error.print(rt).is_ok(),
         None => true,
     };
-    refused.ending().after_print(is_printed)
+    Ending::without_options(refused).after_print(is_printed)
 }
 
 /// Makes the machine, then opens the script and plays it.
 fn with_options(rt: &(impl Files + Input + Print + AllocGlobal), options: &Options<'_>) -> Ending {
-    match options.session(rt.alloc()) {
+    match session(rt.alloc(), options.settings()) {
         Ok(mut session) => {
             let ending = with_session(rt, options.script, &mut session);
             // The system takes its memory back when the program ends, all at once.

@@ -1,3 +1,2 @@
 pub mod Defaults
 pub mod Usual
-pub mod PlayingLemmas

@@ -1,3 +1,2 @@
 pub mod Options
-pub mod Ending
-pub mod Playing
+pub mod Refused

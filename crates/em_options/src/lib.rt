@@ -1,24 +1,11 @@
-//! The command line of the bench program, and how a run of it ends: what its words ask for, and
-//! for each ending the status and the line on standard error.
-//!
-//! | Ending | Status | Line |
-//! |---|---|---|
-//! | no line was bad, help | 0 | none |
-//! | a line was bad | 1 | none |
-//! | the parser refused the words | 2 | the parser's own text |
-//! | an option's value was refused | 2 | `em_bench: Mac`, `em_bench: Size` or `em_bench: Budget` |
-//! | a fault of the run | 3 | `em_bench: Read`, `Write`, `TooLarge` or `Memory` |
+//! The command line of the bench program: what its words ask for, and why they are refused.
 #![tactic(auto)]
 
 mod command;
-mod ending;
 mod help;
-mod playing;
 mod settings;
 #[cfg(test)]
 mod tests;
 
 pub use command::options;
-pub use ending::Ending;
-pub use playing::play;
 pub use settings::{Options, OptionsRefused};

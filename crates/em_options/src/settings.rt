@@ -1,18 +1,13 @@
 //! What a command line asks for, and why one is refused.
-ghost use Rattle.std.specs.Prelude.{◌≡◌, IfOk, IfErr, OnOk};
+ghost use Rattle.std.specs.Prelude.{◌≡◌};
 ghost use Rattle.std.specs.Option.{option_map};
 ghost use Rattle.clap.specs.Words.{kind_of};
-ghost use Rattle.em_journal.specs.Settings.{new_machine, AreAllowed};
-ghost use Rattle.em_script.specs.Session.{bare};
-ghost use Rattle.em_options.specs.Ending.{name_of, told_by_kind, told_error, EndsWithoutMachine};
 ghost use Rattle.em_options.specs.Options.{settings_of};
+ghost use Rattle.em_options.specs.Refused.{name_of, told_by_kind, told_error};
 
-use crate::ending::Ending;
 use clap::Error as ParserError;
 use clap::error::ErrorKind;
 use em_journal::Settings;
-use em_script::Session;
-use std::alloc::Global;
 use thiserror::Error;
 
 /// What the words of a command line ask for. That the size and the budget are allowed is decided
@@ -38,19 +33,6 @@ impl Options<'_> {
             memory: self.memory,
             budget: self.budget,
             mac: self.mac,
-        }
-    }
-
-    /// A session over a new machine that is made as these words say, or how the program ends where
-    /// there is none.
-    pub fn session(&self, alloc: Global) -> Result<Session, Ending>
-        ensures ok { IfOk result (λ session. session ≡ bare (new_machine (settings_of self.now))) }
-        ensures allowed { OnOk result (AreAllowed (settings_of self.now)) }
-        ensures err { IfErr result (EndsWithoutMachine (settings_of self.now)) }
-    {
-        match self.settings().machine(alloc) {
-            Ok(machine) => Ok(Session::new(alloc, machine)),
-            Err(refusal) => Err(refusal.into()),
         }
     }
 }

@@ -1,12 +1,11 @@
-//! What no contract says: that the parser takes words at all, and the kinds of its refusals.
+//! What no contract says: that the parser takes words at all, and which it refuses.
 //!
 //! The calls go through functions without contracts: else the prover would carry what they say on to all that a test
 //! asserts after them.
-use crate::{Ending, Options, OptionsRefused, options};
-use em_journal::{Empty, JournalRefusal, Settings, SettingsRefusal};
-use em_script::{BenchFault, NoDriver};
+use crate::{Options, OptionsRefused, options};
+use clap::error::ErrorKind;
+use em_journal::Settings;
 use std::alloc::Global;
-use std::fmt::Display;
 use std::test::Fail;
 
 /// The words of a command line, with the program's name before them.
@@ -34,12 +33,28 @@ fn says<F: FnOnce(&Options<'_>) -> bool + Drop>(
     }
 }
 
-/// How the program ends where these words are refused.
-fn ending(alloc: Global, words: &[&str]) -> Result<Option<Ending>, Fail> {
+/// What words are refused for.
+#[derive(Clone, Copy, PartialEq, Eq, Debug)]
+enum Refused {
+    Help,
+    Words,
+    Mac,
+}
+
+/// What these words are refused for, if they are.
+fn refused(alloc: Global, words: &[&str]) -> Result<Option<Refused>, Fail> {
     let line = command_line(alloc, words)?;
     match options(alloc, line.as_slice()) {
         Ok(_) => Ok(None),
-        Err(refused) => Ok(Some(refused.ending())),
+        Err(OptionsRefused::Mac) => Ok(Some(Refused::Mac)),
+        Err(OptionsRefused::Parser(error)) => Ok(Some(by_kind(error.kind()))),
+    }
+}
+
+fn by_kind(kind: ErrorKind) -> Refused {
+    match kind {
+        ErrorKind::DisplayHelp | ErrorKind::DisplayVersion => Refused::Help,
+        _ => Refused::Words,
     }
 }
 
@@ -73,58 +88,25 @@ fn words_say_options_and_script(rt: HostRuntime) -> Result<(), Fail> {
 }
 
 #[test]
-fn refusals_have_endings(rt: HostRuntime) -> Result<(), Fail> {
+fn words_are_refused_for_what_they_are(rt: HostRuntime) -> Result<(), Fail> {
     for (words, wanted) in [
-        (["--help"].as_slice(), Some(Ending::Help)),
-        (["-V"].as_slice(), Some(Ending::Help)),
-        (["--mac", "52540012345"].as_slice(), Some(Ending::Mac)),
-        (["--mac", "5254001234567"].as_slice(), Some(Ending::Mac)),
-        (["--mac", "52540012345g"].as_slice(), Some(Ending::Mac)),
-        (["--mac", ""].as_slice(), Some(Ending::Mac)),
+        (["--help"].as_slice(), Some(Refused::Help)),
+        (["-V"].as_slice(), Some(Refused::Help)),
+        (["--mac", "52540012345"].as_slice(), Some(Refused::Mac)),
+        (["--mac", "5254001234567"].as_slice(), Some(Refused::Mac)),
+        (["--mac", "52540012345g"].as_slice(), Some(Refused::Mac)),
+        (["--mac", ""].as_slice(), Some(Refused::Mac)),
         (
             ["--memory", "18446744073709551616"].as_slice(),
-            Some(Ending::Parser),
+            Some(Refused::Words),
         ),
         (["--memory", "18446744073709551615"].as_slice(), None),
-        (["--budget", "-1"].as_slice(), Some(Ending::Parser)),
-        (["--depth", "1"].as_slice(), Some(Ending::Parser)),
-        (["one", "two"].as_slice(), Some(Ending::Parser)),
+        (["--budget", "-1"].as_slice(), Some(Refused::Words)),
+        (["--depth", "1"].as_slice(), Some(Refused::Words)),
+        (["one", "two"].as_slice(), Some(Refused::Words)),
         (["--", "--help"].as_slice(), None),
     ] {
-        assert!(rt; ending(rt.alloc(), words)? == wanted);
-    }
-    Ok(())
-}
-
-/// Whether this is what a value prints.
-fn prints<T: Display>(alloc: Global, value: &T, text: &str) -> Result<bool, Fail> {
-    Ok(format!(in alloc; "{value}")?.as_str() == text)
-}
-
-// the name of each has a contract; that it is what is printed has none
-#[test]
-fn refusals_print_their_names(rt: HostRuntime) -> Result<(), Fail> {
-    let alloc = rt.alloc();
-    assert!(rt; prints(alloc, &Empty, Empty.name())?);
-    assert!(rt; prints(alloc, &NoDriver, NoDriver.name())?);
-    assert!(rt; prints(alloc, &OptionsRefused::Mac, OptionsRefused::Mac.name())?);
-    for refusal in [JournalRefusal::Budget, JournalRefusal::Memory] {
-        assert!(rt; prints(alloc, &refusal, refusal.name())?);
-    }
-    for refusal in [
-        SettingsRefusal::Size,
-        SettingsRefusal::Budget,
-        SettingsRefusal::Memory,
-    ] {
-        assert!(rt; prints(alloc, &refusal, refusal.name())?);
-    }
-    for fault in [
-        BenchFault::Read,
-        BenchFault::Write,
-        BenchFault::TooLarge,
-        BenchFault::Memory,
-    ] {
-        assert!(rt; prints(alloc, &fault, fault.name())?);
+        assert!(rt; refused(rt.alloc(), words)? == wanted);
     }
     Ok(())
 }

@@ -7,7 +7,8 @@
 #![tactic(auto)]
 
 use anyhow::{Context, Result};
-use em_options::{Ending, options};
+use em_ending::{Ending, session};
+use em_options::options;
 use em_script::{BenchFault, Session, run};
 use std::alloc::Global;
 use std::rt::Files;
@@ -75,13 +76,12 @@ fn play(rt: &(impl Files + AllocGlobal), name: &str, printed: &mut Vec<u8>) -> R
     let words = command_line(alloc, args.as_str())?;
     let options = match options(alloc, words.as_slice()) {
         Ok(options) => options,
-        Err(refused) => return Ok(refused.ending()),
+        Err(refused) => return Ok(Ending::without_options(&refused)),
     };
-    let machine = match options.settings().machine(alloc) {
-        Ok(machine) => machine,
-        Err(refusal) => return Ok(refusal.into()),
+    let mut session = match session(alloc, options.settings()) {
+        Ok(session) => session,
+        Err(ending) => return Ok(ending),
     };
-    let mut session = Session::new(alloc, machine);
     play_script(
         rt,
         name,

@@ -3,13 +3,13 @@ ghost use Rattle.std.specs.Prelude.{◌≡◌};
 ghost use Rattle.std.specs.IoError.{error_kind};
 ghost use Rattle.clap.specs.Words.{kind_of};
 ghost use Rattle.em_text.specs.Writer.{Writes};
-ghost use Rattle.em_options.specs.Ending.{after_print, ending_of_kind, ending_of_open, ending_of_refusal};
-ghost use Rattle.em_options.specs.Ending.{ending_of_run, ending_of_settings, ending_of_words, error_line_of};
-ghost use Rattle.em_options.specs.Ending.{memory_or, status_of, told_text};
+ghost use Rattle.em_ending.specs.Ending.{after_print, ending_of_kind, ending_of_open, ending_of_refusal};
+ghost use Rattle.em_ending.specs.Ending.{ending_of_run, ending_of_settings, ending_of_words, error_line_of};
+ghost use Rattle.em_ending.specs.Ending.{memory_or, status_of, told_text};
 
-use crate::settings::OptionsRefused;
 use clap::error::ErrorKind;
 use em_journal::SettingsRefusal;
+use em_options::OptionsRefused;
 use em_script::{BenchFault, Summary};
 use em_text::{WriteFailed, write_pieces};
 use std::io::{self, Write};
@@ -87,6 +87,16 @@ impl Ending {
         memory_or(error, Ending::Parser)
     }
 
+    /// How it ends where its command line is refused.
+    pub fn without_options(refused: &OptionsRefused) -> Ending
+        ensures { result ≡ ending_of_refusal refused.now }
+    {
+        match refused {
+            OptionsRefused::Parser(error) => parser_ending(error.kind()),
+            OptionsRefused::Mac => Ending::Mac,
+        }
+    }
+
     /// How it ends where the script can't be opened.
     pub fn without_script(error: &io::Error) -> Ending
         ensures { result ≡ ending_of_open (error_kind error.now) }
@@ -113,18 +123,6 @@ impl Ending {
             return Ok(());
         }
         write_pieces(writer, &[line.as_bytes(), b"\n"])
-    }
-}
-
-impl OptionsRefused {
-    /// How the program ends where its command line is refused.
-    pub fn ending(&self) -> Ending
-        ensures { result ≡ ending_of_refusal self.now }
-    {
-        match self {
-            OptionsRefused::Parser(error) => parser_ending(error.kind()),
-            OptionsRefused::Mac => Ending::Mac,
-        }
     }
 }
 

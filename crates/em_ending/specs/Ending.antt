@@ -1,10 +1,9 @@
 -- How the program ends: its status and its line on standard error, for each ending.
 use Rattle.std.specs.Prelude.{ℕ, Bool, true, false, List, [], ◌∷◌, ◌==◌, ◌++◌, if◌then◌else◌, codes}
-use Rattle.std.specs.Prelude.{◌≡◌, Option, Some, None, Result, Ok, Err}
+use Rattle.std.specs.Prelude.{◌≡◌, Result, Ok, Err}
 use Rattle.std.specs.declared.io.ErrorKind.{ErrorKind as IoKind}
 use Rattle.std.specs.declared.io.ErrorKind.TheVariants as io
 use Rattle.clap.specs.Words.{kind_of}
-use Rattle.clap.specs.declared.error.Error.{Error}
 use Rattle.clap.specs.declared.error.kind.ErrorKind.{ErrorKind}
 use Rattle.clap.specs.declared.error.kind.ErrorKind.TheVariants as kind
 use Rattle.em_journal.specs.Settings.{name_of as refusal_name, IsRefusedAs}
@@ -15,8 +14,8 @@ use Rattle.em_script.specs.Runner.{name_of as fault_name}
 use Rattle.em_script.specs.declared.runner.BenchFault.{BenchFault}
 use Rattle.em_script.specs.declared.runner.BenchFault.TheVariants as fault
 use Rattle.em_script.specs.declared.summary.Summary.{Summary}
-use Rattle.em_options.specs.declared.ending.Ending.{Ending}
-use Rattle.em_options.specs.declared.ending.Ending.TheVariants.{Ran, Help, Parser, Mac, Size, Budget, Fault}
+use Rattle.em_ending.specs.declared.ending.Ending.{Ending}
+use Rattle.em_ending.specs.declared.ending.Ending.TheVariants.{Ran, Help, Parser, Mac, Size, Budget, Fault}
 use Rattle.em_options.specs.declared.settings.OptionsRefused.{OptionsRefused}
 use Rattle.em_options.specs.declared.settings.OptionsRefused.TheVariants as refused
 
@@ -65,16 +64,6 @@ abbrev pub ending_of_refusal : OptionsRefused → Ending
 ending_of_refusal (refused.Parser error) = ending_of_kind (kind_of error)
 ending_of_refusal refused.Mac = Mac
 
--- the parser's error where it has a text for the user: help or the version, or what is wrong with the words; of want of
--- memory it says nothing
-abbrev pub told_by_kind : ErrorKind → Error → Option Error
-told_by_kind kind.OutOfMemory error = None
-told_by_kind other error = Some error
-
-abbrev pub told_error : OptionsRefused → Option Error
-told_error (refused.Parser error) = told_by_kind (kind_of error) error
-told_error refused.Mac = None
-
 -- the parser's text was printed, or could not be: help that can't be printed is a fault
 abbrev pub after_print : Bool → Ending → Ending
 after_print false Help = Fault fault.Write
@@ -98,11 +87,6 @@ abbrev pub ending_of_settings : SettingsRefusal → Ending
 ending_of_settings settings.Size = Size
 ending_of_settings settings.Budget = Budget
 ending_of_settings settings.Memory = Fault fault.Memory
-
--- the name of what refused a command line
-abbrev pub name_of : OptionsRefused → List ℕ
-name_of (refused.Parser error) = codes "Parser"
-name_of refused.Mac = codes "Mac"
 
 -- no machine was made of the settings, and the program ends by what refused them
 abbrev pub EndsWithoutMachine : Settings → Ending → Type 0

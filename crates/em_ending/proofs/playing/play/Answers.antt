@@ -1,6 +1,6 @@
 use Rattle.std.proofs.Common.{inl, inr, refl, rules}
-use Rattle.em_options.proofs.PlayingLemmas.{leaves_of, leaves_on}
-use Rattle.em_options.proofs.playing.play.Goals as goal
+use Rattle.em_ending.proofs.PlayingLemmas.{leaves_of, leaves_on}
+use Rattle.em_ending.proofs.playing.play.Goals as goal
 
 pub returns-then-is_err : goal.returns-then-is_err
 returns-then-is_err g c =

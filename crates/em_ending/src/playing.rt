@@ -1,6 +1,6 @@
 //! Playing a script to its end, so that what was written is out before anything is said of it.
 ghost use Rattle.std.specs.Io.Buffered.{writer_buffer, writer_contents};
-ghost use Rattle.em_options.specs.Playing.{Plays};
+ghost use Rattle.em_ending.specs.Playing.{Plays};
 
 use crate::ending::Ending;
 use em_script::{BenchFault, Session, run};

@@ -9,7 +9,7 @@ use Rattle.em_script.specs.declared.runner.BenchFault.TheVariants as fault
 use Rattle.em_script.specs.declared.summary.Summary.{Summary}
 use Rattle.em_script.specs.Session.{Session}
 use Rattle.em_script.specs.Runner.{Answers, FailsInLine, ReadsWhole, StopsBeforeLine}
-use Rattle.em_options.specs.Playing.{Leaves}
+use Rattle.em_ending.specs.Playing.{Leaves}
 
 -- the clauses of `run`, put together
 pub leaves_of : (given rest : Option (List ℕ)) (first now : Session) (old new : Option (List ℕ))

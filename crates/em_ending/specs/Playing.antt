@@ -7,9 +7,9 @@ use Rattle.em_script.specs.declared.runner.BenchFault.TheVariants as fault
 use Rattle.em_script.specs.declared.summary.Summary.{Summary}
 use Rattle.em_script.specs.Session.{Session}
 use Rattle.em_script.specs.Runner.{Answers, FailsInLine, ReadsWhole, StopsBeforeLine}
-use Rattle.em_options.specs.Ending.{ending_of_run}
-use Rattle.em_options.specs.declared.ending.Ending.{Ending}
-use Rattle.em_options.specs.declared.ending.Ending.TheVariants.{Fault}
+use Rattle.em_ending.specs.Ending.{ending_of_run}
+use Rattle.em_ending.specs.declared.ending.Ending.{Ending}
+use Rattle.em_ending.specs.declared.ending.Ending.TheVariants.{Fault}
 
 -- what a run leaves, by how it ended: a reader had the octets `given` and has `rest`, and a writer held `old` and holds
 -- `new`
