@@ -1,14 +1,16 @@
--- The record k steps back leads from one state of the view to the next one.
+-- The record k steps back leads from one state of the view to the next one, and memory has one size in all of them.
 use Rattle.std.proofs.Common.{◌≡◌, ◌∙◌, ℕ, ◌≤◌, zero, suc, List, [], ◌∷◌, length, Option, Some, None, refl, sym, ap, subst, arith, inl, inr}
 use Rattle.std.specs.Prelude.{IfSome, IsNone, slice_get, ◌↔◌}
 use Rattle.std.specs.Option.{option_map}
 use Rattle.std.proofs.lemmas.Option.{slice_get_cases, slice_get_past}
 use Rattle.em_step.specs.Cells.{Cells, shows}
 use Rattle.em_step.specs.Undo.{Fits, undo}
+use Rattle.em_step.specs.State.{State}
 use Rattle.em_step.specs.declared.undo.Undo.{Undo}
+use Rattle.em_step.proofs.SizeLaws.{memory_size}
 use Rattle.em_journal.specs.Record.{IsRecordAt}
 use Rattle.em_journal.specs.Records.{AllFit, back_through, view_of}
-use Rattle.em_journal.specs.View.{View}
+use Rattle.em_journal.specs.View.{HaveMemoryOf, View}
 
 -- the records from these cells on have such a record at k
 abbrev HasRecordAt : Cells → List Undo → ℕ → Undo → Type 0
@@ -45,3 +47,24 @@ record_none (Some x) f rs k n is size = (
   λ none. absurd (cc),
   λ past. absurd (let same = is ∙ slice_get_past rs k (omega (arith, size, past)) in cc),
 )
+
+-- ---- memory has as many octets in each state as now
+sizes_in : (c : Cells) (rs : List Undo) → AllFit c rs → (k : ℕ) (s : State) → slice_get (back_through c rs) k ≡ Some s
+    → length s.memory ≡ length (shows c).memory
+sizes_in c [] fit k s is = absurd (cc)
+sizes_in c (r ∷ rs) fit zero s is =
+    let same : shows (undo c r) ≡ s = cc in
+    ap (λ (x : State). length x.memory) (sym same) ∙ memory_size c r fit.0
+sizes_in c (r ∷ rs) fit (suc k) s is = sizes_in (undo c r) rs fit.1 k s is ∙ memory_size c r fit.0
+
+sizes : (c : Cells) (rs : List Undo) → AllFit c rs → (k : ℕ) (s : State)
+    → slice_get (shows c ∷ back_through c rs) k ≡ Some s → length s.memory ≡ length (shows c).memory
+sizes c rs fit zero s is =
+    let same : shows c ≡ s = cc in
+    ap (λ (x : State). length x.memory) (sym same)
+sizes c rs fit (suc k) s is = sizes_in c rs fit k s is
+
+pub sizes_stay : (budget : ℕ) (c : Cells) (rs : List Undo) (v : View) (size : ℕ) → AllFit c rs
+    → view_of budget c rs ≡ v → size ≡ length (shows c).memory → HaveMemoryOf size v
+sizes_stay budget c rs v size fit view is =
+    subst (HaveMemoryOf size) view (λ k s at. sizes c rs fit k s at ∙ sym is)

@@ -1,5 +1,6 @@
 -- What a machine shows: where it is, and what it can go back to.
-use Rattle.std.specs.Prelude.{ℕ, ◌-◌, nat_le, if◌then◌else◌, zero, suc, List, [], ◌∷◌, take, drop, refl}
+use Rattle.std.specs.Prelude.{◌≡◌, ℕ, ◌-◌, nat_le, if◌then◌else◌, zero, suc, List, [], ◌∷◌, length, take, drop, refl}
+use Rattle.std.specs.Prelude.{Some, slice_get}
 use Rattle.std.specs.Coded.{Coded, code_by, coded×, coded_list, coded_ℕ}
 use Rattle.em_step.specs.State.{State, state_code}
 
@@ -27,6 +28,10 @@ opening budget s = record { budget = budget; present = s; past = []; costs = [] 
 -- the present state and those before it
 abbrev pub states : View → List State
 states v = v.present ∷ v.past
+
+-- in each of them memory has so many octets
+abbrev pub HaveMemoryOf : ℕ → View → Type 0
+HaveMemoryOf size v = (k : ℕ) (s : State) → slice_get (states v) k ≡ Some s → length s.memory ≡ size
 
 -- how many costs, from the newest on, the budget holds
 abbrev pub reach : ℕ → List ℕ → ℕ

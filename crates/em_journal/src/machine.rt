@@ -28,7 +28,7 @@ ghost use Rattle.em_step.specs.Event.{plain, reads, writes, pokes, arrives, link
 ghost use Rattle.em_journal.specs.Budget.{IsBudget};
 ghost use Rattle.em_journal.specs.History.{performs, refuses, goes_back, is_empty, Does, Run};
 ghost use Rattle.em_journal.specs.Record.{IsRecordAt};
-ghost use Rattle.em_journal.specs.View.{opening, after_backs};
+ghost use Rattle.em_journal.specs.View.{HaveMemoryOf, opening, after_backs};
 
 use crate::records::Records;
 use crate::refusal::{Empty, JournalRefusal};
@@ -439,9 +439,10 @@ impl Machine {
         self.adapter.wire_frame(index)
     }
 
-    /// How many octets the guest's memory has.
+    /// How many octets the guest's memory has: as many in each state.
     pub fn memory_size(&self) -> u64
-        ensures { result ≡ length self.now.present.memory }
+        ensures size { result ≡ length self.now.present.memory }
+        ensures states { HaveMemoryOf result self.now }
     {
         self.adapter.memory_size()
     }

@@ -6,3 +6,4 @@ pub mod PieceLaws
 pub mod MadePages
 pub mod WriteLaws
 pub mod WindowLaws
+pub mod ExtentLaws

@@ -21,7 +21,7 @@ use Rattle.em_mem.specs.Window.{IsWindow, lay_over}
 use Rattle.em_mem.proofs.PutLaws.{length-put}
 
 -- ---- one octet of a list where others are put from k on
-before_put : (m : List ℕ) (k : ℕ) (d : List ℕ) (i : ℕ) → i < k → i < length m → get_or (put m k d) i 0 ≡ get_or m i 0
+pub before_put : (m : List ℕ) (k : ℕ) (d : List ℕ) (i : ℕ) → i < k → i < length m → get_or (put m k d) i 0 ≡ get_or m i 0
 before_put m k d i l h =
     get_or_append_left (take k m) (d ++ drop (k + length d) m) 0 i (omega (arith, length-take k m)) ∙ get_or-take k m i 0 l
 
@@ -31,7 +31,7 @@ within_put m k d i held from to =
     get_or-append_right (take k m) (d ++ drop (k + length d) m) k i 0 (length-take-le k m held) from
     ∙ get_or_append_left d (drop (k + length d) m) 0 (i - k) (omega arith)
 
-past_put : (m : List ℕ) (k : ℕ) (d : List ℕ) (i : ℕ) → k ≤ length m → k + length d ≤ i
+pub past_put : (m : List ℕ) (k : ℕ) (d : List ℕ) (i : ℕ) → k ≤ length m → k + length d ≤ i
     → get_or (put m k d) i 0 ≡ get_or m i 0
 past_put m k d i held from =
     let rest : k + length d + (i - k - length d) ≡ i = omega arith in

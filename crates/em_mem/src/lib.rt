@@ -2,6 +2,7 @@
 //! they are about to be written, and what it means to take a change back.
 #![tactic(auto)]
 
+pub use extent::{least, next_octet};
 pub use few_octets::{FEW, FewOctets};
 pub use memory::GuestMemory;
 pub use place::Place;
@@ -11,6 +12,7 @@ pub use spares::{Spares, SparesByLen, empty_for, refill};
 pub use undo::MemUndo;
 pub use window::lay_over;
 
+mod extent;
 mod few_octets;
 mod memory;
 mod page;

@@ -1,7 +1,10 @@
 ghost use Rattle.std.specs.Prelude.{◌≡◌, IfOk};
 ghost use Rattle.em_mem.specs.Memory.{Fits};
 
-use crate::{FEW, FewOctets, GuestMemory, MOST_RECORD, MemRefusal, MemUndo, Reversible, lay_over};
+use crate::{
+    FEW, FewOctets, GuestMemory, MOST_RECORD, MemRefusal, MemUndo, Reversible, lay_over, least,
+    next_octet,
+};
 use std::alloc::Global;
 use std::test::Fail;
 
@@ -190,5 +193,22 @@ fn lays_old_octets_over_a_window(rt: HostRuntime) -> Result<(), Fail> {
     assert_eq!(rt; apart, [1, 2]);
     lay_over(0x101, &[5, 6], 0x100, &mut apart);
     assert_eq!(rt; apart, [1, 5]);
+    Ok(())
+}
+
+#[test]
+fn tells_where_old_octets_lie(rt: HostRuntime) -> Result<(), Fail> {
+    let mut memory = memory_of(rt.alloc(), 65_536)?;
+    let few = poke_few(&mut memory, 0x100, &[1, 2, 3, 4])?;
+    let undo = poke(rt.alloc(), &mut memory, 0x102, &[7, 8, 9])?;
+    assert_eq!(rt; few.next_octet(0), Some(0x100));
+    assert_eq!(rt; few.next_octet(0x103), Some(0x103));
+    assert_eq!(rt; few.next_octet(0x104), None);
+    assert_eq!(rt; undo.next_octet(0x101), Some(0x102));
+    assert_eq!(rt; undo.next_octet(0x105), None);
+    assert_eq!(rt; next_octet(0x101, &[], 0), None);
+    assert_eq!(rt; least(Some(2), Some(1)), Some(1));
+    assert_eq!(rt; least(None, Some(1)), Some(1));
+    assert_eq!(rt; least(Some(1), None), Some(1));
     Ok(())
 }

@@ -1,13 +1,14 @@
 //! What a record of the receive side puts back, told without putting it back.
 ghost use Rattle.std.specs.Prelude.{◌≡◌, length, unwrap_or};
 ghost use Rattle.em_mem.specs.Memory as memory;
+ghost use Rattle.em_mem.specs.Extent.{SameUpTo};
 ghost use Rattle.em_mem.specs.Window.{IsWindow};
-ghost use Rattle.em_rx.specs.Before.{frames_of, laid, laid_step};
+ghost use Rattle.em_rx.specs.Before.{frames_of, laid, laid_step, next_of, next_of_step};
 ghost use Rattle.em_rx.specs.Fifo.{Cells, shows};
 ghost use Rattle.em_rx.specs.Undo.{Fits, FitsStep, undo_fifo, undo_memory, with_both};
 
 use crate::{RxUndo, StepPatch};
-use em_mem::lay_over;
+use em_mem::{lay_over, least, next_octet};
 
 impl StepPatch {
     /// How many frames lay in the FIFO before the step.
@@ -30,6 +31,20 @@ impl StepPatch {
     {
         self.piece.lay_over(addr, window);
         lay_over(self.end_at, &self.end, addr, window);
+    }
+
+    /// The least address from `addr` on where the step overwrote an octet, of its buffer or of the end of its
+    /// descriptor. Up to there, or to the end of memory where there is none, the step left memory as it was.
+    #[inline(always)]
+    pub fn next_octet(&self, addr: u64) -> Option<u64>
+        ensures next { result ≡ next_of_step self.now addr }
+        ensures same { (c : Cells) (m : memory.Cells) → FitsStep c m self.now
+            → SameUpTo m.octets (with_both m self.now).octets addr result }
+    {
+        least(
+            self.piece.next_octet(addr),
+            next_octet(self.end_at, &self.end, addr),
+        )
     }
 }
 
@@ -56,6 +71,19 @@ impl RxUndo {
     {
         if let RxUndo::Step(patch) = self {
             patch.lay_over(addr, window);
+        }
+    }
+
+    /// The least address from `addr` on where the change overwrote an octet. Up to there, or to the end of memory
+    /// where there is none, it left memory as it was.
+    pub fn next_octet(&self, addr: u64) -> Option<u64>
+        ensures next { result ≡ next_of self.now addr }
+        ensures same { (c : Cells) (m : memory.Cells) → Fits c m self.now
+            → SameUpTo m.octets (undo_memory m self.now).octets addr result }
+    {
+        match self {
+            RxUndo::Step(patch) => patch.next_octet(addr),
+            _ => None,
         }
     }
 }

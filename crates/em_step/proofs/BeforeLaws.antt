@@ -1,8 +1,10 @@
 -- What a record tells is what it puts back.
 use Rattle.std.proofs.Common.{◌≡◌, ◌∙◌, ◌+◌, ℕ, Bool, true, false, List, length, refl, sym, ap, arith, subst}
-use Rattle.std.specs.Prelude.{if◌then◌else◌, unwrap_or}
+use Rattle.std.specs.Prelude.{if◌then◌else◌, unwrap_or, Option, None}
 use Rattle.em_mem.specs.Memory as memory
+use Rattle.em_mem.specs.Extent.{SameUpTo, least, next_octet as next_of_patch}
 use Rattle.em_mem.specs.Window.{IsWindow, lay_over}
+use Rattle.em_mem.proofs.ExtentLaws.{all_same, same_in_turn, same_up_to}
 use Rattle.em_mem.proofs.WindowLaws.{window-undone}
 use Rattle.em_regs.specs.declared.reg.Reg.{Reg}
 use Rattle.em_regs.specs.declared.reg.Reg.TheVariants.{Ics, Imc, Rdh, Tdh}
@@ -21,16 +23,16 @@ use Rattle.em_rx.specs.StepPatch.{StepPatch}
 use Rattle.em_rx.specs.Undo as rx_undo
 use Rattle.em_rx.specs.declared.undo.RxUndo.{RxUndo}
 use Rattle.em_rx.specs.declared.undo.RxUndo.TheVariants as rx_variant
-use Rattle.em_rx.proofs.BeforeLaws.{length-frames}
+use Rattle.em_rx.proofs.BeforeLaws.{length-frames, step_same}
 use Rattle.em_tx.specs.Undo as tx
 use Rattle.em_tx.specs.Before as tx_before
 use Rattle.em_tx.specs.Cells as tx_cells
 use Rattle.em_tx.specs.declared.undo.TxUndo.{TxUndo}
 use Rattle.em_tx.specs.declared.undo.TxUndo.TheVariants as tx_variant
-use Rattle.em_tx.proofs.BeforeLaws.{status_window, wire_undone as tx_undone}
+use Rattle.em_tx.proofs.BeforeLaws.{status_same, status_window, wire_undone as tx_undone}
 use Rattle.em_step.specs.Access.{gives_by}
 use Rattle.em_step.specs.Before.{PutsBackWindow, frames_before, has_sent, latch_before, latched_before, link_before}
-use Rattle.em_step.specs.Before.{octets_before}
+use Rattle.em_step.specs.Before.{LeavesUpTo, next_octet, octets_before}
 use Rattle.em_step.specs.Before.{register_before_by, status_before, stored_before}
 use Rattle.em_step.specs.Cells.{Cells, shows}
 use Rattle.em_step.specs.State.{status}
@@ -207,3 +209,39 @@ pub window_put_back : (r : Undo) (a : ℕ) (now before : List ℕ) → before �
 window_put_back r a now before is c fits window =
     subst (IsWindow (shows (undo c r)).memory a) (sym is)
     (effect_window (with_words c r.latches) r.effect a now (fits_with c r.latches r.effect fits.effect) window)
+
+-- ---- what stays of memory
+fifo_same : (c : rx.Cells) (m : memory.Cells) (r : RxUndo) (a : ℕ) → rx_undo.Fits c m r
+    → SameUpTo m.octets (rx_undo.undo_memory m r).octets a (rx_before.next_of r a)
+fifo_same c m rx_variant.Nothing a fits = all_same m.octets a
+fifo_same c m (rx_variant.Places places) a fits = all_same m.octets a
+fifo_same c m (rx_variant.Frame patch) a fits = all_same m.octets a
+fifo_same c m (rx_variant.Step patch) a fits = step_same c m patch.value a fits
+
+tx_same : (c : tx_cells.Cells) (r : TxUndo) (a : ℕ) → tx.Fits c r
+    → SameUpTo c.memory.octets (tx.undo c r).memory.octets a (tx_before.next_of r a)
+tx_same c tx_variant.Nothing a fits = all_same c.memory.octets a
+tx_same c (tx_variant.Step change) a fits = status_same change.status c.memory a fits.1
+tx_same c (tx_variant.Cleared old) a fits = all_same c.memory.octets a
+
+effect_same : (c : Cells) (e : Effect) (a : ℕ) → EffectFits c e
+    → SameUpTo c.memory.octets (undo_effect c e).memory.octets a (next_octet e a)
+effect_same c Nothing a fits = all_same c.memory.octets a
+effect_same c (Register old) a fits = all_same c.memory.octets a
+effect_same c (Octets old) a fits = same_up_to a old.value (next_of_patch a old.value) refl c.memory fits
+effect_same c (FewOctets old) a fits = same_up_to a old (next_of_patch a old) refl c.memory fits
+effect_same c (Arrival old) a fits = all_same c.memory.octets a
+effect_same c (RxStep head old) a fits = step_same c.fifo c.memory old.value a fits.1
+effect_same c (TxStep old head) a fits = status_same old.status c.memory a fits.1.1
+effect_same c (Link old) a fits = all_same c.memory.octets a
+effect_same c (Reset old) a fits =
+    let between : memory.Cells = (tx.undo (tx_cells_of c) old.value.gathered).memory in
+    same_in_turn c.memory.octets between.octets (rx_undo.undo_memory between old.value.fifo).octets a
+    (tx_before.next_of old.value.gathered a) (rx_before.next_of old.value.fifo a)
+    (tx_same (tx_cells_of c) old.value.gathered a fits.0)
+    (fifo_same c.fifo between old.value.fifo a fits.1)
+
+pub memory_left : (r : Undo) (a : ℕ) (next : Option ℕ) → next ≡ next_octet r.effect a → LeavesUpTo r a next
+memory_left r a next is c fits =
+    subst (SameUpTo (shows c).memory (shows (undo c r)).memory a) (sym is)
+    (effect_same (with_words c r.latches) r.effect a (fits_with c r.latches r.effect fits.effect))

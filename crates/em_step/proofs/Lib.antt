@@ -12,3 +12,4 @@ pub mod ReachedLaws
 pub mod WholeLaws
 pub mod InertLaws
 pub mod BeforeLaws
+pub mod SizeLaws

@@ -1,5 +1,7 @@
 -- What a record tells of the state before the event, without being put back.
-use Rattle.std.specs.Prelude.{◌≡◌, ℕ, ◌+◌, Bool, true, false, if◌then◌else◌, List, length, unwrap_or}
+use Rattle.std.specs.Prelude.{◌≡◌, ℕ, ◌+◌, Bool, true, false, if◌then◌else◌, List, length, unwrap_or, Option, None}
+use Rattle.em_mem.specs.Extent as extent
+use Rattle.em_mem.specs.Extent.{SameUpTo, least}
 use Rattle.em_mem.specs.Window.{IsWindow, lay_over}
 use Rattle.em_regs.specs.declared.reg.Reg.{Reg}
 use Rattle.em_regs.specs.declared.reg.Reg.TheVariants.{Ics, Imc, Rdh, Tdh}
@@ -28,6 +30,10 @@ PutsBack r read now before = (c : Cells) → Fits c r → read (shows c) ≡ now
 abbrev pub PutsBackWindow : Undo → ℕ → List ℕ → List ℕ → Type 0
 PutsBackWindow r a now before =
     (c : Cells) → Fits c r → IsWindow (shows c).memory a now → IsWindow (shows (undo c r)).memory a before
+
+-- no octet of memory from address a on, up to the next one, or to the end where there is none, is another one then
+abbrev pub LeavesUpTo : Undo → ℕ → Option ℕ → Type 0
+LeavesUpTo r a next = (c : Cells) → Fits c r → SameUpTo (shows c).memory (shows (undo c r)).memory a next
 
 -- one frame comes off the wire, or none
 abbrev pub TakesOffWire : Undo → Bool → Type 0
@@ -80,6 +86,15 @@ octets_before (RxStep head old) a now = rx.laid_step old.value a now
 octets_before (TxStep old head) a now = tx.laid_status old.status a now
 octets_before (Reset old) a now = rx.laid old.value.fifo a (tx.laid old.value.gathered a now)
 octets_before effect a now = now
+
+-- the least address from a on where it has an octet of memory
+abbrev pub next_octet : Effect → ℕ → Option ℕ
+next_octet (Octets old) a = extent.next_octet a old.value
+next_octet (FewOctets old) a = extent.next_octet a old
+next_octet (RxStep head old) a = rx.next_of_step old.value a
+next_octet (TxStep old head) a = tx.next_of_status old.status a
+next_octet (Reset old) a = least (tx.next_of old.value.gathered a) (rx.next_of old.value.fifo a)
+next_octet effect a = None
 
 -- of the number of frames in the FIFO
 abbrev pub frames_before : Effect → ℕ → ℕ

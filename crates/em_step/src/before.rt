@@ -7,13 +7,14 @@ ghost use Rattle.em_regs.specs.RegFile as registers;
 ghost use Rattle.em_regs.specs.RegFile.{IsStored};
 ghost use Rattle.em_latch.specs.Latches.{IsLatched};
 ghost use Rattle.em_step.specs.Access.{gives};
-ghost use Rattle.em_step.specs.Before.{PutsBack, PutsBackWindow, TakesOffWire, frames_before, has_sent};
-ghost use Rattle.em_step.specs.Before.{latched_before, link_before, octets_before, register_before, status_before};
-ghost use Rattle.em_step.specs.Before.{stored_before};
+ghost use Rattle.em_step.specs.Before.{LeavesUpTo, PutsBack, PutsBackWindow, TakesOffWire, frames_before, has_sent};
+ghost use Rattle.em_step.specs.Before.{latched_before, link_before, next_octet, octets_before, register_before};
+ghost use Rattle.em_step.specs.Before.{status_before, stored_before};
 ghost use Rattle.em_step.specs.Undo.{word};
 
 use crate::adapter::status_of;
 use crate::undo::{Effect, Undo};
+use em_mem::least;
 use em_regs::{Kind, Reg};
 
 impl Undo {
@@ -34,6 +35,16 @@ impl Undo {
         ensures before { PutsBackWindow self.now addr window.old window.new }
     {
         self.effect.octets_before(addr, window);
+    }
+
+    /// The least address from `addr` on where the record has an octet of guest memory. Up to there, or to the end of
+    /// memory where there is none, the event left memory as it was.
+    #[inline(always)]
+    pub fn next_octet(&self, addr: u64) -> Option<u64>
+        ensures next { result ≡ next_octet self.now.effect addr }
+        ensures before { LeavesUpTo self.now addr result }
+    {
+        self.effect.next_octet(addr)
     }
 
     /// Whether the link was up before the event, where it is `now` after it.
@@ -134,6 +145,21 @@ impl Effect {
                 old.fifo.lay_over(addr, window);
             }
             _ => {}
+        }
+    }
+
+    /// The least address from `addr` on where there is an octet of memory.
+    #[inline(always)]
+    fn next_octet(&self, addr: u64) -> Option<u64>
+        ensures { result ≡ next_octet self.now addr }
+    {
+        match self {
+            Effect::Octets(old) => old.next_octet(addr),
+            Effect::FewOctets(old) => old.next_octet(addr),
+            Effect::RxStep(_, old) => old.next_octet(addr),
+            Effect::TxStep(old, _) => old.next_octet(addr),
+            Effect::Reset(old) => least(old.gathered.next_octet(addr), old.fifo.next_octet(addr)),
+            _ => None,
         }
     }
 

@@ -1,6 +1,7 @@
 -- What a record tells of what was before.
 use Rattle.std.specs.Prelude.{ℕ, Bool, true, false, List, Option, Some, None}
 use Rattle.em_mem.specs.Memory as mem
+use Rattle.em_mem.specs.Extent.{next_octet}
 use Rattle.em_mem.specs.Window.{lay_over}
 use Rattle.em_tx.specs.declared.change.Sent.{Sent}
 use Rattle.em_tx.specs.declared.change.Sent.TheVariants.{NoFrame, Untagged, Tagged}
@@ -28,3 +29,14 @@ abbrev pub laid : TxUndo → ℕ → List ℕ → List ℕ
 laid Nothing a window = window
 laid (Step change) a window = laid_status change.status a window
 laid (Cleared old) a window = window
+
+-- the address of the status octet, where one was overwritten at address a or beyond
+abbrev pub next_of_status : Option mem.Patch → ℕ → Option ℕ
+next_of_status None a = None
+next_of_status (Some status) a = next_octet a status
+
+-- the least address from a on where any record has an octet
+abbrev pub next_of : TxUndo → ℕ → Option ℕ
+next_of Nothing a = None
+next_of (Step change) a = next_of_status change.status a
+next_of (Cleared old) a = None

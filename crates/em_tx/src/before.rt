@@ -1,13 +1,15 @@
 //! What a record of the transmit side puts back, told without putting it back.
 ghost use Rattle.std.specs.Prelude.{◌≡◌, ◌+◌, if◌then◌else◌, length};
+ghost use Rattle.em_mem.specs.Extent as extent;
+ghost use Rattle.em_mem.specs.Extent.{SameUpTo};
 ghost use Rattle.em_mem.specs.Window.{IsWindow, lay_over};
-ghost use Rattle.em_tx.specs.Before.{has_sent, has_sent_by, laid, laid_status};
+ghost use Rattle.em_tx.specs.Before.{has_sent, has_sent_by, laid, laid_status, next_of, next_of_status};
 ghost use Rattle.em_tx.specs.Cells.{Cells};
 ghost use Rattle.em_tx.specs.Undo.{ChangeFits, Fits, undo, undo_change};
 
 use crate::change::{Change, Sent, Status};
 use crate::undo::TxUndo;
-use em_mem::lay_over;
+use em_mem::{lay_over, next_octet};
 
 impl Change {
     /// Whether the step sent a frame, which comes off the wire when it is taken back.
@@ -29,6 +31,17 @@ impl Change {
             → IsWindow (undo_change c self.now).memory.octets addr window.new }
     {
         lay_status(&self.status, addr, window);
+    }
+
+    /// The address of the status octet that the step overwrote, where it lies at `addr` or beyond. Up to there, or to
+    /// the end of memory where there is none, the step left memory as it was.
+    #[inline(always)]
+    pub fn next_octet(&self, addr: u64) -> Option<u64>
+        ensures next { result ≡ next_of_status self.now.status addr }
+        ensures same { (c : Cells) → ChangeFits c self.now
+            → SameUpTo c.memory.octets (undo_change c self.now).memory.octets addr result }
+    {
+        next_of_status(&self.status, addr)
     }
 }
 
@@ -55,6 +68,19 @@ impl TxUndo {
             change.lay_over(addr, window);
         }
     }
+
+    /// The least address from `addr` on where the change overwrote an octet. Up to there, or to the end of memory
+    /// where there is none, it left memory as it was.
+    pub fn next_octet(&self, addr: u64) -> Option<u64>
+        ensures next { result ≡ next_of self.now addr }
+        ensures same { (c : Cells) → Fits c self.now
+            → SameUpTo c.memory.octets (undo c self.now).memory.octets addr result }
+    {
+        match self {
+            TxUndo::Nothing | TxUndo::Cleared(_) => None,
+            TxUndo::Step(change) => change.next_octet(addr),
+        }
+    }
 }
 
 impl Status {
@@ -65,6 +91,14 @@ impl Status {
     {
         lay_over(self.place.addr(), &self.octet, addr, window);
     }
+
+    /// Where the octet lay, if at `addr` or beyond.
+    #[inline(always)]
+    fn next_octet(&self, addr: u64) -> Option<u64>
+        ensures { result ≡ extent.next_octet addr self.now }
+    {
+        next_octet(self.place.addr(), &self.octet, addr)
+    }
 }
 
 /// Lays a status octet over a window, where one was overwritten.
@@ -74,6 +108,17 @@ fn lay_status(status: &Option<Status>, addr: u64, window: &mut [u8])
 {
     if let Some(status) = status {
         status.lay_over(addr, window);
+    }
+}
+
+/// Where a status octet was overwritten, if one was at `addr` or beyond.
+#[inline(always)]
+fn next_of_status(status: &Option<Status>, addr: u64) -> Option<u64>
+    ensures { result ≡ next_of_status status.now addr }
+{
+    match status {
+        Some(status) => status.next_octet(addr),
+        None => None,
     }
 }
 

@@ -1,4 +1,3 @@
-pub mod SizeLaws
 pub mod TracedLaws
 pub mod SearchLaws
 pub mod DifferenceLaws

@@ -17,6 +17,7 @@ use Rattle.em_step.specs.State.{State}
 use Rattle.em_step.specs.Undo.{Fits, undo}
 use Rattle.em_step.specs.Access.{gives}
 use Rattle.em_step.specs.declared.undo.Undo.{Undo}
+use Rattle.em_step.proofs.SizeLaws.{memory_size}
 use Rattle.em_journal.specs.View.{View, states}
 use Rattle.em_mem.specs.Window.{IsWindow}
 use Rattle.em_step.specs.Before.{PutsBack}
@@ -30,7 +31,6 @@ use Rattle.em_watch.specs.declared.watch.Watch.{Watch}
 use Rattle.em_watch.specs.declared.watch.Watch.TheVariants.{Register, Octets, Line, Link, Frames, Sent}
 use Rattle.em_watch.specs.declared.traced.Traced.{Traced}
 use Rattle.em_watch.specs.declared.traced.Traced.TheVariants as traced
-use Rattle.em_watch.proofs.SizeLaws.{memory_size}
 
 -- ---- what is seen of it
 
@@ -131,21 +131,21 @@ takes_back r t u goes w c fits same = back_at w c r u fits (subst (λ x. GoesBac
 -- ---- so many steps back
 
 -- an item of a list that was mapped
-from_map : {A B : Type 0} (f : A → B) (xs : List A) (k : ℕ) (y : B) → slice_get (map f xs) k ≡ Some y
+pub from_map : {A B : Type 0} (f : A → B) (xs : List A) (k : ℕ) (y : B) → slice_get (map f xs) k ≡ Some y
     → (x : A) × (slice_get xs k ≡ Some x) × (f x ≡ y)
 from_map f [] k y e = cc
 from_map f (x ∷ xs) zero y e = (x, refl, cc)
 from_map f (x ∷ xs) (suc k) y e = from_map f xs k y e
 
-some_is : {A : Type 0} (x y : A) → Some x ≡ Some y → x ≡ y
+pub some_is : {A : Type 0} (x y : A) → Some x ≡ Some y → x ≡ y
 some_is x y e = cc
 
-next_item : {A : Type 0} (x : A) (xs : List A) (k : ℕ) → slice_get (x ∷ xs) (k + 1) ≡ slice_get xs k
+pub next_item : {A : Type 0} (x : A) (xs : List A) (k : ℕ) → slice_get (x ∷ xs) (k + 1) ≡ slice_get xs k
 next_item x xs k =
     let next : k + 1 ≡ suc k = omega arith in
     ap (slice_get (x ∷ xs)) next
 
-mapped : {A B : Type 0} (f : A → B) (xs : List A) (k : ℕ) (x : A) → slice_get xs k ≡ Some x
+pub mapped : {A B : Type 0} (f : A → B) (xs : List A) (k : ℕ) (x : A) → slice_get xs k ≡ Some x
     → slice_get (map f xs) k ≡ Some (f x)
 mapped f xs k x e = slice_get-map f xs k ∙ ap (option_map f) e
 
