@@ -5,6 +5,7 @@ pub mod laws;
 mod machine;
 mod records;
 mod refusal;
+mod rings;
 mod settings;
 #[cfg(test)]
 mod tests;

@@ -48,7 +48,7 @@ pub const MOST_BUDGET: u64 = 16_777_216;
 /// An adapter with the records that take its latest events back, as many as the budget holds.
 #[derive(Drop)]
 pub struct Machine {
-    adapter: Adapter,
+    pub(crate) adapter: Adapter,
     records: Records,
     budget: u64,
 }

@@ -10,6 +10,7 @@ mod event;
 pub mod laws;
 mod poke;
 mod refusal;
+mod rings;
 mod undo;
 
 pub use adapter::Adapter;
