@@ -13,8 +13,6 @@
 mod ending;
 mod made;
 mod playing;
-#[cfg(test)]
-mod tests;
 
 pub use ending::Ending;
 pub use made::session;

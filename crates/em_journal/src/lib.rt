@@ -7,8 +7,6 @@ mod records;
 mod refusal;
 mod rings;
 mod settings;
-#[cfg(test)]
-mod tests;
 
 pub use machine::{LEAST_BUDGET, MOST_BUDGET, Machine};
 pub use refusal::{Empty, JournalRefusal};

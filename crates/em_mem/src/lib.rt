@@ -21,8 +21,6 @@ mod refusal;
 mod reversible;
 mod spares;
 mod table;
-#[cfg(test)]
-mod tests;
 mod undo;
 mod window;
 

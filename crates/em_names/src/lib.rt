@@ -6,8 +6,6 @@ mod field;
 mod names;
 mod near;
 mod show;
-#[cfg(test)]
-mod tests;
 
 pub use bits::fields;
 pub use field::{Field, Form};

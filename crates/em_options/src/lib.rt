@@ -4,8 +4,6 @@
 mod command;
 mod help;
 mod settings;
-#[cfg(test)]
-mod tests;
 
 pub use command::options;
 pub use settings::{Options, OptionsRefused};

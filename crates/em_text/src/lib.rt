@@ -8,8 +8,6 @@ mod digits;
 mod lines;
 mod numbers;
 mod reader;
-#[cfg(test)]
-mod tests;
 mod words;
 mod writer;
 

@@ -2,8 +2,6 @@
 #![tactic(auto)]
 
 mod note;
-#[cfg(test)]
-mod tests;
 mod traced;
 
 pub use note::{Kind, Note};

@@ -5,8 +5,6 @@ mod change;
 mod difference;
 mod range;
 mod search;
-#[cfg(test)]
-mod tests;
 mod traced;
 mod watch;
 

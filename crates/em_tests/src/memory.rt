@@ -1,7 +1,8 @@
+//! Guest memory by its calls.
 ghost use Rattle.std.specs.Prelude.{◌≡◌, IfOk};
 ghost use Rattle.em_mem.specs.Memory.{Fits};
 
-use crate::{
+use em_mem::{
     FEW, FewOctets, GuestMemory, MOST_RECORD, MemRefusal, MemUndo, Reversible, lay_over, least,
     next_octet,
 };

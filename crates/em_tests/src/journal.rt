@@ -1,6 +1,7 @@
-use crate::{Empty, JournalRefusal, LEAST_BUDGET, MOST_BUDGET, Machine};
+//! A machine by its calls: what it answers, how far it goes back, and what its records tell.
 use em_eeprom::Eeprom;
-use em_regs::Reg;
+use em_journal::{Empty, JournalRefusal, LEAST_BUDGET, MOST_BUDGET, Machine};
+use em_regs::{Reg, RxSetup, TxSetup};
 use em_step::{Adapter, Answer, Event, Refusal};
 use std::alloc::Global;
 use std::fmt::Debug;
@@ -14,6 +15,47 @@ const MEMORY: u64 = 8192;
 const LARGEST: [u8; 16_384] = [7; 16_384];
 
 const TOO_LARGE: [u8; 16_385] = [7; 16_385];
+
+// both rings, each with another count, head and tail, and VLAN tags of the type 8100h
+const RINGS: [(Reg, u32); 14] = [
+    (Reg::Rdbal, 0x1000),
+    (Reg::Rdlen, 0x80),
+    (Reg::Rdh, 1),
+    (Reg::Rdt, 5),
+    // EN, RDMTS 01b, BSIZE 01b
+    (Reg::Rctl, 0x0001_0102),
+    (Reg::Tdbal, 0x2000),
+    (Reg::Tdbah, 1),
+    (Reg::Tdlen, 0x100),
+    (Reg::Tdh, 2),
+    (Reg::Tdt, 7),
+    // PSP
+    (Reg::Tctl, 0x0000_0008),
+    // VME
+    (Reg::Ctrl, 0x4000_0000),
+    (Reg::Vet, 0x8100),
+    (Reg::Rdbah, 0),
+];
+
+const RECEIVE_RING: RxSetup = RxSetup {
+    enabled: true,
+    base: 0x1000,
+    count: 8,
+    head: 1,
+    tail: 5,
+    buffer: 1024,
+    threshold: 2,
+};
+
+const TRANSMIT_RING: TxSetup = TxSetup {
+    enabled: false,
+    pad: true,
+    base: 0x1_0000_2000,
+    count: 16,
+    head: 2,
+    tail: 7,
+    vlan: Some(0x8100),
+};
 
 const DONE: Result<Answer, Refusal> = Ok(Answer::Done);
 
@@ -184,6 +226,11 @@ impl Tested {
         same("records", self.can_go_back(), records)
     }
 
+    fn has_rings(&self, receive: RxSetup, transmit: TxSetup) -> Result<(), Fail> {
+        same("receive ring", self.machine.ring_rx(), receive)?;
+        same("transmit ring", self.machine.ring_tx(), transmit)
+    }
+
     fn goes_back_by(&mut self, steps: usize, wanted: usize) -> Result<(), Fail> {
         let gone = self.back_by(steps);
         same("steps back", gone, wanted)
@@ -211,6 +258,16 @@ fn same<T: PartialEq + Debug + Drop>(what: &str, is: T, wanted: T) -> Result<(),
     } else {
         Err(Fail::new(format_args!("{what}: {is:?}, and not {wanted:?}")))
     }
+}
+
+#[test]
+fn rings_are_what_the_registers_say(rt: HostRuntime) -> Result<(), Fail> {
+    on_a_machine(rt.alloc(), MEMORY, LEAST_BUDGET, |tested| {
+        for (reg, value) in RINGS {
+            tested.answers(Event::Write(reg.offset(), value), DONE)?;
+        }
+        tested.has_rings(RECEIVE_RING, TRANSMIT_RING)
+    })
 }
 
 #[test]

@@ -1,11 +1,12 @@
-use crate::{
-    Change, Difference, MemoryRange, RegisterChange, Sight, Watch, change_before, changes,
-    last_change, registers_changed, seen, seen_back, what,
-};
+//! What em_watch names, by values worked out from the tables by hand.
 use em_eeprom::Eeprom;
 use em_journal::{LEAST_BUDGET, MOST_BUDGET, Machine};
 use em_regs::Reg;
 use em_step::{Adapter, Event};
+use em_watch::{
+    Change, Difference, MemoryRange, RegisterChange, Sight, Watch, change_before, changes,
+    last_change, registers_changed, seen, seen_back, what,
+};
 use std::alloc::Global;
 use std::fmt::Debug;
 use std::test::Fail;

@@ -2,9 +2,9 @@
 //!
 //! The calls go through functions without contracts: else the prover would carry what they say on to all that a test
 //! asserts after them.
-use crate::{Options, OptionsRefused, options};
 use clap::error::ErrorKind;
 use em_journal::Settings;
+use em_options::{Options, OptionsRefused, options};
 use std::alloc::Global;
 use std::test::Fail;
 

@@ -1,11 +1,11 @@
 //! Each call here goes through a function without a contract: else the prover would carry what the call says on to
 //! all that a test asks after it. The trail is made in one function and lent to the others: else each way out of a
 //! test would prove again that it can be let go.
-use crate::{Kind, Note, Traced};
 use em_eeprom::Eeprom;
 use em_journal::{LEAST_BUDGET, Machine};
 use em_regs::Reg;
 use em_step::{Adapter, Event, Reason, Refusal};
+use em_trail::{Kind, Note, Traced};
 use std::alloc::Global;
 use std::fmt::Debug;
 use std::test::Fail;

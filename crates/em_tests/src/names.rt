@@ -1,7 +1,7 @@
 //! Expected texts are worked out from the manual's tables by hand. Each call here goes through a function without a
 //! contract: else the prover would carry what the call says on to all that a test asserts after it.
-use crate::{fields, name, nearest, parse, write_name, write_register};
 use bitflags::Flags;
+use em_names::{fields, name, nearest, parse, write_name, write_register};
 use em_regs::{Causes, Ctrl, Eerd, Rah, Rctl, Reg, Status, Tctl};
 use em_text::{WriteFailed, write_whole};
 use std::alloc::Global;
