@@ -203,7 +203,7 @@ prove_and_build() {
   trap 'exit 129' HUP
   trap 'exit 130' INT
   trap 'exit 143' TERM
-  say "proving and building, which takes half an hour or so, once"
+  say "proving and building, which takes some 20 minutes, once"
   while [ "${#proved[@]}" -lt "${#order[@]}" ]; do
     for crate in "${order[@]}"; do
       if [ -n "${process[$crate]-}" ]; then
