@@ -1,5 +1,5 @@
 -- What a run leaves, by how it ended, also once what was written is flushed.
-use Rattle.std.proofs.Common.{◌≡◌, ◌∙◌, ◌<◌, ◌⊎◌, ℕ, List, [], length, Option, Some, None, Result, Ok, Err}
+use Rattle.std.proofs.Common.{◌≡◌, ◌∙◌, ◌<◌, ◌⊎◌, ℕ, List, length, Option, Some, None, Result, Ok, Err}
 use Rattle.std.proofs.Common.{inl, inr, refl}
 use Rattle.std.specs.Prelude.{IfOk, IfSome, IsErrOf}
 use Rattle.std.specs.Io.KnownBytes.{Appends, Keeps}

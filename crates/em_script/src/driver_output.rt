@@ -14,12 +14,9 @@ use crate::driver_answer::DriverAnswer;
 use crate::driver_reply::{DriverReply, PlanCounts};
 use crate::no_driver::NoDriver;
 use crate::outcome::Outcome;
-use crate::output::write_done;
+use crate::output::{write_count, write_done};
 use em_driver::{Batch, Cause, DeviceStats, Stopped};
-use em_text::{
-    WriteFailed, octet_digits, write_number_line, write_numbers_line, write_octets_line,
-    write_pieces,
-};
+use em_text::{WriteFailed, octet_digits, write_numbers_line, write_octets_line, write_pieces};
 use itoa::Buffer;
 use std::collections::VecDeque;
 use std::io::Write;
@@ -108,8 +105,7 @@ fn write_packets<W: Write>(writer: &mut W, packets: &VecDeque<Vec<u8>>) -> Resul
 fn write_started<W: Write>(writer: &mut W, events: u32) -> Result<Outcome, WriteFailed>
     ensures { Prints (started_text events) Outcome.Done (W.contents writer.old) (W.contents writer.new) result }
 {
-    write_number_line(writer, b"started ", u64::from(events))?;
-    Ok(Outcome::Done)
+    write_count(writer, b"started ", u64::from(events))
 }
 
 /// That so many packets were moved, with so many events.

@@ -1,7 +1,7 @@
 //! Writing answers. Each text has a function of its own that is not inlined, so that a line pays
 //! for its own text alone.
-ghost use Rattle.std.specs.Prelude.{◌≡◌};
-ghost use Rattle.em_text.specs.Writer.{Writes, hex_line_text};
+ghost use Rattle.std.specs.Prelude.{◌≡◌, ◌≤◌, ◌++◌, length};
+ghost use Rattle.em_text.specs.Writer.{hex_line_text, value_text, decimal_line_text};
 ghost use Rattle.em_script.specs.Output.{Prints, answer_text, reason_text, done_text, bit_text, back_text};
 ghost use Rattle.em_script.specs.Output.{bad_line_text, refusal_text, empty_text, sent_text};
 
@@ -21,23 +21,11 @@ pub fn write_answer<W: Write>(writer: &mut W, answer: Answer) -> Result<Outcome,
 {
     match answer {
         Answer::Done => write_done(writer),
-        Answer::Value(value) => {
-            write_value(writer, value)?;
-            Ok(Outcome::Done)
-        }
+        Answer::Value(value) => write_read(writer, value),
         Answer::Idle => write_text(writer, b"idle\n"),
-        Answer::Wrote { index } => {
-            write_number_line(writer, b"wrote ", u64::from(index))?;
-            Ok(Outcome::Done)
-        }
-        Answer::Fetched { index } => {
-            write_number_line(writer, b"fetched ", u64::from(index))?;
-            Ok(Outcome::Done)
-        }
-        Answer::Sent { index, octets } => {
-            write_sent(writer, u64::from(index), u64::from(octets))?;
-            Ok(Outcome::Done)
-        }
+        Answer::Wrote { index } => write_count(writer, b"wrote ", u64::from(index)),
+        Answer::Fetched { index } => write_count(writer, b"fetched ", u64::from(index)),
+        Answer::Sent { index, octets } => write_sent(writer, u64::from(index), u64::from(octets)),
         Answer::Stored => write_text(writer, b"stored\n"),
         Answer::Dropped(reason) => write_dropped(writer, reason),
     }
@@ -52,12 +40,37 @@ fn write_text<W: Write>(writer: &mut W, text: &[u8]) -> Result<Outcome, WriteFai
     Ok(Outcome::Done)
 }
 
+/// A register's value that was read.
+#[inline(always)]
+fn write_read<W: Write>(writer: &mut W, value: u32) -> Result<Outcome, WriteFailed>
+    ensures { Prints (value_text value) Outcome.Done (W.contents writer.old) (W.contents writer.new) result }
+{
+    write_value(writer, value)?;
+    Ok(Outcome::Done)
+}
+
+/// A word for what was done, with a number.
+#[inline(always)]
+pub fn write_count<W: Write>(
+    writer: &mut W,
+    word: &[u8],
+    number: u64,
+) -> Result<Outcome, WriteFailed>
+    requires { length word.now ≤ 16 }
+    ensures { Prints (word.now ++ decimal_line_text number) Outcome.Done
+        (W.contents writer.old) (W.contents writer.new) result }
+{
+    write_number_line(writer, word, number)?;
+    Ok(Outcome::Done)
+}
+
 /// That the descriptor of an index was handled, and a frame of so many octets sent.
 #[inline(never)]
-fn write_sent<W: Write>(writer: &mut W, index: u64, octets: u64) -> Result<(), WriteFailed>
-    ensures writes { Writes (W.contents writer.old) (W.contents writer.new) result (sent_text index octets) }
+fn write_sent<W: Write>(writer: &mut W, index: u64, octets: u64) -> Result<Outcome, WriteFailed>
+    ensures { Prints (sent_text index octets) Outcome.Done (W.contents writer.old) (W.contents writer.new) result }
 {
-    write_numbers_line(writer, b"sent ", index, octets, b"\n")
+    write_numbers_line(writer, b"sent ", index, octets, b"\n")?;
+    Ok(Outcome::Done)
 }
 
 /// That a frame was dropped, and why.
@@ -119,8 +132,7 @@ pub fn write_bit<W: Write>(writer: &mut W, bit: bool) -> Result<Outcome, WriteFa
 pub fn write_back<W: Write>(writer: &mut W, count: u32) -> Result<Outcome, WriteFailed>
     ensures { Prints (back_text count) Outcome.Done (W.contents writer.old) (W.contents writer.new) result }
 {
-    write_number_line(writer, b"back ", u64::from(count))?;
-    Ok(Outcome::Done)
+    write_count(writer, b"back ", u64::from(count))
 }
 
 /// That the line of this number has no form.

@@ -26,8 +26,8 @@ impl Seat {
         }
     }
 
-    /// Puts a machine into the seat. This has a function of its own, since the prover checks here that what
-    /// was in the seat may be dropped, which takes long.
+    /// Puts a machine into the seat. This has a function of its own, since the prover checks here that
+    /// what was in the seat may be dropped, which takes it long.
     pub fn put(&mut self, seat: Seat)
         ensures { self.new ≡ seat }
     {
