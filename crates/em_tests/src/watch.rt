@@ -4,8 +4,8 @@ use em_journal::{LEAST_BUDGET, MOST_BUDGET, Machine};
 use em_regs::Reg;
 use em_step::{Adapter, Event};
 use em_watch::{
-    Change, Difference, MemoryRange, RegisterChange, Sight, Watch, change_before, changes,
-    last_change, registers_changed, seen, seen_back, what,
+    Change, Difference, MOST_WATCHED, MemoryChange, MemoryRange, RegisterChange, Sight, Watch,
+    change_before, changes, last_change, seen, seen_back, what,
 };
 use std::alloc::Global;
 use std::fmt::Debug;
@@ -276,61 +276,248 @@ fn a_change_that_the_budget_dropped_is_none(rt: HostRuntime) -> Result<(), Fail>
 }
 
 // What an event did to a register.
-fn to_register(reg: Reg, before: u32, after: u32) -> Option<RegisterChange> {
+fn to_register(reg: Reg, before: u32, after: u32) -> RegisterChange {
     let difference = Difference {
         before: Sight::Value(before),
         after: Sight::Value(after),
     };
-    Some(RegisterChange { reg, difference })
+    RegisterChange { reg, difference }
+}
+
+// What an event did to octets of memory.
+fn to_octets(addr: u64, before: &[u8], after: &[u8]) -> Result<MemoryChange, Fail> {
+    match MemoryRange::new(addr, after.len()) {
+        Some(range) => Ok(MemoryChange {
+            range,
+            before: padded(before),
+            after: padded(after),
+        }),
+        None => Err(Fail::from("no range")),
+    }
+}
+
+// So many octets, with zeros behind them.
+fn padded(octets: &[u8]) -> [u8; MOST_WATCHED] {
+    let mut all = [0; MOST_WATCHED];
+    for (to, from) in all.iter_mut().zip(octets) {
+        *to = *from;
+    }
+    all
+}
+
+fn counts(before: usize, after: usize) -> Option<Difference> {
+    Some(Difference {
+        before: Sight::Count(before),
+        after: Sight::Count(after),
+    })
 }
 
 impl Tested {
-    // The newest event changed these two registers and no others.
-    fn changed_two(
-        &self,
-        first: Option<RegisterChange>,
-        second: Option<RegisterChange>,
-    ) -> Result<(), Fail> {
+    // The newest event changed these registers and no others.
+    fn registers(&self, wanted: &[RegisterChange]) -> Result<(), Fail> {
         if self.machine.can_go_back() == 0 {
             return Err(Fail::from("no event"));
         }
-        let mut found = registers_changed(&self.machine, 1);
-        same("first register", found.next(), first)?;
-        same("second register", found.next(), second)?;
+        let mut found = what(&self.machine, 1).registers();
+        for change in wanted {
+            same("register", found.next(), Some(*change))?;
+        }
         same("no other register", found.next(), None)
     }
 
-    // What the newest event did to the link, and that it left memory as it was.
-    fn linked(&self, before: bool, after: bool) -> Result<(), Fail> {
+    // The newest event changed these octets and no others: where they lie, what they were and what they are.
+    fn memory(&self, wanted: &[(u64, &[u8], &[u8])]) -> Result<(), Fail> {
         if self.machine.can_go_back() == 0 {
             return Err(Fail::from("no event"));
         }
-        let difference = Some(Difference {
+        let mut found = what(&self.machine, 1).octets();
+        for (addr, before, after) in wanted {
+            let change = to_octets(*addr, before, after)?;
+            same("octets", found.next(), Some(change))?;
+        }
+        same("no other octet", found.next(), None)
+    }
+
+    // What the newest event did to the number of frames in the FIFO, and of those that were sent.
+    fn moved(&self, frames: Option<Difference>, sent: Option<Difference>) -> Result<(), Fail> {
+        if self.machine.can_go_back() == 0 {
+            return Err(Fail::from("no event"));
+        }
+        let effect = what(&self.machine, 1);
+        same("frames", effect.frames(), frames)?;
+        same("sent", effect.sent(), sent)
+    }
+
+    // What the newest event did to the link and to the line: before and after, where it changed them.
+    fn turned(&self, link: Option<(bool, bool)>, line: Option<(bool, bool)>) -> Result<(), Fail> {
+        if self.machine.can_go_back() == 0 {
+            return Err(Fail::from("no event"));
+        }
+        let effect = what(&self.machine, 1);
+        let link = link.map(|(before, after)| Difference {
             before: Sight::Link(before),
             after: Sight::Link(after),
         });
-        same("link", what(&self.machine, Watch::Link, 1), difference)?;
-        same("memory", what(&self.machine, octets_at(0, 16)?, 1), None)
+        let line = line.map(|(before, after)| Difference {
+            before: Sight::Line(before),
+            after: Sight::Line(after),
+        });
+        same("link", effect.link(), link)?;
+        same("line", effect.line(), line)
     }
 }
 
 #[test]
-fn an_event_did_so_much(rt: HostRuntime) -> Result<(), Fail> {
+fn a_memory_write_did_so_much(rt: HostRuntime) -> Result<(), Fail> {
     on_a_machine(rt.alloc(), MOST_BUDGET, |tested| {
-        tested.does(Event::Poke(0, b"a"))?;
+        tested.does(Event::Poke(0x100, b"abc"))?;
+        tested.memory(&[(0x100, b"\0\0\0", b"abc")])?;
+        tested.registers(&[])?;
+        tested.moved(None, None)?;
+        tested.turned(None, None)?;
+        // the same octets, which changes nothing
+        tested.does(Event::Poke(0x100, b"abc"))?;
+        tested.memory(&[])?;
+        // 20 octets, of which the first, the second and the third stay
+        tested.does(Event::Poke(0x100, b"abcDEFGHIJKLMNOPQRST"))?;
+        tested.memory(&[
+            (0x103, &[0; 13], b"DEFGHIJKLMNOP"),
+            (0x110, &[0; 4], b"QRST"),
+        ])?;
+        // what is refused leaves the newest event as it is
+        tested.refuses(Event::Poke(MEMORY, b"a"))?;
+        tested.memory(&[
+            (0x103, &[0; 13], b"DEFGHIJKLMNOP"),
+            (0x110, &[0; 4], b"QRST"),
+        ])?;
+        // the last octet of memory
+        tested.does(Event::Poke(MEMORY - 1, b"z"))?;
+        tested.memory(&[(MEMORY - 1, b"\0", b"z")])
+    })
+}
+
+#[test]
+fn a_read_did_so_much(rt: HostRuntime) -> Result<(), Fail> {
+    on_a_machine(rt.alloc(), MOST_BUDGET, |tested| {
+        tested.writes(Reg::Ims, 4)?;
         tested.does(Event::Link(true))?;
         // STATUS has LU, and ICR has LSC
-        tested.changed_two(
+        tested.registers(&[
             to_register(Reg::Status, 0x81, 0x83),
             to_register(Reg::Icr, 0, 4),
-        )?;
-        tested.linked(false, true)?;
-        let link = seen_back(&tested.machine, Watch::Link, 1);
+        ])?;
+        tested.turned(Some((false, true)), Some((false, true)))?;
+        tested.memory(&[])?;
+        tested.reads(Reg::Icr)?;
+        tested.registers(&[to_register(Reg::Icr, 4, 0)])?;
+        tested.turned(None, Some((true, false)))?;
+        tested.refuses(Event::Read(4))?;
+        tested.registers(&[to_register(Reg::Icr, 4, 0)])?;
+        let link = seen_back(&tested.machine, Watch::Link, 2);
         same("link before", link, Some(Sight::Link(false)))?;
         same(
             "too far back",
-            seen_back(&tested.machine, Watch::Link, 3),
+            seen_back(&tested.machine, Watch::Link, 4),
             None,
         )
+    })
+}
+
+#[test]
+fn a_receive_step_did_so_much(rt: HostRuntime) -> Result<(), Fail> {
+    on_a_machine(rt.alloc(), MOST_BUDGET, |tested| {
+        receive_over_the_ring(tested)?;
+        // the buffer lies over its own descriptor, whose end is written last, and over the next one
+        let own = b"\x00\x10\0\0\0\0\0\0\0\0\0\0\0";
+        let next = b"\x00\x18\0\0\0\0\0\0\0\0\0\0\0";
+        tested.memory(&[
+            (0x1000, own, b"\xFF\xFF\xFF\xFF\xFF\xFFho\x3C\0\0\0\x07"),
+            (0x1010, next, b"QRSTUVWXYZabc"),
+            (0x101D, &[0; 16], b"defghijklmnopqrs"),
+            (0x102D, &[0; 15], b"tuvwxyz01234567"),
+        ])?;
+        // RXT0 beside LSC
+        tested.registers(&[
+            to_register(Reg::Icr, 0x04, 0x84),
+            to_register(Reg::Rdh, 0, 1),
+        ])?;
+        tested.moved(counts(1, 0), None)?;
+        tested.does(RESET)?;
+        tested.memory(&[])?;
+        tested.moved(None, None)
+    })
+}
+
+#[test]
+fn a_receive_step_apart_did_so_much(rt: HostRuntime) -> Result<(), Fail> {
+    on_a_machine(rt.alloc(), MOST_BUDGET, |tested| {
+        receive_over_the_ring(tested)?;
+        // the next descriptor again, whose buffer is at 1800h
+        tested.does(Event::Poke(0x1010, b"\x00\x18\0\0\0\0\0\0\0\0\0\0\0\0\0\0"))?;
+        tested.does(Event::Arrive(&BROADCAST))?;
+        tested.moved(counts(0, 1), None)?;
+        tested.does(Event::RxStep)?;
+        tested.memory(&[
+            (0x1018, &[0; 5], b"\x3C\0\0\0\x07"),
+            (0x1800, &[0; 16], b"\xFF\xFF\xFF\xFF\xFF\xFFhost..MNOP"),
+            (0x1810, &[0; 16], b"QRSTUVWXYZabcdef"),
+            (0x1820, &[0; 16], b"ghijklmnopqrstuv"),
+            (0x1830, &[0; 12], b"wxyz01234567"),
+        ])?;
+        tested.registers(&[to_register(Reg::Rdh, 1, 2)])
+    })
+}
+
+#[test]
+fn a_long_frame_lies_in_94_pieces(rt: HostRuntime) -> Result<(), Fail> {
+    on_a_machine(rt.alloc(), MOST_BUDGET, |tested| {
+        receive_over_the_ring(tested)?;
+        tested.does(Event::Poke(0x1010, b"\x00\x18\0\0\0\0\0\0\0\0\0\0\0\0\0\0"))?;
+        tested.does(Event::Arrive(&[0xFF; 1500]))?;
+        tested.does(Event::RxStep)?;
+        if tested.machine.can_go_back() == 0 {
+            return Err(Fail::from("no event"));
+        }
+        // and the end of the descriptor
+        same("pieces", what(&tested.machine, 1).octets().count(), 1 + 94)
+    })
+}
+
+#[test]
+fn a_transmit_step_and_a_reset_did_so_much(rt: HostRuntime) -> Result<(), Fail> {
+    on_a_machine(rt.alloc(), MOST_BUDGET, |tested| {
+        tested.writes(Reg::Tdbal, 0x1000)?;
+        tested.writes(Reg::Tdlen, 0x80)?;
+        // a buffer of 60 octets at 1800h; EOP, IFCS and RS
+        tested.does(Event::Poke(0x1000, b"\x00\x18\0\0\0\0\0\0\x3C\0\0\x0B\0\0\0\0"))?;
+        tested.writes(Reg::Tdt, 1)?;
+        tested.writes(Reg::Tctl, 2)?;
+        tested.does(Event::TxStep)?;
+        // the status octet has DD
+        tested.memory(&[(0x100C, b"\0", b"\x01")])?;
+        tested.moved(None, counts(0, 1))?;
+        // TXDW and TXQE; a frame of 64 octets with its check sequence
+        tested.registers(&[
+            to_register(Reg::Icr, 0, 3),
+            to_register(Reg::Tdh, 0, 1),
+            to_register(Reg::Gptc, 0, 1),
+            to_register(Reg::Gotcl, 0, 64),
+            to_register(Reg::Ptc64, 0, 1),
+        ])?;
+        tested.does(RESET)?;
+        tested.registers(&[
+            to_register(Reg::Icr, 3, 0),
+            to_register(Reg::Tctl, 2, 0),
+            to_register(Reg::Tdbal, 0x1000, 0),
+            to_register(Reg::Tdlen, 0x80, 0),
+            to_register(Reg::Tdh, 1, 0),
+            to_register(Reg::Tdt, 1, 0),
+            to_register(Reg::Gptc, 1, 0),
+            to_register(Reg::Gotcl, 64, 0),
+            to_register(Reg::Ptc64, 1, 0),
+        ])?;
+        tested.memory(&[])?;
+        // what was sent stays sent
+        tested.moved(None, None)
     })
 }

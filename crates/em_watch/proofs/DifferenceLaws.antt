@@ -1,52 +1,35 @@
 -- What an event did, from what was traced before it and after it.
-use Rattle.std.proofs.Common.{◌≡◌, ℕ, ◌+◌, ◌-◌, ◌<◌, ◌⊎◌, inl, inr, Some, None, sym, ap, ◌∙◌, subst, arith}
+use Rattle.std.proofs.Common.{◌≡◌, ℕ, ◌+◌, ◌-◌, ◌%◌, ◌<◌, ◌⊎◌, inl, inr, Some, None, sym, ap, ◌∙◌, subst, arith}
 use Rattle.std.specs.Prelude.{◌≢◌, Option, IfSome, IfNone}
+use Rattle.std.proofs.lemmas.Bool.{cases_lt}
 use Rattle.std.proofs.lemmas.Bool.Decides.{nat_tests}
 use Rattle.em_regs.specs.declared.reg.Reg.{Reg}
-use Rattle.em_regs.specs.Table.{IsReg, offset_of, reg_at}
-use Rattle.em_regs.proofs.TableLaws.{reg_at-offset_of}
+use Rattle.em_regs.specs.Table.{IsReg, NoneFrom, offset_of, reg_at}
+use Rattle.em_regs.proofs.TableLaws.{reg_at-offset_of, whole_word}
 use Rattle.em_journal.specs.View.{View}
 use Rattle.em_watch.specs.Difference.{IsDifference, LeavesAsItIs, LeavesOffset, LeavesRegisters}
 use Rattle.em_watch.specs.Traced.{IsTraced, LeadsBack, traced, shown}
-use Rattle.em_watch.specs.declared.difference.RegisterChange.{RegisterChange}
+use Rattle.em_watch.specs.declared.registers.RegisterChange.{RegisterChange}
 use Rattle.em_watch.specs.declared.watch.Watch.{Watch}
 use Rattle.em_watch.specs.declared.watch.Watch.TheVariants.{Register}
 use Rattle.em_watch.specs.declared.watch.Sight.{Sight}
 use Rattle.em_watch.specs.declared.traced.Traced.{Traced}
 use Rattle.em_watch.proofs.TracedLaws.{seen_there}
 
--- now, after the event and before it
-pub record IsFollowed (w : Watch) (v : View) (back : ℕ) (now after before : Traced) : Type 0 where
-  pub some : 0 < back
-  pub is_now : now ≡ traced w v.present
-  pub is_after : LeadsBack v 0 now (back - 1) after
-  pub is_before : LeadsBack v (back - 1) after (back - 1 + 1) before
-
-pub traced_after : (w : Watch) (v : View) (back : ℕ) (now after : Traced) → now ≡ traced w v.present
-    → LeadsBack v 0 now (back - 1) after → IsTraced w v (back - 1) after
-traced_after w v back now after is leads = leads w (ap Some (sym is))
-
-traced_before : (w : Watch) (v : View) (back : ℕ) (now after before : Traced)
-    → IsFollowed w v back now after before → IsTraced w v back before
-traced_before w v back now after before is =
-    let same : back - 1 + 1 ≡ back = omega (arith, is.some) in
-    subst (λ n. IsTraced w v n before) same (is.is_before w (traced_after w v back now after is.is_now is.is_after))
-
-pub difference : (w : Watch) (v : View) (back : ℕ) (now after before : Traced) (x y : Sight)
-    → IsFollowed w v back now after before → x ≡ shown before → y ≡ shown after → x ≢ y
+pub difference : (w : Watch) (v : View) (back : ℕ) (before after : Traced) (x y : Sight)
+    → IsTraced w v back before → IsTraced w v (back - 1) after → x ≡ shown before → y ≡ shown after → x ≢ y
     → IsDifference w v back (record { before = x; after = y })
-difference w v back now after before x y is was then other = record {
-  before = seen_there w v back before (traced_before w v back now after before is) ∙ ap Some (sym was);
-  after = seen_there w v (back - 1) after (traced_after w v back now after is.is_now is.is_after) ∙ ap Some (sym then);
+difference w v back before after x y was is x_is y_is other = record {
+  before = seen_there w v back before was ∙ ap Some (sym x_is);
+  after = seen_there w v (back - 1) after is ∙ ap Some (sym y_is);
   differ = other;
 }
 
-pub the_same : (w : Watch) (v : View) (back : ℕ) (now after before : Traced) (x y : Sight)
-    → IsFollowed w v back now after before → x ≡ shown before → y ≡ shown after → x ≡ y → LeavesAsItIs w v back
-the_same w v back now after before x y is was then same =
-    seen_there w v back before (traced_before w v back now after before is)
-    ∙ ap Some (sym was ∙ same ∙ then)
-    ∙ sym (seen_there w v (back - 1) after (traced_after w v back now after is.is_now is.is_after))
+pub the_same : (w : Watch) (v : View) (back : ℕ) (before after : Traced) (x y : Sight)
+    → IsTraced w v back before → IsTraced w v (back - 1) after → x ≡ shown before → y ≡ shown after → x ≡ y
+    → LeavesAsItIs w v back
+the_same w v back before after x y was is x_is y_is same =
+    seen_there w v back before was ∙ ap Some (sym x_is ∙ same ∙ y_is) ∙ sym (seen_there w v (back - 1) after is)
 
 -- ---- the register at an offset
 
@@ -67,7 +50,23 @@ none_is (Some x) P p = tt
 below_or_last : (i k : ℕ) → i < k + 1 → (i < k) ⊎ (i ≡ k)
 below_or_last i k l = grind (arith, nat_tests)
 
-pub leaves_more : (v : View) (back from o : ℕ) → LeavesRegisters v back from o → LeavesOffset v back o
+-- no register lies at an offset where the table has none
+pub leaves_bare : (v : View) (back from below : ℕ) → NoneFrom from below → LeavesRegisters v back from below
+leaves_bare v back from below none o l m reg named there =
+    absurd (let found : reg_at o ≡ Some reg = ap reg_at (sym there) ∙ reg_at-offset_of reg named in
+    let bare = none o l m in cc)
+
+-- nor between two words
+pub leaves_within : (v : View) (back from to : ℕ) → to % 4 ≡ 0 → to < from + 4 → LeavesRegisters v back from to
+leaves_within v back from to whole near o l m reg named there =
+    absurd (let word = whole_word reg in omega (arith, word, there, whole, near, l, m))
+
+pub leaves_both : (v : View) (back from mid below : ℕ) → LeavesRegisters v back from mid
+    → LeavesRegisters v back mid below → LeavesRegisters v back from below
+leaves_both v back from mid below one other o l m =
+    elim (cases_lt o mid) [ inl lt ↦ one o l lt | inr ge ↦ other o ge m ]
+
+leaves_more : (v : View) (back from o : ℕ) → LeavesRegisters v back from o → LeavesOffset v back o
     → LeavesRegisters v back from (o + 1)
 leaves_more v back from o before here i l m =
     elim (below_or_last i o m) [
@@ -75,8 +74,9 @@ leaves_more v back from o before here i l m =
       | inr e ↦ subst (LeavesOffset v back) (sym e) here
     ]
 
-pub first_is : (v : View) (back from o : ℕ) (found : Option RegisterChange) → LeavesRegisters v back from o
-    → IfSome found (λ change. offset_of change.reg ≡ o)
-    → IfSome found (λ change. LeavesRegisters v back from (offset_of change.reg))
-first_is v back from o None before there = tt
-first_is v back from o (Some change) before there = subst (LeavesRegisters v back from) (sym there) before
+-- the whole word at an offset
+pub leaves_word : (v : View) (back from o : ℕ) → o % 4 ≡ 0 → LeavesRegisters v back from o → LeavesOffset v back o
+    → LeavesRegisters v back from (o + 4)
+leaves_word v back from o whole before here =
+    leaves_both v back from (o + 1) (o + 4) (leaves_more v back from o before here)
+    (leaves_within v back (o + 1) (o + 4) (omega (arith, whole)) (omega arith))

@@ -1,3 +1,4 @@
 pub mod TracedLaws
 pub mod SearchLaws
 pub mod DifferenceLaws
+pub mod OctetLaws

@@ -6,7 +6,7 @@ use Rattle.em_journal.specs.View.{View}
 use Rattle.em_watch.specs.Change.{SeesSame}
 use Rattle.em_watch.specs.Watching.{sights}
 use Rattle.em_watch.specs.declared.difference.Difference.{Difference}
-use Rattle.em_watch.specs.declared.difference.RegisterChange.{RegisterChange}
+use Rattle.em_watch.specs.declared.registers.RegisterChange.{RegisterChange}
 use Rattle.em_watch.specs.declared.watch.Watch.{Watch}
 use Rattle.em_watch.specs.declared.watch.Watch.TheVariants.{Register}
 

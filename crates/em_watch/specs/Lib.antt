@@ -4,3 +4,6 @@ pub mod Traced
 pub mod Search
 pub mod Difference
 pub mod RegisterSearch
+pub mod MemoryChange
+pub mod MemorySearch
+pub mod Effect

@@ -5,7 +5,7 @@ use Rattle.std.specs.Iterator.{Count, at_most}
 use Rattle.em_regs.specs.Table.{offset_of}
 use Rattle.em_journal.specs.View.{View, view_code}
 use Rattle.em_watch.specs.Difference.{IsRegisterChange, LeavesRegisters}
-use Rattle.em_watch.specs.declared.difference.RegisterChange.{RegisterChange}
+use Rattle.em_watch.specs.declared.registers.RegisterChange.{RegisterChange}
 
 pub record RegisterSearch : Type 0 where
   pub view : View

@@ -1,5 +1,5 @@
 -- What has to be known of a state to see a watched thing in it, and how a record takes that back.
-use Rattle.std.specs.Prelude.{◌≡◌, ℕ, ◌+◌, ◌-◌, nat_lt, if◌then◌else◌, List, ◌++◌, length, take, drop, replicate, map}
+use Rattle.std.specs.Prelude.{◌≡◌, ℕ, ◌+◌, ◌-◌, nat_lt, if◌then◌else◌, List, ◌++◌, length, take, drop, replicate, map, []}
 use Rattle.std.specs.Prelude.{slice_get, Some}
 use Rattle.em_mem.specs.Memory.{part}
 use Rattle.em_regs.specs.declared.reg.Reg.{Reg}
@@ -49,6 +49,15 @@ shown (Line causes mask) = sight.Line (is_asserted causes mask)
 shown (Link up) = sight.Link up
 shown (Frames count) = sight.Count count
 shown (Sent count) = sight.Count count
+
+-- the octets of a range, with zeros behind them
+abbrev pub IsOctets : Traced → Type 0
+IsOctets (Octets range octets) = Unit {0}
+IsOctets _ = ⊥
+
+abbrev pub octets_of : Traced → List ℕ
+octets_of (Octets range octets) = octets
+octets_of _ = []
 
 -- the table has the register
 abbrev pub IsTraceable : Traced → Type 0

@@ -3,13 +3,19 @@
 
 mod change;
 mod difference;
+mod effect;
+mod octets;
 mod range;
+mod registers;
 mod search;
 mod traced;
 mod watch;
 
 pub use change::Change;
-pub use difference::{Difference, RegisterChange, RegisterChanges, registers_changed, what};
+pub use difference::{Difference, difference_of};
+pub use effect::{Effect, what};
+pub use octets::{MemoryChange, MemoryChanges};
 pub use range::{MOST_WATCHED, MemoryRange};
+pub use registers::{RegisterChange, RegisterChanges};
 pub use search::{ChangeIter, change_before, changes, last_change, seen, seen_back};
 pub use watch::{Sight, Watch};

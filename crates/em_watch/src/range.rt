@@ -1,5 +1,5 @@
 //! A short range of guest memory.
-ghost use Rattle.std.specs.Prelude.{◌≡◌, ◌≤◌, ◌<◌, ◌↔◌, IsSome, IfSome};
+ghost use Rattle.std.specs.Prelude.{◌≡◌, ◌+◌, ◌-◌, ◌^◌, ◌≤◌, ◌<◌, ◌↔◌, IsSome, IfSome};
 ghost use Rattle.em_watch.specs.declared.range.TheConstants.{MOST_WATCHED};
 
 /// The most octets of guest memory that are watched at once.
@@ -42,5 +42,31 @@ impl MemoryRange {
         ensures most { result ≤ MOST_WATCHED }
     {
         self.len
+    }
+
+    /// The range from an address on of as many octets as there is room for, and at most [`MOST_WATCHED`].
+    pub(crate) fn within(addr: u64, room: u64) -> MemoryRange
+        requires { 0 < room }
+        ensures addr { result.addr ≡ addr }
+        ensures held { result.len ≤ room }
+    {
+        MemoryRange {
+            addr,
+            len: room.min(MOST_WATCHED as u64) as usize,
+        }
+    }
+
+    /// Its octets from one on to another.
+    pub(crate) fn between(self, first: usize, last: usize) -> MemoryRange
+        requires order { first ≤ last }
+        requires within { last < self.len }
+        requires fits { self.addr + self.len < 2 ^ 64 }
+        ensures addr { result.addr ≡ self.addr + first }
+        ensures len { result.len ≡ last - first + 1 }
+    {
+        MemoryRange {
+            addr: self.addr + first as u64,
+            len: last - first + 1,
+        }
     }
 }

@@ -4,7 +4,7 @@ ghost use Rattle.em_regs.specs.Table.{IsReg};
 ghost use Rattle.em_step.specs.Access.{gives};
 ghost use Rattle.em_step.specs.Before.{PutsBack};
 ghost use Rattle.em_watch.specs.Traced.{traced, traced_register, traced_octets, shown, IsTraceable};
-ghost use Rattle.em_watch.specs.Traced.{TakesBack, OctetsGoBack};
+ghost use Rattle.em_watch.specs.Traced.{IsOctets, octets_of, TakesBack, OctetsGoBack};
 
 use crate::range::{MOST_WATCHED, MemoryRange};
 use crate::watch::{Sight, Watch};
@@ -58,6 +58,17 @@ impl Traced {
             Traced::Line(causes, mask) => Sight::Line(causes & mask != 0),
             Traced::Link(up) => Sight::Link(up),
             Traced::Frames(count) | Traced::Sent(count) => Sight::Count(count),
+        }
+    }
+
+    /// The octets of a range, with zeros behind them.
+    pub(crate) fn octets(self) -> [u8; MOST_WATCHED]
+        requires { IsOctets self }
+        ensures { result ≡ octets_of self }
+    {
+        match self {
+            Traced::Octets(_, octets) => octets,
+            _ => unreachable!(),
         }
     }
 

@@ -1,6 +1,6 @@
 use Rattle.em_watch.specs.Difference.{LeavesOffset}
 use Rattle.em_watch.proofs.DifferenceLaws.{leaves_offset, none_is}
-use Rattle.em_watch.proofs.difference.changed_at.Goals as goal
+use Rattle.em_watch.proofs.registers.changed_at.Goals as goal
 
 pub returns-in_err-difference-clause-none : goal.returns-in_err-difference-clause-none
 returns-in_err-difference-clause-none c =

@@ -1,0 +1,167 @@
+-- Octets of memory just before an event and just after it.
+use Rattle.std.proofs.Common.{◌≡◌, ℕ, ◌+◌, ◌-◌, ◌<◌, ◌≤◌, ◌⊎◌, inl, inr, Bool, true, false, cond, List, ◌++◌, length}
+use Rattle.std.proofs.Common.{take, drop, get_or, Some, None, refl, sym, ap, ◌∙◌, subst, arith}
+use Rattle.std.specs.Prelude.{◌≢◌, Option, nat_lt, slice_get, replicate, map, IfSome, IfNone}
+use Rattle.std.specs.Option.{option_map}
+use Rattle.std.proofs.lemmas.Bool.{cases_lt}
+use Rattle.std.proofs.lemmas.Bool.Decides.{nat_tests}
+use Rattle.std.proofs.lemmas.List.{get_or_append_left, get_or-take, get_or-drop}
+use Rattle.std.proofs.lemmas.Option.{slice_get-get_or, slice_get_cases, slice_get_past}
+use Rattle.em_mem.specs.Memory.{part}
+use Rattle.em_mem.specs.Extent.{SameUpTo}
+use Rattle.em_mem.proofs.PutLaws.{length-part}
+use Rattle.em_step.specs.Before.{LeavesUpTo}
+use Rattle.em_step.specs.Cells.{shows}
+use Rattle.em_step.specs.State.{State}
+use Rattle.em_step.specs.Undo.{undo}
+use Rattle.em_step.specs.declared.undo.Undo.{Undo}
+use Rattle.em_journal.specs.Record.{IsRecordAt}
+use Rattle.em_journal.specs.View.{HaveMemoryOf, View, states}
+use Rattle.em_watch.specs.MemoryChange.{ChangesOctet, HasRange, IsMemoryChange, LeavesOctet, LeavesOctets, LeavesRest}
+use Rattle.em_watch.specs.MemoryChange.{ShowsOctets, octet_back}
+use Rattle.em_watch.specs.Traced.{IsOctets, IsTraced, octets_of, shown, traced, traced_octets}
+use Rattle.em_watch.specs.declared.octets.MemoryChange.{MemoryChange}
+use Rattle.em_watch.specs.declared.range.TheConstants.{MOST_WATCHED}
+use Rattle.em_watch.specs.declared.range.MemoryRange.{MemoryRange}
+use Rattle.em_watch.specs.declared.watch.Watch.TheVariants.{Octets}
+use Rattle.em_watch.specs.declared.watch.Sight.TheVariants as sight
+use Rattle.em_watch.specs.declared.traced.Traced.{Traced}
+use Rattle.em_watch.specs.declared.traced.Traced.TheVariants as traced
+use Rattle.em_watch.proofs.TracedLaws.{from_map, mapped, next_item, seen_there}
+
+-- ---- what is traced of a range that memory has
+-- zeros stand behind the octets
+abbrev padded : MemoryRange → List ℕ → List ℕ
+padded range memory = part memory range.addr range.len ++ replicate (MOST_WATCHED - range.len) 0
+
+octets_if : (range : MemoryRange) (memory : List ℕ) (b : Bool)
+    → nat_lt (length memory) (range.addr + range.len) ≡ b → range.addr + range.len ≤ length memory
+    → cond b traced.Nothing (traced.Octets range (padded range memory)) ≡ traced.Octets range (padded range memory)
+octets_if range memory true past held = absurd (grind (arith, nat_tests))
+octets_if range memory false past held = refl
+
+traced_is : (range : MemoryRange) (memory : List ℕ) → range.addr + range.len ≤ length memory
+    → traced_octets memory range ≡ traced.Octets range (padded range memory)
+traced_is range memory held = octets_if range memory (nat_lt (length memory) (range.addr + range.len)) refl held
+
+pub is_octets : (v : View) (k : ℕ) (range : MemoryRange) (t : Traced) → HasRange v range
+    → IsTraced (Octets range) v k t → IsOctets t
+is_octets v k range t held is =
+    let here = from_map (traced (Octets range)) (states v) k t is in
+    subst IsOctets (sym (traced_is range here.0.memory (held k here.0 here.1)) ∙ here.2) tt
+
+octet_of : (range : MemoryRange) (memory : List ℕ) (i : ℕ) → range.addr + range.len ≤ length memory → i < range.len
+    → slice_get memory (range.addr + i) ≡ Some (get_or (padded range memory) i 0)
+octet_of range memory i held l =
+    let size = length-part memory range.addr range.len held in
+    slice_get-get_or memory (range.addr + i) 0 (omega (arith, held, l))
+    ∙ ap Some (
+    sym (get_or-drop range.addr memory i 0)
+    ∙ sym (get_or-take range.len (drop range.addr memory) i 0 l)
+    ∙ sym (get_or_append_left (part memory range.addr range.len) (replicate (MOST_WATCHED - range.len) 0) 0 i
+    (omega (arith, size, l)))
+    )
+
+pub shows_octets : (v : View) (k : ℕ) (range : MemoryRange) (t : Traced) (octets : List ℕ) → HasRange v range
+    → IsTraced (Octets range) v k t → octets ≡ octets_of t → ShowsOctets v k range octets
+shows_octets v k range t octets held is octets_is =
+    let here = from_map (traced (Octets range)) (states v) k t is in
+    let memory : List ℕ = here.0.memory in
+    let all : t ≡ traced.Octets range (padded range memory)
+    = sym here.2 ∙ traced_is range memory (held k here.0 here.1) in
+    let same : padded range memory ≡ octets = ap octets_of (sym all) ∙ sym octets_is in
+    record {
+      seen = seen_there (Octets range) v k t is ∙ ap Some (ap shown all ∙ ap sight.Octets same);
+      each = λ i l. mapped (λ (s : State). slice_get s.memory (range.addr + i)) (states v) k here.0 here.1
+          ∙ ap Some (octet_of range memory i (held k here.0 here.1) l ∙ ap (λ x. Some (get_or x i 0)) same);
+    }
+
+-- ---- from a record on
+-- an octet before the event of a record and after it
+octets_at_record : (v : View) (back : ℕ) (r : Undo) (a : ℕ) → 0 < back → (at : IsRecordAt v (back - 1) r)
+    → slice_get (shows at.0).memory a ≡ slice_get (shows (undo at.0 r)).memory a → LeavesOctet v back a
+octets_at_record v back r a some at same =
+    let octet : State → Option ℕ = λ s. slice_get s.memory a in
+    let there : back - 1 + 1 ≡ back = omega (arith, some) in
+    let before : slice_get (states v) back ≡ Some (shows (undo at.0 r))
+    = ap (slice_get (states v)) (sym there) ∙ next_item v.present v.past (back - 1) ∙ at.3 in
+    mapped octet (states v) back (shows (undo at.0 r)) before ∙ ap Some (sym same)
+    ∙ sym (mapped octet (states v) (back - 1) (shows at.0) at.2)
+
+pub place_from : (v : View) (back from : ℕ) (r : Undo) (next : Option ℕ) → IsRecordAt v (back - 1) r
+    → LeavesUpTo r from next → IfSome next (λ k. from ≤ k)
+place_from v back from r next at leaves = (leaves at.0 at.1).from
+
+place_left : (v : View) (back from : ℕ) (r : Undo) (next : Option ℕ) → 0 < back → IsRecordAt v (back - 1) r
+    → LeavesUpTo r from next → (a : ℕ) → from ≤ a → IfSome next (λ k. a < k) → LeavesOctet v back a
+place_left v back from r next some at leaves a l below =
+    octets_at_record v back r a some at ((leaves at.0 at.1).same a l below)
+
+pub left_to : (v : View) (back from : ℕ) (r : Undo) (next : Option ℕ) → 0 < back → IsRecordAt v (back - 1) r
+    → LeavesUpTo r from next → IfSome next (LeavesOctets v back from)
+left_to v back from r None some at leaves = tt
+left_to v back from r (Some k) some at leaves = λ a l m. place_left v back from r (Some k) some at leaves a l m
+
+pub left_to_end : (v : View) (back from : ℕ) (r : Undo) (next : Option ℕ) → 0 < back → IsRecordAt v (back - 1) r
+    → LeavesUpTo r from next → IfNone next (LeavesRest v back from)
+left_to_end v back from r None some at leaves = λ a l. place_left v back from r None some at leaves a l tt
+left_to_end v back from r (Some k) some at leaves = tt
+
+-- past the end of memory no state has an octet
+past_in : (v : View) (k size a : ℕ) → HaveMemoryOf size v → size ≤ a → k ≤ length v.past → octet_back v k a ≡ Some None
+past_in v k size a sizes past there = elim (slice_get_cases (states v) k).1 [
+  | inl here ↦ mapped (λ (s : State). slice_get s.memory a) (states v) k here.0 here.2
+      ∙ ap Some (slice_get_past here.0.memory a (omega (arith, sizes k here.0 here.2, past)))
+  | inr none ↦ absurd (omega (arith, none.0, there))
+]
+
+pub past_the_end : (v : View) (back size a : ℕ) → HaveMemoryOf size v → size ≤ a → back ≤ length v.past
+    → LeavesOctet v back a
+past_the_end v back size a sizes past there =
+    past_in v back size a sizes past there ∙ sym (past_in v (back - 1) size a sizes past (omega (arith, there)))
+
+-- ---- an octet of a range
+module _ (v : View) (back : ℕ) (range : MemoryRange) (before after : List ℕ) (was : ShowsOctets v back range before)
+    (is : ShowsOctets v (back - 1) range after) where
+  pub left_there : (i : ℕ) → i < range.len → get_or before i 0 ≡ get_or after i 0 → LeavesOctet v back (range.addr + i)
+  left_there i l same = was.each i l ∙ ap (λ x. Some (Some x)) same ∙ sym (is.each i l)
+
+  pub changed_there : (i : ℕ) → i < range.len → get_or before i 0 ≢ get_or after i 0
+      → ChangesOctet v back (range.addr + i)
+  changed_there i l other same = other (let e = sym (was.each i l) ∙ same ∙ is.each i l in cc)
+
+  -- the octets at the front of the range were left
+  pub front_left : (n : ℕ) → n ≤ range.len → ((j : ℕ) → j < n → get_or before j 0 ≡ get_or after j 0)
+      → LeavesOctets v back range.addr (range.addr + n)
+  front_left n held same a from below =
+      let place : range.addr + (a - range.addr) ≡ a = omega (arith, from) in
+      subst (LeavesOctet v back) place
+      (left_there (a - range.addr) (omega (arith, held, below)) (same (a - range.addr) (omega (arith, below, from))))
+
+  -- where the first octet and the last one were changed, so were the octets
+  pub is_change : 0 < range.len → ChangesOctet v back range.addr
+      → ChangesOctet v back (range.addr + range.len - 1)
+      → IsMemoryChange v back (record { range = range; before = before; after = after })
+  is_change some first last = record {
+    octets = record {
+      before = was.seen;
+      after = is.seen;
+      differ = λ e.
+          let octets : before ≡ after = cc in
+          let here : range.addr + 0 ≡ range.addr = omega arith in
+          first (subst (LeavesOctet v back) here (left_there 0 some (ap (λ x. get_or x 0 0) octets)));
+    };
+    first = first;
+    last = last;
+  }
+
+-- ---- one range after another
+pub leaves_both : (v : View) (back from mid below : ℕ) → LeavesOctets v back from mid → LeavesOctets v back mid below
+    → LeavesOctets v back from below
+leaves_both v back from mid below one other a l m =
+    elim (cases_lt a mid) [ inl lt ↦ one a l lt | inr ge ↦ other a ge m ]
+
+pub leaves_rest : (v : View) (back from mid : ℕ) → LeavesOctets v back from mid → LeavesRest v back mid
+    → LeavesRest v back from
+leaves_rest v back from mid one other a l =
+    elim (cases_lt a mid) [ inl lt ↦ one a l lt | inr ge ↦ other a ge ]

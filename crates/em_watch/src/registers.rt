@@ -1,0 +1,107 @@
+//! The registers that one event changed.
+ghost use Rattle.std.specs.Prelude.{◌≡◌, ◌<◌, ◌≤◌, IfSome, IfNone, length};
+ghost use Rattle.em_regs.specs.Table.{offset_of};
+ghost use Rattle.em_watch.specs.Difference.{IsRegisterChange, LeavesOffset, LeavesRegisters};
+
+use crate::difference::{Difference, difference_of};
+use crate::watch::Watch;
+use em_journal::Machine;
+use em_regs::Reg;
+use std::marker::Model;
+
+/// How many octets a word of the registers' space has.
+const WORD: u32 = 4;
+
+/// A register that an event changed.
+#[derive(Clone, Copy, PartialEq, Eq, Debug)]
+pub struct RegisterChange {
+    pub reg: Reg,
+    pub difference: Difference,
+}
+
+/// The registers that an event changed, from an offset on.
+#[derive(Drop)]
+pub struct RegisterChanges<'a> {
+    machine: &'a Machine,
+    back: usize,
+    offset: u32,
+}
+
+impl<'a> Model for RegisterChanges<'a> {
+    ghost use Rattle.std.specs.Prelude.{◌≤◌};
+    ghost use Rattle.em_watch.specs.RegisterSearch.{RegisterSearch, IsOfAnEvent, register_search_code};
+
+    ghost Value = { RegisterSearch };
+
+    ghost coded = { register_search_code };
+
+    ghost view = { λ c. record { view = c.machine.now; back = c.back; offset = c.offset } };
+
+    ghost invariant = { λ c. IsOfAnEvent c.machine.now c.back × (c.offset ≤ 0x05800) };
+}
+
+impl<'a> RegisterChanges<'a> {
+    /// All that it changed.
+    pub(crate) fn of(machine: &'a Machine, back: usize) -> RegisterChanges<'a>
+        requires some { 0 < back }
+        requires there { back ≤ length machine.now.past }
+        ensures { result ≡ record { view = machine.now; back = back; offset = 0 } }
+    {
+        RegisterChanges {
+            machine,
+            back,
+            offset: 0,
+        }
+    }
+}
+
+impl<'a> Iterator for RegisterChanges<'a> {
+    type Item = RegisterChange;
+
+    ghost use Rattle.em_watch.specs.RegisterSearch.{GivesRegister, registers_left};
+
+    ghost next_gives = { GivesRegister };
+
+    ghost remaining = { registers_left };
+
+    /// The next register, by offset.
+    fn next(&mut self) -> Option<RegisterChange> {
+        let change = next_changed(self.machine, self.back, self.offset)?;
+        self.offset = change.reg.offset() + 1;
+        Some(change)
+    }
+}
+
+/// The first register from an offset on that an event changed.
+fn next_changed(machine: &Machine, back: usize, from: u32) -> Option<RegisterChange>
+    requires some { 0 < back }
+    requires there { back ≤ length machine.now.past }
+    requires within { from ≤ 0x05800 }
+    ensures change { IfSome result (IsRegisterChange machine.now back) }
+    ensures from { IfSome result (λ change. from ≤ offset_of change.reg) }
+    ensures below { IfSome result (λ change. offset_of change.reg < 0x05800) }
+    ensures first { IfSome result (λ change. LeavesRegisters machine.now back from (offset_of change.reg)) }
+    ensures none { IfNone result (LeavesRegisters machine.now back from 0x05800) }
+{
+    let mut next = WORD * from.div_ceil(WORD);
+    while let Some(offset) = Reg::next_page_with_registers(next) {
+        if let Some(change) = changed_at(machine, back, offset) {
+            return Some(change);
+        }
+        next = offset + WORD;
+    }
+    None
+}
+
+/// The register at an offset, if an event changed it.
+fn changed_at(machine: &Machine, back: usize, offset: u32) -> Option<RegisterChange>
+    requires some { 0 < back }
+    requires there { back ≤ length machine.now.past }
+    ensures change { IfSome result (IsRegisterChange machine.now back) }
+    ensures there { IfSome result (λ change. offset_of change.reg ≡ offset) }
+    ensures none { IfNone result (LeavesOffset machine.now back offset) }
+{
+    let reg = Reg::of_offset(offset)?;
+    let difference = difference_of(machine, Watch::Register(reg), back)?;
+    Some(RegisterChange { reg, difference })
+}
