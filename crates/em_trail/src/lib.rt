@@ -2,6 +2,7 @@
 #![tactic(auto)]
 
 mod note;
+mod notes;
 #[cfg(test)]
 mod tests;
 mod traced;
