@@ -15,7 +15,8 @@ newest-more older recent note =
     ap reverse (sym (append_assoc older recent (note ∷ []))) ∙ reverse-append (older ++ recent) (note ∷ [])
 
 -- one more older note, where no recent one is there
-pub newest-older : (older : List Note) (note : Note) → newest_first (older ++ note ∷ []) [] ≡ note ∷ newest_first older []
+pub newest-older : (older : List Note) (note : Note)
+    → newest_first (older ++ note ∷ []) [] ≡ note ∷ newest_first older []
 newest-older older note =
     ap reverse (append-nil (older ++ note ∷ [])) ∙ reverse-append older (note ∷ [])
     ∙ ap (λ l. note ∷ reverse l) (sym (append-nil older))

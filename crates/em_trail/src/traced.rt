@@ -32,7 +32,10 @@ impl Model for Traced {
 
     ghost coded = { trail_code view_code one.the_row.coded };
 
-    ghost view = { λ t. record { view = t.machine; notes = newest t.machine t.notes.older.items t.notes.recent.items } };
+    ghost view = { λ t. record {
+      view = t.machine;
+      notes = newest t.machine t.notes.older.items t.notes.recent.items;
+    } };
 
     ghost invariant = { λ t. IsTrail t.machine.present t.machine.past
         (newest t.machine t.notes.older.items t.notes.recent.items) };
