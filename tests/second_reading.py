@@ -9,6 +9,7 @@ import re
 
 PAGE = 4096
 LEAST, MOST = 14, 20_000
+MOST_WATCHED = 16
 ROOM = 49_152
 GREATEST = 0xFFFFFFFF
 CTRL, STATUS, EERD, VET = 0x0, 0x8, 0x14, 0x38
@@ -41,6 +42,11 @@ PLAIN = REGISTERS - COUNTERS - PAIRS - {STATUS, EERD, ICR, ICS, IMS, IMC, *MASKS
 # where the driver that a script starts keeps its rings and buffers
 RX_RING, TX_RING, RX_BUFFERS, TX_BUFFERS, DESCRIPTORS, BUFFER = 0, 0x80, 0x1000, 0x5000, 8, 2048
 IN_ORDER = sorted(REGISTERS)
+# the arrays: name, offset of the first, octets from one to the next, how many
+INDEXED = (
+    ("MTA[{}]", 0x5200, 4, 128), ("RAL{}", 0x5400, 8, 16), ("RAH{}", 0x5404, 8, 16), ("VFTA[{}]", 0x5600, 4, 128)
+)
+IN_WORDS = NAMES | {at + i * apart: name.format(i) for name, at, apart, n in INDEXED for i in range(n)}
 
 
 class Refused(Exception):
@@ -653,6 +659,39 @@ def answers(script: str, **settings) -> list[tuple[int, str, list[str]]]:
             said = session.line(words)
         played.append((number, line, [f"bad line {number}"] if said is None else said))
     return played
+
+
+def changes_told(name: str, sights: list[str]) -> list[str]:
+    """The newest sight of a thing, and each older one that the state after it does not show, by steps back."""
+    older = [back for back in range(1, len(sights)) if sights[back] != sights[back - 1]]
+    return [f"{name} {back}: {sights[back]}" for back in [0, *older]]
+
+
+def who(script: str, ranges: list[tuple[int, int]], **settings) -> str:
+    """What em_who must tell of a script, with these ranges: address, number of octets."""
+    session = Session(**settings)
+    for number, line in enumerate(script.split("\n"), 1):
+        words = [word for word in re.split("[ \t\r]+", line) if word]
+        if words and not words[0].startswith("#"):
+            session.begins(number)
+            session.line(words)
+    states = [session.now, *(state for state, _ in reversed(session.past))]
+    told = []
+    touched = {STATUS}
+    for one, other in zip(states, states[1:]):
+        touched |= {at for at, _ in one.kept.items() ^ other.kept.items() if one.at(at) != other.at(at)}
+    touched |= {low + 4 for low in touched & {GORC, GOTC}}
+    for offset in sorted(touched):
+        lines = changes_told(IN_WORDS[offset], [f"{s.look(offset):08X}" for s in states])
+        told += lines if len(lines) > 1 else []
+    told += changes_told("line", ["1" if s.at(ICR) & s.at(IMS) else "0" for s in states])
+    told += changes_told("link", ["up" if s.link else "down" for s in states])
+    told += changes_told("frames", [str(len(s.fifo)) for s in states])
+    told += changes_told("sent", [str(len(s.wire)) for s in states])
+    for at, count in ranges:
+        seen = [s.octets(at, count).hex().upper() if at + count <= s.size() else "nothing" for s in states]
+        told += changes_told(f"{at:X}:{count}", seen)
+    return "".join(f"{line}\n" for line in told)
 
 
 def text(script: str, **settings) -> str:

@@ -5,7 +5,6 @@ from pathlib import Path
 
 TOP = Path(__file__).resolve().parent.parent
 CRATES = TOP / "crates"
-PROGRAM = CRATES / "em_bench" / "out" / "em_bench"
 
 
 def below() -> dict[str, list[str]]:
@@ -15,11 +14,12 @@ def below() -> dict[str, list[str]]:
     return {name: [dep for dep in deps if dep in named] for name, deps in named.items()}
 
 
-def program() -> str:
-    """The program that a part is told to run, or the one that was built last."""
-    named = sys.argv[1] if sys.argv[1:] else str(PROGRAM)
+def program(crate: str = "em_bench") -> str:
+    """The program that a part is told to run, or the crate's that was built last."""
+    named = sys.argv[1] if sys.argv[1:] else str(CRATES / crate / "out" / crate)
     if not Path(named).is_file():
-        sys.exit(f"{named} is not there: ./em_bench --build builds it")
+        built_by = "./em_bench --build" if crate == "em_bench" else f"rt run in crates/{crate}"
+        sys.exit(f"{named} is not there: {built_by} builds it")
     # a part may run it from another folder
     return str(Path(named).resolve())
 

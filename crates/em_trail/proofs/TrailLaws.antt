@@ -1,7 +1,8 @@
 -- A trail that grows, one of which the newest event is taken back, and what its notes tell.
 use Rattle.std.proofs.Common.{◌≡◌, ℕ, ◌<◌, zero, suc, List, [], ◌∷◌, length, take, drop, Some}
 use Rattle.std.proofs.Common.{refl, sym, ap, ◌∙◌, subst, arith}
-use Rattle.std.specs.Prelude.{slice_get, IfSome, Option, None}
+use Rattle.std.specs.Prelude.{slice_get, IfSome, Option, None, ◌≤◌, min}
+use Rattle.std.proofs.lemmas.List.{length-take, take-take}
 use Rattle.em_step.specs.State.{State}
 use Rattle.em_step.specs.Event.{Event}
 use Rattle.em_step.specs.Cost.{cost}
@@ -39,6 +40,34 @@ past_is v w event answer does =
     let n = reach v.budget (cost v.present event ∷ v.costs) in
     let is : w.past ≡ take n (states v) = ap (λ (x : View). x.past) does.1 in
     is ∙ sym (take-length n (states v)) ∙ ap (λ past. take (length past) (states v)) (sym is)
+
+-- no event makes more than one state more to go back to
+pub one_more : (v w : View) (event : Event) (answer : Answer) → Does v (performs event answer) w
+    → length w.past ≤ suc (length v.past)
+one_more v w event answer does =
+    let n = length w.past in
+    let is : n ≡ min n (length (states v)) = ap length (past_is v w event answer does) ∙ length-take n (states v) in
+    omega arith
+
+take-cons : {X : Type 0} (m n : ℕ) (x : X) (xs : List X) → m ≤ suc n → take m (x ∷ xs) ≡ take m (x ∷ take n xs)
+take-cons zero n x xs le = refl
+take-cons (suc m) n x xs le = ap (λ l. x ∷ l) (sym (take-take m n xs (omega arith)))
+
+-- of the notes that are there, and one more, the trail is the newest
+pub newest_noted : (v w : View) (all room : List Note) (note : Note) (event : Event) (answer : Answer)
+    → Does v (performs event answer) w → take (length v.past) room ≡ take (length v.past) all
+    → take (length w.past) (note ∷ room) ≡ take (length w.past) (note ∷ take (length v.past) all)
+newest_noted v w all room note event answer does same =
+    take-cons (length w.past) (length v.past) note room (one_more v w event answer does)
+    ∙ ap (λ l. take (length w.past) (note ∷ l)) same
+
+-- there are notes for all states to go back to
+pub enough : (s : State) (past : List State) (all : List Note) → IsTrail s past (take (length past) all)
+    → length past ≤ length all
+enough s past all h =
+    let is : min (length past) (length all) ≡ length past
+    = sym (length-take (length past) all) ∙ length-trail s past (take (length past) all) h in
+    omega arith
 
 -- an event was performed and noted
 pub trail-noted : (v w : View) (notes notes' : List Note) (note : Note) (event : Event) (answer : Answer) (tag : ℕ)

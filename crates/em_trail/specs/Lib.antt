@@ -1,2 +1,3 @@
 pub mod Note
+pub mod Notes
 pub mod Trail

@@ -11,6 +11,7 @@ use Rattle.em_journal.specs.View.{View, states}
 use Rattle.em_journal.specs.History.{Does, performs, goes_back}
 use Rattle.em_trail.specs.declared.note.Note.{Note}
 use Rattle.em_trail.specs.Note.{note_of}
+use Rattle.em_trail.specs.Notes.{newest_first}
 
 pub record Trail : Type 0 where
   -- what the machine shows
@@ -38,6 +39,10 @@ IsTrail present [] [] = Unit {0}
 IsTrail present (before ∷ past) (note ∷ notes) = Tells note before present × IsTrail before past notes
 IsTrail present [] (note ∷ notes) = ⊥
 IsTrail present (before ∷ past) [] = ⊥
+
+-- of a machine's notes those that stand beside its states to go back to, the newest first
+abbrev pub newest : View → List Note → List Note → List Note
+newest view older recent = take (length view.past) (newest_first older recent)
 
 -- a machine that has performed nothing
 abbrev pub starting : View → Trail

@@ -2,6 +2,7 @@
 #![tactic(auto)]
 
 mod note;
+mod notes;
 mod traced;
 
 pub use note::{Kind, Note};

@@ -1,19 +1,15 @@
 //! A machine with its trail.
 ghost use Rattle.std.specs.Prelude.{◌≡◌, ◌==◌, ◌<◌, ◌∷◌, [], length, take, slice_get, IfOk, IfErr, IfSome, OnOk, OnErr};
-ghost use Rattle.circular_buffer.specs.Buffer.{buffer};
 ghost use Rattle.em_step.specs.Event.{plain};
 ghost use Rattle.em_journal.specs.View.{states};
 ghost use Rattle.em_trail.specs.Trail.{IsTrail, Noted, RefusesNoted, TakesBack, TellsAt, starting};
 
 use crate::note::{Note, note_of};
-use circular_buffer::HeapCircularBuffer;
+use crate::notes::Notes;
 use em_journal::{Empty, Machine};
 use em_step::{Answer, Event, Refusal};
 use std::alloc::Global;
 use std::marker::Model;
-
-/// How many places a trail has at first.
-const FIRST_PLACES: usize = 64;
 
 /// A machine, and a note of each event that it can take back.
 ///
@@ -22,13 +18,13 @@ const FIRST_PLACES: usize = 64;
 #[derive(Drop)]
 pub struct Traced {
     machine: Machine,
-    // the newest first
-    notes: HeapCircularBuffer<Note>,
+    // The newest, as many as the journal has records, are the trail. Others may still be there behind them.
+    notes: Notes,
 }
 
 impl Model for Traced {
     ghost use Rattle.em_journal.specs.View.{view_code};
-    ghost use Rattle.em_trail.specs.Trail.{Trail, IsTrail};
+    ghost use Rattle.em_trail.specs.Trail.{Trail, IsTrail, newest};
     ghost use Rattle.em_trail.specs.Trail.{trail_code};
     ghost use Rattle.em_trail.specs.contracts.note.Note as one;
 
@@ -36,9 +32,13 @@ impl Model for Traced {
 
     ghost coded = { trail_code view_code one.the_row.coded };
 
-    ghost view = { λ t. record { view = t.machine; notes = t.notes.items } };
+    ghost view = { λ t. record {
+      view = t.machine;
+      notes = newest t.machine t.notes.older.items t.notes.recent.items;
+    } };
 
-    ghost invariant = { λ t. IsTrail t.machine.present t.machine.past t.notes.items };
+    ghost invariant = { λ t. IsTrail t.machine.present t.machine.past
+        (newest t.machine t.notes.older.items t.notes.recent.items) };
 }
 
 impl Traced {
@@ -50,7 +50,7 @@ impl Traced {
         ensures memory { IfErr result (λ e. e.1 ≡ Refusal.Memory) }
         ensures same { IfErr result (λ e. e.0 ≡ machine) }
     {
-        match HeapCircularBuffer::with_capacity(alloc, FIRST_PLACES) {
+        match Notes::new(alloc) {
             Ok(notes) => Ok(Traced { machine, notes }),
             Err(_) => Err((machine, Refusal::Memory)),
         }
@@ -68,10 +68,9 @@ impl Traced {
         ensures err { IfErr result (λ refusal. RefusesNoted self.old.view.present (plain event.entry) refusal) }
         ensures same { OnErr result (self.new ≡ self.old) }
     {
-        make_room(&mut self.notes)?;
+        self.notes.make_room(self.machine.can_go_back())?;
         let answer = self.machine.perform(event)?;
-        let kept = self.machine.can_go_back();
-        keep(&mut self.notes, note_of(event, answer, tag), kept);
+        self.notes.push(note_of(event, answer, tag));
         Ok(answer)
     }
 
@@ -86,7 +85,7 @@ impl Traced {
             Ok(()) => {}
             Err(Empty) => return Err(Empty),
         }
-        let Some(note) = self.notes.pop_front() else {
+        let Some(note) = self.notes.pop() else {
             unreachable!();
         };
         Ok(note)
@@ -105,7 +104,11 @@ impl Traced {
         // it tells of the event that led from the state behind to the state k steps back
         ensures tells { IfSome result (λ note. TellsAt (states self.now.view) k note) }
     {
-        self.notes.get(k).copied()
+        if k < self.len() {
+            self.notes.get(k)
+        } else {
+            None
+        }
     }
 
     /// How many notes there are: as many as events that can be taken back.
@@ -113,7 +116,7 @@ impl Traced {
         ensures notes { result ≡ length self.now.notes }
         ensures past { result ≡ length self.now.view.past }
     {
-        self.notes.len()
+        self.machine.can_go_back()
     }
 
     /// Whether no event can be taken back.
@@ -121,46 +124,5 @@ impl Traced {
         ensures { result ≡ (length self.now.view.past == 0) }
     {
         self.len() == 0
-    }
-}
-
-/// Makes room for one more note.
-#[inline(always)]
-fn make_room(notes: &mut HeapCircularBuffer<Note>) -> Result<(), Refusal>
-    ensures items { notes.new.items ≡ notes.old.items }
-    ensures ok { OnOk result (length notes.new.items < notes.new.capacity) }
-    ensures err { IfErr result (λ refusal. refusal ≡ Refusal.Memory) }
-{
-    if notes.len() < notes.capacity() {
-        Ok(())
-    } else {
-        grow(notes)
-    }
-}
-
-/// Doubles the places of notes.
-#[inline(never)]
-fn grow(notes: &mut HeapCircularBuffer<Note>) -> Result<(), Refusal>
-    ensures items { notes.new.items ≡ notes.old.items }
-    ensures ok { OnOk result (length notes.new.items < notes.new.capacity) }
-    ensures err { IfErr result (λ refusal. refusal ≡ Refusal.Memory) }
-{
-    let places = 2 * notes.capacity() + 1;
-    notes.resize(places)?;
-    Ok(())
-}
-
-/// Puts a note first, and keeps so many of them.
-#[inline(always)]
-fn keep(notes: &mut HeapCircularBuffer<Note>, note: Note, kept: usize)
-    requires { length notes.old.items < notes.old.capacity }
-    ensures { notes.new ≡ buffer (take kept (note ∷ notes.old.items)) notes.old.capacity }
-{
-    let Ok(()) = notes.try_push_front(note) else {
-        unreachable!();
-    };
-    // mostly the journal dropped no record
-    if notes.len() > kept {
-        notes.truncate_back(kept);
     }
 }

@@ -1,8 +1,9 @@
-use Rattle.std.proofs.Common.{length, ap, ◌∙◌}
+use Rattle.std.proofs.Common.{length, sym, ap, ◌∙◌}
 use Rattle.em_trail.specs.Trail.{Trail}
 use Rattle.em_trail.proofs.TrailLaws.{length-trail}
 use Rattle.em_trail.proofs.traced.Traced.len.Goals as goal
 
-pub returns-clause-past : goal.returns-clause-past
-returns-clause-past c =
-    c.len.ensures.len ∙ length-trail _ _ _ c.self.invariant ∙ ap (λ (t : Trail). length t.view.past) c.self.view_is
+pub returns-clause-notes : goal.returns-clause-notes
+returns-clause-notes c =
+    c.can_go_back.ensures.past ∙ sym (length-trail _ _ _ c.self.invariant)
+    ∙ ap (λ (t : Trail). length t.notes) c.self.view_is

@@ -1,8 +1,9 @@
-use Rattle.std.proofs.Common.{◌∷◌, length, take, ap, ◌∙◌, subst}
+use Rattle.std.proofs.Common.{◌≡◌, ◌≤◌, ◌∷◌, length, take, sym, ap, ◌∙◌, subst}
 use Rattle.em_step.specs.Event.{plain}
 use Rattle.em_trail.specs.Note.{note_of}
-use Rattle.em_trail.specs.Trail.{Trail, Noted}
-use Rattle.em_trail.proofs.TrailLaws.{trail-noted}
+use Rattle.em_trail.specs.Notes.{newest_first}
+use Rattle.em_trail.specs.Trail.{Trail, Noted, newest}
+use Rattle.em_trail.proofs.TrailLaws.{trail-noted, newest_noted, enough}
 use Rattle.em_trail.proofs.traced.Traced.perform.Goals as goal
 
 pub invariant_of-self-2 : goal.invariant_of-self-2
@@ -10,23 +11,18 @@ invariant_of-self-2 c =
     let v = c.self.inside.machine in
     let w = c.perform.new.self in
     let note = c.note_of.result in
-    let notes = c.self.inside.notes.items in
-    let is = ap (λ b. b.items) c.keep.ensures
-    ∙ ap (λ n. take n (note ∷ c.make_room.new.notes.items)) c.can_go_back-kept.ensures.past
-    ∙ ap (λ xs. take (length w.past) (note ∷ xs)) c.make_room.ensures.items in
-    trail-noted v w notes _ note (plain c.args.event) c.in_ok-answer.answer c.args.tag c.self.invariant
+    let event = plain c.args.event in
+    let all = newest_first c.self.inside.notes.older.items c.self.inside.notes.recent.items in
+    let room = newest_first c.make_room.new.self.older.items c.make_room.new.self.recent.items in
+    let same : take (length v.past) room ≡ take (length v.past) all
+    = subst (λ n. take n room ≡ take n all) c.can_go_back.ensures.past c.make_room.ensures.same in
+    let is = ap (take (length w.past)) c.push.ensures
+    ∙ newest_noted v w all room note event c.in_ok-answer.answer c.in_ok-answer.ensures.ok same in
+    trail-noted v w (take (length v.past) all) _ note event c.in_ok-answer.answer c.args.tag c.self.invariant
     c.in_ok-answer.ensures.ok c.note_of.ensures is
 
-pub returns-clause-ok : goal.returns-clause-ok
-returns-clause-ok c =
-    let w = c.perform.new.self in
-    let note = c.note_of.result in
-    let is = ap (λ b. b.items) c.keep.ensures
-    ∙ ap (λ n. take n (note ∷ c.make_room.new.notes.items)) c.can_go_back-kept.ensures.past
-    ∙ ap (λ xs. take (length w.past) (note ∷ xs)) c.make_room.ensures.items
-    ∙ ap (λ n. take (length w.past) (n ∷ c.self.inside.notes.items)) c.note_of.ensures in
-    subst
-    (λ (t : Trail).
-    Noted t (record { view = w; notes = c.keep.new.notes.items }) c.args.tag (plain c.args.event)
-    c.in_ok-answer.answer)
-    c.self.view_is (record { performed = c.in_ok-answer.ensures.ok; notes = is })
+pub make_room-requires : goal.make_room-requires
+make_room-requires c =
+    let v = c.self.inside.machine in
+    let all = newest_first c.self.inside.notes.older.items c.self.inside.notes.recent.items in
+    subst (λ n. n ≤ length all) (sym c.can_go_back.ensures.past) (enough v.present v.past all c.self.invariant)
