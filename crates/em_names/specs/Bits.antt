@@ -37,7 +37,8 @@ ctrl = bit (codes "FD") 0 ∷ bit (codes "ASDE") 5 ∷ bit (codes "SLU") 6 ∷ f
     bit (codes "VME") 30 ∷ bit (codes "PHY_RST") 31 ∷ []
 
 abbrev pub status : List Row
-status = bit (codes "FD") 0 ∷ bit (codes "LU") 1 ∷ bit (codes "TXOFF") 4 ∷ field (codes "SPEED") 7 6 Speed ∷ []
+status = bit (codes "FD") 0 ∷ bit (codes "LU") 1 ∷ bit (codes "TXOFF") 4 ∷ field (codes "SPEED") 7 6 Speed ∷
+    field (codes "ASDV") 9 8 Speed ∷ bit (codes "PCI66") 11 ∷ []
 
 abbrev pub eerd : List Row
 eerd = bit (codes "START") 0 ∷ bit (codes "DONE") 4 ∷ field (codes "ADDR") 15 8 Digits ∷
@@ -61,10 +62,25 @@ abbrev pub tctl : List Row
 tctl = bit (codes "EN") 1 ∷ bit (codes "PSP") 3 ∷ field (codes "CT") 11 4 Number ∷ field (codes "COLD") 21 12 Number ∷
     bit (codes "SWXOFF") 22 ∷ bit (codes "RTLC") 24 ∷ []
 
+abbrev pub tipg : List Row
+tipg = field (codes "IPGT") 9 0 Number ∷ field (codes "IPGR1") 19 10 Number ∷ field (codes "IPGR2") 29 20 Number ∷ []
+
+abbrev pub pba : List Row
+pba = field (codes "RXA") 15 0 Number ∷ field (codes "TXA") 31 16 Number ∷ []
+
+-- the thresholds of a descriptor queue: for prefetching, in the host's memory, and for writing back
+abbrev pub rxdctl : List Row
+rxdctl = field (codes "PTHRESH") 5 0 Number ∷ field (codes "HTHRESH") 13 8 Number ∷
+    field (codes "WTHRESH") 21 16 Number ∷ bit (codes "GRAN") 24 ∷ []
+
+abbrev pub txdctl : List Row
+txdctl = field (codes "PTHRESH") 5 0 Number ∷ field (codes "HTHRESH") 13 8 Number ∷
+    field (codes "WTHRESH") 21 16 Number ∷ bit (codes "GRAN") 24 ∷ field (codes "LWTHRESH") 31 25 Number ∷ []
+
 abbrev pub rah : List Row
 rah = field (codes "RAH") 15 0 Digits ∷ field (codes "AS") 17 16 Number ∷ bit (codes "AV") 31 ∷ []
 
--- a register's table; the others hold one number
+-- a register's table; the others are shown as one number
 abbrev pub table_of : Reg → List Row
 table_of named.Ctrl = ctrl
 table_of named.Status = status
@@ -75,6 +91,10 @@ table_of named.Ims = causes
 table_of named.Imc = causes
 table_of named.Rctl = rctl
 table_of named.Tctl = tctl
+table_of named.Tipg = tipg
+table_of named.Pba = pba
+table_of named.Rxdctl = rxdctl
+table_of named.Txdctl = txdctl
 table_of (named.Rah _) = rah
 table_of _ = []
 

@@ -52,11 +52,13 @@ static CTRL: [Field; 17] = [
 ];
 
 /// STATUS.
-static STATUS: [Field; 4] = [
+static STATUS: [Field; 6] = [
     bit!("FD", 0),
     bit!("LU", 1),
     bit!("TXOFF", 4),
     field!("SPEED", 7, 6, Speed),
+    field!("ASDV", 9, 8, Speed),
+    bit!("PCI66", 11),
 ];
 
 /// EERD.
@@ -116,6 +118,33 @@ static TCTL: [Field; 6] = [
     bit!("RTLC", 24),
 ];
 
+/// TIPG.
+static TIPG: [Field; 3] = [
+    field!("IPGT", 9, 0, Number),
+    field!("IPGR1", 19, 10, Number),
+    field!("IPGR2", 29, 20, Number),
+];
+
+/// PBA.
+static PBA: [Field; 2] = [field!("RXA", 15, 0, Number), field!("TXA", 31, 16, Number)];
+
+/// RXDCTL.
+static RXDCTL: [Field; 4] = [
+    field!("PTHRESH", 5, 0, Number),
+    field!("HTHRESH", 13, 8, Number),
+    field!("WTHRESH", 21, 16, Number),
+    bit!("GRAN", 24),
+];
+
+/// TXDCTL.
+static TXDCTL: [Field; 5] = [
+    field!("PTHRESH", 5, 0, Number),
+    field!("HTHRESH", 13, 8, Number),
+    field!("WTHRESH", 21, 16, Number),
+    bit!("GRAN", 24),
+    field!("LWTHRESH", 31, 25, Number),
+];
+
 /// RAH.
 static RAH: [Field; 3] = [
     field!("RAH", 15, 0, Digits),
@@ -123,7 +152,7 @@ static RAH: [Field; 3] = [
     bit!("AV", 31),
 ];
 
-/// The bits and fields of a register, from the lowest on; none where it holds one number.
+/// The bits and fields of a register, from the lowest on; none where it is shown as one number.
 pub fn fields(reg: Reg) -> &'static [Field]
     ensures { map row_of_field result.now ≡ table_of reg }
 {
@@ -134,6 +163,10 @@ pub fn fields(reg: Reg) -> &'static [Field]
         Reg::Icr | Reg::Ics | Reg::Ims | Reg::Imc => &CAUSES,
         Reg::Rctl => &RCTL,
         Reg::Tctl => &TCTL,
+        Reg::Tipg => &TIPG,
+        Reg::Pba => &PBA,
+        Reg::Rxdctl => &RXDCTL,
+        Reg::Txdctl => &TXDCTL,
         Reg::Rah(_) => &RAH,
         _ => &[],
     }

@@ -8,7 +8,7 @@ pub enum Form {
     Number,
     /// A number, in 4 hexadecimal digits, where it is not 0.
     Digits,
-    /// SPEED: in Mb/s, where it is not 0.
+    /// SPEED and ASDV: in Mb/s, where it is not 0.
     Speed,
     /// RCTL.BSIZE: the size of a receive buffer in octets, by BSEX too.
     Size,

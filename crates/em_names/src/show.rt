@@ -25,7 +25,7 @@ const SIZES: [u32; 4] = [2048, 1024, 512, 256];
 /// The sizes with BSEX set.
 const GREATER_SIZES: [u32; 4] = [2048, 16384, 8192, 4096];
 
-/// The speeds in Mb/s, by SPEED.
+/// The speeds in Mb/s, by SPEED or ASDV.
 const SPEEDS: [u32; 4] = [10, 100, 1000, 1000];
 
 /// Writes a register's name, its value in 8 hexadecimal digits, and its bits and fields:
@@ -47,8 +47,8 @@ pub fn write_name<W: Write>(writer: &mut W, reg: Reg) -> Result<(), WriteFailed>
 }
 
 /// Writes the bits and fields of a register that holds a value, each behind a space: ` EN BAM BSIZE=2048`.
-/// Bits that have no name come behind them, in 8 hexadecimal digits. Of a register that holds one number it
-/// writes nothing.
+/// Bits that have no name come behind them, in 8 hexadecimal digits. Of a register without a table it writes
+/// nothing.
 pub fn write_bits<W: Write>(writer: &mut W, reg: Reg, value: u32) -> Result<(), WriteFailed>
     ensures writes { Writes (W.contents writer.old) (W.contents writer.new) result (bits_text reg value) }
 {
