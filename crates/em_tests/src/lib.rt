@@ -5,6 +5,8 @@
 #[cfg(test)]
 mod command_line;
 #[cfg(test)]
+mod inspect;
+#[cfg(test)]
 mod journal;
 #[cfg(test)]
 mod memory;

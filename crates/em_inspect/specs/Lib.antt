@@ -1,0 +1,4 @@
+pub mod AddressText
+pub mod Piece
+pub mod Lines
+pub mod Frame
