@@ -1,5 +1,5 @@
 -- Texts of the numbers from 0 on, one after another.
-use Rattle.std.proofs.Common.{◌≡◌, ℕ, ◌+◌, ◌*◌, ◌-◌, ◌<◌, ◌≤◌, List, [], ◌∷◌, ◌++◌, length, take, drop, get_or, Option, refl}
+use Rattle.std.proofs.Common.{◌≡◌, ℕ, ◌+◌, ◌-◌, ◌<◌, List, ◌∷◌, ◌++◌, length, take, drop, Option, refl}
 use Rattle.std.proofs.Common.{sym, ap, ◌∙◌, arith, append-nil, min, zero, suc, zero-add, add-zero}
 use Rattle.std.proofs.lemmas.List.{take_min, length-drop}
 use Rattle.std.proofs.lemmas.List.Concat.{flat_map-append}
