@@ -18,7 +18,7 @@ loop-offset-preserved c =
     let loop = c.loop-offset in
     let found = c.in-Some.ensures.found in
     let before = leaves_both v back c.args.from loop.next c.in-Some.offset loop.invariant.left
-        (leaves_bare v back loop.next c.in-Some.offset c.in-Some.ensures.first) in
+    (leaves_bare v back loop.next c.in-Some.offset c.in-Some.ensures.first) in
     record {
       whole = omega (arith, found.2);
       from = omega (arith, found.0, loop.invariant.from);
