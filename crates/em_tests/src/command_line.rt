@@ -42,7 +42,7 @@ enum Refused {
 }
 
 /// What these words are refused for, if they are.
-fn refused(alloc: Global, words: &[&str]) -> Result<Option<Refused>, Fail> {
+fn refused_for(alloc: Global, words: &[&str]) -> Result<Option<Refused>, Fail> {
     let line = command_line(alloc, words)?;
     match options(alloc, line.as_slice()) {
         Ok(_) => Ok(None),
@@ -106,7 +106,7 @@ fn words_are_refused_for_what_they_are(rt: HostRuntime) -> Result<(), Fail> {
         (["one", "two"].as_slice(), Some(Refused::Words)),
         (["--", "--help"].as_slice(), None),
     ] {
-        assert!(rt; refused(rt.alloc(), words)? == wanted);
+        assert!(rt; refused_for(rt.alloc(), words)? == wanted);
     }
     Ok(())
 }
