@@ -1,5 +1,5 @@
 -- The first line of what a reader has, from the parts that it gave.
-use Rattle.std.proofs.Common.{◌≡◌, ◌≢◌, ◌×◌, ℕ, ◌+◌, ◌-◌, ◌<◌, ◌≤◌, Bool, true, false, cond, get_or, List, [], ◌∷◌, ◌++◌, All}
+use Rattle.std.proofs.Common.{◌≡◌, ◌≢◌, ℕ, ◌+◌, ◌-◌, ◌<◌, ◌≤◌, Bool, true, false, cond, get_or, List, [], ◌∷◌, ◌++◌, All}
 use Rattle.std.proofs.Common.{length, take, refl, sym, ap, ◌∙◌, subst, arith, Option, Some, None, IfSome, ne_eqb, eq-eqb, eqb-true, take_all}
 use Rattle.std.proofs.Common.{append_assoc, append-nil, length-append, length-take-le, get_or-take}
 use Rattle.std.specs.Prelude.{◌==◌, ◌&&◌, nat_lt}
@@ -81,38 +81,38 @@ first_line-plain xs plain =
 -- a part without a newline was added to such a front
 pub TakesPart-plain : (front line part : List ℕ) → IsPlain front → TakesPart front line part → IsPlain line
 TakesPart-plain front line part plain h =
-    subst IsPlain (sym h.line) (All-append (λ octet. octet ≢ 10) front part plain h.plain)
+    subst IsPlain (sym h.added) (All-append (λ octet. octet ≢ 10) front part plain h.plain)
 
 -- the front of a line was read, then its last part and the newline
 pub TakesLine-newline : (given mid rest : Option (List ℕ)) (front line part : List ℕ) → Consumes given mid front
     → IsPlain front → TakesPart front line part → Consumes mid rest (part ++ 10 ∷ [])
     → TakesLine given rest (strip_last 13 line)
-TakesLine-newline None mid rest front line part p plain h q = record { line = tt; rest = tt }
+TakesLine-newline None mid rest front line part p plain h q = record { first = tt; behind = tt }
 TakesLine-newline (Some x) None rest front line part p plain h q = absurd p
 TakesLine-newline (Some x) (Some y) None front line part p plain h q = absurd q
 TakesLine-newline (Some x) (Some y) (Some z) front line part p plain h q =
     let all = TakesPart-plain front line part plain h in
     let whole : x ≡ line ++ 10 ∷ z =
     p ∙ ap (λ l. front ++ l) (q ∙ append_assoc part (10 ∷ []) z) ∙ sym (append_assoc front part (10 ∷ z))
-    ∙ ap (λ l. l ++ 10 ∷ z) (sym h.line) in
+    ∙ ap (λ l. l ++ 10 ∷ z) (sym h.added) in
     let len : length x ≡ length line + length (10 ∷ z) = ap length whole ∙ length-append line (10 ∷ z) in
     record {
-      line = (omega arith, sym (ap first_line whole ∙ first_line-newline line z all));
-      rest = ap Some (sym (ap (drop_through 10) whole ∙ drop_through-newline line z all));
+      first = (omega arith, sym (ap first_line whole ∙ first_line-newline line z all));
+      behind = ap Some (sym (ap (drop_through 10) whole ∙ drop_through-newline line z all));
     }
 
 -- all of a line was read, and the reader is at its end
 pub TakesLine-end : (given mid rest : Option (List ℕ)) (line : List ℕ) → Consumes given mid line → IsPlain line
     → IsAtEnd mid → Keeps mid rest → 0 < length line → TakesLine given rest line
-TakesLine-end None mid rest line p plain end kept some = record { line = tt; rest = tt }
+TakesLine-end None mid rest line p plain end kept some = record { first = tt; behind = tt }
 TakesLine-end (Some x) None rest line p plain end kept some = absurd p
 TakesLine-end (Some x) (Some y) None line p plain end kept some = absurd kept
 TakesLine-end (Some x) (Some y) (Some z) line p plain end kept some =
     let whole : x ≡ line = p ∙ ap (λ l. line ++ l) end ∙ append-nil line in
     let len : length x ≡ length line = ap length whole in
     record {
-      line = (omega arith, sym (ap first_line whole ∙ first_line-plain line plain));
-      rest = ap Some (kept ∙ end ∙ sym (ap (drop_through 10) whole ∙ drop_through-plain line plain));
+      first = (omega arith, sym (ap first_line whole ∙ first_line-plain line plain));
+      behind = ap Some (kept ∙ end ∙ sym (ap (drop_through 10) whole ∙ drop_through-plain line plain));
     }
 
 -- nothing was read, and the reader is at its end
@@ -164,7 +164,7 @@ pub TakesAtHand-part : (given mid rest : Option (List ℕ)) (buffered : Option �
 TakesAtHand-part given mid rest buffered shown front line end h is all some added drops =
     let len : length (take end shown) ≡ end = length-take-le end shown (omega arith) in (
       take end shown,
-      record { line = added; plain = IsPlain-take shown end is (omega arith) },
+      record { added = added; plain = IsPlain-take shown end is (omega arith) },
       omega arith,
       Consumes-shown given mid rest buffered shown end h (omega arith) drops,
     )
@@ -176,7 +176,7 @@ pub TakesAtHand-last : (given mid rest : Option (List ℕ)) (buffered : Option �
     → TakesAtHand given rest front line Last
 TakesAtHand-last given mid rest buffered shown front line end h is within added drops = (
   take end shown,
-  record { line = added; plain = IsPlain-take shown end is (omega arith) },
+  record { added = added; plain = IsPlain-take shown end is (omega arith) },
   subst (Consumes given rest) (take-newline shown end is within)
       (Consumes-shown given mid rest buffered shown (end + 1) h (omega arith) drops),
 )

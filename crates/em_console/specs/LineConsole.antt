@@ -1,5 +1,5 @@
 -- A console over a reader and a writer, and what each turn does to both.
-use Rattle.std.specs.Prelude.{◌≡◌, ◌×◌, ℕ, List, [], Option}
+use Rattle.std.specs.Prelude.{◌≡◌, ℕ, List, [], Option}
 use Rattle.std.specs.Io.{StartsWith}
 use Rattle.std.specs.Io.KnownBytes.{Appends, IsAtEnd, Keeps}
 use Rattle.std.specs.Io.Buffered.{writer_buffer, writer_contents}

@@ -1,5 +1,5 @@
 -- A line that is taken from a reader.
-use Rattle.std.specs.Prelude.{◌≡◌, ◌≢◌, ◌×◌, ◌<◌, ℕ, List, [], ◌∷◌, ◌++◌, All, length, Option, IfSome}
+use Rattle.std.specs.Prelude.{◌≡◌, ◌≢◌, ◌<◌, ℕ, List, [], ◌∷◌, ◌++◌, All, length, Option, IfSome}
 use Rattle.std.specs.Io.KnownBytes.{Consumes, IsAtEnd, Keeps}
 use Rattle.std.specs.Io.BufRead.{first_line, DropsThrough}
 use Rattle.em_console.specs.declared.reading.AtHand.{AtHand}
@@ -12,12 +12,12 @@ most_line = 65536
 -- a reader that was not at its end has lost its first line with its newline; `first_line` has neither that newline
 -- nor a carriage return before it
 pub record TakesLine (given rest : Option (List ℕ)) (line : List ℕ) : Type 0 where
-  pub line : IfSome given (λ octets. (0 < length octets) × (line ≡ first_line octets))
-  pub rest : DropsThrough given rest 10
+  pub first : IfSome given (λ octets. (0 < length octets) × (line ≡ first_line octets))
+  pub behind : DropsThrough given rest 10
 
 -- a part was added to a front of a line; it has no newline, and `taken` is what the reader has lost
 pub record TakesPart (front line part : List ℕ) : Type 0 where
-  pub line : line ≡ front ++ part
+  pub added : line ≡ front ++ part
   pub plain : All (λ octet. octet ≢ 10) part
 
 -- what a reader had at hand was added to a front of a line

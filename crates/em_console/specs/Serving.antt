@@ -1,5 +1,5 @@
 -- What serving a session at a console does to both.
-use Rattle.std.specs.Prelude.{◌≡◌, ◌×◌, ◌⊎◌, ◌-◌, ◌^◌, ℕ, List, [], ◌∷◌, ◌++◌, length, Result, Ok, Err}
+use Rattle.std.specs.Prelude.{◌≡◌, ◌⊎◌, ◌-◌, ◌^◌, ℕ, List, [], ◌∷◌, ◌++◌, length, Result, Ok, Err}
 use Rattle.std.specs.Io.{StartsWith}
 use Rattle.em_console.specs.declared.fault.ConsoleFault.{ConsoleFault}
 use Rattle.em_console.specs.declared.fault.ConsoleFault.TheVariants.{Read, Memory}

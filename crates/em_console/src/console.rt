@@ -1,5 +1,5 @@
 //! Where lines come from and answers go.
-ghost use Rattle.std.specs.Prelude.{ℕ, List, ◌×◌, OnOk, OnErr};
+ghost use Rattle.std.specs.Prelude.{ℕ, List, OnOk, OnErr};
 ghost use Rattle.std.specs.Io.{StartsWith};
 ghost use Rattle.em_console.specs.Turns.{Turn, Told, Cut, asked};
 

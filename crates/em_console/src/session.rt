@@ -14,6 +14,8 @@ pub enum Flow {
 
 /// A session, which answers one line after another.
 pub trait Answers {
+    ghost use Rattle.em_console.specs.declared.session.Flow.{Flow};
+
     /// In one state this line is answered by this text, the session goes on or ends, and is then in another state.
     ghost answers: { Self → List ℕ → List ℕ → Flow → Self → Type 0 };
 
