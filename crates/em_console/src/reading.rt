@@ -7,7 +7,7 @@ ghost use Rattle.em_text.specs.Lines.{is_newline};
 ghost use Rattle.em_console.specs.Reading.{TakesLine, TakesAtHand, most_line};
 
 use crate::fault::ConsoleFault;
-use memchr::memchr;
+use memchr::memchr_iter;
 use std::io::BufRead;
 
 /// The longest line, in octets without its end.
@@ -93,7 +93,7 @@ fn line_len(octets: &[u8]) -> usize
     ensures value { result ≡ position_or_len is_newline octets.now }
     ensures within { result ≤ length octets.now }
 {
-    match memchr(NEWLINE, octets) {
+    match memchr_iter(NEWLINE, octets).next() {
         Some(end) => end,
         None => octets.len(),
     }
