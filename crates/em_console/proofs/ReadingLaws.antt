@@ -1,6 +1,6 @@
 -- The first line of what a reader has, from the parts that it gave.
-use Rattle.std.proofs.Common.{◌≡◌, ◌≢◌, ℕ, ◌+◌, ◌-◌, ◌<◌, ◌≤◌, Bool, true, false, cond, get_or, List, [], ◌∷◌, ◌++◌, All}
-use Rattle.std.proofs.Common.{length, take, refl, sym, ap, ◌∙◌, subst, arith, Option, Some, None, IfSome, ne_eqb, eq-eqb, eqb-true, take_all}
+use Rattle.std.proofs.Common.{◌≡◌, ◌≢◌, ℕ, ◌+◌, ◌-◌, ◌<◌, ◌≤◌, true, false, cond, get_or, List, [], ◌∷◌, ◌++◌, All}
+use Rattle.std.proofs.Common.{length, take, refl, sym, ap, ◌∙◌, subst, arith, Option, Some, None, IfSome, ne_eqb, eq-eqb, eqb-true}
 use Rattle.std.proofs.Common.{append_assoc, append-nil, length-append, length-take-le, get_or-take}
 use Rattle.std.specs.Prelude.{◌==◌, ◌&&◌, nat_lt}
 use Rattle.std.specs.List.{position_or_len}

@@ -1,12 +1,13 @@
 -- Serving a session, line by line.
-use Rattle.std.proofs.Common.{◌≡◌, ℕ, ◌+◌, List, [], ◌∷◌, ◌++◌, length, Result, refl, sym, ap, ◌∙◌, subst}
+use Rattle.std.proofs.Common.{◌≡◌, ℕ, ◌+◌, Bool, true, List, [], ◌∷◌, ◌++◌, length, Result, Ok, Err, IsErr, inl, inr}
+use Rattle.std.proofs.Common.{refl, sym, ap, ◌∙◌, subst}
 use Rattle.std.proofs.lemmas.List.{length_push}
 use Rattle.em_console.specs.declared.fault.ConsoleFault.{ConsoleFault}
 use Rattle.em_console.specs.declared.session.Flow.{Flow}
 use Rattle.em_console.specs.declared.session.Flow.TheVariants.{Goes}
 use Rattle.em_console.specs.declared.serving.End.{End}
-use Rattle.em_console.specs.Turns.{Turn, Typed, Told, Leads}
-use Rattle.em_console.specs.Serving.{Round, Answering, GoesOn, EndsBy, Serves, turns}
+use Rattle.em_console.specs.Turns.{Turn, Typed, Failed, Told, asked, Leads}
+use Rattle.em_console.specs.Serving.{Round, Answering, GoesOn, EndsWithin, EndsBy, Serves, turns}
 
 -- steps, and then further steps
 pub Leads-append : {X A : Type 0} (Step : A → X → A → Type 0) (xs ys : List X) (a b c : A) → Leads Step xs a b
@@ -19,6 +20,21 @@ turns-push : (rounds : List Round) (round : Round)
     → turns (rounds ++ round ∷ []) ≡ turns rounds ++ Typed round.line ∷ Told round.text ∷ []
 turns-push [] round = refl
 turns-push (r ∷ rounds) round = ap (λ ts. Typed r.line ∷ Told r.text ∷ ts) (turns-push rounds round)
+
+-- a line was typed, where the console says so, and it was passed on
+pub typed_line : {C : Type 0} (passes : C → Turn → C → Type 0) (now mid : C) (more : Bool) (line passed_on : List ℕ)
+    → more ≡ true → passed_on ≡ line → passes now (asked {E = ConsoleFault} (Ok more) line) mid
+    → passes now (Typed passed_on) mid
+typed_line passes now mid more line passed_on is same h =
+    subst (λ l. passes now (Typed l) mid) (sym same)
+    (subst (λ b. passes now (asked {E = ConsoleFault} (Ok b) line) mid) is h)
+
+-- its answer was passed on
+pub answered_line : {S : Type 0} (answers : Answering S) (before after : S) (line text passed_on : List ℕ)
+    (flow then : Flow) → passed_on ≡ text → flow ≡ then → answers before line text flow after
+    → answers before line passed_on then after
+answered_line answers before after line text passed_on flow then same is h =
+    subst (λ f. answers before line passed_on f after) is (subst (λ t. answers before line t flow after) (sym same) h)
 
 -- so many lines were answered, and their answers told
 pub record Served {C S : Type 0} (passes : C → Turn → C → Type 0) (answers : Answering S) (first now : C)
@@ -61,3 +77,17 @@ Serves-last passes answers stops result first now then before after later count 
   passed = Leads-append passes (turns h.rounds) last first now then h.passed passed;
   ended = subst (λ n. EndsBy answers stops result n last after later) (sym h.long) ended;
 }
+
+-- the console failed where a line was asked for
+pub EndsBy-failed : {S : Type 0} (answers : Answering S) (stops : S → List ℕ → S → Type 0)
+    (result : Result End ConsoleFault) (count : ℕ) (session : S) → IsErr result
+    → EndsBy answers stops result count (Failed ∷ []) session session
+EndsBy-failed answers stops (Ok end) count session failed = cc
+EndsBy-failed answers stops (Err fault) count session failed = inl (refl, refl)
+
+-- the console failed within an answer
+pub EndsBy-within : {S : Type 0} (answers : Answering S) (stops : S → List ℕ → S → Type 0)
+    (result : Result End ConsoleFault) (count : ℕ) (last : List Turn) (before after : S) → IsErr result
+    → EndsWithin answers last before after → EndsBy answers stops result count last before after
+EndsBy-within answers stops (Ok end) count last before after failed h = cc
+EndsBy-within answers stops (Err fault) count last before after failed h = inr (inl h)

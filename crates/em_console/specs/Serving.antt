@@ -2,7 +2,7 @@
 use Rattle.std.specs.Prelude.{◌≡◌, ◌⊎◌, ◌-◌, ◌^◌, ℕ, List, [], ◌∷◌, ◌++◌, length, Result, Ok, Err}
 use Rattle.std.specs.Io.{StartsWith}
 use Rattle.em_console.specs.declared.fault.ConsoleFault.{ConsoleFault}
-use Rattle.em_console.specs.declared.fault.ConsoleFault.TheVariants.{Read, Memory}
+use Rattle.em_console.specs.declared.fault.ConsoleFault.TheVariants.{Memory}
 use Rattle.em_console.specs.declared.session.Flow.{Flow}
 use Rattle.em_console.specs.declared.session.Flow.TheVariants.{Goes, Ends}
 use Rattle.em_console.specs.declared.serving.End.{End}

@@ -1,5 +1,4 @@
-use Rattle.std.proofs.Common.{◌≡◌, ◌<◌, ◌++◌, [], ◌∷◌, sym, ap, subst, ◌∙◌, arith, rules, length, Ok, true, false}
-use Rattle.std.specs.Io.KnownBytes.{Consumes, IsAtEnd, Keeps}
+use Rattle.std.proofs.Common.{sym, subst, arith}
 use Rattle.em_console.specs.Reading.{TakesLine, TakesAtHand}
 use Rattle.em_console.specs.declared.reading.AtHand.TheVariants.{Last, Nothing}
 use Rattle.em_console.proofs.ReadingLaws.{TakesLine-newline, TakesLine-end}

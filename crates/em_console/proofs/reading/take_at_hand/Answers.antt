@@ -1,5 +1,5 @@
-use Rattle.std.proofs.Common.{◌≡◌, ◌<◌, sym, ap, subst, ◌∙◌, arith, rules, length, take}
-use Rattle.std.specs.Io.BufRead.{FillKeeps, DropsConsumable}
+use Rattle.std.proofs.Common.{subst, arith, rules}
+use Rattle.std.specs.Io.BufRead.{FillKeeps}
 use Rattle.em_console.proofs.ReadingLaws.{Shows, TakesAtHand-part, TakesAtHand-last}
 use Rattle.em_console.proofs.reading.take_at_hand.Goals as goal
 
