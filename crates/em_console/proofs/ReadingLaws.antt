@@ -1,6 +1,7 @@
 -- The first line of what a reader has, from the parts that it gave.
 use Rattle.std.proofs.Common.{◌≡◌, ◌≢◌, ℕ, ◌+◌, ◌-◌, ◌<◌, ◌≤◌, true, false, cond, get_or, List, [], ◌∷◌, ◌++◌, All}
-use Rattle.std.proofs.Common.{length, take, refl, sym, ap, ◌∙◌, subst, arith, Option, Some, None, IfSome, ne_eqb, eq-eqb, eqb-true}
+use Rattle.std.proofs.Common.{length, take, refl, sym, ap, ◌∙◌, subst, arith, Option, Some, None, IfSome}
+use Rattle.std.proofs.Common.{ne_eqb, eq-eqb, eqb-true}
 use Rattle.std.proofs.Common.{append_assoc, append-nil, length-append, length-take-le, get_or-take}
 use Rattle.std.specs.Prelude.{◌==◌, ◌&&◌, nat_lt}
 use Rattle.std.specs.List.{position_or_len}
@@ -36,7 +37,8 @@ strip_last-push : (octet : ℕ) (xs : List ℕ) → strip_last octet (xs ++ octe
 strip_last-push octet xs =
     let len : length (xs ++ octet ∷ []) ≡ length xs + 1 = length_push xs octet in
     let before : length (xs ++ octet ∷ []) - 1 ≡ length xs = omega arith in
-    ap (λ b. cond b (take (length (xs ++ octet ∷ []) - 1) (xs ++ octet ∷ [])) (xs ++ octet ∷ [])) (ends_with-push octet xs)
+    ap (λ b. cond b (take (length (xs ++ octet ∷ []) - 1) (xs ++ octet ∷ [])) (xs ++ octet ∷ []))
+    (ends_with-push octet xs)
     ∙ take_at xs (octet ∷ []) _ (sym before)
 
 -- what has no newline ends in none
@@ -125,7 +127,8 @@ IsAtEnd-end (Some x) (Some y) (Some z) [] p none end kept = (p ∙ end, kept ∙
 IsAtEnd-end (Some x) (Some y) (Some z) (octet ∷ line) p none end kept = absurd (omega arith)
 
 -- what stands before the first newline has none
-pub IsPlain-take : (xs : List ℕ) (end : ℕ) → end ≡ position_or_len is_newline xs → end ≤ length xs → IsPlain (take end xs)
+pub IsPlain-take : (xs : List ℕ) (end : ℕ) → end ≡ position_or_len is_newline xs → end ≤ length xs
+    → IsPlain (take end xs)
 IsPlain-take xs end is within =
     All-from_get_or (λ octet. octet ≢ 10) (take end xs) 0 (λ k lt same.
     let before : k < end = omega (arith, length-take-le end xs within) in

@@ -58,7 +58,8 @@ Served-more passes answers first now mid then before after later count line text
     record {
       rounds = h.rounds ++ round ∷ [];
       long = length_push h.rounds round ∙ ap (λ n. n + 1) h.long;
-      answered = Leads-append (GoesOn answers) h.rounds (round ∷ []) before after later h.answered (later, answered, refl);
+      answered = Leads-append (GoesOn answers) h.rounds (round ∷ []) before after later h.answered
+          (later, answered, refl);
       passed = subst (λ ts. Leads passes ts first then) (sym (turns-push h.rounds round))
           (Leads-append passes (turns h.rounds) (Typed line ∷ Told text ∷ []) first now then h.passed
           (mid, typed, (then, told, refl)));

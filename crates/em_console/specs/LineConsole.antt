@@ -21,8 +21,10 @@ prompt_of console = console.prompt.now
 
 -- What a turn does: the reader had the octets `given` and has `rest`, the writer held `old` and holds `new`, of which
 -- `waiting` is not out yet. A line is asked for with a prompt.
-abbrev pub Does : List ℕ → Option (List ℕ) → Option (List ℕ) → Option (List ℕ) → Option (List ℕ) → List ℕ → Turn → Type 0
-Does prompt given rest old new waiting (Typed line) = TakesLine given rest line × Appends old new prompt × (waiting ≡ [])
+abbrev pub Does : List ℕ → Option (List ℕ) → Option (List ℕ) → Option (List ℕ) → Option (List ℕ) → List ℕ → Turn
+    → Type 0
+Does prompt given rest old new waiting (Typed line) =
+    TakesLine given rest line × Appends old new prompt × (waiting ≡ [])
 Does prompt given rest old new waiting Over =
     IsAtEnd given × Keeps given rest × Appends old new prompt × (waiting ≡ [])
 Does prompt given rest old new waiting Failed = (part : List ℕ) × StartsWith prompt part × Appends old new part

@@ -43,14 +43,15 @@ pub record EndsWithin {S : Type 0} (answers : Answering S) (last : List Turn) (b
   pub answered : answers before round.line round.text flow after
 
 -- a line was typed, and memory for its answer was refused
-pub record EndsWithout {S : Type 0} (stops : S → List ℕ → S → Type 0) (last : List Turn) (before after : S) : Type 0 where
+pub record EndsWithout {S : Type 0} (stops : S → List ℕ → S → Type 0) (last : List Turn) (before after : S)
+    : Type 0 where
   pub line : List ℕ
   pub turns : last ≡ Typed line ∷ []
   pub stopped : stops before line after
 
 -- the last turns, and what they left of the session, by how serving ended; more than 2^64 - 1 lines are not asked for
-abbrev pub EndsBy : {S : Type 0} → Answering S → (S → List ℕ → S → Type 0) → Result End ConsoleFault → ℕ → List Turn → S → S
-    → Type 0
+abbrev pub EndsBy : {S : Type 0} → Answering S → (S → List ℕ → S → Type 0) → Result End ConsoleFault → ℕ → List Turn
+    → S → S → Type 0
 EndsBy answers stops (Ok Input) count last before after = (last ≡ Over ∷ []) × (after ≡ before)
 EndsBy answers stops (Ok Session) count last before after = EndsAfter answers last before after
 EndsBy answers stops (Err fault) count last before after =

@@ -2,10 +2,10 @@ use Rattle.std.proofs.Common.{◌≡◌, [], ◌∷◌, refl, subst, rules, arit
 use Rattle.em_console.specs.Turns.{Typed, Over, Failed, Told, Cut, asked}
 use Rattle.em_console.specs.declared.fault.ConsoleFault.{ConsoleFault}
 use Rattle.em_console.specs.declared.session.Flow.TheVariants.{Goes, Ends}
-use Rattle.em_console.proofs.ServingLaws.{typed_line, answered_line, Served-more, Serves-last, EndsBy-failed, EndsBy-within}
+use Rattle.em_console.proofs.ServingLaws.{typed_line, answered_line, Served-more, Serves-last}
+use Rattle.em_console.proofs.ServingLaws.{EndsBy-failed, EndsBy-within}
 use Rattle.em_console.proofs.serving.serve.Goals as goal
 
--- src/serving.rt:31:13
 pub returns-in_err-ask : goal.returns-in_err-ask
 returns-in_err-ask g c =
     Serves-last g.C.Console.passes g.S.Answers.answers g.S.Answers.stops _ c.args.console.now c.loop-lines.console
@@ -14,7 +14,6 @@ returns-in_err-ask g c =
     (EndsBy-failed g.S.Answers.answers g.S.Answers.stops _ c.loop-lines.lines c.loop-lines.session
     c.from_residual.ensures.0)
 
--- src/serving.rt:32:13
 pub returns-then-not-branch : goal.returns-then-not-branch
 returns-then-not-branch g c =
     let is : c.in_ok-ask.field-0 ≡ false = search rules in
@@ -25,7 +24,6 @@ returns-then-not-branch g c =
     c.ask.new.self c.args.session.now c.loop-lines.session c.loop-lines.session c.loop-lines.lines (Over ∷ [])
     c.loop-lines.invariant (c.ask.new.self, over, refl) (refl, refl)
 
--- src/serving.rt:36:13
 pub returns-in_default : goal.returns-in_default
 returns-in_default g c =
     let is : c.in_ok-ask.field-0 ≡ true = search rules in
@@ -37,7 +35,6 @@ returns-in_default g c =
     c.loop-lines.invariant (c.ask.new.self, typed, refl)
     (inr (inr (inl (refl, record { line = line; turns = refl; stopped = c.in_default.ensures.err }))))
 
--- src/serving.rt:38:9
 pub returns-in_err-tell : goal.returns-in_err-tell
 returns-in_err-tell g c =
     let is : c.in_ok-ask.field-0 ≡ true = search rules in
@@ -62,7 +59,6 @@ returns-in_err-tell g c =
       answered = answered;
     })
 
--- src/serving.rt:41:27
 pub returns-in-Ends : goal.returns-in-Ends
 returns-in-Ends g c =
     let is : c.in_ok-ask.field-0 ≡ true = search rules in
@@ -78,7 +74,6 @@ returns-in-Ends g c =
     (c.ask.new.self, typed, (c.tell.new.self, c.in_ok-tell.ensures.told, refl))
     record { round = record { line = line; text = text }; turns = refl; answered = ended }
 
--- src/serving.rt:30:5
 pub loop-lines-preserved : goal.loop-lines-preserved
 loop-lines-preserved g c =
     let is : c.in_ok-ask.field-0 ≡ true = search rules in
@@ -92,7 +87,6 @@ loop-lines-preserved g c =
     c.tell.new.self c.args.session.now c.loop-lines.session c.answer.new.self c.loop-lines.lines line text
     c.loop-lines.invariant typed goes c.in_ok-tell.ensures.told
 
--- src/serving.rt:21:1
 pub returns : goal.returns
 returns g c =
     Serves-last g.C.Console.passes g.S.Answers.answers g.S.Answers.stops _ c.args.console.now c.loop-lines.console
