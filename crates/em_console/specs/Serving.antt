@@ -2,7 +2,7 @@
 use Rattle.std.specs.Prelude.{◌≡◌, ◌⊎◌, ◌-◌, ◌^◌, ℕ, List, [], ◌∷◌, ◌++◌, length, Result, Ok, Err}
 use Rattle.std.specs.Io.{StartsWith}
 use Rattle.em_console.specs.declared.fault.ConsoleFault.{ConsoleFault}
-use Rattle.em_console.specs.declared.fault.ConsoleFault.TheVariants.{Memory}
+use Rattle.em_console.specs.declared.fault.ConsoleFault.TheVariants.{Read, Memory}
 use Rattle.em_console.specs.declared.session.Flow.{Flow}
 use Rattle.em_console.specs.declared.session.Flow.TheVariants.{Goes, Ends}
 use Rattle.em_console.specs.declared.serving.End.{End}
@@ -58,7 +58,7 @@ EndsBy answers stops (Err fault) count last before after =
     ((last ≡ Failed ∷ []) × (after ≡ before))
     ⊎ EndsWithin answers last before after
     ⊎ ((fault ≡ Memory) × EndsWithout stops last before after)
-    ⊎ ((count ≡ 2 ^ 64 - 1) × (last ≡ []) × (after ≡ before))
+    ⊎ ((fault ≡ Read) × (count ≡ 2 ^ 64 - 1) × (last ≡ []) × (after ≡ before))
 
 -- What passed at the console is, for the lines that were typed, each line and then the whole of its answer, as the
 -- session defines it in the state that the lines before have left. Then come the last turns.

@@ -91,4 +91,4 @@ pub returns : goal.returns
 returns g c =
     Serves-last g.C.Console.passes g.S.Answers.answers g.S.Answers.stops _ c.args.console.now c.loop-lines.console
     c.loop-lines.console c.args.session.now c.loop-lines.session c.loop-lines.session c.loop-lines.lines []
-    c.loop-lines.invariant refl (grind arith)
+    c.loop-lines.invariant refl (inr (inr (inr (refl, omega arith, refl, refl))))
