@@ -1,0 +1,5 @@
+pub mod Fault
+pub mod LineConsole
+pub mod Reading
+pub mod Serving
+pub mod Turns

@@ -1,0 +1,21 @@
+//! A session that one types into: a line is asked for, its answer is told at once, and only then comes the next line.
+//!
+//! [`serve`] joins the two: what answers ([`Answers`]) and where lines come from ([`Console`]). [`LineConsole`] is a
+//! console over a reader and a writer, such as standard input and standard output.
+#![tactic(auto)]
+
+mod console;
+mod fault;
+mod lines;
+mod reading;
+mod serving;
+mod session;
+#[cfg(test)]
+mod tests;
+
+pub use console::Console;
+pub use fault::ConsoleFault;
+pub use lines::{LineConsole, prompt_for};
+pub use reading::MOST_LINE;
+pub use serving::{End, serve};
+pub use session::{Answers, Flow};
