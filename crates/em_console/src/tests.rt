@@ -14,6 +14,7 @@ use std::test::Fail;
 #[derive(Drop)]
 struct Scripted<'a> {
     lines: &'a [&'a [u8]],
+    next: usize,
     calls_left: usize,
     passed: Vec<u8>,
 }
@@ -39,13 +40,14 @@ impl Console for Scripted<'_> {
 
     fn ask(&mut self, line: &mut Vec<u8>) -> Result<bool, ConsoleFault> {
         line.clear();
-        let Some((first, behind)) = self.lines.split_first() else {
+        let lines = self.lines;
+        let Some(typed) = lines.get(self.next) else {
             self.pass(b'.', b"", ConsoleFault::Read)?;
             return Ok(false);
         };
-        self.pass(b'<', *first, ConsoleFault::Read)?;
-        self.lines = behind;
-        if line.extend_from_slice(*first).is_err() {
+        self.pass(b'<', *typed, ConsoleFault::Read)?;
+        self.next = self.next.saturating_add(1);
+        if line.extend_from_slice(*typed).is_err() {
             return Err(ConsoleFault::Memory);
         }
         Ok(true)
@@ -86,6 +88,7 @@ fn served(
 ) -> (Result<End, ConsoleFault>, Vec<u8>) {
     let mut console = Scripted {
         lines,
+        next: 0,
         calls_left,
         passed: Vec::new(alloc),
     };
@@ -140,18 +143,20 @@ fn fails_at_each_point(rt: HostRuntime) -> Result<(), Fail> {
 #[derive(Drop)]
 struct Pieces<'a> {
     pieces: &'a [(usize, &'a [u8])],
+    next: usize,
     out: &'a Cell<usize>,
 }
 
 impl Read for Pieces<'_> {
     fn read(&mut self, room: &mut [u8]) -> io::Result<usize> {
-        let Some(((out, piece), behind)) = self.pieces.split_first() else {
+        let pieces = self.pieces;
+        let Some((out, piece)) = pieces.get(self.next) else {
             return Err(io::Error::from(io::ErrorKind::Other));
         };
         if self.out.get() != *out || piece.len() > room.len() {
             return Err(io::Error::from(io::ErrorKind::Other));
         }
-        self.pieces = behind;
+        self.next = self.next.saturating_add(1);
         room[..piece.len()].copy_from_slice(*piece);
         Ok(piece.len())
     }
@@ -183,7 +188,14 @@ fn served_in_pieces(
     most: usize,
 ) -> Result<Result<End, ConsoleFault>, Fail> {
     let out = Cell::new(0);
-    let reader = BufReader::new(alloc, Pieces { pieces, out: &out })?;
+    let reader = BufReader::new(
+        alloc,
+        Pieces {
+            pieces,
+            next: 0,
+            out: &out,
+        },
+    )?;
     let writer = BufWriter::new(alloc, Counted { out: &out, most })?;
     let mut console = LineConsole::new(reader, writer, b"> ");
     Ok(serve(alloc, &mut console, &mut Echo))
