@@ -3,11 +3,12 @@
 
 # by crate: what it names; the seconds that it took when all was proved from nothing on four processors; those of the
 # longest chain of crates above it, without and with it; and whether it is on the longest chain of all
-declare -A uses=() seconds=() above=() chain=() is_longest=()
+declare -gA uses=() seconds=() above=() chain=() is_longest=()
 # by crate: its process, when that began, its place among them, and whether it is proved
-declare -A process=() began=() place=() proved=()
-# where what they print goes, and what else an end removes; what show_how_far said last; the table of seconds
-room='' rooms=() shown='' table=$top/crates.seconds
+declare -gA process=() began=() place=() proved=()
+# where what they print goes, where they are built, and what else an end removes; what show_how_far said last; the table
+# of seconds
+room='' lanes='' rooms=() shown='' table=$top/crates.seconds
 # crates, each after those that it stands on; the files that they are made of, and the folders that these lie in
 order=() files=() folders=()
 
@@ -140,14 +141,57 @@ is_ready() {
   done
 }
 
-# A crate off the longest chain gives way to those on it.
+# Gives the copy of a crate in the folder $1 what is built of it, without a second copy of its octets where that can be.
+share_built() {
+  local built=$top/crates/${1##*/}/out/rlib
+  [ -e "$built" ] || return 0
+  mkdir -p -- "$1/out"
+  cp -rlp -- "$built" "$1/out/" 2>/dev/null || { rm -rf -- "$1/out/rlib" && cp -rp -- "$built" "$1/out/"; }
+}
+
+# Makes the folder $lanes/CRATE: copies of the crate and of those below it. rt holds the folders of all these for
+# itself, so only in copies can two crates be proved side by side.
+make_lane() {
+  local crate part order=() lane=$lanes/$1
+  mkdir -p -- "$lane"
+  cp -p -- "$top/crates.txt" "$lane/"
+  [ ! -e "$top/HANDLES" ] || cp -p -- "$top/HANDLES" "$lane/"
+  # (rt wants a folder for each crate of crates.txt; those that take no part stay empty)
+  for crate in "${!uses[@]}"; do
+    mkdir -p -- "$lane/crates/$crate/src"
+  done
+  put_in_order "$1"
+  for crate in "${order[@]}"; do
+    for part in src specs proofs; do
+      [ ! -e "$top/crates/$crate/$part" ] || cp -rp -- "$top/crates/$crate/$part" "$lane/crates/$crate/"
+    done
+    share_built "$lane/crates/$crate"
+  done
+}
+
+# Puts what was built of a crate in its lane, or only what this pattern names of it, into its own folder, and removes
+# the lane.
+take_from_lane() {
+  local part to=$top/crates/$1/out
+  mkdir -p -- "$to"
+  # shellcheck disable=SC2086
+  for part in "$lanes/$1/crates/$1/out/"${2-*}; do
+    [ -e "$part" ] || continue
+    rm -rf -- "$to/${part##*/}"
+    mv -- "$part" "$to/"
+  done
+  rm -rf -- "${lanes:?}/$1"
+}
+
+# A crate off the longest chain gives way to those on it, and is proved by fewer processes.
 begin() {
-  local verb=lib way=(nice)
+  local verb=lib way=(nice) jobs=2
   [ ! -e "$top/crates/$1/src/main.rt" ] || verb=run
-  [ -z "${is_longest[$1]-}" ] || way=()
+  [ -z "${is_longest[$1]-}" ] || way=() jobs=4
+  make_lane "$1"
   # under -m it gets a group of processes of its own
   set -m
-  (CDPATH='' cd -- "$top/crates/$1" && exec "${way[@]}" rt "$verb") </dev/null >"$room/$1" 2>&1 &
+  (CDPATH='' cd -- "$lanes/$1/crates/$1" && exec "${way[@]}" rt "$verb" --jobs "$jobs") </dev/null >"$room/$1" 2>&1 &
   set +m
   process[$1]=$! began[$1]=$SECONDS
   place[$1]="crate ${#began[@]} of ${#order[@]}, $1"
@@ -160,14 +204,17 @@ look_at() {
   wait "${process[$1]}" || {
     clear_line
     { grep -E 'error|not proved|no proof' "$room/$1" | head -n 10; tail -n 3 "$room/$1"; } >&2
+    # what was proved of it serves the next check
+    take_from_lane "$1" incremental
     stop 70 "$1 is not proved: rt check in crates/$1 says more"
   }
   unset "process[$1]"
+  take_from_lane "$1"
   proved[$1]=yes
   tell "${place[$1]}, is proved, in $((SECONDS - began[$1])) s"
 }
 
-# Ends what was started, and leaves no program that is not whole.
+# Ends what was started, and leaves nothing that is not whole.
 end_all() {
   local id crate tries=0
   trap '' HUP INT TERM
@@ -180,23 +227,23 @@ end_all() {
   done
   for crate in "${!process[@]}"; do
     kill -KILL -- "-${process[$crate]}" 2>/dev/null || :
-    program=$top/crates/$crate/out/$crate
-    [ ! "$program" -nt "$room/began" ] || rm -f -- "$program"
   done
   clear_line
-  rm -rf -- "$room" "${rooms[@]}"
+  rm -rf -- "$room" "$lanes" "${rooms[@]}"
 }
 
 # Proves these crates and those below them, and builds these: side by side as far as processors and memory go, the
 # longest chain first.
 prove_and_build() {
   local crate most
-  [ -w "$top/crates" ] || stop 73 "$top/crates cannot be written, so nothing can be built there"
+  [ -w "$top" ] && [ -w "$top/crates" ] || stop 73 "$top cannot be written, so nothing can be built there"
   order=()
   put_in_order "$@"
   read_seconds
   most=$(side_by_side)
   room=$(mktemp -d)
+  # (beside the crates, so that what is built is moved and never copied)
+  lanes=$(mktemp -d "$top/.lanes.XXXXXX")
   touch "$room/began"
   SECONDS=0
   trap end_all EXIT
@@ -221,5 +268,5 @@ prove_and_build() {
   done
   clear_line
   trap - EXIT HUP INT TERM
-  rm -rf -- "$room"
+  rm -rf -- "$room" "$lanes"
 }

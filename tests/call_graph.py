@@ -194,6 +194,9 @@ class Body:
             self.run(tokens[at + 1 : end - 1])
             self.scopes.pop()
             return end
+        if text == "|" and tokens[at + 1 : at + 2] and tokens[at + 1].text == "=":
+            # `a |= b` begins no closure
+            return at + 2
         if text == "|":
             return self.closure(tokens, at, [])
         return self.chain(tokens, at)[0]

@@ -1,8 +1,8 @@
 //! A driver as the tests call it. Its calls have no contracts here, so that a test is proved in little time.
 
 ghost use Rattle.std.specs.Prelude.{◌<◌};
-ghost use Rattle.em_driver.specs.Planned.{planned};
-ghost use Rattle.em_driver.specs.Turn.{plan_turns};
+ghost use Rattle.em_turn.specs.Planned.{planned};
+ghost use Rattle.em_turn.specs.Turn.{plan_turns};
 
 use crate::digest::digest;
 use crate::plan::Plan;

@@ -1,7 +1,7 @@
 //! Plans, and how many turns they have.
 ghost use Rattle.std.specs.Prelude.{◌≡◌};
-ghost use Rattle.em_driver.specs.Planned.{planned};
-ghost use Rattle.em_driver.specs.Turn.{plan_turns};
+ghost use Rattle.em_turn.specs.Planned.{planned};
+ghost use Rattle.em_turn.specs.Turn.{plan_turns};
 
 use anyhow::{Result, bail};
 use em_driver::{Turn, Turns};

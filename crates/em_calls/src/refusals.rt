@@ -4,8 +4,8 @@
 //! Without a refusal it passes.
 
 ghost use Rattle.std.specs.Prelude.{◌≡◌, ◌<◌, length, IfOk};
-ghost use Rattle.em_driver.specs.Planned.{planned};
-ghost use Rattle.em_driver.specs.Turn.{plan_turns};
+ghost use Rattle.em_turn.specs.Planned.{planned};
+ghost use Rattle.em_turn.specs.Turn.{plan_turns};
 
 use crate::digest::{digest, digest_of};
 use crate::driven::{Driven, Started, batch, on_a_driver, start_on};

@@ -13,10 +13,10 @@ use Rattle.em_journal.specs.View.{View, after_backs, after_event, back_to, reach
 use Rattle.em_driver.specs.Back.{Leg, IsCall, IsEvent, AreLegs, after_legs, all_steps}
 use Rattle.em_driver.specs.Course.{Course, done, read, write, reset, peek, poke, room, Follows}
 use Rattle.em_driver.specs.Driven.{IsDriven}
-use Rattle.em_driver.specs.Turn.{event_of}
+use Rattle.em_turn.specs.Turn.{event_of}
 use Rattle.em_driver.specs.World.{World, Accesses, Passes, after_outcome, after_turn, after_turns}
 use Rattle.em_driver.specs.declared.layout.Layout.{Layout}
-use Rattle.em_driver.specs.declared.turn.Turn.{Turn}
+use Rattle.em_turn.specs.declared.turn.Turn.{Turn}
 
 -- With so many events of its own a driver came from w to v, and k events were performed with the turns: what w shows
 -- begins as what v shows does behind the newest k states.

@@ -12,8 +12,8 @@ use Rattle.em_step.specs.declared.refusal.Refusal.{Refusal}
 use Rattle.em_journal.specs.View.{View}
 use Rattle.em_journal.specs.History.{Call, performs, refuses, Does, Run}
 use Rattle.em_journal.proofs.HistoryLaws.{run_join}
-use Rattle.em_driver.specs.Turn.{event_of}
-use Rattle.em_driver.specs.declared.turn.Turn.{Turn}
+use Rattle.em_turn.specs.Turn.{event_of}
+use Rattle.em_turn.specs.declared.turn.Turn.{Turn}
 use Rattle.em_driver.specs.World.{World, present, after_outcome, after_turn, after_turns, first, Passes, Accesses}
 use Rattle.em_driver.specs.World.{IsRefused}
 use Rattle.em_driver.specs.Course.{Course, done, read, write, reset, peek, poke, room, Follows}

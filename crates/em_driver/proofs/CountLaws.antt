@@ -2,9 +2,9 @@
 use Rattle.std.proofs.Common.{◌≡◌, ◌∙◌, ℕ, ◌+◌, ◌≤◌, ◌<◌, List, [], ◌∷◌, ◌++◌, length, take, get_or, ap}
 use Rattle.std.proofs.Common.{arith}
 use Rattle.std.proofs.lemmas.List.{take_more}
-use Rattle.em_driver.specs.Turn.{is_arrival, arrivals}
-use Rattle.em_driver.specs.declared.turn.Turn.{Turn}
-use Rattle.em_driver.specs.declared.turn.Turn.TheVariants.{Arrive, RxStep, TxStep}
+use Rattle.em_turn.specs.Turn.{is_arrival, arrivals}
+use Rattle.em_turn.specs.declared.turn.Turn.{Turn}
+use Rattle.em_turn.specs.declared.turn.Turn.TheVariants.{Arrive, RxStep, TxStep}
 
 pub arrival_least : (t : Turn) → is_arrival t ≤ 1
 arrival_least (Arrive f) = omega arith

@@ -31,9 +31,9 @@ use Rattle.em_driver.specs.Places.{between, is_among}
 use Rattle.em_driver.specs.Receive.{following, rx_buffer}
 use Rattle.em_driver.specs.Start.{Part, memory, fresh_descriptor, descriptors}
 use Rattle.em_driver.specs.Transmit.{tx_buffer, tx_descriptor}
-use Rattle.em_driver.specs.Turn.{stored_by}
+use Rattle.em_turn.specs.Turn.{stored_by}
 use Rattle.em_driver.specs.declared.layout.Layout.{Layout}
-use Rattle.em_driver.specs.declared.turn.Turn.TheVariants.{Arrive, RxStep, TxStep}
+use Rattle.em_turn.specs.declared.turn.Turn.TheVariants.{Arrive, RxStep, TxStep}
 use Rattle.em_driver.proofs.HandLaws.{put_whole}
 use Rattle.em_driver.proofs.HoldLaws.{Entries, Hold, are_others, hold_other, base_low, base_high, base_is, ring_length}
 use Rattle.em_driver.proofs.MakingLaws.{IsMaking, making_closed, rx_entries}

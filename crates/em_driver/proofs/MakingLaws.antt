@@ -27,7 +27,7 @@ use Rattle.em_driver.specs.DeviceOff.{IsOff, Rests}
 use Rattle.em_driver.specs.Receive.{rx_buffer, rx_descriptor}
 use Rattle.em_driver.specs.Start.{Part, memory, fresh_descriptor, set_link_up, eeprom, receive_address}
 use Rattle.em_driver.specs.Start.{multicast_table, descriptors}
-use Rattle.em_driver.specs.Turn.{stored_by}
+use Rattle.em_turn.specs.Turn.{stored_by}
 use Rattle.em_driver.specs.declared.layout.Layout.{Layout}
 use Rattle.em_driver.proofs.HandLaws.{put_whole}
 use Rattle.em_driver.proofs.HoldLaws.{Entries, Hold, are_others, hold_other, base_low, base_high, ring_length, index}

@@ -17,9 +17,9 @@ use Rattle.em_step.specs.declared.event.Answer.{Answer}
 use Rattle.em_step.specs.declared.event.Answer.TheVariants.{Idle}
 use Rattle.em_step.proofs.WholeLaws.{arrived, received_whole}
 use Rattle.em_driver.specs.DeviceOff.{IsOff, Rests}
-use Rattle.em_driver.specs.Turn.{event_of, stored_by}
-use Rattle.em_driver.specs.declared.turn.Turn.{Turn}
-use Rattle.em_driver.specs.declared.turn.Turn.TheVariants.{Arrive, RxStep, TxStep}
+use Rattle.em_turn.specs.Turn.{event_of, stored_by}
+use Rattle.em_turn.specs.declared.turn.Turn.{Turn}
+use Rattle.em_turn.specs.declared.turn.Turn.TheVariants.{Arrive, RxStep, TxStep}
 use Rattle.em_driver.proofs.WorldLaws.{ok_is}
 
 -- ---- transmitting is not enabled

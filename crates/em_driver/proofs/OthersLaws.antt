@@ -28,10 +28,10 @@ use Rattle.em_step.specs.declared.refusal.Refusal.TheVariants.{Range, Length}
 use Rattle.em_driver.specs.Driven.{IsDrivenBut}
 use Rattle.em_driver.specs.Order.{queued}
 use Rattle.em_driver.specs.Others.{IsNoDriverMemory, IsNoDriverRegister, IsOthers}
-use Rattle.em_driver.specs.Turn.{event_of, stored_in}
+use Rattle.em_turn.specs.Turn.{event_of, stored_in}
 use Rattle.em_driver.specs.declared.layout.Layout.{Layout}
-use Rattle.em_driver.specs.declared.turn.Turn.{Turn}
-use Rattle.em_driver.specs.declared.turn.Turn.TheVariants.{Arrive, RxStep, TxStep}
+use Rattle.em_turn.specs.declared.turn.Turn.{Turn}
+use Rattle.em_turn.specs.declared.turn.Turn.TheVariants.{Arrive, RxStep, TxStep}
 use Rattle.em_driver.proofs.ReceivingLaws.{rx_same}
 use Rattle.em_driver.proofs.SendingLaws.{tx_same}
 use Rattle.em_driver.proofs.SideLaws.{rx_side, tx_side, same_side, IsOther}

@@ -13,10 +13,10 @@ use Rattle.em_step.specs.declared.refusal.Refusal.TheVariants.{Memory}
 use Rattle.em_journal.specs.History.{performs, Does}
 use Rattle.em_journal.specs.View.{View}
 use Rattle.em_driver.specs.Taking.{TakesAll}
-use Rattle.em_driver.specs.Turn.{event_of}
+use Rattle.em_turn.specs.Turn.{event_of}
 use Rattle.em_driver.specs.World.{World, Accesses, IsRefused, Passes, quiet, first, rest}
 use Rattle.em_driver.specs.World.{after_outcome, after_turn, after_turns}
-use Rattle.em_driver.specs.declared.turn.Turn.{Turn}
+use Rattle.em_turn.specs.declared.turn.Turn.{Turn}
 
 -- ---- a plan beside the turns
 

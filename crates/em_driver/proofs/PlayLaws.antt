@@ -12,8 +12,8 @@ use Rattle.em_step.specs.declared.event.Answer.{Answer}
 use Rattle.em_step.specs.declared.event.Answer.TheVariants.{Done}
 use Rattle.em_step.specs.declared.refusal.Refusal.{Refusal}
 use Rattle.em_step.specs.declared.refusal.Refusal.TheVariants.{Memory}
-use Rattle.em_driver.specs.Turn.{event_of}
-use Rattle.em_driver.specs.declared.turn.Turn.{Turn}
+use Rattle.em_turn.specs.Turn.{event_of}
+use Rattle.em_turn.specs.declared.turn.Turn.{Turn}
 use Rattle.em_driver.specs.World.{World, present, after_outcome, after_turn, after_turns, first, rest, IsTaken, Passes}
 use Rattle.em_driver.specs.World.{Accesses}
 use Rattle.em_driver.specs.Course.{Course, done, read, write, reset, peek, poke, room, Follows}

@@ -12,7 +12,8 @@ use Rattle.em_step.specs.declared.refusal.Refusal.{Refusal}
 use Rattle.em_driver.specs.Course.{Course, done, Follows, Comes}
 use Rattle.em_driver.specs.Descriptor.{length_of, is_done, is_whole}
 use Rattle.em_driver.specs.Outcome.{cause_of}
-use Rattle.em_driver.specs.Receive.{Answered, lists, following, rx_descriptor, rx_buffer, received, stop_after}
+use Rattle.em_driver.specs.Receive.{Answered, following, rx_descriptor, rx_buffer, received, stop_after}
+use Rattle.em_turn.specs.Planned.{lists}
 use Rattle.em_driver.specs.Receive.{stopped, rx_packet, rx_from, rx_batch, Takes, Leaves, TakesOrNot, StopsAt}
 use Rattle.em_driver.specs.World.{World, Accesses, IsRefused, Peeks, PeeksPast}
 use Rattle.em_driver.specs.declared.layout.Layout.{Layout}

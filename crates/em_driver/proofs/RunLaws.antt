@@ -12,7 +12,7 @@ use Rattle.em_driver.specs.Others.{IsOthers}
 use Rattle.em_driver.specs.Spans.{Span, IsSpan, AreSpans, all_stored, all_handed, all_taken, all_sent, after_spans}
 use Rattle.em_driver.specs.Spans.{IsPrefix}
 use Rattle.em_driver.specs.Started.{StartsInOrder}
-use Rattle.em_driver.specs.Turn.{stored_in}
+use Rattle.em_turn.specs.Turn.{stored_in}
 use Rattle.em_driver.specs.World.{World, present}
 use Rattle.em_driver.specs.declared.layout.Layout.{Layout}
 use Rattle.em_driver.proofs.OthersLaws.{others_move}

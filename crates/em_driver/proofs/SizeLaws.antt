@@ -36,9 +36,9 @@ use Rattle.em_step.specs.declared.event.Answer.{Answer}
 use Rattle.em_step.specs.declared.event.Answer.TheVariants.{Stored, Dropped}
 use Rattle.em_step.specs.declared.event.Reason.TheVariants.{Down, Disabled, Missed}
 use Rattle.em_step.specs.declared.refusal.Refusal.TheVariants.{Length}
-use Rattle.em_driver.specs.Turn.{event_of}
-use Rattle.em_driver.specs.declared.turn.Turn.{Turn}
-use Rattle.em_driver.specs.declared.turn.Turn.TheVariants.{Arrive, RxStep, TxStep}
+use Rattle.em_turn.specs.Turn.{event_of}
+use Rattle.em_turn.specs.declared.turn.Turn.{Turn}
+use Rattle.em_turn.specs.declared.turn.Turn.TheVariants.{Arrive, RxStep, TxStep}
 use Rattle.em_driver.proofs.WorldLaws.{ok_is}
 
 -- the octets of memory are as many

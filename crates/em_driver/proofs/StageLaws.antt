@@ -16,11 +16,11 @@ use Rattle.em_step.specs.declared.refusal.Refusal.{Refusal}
 use Rattle.em_driver.specs.Course.{done, write, Follows}
 use Rattle.em_driver.specs.Outcome.{cause_of}
 use Rattle.em_driver.specs.Start.{Start, Part, each_from, memory, eeprom_word, words_from, summed, eeprom}
-use Rattle.em_driver.specs.Turn.{event_of, stored_by}
+use Rattle.em_turn.specs.Turn.{event_of, stored_by}
 use Rattle.em_driver.specs.World.{World, Accesses, Passes, present, after_outcome, after_turn, after_turns}
 use Rattle.em_driver.specs.declared.outcome.Cause.{Cause}
 use Rattle.em_driver.specs.declared.outcome.Cause.TheVariants.{Broken, Checksum}
-use Rattle.em_driver.specs.declared.turn.Turn.{Turn}
+use Rattle.em_turn.specs.declared.turn.Turn.{Turn}
 
 -- ---- stages
 

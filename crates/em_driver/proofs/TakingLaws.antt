@@ -13,10 +13,10 @@ use Rattle.em_step.specs.declared.refusal.Refusal.TheVariants.{TooLong, Memory}
 use Rattle.em_journal.specs.History.{performs, refuses, Does}
 use Rattle.em_journal.specs.View.{View, after_event}
 use Rattle.em_driver.specs.Taking.{Takes, outcome_of, world_with}
-use Rattle.em_driver.specs.Turn.{event_of, stored_by}
+use Rattle.em_turn.specs.Turn.{event_of, stored_by}
 use Rattle.em_driver.specs.World.{World, after_outcome, after_turn, after_turns}
-use Rattle.em_driver.specs.declared.turn.Turn.{Turn}
-use Rattle.em_driver.specs.declared.turn.Turn.TheVariants.{Arrive}
+use Rattle.em_turn.specs.declared.turn.Turn.{Turn}
+use Rattle.em_turn.specs.declared.turn.Turn.TheVariants.{Arrive}
 use Rattle.em_driver.specs.declared.taking.Counts.{Counts}
 use Rattle.em_driver.specs.declared.taking.TurnOutcome.{TurnOutcome}
 use Rattle.em_driver.specs.declared.taking.TurnOutcome.TheVariants.{Performed, Refused}

@@ -9,7 +9,8 @@ use Rattle.em_step.specs.declared.refusal.Refusal.{Refusal}
 use Rattle.em_driver.specs.Course.{Course, done, write, poke, Follows, Comes}
 use Rattle.em_driver.specs.Descriptor.{transmit_descriptor}
 use Rattle.em_driver.specs.Outcome.{cause_of}
-use Rattle.em_driver.specs.Receive.{Answered, lists, following}
+use Rattle.em_driver.specs.Receive.{Answered, following}
+use Rattle.em_turn.specs.Planned.{lists}
 use Rattle.em_driver.specs.Transmit.{tx_descriptor, tx_buffer, free_from, are_indices, is_packet, handed, halt_after}
 use Rattle.em_driver.specs.Transmit.{halted, tx_from, tx_batch, Sends, SendsOrNot, Halts, HaltsAt}
 use Rattle.em_driver.specs.World.{World, Accesses, IsRefused}

@@ -20,10 +20,10 @@ use Rattle.em_step.proofs.WholeLaws.{arrived, received_whole, sent_whole}
 use Rattle.std.proofs.lemmas.List.Elements.{All-cons, All-nil}
 use Rattle.em_driver.specs.Driven.{IsLaidOut, IsReceivingBut, IsDrivenBut, IsDriven}
 use Rattle.em_driver.specs.Layout.{IsGoodLayout}
-use Rattle.em_driver.specs.Turn.{event_of, stored_by}
+use Rattle.em_turn.specs.Turn.{event_of, stored_by}
 use Rattle.em_driver.specs.declared.layout.Layout.{Layout}
-use Rattle.em_driver.specs.declared.turn.Turn.{Turn}
-use Rattle.em_driver.specs.declared.turn.Turn.TheVariants.{Arrive, RxStep, TxStep}
+use Rattle.em_turn.specs.declared.turn.Turn.{Turn}
+use Rattle.em_turn.specs.declared.turn.Turn.TheVariants.{Arrive, RxStep, TxStep}
 use Rattle.em_driver.proofs.ReceivingLaws.{RxMoves, rx_moves_on, rx_kept, rx_same, same_ring}
 use Rattle.em_driver.proofs.ReceivingLaws.{rx_writes, fills}
 use Rattle.em_driver.proofs.ReceivingLaws.{moves_fill, buffer_whole, no_long_frames}

@@ -24,7 +24,7 @@ use Rattle.em_step.specs.declared.refusal.Refusal.{Refusal}
 use Rattle.em_step.specs.declared.refusal.Refusal.TheVariants.{Range, Length, Memory}
 use Rattle.em_driver.specs.Driven.{IsDriven, IsDrivenBut}
 use Rattle.em_driver.specs.Order.{InOrder, queued, waiting}
-use Rattle.em_driver.specs.Turn.{stored_by}
+use Rattle.em_turn.specs.Turn.{stored_by}
 use Rattle.em_driver.specs.World.{World, Accesses, Passes, present}
 use Rattle.em_driver.specs.declared.layout.Layout.{Layout}
 use Rattle.em_driver.proofs.SideLaws.{rx_side, tx_side, IsOther}

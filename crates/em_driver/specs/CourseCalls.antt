@@ -9,8 +9,8 @@ use Rattle.em_step.specs.Step.{step}
 use Rattle.em_step.specs.declared.event.Answer.{Answer}
 use Rattle.em_step.specs.declared.refusal.Refusal.{Refusal}
 use Rattle.em_journal.specs.History.{Call, performs, refuses}
-use Rattle.em_driver.specs.Turn.{event_of}
-use Rattle.em_driver.specs.declared.turn.Turn.{Turn}
+use Rattle.em_turn.specs.Turn.{event_of}
+use Rattle.em_turn.specs.declared.turn.Turn.{Turn}
 use Rattle.em_driver.specs.World.{World, present, after_turn, first}
 use Rattle.em_driver.specs.Course.{Course, done, read, write, reset, peek, poke, room}
 use Rattle.em_driver.specs.Play.{passed, performed, value_of}

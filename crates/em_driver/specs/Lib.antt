@@ -1,4 +1,3 @@
-pub mod Turn
 pub mod World
 pub mod Course
 pub mod Layout
@@ -9,7 +8,6 @@ pub mod CourseCalls
 pub mod Answering
 pub mod HappenedCall
 pub mod Taking
-pub mod Planned
 pub mod Descriptor
 pub mod Receive
 pub mod Transmit

@@ -1,7 +1,6 @@
 -- The course of rx_batch.
 use Rattle.std.specs.Prelude.{ℕ, zero, suc, ◌+◌, ◌*◌, min, nat_lt, not, Bool, true, false, if◌then◌else◌, List, []}
-use Rattle.std.specs.Prelude.{◌∷◌, ◌++◌, map, Result, Ok, Err, Vec}
-use Rattle.std.specs.Global.{Global}
+use Rattle.std.specs.Prelude.{◌∷◌, ◌++◌, Result, Ok, Err}
 use Rattle.em_regs.specs.declared.reg.Reg.TheVariants.{Rdt}
 use Rattle.em_driver.specs.Course.{Course, done, read, write, peek, poke, room, Follows, Comes}
 use Rattle.em_driver.specs.Descriptor.{length_of, is_done, is_whole}
@@ -16,10 +15,6 @@ use Rattle.em_driver.specs.declared.outcome.Cause.TheVariants.{Memory, Queue, Br
 -- the queue at the end of a call, and what the call answers
 abbrev pub Answered : Type 0
 Answered = List (List ℕ) × Result Batch Stopped
-
--- the octets of packets
-abbrev pub lists : List (Vec ℕ Global) → List (List ℕ)
-lists packets = map (λ packet. packet.items) packets
 
 -- the descriptor after descriptor i, in a ring of so many
 abbrev pub following : ℕ → ℕ → ℕ

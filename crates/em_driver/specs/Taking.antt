@@ -7,9 +7,9 @@ use Rattle.em_step.specs.declared.event.Answer.{Answer}
 use Rattle.em_step.specs.declared.refusal.Refusal.{Refusal}
 use Rattle.em_step.specs.declared.refusal.Refusal.TheVariants as refusal
 use Rattle.em_journal.specs.View.{View, after_event}
-use Rattle.em_driver.specs.Turn.{event_of, stored_by}
+use Rattle.em_turn.specs.Turn.{event_of, stored_by}
 use Rattle.em_driver.specs.World.{World, after_turns}
-use Rattle.em_driver.specs.declared.turn.Turn.{Turn}
+use Rattle.em_turn.specs.declared.turn.Turn.{Turn}
 use Rattle.em_driver.specs.declared.taking.Counts.{Counts}
 use Rattle.em_driver.specs.declared.taking.TurnOutcome.{TurnOutcome}
 use Rattle.em_driver.specs.declared.taking.TurnOutcome.TheVariants.{Performed, Refused, Starved}

@@ -12,8 +12,8 @@ use Rattle.em_step.specs.declared.refusal.Refusal.{Refusal}
 use Rattle.em_step.specs.declared.refusal.Refusal.TheVariants.{Memory}
 use Rattle.em_journal.specs.History.{performs, Does}
 use Rattle.em_journal.specs.View.{View, view_code, after_event}
-use Rattle.em_driver.specs.Turn.{event_of, stored_by, turn_code}
-use Rattle.em_driver.specs.declared.turn.Turn.{Turn}
+use Rattle.em_turn.specs.Turn.{event_of, stored_by, turn_code}
+use Rattle.em_turn.specs.declared.turn.Turn.{Turn}
 
 pub record World : Type 0 where
   -- the machine, with what it can go back to

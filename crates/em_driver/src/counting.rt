@@ -1,9 +1,9 @@
 //! How many arrivals a plan has.
 ghost use Rattle.std.specs.Prelude.{◌≡◌, ◌<◌, length};
-ghost use Rattle.em_driver.specs.Planned.{planned};
-ghost use Rattle.em_driver.specs.Turn.{arrivals, is_arrival, plan_arrivals, plan_turns};
+ghost use Rattle.em_turn.specs.Planned.{planned};
+ghost use Rattle.em_turn.specs.Turn.{arrivals, is_arrival, plan_arrivals, plan_turns};
 
-use crate::turn::Turn;
+use em_turn::Turn;
 use std::collections::VecDeque;
 
 /// The arrivals of a plan.

@@ -5,7 +5,8 @@ ghost use Rattle.em_driver.specs.Calls.{get_link_speed, get_mac_addr, read_stats
 ghost use Rattle.em_driver.specs.Driven.{IsDriven};
 ghost use Rattle.em_driver.specs.Order.{InOrder, Receives, Transmits};
 ghost use Rattle.em_driver.specs.Outcome.{events_of};
-ghost use Rattle.em_driver.specs.Receive.{lists, rx_batch};
+ghost use Rattle.em_driver.specs.Receive.{rx_batch};
+ghost use Rattle.em_turn.specs.Planned.{lists};
 ghost use Rattle.em_driver.specs.Transmit.{tx_batch};
 ghost use Rattle.em_driver.specs.World.{present};
 

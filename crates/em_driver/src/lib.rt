@@ -6,7 +6,6 @@ mod counting;
 mod descriptor;
 mod device;
 mod driver;
-mod frame;
 mod laws;
 mod layout;
 mod link;
@@ -21,13 +20,12 @@ mod start_parts;
 mod stats;
 mod taking;
 mod transmit;
-mod turn;
 mod turns;
 
 pub use bus::Bus;
 pub use device::IxyDevice;
 pub use driver::E1000;
-pub use frame::Frame;
+pub use em_turn::{Frame, PlanRefused, Turn};
 pub use laws::{
     a_call_happens, a_call_is_a_run, a_device_that_is_off_rests, a_fed_call_is_played,
     answers_are_put_otherwise, calls_tell_of_memory, one_event_of_others, packets_in_order,
@@ -36,5 +34,4 @@ pub use laws::{
 pub use layout::Layout;
 pub use outcome::{Batch, Cause, StartRefused, Stopped};
 pub use stats::DeviceStats;
-pub use turn::{PlanRefused, Turn};
 pub use turns::Turns;

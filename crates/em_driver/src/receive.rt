@@ -1,7 +1,8 @@
 //! Packets that the adapter received.
 ghost use Rattle.std.specs.Prelude.{◌≡◌, ◌<◌, ◌≤◌, ◌+◌, IfErr, IfOk, OnOk};
 ghost use Rattle.em_driver.specs.Receive as spec;
-ghost use Rattle.em_driver.specs.Receive.{lists, Leaves, StopsAt, Takes, TakesOrNot};
+ghost use Rattle.em_driver.specs.Receive.{Leaves, StopsAt, Takes, TakesOrNot};
+ghost use Rattle.em_turn.specs.Planned.{lists};
 
 use crate::bus::Bus;
 use crate::descriptor::{STATUS, is_done, packet_length};

@@ -1,12 +1,11 @@
 //! How the turns of a list are taken.
 ghost use Rattle.std.specs.Prelude.{◌≡◌, ◌+◌, ◌<◌, ◌≤◌, ℕ, List, length, vec_len, vec_capacity};
 ghost use Rattle.em_driver.specs.Taking.{Takes, TakesAll, outcome_of, world_with};
-ghost use Rattle.em_driver.specs.Turn.{arrivals, is_arrival};
+ghost use Rattle.em_turn.specs.Turn.{arrivals, is_arrival};
 
-use crate::frame::Frame;
-use crate::turn::Turn;
 use em_journal::Machine;
 use em_step::{Answer, Event, Refusal};
+use em_turn::{Frame, Turn};
 
 /// How many turns were performed, and how many refused.
 #[derive(Clone, Copy, Debug)]

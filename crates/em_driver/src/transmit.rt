@@ -1,6 +1,6 @@
 //! Packets to send.
 ghost use Rattle.std.specs.Prelude.{◌≡◌, ◌<◌, ◌≤◌, ◌+◌, true, false, IfErr, IfOk, IfSome, OnOk, MatchOption};
-ghost use Rattle.em_driver.specs.Receive.{lists};
+ghost use Rattle.em_turn.specs.Planned.{lists};
 ghost use Rattle.em_driver.specs.Transmit as spec;
 ghost use Rattle.em_driver.specs.Transmit.{Halts, HaltsAt, Sends, SendsOrNot};
 

@@ -4,18 +4,17 @@ ghost use Rattle.std.specs.Option.{option_map};
 ghost use Rattle.std.specs.Borrow.{Lends, sem};
 ghost use Rattle.em_journal.specs.contracts.machine.Machine.{the_row as machine-row};
 ghost use Rattle.em_driver.specs.contracts.turns.Turns.{the_row as turns-row};
-ghost use Rattle.em_driver.specs.Planned.{planned};
-ghost use Rattle.em_driver.specs.Turn.{plan_arrivals, plan_turns};
+ghost use Rattle.em_turn.specs.Planned.{planned};
+ghost use Rattle.em_turn.specs.Turn.{plan_arrivals, plan_turns};
 ghost use Rattle.em_driver.specs.World.{Passes, quiet};
 
 use crate::bus::Bus;
 use crate::counting::arrivals_of_plan;
-use crate::frame::Frame;
 use crate::taking::{Counts, take_all};
-use crate::turn::{PlanRefused, Turn};
 use em_journal::Machine;
 use em_regs::Reg;
 use em_step::Refusal;
+use em_turn::{Frame, PlanRefused, Turn};
 use std::alloc::Global;
 use std::collections::VecDeque;
 use std::marker::Model;
@@ -35,9 +34,9 @@ pub struct Turns {
 
 impl Model for Turns {
     ghost use Rattle.std.specs.Prelude.{◌+◌, ◌<◌, ◌≤◌, vec_len, vec_capacity, map, true};
-    ghost use Rattle.em_driver.specs.Turn.{plan_arrivals, plan_turns};
+    ghost use Rattle.em_turn.specs.Turn.{plan_arrivals, plan_turns};
     ghost use Rattle.em_driver.specs.World.{World, world_code};
-    ghost use Rattle.em_driver.specs.Planned.{planned};
+    ghost use Rattle.em_turn.specs.Planned.{planned};
 
     ghost Value = { World };
 

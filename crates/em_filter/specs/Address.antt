@@ -19,9 +19,10 @@ use Rattle.std.specs.Prelude.{
 }
 use Rattle.std.specs.List.{list_any, range_with_len}
 use Rattle.em_regs.specs.Storage.{Registers}
-use Rattle.em_filter.specs.declared.kind.Kind.{Kind}
-use Rattle.em_filter.specs.Kind.{kind_of, is_unicast, is_group, is_broadcast}
-use Rattle.em_filter.specs.Bits.{bit, upe, mpe, bam, mo, mta, ral, rah, av, as_of}
+use Rattle.em_address.specs.declared.kind.Kind.{Kind}
+use Rattle.em_address.specs.Kind.{kind_of, is_unicast, is_group, is_broadcast}
+use Rattle.em_filter.specs.Bits.{upe, mpe, bam, mo, mta, ral, rah, av, as_of}
+use Rattle.em_regs.specs.Setup.{bit}
 
 -- entry i is valid (AV is 1), and its address is compared with destinations (AS is 00)
 abbrev pub is_valid : Registers → ℕ → Bool

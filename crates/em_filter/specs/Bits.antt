@@ -4,10 +4,6 @@ use Rattle.em_regs.specs.declared.reg.Reg.TheVariants.{Ctrl, Vet, Rctl, Mta, Ral
 use Rattle.em_regs.specs.Storage.{Registers}
 use Rattle.em_regs.specs.Setup.{value_of, has}
 
--- bit k of a number is 1
-abbrev pub bit : ℕ → ℕ → Bool
-bit n k = n / 2 ^ k % 2 == 1
-
 abbrev pub rctl : Registers → ℕ
 rctl s = value_of s Rctl
 

@@ -3,7 +3,7 @@ use Rattle.std.specs.Prelude.{ℕ, ◌+◌, nat_lt, not, List, length, if◌then
 use Rattle.em_regs.specs.Storage.{Registers}
 use Rattle.em_filter.specs.declared.outcome.Verdict.{Verdict}
 use Rattle.em_filter.specs.declared.outcome.Verdict.TheVariants.{Reject, Undersize, Oversize, Accept}
-use Rattle.em_filter.specs.Kind.{destination, kind_of}
+use Rattle.em_address.specs.Kind.{destination, kind_of}
 use Rattle.em_filter.specs.Bits.{lpe}
 use Rattle.em_filter.specs.Address.{accepts}
 use Rattle.em_filter.specs.Vlan.{passes_vlan}

@@ -1,7 +1,8 @@
 -- Frames with a VLAN tag, and the filter of their identifiers.
 use Rattle.std.specs.Prelude.{ℕ, ◌+◌, ◌*◌, ◌/◌, ◌%◌, ◌==◌, ◌&&◌, not, nat_le, Bool, List, length, slice_index}
 use Rattle.em_regs.specs.Storage.{Registers}
-use Rattle.em_filter.specs.Bits.{bit, vfe, vme, vet, vfta}
+use Rattle.em_filter.specs.Bits.{vfe, vme, vet, vfta}
+use Rattle.em_regs.specs.Setup.{bit}
 
 -- octets 12 and 13, the higher first
 abbrev pub type_of : List ℕ → ℕ

@@ -1,11 +1,11 @@
 //! The address filter: one function for each case in which it accepts a destination.
 ghost use Rattle.std.specs.Prelude.{◌≡◌, ◌<◌, ◌==◌};
-ghost use Rattle.em_filter.specs.Kind.{destination};
+ghost use Rattle.em_address.specs.Kind.{destination};
 ghost use Rattle.em_filter.specs.Address.{accepts, entry, has_hash, hash_of, is_entry_at, is_in_table};
 ghost use Rattle.em_filter.specs.Address.{passes_bam, passes_hash, passes_mpe, passes_upe};
 
 use crate::bits::{self, WORD_BITS};
-use crate::kind::{Kind, kind_of};
+use em_address::{Kind, kind_of};
 use em_regs::RegFile;
 
 /// How many receive addresses there are.
@@ -44,7 +44,7 @@ fn is_entry_at(regs: &RegFile, address: &[u8; 6], index: u8) -> bool
 }
 
 /// One entry has the octets of the address.
-#[tactic(auto, unfolding(crate::specs::Kind::destination))]
+#[tactic(auto, unfolding(em_address::specs::Kind::destination))]
 fn is_entry(regs: &RegFile, address: &[u8; 6], index: u8) -> bool
     requires { index < ENTRIES }
     ensures { result ≡ (entry regs.now index == destination address.now) }
@@ -92,7 +92,7 @@ fn has_hash(regs: &RegFile, hash: u16) -> bool
 }
 
 /// The hash of an address: the 12 bits of octets 4 and 5 that MO names.
-#[tactic(auto, unfolding(crate::specs::Kind::destination))]
+#[tactic(auto, unfolding(em_address::specs::Kind::destination))]
 fn hash_of(regs: &RegFile, address: &[u8; 6]) -> u16
     ensures value { result ≡ hash_of regs.now (destination address.now) }
     ensures few { result < HASHES }

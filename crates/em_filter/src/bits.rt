@@ -1,6 +1,7 @@
 //! The bits and fields that the filters read of the registers.
 ghost use Rattle.std.specs.Prelude.{◌≡◌, ◌<◌, ◌%◌, ◌^◌};
-ghost use Rattle.em_filter.specs.Bits.{bam, bit, lpe, mo, mpe, mta, rah, ral, upe, vet, vfe, vfta, vme};
+ghost use Rattle.em_filter.specs.Bits.{bam, lpe, mo, mpe, mta, rah, ral, upe, vet, vfe, vfta, vme};
+ghost use Rattle.em_regs.specs.Setup.{bit};
 ghost use Rattle.em_filter.specs.Address.{is_valid};
 
 use bitflags::Flags;

@@ -1,13 +1,13 @@
 //! What the filters say of a frame.
 ghost use Rattle.std.specs.Prelude.{◌≡◌, ◌≤◌, length};
-ghost use Rattle.em_filter.specs.Kind.{destination};
+ghost use Rattle.em_address.specs.Kind.{destination};
 ghost use Rattle.em_filter.specs.Filters.{longest, verdict};
 
 use crate::address::accepts;
 use crate::bits;
-use crate::kind::kind_of;
 use crate::outcome::Verdict;
 use crate::vlan::passes_vlan;
+use em_address::kind_of;
 use em_regs::RegFile;
 
 /// The octets of the frame check sequence, which follow a frame on the wire.
@@ -45,7 +45,7 @@ pub fn verdict(regs: &RegFile, frame: &[u8]) -> Verdict
 }
 
 /// The destination address of a frame.
-#[tactic(auto, unfolding(crate::specs::Kind::destination))]
+#[tactic(auto, unfolding(em_address::specs::Kind::destination))]
 fn destination(frame: &[u8]) -> [u8; 6]
     requires { 6 ≤ length frame.now }
     ensures { destination result ≡ destination frame.now }

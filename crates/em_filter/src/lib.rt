@@ -5,11 +5,10 @@
 mod address;
 mod bits;
 mod filters;
-mod kind;
 mod outcome;
 mod vlan;
 
+pub use em_address::{Kind, kind_of};
 pub use filters::verdict;
-pub use kind::{Kind, kind_of};
 pub use outcome::Verdict;
 pub use vlan::tagged;

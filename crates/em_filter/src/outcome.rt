@@ -1,5 +1,5 @@
 //! The verdicts that there are.
-use crate::kind::Kind;
+use em_address::Kind;
 
 /// What the filters say of a frame that arrives.
 #[derive(Clone, Copy, PartialEq, Eq, Debug)]

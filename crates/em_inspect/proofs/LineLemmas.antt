@@ -1,11 +1,9 @@
 -- Texts of the numbers from 0 on, one after another.
-use Rattle.std.proofs.Common.{◌≡◌, ℕ, ◌+◌, ◌-◌, ◌<◌, List, ◌∷◌, ◌++◌, length, take, drop, Option, refl}
-use Rattle.std.proofs.Common.{sym, ap, ◌∙◌, arith, append-nil, min, zero, suc, zero-add, add-zero}
-use Rattle.std.proofs.lemmas.List.{take_min, length-drop}
+use Rattle.std.proofs.Common.{◌≡◌, ℕ, ◌+◌, ◌-◌, ◌<◌, List, ◌∷◌, ◌++◌, Option, refl}
+use Rattle.std.proofs.Common.{sym, ap, ◌∙◌, arith, append-nil, zero, suc, zero-add, add-zero}
 use Rattle.std.proofs.lemmas.List.Concat.{flat_map-append}
 use Rattle.std.specs.List.{flat_map, range_with_len}
 use Rattle.std.specs.Io.KnownBytes.{Appends}
-use Rattle.em_mem.specs.Memory.{part}
 use Rattle.em_text.specs.Writer.{WritesPart}
 use Rattle.em_text.proofs.WritingLemmas.{Appends-more, WritesPart-front, WritesPart-more}
 
@@ -47,11 +45,3 @@ pub WritesPart-next : {a b c : Option (List ℕ)} (f : ℕ → List ℕ) (n k : 
 WritesPart-next f n k lt p q =
     WritesPart-more (flat_map f (range_with_len 0 k)) p
     (WritesPart-front (flat_map f (range_with_len (k + 1) (n - (k + 1)))) q refl) (texts_at f n k lt)
-
--- the octets of a line
-pub line_octets : (octets : List ℕ) (from : ℕ)
-    → take (min (length octets) (from + 16) - from) (drop from octets) ≡ part octets from 16
-line_octets octets from =
-    let few : min (length octets) (from + 16) - from ≡ min 16 (length (drop from octets)) =
-    rw length-drop (omega arith) in
-    ap (λ n. take n (drop from octets)) few ∙ take_min 16 (drop from octets)

@@ -22,17 +22,31 @@ address_at octets k =
 abbrev pub is_tagged : List ℕ → Bool
 is_tagged octets = nat_le 18 (length octets) && number_at octets 12 == 0x8100
 
--- the destination, the source, the tag, and the type behind it
-abbrev pub heading_of : List ℕ → Heading
-heading_of octets = record {
+-- the tag of a frame: the one that was taken out of it, or else the one that lies there
+abbrev pub tag_in : List ℕ → Option ℕ → Option ℕ
+tag_in octets None = if is_tagged octets then Some (number_at octets 14) else None
+tag_in octets (Some tag) = Some tag
+
+-- where the type lies: behind the tag, if one lies there
+abbrev pub kind_at : List ℕ → Option ℕ → ℕ
+kind_at octets None = if is_tagged octets then 16 else 12
+kind_at octets (Some tag) = 12
+
+-- the destination, the source, the tag, and the type behind it, of a frame that the tag was taken out of, if one was
+abbrev pub heading_of : List ℕ → Option ℕ → Heading
+heading_of octets taken = record {
   to = address_at octets 0;
   from = address_at octets 6;
-  tag = if is_tagged octets then Some (number_at octets 14) else None;
-  kind = number_at octets (if is_tagged octets then 16 else 12);
+  tag = tag_in octets taken;
+  kind = number_at octets (kind_at octets taken);
 }
 
+abbrev pub stored_heading : List ℕ → Option ℕ → Option Heading
+stored_heading octets taken = if nat_lt (length octets) 14 then None else Some (heading_of octets taken)
+
+-- the heading of a frame whose octets are all there
 abbrev pub heading_in : List ℕ → Option Heading
-heading_in octets = if nat_lt (length octets) 14 then None else Some (heading_of octets)
+heading_in octets = stored_heading octets None
 
 -- ---- as text
 
@@ -51,6 +65,14 @@ heading_line (Some heading) n =
     ++ mac_then heading.from
     (tag_text heading.tag ++ (kind_text heading.kind ++ (codes "  " ++ (decimal n ++ codes " octets\n")))))
 
+-- that line of a frame that the tag was taken out of, if one was
+abbrev pub stored_line : List ℕ → Option ℕ → List ℕ
+stored_line octets taken = heading_line (stored_heading octets taken) (length octets)
+
 -- that line, and the lines of its octets
+abbrev pub stored_text : List ℕ → Option ℕ → List ℕ
+stored_text octets taken = stored_line octets taken ++ lines_text 0 octets
+
+-- the same of a frame whose octets are all there
 abbrev pub frame_text : List ℕ → List ℕ
-frame_text octets = heading_line (heading_in octets) (length octets) ++ lines_text 0 octets
+frame_text octets = stored_text octets None

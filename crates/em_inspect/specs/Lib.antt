@@ -1,4 +1,11 @@
 pub mod AddressText
+pub mod Extent
+pub mod Ring
+pub mod Trouble
+pub mod TroubleText
+pub mod Bits
 pub mod Piece
 pub mod Lines
 pub mod Frame
+pub mod DescriptorText
+pub mod RingText

@@ -15,7 +15,10 @@ line_text address octets =
     ++ (codes " " ++ (flat_map (cell_text (Behind 32)) octets ++ (drop (3 * length octets) (replicate 48 32)
     ++ (codes "  " ++ (flat_map (cell_text Character) octets ++ codes "\n")))))
 
+-- line k of octets that lie from an address on
+abbrev pub line_at : ℕ → List ℕ → ℕ → List ℕ
+line_at address octets k = line_text (address + 16 * k) (part octets (16 * k) 16)
+
 -- the lines of octets that lie from an address on
 abbrev pub lines_text : ℕ → List ℕ → List ℕ
-lines_text address octets =
-    flat_map (λ k. line_text (address + 16 * k) (part octets (16 * k) 16)) (range_with_len 0 (div_ceil (length octets) 16))
+lines_text address octets = flat_map (line_at address octets) (range_with_len 0 (div_ceil (length octets) 16))

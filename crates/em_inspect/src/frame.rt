@@ -1,11 +1,13 @@
 //! Ethernet frames.
-ghost use Rattle.std.specs.Prelude.{◌≡◌, ◌+◌, ◌≤◌, IsTrue, length};
+ghost use Rattle.std.specs.Prelude.{◌≡◌, ◌+◌, ◌<◌, ◌≤◌, [], ◌++◌, IsTrue, length, slice_index};
 ghost use Rattle.em_text.specs.Writer.{Writes};
 ghost use Rattle.em_inspect.specs.Piece.{cfi_text, kind_text, tag_text};
-ghost use Rattle.em_inspect.specs.Frame.{address_at, frame_text, heading_in, heading_line, is_tagged, number_at};
+ghost use Rattle.em_inspect.specs.Frame.{address_at, frame_text, heading_in, is_tagged, number_at};
+ghost use Rattle.em_inspect.specs.Frame.{stored_heading, stored_line, stored_text};
 
-use crate::lines::write_octet_lines;
+use crate::lines::write_lines_in_two;
 use crate::piece::{Cell, Piece, write_line};
+use em_rx::StoredFrame;
 use em_text::{WriteFailed, octet_digits, write_pieces};
 use itoa::Buffer;
 use std::io::Write;
@@ -55,67 +57,119 @@ impl Heading {
     pub fn of(frame: &[u8]) -> Option<Heading>
         ensures { result ≡ heading_in frame.now }
     {
-        if frame.len() < LEAST {
+        Heading::of_stored(&in_one_piece(frame))
+    }
+
+    /// The heading of a frame of the FIFO; none where fewer than 14 octets of it lie there. A tag that was taken out of
+    /// the frame is its tag.
+    pub fn of_stored(frame: &StoredFrame<'_>) -> Option<Heading>
+        ensures { result ≡ stored_heading (frame.now.front.now ++ frame.now.back.now) frame.now.tag }
+    {
+        if size_of(frame) < LEAST {
             return None;
         }
-        let tagged = is_tagged(frame);
+        let (tag, kind_at) = match frame.tag {
+            Some(tag) => (Some(tag), TYPE),
+            None if is_tagged(frame) => (Some(number_at(frame, TAG)), TYPE_BEHIND_TAG),
+            None => (None, TYPE),
+        };
         Some(Heading {
             to: address_at(frame, 0),
             from: address_at(frame, ADDRESS),
-            tag: if tagged {
-                Some(number_at(frame, TAG))
-            } else {
-                None
-            },
-            kind: number_at(frame, if tagged { TYPE_BEHIND_TAG } else { TYPE }),
+            tag,
+            kind: number_at(frame, kind_at),
         })
     }
 }
 
-/// Whether a frame has a tag, and a type behind it.
-fn is_tagged(frame: &[u8]) -> bool
-    ensures tagged { result ≡ is_tagged frame.now }
-    ensures long { IsTrue result → 18 ≤ length frame.now }
+/// A frame that lies in one piece, as one of the FIFO that no tag was taken out of.
+fn in_one_piece(frame: &[u8]) -> StoredFrame<'_>
+    ensures front { result.front.now ≡ frame.now }
+    ensures back { result.back.now ≡ [] }
+    ensures tag { result.tag ≡ None }
 {
-    frame.len() >= LEAST_TAGGED && number_at(frame, TYPE) == VLAN_TYPE
+    StoredFrame {
+        front: frame,
+        back: b"",
+        tag: None,
+    }
+}
+
+/// How many octets of a frame lie there.
+fn size_of(frame: &StoredFrame<'_>) -> usize
+    ensures { result ≡ length (frame.now.front.now ++ frame.now.back.now) }
+{
+    frame.front.len() + frame.back.len()
+}
+
+/// Whether a tag lies in a frame, and a type behind it.
+fn is_tagged(frame: &StoredFrame<'_>) -> bool
+    ensures tagged { result ≡ is_tagged (frame.now.front.now ++ frame.now.back.now) }
+    ensures long { IsTrue result → 18 ≤ length (frame.now.front.now ++ frame.now.back.now) }
+{
+    size_of(frame) >= LEAST_TAGGED && number_at(frame, TYPE) == VLAN_TYPE
 }
 
 /// Two octets, the higher first.
-fn number_at(frame: &[u8], at: usize) -> u16
-    requires { at + 2 ≤ length frame.now }
-    ensures { result ≡ number_at frame.now at }
+fn number_at(frame: &StoredFrame<'_>, at: usize) -> u16
+    requires { at + 2 ≤ length (frame.now.front.now ++ frame.now.back.now) }
+    ensures { result ≡ number_at (frame.now.front.now ++ frame.now.back.now) at }
 {
-    u16::from(frame[at]) * 256 + u16::from(frame[at + 1])
+    u16::from(octet_at(frame, at)) * 256 + u16::from(octet_at(frame, at + 1))
 }
 
-fn address_at(frame: &[u8], at: usize) -> [u8; ADDRESS]
-    requires { at + 6 ≤ length frame.now }
-    ensures { result ≡ address_at frame.now at }
+fn address_at(frame: &StoredFrame<'_>, at: usize) -> [u8; ADDRESS]
+    requires { at + 6 ≤ length (frame.now.front.now ++ frame.now.back.now) }
+    ensures { result ≡ address_at (frame.now.front.now ++ frame.now.back.now) at }
 {
     [
-        frame[at],
-        frame[at + 1],
-        frame[at + 2],
-        frame[at + 3],
-        frame[at + 4],
-        frame[at + 5],
+        octet_at(frame, at),
+        octet_at(frame, at + 1),
+        octet_at(frame, at + 2),
+        octet_at(frame, at + 3),
+        octet_at(frame, at + 4),
+        octet_at(frame, at + 5),
     ]
+}
+
+fn octet_at(frame: &StoredFrame<'_>, at: usize) -> u8
+    requires { at < length (frame.now.front.now ++ frame.now.back.now) }
+    ensures { result ≡ slice_index (frame.now.front.now ++ frame.now.back.now) at }
+{
+    let in_front = frame.front.len();
+    if at < in_front {
+        frame.front[at]
+    } else {
+        frame.back[at - in_front]
+    }
 }
 
 /// Writes a frame: a line of its heading, unless it has fewer than 14 octets, and its octets as lines of 16.
 pub fn write_frame<W: Write>(writer: &mut W, frame: &[u8]) -> Result<(), WriteFailed>
     ensures writes { Writes (W.contents writer.old) (W.contents writer.new) result (frame_text frame.now) }
 {
+    write_stored_frame(writer, &in_one_piece(frame))
+}
+
+/// Writes a frame of the FIFO as [`write_frame`] writes one. A tag that was taken out of it stands in the heading, and
+/// not among the octets.
+pub fn write_stored_frame<W: Write>(
+    writer: &mut W,
+    frame: &StoredFrame<'_>,
+) -> Result<(), WriteFailed>
+    ensures writes { Writes (W.contents writer.old) (W.contents writer.new) result
+        (stored_text (frame.now.front.now ++ frame.now.back.now) frame.now.tag) }
+{
     write_heading(writer, frame)?;
-    write_octet_lines(writer, 0, frame)
+    write_lines_in_two(writer, 0, frame.front, frame.back)
 }
 
 /// Writes the line of a frame's heading, if it has one.
-fn write_heading<W: Write>(writer: &mut W, frame: &[u8]) -> Result<(), WriteFailed>
+fn write_heading<W: Write>(writer: &mut W, frame: &StoredFrame<'_>) -> Result<(), WriteFailed>
     ensures writes { Writes (W.contents writer.old) (W.contents writer.new) result
-        (heading_line (heading_in frame.now) (length frame.now)) }
+        (stored_line (frame.now.front.now ++ frame.now.back.now) frame.now.tag) }
 {
-    let Some(heading) = Heading::of(frame) else {
+    let Some(heading) = Heading::of_stored(frame) else {
         return Ok(());
     };
     write_line(
@@ -130,7 +184,7 @@ fn write_heading<W: Write>(writer: &mut W, frame: &[u8]) -> Result<(), WriteFail
             Piece::Tag(heading.tag),
             Piece::Kind(heading.kind),
             Piece::Text(b"  "),
-            Piece::Number(frame.len() as u64),
+            Piece::Number(size_of(frame) as u64),
             Piece::Text(b" octets\n"),
         ],
     )

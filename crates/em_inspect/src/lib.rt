@@ -1,9 +1,21 @@
-//! What a debugger shows of a machine at rest: octets in lines, and frames.
+//! What a debugger shows of a machine at rest: octets in lines, frames, and descriptor rings.
 #![tactic(auto)]
 
+mod bits;
+mod descriptor;
+mod descriptor_line;
+mod extent;
 mod frame;
 mod lines;
 mod piece;
+mod ring;
+mod ring_lines;
+mod trouble;
 
-pub use frame::{Heading, write_frame};
+pub use descriptor::{Bits, Descriptor, Fields};
+pub use descriptor_line::write_descriptor;
+pub use frame::{Heading, write_frame, write_stored_frame};
 pub use lines::write_octet_lines;
+pub use ring::{Owner, Ring, Side};
+pub use ring_lines::{MOST_SHOWN, write_ring};
+pub use trouble::Trouble;

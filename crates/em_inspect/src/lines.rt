@@ -1,7 +1,8 @@
 //! Octets in lines of 16.
-ghost use Rattle.std.specs.Prelude.{◌≡◌, ◌≤◌, length};
+ghost use Rattle.std.specs.Prelude.{◌≡◌, ◌+◌, ◌*◌, ◌<◌, ◌≤◌, ◌++◌, length};
+ghost use Rattle.em_mem.specs.Memory.{part};
 ghost use Rattle.em_text.specs.Writer.{Writes};
-ghost use Rattle.em_inspect.specs.Lines.{line_text, lines_text};
+ghost use Rattle.em_inspect.specs.Lines.{line_at, line_text, lines_text};
 
 use crate::piece::{Cell, Piece, write_line};
 use em_text::WriteFailed;
@@ -25,35 +26,82 @@ pub fn write_octet_lines<W: Write>(
 ) -> Result<(), WriteFailed>
     ensures writes { Writes (W.contents writer.old) (W.contents writer.new) result (lines_text address octets.now) }
 {
-    for line in 0..octets.len().div_ceil(LINE_OCTETS) {
-        let from = LINE_OCTETS * line;
-        let to = octets.len().min(from + LINE_OCTETS);
-        write_octet_line(
-            writer,
-            u128::from(address) + from as u128,
-            &octets[from..to],
-        )?;
+    write_lines_in_two(writer, address, octets, b"")
+}
+
+/// Writes octets that are given in two parts as such lines.
+pub(crate) fn write_lines_in_two<W: Write>(
+    writer: &mut W,
+    address: u64,
+    front: &[u8],
+    back: &[u8],
+) -> Result<(), WriteFailed>
+    ensures writes { Writes (W.contents writer.old) (W.contents writer.new) result
+        (lines_text address (front.now ++ back.now)) }
+{
+    let size = front.len() + back.len();
+    for line in 0..size.div_ceil(LINE_OCTETS) {
+        write_line_at(writer, address, front, back, line)?;
     }
     Ok(())
 }
 
-fn write_octet_line<W: Write>(
+/// Writes one of these lines, the first being number 0.
+fn write_line_at<W: Write>(
+    writer: &mut W,
+    address: u64,
+    front: &[u8],
+    back: &[u8],
+    line: usize,
+) -> Result<(), WriteFailed>
+    requires { 16 * line < length front.now + length back.now }
+    ensures writes { Writes (W.contents writer.old) (W.contents writer.new) result
+        (line_at address (front.now ++ back.now) line) }
+{
+    let from = LINE_OCTETS * line;
+    let in_front = front.len().saturating_sub(from);
+    write_octet_line(
+        writer,
+        u128::from(address) + from as u128,
+        part(front, from, LINE_OCTETS),
+        part(
+            back,
+            from.saturating_sub(front.len()),
+            LINE_OCTETS.saturating_sub(in_front),
+        ),
+    )
+}
+
+/// Up to `len` octets from a place on.
+fn part(octets: &[u8], from: usize, len: usize) -> &[u8]
+    ensures { result.now ≡ part octets.now from len }
+{
+    let rest = &octets[from.min(octets.len())..];
+    &rest[..len.min(rest.len())]
+}
+
+/// Writes a line of octets that are given in two parts.
+fn write_octet_line<'a, W: Write>(
     writer: &mut W,
     address: u128,
-    octets: &[u8],
+    front: &'a [u8],
+    back: &'a [u8],
 ) -> Result<(), WriteFailed>
-    requires { length octets.now ≤ 16 }
-    ensures writes { Writes (W.contents writer.old) (W.contents writer.new) result (line_text address octets.now) }
+    requires { length front.now + length back.now ≤ 16 }
+    ensures writes { Writes (W.contents writer.old) (W.contents writer.new) result
+        (line_text address (front.now ++ back.now)) }
 {
     write_line(
         writer,
         &[
             Piece::Address(address),
             Piece::Text(b" "),
-            Piece::Cells(Cell::Behind(b' '), octets),
-            Piece::Text(&NO_OCTETS[CELL_ROOM * octets.len()..]),
+            Piece::Cells(Cell::Behind(b' '), front),
+            Piece::Cells(Cell::Behind(b' '), back),
+            Piece::Text(&NO_OCTETS[CELL_ROOM * (front.len() + back.len())..]),
             Piece::Text(b"  "),
-            Piece::Cells(Cell::Character, octets),
+            Piece::Cells(Cell::Character, front),
+            Piece::Cells(Cell::Character, back),
             Piece::Text(b"\n"),
         ],
     )

@@ -3,15 +3,24 @@ ghost use Rattle.std.specs.Prelude.{◌≡◌, decimal};
 ghost use Rattle.std.specs.List.{flat_map};
 ghost use Rattle.em_text.specs.Writer.{Writes};
 ghost use Rattle.em_inspect.specs.AddressText.{address_text};
-ghost use Rattle.em_inspect.specs.Piece.{cell_text, piece_text, printable};
+ghost use Rattle.em_inspect.specs.Piece.{cell_text, column_text, piece_text, printable};
 
+use crate::bits::write_bits;
+use crate::descriptor::Bits;
+use crate::descriptor_line::write_trouble;
 use crate::frame::{write_kind, write_tag};
+use crate::ring::Side;
+use crate::ring_lines::write_buffers;
+use crate::trouble::Trouble;
 use em_text::{WriteFailed, octet_digits, write_octets, write_pieces, write_whole};
 use itoa::Buffer;
 use std::io::Write;
 
 /// How many of the 16 octets of an address may be left out where they are 0: three are always shown.
 const MOST_LEFT_OUT: usize = 13;
+
+/// The room of a number in a column.
+const NO_DIGITS: [u8; 5] = [b' '; 5];
 
 /// How many bits an octet has.
 const OCTET_BITS: u32 = 8;
@@ -32,6 +41,8 @@ pub(crate) enum Piece<'a> {
     Text(&'a [u8]),
     /// A number in decimal digits.
     Number(u64),
+    /// A number in decimal digits that end in the fifth column.
+    Column(u32),
     /// An address, in six hexadecimal digits or as many more as it needs.
     Address(u128),
     /// Octets in hexadecimal digits.
@@ -42,6 +53,12 @@ pub(crate) enum Piece<'a> {
     Tag(Option<u16>),
     /// The type or length of a frame.
     Kind(u16),
+    /// The size of a ring's buffers, where it has one for all.
+    Buffers(Side),
+    /// The bits of a descriptor.
+    Bits(Bits),
+    /// What is wrong with a descriptor, if anything is.
+    Trouble(Option<Trouble>),
 }
 
 /// Writes a line, piece by piece.
@@ -60,11 +77,15 @@ fn write_piece<W: Write>(writer: &mut W, piece: Piece<'_>) -> Result<(), WriteFa
     match piece {
         Piece::Text(text) => write_whole(writer, text),
         Piece::Number(number) => write_number(writer, number),
+        Piece::Column(number) => write_column(writer, number),
         Piece::Address(address) => write_address(writer, address),
         Piece::Digits(octets) => write_octets(writer, octets),
         Piece::Cells(cell, octets) => write_cells(writer, cell, octets),
         Piece::Tag(tag) => write_tag(writer, tag),
         Piece::Kind(kind) => write_kind(writer, kind),
+        Piece::Buffers(side) => write_buffers(writer, side),
+        Piece::Bits(bits) => write_bits(writer, bits),
+        Piece::Trouble(trouble) => write_trouble(writer, trouble),
     }
 }
 
@@ -73,6 +94,17 @@ fn write_number<W: Write>(writer: &mut W, number: u64) -> Result<(), WriteFailed
 {
     let mut digits = Buffer::new();
     write_whole(writer, digits.format(number).as_bytes())
+}
+
+fn write_column<W: Write>(writer: &mut W, number: u32) -> Result<(), WriteFailed>
+    ensures writes { Writes (W.contents writer.old) (W.contents writer.new) result (column_text number) }
+{
+    let mut digits = Buffer::new();
+    let digits = digits.format(number).as_bytes();
+    write_pieces(
+        writer,
+        &[&NO_DIGITS[digits.len().min(NO_DIGITS.len())..], digits],
+    )
 }
 
 fn write_address<W: Write>(writer: &mut W, address: u128) -> Result<(), WriteFailed>

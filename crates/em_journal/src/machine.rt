@@ -22,6 +22,8 @@ ghost use Rattle.em_mem.specs.Memory.{part};
 ghost use Rattle.em_regs.specs.Table.{IsReg, offset_of, reg_at};
 ghost use Rattle.em_regs.specs.RegFile.{IsStored, OnlyStores};
 ghost use Rattle.em_latch.specs.Latches.{IsAsserted, IsLatched};
+ghost use Rattle.em_rx.specs.Fifo.{first};
+ghost use Rattle.em_rx.specs.StoredFrame.{LiesSo};
 ghost use Rattle.em_step.specs.Access.{gives};
 ghost use Rattle.em_step.specs.Cells.{shows};
 ghost use Rattle.em_step.specs.Event.{plain, reads, writes, pokes, arrives, links, receives, transmits};
@@ -34,6 +36,7 @@ use crate::records::Records;
 use crate::refusal::{Empty, JournalRefusal};
 use circular_buffer::HeapCircularBuffer;
 use em_regs::{Kind, Reg};
+use em_rx::StoredFrame;
 use em_step::{Adapter, Answer, Event, LEAST_COST, Refusal, Undo};
 use std::alloc::Global;
 use std::marker::Model;
@@ -423,6 +426,14 @@ impl Machine {
         ensures { result ≡ length self.now.present.fifo.frames }
     {
         self.adapter.frames()
+    }
+
+    /// The first frame of the FIFO, as it lies there; none where no frame waits.
+    pub fn first_frame(&self) -> Option<StoredFrame<'_>>
+        ensures none { IsNone result ↔ (length self.now.present.fifo.frames ≡ 0) }
+        ensures lies { IfSome result (LiesSo (first self.now.present.fifo)) }
+    {
+        self.adapter.first_frame()
     }
 
     /// How many frames were sent.

@@ -6,9 +6,9 @@ use Rattle.std.specs.Prelude.{IsSome, Vec}
 use Rattle.std.specs.Global.{Global}
 use Rattle.std.specs.Option.{option_map}
 use Rattle.std.proofs.lemmas.List.{map-append, length-append}
-use Rattle.em_driver.specs.declared.turn.Turn.{Turn}
-use Rattle.em_driver.specs.Planned.{planned}
-use Rattle.em_driver.specs.Turn.{plan_turns}
+use Rattle.em_turn.specs.declared.turn.Turn.{Turn}
+use Rattle.em_turn.specs.Planned.{planned}
+use Rattle.em_turn.specs.Turn.{plan_turns}
 use Rattle.em_line.specs.Plan.{said_turn, led_by, plan_with, plan_of}
 
 -- ---- one word

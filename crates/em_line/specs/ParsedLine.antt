@@ -1,7 +1,7 @@
 -- What a line says, as data.
 use Rattle.std.specs.Prelude.{Bool, true, false, List, Option, Some, None}
 use Rattle.em_step.specs.Event.{pokes, arrives}
-use Rattle.em_driver.specs.declared.turn.Turn.{Turn}
+use Rattle.em_turn.specs.declared.turn.Turn.{Turn}
 use Rattle.em_line.specs.Command.{Command, event}
 use Rattle.em_line.specs.Request.{Request, sends, sets_address}
 

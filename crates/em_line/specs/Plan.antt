@@ -1,8 +1,8 @@
 -- The plan that the words of a line say: for each access of a driver to come, the turns of others before it.
 use Rattle.std.specs.Prelude.{ℕ, List, [], ◌∷◌, Option, Some, None, option_and_then}
 use Rattle.std.specs.Option.{option_map}
-use Rattle.em_driver.specs.declared.turn.Turn.{Turn}
-use Rattle.em_driver.specs.declared.turn.Turn.TheVariants.{Arrive, RxStep, TxStep}
+use Rattle.em_turn.specs.declared.turn.Turn.{Turn}
+use Rattle.em_turn.specs.declared.turn.Turn.TheVariants.{Arrive, RxStep, TxStep}
 use Rattle.em_line.specs.Frame.{frame_of}
 use Rattle.em_line.specs.TurnWord.{TurnWord, ends, receives, transmits, arrives, turn_word}
 

@@ -6,7 +6,7 @@ use Rattle.std.specs.Str.{bytes_eq}
 use Rattle.em_text.specs.Numbers.{decimal_number, octets_of}
 use Rattle.em_line.specs.Arguments.{Arguments, zero, one}
 use Rattle.em_line.specs.Frame.{frame_of}
-use Rattle.em_driver.specs.Receive.{lists}
+use Rattle.em_turn.specs.Planned.{lists}
 use Rattle.em_line.specs.declared.driver_call.DriverCall.{DriverCall}
 use Rattle.em_line.specs.declared.driver_call.DriverCall.TheVariants as call
 use Rattle.em_line.specs.declared.request.Request.{Request as Lent}

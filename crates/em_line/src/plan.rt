@@ -1,14 +1,14 @@
 //! The plan that the words of a line say.
 ghost use Rattle.std.specs.Prelude.{◌≡◌, ◌<◌, ◌↔◌, length, Some, IfOk, IfSome, IsSome, IsTrue};
 ghost use Rattle.em_text.specs.Words.{words_of};
-ghost use Rattle.em_driver.specs.Planned.{planned};
-ghost use Rattle.em_driver.specs.Turn.{plan_turns};
+ghost use Rattle.em_turn.specs.Planned.{planned};
+ghost use Rattle.em_turn.specs.Turn.{plan_turns};
 ghost use Rattle.em_line.specs.Plan.{plan_of, said_turn};
 
 use crate::frame::{frame_into, is_frame};
 use crate::turn_word::{TurnWord, turn_word};
-use em_driver::{Frame, Turn};
 use em_text::Words;
+use em_turn::{Frame, Turn};
 use std::alloc::{AllocError, Global};
 use std::collections::VecDeque;
 use std::mem;

@@ -47,6 +47,10 @@ value_of m reg = at m (offset_of reg)
 abbrev pub has : ℕ → ℕ → Bool
 has value mask = bit_and value mask == mask
 
+-- bit k of a number is 1
+abbrev pub bit : ℕ → ℕ → Bool
+bit n k = n / 2 ^ k % 2 == 1
+
 -- two registers as one number
 abbrev pub pair : Registers → Reg → Reg → ℕ
 pair m high low = value_of m high * 2 ^ 32 + value_of m low

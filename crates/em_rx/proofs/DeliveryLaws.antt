@@ -239,6 +239,14 @@ module _ (c v : Cells) (sound : IsSound c) (is : c ≡ v) (frames : 0 < length (
       next_is c sound e (drop 1 (live c)) live_is n (omega (arith, h, len_here, taken_here, below))
       ∙ ap (λ (x : Cells). next (shows x) n) is
 
+  -- its octets lie where the places say
+  pub frame_at : (e : Entry) → e ≡ get_or c.entries c.places.first e →
+      ring_part c.octets c.places.head e.len ≡ (first (shows v)).octets
+  frame_at e read =
+      ap (λ (f : Frame). f.octets) (sym (frame_is c sound e (drop 1 (live c))
+      (first_is c sound e some ∙ ap (λ (x : Entry). x ∷ drop 1 (live c)) (sym read))))
+      ∙ ap (λ (x : Cells). (first (shows x)).octets) is
+
   pub more_at : (n len : ℕ) → len ≡ length (first (shows v)).octets → c.places.taken + n < len →
       IsMove v (record c.places { taken = c.places.taken + n }) n
   more_at n len whole h =

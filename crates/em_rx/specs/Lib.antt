@@ -2,6 +2,7 @@ pub mod Refusal
 pub mod Ring
 pub mod Frame
 pub mod Fifo
+pub mod StoredFrame
 pub mod FramePatch
 pub mod StepPatch
 pub mod Undo

@@ -1,8 +1,10 @@
 //! The FIFO: frames that lie end to end in one packet buffer.
-ghost use Rattle.std.specs.Prelude.{◌≡◌, ◌↔◌, ◌+◌, ◌<◌, ◌≤◌, IfOk, IfErr, IsTrue, OnOk, OnErr, List, ℕ, length, true};
+ghost use Rattle.std.specs.Prelude.{◌≡◌, ◌↔◌, ◌+◌, ◌<◌, ◌≤◌, IfOk, IfErr, IfSome, IsNone, IsTrue, OnOk, OnErr, List, ℕ};
+ghost use Rattle.std.specs.Prelude.{length, true};
 ghost use Rattle.em_mem.specs.Memory as memory;
 ghost use Rattle.em_mem.specs.Memory.{IsHeld, IsMade, part, put};
 ghost use Rattle.em_rx.specs.Frame.{stored_frame};
+ghost use Rattle.em_rx.specs.StoredFrame.{LiesSo};
 ghost use Rattle.em_rx.specs.Fifo.{after_arrival, empty, first, fresh, HasRoom, IsFirst, IsSound, next, rest, shows};
 ghost use Rattle.em_rx.specs.Undo.{Fits, FitsFrame, FitsStep, IsMove, Reverses, ReversesStep, octets_held, undo_fifo};
 ghost use Rattle.em_rx.specs.Undo.{IsOverwritten, delivered, undo_memory, with_both, with_patch};
@@ -12,8 +14,8 @@ ghost use Rattle.em_rx.specs.declared.undo.RxUndo.TheVariants.{Frame};
 use crate::descriptor::{WRITTEN_OCTETS, written_back};
 use crate::frame::{stored_octets, tag_of};
 use crate::places::{Entry, Places};
-use crate::ring::{copy_into, exchange_entry, put_octets, wrap, write_out};
-use crate::{FramePatch, RxRefusal, RxUndo, StepPatch};
+use crate::ring::{copy_into, exchange_entry, pieces, put_octets, wrap, write_out};
+use crate::{FramePatch, RxRefusal, RxUndo, StepPatch, StoredFrame};
 use em_mem::{GuestMemory, SparesByLen};
 use std::alloc::{AllocError, Global};
 use std::marker::Model;
@@ -250,6 +252,27 @@ impl Fifo {
         exchange_entry(&mut self.entries, patch.index as usize, &mut patch.entry);
         std::mem::swap(&mut self.places, &mut patch.places);
         put_octets(&mut self.octets, patch.at as usize, octets);
+    }
+
+    /// The first frame, as it lies in the packet buffer; none where no frame waits.
+    pub fn first_frame(&self) -> Option<StoredFrame<'_>>
+        ensures none { IsNone result ↔ (length (shows self.now).frames ≡ 0) }
+        ensures lies { IfSome result (LiesSo (first (shows self.now))) }
+    {
+        if self.places.count == 0 {
+            return None;
+        }
+        let entry = self.first_entry();
+        let (front, back) = pieces(
+            self.octets.as_slice(),
+            self.places.head as usize,
+            entry.len as usize,
+        );
+        Some(StoredFrame {
+            front,
+            back,
+            tag: entry.tag,
+        })
     }
 
     /// Whether no frame waits.

@@ -7,6 +7,7 @@ pub use fifo::Fifo;
 pub use places::{Entry, Places};
 pub use receive::RxAnswer;
 pub use refusal::RxRefusal;
+pub use stored::StoredFrame;
 pub use undo::{FramePatch, MOST_HELD, RxUndo, StepPatch};
 
 mod before;
@@ -18,4 +19,5 @@ mod places;
 mod receive;
 mod refusal;
 mod ring;
+mod stored;
 mod undo;

@@ -70,6 +70,21 @@ pub(crate) fn write_out(memory: &mut GuestMemory, addr: u64, ring: &[u8], at: us
     memory.write(addr + high.len() as u64, &low[..len - high.len()]);
 }
 
+/// The `len` octets that lie in the ring from `at` on, in the two pieces in which they lie. The second is
+/// empty where they end before the ring does.
+pub(crate) fn pieces(ring: &[u8], at: usize, len: usize) -> (&[u8], &[u8])
+    requires at { at ≤ length ring.now }
+    requires size { len ≤ length ring.now }
+    ensures { result.0.now ++ result.1.now ≡ ring_part ring.now at len }
+{
+    let (low, high) = ring.split_at(at);
+    if len <= high.len() {
+        (&high[..len], &low[..0])
+    } else {
+        (high, &low[..len - high.len()])
+    }
+}
+
 /// Writes the octets over those that lie in the ring from `at` on.
 pub(crate) fn put_octets(ring: &mut Vec<u8>, at: usize, octets: &[u8])
     requires at { at ≤ length ring.old.items }

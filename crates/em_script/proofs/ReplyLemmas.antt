@@ -16,7 +16,7 @@ use Rattle.em_script.specs.declared.outcome.Outcome.{Outcome}
 use Rattle.em_script.specs.declared.outcome.Outcome.TheVariants as outcome
 use Rattle.em_line.specs.Command.{Command, event}
 use Rattle.em_step.specs.declared.refusal.Refusal.TheVariants.{Memory}
-use Rattle.em_driver.specs.declared.turn.Turn.{Turn}
+use Rattle.em_turn.specs.declared.turn.Turn.{Turn}
 use Rattle.em_line.specs.ParsedLine.{says, asks, plan_line}
 use Rattle.em_line.specs.Request.{Request, plain_call}
 use Rattle.em_line.specs.declared.driver_call.DriverCall.{DriverCall as Asked}

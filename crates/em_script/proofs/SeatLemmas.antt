@@ -1,7 +1,7 @@
 -- Calls of a driver, from one session to the next.
 use Rattle.std.proofs.Common.{◌≡◌, ◌∙◌, ℕ, Bool, true, false, cond, List, [], Option, Some, None, refl, sym, ap}
 use Rattle.em_journal.specs.View.{View}
-use Rattle.em_driver.specs.declared.turn.Turn.{Turn}
+use Rattle.em_turn.specs.declared.turn.Turn.{Turn}
 use Rattle.em_driver.specs.World.{World, quiet}
 use Rattle.em_driver.specs.Course.{Follows}
 use Rattle.em_script.specs.Session.{Session}

@@ -5,7 +5,7 @@ use Rattle.em_driver.specs.World.{World}
 use Rattle.em_journal.specs.History.{Call, Run}
 use Rattle.em_driver.specs.Course.{Course, done, Follows}
 use Rattle.em_driver.specs.CourseCalls.{course_calls}
-use Rattle.em_driver.specs.declared.turn.Turn.{Turn}
+use Rattle.em_turn.specs.declared.turn.Turn.{Turn}
 use Rattle.em_driver.specs.Play.{Played}
 use Rattle.em_driver.specs.Answering.{answering}
 use Rattle.em_driver.specs.HappenedCall.{happened, CanHappen}

@@ -1,7 +1,7 @@
 -- What a line that calls a driver prints, and what it leaves.
 use Rattle.std.specs.Prelude.{ℕ, Bool, true, false, List, [], ◌++◌, Option, Some, None, Result, Ok, Err, unwrap_or}
 use Rattle.em_journal.specs.View.{View}
-use Rattle.em_driver.specs.declared.turn.Turn.{Turn}
+use Rattle.em_turn.specs.declared.turn.Turn.{Turn}
 use Rattle.em_driver.specs.World.{World, quiet}
 use Rattle.em_driver.specs.Play.{Played}
 use Rattle.em_driver.specs.TellsMemory.{start_says, result_says}
@@ -9,7 +9,7 @@ use Rattle.em_driver.specs.declared.outcome.Batch.{Batch}
 use Rattle.em_driver.specs.declared.outcome.Stopped.{Stopped}
 use Rattle.em_driver.specs.declared.outcome.Cause.{Cause}
 use Rattle.em_driver.specs.declared.stats.DeviceStats.{DeviceStats}
-use Rattle.em_driver.specs.Receive.{lists}
+use Rattle.em_turn.specs.Planned.{lists}
 use Rattle.em_script.specs.declared.driver_reply.DriverReply.{DriverReply}
 use Rattle.em_script.specs.declared.driver_reply.PlanCounts.{PlanCounts}
 use Rattle.em_script.specs.declared.driver_answer.DriverAnswer.{DriverAnswer as Code}

@@ -23,7 +23,7 @@ use Rattle.em_line.specs.Command.{Command, event}
 use Rattle.em_line.specs.ParsedLine.{ParsedLine, silent, bad, says, asks, plans}
 use Rattle.em_script.specs.RefusedAt.{RefusedAt, before, within, named_of}
 use Rattle.em_script.specs.Calling.{asked_text, asked_outcome, after_asked, asked_calls, MayBeRefusedAt}
-use Rattle.em_driver.specs.declared.turn.Turn.{Turn}
+use Rattle.em_turn.specs.declared.turn.Turn.{Turn}
 use Rattle.em_script.specs.Output.{done_text, bit_text, back_text, bad_line_text, answer_text, refusal_text, empty_text}
 use Rattle.em_script.specs.Output.{Prints}
 use Rattle.em_script.specs.Registers.{registers_text}

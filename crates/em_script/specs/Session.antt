@@ -2,8 +2,8 @@
 use Rattle.std.specs.Prelude.{Bool, false, List, Option, None, refl}
 use Rattle.std.specs.Coded.{Coded, code_by, coded×, coded_list, coded_bool, coded_option}
 use Rattle.em_journal.specs.View.{View, view_code}
-use Rattle.em_driver.specs.Turn.{turn_code}
-use Rattle.em_driver.specs.declared.turn.Turn.{Turn}
+use Rattle.em_turn.specs.Turn.{turn_code}
+use Rattle.em_turn.specs.declared.turn.Turn.{Turn}
 
 pub record Session : Type 0 where
   -- the machine, with what it can go back to

@@ -2,7 +2,7 @@
 ghost use Rattle.std.specs.Prelude.{◌≡◌, [], true, false, if◌then◌else◌, Some, None, IfOk, OnOk, OnErr};
 ghost use Rattle.em_driver.specs.Course.{Follows};
 ghost use Rattle.em_driver.specs.Outcome as outcome;
-ghost use Rattle.em_driver.specs.Receive.{lists};
+ghost use Rattle.em_turn.specs.Planned.{lists};
 ghost use Rattle.em_driver.specs.World.{quiet};
 ghost use Rattle.em_script.specs.Calling.{course_of, init_layout, plan_counts, IsCalled};
 ghost use Rattle.em_line.specs.Request.{plain_call, starts, sends, receives, stats, address, sets_address};

@@ -1,7 +1,7 @@
 //! Writing what calls of a driver answer.
 ghost use Rattle.std.specs.Prelude.{◌≡◌, ◌++◌};
 ghost use Rattle.em_text.specs.Writer.{Writes};
-ghost use Rattle.em_driver.specs.Receive.{lists};
+ghost use Rattle.em_turn.specs.Planned.{lists};
 ghost use Rattle.em_script.specs.Wire.{frames_text};
 ghost use Rattle.em_script.specs.DriverAnswer.{plain, driver_reply_text, counts_text};
 ghost use Rattle.em_script.specs.DriverAnswer.{driver_answer_text, driver_answer_outcome};

@@ -15,6 +15,7 @@ mod no_driver;
 mod outcome;
 mod output;
 mod play;
+mod player;
 mod registers;
 mod reply;
 mod runner;
@@ -25,6 +26,8 @@ mod wire;
 
 pub use laws::a_request_is_played_or_says_so;
 pub use no_driver::NoDriver;
+pub use outcome::Outcome;
+pub use player::Player;
 pub use runner::{BenchFault, run};
 pub use session::Session;
 pub use summary::Summary;

@@ -40,9 +40,14 @@ pub fn ask<W: Write>(
         session.old session.new (W.contents writer.old) (W.contents writer.new) result }
 {
     match request {
-        Request::Start => write_driver_reply(writer, &start_driver(alloc, session)),
+        Request::Start => {
+            let reply = start_driver(alloc, session);
+            session.note_call(&reply);
+            write_driver_reply(writer, &reply)
+        }
         Request::Call(call) => match call_driver(alloc, session, call) {
             Ok(reply) => {
+                session.note_call(&reply);
                 let written = write_driver_reply(writer, &reply);
                 session.keep_packets(reply.answer);
                 written

@@ -1,10 +1,12 @@
 //! What a script is run on.
-ghost use Rattle.std.specs.Prelude.{◌≡◌, ◌<◌, Some, OnOk, OnErr};
-ghost use Rattle.em_driver.specs.Planned.{planned};
-ghost use Rattle.em_driver.specs.Turn.{plan_turns};
+ghost use Rattle.std.specs.Prelude.{◌≡◌, ◌<◌, Some, OnOk, OnErr, length, min};
+ghost use Rattle.em_journal.specs.View.{after_backs};
+ghost use Rattle.em_turn.specs.Planned.{planned};
+ghost use Rattle.em_turn.specs.Turn.{plan_turns};
 ghost use Rattle.em_script.specs.Session.{bare};
 
 use crate::driver_answer::DriverAnswer;
+use crate::driver_reply::DriverReply;
 use crate::seat::Seat;
 use em_driver::{PlanRefused, Turn, Turns};
 use em_journal::Machine;
@@ -21,6 +23,8 @@ pub struct Session {
     pub(crate) planned: bool,
     // for the packets of the next call of a driver; what it holds until then is of no matter
     pub(crate) packets: VecDeque<Vec<u8>>,
+    // how many events the last call of a driver performed, with those of its plan
+    pub(crate) events: u64,
 }
 
 impl Model for Session {
@@ -45,6 +49,7 @@ impl Session {
             seat: Seat::Bare(Turns::new(alloc, machine)),
             planned: false,
             packets: VecDeque::new(alloc),
+            events: 0,
         }
     }
 
@@ -63,12 +68,38 @@ impl Session {
         Ok(())
     }
 
-    /// Keeps the queue of a answer for the next call that moves packets.
+    /// Notes how many events a call of a driver performed.
+    pub(crate) fn note_call(&mut self, reply: &DriverReply)
+        ensures { self.new ≡ self.old }
+    {
+        self.events = reply.all_events();
+    }
+
+    /// How many events the last line performed that called a driver, with those of its plan. No contract
+    /// says so: it is only tested.
+    pub fn events_of_call(&self) -> u64 {
+        self.events
+    }
+
+    /// Keeps the queue of an answer for the next call that moves packets.
     pub(crate) fn keep_packets(&mut self, answer: DriverAnswer)
         ensures { self.new ≡ self.old }
     {
         if let DriverAnswer::Batch(packets, _) = answer {
             self.packets = packets;
+        }
+    }
+
+    /// Takes the machine's newest events back, at most so many, and gives how many. The driver and the plan
+    /// stay as they are, as a line `back` leaves them.
+    pub fn back_by(&mut self, most: usize) -> usize
+        ensures count { result ≡ min most (length self.old.machine.past) }
+        ensures session { self.new ≡ record self.old { machine = after_backs most self.old.machine } }
+    {
+        match &mut self.seat {
+            Seat::Bare(turns) => turns.machine_mut().back_by(most),
+            Seat::Driven(driver) => driver.bus().machine_mut().back_by(most),
+            Seat::Moved => unreachable!(),
         }
     }
 

@@ -5,12 +5,12 @@ use Rattle.std.specs.Prelude.{if◌then◌else◌, nat_lt, not}
 use Rattle.std.proofs.lemmas.List.{length-take}
 use Rattle.std.proofs.lemmas.Bool.Decides.{nat_tests}
 use Rattle.em_regs.specs.Storage.{Registers}
-use Rattle.em_filter.specs.declared.kind.Kind.{Kind}
+use Rattle.em_address.specs.declared.kind.Kind.{Kind}
 use Rattle.em_filter.specs.declared.outcome.Verdict.TheVariants.{Reject, Undersize, Oversize, Accept}
 use Rattle.em_filter.specs.Address.{accepts}
 use Rattle.em_filter.specs.Bits.{lpe}
 use Rattle.em_filter.specs.Filters.{longest, verdict}
-use Rattle.em_filter.specs.Kind.{destination}
+use Rattle.em_address.specs.Kind.{destination}
 use Rattle.em_filter.specs.Vlan.{passes_vlan}
 use Rattle.em_rx.specs.Frame.{len_of, stored_frame}
 

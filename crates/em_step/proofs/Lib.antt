@@ -3,13 +3,9 @@ pub mod ResetLaws
 pub mod MadePages
 pub mod ReversalLaws
 pub mod ArrivalLaws
-pub mod FateLaws
 pub mod CostLaws
 pub mod EngineLaws
 pub mod SetupLaws
-pub mod PieceLaws
-pub mod ReachedLaws
 pub mod WholeLaws
-pub mod InertLaws
 pub mod BeforeLaws
 pub mod SizeLaws

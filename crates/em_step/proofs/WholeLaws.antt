@@ -13,12 +13,13 @@ use Rattle.em_regs.specs.declared.setup.RxSetup.{RxSetup}
 use Rattle.em_regs.specs.declared.setup.TxSetup.{TxSetup}
 use Rattle.em_regs.specs.Setup.{rx_setup, tx_setup, value_of}
 use Rattle.em_regs.specs.Storage.{Registers}
-use Rattle.em_filter.specs.Bits.{lpe, vme, bit}
+use Rattle.em_filter.specs.Bits.{lpe, vme}
+use Rattle.em_regs.specs.Setup.{bit}
 use Rattle.em_filter.specs.Filters.{verdict, longest}
 use Rattle.em_filter.specs.Address.{accepts}
-use Rattle.em_filter.specs.Kind.{destination, kind_of}
+use Rattle.em_address.specs.Kind.{destination, kind_of}
 use Rattle.em_filter.specs.Vlan.{tagged, carries_tag, passes_vlan}
-use Rattle.em_filter.specs.declared.kind.Kind.{Kind}
+use Rattle.em_address.specs.declared.kind.Kind.{Kind}
 use Rattle.em_filter.specs.declared.outcome.Verdict.{Verdict}
 use Rattle.em_filter.specs.declared.outcome.Verdict.TheVariants.{Reject, Accept}
 use Rattle.em_filter.specs.declared.outcome.Verdict.TheVariants.{Undersize as TooShort, Oversize as TooLong}

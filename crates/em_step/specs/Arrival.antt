@@ -5,7 +5,7 @@ use Rattle.em_regs.specs.Setup.{value_of}
 use Rattle.em_latch.specs.Counter.{after_count}
 use Rattle.em_latch.specs.declared.counter.Counter.{Counter}
 use Rattle.em_latch.specs.declared.counter.Counter.TheVariants.{Ruc, Roc}
-use Rattle.em_filter.specs.declared.kind.Kind.{Kind}
+use Rattle.em_address.specs.declared.kind.Kind.{Kind}
 use Rattle.em_filter.specs.declared.outcome.Verdict.{Verdict}
 use Rattle.em_filter.specs.declared.outcome.Verdict.TheVariants.{Reject, Accept}
 use Rattle.em_filter.specs.declared.outcome.Verdict.TheVariants.{Undersize as TooShort, Oversize as TooLong}

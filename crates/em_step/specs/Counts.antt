@@ -8,10 +8,10 @@ use Rattle.em_latch.specs.declared.counter.Counter.TheVariants.{Mpc, Prc64, Prc1
 use Rattle.em_latch.specs.declared.counter.Counter.TheVariants.{Gprc, Bprc, Mprc, Gorc, Rnbc}
 use Rattle.em_latch.specs.declared.counter.Counter.TheVariants.{Ptc64, Ptc127, Ptc255, Ptc511, Ptc1023, Ptc1522}
 use Rattle.em_latch.specs.declared.counter.Counter.TheVariants.{Gptc, Bptc, Mptc, Gotc}
-use Rattle.em_filter.specs.declared.kind.Kind.{Kind}
+use Rattle.em_address.specs.declared.kind.Kind.{Kind}
 use Rattle.em_step.specs.declared.counts.SizeClass.{SizeClass}
 use Rattle.em_step.specs.declared.counts.SizeClass.TheVariants.{Upto64, Upto127, Upto255, Upto511, Upto1023, Above1023}
-use Rattle.em_filter.specs.declared.kind.Kind.TheVariants.{Unicast, Multicast, Broadcast}
+use Rattle.em_address.specs.declared.kind.Kind.TheVariants.{Unicast, Multicast, Broadcast}
 
 -- the class of a frame by its octets on the wire, of which a frame that is counted has at least 64
 abbrev pub class_of : ℕ → SizeClass

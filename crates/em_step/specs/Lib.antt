@@ -5,13 +5,9 @@ pub mod Access
 pub mod Cells
 pub mod Counts
 pub mod Arrival
-pub mod Fate
 pub mod Engines
 pub mod Step
-pub mod Pieces
-pub mod Reached
 pub mod Whole
-pub mod Inert
 pub mod Undo
 pub mod Cost
 pub mod Before

@@ -1,13 +1,15 @@
 //! The adapter: its registers, its interrupt latches and the guest's memory.
 ghost use Rattle.std.specs.Prelude.{◌≡◌, ◌≢◌, ◌↔◌, ◌+◌, ◌<◌, ◌≤◌, ◌⊎◌};
 ghost use Rattle.std.specs.Prelude.{if◌then◌else◌, IsTrue, false, [], length, slice_get};
-ghost use Rattle.std.specs.Prelude.{IfOk, IfErr, OnOk, OnErr, IsErrOf};
+ghost use Rattle.std.specs.Prelude.{IfOk, IfErr, IfSome, IsNone, OnOk, OnErr, IsErrOf};
 ghost use Rattle.std.specs.Option.{option_map};
 ghost use Rattle.em_mem.specs.Memory.{IsHeld, IsMemorySize, part, put};
 ghost use Rattle.em_regs.specs.Table.{IsReg, row_of, offset_of, reg_at};
 ghost use Rattle.em_regs.specs.RegFile.{IsStored, OnlyStores};
 ghost use Rattle.em_latch.specs.Latches.{is_latched, IsLatched, IsAsserted};
 ghost use Rattle.em_eeprom.specs.Eeprom.{IsEeprom};
+ghost use Rattle.em_rx.specs.Fifo.{first};
+ghost use Rattle.em_rx.specs.StoredFrame.{LiesSo};
 ghost use Rattle.em_step.specs.State.{status};
 ghost use Rattle.em_step.specs.Access.{gives, after_write_by, after_eerd_write};
 ghost use Rattle.em_step.specs.Access.{is_reset_by, reset};
@@ -25,7 +27,7 @@ use em_eeprom::Eeprom;
 use em_latch::Latches;
 use em_mem::{GuestMemory, MemRefusal, MemUndo, Reversible, Spares, SparesByLen};
 use em_regs::{Causes, Ctrl, Eerd, Kind, Reg, RegFile, RegUndo, Status};
-use em_rx::{Fifo, FramePatch, RxUndo, StepPatch};
+use em_rx::{Fifo, FramePatch, RxUndo, StepPatch, StoredFrame};
 use em_tx::{Change, Gather, TxUndo, Wire, take_back};
 use std::alloc::{AllocError, Global};
 use std::marker::Model;
@@ -147,6 +149,14 @@ impl Adapter {
         ensures { result ≡ length (shows self.now).fifo.frames }
     {
         self.fifo.frames()
+    }
+
+    /// The first frame of the FIFO, as it lies there; none where no frame waits.
+    pub fn first_frame(&self) -> Option<StoredFrame<'_>>
+        ensures none { IsNone result ↔ (length (shows self.now).fifo.frames ≡ 0) }
+        ensures lies { IfSome result (LiesSo (first (shows self.now).fifo)) }
+    {
+        self.fifo.first_frame()
     }
 
     /// How many frames were sent.

@@ -8,7 +8,7 @@ ghost use Rattle.em_step.specs.Counts.{after_sent_count, after_sent_kind, after_
 ghost use Rattle.em_step.specs.Counts.{class_of, sent_counter, stored_counter};
 
 use bitflags::Flags;
-use em_filter::Kind;
+use em_address::Kind;
 use em_latch::{Counter, LatchUndo, Latches};
 use em_regs::Causes;
 

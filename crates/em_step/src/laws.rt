@@ -1,26 +1,19 @@
 //! What the definitions of steps and records say together.
-ghost use Rattle.std.specs.Prelude.{◌≡◌, ◌≢◌, ◌⊎◌, ◌+◌, ◌<◌, ◌≤◌, [], ◌∷◌, ℕ, true, false, All, List, None, Ok};
+ghost use Rattle.std.specs.Prelude.{◌≡◌, ◌≢◌, ◌⊎◌, ◌+◌, ◌≤◌, [], ◌∷◌, ℕ, true, false, All, List, None, Ok};
 ghost use Rattle.em_regs.specs.declared.reg.Reg.{Reg};
 ghost use Rattle.em_regs.specs.Table.{IsReg};
-ghost use Rattle.em_regs.specs.Storage.{Registers};
 ghost use Rattle.em_regs.specs.RegFile.{address_low, address_high, put_eerd};
 ghost use Rattle.em_regs.specs.Setup.{rx_setup, tx_setup, value_of};
 ghost use Rattle.em_eeprom.specs.Eeprom.{IsEeprom, mac_of};
 ghost use Rattle.em_filter.specs.Bits.{lpe, vme};
 ghost use Rattle.em_rx.specs.Frame.{Frame};
-ghost use Rattle.em_rx.specs.Pieces.{GoesInPieces, IsDelivered};
 ghost use Rattle.em_step.specs.State.{State, status};
 ghost use Rattle.em_step.specs.Access.{gives, reset, after_eeprom_read};
 ghost use Rattle.em_step.specs.Cells.{Cells, fresh, shows, MorePages};
 ghost use Rattle.em_step.specs.Undo.{Fits, undo};
 ghost use Rattle.em_step.specs.Event.{Event, arrives, receives, transmits};
-ghost use Rattle.em_step.specs.Arrival.{arrival};
-ghost use Rattle.em_step.specs.Fate.{IsFate};
-ghost use Rattle.em_step.specs.Inert.{AgreeInRules, Alike, IsNoRead};
 ghost use Rattle.em_step.specs.Step.{step};
 ghost use Rattle.em_step.specs.Whole.{Admits, IsPlain, IsWhole, KeepsAllButFifo, ReceivesWhole, SendsWhole};
-ghost use Rattle.em_step.specs.Pieces.{AreReceived};
-ghost use Rattle.em_step.specs.Reached.{IsReached};
 ghost use Rattle.em_step.specs.Cost.{cost, most_cost};
 ghost use Rattle.em_step.specs.declared.event.Answer.{Answer};
 ghost use Rattle.em_step.specs.declared.undo.Undo.{Undo};
@@ -55,29 +48,6 @@ pub fn a_new_adapter_is_reset()
     ensures { (size : ℕ) (eeprom : List ℕ) → shows (fresh size eeprom) ≡ reset (shows (fresh size eeprom)) }
 {}
 
-/// Each arrival has one fate: the conditions of its answer hold, and those of no other answer do.
-pub fn fates()
-    ensures one { (s : State) (f : List ℕ) → IsFate s f (arrival s f).0 }
-    ensures alone { (s : State) (f : List ℕ) (a : Answer) → IsFate s f a → (arrival s f).0 ≡ a }
-{}
-
-/// A frame that goes in j pieces is in its buffers after j receive steps with nothing between them:
-/// each piece in its own, as its descriptor says, and the frame has left the FIFO.
-pub fn pieces()
-    ensures { (s : State) (frame : Frame) (frames : List Frame) (j : ℕ) →
-        IsReached s →
-        GoesInPieces (rx_setup s.registers) s.memory frame j →
-        s.fifo ≡ record { frames = frame ∷ frames; taken = 0 } →
-        (t : State) × AreReceived j s t
-        × (t.fifo ≡ record { frames = frames; taken = 0 })
-        × ((i : ℕ) → i < j → IsDelivered (rx_setup s.registers) s.memory t.memory frame j i) }
-{}
-
-/// In every state that an adapter comes to, RDH can name each descriptor of the receive ring.
-pub fn rings_are_small()
-    ensures { (s : State) → IsReached s → (rx_setup s.registers).count ≤ 65_536 }
-{}
-
 /// Where each frame has one descriptor and lies whole in its buffer of 2,048 octets, with no VLAN tag:
 /// an arrival puts the frame as it is at the FIFO's end or drops it, a receive step takes the FIFO's
 /// first frame whole into its buffer, and a transmit step sends the packet of its descriptor, padded.
@@ -105,11 +75,4 @@ pub fn an_eeprom_stays()
     ensures stays { (s : State) (e : Event) (r : Answer × State) → step s e ≡ Ok r → r.1.eeprom ≡ s.eeprom }
     ensures above { (s : State) (a : ℕ) → IsEeprom s.eeprom → 64 ≤ a →
         after_eeprom_read s a ≡ record s { registers = put_eerd s.registers a 0 } }
-{}
-
-/// Registers and bits without a rule are inert: what they hold changes no answer of any event but a
-/// read's, no refusal, and nothing else that an event leaves. `AgreeInRules` lists those that have one.
-pub fn registers_without_a_rule_are_inert()
-    ensures { (s : State) (n : Registers) (e : Event) → AgreeInRules s.registers n → IsNoRead e
-        → Alike (step s e) (step (record s { registers = n }) e) }
 {}

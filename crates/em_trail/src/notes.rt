@@ -11,6 +11,10 @@ use std::mem;
 /// How many places there are at first.
 const FIRST_PLACES: usize = 64;
 
+/// How many times as many there are once they are full. All notes are copied then, so a smaller number costs more for
+/// each event.
+const TIMES: usize = 4;
+
 /// Notes, which are only added and taken at one end. Those that no record stands beside any more lie before the
 /// others, and go all at once when room is made: so an event only looks for room, and no note is moved.
 #[derive(Drop)]
@@ -62,7 +66,8 @@ impl Notes {
             self.older.clear();
             mem::swap(&mut self.older, &mut self.recent);
         }
-        self.recent.reserve(1)?;
+        let more = self.recent.len().saturating_mul(TIMES - 1);
+        self.recent.reserve(more.max(1))?;
         Ok(())
     }
 

@@ -1,7 +1,7 @@
 -- A transmit descriptor: 16 octets, of each field the lowest octet first.
 use Rattle.std.specs.Prelude.{ℕ, Bool, List, drop, slice_index}
 use Rattle.byteorder.specs.Endian.{little_number}
-use Rattle.em_filter.specs.Bits.{bit}
+use Rattle.em_regs.specs.Setup.{bit}
 
 -- the field of n octets from octet a on
 abbrev pub field : List ℕ → ℕ → ℕ → ℕ

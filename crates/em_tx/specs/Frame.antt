@@ -22,9 +22,9 @@ use Rattle.std.specs.Prelude.{
 }
 use Rattle.byteorder.specs.Endian.{big_bytes}
 use Rattle.em_regs.specs.declared.setup.TxSetup.{TxSetup}
-use Rattle.em_filter.specs.declared.kind.Kind.{Kind}
-use Rattle.em_filter.specs.declared.kind.Kind.TheVariants.{Unicast}
-use Rattle.em_filter.specs.Kind.{destination, kind_of}
+use Rattle.em_address.specs.declared.kind.Kind.{Kind}
+use Rattle.em_address.specs.declared.kind.Kind.TheVariants.{Unicast}
+use Rattle.em_address.specs.Kind.{destination, kind_of}
 use Rattle.em_tx.specs.Descriptor.{special, vle}
 
 -- the tag of n octets: VET and the descriptor's special, of each the higher octet first; none where VME is clear,

@@ -1,5 +1,5 @@
 //! What a step of the transmit engine answers.
-use em_filter::Kind;
+use em_address::Kind;
 
 /// What a step did. `index` is the descriptor that it handled, `next` the one after it in the ring,
 /// and `causes` the interrupt causes to raise.

@@ -21,7 +21,7 @@ use crate::refusal::TxRefusal;
 use crate::undo::TxUndo;
 use crate::wire::{Frames, Wire};
 use crate::{frame, ring};
-use em_filter::Kind;
+use em_address::Kind;
 use em_mem::GuestMemory;
 use em_regs::TxSetup;
 

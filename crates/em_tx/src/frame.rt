@@ -4,7 +4,7 @@ ghost use Rattle.std.specs.Prelude.{vec_len, vec_capacity};
 ghost use Rattle.em_tx.specs.Frame.{frame, frame_len, kind_sent, with_padding, tag_of, with_tag, without_tag};
 
 use crate::descriptor::TxDescriptor;
-use em_filter::{Kind, kind_of};
+use em_address::{Kind, kind_of};
 use em_regs::TxSetup;
 
 /// A tag lies between the addresses and the type of a frame.
@@ -124,7 +124,7 @@ fn pad(octets: &mut Vec<u8>, wanted: bool)
 }
 
 /// The kind of a sent frame's destination.
-#[tactic(auto, unfolding(crate::specs::Frame::kind_sent, em_filter::specs::Kind::destination))]
+#[tactic(auto, unfolding(crate::specs::Frame::kind_sent, em_address::specs::Kind::destination))]
 pub(crate) fn kind_sent(frame: &[u8]) -> Kind
     ensures { result ≡ kind_sent frame.now }
 {

@@ -1,5 +1,5 @@
 use Rattle.std.proofs.Common.{◌≡◌, ◌≤◌, take}
-use Rattle.em_driver.specs.Turn.{arrivals}
+use Rattle.em_turn.specs.Turn.{arrivals}
 use Rattle.em_driver.proofs.counting.arrivals_of.Given as goal
 
 abbrev pub invariant-loop-turn : goal.invariant-loop-turn

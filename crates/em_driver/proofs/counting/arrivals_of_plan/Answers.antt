@@ -1,6 +1,6 @@
 use Rattle.std.proofs.Common.{ap, arith}
-use Rattle.em_driver.specs.Planned.{planned}
-use Rattle.em_driver.specs.Turn.{arrivals, plan_arrivals, plan_turns}
+use Rattle.em_turn.specs.Planned.{planned}
+use Rattle.em_turn.specs.Turn.{arrivals, plan_arrivals, plan_turns}
 use Rattle.em_driver.proofs.CountLaws.{arrivals_least}
 use Rattle.em_driver.proofs.counting.arrivals_of_plan.Goals as goal
 

@@ -1,7 +1,7 @@
 use Rattle.std.proofs.Common.{◌≡◌, ◌+◌, ◌≤◌}
 use Rattle.std.specs.VecDeque.Iter.{deque_iter_rest}
-use Rattle.em_driver.specs.Planned.{planned}
-use Rattle.em_driver.specs.Turn.{plan_arrivals, plan_turns}
+use Rattle.em_turn.specs.Planned.{planned}
+use Rattle.em_turn.specs.Turn.{plan_arrivals, plan_turns}
 use Rattle.em_driver.proofs.counting.arrivals_of_plan.Given as goal
 
 abbrev pub invariant-loop-turns : goal.invariant-loop-turns

@@ -1,6 +1,6 @@
 use Rattle.std.proofs.Common.{◌∙◌, ◌∷◌, ◌++◌, [], length, arith, sym, ap, append_assoc}
 use Rattle.std.specs.Vec.Iter.{into_iter_items}
-use Rattle.em_driver.specs.Turn.{arrivals}
+use Rattle.em_turn.specs.Turn.{arrivals}
 use Rattle.em_driver.specs.Taking.{world_with}
 use Rattle.em_driver.proofs.TakingLaws.{performed_more, refused_more}
 use Rattle.em_driver.proofs.taking.take_all.Goals as goal

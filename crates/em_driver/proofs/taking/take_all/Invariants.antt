@@ -1,7 +1,7 @@
 use Rattle.std.proofs.Common.{◌≡◌, ◌+◌, ◌≤◌, ◌++◌, length, vec_len, vec_capacity}
 use Rattle.std.specs.Vec.Iter.{into_iter_items}
 use Rattle.em_driver.specs.Taking.{world_with}
-use Rattle.em_driver.specs.Turn.{arrivals}
+use Rattle.em_turn.specs.Turn.{arrivals}
 use Rattle.em_driver.specs.World.{after_turns}
 use Rattle.em_driver.proofs.taking.take_all.Given as goal
 

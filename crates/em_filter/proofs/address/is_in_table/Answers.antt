@@ -1,7 +1,7 @@
 use Rattle.std.proofs.Common.{rules, tests, refl, ◌∙◌, sym}
 use Rattle.std.proofs.lemmas.Iterator.{YieldsList-from_range}
 use Rattle.std.proofs.lemmas.Iterator.Search.{any_from_yields_List}
-use Rattle.em_filter.specs.Kind.{destination}
+use Rattle.em_address.specs.Kind.{destination}
 use Rattle.em_filter.specs.Address.{is_entry_at}
 use Rattle.em_filter.proofs.TableLaws.{in_table_by_entry}
 use Rattle.em_filter.proofs.address.is_in_table.Goals as goal

@@ -1,4 +1,4 @@
-use Rattle.em_driver.specs.Receive.{lists}
+use Rattle.em_turn.specs.Planned.{lists}
 use Rattle.em_script.proofs.CallingLemmas.{sent}
 use Rattle.em_script.proofs.calling.send.Goals as goal
 

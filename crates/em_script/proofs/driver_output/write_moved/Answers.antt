@@ -1,5 +1,5 @@
 use Rattle.std.proofs.Common.{refl}
-use Rattle.em_driver.specs.Receive.{lists}
+use Rattle.em_turn.specs.Planned.{lists}
 use Rattle.em_script.specs.DriverAnswer.{result_outcome, result_text}
 use Rattle.em_script.specs.Wire.{frames_text}
 use Rattle.em_script.proofs.PrintLemmas.{prints_part}

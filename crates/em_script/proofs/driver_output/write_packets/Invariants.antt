@@ -1,6 +1,6 @@
 use Rattle.std.proofs.Common.{◌++◌}
 use Rattle.em_text.proofs.WritingLemmas.{WroteFront}
-use Rattle.em_driver.specs.Receive.{lists}
+use Rattle.em_turn.specs.Planned.{lists}
 use Rattle.em_script.specs.Wire.{frames_text}
 use Rattle.em_script.proofs.driver_output.write_packets.Given as goal
 

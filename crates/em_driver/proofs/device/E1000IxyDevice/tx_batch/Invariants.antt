@@ -1,5 +1,5 @@
 use Rattle.std.proofs.Common.{◌≡◌, ◌-◌, ◌≤◌, ◌<◌}
-use Rattle.em_driver.specs.Receive.{lists}
+use Rattle.em_turn.specs.Planned.{lists}
 use Rattle.em_driver.proofs.TransmitLaws.{Going}
 use Rattle.em_driver.proofs.device.E1000IxyDevice.tx_batch.Given as goal
 

@@ -1,5 +1,5 @@
 use Rattle.std.proofs.Common.{ap, subst, true}
-use Rattle.em_driver.specs.Planned.{planned}
+use Rattle.em_turn.specs.Planned.{planned}
 use Rattle.em_driver.specs.Taking.{world_with}
 use Rattle.em_driver.specs.World.{World, Passes}
 use Rattle.em_driver.proofs.PassLaws.{pass_whole, pass_starved, planning}

@@ -1,7 +1,7 @@
 use Rattle.std.proofs.Common.{sym, subst}
 use Rattle.em_step.specs.Event.{pokes}
 use Rattle.em_step.specs.declared.event.Answer.TheVariants.{Done}
-use Rattle.em_driver.specs.Planned.{planned}
+use Rattle.em_turn.specs.Planned.{planned}
 use Rattle.em_driver.specs.Taking.{world_with}
 use Rattle.em_driver.specs.World.{World, Passes}
 use Rattle.em_driver.proofs.PassLaws.{planning, passed_access, on_ok}

@@ -1,0 +1,120 @@
+-- What is wrong with a descriptor.
+use Rattle.std.specs.Prelude.{ℕ, ◌+◌, ◌==◌, ◌&&◌, nat_lt, not, if◌then◌else◌, Bool, true, false, List, length, find}
+use Rattle.std.specs.Prelude.{Option, Some, None}
+use Rattle.std.specs.Option.{option_map, option_map_or}
+use Rattle.std.specs.List.{range_with_len}
+use Rattle.em_regs.specs.Setup.{bit}
+use Rattle.em_inspect.specs.declared.ring.Side.{Side}
+use Rattle.em_inspect.specs.declared.ring.Side.TheVariants.{Receive, Transmit}
+use Rattle.em_inspect.specs.declared.ring.Owner.{Owner}
+use Rattle.em_inspect.specs.declared.ring.Owner.TheVariants.{Adapter, Driver}
+use Rattle.em_inspect.specs.declared.ring.Ring.{Ring}
+use Rattle.em_inspect.specs.declared.descriptor.Bits.{Bits}
+use Rattle.em_inspect.specs.declared.descriptor.Bits.TheVariants.{Rx, Tx}
+use Rattle.em_inspect.specs.declared.descriptor.Fields.{Fields}
+use Rattle.em_inspect.specs.declared.descriptor.Descriptor.{Descriptor}
+use Rattle.em_inspect.specs.declared.extent.Extent.{Extent}
+use Rattle.em_inspect.specs.declared.trouble.Trouble.{Trouble}
+use Rattle.em_inspect.specs.declared.trouble.Trouble.TheVariants.{
+  Outside,
+  Extended,
+  NoLength,
+  TooLong,
+  BufferOutside,
+  OverRing,
+  OverBuffer,
+}
+use Rattle.em_inspect.specs.Extent.{overlaps}
+use Rattle.em_inspect.specs.Ring.{descriptor_at, extent_of, fields_at, owner_of}
+
+-- DEXT, bit 5 of a transmit descriptor's command: the extended format
+abbrev pub is_extended : Bits → Bool
+is_extended (Rx status errors) = false
+is_extended (Tx command status) = bit command 5
+
+-- the adapter will use a descriptor's buffer, or has written to it (DD, bit 0 of a receive descriptor's status) and the
+-- driver has not taken it
+abbrev pub is_live : Owner → Bits → Bool
+is_live Adapter bits = true
+is_live Driver (Rx status errors) = bit status 0
+is_live Driver (Tx command status) = false
+
+-- how many octets a descriptor's buffer has
+abbrev pub size_of : Side → Fields → ℕ
+size_of (Receive size) f = size
+size_of Transmit f = f.length
+
+abbrev pub buffer_of : Side → Fields → Extent
+buffer_of side f = record { at = f.buffer; size = size_of side f }
+
+-- the buffer of descriptor i, where that is live and has one
+abbrev pub claimed : Ring → ℕ → Fields → Option Extent
+claimed r i f =
+    if is_live (owner_of r i) f.bits && not (is_extended f.bits) then Some (buffer_of r.side f) else None
+
+abbrev pub claim_in : Ring → ℕ → Option Fields → Option Extent
+claim_in r i None = None
+claim_in r i (Some f) = claimed r i f
+
+abbrev pub claim_of : Ring → List ℕ → ℕ → Option Extent
+claim_of r memory i = claim_in r i (fields_at r memory i)
+
+-- descriptor j is another one than i, whose buffer lies over this one
+abbrev pub is_over : Ring → List ℕ → ℕ → Extent → ℕ → Bool
+is_over r memory i buffer j =
+    if j == i then false else option_map_or (overlaps buffer) (claim_of r memory j) false
+
+-- the lowest such
+abbrev pub lowest_over : Ring → List ℕ → ℕ → Extent → Option ℕ
+lowest_over r memory i buffer = find (is_over r memory i buffer) (range_with_len 0 r.count)
+
+-- ---- in the order in which they are told
+
+-- what a transmit descriptor's format and length have against it
+abbrev pub sent_trouble : Fields → Option Trouble
+sent_trouble f =
+    if is_extended f.bits then Some Extended
+    else if f.length == 0 then Some NoLength
+    else if nat_lt 16380 f.length then Some TooLong
+    else None
+
+abbrev pub format_trouble : Side → Fields → Option Trouble
+format_trouble (Receive size) f = None
+format_trouble Transmit f = sent_trouble f
+
+-- what is wrong with the buffer of descriptor i
+abbrev pub buffer_trouble : Ring → List ℕ → ℕ → Extent → Option Trouble
+buffer_trouble r memory i buffer =
+    if nat_lt (length memory) (buffer.at + buffer.size) then Some BufferOutside
+    else if overlaps buffer (extent_of r) then Some OverRing
+    else option_map OverBuffer (lowest_over r memory i buffer)
+
+-- the first, or else the second
+abbrev pub or_else : Option Trouble → Option Trouble → Option Trouble
+or_else None trouble = trouble
+or_else (Some trouble) _ = Some trouble
+
+-- what is wrong with a live descriptor
+abbrev pub live_trouble : Ring → List ℕ → ℕ → Fields → Option Trouble
+live_trouble r memory i f =
+    or_else (format_trouble r.side f) (buffer_trouble r memory i (buffer_of r.side f))
+
+abbrev pub trouble_in : Ring → List ℕ → ℕ → Option Fields → Option Trouble
+trouble_in r memory i None = Some Outside
+trouble_in r memory i (Some f) = if is_live (owner_of r i) f.bits then live_trouble r memory i f else None
+
+-- what is wrong with descriptor i first
+abbrev pub trouble_of : Ring → List ℕ → ℕ → Option Trouble
+trouble_of r memory i = trouble_in r memory i (fields_at r memory i)
+
+-- descriptor i
+abbrev pub descriptor_in : Ring → List ℕ → ℕ → Descriptor
+descriptor_in r memory i = record {
+  index = i;
+  address = descriptor_at r i;
+  owner = owner_of r i;
+  is_head = i == r.head;
+  is_tail = i == r.tail;
+  fields = fields_at r memory i;
+  trouble = trouble_of r memory i;
+}

@@ -1,0 +1,192 @@
+//! What is wrong with a descriptor.
+ghost use Rattle.std.specs.Prelude.{◌≡◌, find};
+ghost use Rattle.std.specs.List.{range_with_len};
+ghost use Rattle.em_inspect.specs.Ring.{extent_of};
+ghost use Rattle.em_inspect.specs.Trouble.{buffer_trouble, claim_of, descriptor_in, format_trouble, is_extended};
+ghost use Rattle.em_inspect.specs.Trouble.{buffer_of, is_live, is_over, live_trouble, lowest_over, trouble_of};
+
+use crate::descriptor::{Bits, Descriptor, Fields};
+use crate::extent::Extent;
+use crate::ring::{Owner, Ring, Side};
+use em_journal::Machine;
+
+/// The most octets of a transmit buffer that the adapter takes (this project's profile).
+const MOST_LENGTH: u16 = 16_380;
+
+/// DD of a receive descriptor's status, and DEXT of a transmit descriptor's command.
+const DD: u8 = 0x01;
+
+const DEXT: u8 = 0x20;
+
+/// What is wrong with a descriptor.
+#[derive(Clone, Copy, Debug, PartialEq, Eq)]
+pub enum Trouble {
+    /// It lies outside guest memory.
+    Outside,
+    /// It is a transmit descriptor of the extended format (DEXT), which the adapter refuses (this project's profile).
+    Extended,
+    /// It is a transmit descriptor, and has no octets to send.
+    NoLength,
+    /// It is a transmit descriptor, and has more than 16,380 octets to send (this project's profile). What earlier
+    /// buffers of its frame have is not counted.
+    TooLong,
+    /// Its buffer lies outside guest memory, or part of it does.
+    BufferOutside,
+    /// Its buffer lies over the ring's own descriptors.
+    OverRing,
+    /// Its buffer lies over that of another descriptor of the ring, which has this index, the lowest such.
+    OverBuffer(u32),
+}
+
+impl Ring {
+    /// The descriptor at an index, with what is wrong with it.
+    ///
+    /// Only the buffers of live descriptors count: of those that are the adapter's, and of those of the receive ring
+    /// that it has written back (DD) and the driver has not taken. It looks at each descriptor of the ring.
+    pub fn descriptor(&self, machine: &Machine, index: u32) -> Descriptor
+        ensures { result ≡ descriptor_in self.now machine.now.present.memory index }
+    {
+        Descriptor {
+            index,
+            address: self.address(index),
+            owner: self.owner(index),
+            is_head: index == self.head,
+            is_tail: index == self.tail,
+            fields: self.fields(machine, index),
+            trouble: self.trouble(machine, index),
+        }
+    }
+
+    fn trouble(&self, machine: &Machine, index: u32) -> Option<Trouble>
+        ensures { result ≡ trouble_of self.now machine.now.present.memory index }
+    {
+        let Some(fields) = self.fields(machine, index) else {
+            return Some(Trouble::Outside);
+        };
+        if !self.owner(index).is_live(&fields.bits) {
+            return None;
+        }
+        self.live_trouble(machine, index, &fields)
+    }
+
+    /// What is wrong with a live descriptor.
+    fn live_trouble(&self, machine: &Machine, index: u32, fields: &Fields) -> Option<Trouble>
+        ensures { result ≡ live_trouble self.now machine.now.present.memory index fields.now }
+    {
+        match self.side.format_trouble(fields) {
+            Some(trouble) => Some(trouble),
+            None => self.buffer_trouble(machine, index, &self.side.buffer(fields)),
+        }
+    }
+
+    /// What is wrong with the buffer of a descriptor.
+    fn buffer_trouble(&self, machine: &Machine, index: u32, buffer: &Extent) -> Option<Trouble>
+        ensures { result ≡ buffer_trouble self.now machine.now.present.memory index buffer.now }
+    {
+        if u128::from(machine.memory_size()) < buffer.end() {
+            return Some(Trouble::BufferOutside);
+        }
+        if buffer.overlaps(&self.extent()) {
+            return Some(Trouble::OverRing);
+        }
+        match self.lowest_over(machine, index, buffer) {
+            Some(other) => Some(Trouble::OverBuffer(other)),
+            None => None,
+        }
+    }
+
+    /// Where the ring's descriptors lie.
+    fn extent(&self) -> Extent
+        ensures { result ≡ extent_of self.now }
+    {
+        Extent {
+            at: self.base,
+            size: 16 * u64::from(self.count),
+        }
+    }
+
+    /// The lowest descriptor whose buffer lies over that of the one at an index.
+    fn lowest_over(&self, machine: &Machine, index: u32, buffer: &Extent) -> Option<u32>
+        ensures { result ≡ lowest_over self.now machine.now.present.memory index buffer.now }
+    {
+        (0..self.count).find(|other| self.is_over(machine, index, buffer, *other))
+    }
+
+    /// Whether the buffer of another descriptor lies over that of the one at an index.
+    fn is_over(&self, machine: &Machine, index: u32, buffer: &Extent, other: u32) -> bool
+        ensures { result ≡ is_over self.now machine.now.present.memory index buffer.now other }
+    {
+        if other == index {
+            return false;
+        }
+        match self.claim(machine, other) {
+            Some(claim) => buffer.overlaps(&claim),
+            None => false,
+        }
+    }
+
+    /// The buffer of a live descriptor; none where it is not live, or has none.
+    fn claim(&self, machine: &Machine, index: u32) -> Option<Extent>
+        ensures { result ≡ claim_of self.now machine.now.present.memory index }
+    {
+        let fields = self.fields(machine, index)?;
+        if self.owner(index).is_live(&fields.bits) && !fields.bits.is_extended() {
+            Some(self.side.buffer(&fields))
+        } else {
+            None
+        }
+    }
+}
+
+impl Owner {
+    /// Whether the buffer of a descriptor counts that is this one's.
+    fn is_live(&self, bits: &Bits) -> bool
+        ensures { result ≡ is_live self.now bits.now }
+    {
+        match (self, bits) {
+            (Owner::Adapter, _) => true,
+            (Owner::Driver, Bits::Rx { status, .. }) => *status / DD % 2 == 1,
+            (Owner::Driver, Bits::Tx { .. }) => false,
+        }
+    }
+}
+
+impl Bits {
+    /// Whether they are those of the extended format.
+    fn is_extended(&self) -> bool
+        ensures { result ≡ is_extended self.now }
+    {
+        match self {
+            Bits::Rx { .. } => false,
+            Bits::Tx { command, .. } => *command / DEXT % 2 == 1,
+        }
+    }
+}
+
+impl Side {
+    /// The buffer of a descriptor.
+    fn buffer(&self, fields: &Fields) -> Extent
+        ensures { result ≡ buffer_of self.now fields.now }
+    {
+        Extent {
+            at: fields.buffer,
+            size: match self {
+                Side::Receive(size) => u64::from(*size),
+                Side::Transmit => u64::from(fields.length),
+            },
+        }
+    }
+
+    /// What is wrong with a descriptor but for where its buffer lies.
+    fn format_trouble(&self, fields: &Fields) -> Option<Trouble>
+        ensures { result ≡ format_trouble self.now fields.now }
+    {
+        match self {
+            Side::Receive(_) => None,
+            Side::Transmit if fields.bits.is_extended() => Some(Trouble::Extended),
+            Side::Transmit if fields.length == 0 => Some(Trouble::NoLength),
+            Side::Transmit if fields.length > MOST_LENGTH => Some(Trouble::TooLong),
+            Side::Transmit => None,
+        }
+    }
+}

@@ -1,5 +1,0 @@
-use Rattle.em_step.proofs.PieceLaws.{pieces}
-use Rattle.em_step.proofs.laws.pieces.Goals as goal
-
-pub returns : goal.returns
-returns c = pieces

@@ -1,5 +1,0 @@
-use Rattle.em_step.proofs.InertLaws.{alike}
-use Rattle.em_step.proofs.laws.registers_without_a_rule_are_inert.Goals as goal
-
-pub returns : goal.returns
-returns c = alike

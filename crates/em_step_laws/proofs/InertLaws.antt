@@ -1,0 +1,395 @@
+-- No event goes by registers and bits that have no rule.
+use Rattle.std.proofs.Common.{◌≡◌, ◌∙◌, ◌==◌, ◌&&◌, ◌||◌, ℕ, ◌+◌, ◌*◌, ◌/◌, ◌%◌, ◌^◌, Bool, true, false, not}
+use Rattle.std.proofs.Common.{List, [], ◌∷◌, length, map, filter, refl, sym, ap, subst, Option, Some, None, Ok, Err}
+use Rattle.std.proofs.Common.{Result, cond, if◌then◌else◌, slice_index, nat_le, nat_lt}
+use Rattle.std.specs.Prelude.{bit_and}
+use Rattle.std.specs.FinMap.{insert}
+use Rattle.std.specs.Ordering.{nat_cmp, eq_by_cmp}
+use Rattle.std.specs.List.{list_any, range_with_len}
+use Rattle.em_mem.specs.Memory as memory
+use Rattle.em_regs.specs.declared.reg.Reg.{Reg}
+use Rattle.em_regs.specs.declared.reg.Reg.TheVariants.{Ctrl, Eerd, Rctl, Vet, Rdbal, Rdbah, Rdlen, Rdh, Rdt}
+use Rattle.em_regs.specs.declared.reg.Reg.TheVariants.{Tctl, Tdbal, Tdbah, Tdlen, Tdh, Tdt, Mta, Ral, Rah, Vfta}
+use Rattle.em_regs.specs.RegFile as registers
+use Rattle.em_regs.specs.RegFile.{at}
+use Rattle.em_regs.specs.Setup.{has, rx_setup, tx_setup, value_of}
+use Rattle.em_regs.specs.Storage.{Registers}
+use Rattle.em_regs.specs.Table.{mask_of, offset_of, reg_at, row_of}
+use Rattle.em_regs.specs.declared.table.Kind.{Kind}
+use Rattle.em_regs.specs.declared.table.Kind.TheVariants.{Stored as StoredKind, Control, EepromRead, Status, Interrupt, Counter}
+use Rattle.em_regs.proofs.Entries.{at-insert}
+use Rattle.em_latch.specs.Latches as latches
+use Rattle.em_eeprom.specs.Eeprom.{mac_of, word_at}
+use Rattle.em_filter.specs.Address.{accepts, is_in_table}
+use Rattle.em_filter.specs.Bits.{bam, rctl}
+use Rattle.em_regs.specs.Setup.{bit}
+use Rattle.em_filter.specs.Filters.{verdict}
+use Rattle.em_address.specs.Kind.{destination, is_broadcast, is_group, is_unicast, kind_of}
+use Rattle.em_filter.specs.Vlan.{passes_vlan, tag_of, tagged, type_of}
+use Rattle.em_address.specs.declared.kind.Kind.{Kind as Destination}
+use Rattle.em_filter.specs.declared.outcome.Verdict.{Verdict}
+use Rattle.em_filter.specs.declared.outcome.Verdict.TheVariants as outcome
+use Rattle.em_rx.specs.Fifo.{after_arrival, octets_in}
+use Rattle.em_rx.specs.Frame.{Frame, len_of, stored_frame}
+use Rattle.em_rx.specs.Receive as rx
+use Rattle.em_rx.specs.declared.receive.RxAnswer.{RxAnswer}
+use Rattle.em_rx.specs.declared.receive.RxAnswer.TheVariants as rx_answer
+use Rattle.em_rx.specs.declared.refusal.RxRefusal.{RxRefusal}
+use Rattle.em_tx.specs.Cells.{Shown}
+use Rattle.em_tx.specs.Engine as tx
+use Rattle.em_tx.specs.declared.answer.TxAnswer.{TxAnswer}
+use Rattle.em_tx.specs.declared.answer.TxAnswer.TheVariants as tx_answer
+use Rattle.em_tx.specs.declared.refusal.TxRefusal.{TxRefusal}
+use Rattle.em_step.specs.Access.{after_eeprom_read, after_link, after_store, after_write, after_write_by, differ}
+use Rattle.em_step.specs.Access.{eerd_address, is_reset_by, reset}
+use Rattle.em_step.specs.Access as access
+use Rattle.em_step.specs.Arrival.{admission, arrival, is_enabled, judgement}
+use Rattle.em_step.specs.Counts.{after_buffer_count, after_frame_count, after_miss_count}
+use Rattle.em_step.specs.Engines.{after_rx_answer, after_tx_answer, rx_step, rx_stepped, sending, tx_step, tx_stepped}
+use Rattle.em_step.specs.Engines.{with_outcome, with_shown}
+use Rattle.em_step.specs.Event.{Event, reads, writes, pokes, arrives, links, receives, transmits}
+use Rattle.em_step_laws.specs.Inert.{AgreeInRules, Alike, IsNoRead}
+use Rattle.em_step.specs.State.{State}
+use Rattle.em_step.specs.Step.{at_register, step}
+use Rattle.em_step.specs.declared.event.Answer.{Answer}
+use Rattle.em_step.specs.declared.event.Answer.TheVariants.{Done, Stored, Dropped}
+use Rattle.em_step.specs.declared.event.Reason.TheVariants.{Down, Disabled, Missed}
+use Rattle.em_step.specs.declared.refusal.Refusal.TheVariants.{Range, Length}
+
+-- the state with other registers
+abbrev with_registers : State → Registers → State
+with_registers s n = record s { registers = n }
+
+agree_same : (m : Registers) → AgreeInRules m m
+agree_same m = record {
+  vme = refl;
+  en = refl;
+  upe = refl;
+  mpe = refl;
+  lpe = refl;
+  rdmts = refl;
+  mo = refl;
+  bam = refl;
+  bsize = refl;
+  vfe = refl;
+  bsex = refl;
+  tx_en = refl;
+  psp = refl;
+  vet = refl;
+  rdbal = refl;
+  rdbah = refl;
+  rdlen = refl;
+  rdh = refl;
+  rdt = refl;
+  tdbal = refl;
+  tdbah = refl;
+  tdlen = refl;
+  tdh = refl;
+  tdt = refl;
+  mta = λ i. refl;
+  ral = λ i. refl;
+  rah = λ i. refl;
+  vfta = λ i. refl;
+}
+
+-- ---- the same write to both
+
+chosen : {X : Type 0} (g : ℕ → X) (b : Bool) (v x y : ℕ) → g y ≡ g x → g (cond b v y) ≡ g (cond b v x)
+chosen g true v x y h = refl
+chosen g false v x y h = h
+
+-- what is read of a word stays the same
+kept : {X : Type 0} (g : ℕ → X) (m n : Registers) (o v q : ℕ) → g (at n q) ≡ g (at m q)
+    → g (at (insert n o v) q) ≡ g (at (insert m o v) q)
+kept g m n o v q h =
+    ap g (at-insert n o v q) ∙ chosen g (eq_by_cmp nat_cmp q o) v (at m q) (at n q) h ∙ sym (ap g (at-insert m o v q))
+
+agree_on : (m n : Registers) (o v : ℕ) → AgreeInRules m n → AgreeInRules (insert m o v) (insert n o v)
+agree_on m n o v h =
+    let whole = λ (reg : Reg) (e : value_of n reg ≡ value_of m reg). kept (λ x. x) m n o v (offset_of reg) e in
+    record {
+      vme = kept (λ x. has x (2 ^ 30)) m n o v (offset_of Ctrl) h.vme;
+      en = kept (λ x. has x 0x2) m n o v (offset_of Rctl) h.en;
+      upe = kept (λ x. has x (2 ^ 3)) m n o v (offset_of Rctl) h.upe;
+      mpe = kept (λ x. has x (2 ^ 4)) m n o v (offset_of Rctl) h.mpe;
+      lpe = kept (λ x. has x (2 ^ 5)) m n o v (offset_of Rctl) h.lpe;
+      rdmts = kept (λ x. x / 2 ^ 8 % 4) m n o v (offset_of Rctl) h.rdmts;
+      mo = kept (λ x. x / 2 ^ 12 % 4) m n o v (offset_of Rctl) h.mo;
+      bam = kept (λ x. has x (2 ^ 15)) m n o v (offset_of Rctl) h.bam;
+      bsize = kept (λ x. x / 2 ^ 16 % 4) m n o v (offset_of Rctl) h.bsize;
+      vfe = kept (λ x. has x (2 ^ 18)) m n o v (offset_of Rctl) h.vfe;
+      bsex = kept (λ x. has x 0x0200_0000) m n o v (offset_of Rctl) h.bsex;
+      tx_en = kept (λ x. has x 0x2) m n o v (offset_of Tctl) h.tx_en;
+      psp = kept (λ x. has x 0x8) m n o v (offset_of Tctl) h.psp;
+      vet = whole Vet h.vet;
+      rdbal = whole Rdbal h.rdbal;
+      rdbah = whole Rdbah h.rdbah;
+      rdlen = whole Rdlen h.rdlen;
+      rdh = whole Rdh h.rdh;
+      rdt = whole Rdt h.rdt;
+      tdbal = whole Tdbal h.tdbal;
+      tdbah = whole Tdbah h.tdbah;
+      tdlen = whole Tdlen h.tdlen;
+      tdh = whole Tdh h.tdh;
+      tdt = whole Tdt h.tdt;
+      mta = λ i. whole (Mta i) (h.mta i);
+      ral = λ i. whole (Ral i) (h.ral i);
+      rah = λ i. whole (Rah i) (h.rah i);
+      vfta = λ i. whole (Vfta i) (h.vfta i);
+    }
+
+-- ---- what goes by the registers
+
+rx_same : (m n : Registers) → AgreeInRules m n → rx_setup n ≡ rx_setup m
+rx_same m n h = λ i. record {
+  enabled = h.en i;
+  base = h.rdbah i * 2 ^ 32 + h.rdbal i;
+  count = h.rdlen i / 16;
+  head = h.rdh i;
+  tail = h.rdt i;
+  buffer = if h.bsex i then slice_index (2048 ∷ 16384 ∷ 8192 ∷ 4096 ∷ []) (h.bsize i)
+      else slice_index (2048 ∷ 1024 ∷ 512 ∷ 256 ∷ []) (h.bsize i);
+  threshold = slice_index
+      (h.rdlen i / 16 / 2 ∷ h.rdlen i / 16 / 4 ∷ h.rdlen i / 16 / 8 ∷ h.rdlen i / 16 / 8 ∷ []) (h.rdmts i);
+}
+
+tx_same : (m n : Registers) → AgreeInRules m n → tx_setup n ≡ tx_setup m
+tx_same m n h = λ i. record {
+  enabled = h.tx_en i;
+  pad = h.psp i;
+  base = h.tdbah i * 2 ^ 32 + h.tdbal i;
+  count = h.tdlen i / 16;
+  head = h.tdh i;
+  tail = h.tdt i;
+  vlan = if h.vme i then Some (h.vet i % 2 ^ 16) else None;
+}
+
+table_same : (m n : Registers) (a : ℕ) → AgreeInRules m n → is_in_table n a ≡ is_in_table m a
+unfolding is_in_table
+table_same m n a h = λ i.
+    list_any (λ b. b == a)
+    (map (λ k. h.ral k i + 2 ^ 32 * (h.rah k i % 2 ^ 16))
+    (filter (λ k. has (h.rah k i) (2 ^ 31) && h.rah k i / 2 ^ 16 % 4 == 0) (range_with_len 0 16)))
+
+accepts_same : (m n : Registers) (a : ℕ) → AgreeInRules m n → accepts n a ≡ accepts m a
+unfolding accepts
+accepts_same m n a h = λ i.
+    let hash : ℕ = a / 2 ^ (slice_index (36 ∷ 35 ∷ 34 ∷ 32 ∷ []) (h.mo i)) % 4096 in
+    table_same m n a h i || (is_unicast (kind_of a) && h.upe i) || (is_group (kind_of a) && h.mpe i)
+    || (is_broadcast (kind_of a) && h.bam i)
+    || (is_group (kind_of a) && bit (h.mta (hash / 32) i) (hash % 32))
+
+vlan_same : (m n : Registers) (f : List ℕ) → AgreeInRules m n → passes_vlan n f ≡ passes_vlan m f
+unfolding passes_vlan
+vlan_same m n f h = λ i.
+    let vid : ℕ = tag_of f % 4096 in
+    not (h.vfe i && (nat_le 16 (length f) && type_of f == h.vet i) && not (bit (h.vfta (vid / 32) i) (vid % 32)))
+
+verdict_same : (m n : Registers) (f : List ℕ) → AgreeInRules m n → verdict n f ≡ verdict m f
+unfolding verdict
+verdict_same m n f h = λ i.
+    if not (accepts_same m n (destination f) h i) then outcome.Reject
+    else if nat_lt (length f + 4) 64 then outcome.Undersize
+    else if nat_lt (if h.lpe i then 16384 else 1522) (length f + 4) then outcome.Oversize
+    else if not (vlan_same m n f h i) then outcome.Reject
+    else outcome.Accept (kind_of (destination f))
+
+tagged_same : (m n : Registers) (f : List ℕ) → AgreeInRules m n → tagged n f ≡ tagged m f
+unfolding tagged
+tagged_same m n f h = λ i. h.vme i && (nat_le 16 (length f) && type_of f == h.vet i)
+
+-- ---- an access, and a change of the link
+
+alike_state : (s : State) (n : Registers) (answer : Answer) → AgreeInRules s.registers n
+    → Alike (Ok (answer, s)) (Ok (answer, with_registers s n))
+alike_state s n answer h = (refl, (n, refl, h))
+
+store_alike : (s : State) (n : Registers) (reg : Reg) (v : ℕ) → AgreeInRules s.registers n
+    → Alike (Ok (Done, after_store s reg v)) (Ok (Done, after_store (with_registers s n) reg v))
+store_alike s n reg v h =
+    (refl, (registers.put n reg v, refl, agree_on s.registers n (offset_of reg) (bit_and v (mask_of reg)) h))
+
+eerd_alike : (s : State) (n : Registers) (v : ℕ) (start : Bool) → AgreeInRules s.registers n
+    → Alike (Ok (Done, if start then after_eeprom_read s (eerd_address v) else after_store s Eerd v))
+    (Ok (
+      Done,
+      if start then after_eeprom_read (with_registers s n) (eerd_address v)
+          else after_store (with_registers s n) Eerd v,
+    ))
+eerd_alike s n v true h =
+    let a : ℕ = eerd_address v in
+    let word : ℕ = registers.eerd_value a (word_at s.eeprom a) in
+    (refl, (insert n (offset_of Eerd) word, refl, agree_on s.registers n (offset_of Eerd) word h))
+eerd_alike s n v false h = store_alike s n Eerd v h
+
+control_alike : (s : State) (n : Registers) (reg : Reg) (v : ℕ) (resets : Bool) → AgreeInRules s.registers n
+    → Alike (Ok (Done, if resets then reset s else after_store s reg v))
+    (Ok (Done, if resets then reset (with_registers s n) else after_store (with_registers s n) reg v))
+control_alike s n reg v true h =
+    (refl, (registers.reset (mac_of s.eeprom), refl, agree_same (registers.reset (mac_of s.eeprom))))
+control_alike s n reg v false h = store_alike s n reg v h
+
+-- by the kind of the register's row
+write_by : (s : State) (n : Registers) (reg : Reg) (v : ℕ) (kind : Kind) → AgreeInRules s.registers n
+    → Alike (Ok (Done, after_write_by kind s reg v)) (Ok (Done, after_write_by kind (with_registers s n) reg v))
+write_by s n reg v StoredKind h = store_alike s n reg v h
+write_by s n reg v Control h = control_alike s n reg v (is_reset_by Control v) h
+write_by s n reg v EepromRead h = eerd_alike s n v (access.has v 0x1) h
+write_by s n reg v Status h = alike_state s n Done h
+write_by s n reg v Interrupt h = (refl, (n, refl, h))
+write_by s n reg v Counter h = (refl, (n, refl, h))
+
+write_alike : (s : State) (n : Registers) (reg : Reg) (v : ℕ) → AgreeInRules s.registers n
+    → Alike (Ok (Done, after_write s reg v)) (Ok (Done, after_write (with_registers s n) reg v))
+write_alike s n reg v h = write_by s n reg v (row_of reg).kind h
+
+written_by : (s : State) (n : Registers) (v : ℕ) (there : Option Reg) → AgreeInRules s.registers n
+    → Alike (at_register there (λ reg. (Done, after_write s reg v)))
+    (at_register there (λ reg. (Done, after_write (with_registers s n) reg v)))
+written_by s n v None h = refl
+written_by s n v (Some reg) h = write_alike s n reg v h
+
+linked_by : (s : State) (n : Registers) (up changes : Bool) → AgreeInRules s.registers n
+    → Alike (Ok (Done, if changes then record s { link = up; latches = latches.after_raise s.latches 0x4 } else s))
+    (Ok (
+      Done,
+      if changes then record (with_registers s n) { link = up; latches = latches.after_raise s.latches 0x4 }
+          else with_registers s n,
+    ))
+linked_by s n up true h = (refl, (n, refl, h))
+linked_by s n up false h = (refl, (n, refl, h))
+
+-- ---- a memory write
+
+poked_by : (s : State) (n : Registers) (a : ℕ) (d : List ℕ) (past short : Bool) → AgreeInRules s.registers n
+    → Alike (if past then Err Range else if short then Err Length
+    else Ok (Done, record s { memory = memory.put s.memory a d }))
+    (if past then Err Range else if short then Err Length
+    else Ok (Done, record (with_registers s n) { memory = memory.put s.memory a d }))
+poked_by s n a d true short h = refl
+poked_by s n a d false true h = refl
+poked_by s n a d false false h = (refl, (n, refl, h))
+
+-- ---- an arriving frame
+
+-- what an accepted frame leaves, by how it is stored, whether it is counted as a broadcast, and whether it finds a buffer
+abbrev admitted : State → List ℕ → Destination → Frame → Bool → Bool → Bool → Answer × State
+admitted s f kind frame bam lacks full =
+    if full then (Dropped Missed, record s { latches = after_buffer_count lacks (after_miss_count s.latches) })
+    else (
+      Stored,
+      record s {
+        latches = after_buffer_count lacks (after_frame_count (length f + 4) bam kind s.latches);
+        fifo = after_arrival s.fifo frame;
+      },
+    )
+
+admitted_alike : (s : State) (n : Registers) (f : List ℕ) (kind : Destination) (frame : Frame) (bam lacks full : Bool)
+    → AgreeInRules s.registers n
+    → Alike (Ok (admitted s f kind frame bam lacks full)) (Ok (admitted (with_registers s n) f kind frame bam lacks full))
+admitted_alike s n f kind frame bam lacks true h = (refl, (n, refl, h))
+admitted_alike s n f kind frame bam lacks false h = (refl, (n, refl, h))
+
+admission_alike : (s : State) (n : Registers) (f : List ℕ) (kind : Destination) → AgreeInRules s.registers n
+    → Alike (Ok (admission s f kind)) (Ok (admission (with_registers s n) f kind))
+admission_alike s n f kind h =
+    let m : Registers = s.registers in
+    let t : State = with_registers s n in
+    let frame : Bool → Frame = λ tag. stored_frame f tag in
+    let full : Bool → Bool = λ tag. nat_lt 49_152 (octets_in s.fifo + len_of (frame tag)) in
+    let tag : tagged n f ≡ tagged m f = tagged_same m n f h in
+    let same : admission t f kind ≡ admitted t f kind (frame (tagged m f)) (has (rctl m) 0x8000)
+    (value_of m Rdh == value_of m Rdt) (full (tagged m f))
+    = λ i. admitted t f kind (frame (tag i)) (h.bam i) (h.rdh i == h.rdt i) (full (tag i)) in
+    subst (λ x. Alike (Ok (admission s f kind)) (Ok x)) (sym same)
+    (admitted_alike s n f kind (frame (tagged m f)) (has (rctl m) 0x8000) (value_of m Rdh == value_of m Rdt)
+    (full (tagged m f)) h)
+
+judged_alike : (s : State) (n : Registers) (f : List ℕ) (v : Verdict) → AgreeInRules s.registers n
+    → Alike (Ok (judgement s f v)) (Ok (judgement (with_registers s n) f v))
+judged_alike s n f outcome.Reject h = (refl, (n, refl, h))
+judged_alike s n f outcome.Undersize h = (refl, (n, refl, h))
+judged_alike s n f outcome.Oversize h = (refl, (n, refl, h))
+judged_alike s n f (outcome.Accept kind) h = admission_alike s n f kind h
+
+-- by the link, by EN and by the verdict
+abbrev arrived : State → List ℕ → Bool → Bool → Verdict → Answer × State
+arrived s f up on v =
+    if not up then (Dropped Down, s) else if not on then (Dropped Disabled, s) else judgement s f v
+
+arrived_by : (s : State) (n : Registers) (f : List ℕ) (up on : Bool) (v : Verdict) → AgreeInRules s.registers n
+    → Alike (Ok (arrived s f up on v)) (Ok (arrived (with_registers s n) f up on v))
+arrived_by s n f false on v h = (refl, (n, refl, h))
+arrived_by s n f true false v h = (refl, (n, refl, h))
+arrived_by s n f true true v h = judged_alike s n f v h
+
+arrival_alike : (s : State) (n : Registers) (f : List ℕ) → AgreeInRules s.registers n
+    → Alike (Ok (arrival s f)) (Ok (arrival (with_registers s n) f))
+arrival_alike s n f h =
+    let t : State = with_registers s n in
+    let v : verdict n f ≡ verdict s.registers f = verdict_same s.registers n f h in
+    let same : arrival t f ≡ arrived t f s.link (is_enabled s) (verdict s.registers f)
+    = λ i. arrived t f s.link (h.en i) (v i) in
+    subst (λ x. Alike (Ok (arrival s f)) (Ok x)) (sym same)
+    (arrived_by s n f s.link (is_enabled s) (verdict s.registers f) h)
+
+sized_by : (s : State) (n : Registers) (f : List ℕ) (bad : Bool) → AgreeInRules s.registers n
+    → Alike (if bad then Err Length else Ok (arrival s f))
+    (if bad then Err Length else Ok (arrival (with_registers s n) f))
+sized_by s n f true h = refl
+sized_by s n f false h = arrival_alike s n f h
+
+-- ---- the engines
+
+rx_answered : (s : State) (n : Registers) (a : RxAnswer) → AgreeInRules s.registers n
+    → Alike (Ok (after_rx_answer s a)) (Ok (after_rx_answer (with_registers s n) a))
+rx_answered s n rx_answer.Idle h = (refl, (n, refl, h))
+rx_answered s n (rx_answer.Wrote index next causes) h =
+    (refl, (registers.put n Rdh next, refl, agree_on s.registers n (offset_of Rdh) (bit_and next (mask_of Rdh)) h))
+
+rx_by : (s : State) (n : Registers) (r : Result rx.Outcome RxRefusal) → AgreeInRules s.registers n
+    → Alike (rx_stepped s r) (rx_stepped (with_registers s n) r)
+rx_by s n (Ok o) h = rx_answered (with_outcome s o) n o.answer h
+rx_by s n (Err refusal) h = refl
+
+receive_alike : (s : State) (n : Registers) → AgreeInRules s.registers n
+    → Alike (rx_step s) (rx_step (with_registers s n))
+receive_alike s n h =
+    let t : State = with_registers s n in
+    let same : rx_step t ≡ rx_stepped t (rx.receive (rx_setup s.registers) s.memory s.fifo)
+    = ap (λ q. rx_stepped t (rx.receive q s.memory s.fifo)) (rx_same s.registers n h) in
+    subst (λ x. Alike (rx_step s) x) (sym same) (rx_by s n (rx.receive (rx_setup s.registers) s.memory s.fifo) h)
+
+tx_answered : (s : State) (n : Registers) (a : TxAnswer) → AgreeInRules s.registers n
+    → Alike (Ok (after_tx_answer s a)) (Ok (after_tx_answer (with_registers s n) a))
+tx_answered s n tx_answer.Idle h = (refl, (n, refl, h))
+tx_answered s n (tx_answer.Fetched index next causes) h =
+    (refl, (registers.put n Tdh next, refl, agree_on s.registers n (offset_of Tdh) (bit_and next (mask_of Tdh)) h))
+tx_answered s n (tx_answer.Sent index next causes octets kind) h =
+    (refl, (registers.put n Tdh next, refl, agree_on s.registers n (offset_of Tdh) (bit_and next (mask_of Tdh)) h))
+
+tx_by : (s : State) (n : Registers) (r : Result (TxAnswer × Shown) TxRefusal) → AgreeInRules s.registers n
+    → Alike (tx_stepped s r) (tx_stepped (with_registers s n) r)
+tx_by s n (Ok r) h = tx_answered (with_shown s r.1) n r.0 h
+tx_by s n (Err refusal) h = refl
+
+transmit_alike : (s : State) (n : Registers) → AgreeInRules s.registers n
+    → Alike (tx_step s) (tx_step (with_registers s n))
+transmit_alike s n h =
+    let t : State = with_registers s n in
+    let same : tx_step t ≡ tx_stepped t (tx.transmit (tx_setup s.registers) (sending s))
+    = ap (λ q. tx_stepped t (tx.transmit q (sending s))) (tx_same s.registers n h) in
+    subst (λ x. Alike (tx_step s) x) (sym same) (tx_by s n (tx.transmit (tx_setup s.registers) (sending s)) h)
+
+-- ---- any event
+
+pub alike : (s : State) (n : Registers) (e : Event) → AgreeInRules s.registers n → IsNoRead e
+    → Alike (step s e) (step (record s { registers = n }) e)
+alike s n (reads o) h noread = absurd noread
+alike s n (writes o v) h noread = written_by s n v (reg_at o) h
+alike s n (pokes a d) h noread =
+    poked_by s n a d (nat_lt (length s.memory) (a + length d)) (length d == 0 || nat_lt 16_384 (length d)) h
+alike s n (arrives f) h noread = sized_by s n f (nat_lt (length f) 14 || nat_lt 20_000 (length f)) h
+alike s n (links up) h noread = linked_by s n up (differ up s.link) h
+alike s n receives h noread = receive_alike s n h
+alike s n transmits h noread = transmit_alike s n h

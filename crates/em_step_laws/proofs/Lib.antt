@@ -1,0 +1,4 @@
+pub mod FateLaws
+pub mod ReachedLaws
+pub mod PieceLaws
+pub mod InertLaws

@@ -1,0 +1,4 @@
+pub mod Fate
+pub mod Reached
+pub mod Pieces
+pub mod Inert

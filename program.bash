@@ -1,0 +1,173 @@
+# Runs the program $me of the folder $top: that of dist/ where the sources stand as in dist/SOURCES; else one that was
+# built here since they changed; else one that is proved and built now. It is read into a script that has set `top`, its
+# name as `me`, and in `through` the command that a program is run by, if there is one.
+#
+# The way to the program of dist/ takes no more than bash and coreutils: no find, no awk, no rt.
+
+# the last part of a pipe runs in this shell. (Process substitution takes /proc, which a bare chroot has not.)
+shopt -s lastpipe
+own=$top/crates/$me/out/$me
+
+# as dist/ has it: x86_64-linux, say. Where this bash is for no Linux with glibc, the whole name, which dist/ never has.
+system=${BASH_VERSINFO[5]}
+[[ $system != *-linux-gnu ]] || system=${system%%-*}-linux
+given=$top/dist/$system/$me
+seen_file=$top/dist/.seen-$me
+
+# What stat says of a file; a change of it that keeps all this stays unseen (docs/dist.md says when that can be).
+LOOK='%i %s %.Y %.Z %n'
+# dist or own, the program to run; and why it is not that of dist/
+chosen='' why=''
+
+# Looks at these files, named from the top. It ends its shell, so it is called in one of its own.
+look() {
+  CDPATH='' cd -- "$top/" && exec stat --format="$LOOK" -- "$@" 2>/dev/null
+}
+
+# Sets `chosen` to what an earlier run chose, where nothing has changed since. That file has, line by line, the names
+# of all that this rests on, the sum of what `look` said of them, what was chosen (dist or own), and then what `look`
+# said of those files that have the sum of dist/SOURCES.
+recall() {
+  local names='' sum='' what=''
+  { read -r names && read -r sum && read -r what; } 2>/dev/null <"$seen_file" || :
+  # (b2sum starts faster than sha256sum, which loads a large library on some systems)
+  # shellcheck disable=SC2086
+  [ -n "$what" ] && [ "$(look $names | exec b2sum)" = "$sum" ] && chosen=$what
+}
+
+# Chooses the program of dist/ where it is made of these sources, or else the one built here where it is newer than
+# they.
+choose() {
+  local names=(dist/SOURCES) found=() seen=()
+  local -A is_well=()
+  if sums_stand; then
+    chosen=dist
+    keep_seen
+  else
+    . "$top/crates.bash"
+    find_files "$me"
+    names=(dist/SOURCES "${files[@]}" "${folders[@]}" "${own#"$top/"}")
+    look "${names[@]}" | mapfile -t found || :
+    ! is_newer || chosen=own
+    keep_seen
+  fi
+}
+
+# Whether each file of dist/SOURCES has the sum that it says; if not, why. Of those that are as they were seen none is
+# taken.
+sums_stand() {
+  local line name listed=(dist/SOURCES) changed=()
+  local -A is_listed=() is_seen=()
+  is_well[dist/SOURCES]=yes
+  [ -r "$top/dist/SOURCES" ] || {
+    why="there is no dist/SOURCES"
+    return 1
+  }
+  while read -r line; do
+    [[ $line != \#* ]] || continue
+    is_listed[_$line]=yes
+    listed+=("${line#*  }")
+  done <"$top/dist/SOURCES"
+  names=("${listed[@]}")
+  look "${names[@]}" | mapfile -t found || :
+  mapfile -t -s 3 seen 2>/dev/null <"$seen_file" || :
+  for line in "${seen[@]}"; do
+    is_seen[_$line]=yes
+  done
+  # where SOURCES itself changed, what was seen says nothing
+  [[ ${is_seen[_${found[0]-}]-} ]] || is_seen=()
+  for line in "${found[@]}"; do
+    name=${line#* * * * }
+    if [[ ${is_seen[_$line]-} ]]; then is_well[$name]=yes; else changed+=("$name"); fi
+  done
+  # (with no file named, sha256sum would read the script that is on standard input)
+  (CDPATH='' cd -- "$top/" && exec sha256sum -- /dev/null "${changed[@]}" 2>/dev/null) |
+    while read -r line; do
+      [[ ! ${is_listed[_$line]-} ]] || is_well[${line#*  }]=yes
+    done
+  for name in "${listed[@]}"; do
+    [[ ${is_well[$name]-} ]] || {
+      why="$name is not as dist/SOURCES has it"
+      return 1
+    }
+  done
+}
+
+# Keeps for the next run what was chosen and what has its sum, if the folder can be written. A file that changed in the
+# last two seconds could change again and keep its times, so it is left out, and then there is no sum of all.
+keep_seen() {
+  local line rest written sum='' before=$(($(printf '%(%s)T' -1) - 2)) new=$seen_file.$$
+  [[ -w $top/dist && "${names[*]}" != *[^[:alnum:]_/.\ -]* ]] || return 0
+  seen=()
+  for line in "${found[@]}"; do
+    rest=${line#* * } written=${rest%%.*} rest=${rest#* }
+    if [[ $written -ge $before || ${rest%%.*} -ge $before ]]; then
+      sum=-
+    elif [[ ${is_well[${rest#* }]-} ]]; then
+      seen+=("$line")
+    fi
+  done
+  [ -n "$sum" ] || sum=$(printf '%s\n' "${found[@]}" | b2sum)
+  # no half-made file: a new one takes the old one's place
+  trap 'rm -f -- "$new"; exit 130' HUP INT TERM
+  {
+    printf '%s\n' "${names[*]}" "$sum" "$chosen" "${seen[@]}" >"$new" && mv -f -- "$new" "$seen_file"
+  } 2>/dev/null || rm -f -- "$new"
+  trap - HUP INT TERM
+}
+
+# Whether the program built here is newer than all that it is made of, and than the folders, which a file's end changes.
+is_newer() {
+  local file
+  [ -x "$own" ] || return 1
+  for file in "${files[@]}" "${folders[@]}"; do
+    [ ! "$top/$file" -nt "$own" ] || return 1
+  done
+}
+
+# Where there is no rt, it says what to do.
+stop_without_rt() {
+  local there=("$top"/dist/*-*)
+  case $why in
+  "") why="there is no command rt, which proves and builds" ;;
+  other) why="dist/ has the program for ${there[*]##*/}, and this is $system without rt: run it on such a machine" ;;
+  *)
+    why+=", and there is no rt to prove and build"
+    [ ! -x "$given" ] || why+="; ${given#"$top/"} can be run as it is"
+    ;;
+  esac
+  stop 69 "$why ($top/README.md, \"The toolchain\", says where it comes from)"
+}
+
+# Runs the program; after its version, the sum of what it is made of where it is the one of dist/.
+run() {
+  local program=$1 sum
+  shift
+  [ "$program" = "$given" ] && [ $# = 1 ] && [[ $1 == --version || $1 == -V ]] || exec "${through[@]}" "$program" "$@"
+  "$program" "$@" || exit
+  sum=$(sha256sum <"$top/dist/SOURCES")
+  echo "dist/SOURCES ${sum%% *}"
+  exit
+}
+
+# Runs it with these words; the word --build, first among them, has one proved and built here, whatever is there.
+run_program() {
+  if [ "${1-}" != --build ]; then
+    recall || choose
+    [ "$chosen" != own ] || run "$own" "$@"
+    if [ "$chosen" = dist ]; then
+      [ ! -x "$given" ] || run "$given" "$@"
+      why=other
+    fi
+  else
+    shift
+  fi
+  . "$top/crates.bash"
+  if [ "$why" = other ]; then
+    find_files "$me"
+    ! is_newer || run "$own" "$@"
+  fi
+  command -v rt >/dev/null || stop_without_rt
+  prove_and_build "$me"
+  run "$own" "$@"
+}
