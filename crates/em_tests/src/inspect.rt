@@ -1,7 +1,6 @@
 //! Expected texts and values are worked out by hand. Each call here goes through a function without a contract: else the
 //! prover would carry what the call says on to all that a test asserts after it.
-use em_inspect::{Heading, write_frame, write_octet_lines, write_stored_frame};
-use em_rx::StoredFrame;
+use em_inspect::{Heading, write_frame, write_octet_lines};
 use em_text::WriteFailed;
 use std::test::Fail;
 
@@ -11,15 +10,6 @@ fn lines(text: &mut Vec<u8>, address: u64, octets: &[u8]) -> Result<(), WriteFai
 
 fn frame(text: &mut Vec<u8>, octets: &[u8]) -> Result<(), WriteFailed> {
     write_frame(text, octets)
-}
-
-fn stored(
-    text: &mut Vec<u8>,
-    front: &[u8],
-    back: &[u8],
-    tag: Option<u16>,
-) -> Result<(), WriteFailed> {
-    write_stored_frame(text, &StoredFrame { front, back, tag })
 }
 
 fn heading(octets: &[u8]) -> Option<Heading> {
@@ -120,50 +110,5 @@ fn tagged_frames(rt: HostRuntime) -> Result<(), Fail> {
         Some(read)
     );
     assert_eq!(rt; heading(b"tooffromhost\x81"), None);
-    Ok(())
-}
-
-#[test]
-fn frames_of_the_fifo(rt: HostRuntime) -> Result<(), Fail> {
-    let mut text = Vec::new(rt.alloc());
-    // in two pieces, cut in an address, in a tag and behind a line; the tag that was taken out, with CFI
-    assert_eq!(rt;
-        stored(&mut text, b"toof", b"fromhost\x81\x00", None),
-        Ok(())
-    );
-    assert_eq!(rt;
-        stored(
-            &mut text,
-            b"tooffromhost\x81\x00\xB0",
-            b"\x07\x05\xDD",
-            None
-        ),
-        Ok(())
-    );
-    assert_eq!(rt;
-        stored(
-            &mut text,
-            b"tooffromhost\x08\x00abcdefghijklmnopqr",
-            b"stuv",
-            Some(0x3005)
-        ),
-        Ok(())
-    );
-    assert_eq!(rt; stored(&mut text, b"", b"toof", Some(0x3005)), Ok(()));
-    assert_eq!(rt;
-        text.as_slice(),
-        b"\
-        to 74:6F:6F:66:66:72  from 6F:6D:68:6F:73:74  type 8100  14 octets\n\
-        000000  74 6F 6F 66 66 72 6F 6D 68 6F 73 74 81 00        tooffromhost..\n\
-        to 74:6F:6F:66:66:72  from 6F:6D:68:6F:73:74  tag VLAN 7 CFI priority 5  type 05DD  18 octets\n\
-        000000  74 6F 6F 66 66 72 6F 6D 68 6F 73 74 81 00 B0 07  tooffromhost....\n\
-        000010  05 DD                                            ..\n\
-        to 74:6F:6F:66:66:72  from 6F:6D:68:6F:73:74  tag VLAN 5 CFI priority 1  type 0800  36 octets\n\
-        000000  74 6F 6F 66 66 72 6F 6D 68 6F 73 74 08 00 61 62  tooffromhost..ab\n\
-        000010  63 64 65 66 67 68 69 6A 6B 6C 6D 6E 6F 70 71 72  cdefghijklmnopqr\n\
-        000020  73 74 75 76                                      stuv\n\
-        000000  74 6F 6F 66                                      toof\n"
-            .as_slice()
-    );
     Ok(())
 }

@@ -15,10 +15,6 @@ mod names;
 #[cfg(test)]
 mod names_of_refusals;
 #[cfg(test)]
-mod player;
-#[cfg(test)]
-mod rings;
-#[cfg(test)]
 mod text;
 #[cfg(test)]
 mod trail;
