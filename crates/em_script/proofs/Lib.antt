@@ -1,10 +1,7 @@
-pub mod PrintLemmas
 pub mod SeatLemmas
 pub mod ReplyLemmas
 pub mod RunLemmas
 pub mod MemoryLemmas
 pub mod CallLemmas
-pub mod RegisterLemmas
-pub mod WireLemmas
 pub mod DriverAnswerLemmas
 pub mod CallingLemmas

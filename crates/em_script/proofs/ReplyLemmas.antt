@@ -12,8 +12,8 @@ use Rattle.em_step.specs.declared.refusal.Refusal.{Refusal}
 use Rattle.em_journal.specs.View.{View, after_event}
 use Rattle.em_journal.specs.History.{Call, performs, refuses, goes_back, is_empty, Does, after_step}
 use Rattle.em_text.specs.declared.writer.WriteFailed.{WriteFailed}
-use Rattle.em_script.specs.declared.outcome.Outcome.{Outcome}
-use Rattle.em_script.specs.declared.outcome.Outcome.TheVariants as outcome
+use Rattle.em_output.specs.declared.outcome.Outcome.{Outcome}
+use Rattle.em_output.specs.declared.outcome.Outcome.TheVariants as outcome
 use Rattle.em_line.specs.Command.{Command, event}
 use Rattle.em_step.specs.declared.refusal.Refusal.TheVariants.{Memory}
 use Rattle.em_turn.specs.declared.turn.Turn.{Turn}
@@ -35,7 +35,7 @@ use Rattle.em_script.specs.declared.driver_reply.DriverReply.{DriverReply}
 use Rattle.std.specs.Prelude.{IsSome, IsTrue}
 use Rattle.em_script.specs.Session.{Session}
 use Rattle.em_script.specs.RefusedAt.{before, within}
-use Rattle.em_script.specs.Output.{Prints, answer_text, refusal_text, done_text}
+use Rattle.em_output.specs.Output.{Prints, answer_text, refusal_text, done_text}
 use Rattle.em_script.specs.Reply.{step_call, event_call, back_call, call_reply, Gives, Obeys, Performs}
 
 -- ---- what prints one call's reply prints that of the same call

@@ -7,8 +7,8 @@ use Rattle.std.proofs.lemmas.List.Sums.{sum_by_push}
 use Rattle.em_text.specs.Lines.{lines_of}
 use Rattle.em_text.specs.Writer.{WritesPart}
 use Rattle.em_text.proofs.WritingLemmas.{Appends-more}
-use Rattle.em_script.specs.declared.outcome.Outcome.{Outcome}
-use Rattle.em_script.specs.declared.outcome.Outcome.TheVariants.{Silent, Bad, Done, Refused}
+use Rattle.em_output.specs.declared.outcome.Outcome.{Outcome}
+use Rattle.em_output.specs.declared.outcome.Outcome.TheVariants.{Silent, Bad, Done, Refused}
 use Rattle.em_script.specs.declared.summary.Summary.{Summary}
 use Rattle.em_script.specs.Session.{Session}
 use Rattle.em_script.specs.PlayedLine.{PlayedLine, played_text, played_outcome, after_played, IsAllowed, AreAllowed}

@@ -16,8 +16,8 @@ use Rattle.em_driver.specs.Calls.{read_stats, get_mac_addr, set_mac_addr}
 use Rattle.em_driver.specs.declared.layout.Layout.{Layout}
 use Rattle.em_driver.specs.declared.outcome.Cause.TheVariants as cause
 use Rattle.em_driver.specs.declared.stats.DeviceStats.{DeviceStats}
-use Rattle.em_script.specs.declared.outcome.Outcome.{Outcome}
-use Rattle.em_script.specs.declared.outcome.Outcome.TheVariants.{Refused}
+use Rattle.em_output.specs.declared.outcome.Outcome.{Outcome}
+use Rattle.em_output.specs.declared.outcome.Outcome.TheVariants.{Refused}
 use Rattle.em_script.specs.Session.{Session}
 use Rattle.em_line.specs.Request as request
 use Rattle.em_line.specs.Request.{Request}

@@ -14,10 +14,10 @@ use Rattle.em_script.specs.declared.driver_reply.DriverReply.{DriverReply}
 use Rattle.em_script.specs.declared.driver_reply.PlanCounts.{PlanCounts}
 use Rattle.em_script.specs.declared.driver_answer.DriverAnswer.{DriverAnswer as Code}
 use Rattle.em_script.specs.declared.driver_answer.DriverAnswer.TheVariants as code
-use Rattle.em_script.specs.declared.outcome.Outcome.{Outcome}
-use Rattle.em_script.specs.declared.outcome.Outcome.TheVariants.{Done, Refused}
-use Rattle.em_script.specs.Output.{done_text}
-use Rattle.em_script.specs.Wire.{frames_text}
+use Rattle.em_output.specs.declared.outcome.Outcome.{Outcome}
+use Rattle.em_output.specs.declared.outcome.Outcome.TheVariants.{Done, Refused}
+use Rattle.em_output.specs.Output.{done_text}
+use Rattle.em_output.specs.Wire.{frames_text}
 use Rattle.em_script.specs.DriverText.{started_text, batch_text, stopped_text, stats_text, address_text, turns_text}
 
 -- what a driver answers to a line

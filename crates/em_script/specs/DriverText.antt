@@ -5,7 +5,7 @@ use Rattle.em_driver.specs.Outcome.{name_of}
 use Rattle.em_driver.specs.declared.outcome.Cause.{Cause}
 use Rattle.em_driver.specs.declared.stats.DeviceStats.{DeviceStats}
 use Rattle.em_script.specs.NoDriver.{name_of as name_of_no_driver}
-use Rattle.em_script.specs.Output.{named_refusal_text}
+use Rattle.em_output.specs.Output.{named_refusal_text}
 
 -- a driver was started, with so many events
 abbrev pub started_text : ℕ → List ℕ

@@ -1,8 +1,5 @@
 pub mod Session
 pub mod Seat
-pub mod Registers
-pub mod Wire
-pub mod Output
 pub mod NoDriver
 pub mod DriverText
 pub mod DriverAnswer

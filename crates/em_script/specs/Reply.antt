@@ -15,8 +15,8 @@ use Rattle.em_journal.specs.View.{View, after_event, after_back, after_backs}
 use Rattle.em_journal.specs.History.{Call, performs, refuses, goes_back, is_empty, after_step}
 use Rattle.em_text.specs.Writer.{hex_line_text}
 use Rattle.em_text.specs.declared.writer.WriteFailed.{WriteFailed}
-use Rattle.em_script.specs.declared.outcome.Outcome.{Outcome}
-use Rattle.em_script.specs.declared.outcome.Outcome.TheVariants as outcome
+use Rattle.em_output.specs.declared.outcome.Outcome.{Outcome}
+use Rattle.em_output.specs.declared.outcome.Outcome.TheVariants as outcome
 use Rattle.em_script.specs.Session.{Session}
 use Rattle.em_line.specs.Command as command
 use Rattle.em_line.specs.Command.{Command, event}
@@ -24,10 +24,10 @@ use Rattle.em_line.specs.ParsedLine.{ParsedLine, silent, bad, says, asks, plans}
 use Rattle.em_script.specs.RefusedAt.{RefusedAt, before, within, named_of}
 use Rattle.em_script.specs.Calling.{asked_text, asked_outcome, after_asked, asked_calls, MayBeRefusedAt}
 use Rattle.em_turn.specs.declared.turn.Turn.{Turn}
-use Rattle.em_script.specs.Output.{done_text, bit_text, back_text, bad_line_text, answer_text, refusal_text, empty_text}
-use Rattle.em_script.specs.Output.{Prints}
-use Rattle.em_script.specs.Registers.{registers_text}
-use Rattle.em_script.specs.Wire.{wire_text}
+use Rattle.em_output.specs.Output.{done_text, bit_text, back_text, bad_line_text, answer_text, refusal_text, empty_text}
+use Rattle.em_output.specs.Output.{Prints}
+use Rattle.em_output.specs.Registers.{registers_text}
+use Rattle.em_output.specs.Wire.{wire_text}
 
 -- ---- the calls
 

@@ -1,7 +1,7 @@
 -- How the lines of a script are counted.
 use Rattle.std.specs.Prelude.{◌+◌, Bool, true, false, List, count_by}
-use Rattle.em_script.specs.declared.outcome.Outcome.{Outcome}
-use Rattle.em_script.specs.declared.outcome.Outcome.TheVariants as outcome
+use Rattle.em_output.specs.declared.outcome.Outcome.{Outcome}
+use Rattle.em_output.specs.declared.outcome.Outcome.TheVariants as outcome
 use Rattle.em_script.specs.declared.summary.Summary.{Summary}
 
 -- neither blank nor a comment

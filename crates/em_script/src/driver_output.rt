@@ -2,20 +2,19 @@
 ghost use Rattle.std.specs.Prelude.{◌≡◌, ◌++◌};
 ghost use Rattle.em_text.specs.Writer.{Writes};
 ghost use Rattle.em_turn.specs.Planned.{lists};
-ghost use Rattle.em_script.specs.Wire.{frames_text};
+ghost use Rattle.em_output.specs.Output.{Prints};
+ghost use Rattle.em_output.specs.Wire.{frames_text};
 ghost use Rattle.em_script.specs.DriverAnswer.{plain, driver_reply_text, counts_text};
 ghost use Rattle.em_script.specs.DriverAnswer.{driver_answer_text, driver_answer_outcome};
 ghost use Rattle.em_script.specs.DriverAnswer.{result_text, result_outcome};
-ghost use Rattle.em_script.specs.Output.{Prints};
 ghost use Rattle.em_script.specs.DriverText.{started_text, batch_text, stopped_text, stats_text, address_text};
 ghost use Rattle.em_script.specs.DriverText.{turns_text, turns_end, no_driver_text};
 
 use crate::driver_answer::DriverAnswer;
 use crate::driver_reply::{DriverReply, PlanCounts};
 use crate::no_driver::NoDriver;
-use crate::outcome::Outcome;
-use crate::output::{write_count, write_done};
 use em_driver::{Batch, Cause, DeviceStats, Stopped};
+use em_output::{Outcome, write_count, write_done};
 use em_text::{WriteFailed, octet_digits, write_numbers_line, write_octets_line, write_pieces};
 use itoa::Buffer;
 use std::collections::VecDeque;

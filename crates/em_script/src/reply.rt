@@ -13,16 +13,14 @@ ghost use Rattle.em_script.specs.Reply.{back_by_reply, wire_reply, Gives, Obeys,
 use crate::calling::{call_driver, start_driver};
 use crate::driver_output::{write_driver_reply, write_no_driver};
 use crate::no_driver::NoDriver;
-use crate::outcome::Outcome;
-use crate::output::{
-    write_answer, write_back, write_bit, write_done, write_empty, write_octets, write_refusal,
-};
-use crate::registers::write_registers;
 use crate::seat::Seat;
 use crate::session::Session;
-use crate::wire::write_wire;
 use em_journal::{Empty, Machine};
 use em_line::{Command, MOST_PEEK, PeekLen, PlanWords, Request, plan_of};
+use em_output::{
+    Outcome, write_answer, write_back, write_bit, write_done, write_empty, write_octets,
+    write_refusal, write_registers, write_wire,
+};
 use em_step::{Event, Refusal};
 use em_text::WriteFailed;
 use std::alloc::Global;

@@ -2,7 +2,7 @@
 ghost use Rattle.std.specs.Prelude.{◌≡◌, ◌+◌, ◌≤◌, ◌<◌, ◌^◌};
 ghost use Rattle.em_script.specs.Summary.{after_outcome};
 
-use crate::outcome::Outcome;
+use em_output::Outcome;
 
 /// How the lines of a script are counted.
 #[derive(Clone, Copy, Debug, PartialEq, Eq)]

@@ -4,7 +4,7 @@ use Rattle.std.proofs.lemmas.Result.{MatchResult-from_err}
 use Rattle.em_text.specs.Writer.{hex_line_text}
 use Rattle.em_text.proofs.WritingLemmas.{WroteFront-none, WroteFront-more, WroteFront-part, WroteFront-all}
 use Rattle.em_turn.specs.Planned.{lists}
-use Rattle.em_script.specs.Wire.{frames_text}
+use Rattle.em_output.specs.Wire.{frames_text}
 use Rattle.em_script.proofs.driver_output.write_packets.Goals as goal
 
 pub loop-packet-init : goal.loop-packet-init

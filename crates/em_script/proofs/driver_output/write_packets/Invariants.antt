@@ -1,7 +1,7 @@
 use Rattle.std.proofs.Common.{◌++◌}
 use Rattle.em_text.proofs.WritingLemmas.{WroteFront}
 use Rattle.em_turn.specs.Planned.{lists}
-use Rattle.em_script.specs.Wire.{frames_text}
+use Rattle.em_output.specs.Wire.{frames_text}
 use Rattle.em_script.proofs.driver_output.write_packets.Given as goal
 
 -- the lines of the packets that are left are still to come

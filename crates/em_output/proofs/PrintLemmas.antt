@@ -6,8 +6,8 @@ use Rattle.std.specs.Io.KnownBytes.{Appends}
 use Rattle.em_text.specs.Writer.{WritesPart}
 use Rattle.em_text.specs.declared.writer.WriteFailed.{WriteFailed}
 use Rattle.em_text.proofs.WritingLemmas.{WritesPart-more}
-use Rattle.em_script.specs.declared.outcome.Outcome.{Outcome}
-use Rattle.em_script.specs.Output.{Prints}
+use Rattle.em_output.specs.declared.outcome.Outcome.{Outcome}
+use Rattle.em_output.specs.Output.{Prints}
 
 -- the first part was written, and of the second a front
 pub prints_part : {old mid new : Option (List ℕ)} (result : Result Outcome WriteFailed) (outcome : Outcome)

@@ -11,7 +11,7 @@ use Rattle.std.proofs.lemmas.Bool.Decides.{nat_tests}
 use Rattle.em_text.specs.Writer.{register_line_text}
 use Rattle.em_text.proofs.WritingLemmas.{Appends-same}
 use Rattle.em_step.specs.State.{State}
-use Rattle.em_script.specs.Registers.{register_text, word_text, words_text}
+use Rattle.em_output.specs.Registers.{register_text, word_text, words_text}
 
 -- the first of some words, and the others
 pub words_text-more : (s : State) (word : ℕ) {n m : ℕ} → n ≡ suc m

@@ -1,7 +1,7 @@
 use Rattle.std.proofs.Common.{drop}
 use Rattle.em_text.proofs.WritingLemmas.{WroteFront}
-use Rattle.em_script.specs.Wire.{frames_text}
-use Rattle.em_script.proofs.wire.write_frames.Given as goal
+use Rattle.em_output.specs.Wire.{frames_text}
+use Rattle.em_output.proofs.wire.write_frames.Given as goal
 
 -- the lines of the frames from here on are still to come
 abbrev pub invariant-loop-index : goal.invariant-loop-index

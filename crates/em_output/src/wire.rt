@@ -1,6 +1,6 @@
 //! Writing the frames that were sent.
 ghost use Rattle.em_text.specs.Writer.{Writes};
-ghost use Rattle.em_script.specs.Wire.{wire_text, frames_text};
+ghost use Rattle.em_output.specs.Wire.{wire_text, frames_text};
 
 use em_journal::Machine;
 use em_text::{WriteFailed, write_number_line, write_octets_line};

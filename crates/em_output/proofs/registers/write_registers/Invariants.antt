@@ -1,7 +1,7 @@
 use Rattle.std.proofs.Common.{◌≡◌, ◌-◌, ◌/◌, ◌%◌}
 use Rattle.em_text.proofs.WritingLemmas.{WroteFront}
-use Rattle.em_script.specs.Registers.{words_text, registers_text}
-use Rattle.em_script.proofs.registers.write_registers.Given as goal
+use Rattle.em_output.specs.Registers.{words_text, registers_text}
+use Rattle.em_output.proofs.registers.write_registers.Given as goal
 
 -- the lines of the words from here on are still to come
 abbrev pub invariant-loop-offset : goal.invariant-loop-offset

@@ -4,7 +4,7 @@ use Rattle.std.specs.Prelude.{slice_get}
 use Rattle.std.proofs.lemmas.List.{drop_more, drop_all}
 use Rattle.std.proofs.lemmas.Option.{slice_get-get_or}
 use Rattle.em_text.specs.Writer.{hex_line_text}
-use Rattle.em_script.specs.Wire.{frames_text}
+use Rattle.em_output.specs.Wire.{frames_text}
 
 -- the frame of an index, and those behind it
 pub frames_text-next : (frames : List (List ℕ)) (i : ℕ) (frame : List ℕ) → i < length frames

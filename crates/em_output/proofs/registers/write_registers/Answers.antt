@@ -1,9 +1,9 @@
 use Rattle.std.proofs.Common.{◌/◌, arith}
 use Rattle.std.proofs.lemmas.Result.{MatchResult-from_err}
 use Rattle.em_text.proofs.WritingLemmas.{WroteFront-more, WroteFront-part, WroteFront-all}
-use Rattle.em_script.specs.Registers.{word_text}
-use Rattle.em_script.proofs.RegisterLemmas.{words_text-next, words_text-last}
-use Rattle.em_script.proofs.registers.write_registers.Goals as goal
+use Rattle.em_output.specs.Registers.{word_text}
+use Rattle.em_output.proofs.RegisterLemmas.{words_text-next, words_text-last}
+use Rattle.em_output.proofs.registers.write_registers.Goals as goal
 
 pub returns-in_err-write_register : goal.returns-in_err-write_register
 returns-in_err-write_register g c =

@@ -2,8 +2,8 @@
 //! for its own text alone.
 ghost use Rattle.std.specs.Prelude.{◌≡◌, ◌≤◌, ◌++◌, length};
 ghost use Rattle.em_text.specs.Writer.{hex_line_text, value_text, decimal_line_text};
-ghost use Rattle.em_script.specs.Output.{Prints, answer_text, reason_text, done_text, bit_text, back_text};
-ghost use Rattle.em_script.specs.Output.{bad_line_text, refusal_text, empty_text, sent_text};
+ghost use Rattle.em_output.specs.Output.{Prints, answer_text, reason_text, done_text, bit_text, back_text};
+ghost use Rattle.em_output.specs.Output.{bad_line_text, refusal_text, empty_text, sent_text};
 
 use crate::outcome::Outcome;
 use em_journal::Empty;

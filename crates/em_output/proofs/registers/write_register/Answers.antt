@@ -1,7 +1,7 @@
 use Rattle.std.proofs.Common.{subst}
 use Rattle.em_text.specs.Writer.{Writes}
-use Rattle.em_script.proofs.RegisterLemmas.{zero_written, line_written}
-use Rattle.em_script.proofs.registers.write_register.Goals as goal
+use Rattle.em_output.proofs.RegisterLemmas.{zero_written, line_written}
+use Rattle.em_output.proofs.registers.write_register.Goals as goal
 
 pub returns-then-value-eq0 : goal.returns-then-value-eq0
 returns-then-value-eq0 g c = record {

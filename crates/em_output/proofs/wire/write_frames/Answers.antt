@@ -2,9 +2,9 @@ use Rattle.std.proofs.Common.{arith}
 use Rattle.std.proofs.lemmas.Result.{MatchResult-from_err}
 use Rattle.em_text.specs.Writer.{hex_line_text}
 use Rattle.em_text.proofs.WritingLemmas.{WroteFront-none, WroteFront-more, WroteFront-part, WroteFront-all}
-use Rattle.em_script.specs.Wire.{frames_text}
-use Rattle.em_script.proofs.WireLemmas.{frames_text-next, frames_text-none}
-use Rattle.em_script.proofs.wire.write_frames.Goals as goal
+use Rattle.em_output.specs.Wire.{frames_text}
+use Rattle.em_output.proofs.WireLemmas.{frames_text-next, frames_text-none}
+use Rattle.em_output.proofs.wire.write_frames.Goals as goal
 
 pub loop-index-init : goal.loop-index-init
 loop-index-init g c = WroteFront-none _ (frames_text c.args.machine.now.present.wire)

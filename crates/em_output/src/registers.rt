@@ -1,7 +1,7 @@
 //! Writing every register that is not zero.
 ghost use Rattle.std.specs.Prelude.{◌≡◌, ◌/◌, ◌%◌, ◌<◌};
 ghost use Rattle.em_text.specs.Writer.{Writes};
-ghost use Rattle.em_script.specs.Registers.{word_text, registers_text};
+ghost use Rattle.em_output.specs.Registers.{word_text, registers_text};
 
 use em_journal::Machine;
 use em_regs::Reg;

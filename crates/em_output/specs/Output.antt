@@ -9,7 +9,7 @@ use Rattle.em_step.specs.Refusal.{name_of}
 use Rattle.em_journal.specs.Refusal.{name_of_empty}
 use Rattle.em_text.specs.Writer.{Writes, value_text, decimal_line_text, numbers_text}
 use Rattle.em_text.specs.declared.writer.WriteFailed.{WriteFailed}
-use Rattle.em_script.specs.declared.outcome.Outcome.{Outcome}
+use Rattle.em_output.specs.declared.outcome.Outcome.{Outcome}
 
 abbrev pub done_text : List ℕ
 done_text = codes "ok\n"

@@ -1,8 +1,8 @@
 use Rattle.std.proofs.Common.{◌++◌, ap, sym}
 use Rattle.std.proofs.lemmas.Result.{MatchResult-from_err}
 use Rattle.em_text.proofs.WritingLemmas.{WritesPart-front, Writes-more}
-use Rattle.em_script.specs.Wire.{count_text, frames_text}
-use Rattle.em_script.proofs.wire.write_wire.Goals as goal
+use Rattle.em_output.specs.Wire.{count_text, frames_text}
+use Rattle.em_output.proofs.wire.write_wire.Goals as goal
 
 pub returns-in_err-write_number_line : goal.returns-in_err-write_number_line
 returns-in_err-write_number_line g c =
