@@ -23,16 +23,28 @@ use crate::shown::Shown;
 use anyhow::{Context, Result, bail};
 use em_text::{Words, is_name, read_script};
 use std::io::{self, BufWriter, Write};
+use std::mem;
 
 fn main(rt: HostRuntime) -> Result<()> {
-    let alloc = rt.alloc();
-    let Ok(script) = read_script(alloc, &mut rt.reader()) else {
+    let Ok(script) = read_script(rt.alloc(), &mut rt.reader()) else {
         bail!("the script was not read");
     };
-    let mut shown = Shown::new(alloc)?;
-    let mut writer = BufWriter::new(alloc, io::writer(&rt)).context("no memory to write")?;
-    for line in script.as_slice().split(|octet| *octet == b'\n') {
-        answer(&mut writer, &mut shown, line)?;
+    match Shown::new(rt.alloc()) {
+        Ok(mut shown) => {
+            let answered = answer_all(&rt, &mut shown, script.as_slice());
+            // The system takes its memory back when the program ends.
+            mem::forget(shown);
+            answered
+        }
+        Err(refused) => Err(refused),
+    }
+}
+
+/// Answers each line, and shows what no line does.
+fn answer_all(rt: &(impl Print + AllocGlobal), shown: &mut Shown, script: &[u8]) -> Result<()> {
+    let mut writer = BufWriter::new(rt.alloc(), io::writer(rt)).context("no memory to write")?;
+    for line in script.split(|octet| *octet == b'\n') {
+        answer(&mut writer, shown, line)?;
     }
     show_pieces(&mut writer)?;
     writer.flush()?;

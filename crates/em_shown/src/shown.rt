@@ -25,13 +25,15 @@ pub(crate) struct Shown {
 impl Shown {
     /// Over a new machine.
     pub(crate) fn new(alloc: Global) -> Result<Shown> {
-        let machine = Settings::default().machine(alloc)?;
-        Ok(Shown {
-            session: Session::new(alloc, machine),
-            player: Player::new(alloc),
-            number: 0,
-            outcomes: false,
-        })
+        match Settings::default().machine(alloc) {
+            Ok(machine) => Ok(Shown {
+                session: Session::new(alloc, machine),
+                player: Player::new(alloc),
+                number: 0,
+                outcomes: false,
+            }),
+            Err(refusal) => bail!("no machine: {}", refusal.name()),
+        }
     }
 
     pub(crate) fn count_line(&mut self) {

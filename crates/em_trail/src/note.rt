@@ -118,6 +118,7 @@ fn value_of(answer: Answer) -> u32
 }
 
 /// What became of a frame that arrived.
+#[inline(always)]
 fn arrived(answer: Answer) -> Kind
     ensures { result ≡ arrived answer }
 {
@@ -128,6 +129,7 @@ fn arrived(answer: Answer) -> Kind
 }
 
 /// The note of a step of the receive engine.
+#[inline(always)]
 fn received(answer: Answer, tag: u64) -> Note
     ensures { result ≡ received answer tag }
 {
@@ -145,6 +147,7 @@ fn received(answer: Answer, tag: u64) -> Note
 }
 
 /// The note of a step of the transmit engine.
+#[inline(always)]
 fn sent(answer: Answer, tag: u64) -> Note
     ensures { result ≡ sent answer tag }
 {
