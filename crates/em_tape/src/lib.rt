@@ -13,7 +13,4 @@ mod lines;
 mod playing;
 mod tape;
 
-#[cfg(test)]
-mod tests;
-
 pub use tape::{MOST_LINES, MOST_OCTETS, Tape};

@@ -93,9 +93,9 @@ fn replay(
     let mut number = 0;
     for line in lines {
         number += 1;
-        if play(player, &mut nowhere, session, number, line.as_slice(), count).is_none() {
+        let Some(_) = play(player, &mut nowhere, session, number, line.as_slice(), count) else {
             return Err(BenchFault::Memory);
-        }
+        };
         if !count.ended_so(ends, number) {
             return Err(BenchFault::Memory);
         }

@@ -19,6 +19,8 @@ mod player;
 #[cfg(test)]
 mod rings;
 #[cfg(test)]
+mod tape;
+#[cfg(test)]
 mod text;
 #[cfg(test)]
 mod trail;

@@ -1,8 +1,8 @@
 //! A tape that is gone through. Each call here goes through a function without a contract: else the prover would carry
 //! what the call says on to all that a test asserts after it.
-use crate::tape::Tape;
 use em_journal::Settings;
 use em_script::Outcome;
+use em_tape::Tape;
 use std::alloc::Global;
 use std::test::Fail;
 
