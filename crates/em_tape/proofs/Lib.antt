@@ -1,1 +1,3 @@
 pub mod TapeLaws
+pub mod EndsLaws
+pub mod KeptLaws

@@ -1,13 +1,15 @@
 -- A place that moves, and the lines behind it.
 use Rattle.std.proofs.Common.{◌≡◌, ℕ, ◌+◌, ◌-◌, ◌<◌, ◌≤◌, ◌^◌, zero, suc, List, [], ◌∷◌, ◌++◌, map, length, take, Some, Option, None, Result, Ok, Err}
-use Rattle.std.proofs.Common.{refl, sym, ap, ◌∙◌, subst, arith, append_assoc}
-use Rattle.std.specs.Prelude.{slice_get, get_or, All, Vec}
+use Rattle.std.proofs.Common.{refl, sym, ap, ◌∙◌, subst, arith, inl, inr}
+use Rattle.std.specs.Prelude.{slice_get, get_or, All, Vec, min}
 use Rattle.std.specs.Global.{Global}
 use Rattle.std.specs.Option.{option_map}
-use Rattle.std.proofs.lemmas.List.{map-append}
+use Rattle.std.proofs.lemmas.Bool.{cases_lt}
+use Rattle.std.proofs.lemmas.List.{map-append, nil_from_length}
 use Rattle.std.proofs.lemmas.Option.{slice_get-map, slice_get-get_or, get_or_from_slice_get, slice_get_within}
 use Rattle.em_turn.specs.Planned.{lists}
-use Rattle.em_journal.specs.View.{View, after_back, after_backs, opening}
+use Rattle.em_journal.specs.View.{View, after_back, after_backs}
+use Rattle.em_journal.proofs.BackLaws.{no_more_back, past_left}
 use Rattle.em_line.specs.Grammar.{parsed_line}
 use Rattle.em_text.specs.declared.writer.WriteFailed.{WriteFailed}
 use Rattle.em_script.specs.declared.outcome.Outcome.{Outcome}
@@ -95,6 +97,35 @@ after_backs-plus (suc m) n v =
 
 taken-plus : (m n : ℕ) (s : Session) → taken_back n (taken_back m s) ≡ taken_back (m + n) s
 taken-plus m n s = ap (λ v. record s { machine = v }) (after_backs-plus m n s.machine)
+
+length_nil : {X : Type 0} (xs : List X) (m n : ℕ) → length xs ≡ m - n → m ≤ n → xs ≡ []
+length_nil xs m n is le =
+    let none : length xs ≡ 0 = omega arith in
+    nil_from_length xs none
+
+-- no more steps are taken than the journal reaches
+backs-min : (n : ℕ) (v : View) → after_backs n v ≡ after_backs (min n (length v.past)) v
+backs-min n v = elim (cases_lt (length v.past) n) [
+  | inl less ↦
+      let k = length v.past in
+      let w = after_backs k v in
+      let e : k ≡ min n k = omega arith in
+      let none : w.past ≡ [] = length_nil w.past k k (past_left k v w refl) (omega arith) in
+      sym (no_more_back k n v w refl (omega arith) none) ∙ ap (λ i. after_backs i v) e
+  | inr enough ↦
+      let e : n ≡ min n (length v.past) = omega arith in
+      ap (λ i. after_backs i v) e
+]
+
+-- a session as its call takes it back
+pub session_back : (most taken : ℕ) (old new : Session) → taken ≡ min most (length old.machine.past)
+    → new ≡ record old { machine = after_backs most old.machine } → new ≡ taken_back taken old
+session_back most taken old new count is =
+    is ∙ ap (λ v. record old { machine = v }) (backs-min most old.machine ∙ ap (λ n. after_backs n old.machine) (sym count))
+
+-- how far the journal then reaches
+pub past_back : (n : ℕ) (s : Session) → length (taken_back n s).machine.past ≡ length s.machine.past - n
+past_back n s = past_left n s.machine (after_backs n s.machine) refl
 
 -- more events are taken back
 pub at_back : {first now : Session} {lines : List (List ℕ)} {back : ℕ} (n : ℕ) → IsAt first lines back now

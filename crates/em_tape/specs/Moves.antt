@@ -38,11 +38,11 @@ pub record Adds (old new : Tape) : Type 0 where
   pub whole : new.whole ≡ length new.lines
 
 -- the lines ahead of the place were dropped, and it is where the last line is whole
-pub record IsCut (old new : Tape) (dropped : ℕ) : Type 0 where
+pub record IsCut (old new : Tape) (gone : ℕ) : Type 0 where
   pub line : ℕ
   pub whole : old.back ≡ 0 → line ≡ old.whole
   pub within : 0 < old.back → IsLineOf (event_of old) old.ends line
-  pub dropped : dropped ≡ length old.lines - line
+  pub dropped : gone ≡ length old.lines - line
   pub first : new.first ≡ old.first
   pub kept : take line new.lines ≡ take line old.lines
   pub back : new.back ≡ 0

@@ -1,5 +1,6 @@
 //! The lines, each its octets.
-ghost use Rattle.std.specs.Prelude.{◌≡◌, ◌∷◌, ◌++◌, [], OnOk, OnErr};
+ghost use Rattle.std.specs.Prelude.{◌≡◌, ◌∷◌, ◌++◌, [], OnOk, OnErr, slice_get};
+ghost use Rattle.std.specs.Option.{option_map};
 ghost use Rattle.em_turn.specs.Planned.{lists};
 
 use em_text::{WriteFailed, write_number_line};
@@ -13,6 +14,16 @@ pub(crate) fn push_line(alloc: Global, lines: &mut Vec<Vec<u8>>, line: &[u8]) ->
     let octets = line.to_vec(alloc)?;
     lines.push(octets)?;
     Ok(())
+}
+
+/// The text of the line behind the first so many.
+pub(crate) fn text_at(lines: &[Vec<u8>], before: usize) -> Option<&[u8]>
+    ensures { option_map (λ text. text.now) result ≡ slice_get (lists lines.now) before }
+{
+    match lines.get(before) {
+        Some(line) => Some(line.as_slice()),
+        None => None,
+    }
 }
 
 /// A line that takes events back. No contract says so: what it does is only tested.

@@ -1,6 +1,6 @@
 //! A debugging session with a place in it.
 ghost use Rattle.std.specs.Prelude.{◌≡◌, ◌⊎◌, ℕ, ◌+◌, ◌-◌, ◌<◌, ◌≤◌, ◌↔◌, ◌∷◌, ◌++◌, [], List, length, take, drop, min};
-ghost use Rattle.std.specs.Prelude.{IfOk, IfErr, OnOk, OnErr, IfSome, IsErrOf, Ok, None, Some};
+ghost use Rattle.std.specs.Prelude.{IfOk, IfErr, OnOk, OnErr, IfSome, IsErrOf, IsTrue, Ok, None, Some};
 ghost use Rattle.std.specs.Option.{option_map};
 ghost use Rattle.em_journal.specs.Settings.{new_machine, IsRefusedAs};
 ghost use Rattle.em_script.specs.Session.{bare};
@@ -10,7 +10,7 @@ ghost use Rattle.em_tape.specs.Moves.{Plays, Leaves, Adds, IsCut};
 
 use crate::count::Count;
 use crate::ends::{end_of, line_of, note};
-use crate::lines::{back_line, push_line};
+use crate::lines::{back_line, push_line, text_at};
 use crate::playing::{opening, play, put, replayed};
 use em_journal::{Machine, Settings, SettingsRefusal};
 use em_script::{BenchFault, Outcome, Player, Session};
@@ -135,14 +135,25 @@ impl Tape {
         if self.whole >= self.lines.len() {
             return Ok(None);
         }
-        if self.back > 0 {
-            self.replay_to(self.whole)?;
-        }
+        self.be_whole()?;
         match self.play_next(writer) {
             Some(Ok(outcome)) => Ok(Some(outcome)),
             Some(Err(WriteFailed)) => Err(BenchFault::Write),
             None => Err(BenchFault::Memory),
         }
+    }
+
+    /// Performs events of the whole lines again that are taken back.
+    fn be_whole(&mut self) -> Result<(), BenchFault>
+        ensures ok { OnOk result (self.new ≡ record self.old { back = 0; session = self.new.session }) }
+        ensures here { self.old.back ≡ 0 → self.new ≡ self.old }
+        ensures err { OnErr result (self.new ≡ self.old) }
+        ensures only { IfErr result (λ fault. fault ≡ BenchFault.Memory) }
+    {
+        if self.back == 0 {
+            return Ok(());
+        }
+        self.replay_to(self.whole)
     }
 
     /// Performs the next line from a place that is whole. None where memory is refused before that: then nothing is
@@ -376,7 +387,7 @@ impl Tape {
 
     /// Whether there is no line.
     pub fn is_empty(&self) -> bool
-        ensures { result ≡ (length self.now.lines == 0) }
+        ensures { IsTrue result ↔ (length self.now.lines ≡ 0) }
     {
         self.lines.is_empty()
     }
@@ -395,7 +406,6 @@ impl Tape {
         if line == 0 {
             return None;
         }
-        let octets = self.lines.as_slice().get(line - 1)?;
-        Some(octets.as_slice())
+        text_at(self.lines.as_slice(), line - 1)
     }
 }
