@@ -79,6 +79,10 @@ abbrev pub line_at : ℕ → List (List ℕ) → Option (List ℕ)
 line_at zero lines = None
 line_at (suc k) lines = slice_get lines k
 
+-- memory was refused to none of them
+abbrev pub HadMemory : List PlayedLine → Type 0
+HadMemory all = AllByRecursion (λ (played : PlayedLine). played.refused ≡ None) all
+
 -- what the lines leave where memory is refused to none, with so many of the newest events taken back
 abbrev pub session_at : Session → List (List ℕ) → ℕ → Session
 session_at first lines back = taken_back back (after_all (with_memory lines) first)

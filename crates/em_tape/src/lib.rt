@@ -9,8 +9,10 @@
 
 mod count;
 mod ends;
+mod laws;
 mod lines;
 mod playing;
 mod tape;
 
+pub use laws::a_place_shows_the_same;
 pub use tape::{MOST_LINES, MOST_OCTETS, Tape};

@@ -150,10 +150,26 @@ impl Tape {
         ensures err { OnErr result (self.new ≡ self.old) }
         ensures only { IfErr result (λ fault. fault ≡ BenchFault.Memory) }
     {
+        self.be_at(self.whole)
+    }
+
+    /// Goes to where so many lines stand whole. A place that is whole already is there.
+    fn be_at(&mut self, line: usize) -> Result<(), BenchFault>
+        requires known { line ≤ length self.old.ends }
+        requires there { self.old.back ≡ 0 → line ≡ self.old.whole }
+        ensures ok { OnOk result (self.new ≡ record self.old {
+          whole = line;
+          back = 0;
+          session = self.new.session;
+        }) }
+        ensures here { self.old.back ≡ 0 → self.new ≡ self.old }
+        ensures err { OnErr result (self.new ≡ self.old) }
+        ensures only { IfErr result (λ fault. fault ≡ BenchFault.Memory) }
+    {
         if self.back == 0 {
             return Ok(());
         }
-        self.replay_to(self.whole)
+        self.replay_to(line)
     }
 
     /// Performs the next line from a place that is whole. None where memory is refused before that: then nothing is
@@ -299,9 +315,7 @@ impl Tape {
     {
         let event = self.event();
         let line = self.line();
-        if self.back > 0 {
-            self.replay_to(line)?;
-        }
+        self.be_at(line)?;
         let dropped = self.drop_ahead();
         self.take_for_good(self.event().saturating_sub(event))?;
         Ok(dropped)
@@ -363,6 +377,8 @@ impl Tape {
     pub fn line(&self) -> usize
         ensures whole { self.now.back ≡ 0 → result ≡ self.now.whole }
         ensures within { 0 < self.now.back → IsLineOf (event_of self.now) self.now.ends result }
+        ensures performed { result ≤ length self.now.ends }
+        ensures there { result ≤ length self.now.lines }
     {
         if self.back == 0 {
             self.whole
