@@ -1,5 +1,5 @@
 -- Lines ahead of the place that are dropped.
-use Rattle.std.proofs.Common.{◌≡◌, ℕ, ◌+◌, ◌-◌, ◌<◌, ◌≤◌, zero, suc, List, ◌++◌, length, take, refl, sym, ap, ◌∙◌, arith}
+use Rattle.std.proofs.Common.{◌≡◌, ℕ, ◌-◌, ◌<◌, ◌≤◌, zero, suc, List, ◌++◌, length, take, refl, ap, ◌∙◌, arith}
 use Rattle.std.proofs.lemmas.List.{take-append-le, take-take, length-take-le, get_or-take}
 use Rattle.em_tape.specs.Ends.{end_of, IsLineOf}
 use Rattle.em_tape.specs.Tape.{Tape, event_of}
@@ -42,8 +42,7 @@ is_cut {old = old} {mid = mid} {cut = cut} {new = new} {line = line} {event = ev
           let there : end_of line old.ends ≡ end_of old.whole old.ends = ap (λ n. end_of n old.ends) (whole none) in
           let ends : event_of cut ≡ end_of line (take line old.ends) - 0 = ap event_of cut_of in
           let nothing : end - event ≡ 0 = omega (arith, end_of-take line old.ends) in
-          let same = stays nothing in
-          (
+          let same = stays nothing in (
             ap (λ (t : Tape). t.session) (same ∙ cut_of) ∙ ap (λ (t : Tape). t.session) (mid_same none),
             ap (λ (t : Tape). t.lines) (same ∙ cut_of),
           );

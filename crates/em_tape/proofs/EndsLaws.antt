@@ -1,6 +1,6 @@
 -- How many ends are noted, and where an event lies among them.
 use Rattle.std.proofs.Common.{◌≡◌, ℕ, ◌+◌, ◌-◌, ◌<◌, ◌≤◌, Bool, true, false, List, [], ◌∷◌, ◌++◌, length, take, cond, Option, Some, None}
-use Rattle.std.proofs.Common.{refl, sym, ap, ◌∙◌, subst, arith, inl, inr}
+use Rattle.std.proofs.Common.{refl, sym, subst, arith, inl, inr}
 use Rattle.std.specs.Prelude.{slice_get, min}
 use Rattle.std.proofs.lemmas.Bool.{cases_lt}
 use Rattle.std.proofs.lemmas.List.{length-take-le, length-append, nil_from_length}
@@ -44,13 +44,13 @@ near_end n taken mid new lies whole count is =
     let left = past_back taken mid.session in
     subst (IsNear n) (sym is) (elim (cases_lt end n) [
       | inl before ↦ elim (cases_lt mid.whole (length mid.ends)) [
-          | inl within ↦ absurd (let reaches = lies.behind mid.whole (omega arith) within in omega arith)
-          | inr last ↦ at_end (omega (arith, lies.within)) (omega arith) (omega arith)
-        ]
+        | inl within ↦ absurd (let reaches = lies.behind mid.whole (omega arith) within in omega arith)
+        | inr last ↦ at_end (omega (arith, lies.within)) (omega arith) (omega arith)
+      ]
       | inr behind ↦ elim (cases_lt (length past) (end - n)) [
-          | inl short ↦
-              let none : length (taken_back taken mid.session).machine.past ≡ 0 = omega arith in
-              near (nil_from_length _ none) (omega arith)
-          | inr enough ↦ there (omega arith)
-        ]
+        | inl short ↦
+            let none : length (taken_back taken mid.session).machine.past ≡ 0 = omega arith in
+            near (nil_from_length _ none) (omega arith)
+        | inr enough ↦ there (omega arith)
+      ]
     ])

@@ -1,10 +1,9 @@
 -- What holds of a tape after each change of it.
-use Rattle.std.proofs.Common.{◌≡◌, ◌⊎◌, ℕ, ◌+◌, ◌-◌, ◌<◌, ◌≤◌, ◌^◌, List, [], ◌∷◌, ◌++◌, length, take, Some, Option, Result}
+use Rattle.std.proofs.Common.{◌≡◌, ◌⊎◌, ℕ, ◌+◌, ◌<◌, ◌≤◌, ◌^◌, List, [], ◌∷◌, ◌++◌, length, take, Some, Option, Result}
 use Rattle.std.proofs.Common.{refl, sym, ap, ◌∙◌, subst, arith, inl, inr}
-use Rattle.std.specs.Prelude.{slice_get, All, min}
+use Rattle.std.specs.Prelude.{slice_get, min}
 use Rattle.std.proofs.lemmas.List.{take-append-le, take-take, length-append, length-take-le}
 use Rattle.std.proofs.lemmas.List.Elements.{All-take, All-push}
-use Rattle.em_journal.specs.View.{after_backs}
 use Rattle.em_line.specs.Grammar.{parsed_line}
 use Rattle.em_text.specs.declared.writer.WriteFailed.{WriteFailed}
 use Rattle.em_script.specs.declared.outcome.Outcome.{Outcome}

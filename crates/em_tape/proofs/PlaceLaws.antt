@@ -1,8 +1,8 @@
 -- The session at a place is a function of the place.
-use Rattle.std.proofs.Common.{◌≡◌, ℕ, Bool, true, false, List, [], ◌∷◌, map, Option, Some, None, refl, sym, ap, ◌∙◌, subst}
+use Rattle.std.proofs.Common.{◌≡◌, ℕ, false, List, [], ◌∷◌, map, Option, Some, None, refl, sym, ap, ◌∙◌, subst}
 use Rattle.std.specs.List.{AllByRecursion}
 use Rattle.std.proofs.lemmas.Bool.{false≢true}
-use Rattle.em_script.specs.RefusedAt.{RefusedAt, before, within}
+use Rattle.em_script.specs.RefusedAt.{RefusedAt, before}
 use Rattle.em_script.specs.Session.{Session}
 use Rattle.em_line.specs.Command.{event}
 use Rattle.em_line.specs.Grammar.{parsed_line}

@@ -1,5 +1,5 @@
 -- A place that moves, and the lines behind it.
-use Rattle.std.proofs.Common.{◌≡◌, ℕ, ◌+◌, ◌-◌, ◌<◌, ◌≤◌, ◌^◌, zero, suc, List, [], ◌∷◌, ◌++◌, map, length, take, Some, Option, None, Result, Ok, Err}
+use Rattle.std.proofs.Common.{◌≡◌, ℕ, ◌+◌, ◌-◌, ◌<◌, ◌≤◌, zero, suc, List, [], ◌∷◌, ◌++◌, length, take, Some, Option, Result}
 use Rattle.std.proofs.Common.{refl, sym, ap, ◌∙◌, subst, arith, inl, inr}
 use Rattle.std.specs.Prelude.{slice_get, get_or, All, Vec, min}
 use Rattle.std.specs.Global.{Global}
@@ -15,7 +15,7 @@ use Rattle.em_text.specs.declared.writer.WriteFailed.{WriteFailed}
 use Rattle.em_script.specs.declared.outcome.Outcome.{Outcome}
 use Rattle.em_script.specs.Session.{Session}
 use Rattle.em_script.specs.Reply.{Performs}
-use Rattle.em_script.specs.PlayedLine.{PlayedLine, after_played, after_all, IsAllowed, AreAllowed, ArePlayed}
+use Rattle.em_script.specs.PlayedLine.{PlayedLine, after_played, after_all, IsAllowed, AreAllowed}
 use Rattle.em_tape.specs.Tape.{IsAt, IsShort, taken_back}
 
 -- ---- one more line

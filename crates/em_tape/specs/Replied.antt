@@ -8,5 +8,5 @@ use Rattle.em_script.specs.declared.runner.BenchFault.TheVariants.{Write}
 -- how a line came out that was played; none where it was not
 abbrev pub replied_of : Result Outcome BenchFault → Option (Result Outcome WriteFailed)
 replied_of (Ok outcome) = Some (Ok outcome)
-replied_of (Err Write) = Some (Err record { })
+replied_of (Err Write) = Some (Err record {})
 replied_of (Err fault) = None

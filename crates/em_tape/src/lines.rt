@@ -7,7 +7,11 @@ use em_text::{WriteFailed, write_number_line};
 use std::alloc::{AllocError, Global};
 
 /// Adds a line behind the last.
-pub(crate) fn push_line(alloc: Global, lines: &mut Vec<Vec<u8>>, line: &[u8]) -> Result<(), AllocError>
+pub(crate) fn push_line(
+    alloc: Global,
+    lines: &mut Vec<Vec<u8>>,
+    line: &[u8],
+) -> Result<(), AllocError>
     ensures ok { OnOk result (lists lines.new.items ≡ lists lines.old.items ++ line.now ∷ []) }
     ensures err { OnErr result (lists lines.new.items ≡ lists lines.old.items) }
 {

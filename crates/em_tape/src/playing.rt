@@ -93,7 +93,14 @@ fn replay(
     let mut number = 0;
     for line in lines {
         number += 1;
-        let Some(_) = play(player, &mut nowhere, session, number, line.as_slice(), count) else {
+        let Some(_) = play(
+            player,
+            &mut nowhere,
+            session,
+            number,
+            line.as_slice(),
+            count,
+        ) else {
             return Err(BenchFault::Memory);
         };
         if !count.ended_so(ends, number) {

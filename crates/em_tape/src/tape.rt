@@ -118,10 +118,7 @@ impl Tape {
     /// Where events of the lines so far are taken back, they are performed again first. It fails as `Memory` where
     /// memory is refused before the line is performed: then the place stays, or is whole. It fails as `Write` where
     /// the writer fails: what the line did stands.
-    pub fn perform_next<W: Write>(
-        &mut self,
-        writer: &mut W,
-    ) -> Result<Option<Outcome>, BenchFault>
+    pub fn perform_next<W: Write>(&mut self, writer: &mut W) -> Result<Option<Outcome>, BenchFault>
         ensures ok { IfOk result (λ played. IfSome played (λ outcome.
             Plays self.old self.new (W.contents writer.old) (W.contents writer.new) (Ok outcome))) }
         ensures none { result ≡ Ok None → (self.new ≡ self.old) × (length self.old.lines ≤ self.old.whole)

@@ -1,4 +1,4 @@
-use Rattle.std.proofs.Common.{◌≡◌, ◌<◌, ◌⊎◌, ◌++◌, ◌∷◌, [], length, inl, inr, arith}
+use Rattle.std.proofs.Common.{◌<◌, length, inl, inr, arith}
 use Rattle.std.proofs.lemmas.List.{length-map}
 use Rattle.em_turn.specs.Planned.{lists}
 use Rattle.em_tape.proofs.KeptLaws.{kept_add}

@@ -1,5 +1,5 @@
 use Rattle.std.proofs.Common.{◌≡◌, refl}
-use Rattle.em_tape.specs.Tape.{Tape, taken_back}
+use Rattle.em_tape.specs.Tape.{taken_back}
 use Rattle.em_tape.proofs.KeptLaws.{kept_back}
 use Rattle.em_tape.proofs.TapeLaws.{session_back}
 use Rattle.em_tape.proofs.tape.Tape.back.Goals as goal

@@ -1,4 +1,4 @@
-use Rattle.std.proofs.Common.{◌≡◌, ◌-◌, ◌∙◌, ap, sym}
+use Rattle.std.proofs.Common.{◌∙◌}
 use Rattle.em_tape.proofs.CutLaws.{is_cut}
 use Rattle.em_tape.proofs.tape.Tape.cut.Goals as goal
 

@@ -1,4 +1,4 @@
-use Rattle.std.proofs.Common.{◌≡◌, ◌∙◌, take, ap, sym, refl, subst}
+use Rattle.std.proofs.Common.{◌≡◌, ◌∙◌, take, ap, sym, refl}
 use Rattle.std.proofs.lemmas.List.{take-map}
 use Rattle.em_turn.specs.Planned.{lists}
 use Rattle.em_tape.proofs.KeptLaws.{kept_cut}

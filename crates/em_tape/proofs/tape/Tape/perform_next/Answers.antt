@@ -10,5 +10,5 @@ pub returns-in-Some-Err-clause-write : goal.returns-in-Some-Err-clause-write
 returns-in-Some-Err-clause-write g c = λ _. (
   c.in-Some-Err.field-0-0,
   plays_from c.in_ok-be_whole.ensures.ok c.be_whole.ensures.here
-  (rw c.in-Some-Err.field-0-is at c.in-Some-Err.ensures.done),
+      (rw c.in-Some-Err.field-0-is at c.in-Some-Err.ensures.done),
 )

@@ -5,8 +5,7 @@ use Rattle.em_turn.specs.Planned.{lists}
 use Rattle.em_journal.specs.Settings.{new_machine}
 use Rattle.em_script.specs.Session.{bare}
 use Rattle.em_tape.specs.Ends.{noted}
-use Rattle.em_tape.specs.Tape.{Tape, IsAt, IsTape}
-use Rattle.em_tape.specs.Moves.{Plays}
+use Rattle.em_tape.specs.Tape.{Tape, IsAt}
 use Rattle.em_tape.proofs.TapeLaws.{line_in, short_at}
 use Rattle.em_tape.proofs.KeptLaws.{kept_play, same_tape}
 use Rattle.em_tape.proofs.tape.Tape.play_next.Goals as goal

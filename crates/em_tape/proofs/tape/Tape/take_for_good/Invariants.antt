@@ -1,4 +1,4 @@
-use Rattle.std.proofs.Common.{◌≡◌, length}
+use Rattle.std.proofs.Common.{◌≡◌}
 use Rattle.em_tape.specs.Moves.{Adds}
 use Rattle.em_tape.proofs.tape.Tape.take_for_good.Given as goal
 
