@@ -15,6 +15,8 @@ mod names;
 #[cfg(test)]
 mod names_of_refusals;
 #[cfg(test)]
+mod tape;
+#[cfg(test)]
 mod text;
 #[cfg(test)]
 mod trail;

@@ -1,0 +1,4 @@
+pub mod Ends
+pub mod Replied
+pub mod Tape
+pub mod Moves

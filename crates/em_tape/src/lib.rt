@@ -1,0 +1,18 @@
+//! The lines of a debugging session, with a place in it: one goes to any event since the start, back and
+//! forward again, and each time finds the same.
+//!
+//! A [`Tape`] keeps the lines that were typed or loaded, and how many events stand after each. Steps back go through
+//! the machine's journal as far as it reaches. Every other way leads over a new machine, on which the lines are
+//! performed again without their texts. So no place is out of reach, and none is lost where memory is refused on
+//! the way.
+#![tactic(auto)]
+
+mod count;
+mod ends;
+mod laws;
+mod lines;
+mod playing;
+mod tape;
+
+pub use laws::a_place_shows_the_same;
+pub use tape::{MOST_LINES, MOST_OCTETS, Tape};

@@ -1,0 +1,135 @@
+//! Performing the lines of a tape, for the first time and again.
+ghost use Rattle.std.specs.Prelude.{◌≡◌, ◌<◌, ◌≤◌, ◌^◌, All, length, IfOk, IfErr, IfSome, OnOk, IsNone};
+ghost use Rattle.em_turn.specs.Planned.{lists};
+ghost use Rattle.em_journal.specs.Settings.{new_machine, IsRefusedAs};
+ghost use Rattle.em_line.specs.Grammar.{parsed_line};
+ghost use Rattle.em_script.specs.Session.{bare};
+ghost use Rattle.em_script.specs.Reply.{Performs};
+ghost use Rattle.em_tape.specs.Replied.{replied_of};
+ghost use Rattle.em_tape.specs.Tape.{IsAt, IsShort};
+
+use crate::count::{Count, Seen};
+use em_journal::{Settings, SettingsRefusal};
+use em_script::{BenchFault, Outcome, Player, Session};
+use em_text::WriteFailed;
+use std::alloc::Global;
+use std::io::{Write, sink};
+
+/// The session over a new machine.
+pub(crate) fn opening(alloc: Global, settings: Settings) -> Result<Session, SettingsRefusal>
+    ensures ok { IfOk result (λ session. session ≡ bare (new_machine settings)) }
+    ensures err { IfErr result (IsRefusedAs settings) }
+{
+    match settings.machine(alloc) {
+        Ok(machine) => Ok(Session::new(alloc, machine)),
+        Err(refusal) => Err(refusal),
+    }
+}
+
+/// Puts a session in the place of another. This has a function of its own, since the prover checks here that the
+/// other may be dropped, which takes it long.
+pub(crate) fn put(place: &mut Session, session: Session)
+    ensures { place.new ≡ session }
+{
+    *place = session;
+}
+
+/// Plays a line, and counts its events. None where memory is refused for the octets of the line: then nothing is done
+/// and nothing written.
+pub(crate) fn play<W: Write>(
+    player: &mut Player,
+    writer: &mut W,
+    session: &mut Session,
+    number: u32,
+    line: &[u8],
+    count: &mut Count,
+) -> Option<Result<Outcome, WriteFailed>>
+    requires { IsShort line.now }
+    ensures done { IfSome result (Performs number (parsed_line line.now)
+        session.old session.new (W.contents writer.old) (W.contents writer.new)) }
+    ensures same { IsNone result → session.new ≡ session.old }
+    ensures unwritten { IsNone result → W.contents writer.new ≡ W.contents writer.old }
+    ensures room { length session.new.machine.past < 2 ^ 64 }
+{
+    let before = session.machine().can_go_back();
+    let replied = replied_of(player.play(writer, session, number, line));
+    let seen = Seen {
+        before,
+        after: session.machine().can_go_back(),
+        called: session.events_of_call(),
+    };
+    *count = count.after(line, replied, seen);
+    replied
+}
+
+/// How a line came out that was played.
+fn replied_of(played: Result<Outcome, BenchFault>) -> Option<Result<Outcome, WriteFailed>>
+    ensures { result ≡ replied_of played }
+{
+    match played {
+        Ok(outcome) => Some(Ok(outcome)),
+        Err(BenchFault::Write) => Some(Err(WriteFailed)),
+        Err(_) => None,
+    }
+}
+
+/// Performs lines again, from the first line on, without their texts. Each must end as it did before: where one does
+/// not, memory was refused to it, now or then.
+fn replay(
+    player: &mut Player,
+    session: &mut Session,
+    lines: &[Vec<u8>],
+    ends: &[u64],
+    count: &mut Count,
+) -> Result<(), BenchFault>
+    requires short { All IsShort (lists lines.now) }
+    requires few { length lines.now ≤ 0xFFFF_FFFF }
+    requires room { length session.old.machine.past < 2 ^ 64 }
+    ensures ok { OnOk result (IsAt session.old (lists lines.now) 0 session.new) }
+    ensures room { length session.new.machine.past < 2 ^ 64 }
+    ensures err { IfErr result (λ fault. fault ≡ BenchFault.Memory) }
+{
+    let mut nowhere = sink();
+    let mut number = 0;
+    for line in lines {
+        number += 1;
+        let Some(_) = play(
+            player,
+            &mut nowhere,
+            session,
+            number,
+            line.as_slice(),
+            count,
+        ) else {
+            return Err(BenchFault::Memory);
+        };
+        if !count.ended_so(ends, number) {
+            return Err(BenchFault::Memory);
+        }
+    }
+    Ok(())
+}
+
+/// The session that lines leave which are performed again on a new machine.
+pub(crate) fn replayed(
+    alloc: Global,
+    settings: Settings,
+    player: &mut Player,
+    lines: &[Vec<u8>],
+    ends: &[u64],
+    count: &mut Count,
+) -> Result<Session, BenchFault>
+    requires short { All IsShort (lists lines.now) }
+    requires few { length lines.now ≤ 0xFFFF_FFFF }
+    ensures ok { IfOk result (IsAt (bare (new_machine settings)) (lists lines.now) 0) }
+    ensures room { IfOk result (λ session. length session.machine.past < 2 ^ 64) }
+    ensures err { IfErr result (λ fault. fault ≡ BenchFault.Memory) }
+{
+    let Ok(mut session) = opening(alloc, settings) else {
+        return Err(BenchFault::Memory);
+    };
+    match replay(player, &mut session, lines, ends, count) {
+        Ok(()) => Ok(session),
+        Err(fault) => Err(fault),
+    }
+}
