@@ -1,0 +1,39 @@
+-- What is wrong with a line, as a text.
+use Rattle.std.specs.Prelude.{ℕ, List, [], ◌++◌, codes, decimal, get_or, Option, Some, None}
+use Rattle.em_regs.specs.declared.reg.Reg.{Reg}
+use Rattle.em_regs.specs.declared.reg.Reg.TheVariants.{Ctrl}
+use Rattle.em_names.specs.Names as names
+use Rattle.em_prompt.specs.declared.command.Command.{Command}
+use Rattle.em_prompt.specs.Command.{name_of}
+use Rattle.em_prompt.specs.Fault.{Fault, missing, too_many, no, odd_digits, no_register, no_bit, no_command}
+use Rattle.em_prompt.specs.Kind.{called, rule}
+use Rattle.em_prompt.specs.Prompt.{Wrong, unknown, behind}
+
+-- three registers that may be meant
+abbrev pub near_text : Option (List Reg) → List ℕ
+near_text None = []
+near_text (Some regs) =
+    let near = λ i. names.name_of (get_or regs i Ctrl) in
+    codes ": " ++ (near 0 ++ (codes ", " ++ (near 1 ++ (codes ", " ++ (near 2 ++ codes "?")))))
+
+abbrev pub no_register_text : Option (List Reg) → List ℕ → List ℕ
+no_register_text near word = (codes "no register " ++ word) ++ near_text near
+
+abbrev pub no_command_text : List ℕ → List ℕ
+no_command_text word = codes "no command " ++ (word ++ codes ": help says which there are")
+
+-- a fault behind a command's name; `near` are the registers that may be meant
+abbrev pub fault_text : Option (List Reg) → Command → Fault → List ℕ
+fault_text near command (missing kind) = name_of command ++ (codes ": " ++ (called kind ++ codes " is missing"))
+fault_text near command (too_many word) = name_of command ++ (codes ": " ++ (word ++ codes " is too much"))
+fault_text near command (no kind) = name_of command ++ (codes ": " ++ (called kind ++ rule kind))
+fault_text near command (odd_digits count) =
+    name_of command ++ (codes ": " ++ (decimal count ++ codes " digits are no octets"))
+fault_text near command (no_register word) = no_register_text near word
+fault_text near command (no_bit word reg) =
+    codes "no bit " ++ (word ++ (codes " in " ++ names.name_of reg))
+fault_text near command (no_command word) = no_command_text word
+
+abbrev pub wrong_text : Option (List Reg) → Wrong → List ℕ
+wrong_text near (unknown word) = no_command_text word
+wrong_text near (behind command fault) = fault_text near command fault

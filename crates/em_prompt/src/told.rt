@@ -1,0 +1,98 @@
+//! The part of a line that says something.
+ghost use Rattle.std.specs.Prelude.{◌≡◌, ◌≤◌, length, reverse};
+ghost use Rattle.std.specs.List.{prefix_len, position_or_len};
+ghost use Rattle.em_text.specs.Words.{is_blank};
+ghost use Rattle.em_prompt.specs.Told.{told, without_mark, before_comment, from_word, first_word, behind_first};
+ghost use Rattle.em_prompt.specs.Told.{without_blanks};
+
+/// What a comment begins with.
+const HASH: u8 = b'#';
+
+/// What a line says: it is cut off before a comment, and a byte order mark before it is left out.
+pub(crate) fn told(line: &[u8]) -> &[u8]
+    ensures { result.now ≡ told line.now }
+{
+    before_comment(without_mark(line))
+}
+
+/// A line without a byte order mark before it.
+fn without_mark(line: &[u8]) -> &[u8]
+    ensures { result.now ≡ without_mark line.now }
+{
+    match line {
+        [0xEF, 0xBB, 0xBF, rest @ ..] => rest,
+        _ => line,
+    }
+}
+
+/// A line up to the first hash that begins a word.
+fn before_comment(line: &[u8]) -> &[u8]
+    ensures { result.now ≡ before_comment true line.now }
+{
+    let mut starts = true;
+    for (i, octet) in line.iter().enumerate() {
+        if starts && *octet == HASH {
+            return &line[..i];
+        }
+        starts = is_blank(*octet);
+    }
+    line
+}
+
+/// The first word of a text, and what stands behind it.
+pub(crate) fn first_word(text: &[u8]) -> (&[u8], &[u8])
+    ensures word { result.0.now ≡ first_word text.now }
+    ensures behind { result.1.now ≡ behind_first text.now }
+{
+    let text = from_word(text);
+    text.split_at(word_len(text))
+}
+
+/// A text without the blanks around it.
+pub(crate) fn without_blanks(text: &[u8]) -> &[u8]
+    ensures { result.now ≡ without_blanks text.now }
+{
+    let text = from_word(text);
+    &text[..text.len() - blanks_at_end(text)]
+}
+
+/// A text from its first octet on that is no blank.
+fn from_word(text: &[u8]) -> &[u8]
+    ensures { result.now ≡ from_word text.now }
+{
+    &text[blanks_len(text)..]
+}
+
+/// How many octets a text has before its first blank.
+fn word_len(text: &[u8]) -> usize
+    ensures value { result ≡ position_or_len is_blank text.now }
+    ensures within { result ≤ length text.now }
+{
+    text.iter().take_while(|octet| !is_blank(**octet)).count()
+}
+
+/// How many blanks a text begins with.
+fn blanks_len(text: &[u8]) -> usize
+    ensures value { result ≡ prefix_len is_blank text.now }
+    ensures within { result ≤ length text.now }
+{
+    text.iter().take_while(|octet| is_blank(**octet)).count()
+}
+
+/// How many blanks a text ends with.
+fn blanks_at_end(text: &[u8]) -> usize
+    ensures value { result ≡ prefix_len is_blank (reverse text.now) }
+    ensures within { result ≤ length text.now }
+{
+    text.iter()
+        .rev()
+        .take_while(|octet| is_blank(**octet))
+        .count()
+}
+
+/// A space, a tab or a carriage return: what separates words.
+fn is_blank(octet: u8) -> bool
+    ensures { result ≡ is_blank octet }
+{
+    matches!(octet, b' ' | b'\t' | b'\r')
+}
