@@ -19,10 +19,10 @@ pub record Behind : Type 0 where
 
 abbrev pub behind_of : List (List ℕ) → Behind
 behind_of words = record {
-    first = first_of words;
-    second = first_of (others_of words);
-    third = first_of (others_of (others_of words));
-  }
+  first = first_of words;
+  second = first_of (others_of words);
+  third = first_of (others_of (others_of words));
+}
 
 -- the same without where they lie in memory
 abbrev pub plain : Lent → Behind

@@ -100,7 +100,7 @@ abbrev pub who_of : Behind → Typed
 who_of behind =
     if bytes_eq behind.first (codes "again") then who_again else
     who (watch_of behind.first behind.second)
-        (which_of (if is_some (watched behind.first) then behind.second else behind.third))
+    (which_of (if is_some (watched behind.first) then behind.second else behind.third))
 
 -- refused, dropped, LINE, or WATCH changes
 abbrev pub until_of : Behind → Until

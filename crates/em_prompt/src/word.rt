@@ -43,8 +43,7 @@ pub(crate) fn is_address(word: &[u8]) -> bool
 {
     word.len() == ADDRESS_LEN
         && (word[2] == COLON
-            && (word[5] == COLON
-                && (word[8] == COLON && (word[11] == COLON && word[14] == COLON))))
+            && (word[5] == COLON && (word[8] == COLON && (word[11] == COLON && word[14] == COLON))))
 }
 
 /// The digits of an Ethernet address without the colons.

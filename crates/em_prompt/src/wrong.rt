@@ -51,20 +51,9 @@ fn write_fault<W: Write>(
 {
     let at = command.name().as_bytes();
     match fault {
-        Fault::Missing(kind) => write_pieces(
-            writer,
-            &[at, b": ", kind.called().as_bytes(), b" is missing"],
-        ),
-        Fault::TooMany(word) => write_pieces(writer, &[at, b": ", word, b" is too much"]),
-        Fault::No(kind) => write_pieces(
-            writer,
-            &[
-                at,
-                b": ",
-                kind.called().as_bytes(),
-                kind.rule().as_bytes(),
-            ],
-        ),
+        Fault::Missing(kind) => write_at(writer, at, kind.called().as_bytes(), b" is missing"),
+        Fault::TooMany(word) => write_at(writer, at, word, b" is too much"),
+        Fault::No(kind) => write_at(writer, at, kind.called().as_bytes(), kind.rule().as_bytes()),
         Fault::OddDigits(count) => write_odd_digits(writer, at, count),
         Fault::NoRegister(word) => write_no_register(writer, word, near),
         Fault::NoBit(word, reg) => write_no_bit(writer, word, reg),
@@ -72,24 +61,30 @@ fn write_fault<W: Write>(
     }
 }
 
-fn write_odd_digits<W: Write>(
-    writer: &mut W,
-    at: &[u8],
-    count: usize,
-) -> Result<(), WriteFailed>
+fn write_odd_digits<W: Write>(writer: &mut W, at: &[u8], count: usize) -> Result<(), WriteFailed>
     ensures writes { Writes (W.contents writer.old) (W.contents writer.new) result
         (at.now ++ (codes ": " ++ (decimal count ++ codes " digits are no octets"))) }
 {
     let mut digits = Buffer::new();
-    write_pieces(
+    write_at(
         writer,
-        &[
-            at,
-            b": ",
-            digits.format(count).as_bytes(),
-            b" digits are no octets",
-        ],
+        at,
+        digits.format(count).as_bytes(),
+        b" digits are no octets",
     )
+}
+
+/// Writes a text behind a command's name, and its end.
+fn write_at<'a, W: Write>(
+    writer: &mut W,
+    at: &'a [u8],
+    text: &'a [u8],
+    end: &'a [u8],
+) -> Result<(), WriteFailed>
+    ensures writes { Writes (W.contents writer.old) (W.contents writer.new) result
+        (at.now ++ (codes ": " ++ (text.now ++ end.now))) }
+{
+    write_pieces(writer, &[at, b": ", text, end])
 }
 
 fn write_no_command<W: Write>(writer: &mut W, word: &[u8]) -> Result<(), WriteFailed>
