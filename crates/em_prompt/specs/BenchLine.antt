@@ -11,7 +11,7 @@ use Rattle.em_prompt.specs.declared.bench_line.BenchLine.{BenchLine as Lent}
 use Rattle.em_prompt.specs.Behind.{Behind, behind_of}
 use Rattle.em_prompt.specs.Bits.{bits_of}
 use Rattle.em_prompt.specs.Command.{name_of}
-use Rattle.em_prompt.specs.Form.{Form, words, plan, file, form_of}
+use Rattle.em_prompt.specs.Form.{Form, of_kinds, plan, file, form_of}
 use Rattle.em_prompt.specs.Register.{named, known}
 use Rattle.em_prompt.specs.Word.{bare, hex_number_in, data_digits}
 
@@ -65,7 +65,7 @@ words_text kinds behind =
 
 -- a plan stays as it stands
 abbrev pub form_text : Form → Behind → List ℕ → List ℕ
-form_text (words must kinds) behind rest = words_text kinds behind
+form_text (of_kinds must kinds) behind rest = words_text kinds behind
 form_text plan behind rest = rest
 form_text file behind rest = rest
 

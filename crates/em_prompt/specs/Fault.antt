@@ -21,7 +21,7 @@ use Rattle.em_prompt.specs.Kind.{is_choice}
 use Rattle.em_prompt.specs.Bits.{bits_of}
 use Rattle.em_prompt.specs.Command.{command_of}
 use Rattle.em_prompt.specs.Watch.{watched}
-use Rattle.em_prompt.specs.Form.{Form, words, plan, file, is_some}
+use Rattle.em_prompt.specs.Form.{Form, of_kinds, plan, file, is_some}
 
 pub data Fault : Type 0 where
   -- a word of this kind is not there
@@ -128,6 +128,6 @@ file_fault (word ∷ words) = None
 
 -- the first fault of the words behind a name
 abbrev pub form_fault : Form → List (List ℕ) → Option Fault
-form_fault (words must kinds) behind = words_fault must kinds [] behind
+form_fault (of_kinds must kinds) behind = words_fault must kinds [] behind
 form_fault plan behind = plan_fault behind (turns_form behind)
 form_fault file behind = file_fault behind

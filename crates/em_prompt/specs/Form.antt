@@ -17,7 +17,7 @@ use Rattle.em_prompt.specs.Word.{hex_address_in}
 
 pub data Form : Type 0 where
   -- words of these kinds, of which so many must stand there
-  words : ℕ → List Kind → Form
+  of_kinds : ℕ → List Kind → Form
   -- a plan, as em_bench has it
   plan : Form
   -- the name of a file: all that stands there
@@ -25,7 +25,7 @@ pub data Form : Type 0 where
 
 -- a form of the code without where its kinds lie in memory
 abbrev pub plain : Lent → Form
-plain (lent.Words must kinds) = words must kinds.now
+plain (lent.Words must kinds) = of_kinds must kinds.now
 plain lent.Plan = plan
 plain lent.File = file
 
@@ -41,67 +41,67 @@ is_there (octet ∷ octets) = true
 -- who again, who WATCH, who WATCH again, who WATCH all, where WATCH is ADDR LEN or one word
 abbrev pub who_form : Behind → Form
 who_form behind =
-    if bytes_eq behind.first (codes "again") then words 1 (Choice More ∷ []) else
-    if is_some (hex_address_in behind.first) then words 2 (Address ∷ Number Watched ∷ Choice More ∷ []) else
-    words 1 (Watch ∷ Choice More ∷ [])
+    if bytes_eq behind.first (codes "again") then of_kinds 1 (Choice More ∷ []) else
+    if is_some (hex_address_in behind.first) then of_kinds 2 (Address ∷ Number Watched ∷ Choice More ∷ []) else
+    of_kinds 1 (Watch ∷ Choice More ∷ [])
 
 -- back, back N, back to LINE; and forward so
 abbrev pub move_form : Behind → Form
 move_form behind =
-    if is_choice To behind.first then words 2 (Choice To ∷ Number Line ∷ []) else words 0 (Number Count ∷ [])
+    if is_choice To behind.first then of_kinds 2 (Choice To ∷ Number Line ∷ []) else of_kinds 0 (Number Count ∷ [])
 
 -- until WATCH changes, where WATCH is ADDR LEN or one word
 abbrev pub changes_form : Behind → Form
 changes_form behind =
     if is_some (hex_address_in behind.second)
-    then words 4 (Choice Until ∷ Address ∷ Number Watched ∷ Choice Changes ∷ [])
-    else words 3 (Choice Until ∷ Watch ∷ Choice Changes ∷ [])
+    then of_kinds 4 (Choice Until ∷ Address ∷ Number Watched ∷ Choice Changes ∷ [])
+    else of_kinds 3 (Choice Until ∷ Watch ∷ Choice Changes ∷ [])
 
 -- until refused, until dropped, until LINE, until WATCH changes
 abbrev pub until_form : Behind → Form
 until_form behind =
-    if is_choice Stop behind.second then words 2 (Choice Until ∷ Choice Stop ∷ []) else
+    if is_choice Stop behind.second then of_kinds 2 (Choice Until ∷ Choice Stop ∷ []) else
     if not (is_there behind.third) && is_some (decimal_number behind.second)
-    then words 2 (Choice Until ∷ Number Line ∷ [])
+    then of_kinds 2 (Choice Until ∷ Number Line ∷ [])
     else changes_form behind
 
 -- run, or run until ..
 abbrev pub run_form : Behind → Form
-run_form behind = if is_there behind.first then until_form behind else words 0 []
+run_form behind = if is_there behind.first then until_form behind else of_kinds 0 []
 
 -- the form of each command, by the first words behind its name
 abbrev pub form_of : Command → Behind → Form
-form_of command.Read behind = words 1 (Register ∷ [])
-form_of command.Write behind = words 2 (Register ∷ Value ∷ [])
-form_of command.Poke behind = words 2 (Address ∷ Data ∷ [])
-form_of command.Peek behind = words 2 (Address ∷ Number Peeked ∷ [])
-form_of command.Arrive behind = words 1 (Data ∷ FrameLen ∷ [])
-form_of command.Rx behind = words 0 []
-form_of command.Tx behind = words 0 []
-form_of command.Link behind = words 1 (Choice Way ∷ [])
-form_of command.Line behind = words 0 []
-form_of command.Regs behind = words 0 []
-form_of command.Wire behind = words 0 []
-form_of command.Init behind = words 0 []
-form_of command.Send behind = words 1 (Data ∷ FrameLen ∷ [])
-form_of command.Recv behind = words 1 (Number Packets ∷ [])
-form_of command.Stats behind = words 0 []
-form_of command.Mac behind = words 0 (Ethernet ∷ [])
+form_of command.Read behind = of_kinds 1 (Register ∷ [])
+form_of command.Write behind = of_kinds 2 (Register ∷ Value ∷ [])
+form_of command.Poke behind = of_kinds 2 (Address ∷ Data ∷ [])
+form_of command.Peek behind = of_kinds 2 (Address ∷ Number Peeked ∷ [])
+form_of command.Arrive behind = of_kinds 1 (Data ∷ FrameLen ∷ [])
+form_of command.Rx behind = of_kinds 0 []
+form_of command.Tx behind = of_kinds 0 []
+form_of command.Link behind = of_kinds 1 (Choice Way ∷ [])
+form_of command.Line behind = of_kinds 0 []
+form_of command.Regs behind = of_kinds 0 []
+form_of command.Wire behind = of_kinds 0 []
+form_of command.Init behind = of_kinds 0 []
+form_of command.Send behind = of_kinds 1 (Data ∷ FrameLen ∷ [])
+form_of command.Recv behind = of_kinds 1 (Number Packets ∷ [])
+form_of command.Stats behind = of_kinds 0 []
+form_of command.Mac behind = of_kinds 0 (Ethernet ∷ [])
 form_of command.Turns behind = plan
-form_of command.Look behind = words 1 (Known ∷ [])
+form_of command.Look behind = of_kinds 1 (Known ∷ [])
 form_of command.Who behind = who_form behind
 form_of command.Back behind = move_form behind
 form_of command.Forward behind = move_form behind
-form_of command.Goto behind = words 1 (Number Event ∷ [])
-form_of command.Next behind = words 0 (Number Count ∷ [])
+form_of command.Goto behind = of_kinds 1 (Number Event ∷ [])
+form_of command.Next behind = of_kinds 0 (Number Count ∷ [])
 form_of command.Run behind = run_form behind
 form_of command.Load behind = file
 form_of command.Save behind = file
 form_of command.SaveOver behind = file
-form_of command.History behind = words 0 (Number Count ∷ [])
-form_of command.Effect behind = words 0 (Number Event ∷ [])
-form_of command.Ring behind = words 1 (Choice Side ∷ [])
-form_of command.Frame behind = words 0 (Number Index ∷ [])
-form_of command.Memory behind = words 2 (Address ∷ Number Peeked ∷ [])
-form_of command.Help behind = words 0 (Name ∷ [])
-form_of command.Quit behind = words 0 []
+form_of command.History behind = of_kinds 0 (Number Count ∷ [])
+form_of command.Effect behind = of_kinds 0 (Number Event ∷ [])
+form_of command.Ring behind = of_kinds 1 (Choice Side ∷ [])
+form_of command.Frame behind = of_kinds 0 (Number Index ∷ [])
+form_of command.Memory behind = of_kinds 2 (Address ∷ Number Peeked ∷ [])
+form_of command.Help behind = of_kinds 0 (Name ∷ [])
+form_of command.Quit behind = of_kinds 0 []

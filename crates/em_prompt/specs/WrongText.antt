@@ -9,12 +9,15 @@ use Rattle.em_prompt.specs.Fault.{Fault, missing, too_many, no, odd_digits, no_r
 use Rattle.em_prompt.specs.Kind.{called, rule}
 use Rattle.em_prompt.specs.Prompt.{Wrong, unknown, behind}
 
+abbrev pub register_name : List Reg → ℕ → List ℕ
+register_name regs i = names.name_of (get_or regs i Ctrl)
+
 -- three registers that may be meant
 abbrev pub near_text : Option (List Reg) → List ℕ
 near_text None = []
 near_text (Some regs) =
-    let near = λ i. names.name_of (get_or regs i Ctrl) in
-    codes ": " ++ (near 0 ++ (codes ", " ++ (near 1 ++ (codes ", " ++ (near 2 ++ codes "?")))))
+    codes ": " ++ (register_name regs 0 ++ (codes ", " ++ (register_name regs 1 ++ (codes ", "
+    ++ (register_name regs 2 ++ codes "?")))))
 
 abbrev pub no_register_text : Option (List Reg) → List ℕ → List ℕ
 no_register_text near word = (codes "no register " ++ word) ++ near_text near

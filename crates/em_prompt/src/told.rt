@@ -1,5 +1,5 @@
 //! The part of a line that says something.
-ghost use Rattle.std.specs.Prelude.{◌≡◌, ◌≤◌, length, reverse};
+ghost use Rattle.std.specs.Prelude.{◌≡◌, ◌≤◌, true, length, reverse};
 ghost use Rattle.std.specs.List.{prefix_len, position_or_len};
 ghost use Rattle.em_text.specs.Words.{is_blank};
 ghost use Rattle.em_prompt.specs.Told.{told, without_mark, before_comment, from_word, first_word, behind_first};
