@@ -3,6 +3,7 @@ use Rattle.std.specs.Prelude.{ℕ, Bool, true, false, ◌==◌, ◌&&◌, bit_or
 use Rattle.std.specs.Prelude.{Option, Some, None, Result, Ok, Err}
 use Rattle.std.specs.List.{slice_split}
 use Rattle.em_regs.specs.declared.reg.Reg.{Reg}
+use Rattle.em_names.specs.declared.field.Field.{Field}
 use Rattle.em_names.specs.declared.field.Form.{Form}
 use Rattle.em_names.specs.declared.field.Form.TheVariants.{Bit, Number, Digits, Speed, Size}
 use Rattle.em_names.specs.Bits.{Row, table_of}
@@ -23,6 +24,10 @@ abbrev pub bit_among : List Row → List ℕ → Option ℕ
 bit_among [] word = None
 bit_among (row ∷ rows) word =
     if is_bit row.form && same_letters word row.name then Some row.mask else bit_among rows word
+
+-- a field is a bit of this name
+abbrev pub is_called : List ℕ → Field → Bool
+is_called word field = is_bit field.form && same_letters word field.name.now
 
 -- what the bit of a word completes; of a word that names none, the word
 abbrev pub with_bit : {T : Type 0} → List ℕ → Option ℕ → (ℕ → Result T (List ℕ)) → Result T (List ℕ)

@@ -1,8 +1,8 @@
 //! The bits of a register that a word names.
-ghost use Rattle.std.specs.Prelude.{◌≡◌, ◌∷◌, [], ◌<◌, MatchOption, MatchResult, Ok, Err, length, map};
-ghost use Rattle.std.specs.List.{slice_split};
-ghost use Rattle.em_names.specs.Bits.{row_of_field, table_of};
-ghost use Rattle.em_prompt.specs.Bits.{is_bar, bit_among, is_bit, bits_of};
+ghost use Rattle.std.specs.Prelude.{◌≡◌, ◌∷◌, [], ◌<◌, ◌≤◌, MatchOption, MatchResult, Ok, Err, length, find};
+ghost use Rattle.std.specs.List.{slice_split, position_or_len};
+ghost use Rattle.std.specs.Option.{option_map};
+ghost use Rattle.em_prompt.specs.Bits.{is_bar, is_bit, is_called, bits_of};
 
 use em_names::{Field, Form, fields};
 use em_regs::Reg;
@@ -37,22 +37,42 @@ fn first_name(text: &[u8]) -> (&[u8], Option<&[u8]>)
         (λ behind. slice_split is_bar text.now ≡ result.0.now ∷ slice_split is_bar behind.now) }
     ensures shorter { MatchOption result.1 (Unit {0}) (λ behind. length behind.now < length text.now) }
 {
-    match text.iter().position(|octet| *octet == BAR) {
-        Some(at) => (&text[..at], Some(&text[at + 1..])),
-        None => (text, None),
+    let end = name_len(text);
+    if end == text.len() {
+        return (text, None);
     }
+    (&text[..end], Some(&text[end + 1..]))
+}
+
+/// How many octets a text has before its first bar.
+fn name_len(text: &[u8]) -> usize
+    ensures value { result ≡ position_or_len is_bar text.now }
+    ensures within { result ≤ length text.now }
+{
+    text.iter().take_while(|octet| !is_bar(**octet)).count()
+}
+
+fn is_bar(octet: u8) -> bool
+    ensures { result ≡ is_bar octet }
+{
+    octet == BAR
 }
 
 /// The bit of this name.
 fn bit_among(fields: &[Field], word: &[u8]) -> Option<u32>
-    ensures { result ≡ bit_among (map row_of_field fields.now) word.now }
+    ensures { result ≡ option_map (λ field. field.mask) (find (λ field. is_called word field) fields.now) }
 {
-    for field in fields {
-        if is_bit(*field) && word.eq_ignore_ascii_case(field.name.as_bytes()) {
-            return Some(field.mask);
-        }
+    match fields.iter().copied().find(|field| is_called(*field, word)) {
+        Some(field) => Some(field.mask),
+        None => None,
     }
-    None
+}
+
+/// Whether a field is a bit of this name, in either case.
+fn is_called(field: Field, word: &[u8]) -> bool
+    ensures { result ≡ is_called word field }
+{
+    is_bit(field) && word.eq_ignore_ascii_case(field.name.as_bytes())
 }
 
 /// Whether a field is a bit.

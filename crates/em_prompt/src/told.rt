@@ -1,8 +1,8 @@
 //! The part of a line that says something.
-ghost use Rattle.std.specs.Prelude.{◌≡◌, ◌≤◌, true, length, reverse};
+ghost use Rattle.std.specs.Prelude.{◌≡◌, ◌≤◌, length, reverse, slice_index};
 ghost use Rattle.std.specs.List.{prefix_len, position_or_len};
 ghost use Rattle.em_text.specs.Words.{is_blank};
-ghost use Rattle.em_prompt.specs.Told.{told, without_mark, before_comment, from_word, first_word, behind_first};
+ghost use Rattle.em_prompt.specs.Told.{told, without_mark, before_comment, is_comment_at, from_word, first_word, behind_first};
 ghost use Rattle.em_prompt.specs.Told.{without_blanks};
 
 /// What a comment begins with.
@@ -25,18 +25,28 @@ fn without_mark(line: &[u8]) -> &[u8]
     }
 }
 
-/// A line up to the first hash that begins a word.
+/// A line up to a comment.
 fn before_comment(line: &[u8]) -> &[u8]
-    ensures { result.now ≡ before_comment true line.now }
+    ensures { result.now ≡ before_comment line.now }
 {
-    let mut starts = true;
-    for (i, octet) in line.iter().enumerate() {
-        if starts && *octet == HASH {
-            return &line[..i];
-        }
-        starts = is_blank(*octet);
+    match (0..line.len()).find(|at| is_comment_at(line, *at)) {
+        Some(at) => &line[..at.min(line.len())],
+        None => line,
     }
-    line
+}
+
+/// Whether a comment begins at an octet: it is a hash, and no word stands right before it.
+fn is_comment_at(line: &[u8], at: usize) -> bool
+    ensures { result ≡ is_comment_at line.now at }
+{
+    octet_at(line, at) == HASH && (at == 0 || is_blank(octet_at(line, at.saturating_sub(1))))
+}
+
+/// An octet; 0 behind the end.
+fn octet_at(line: &[u8], at: usize) -> u8
+    ensures { result ≡ slice_index line.now at }
+{
+    if at < line.len() { line[at] } else { 0 }
 }
 
 /// The first word of a text, and what stands behind it.
