@@ -3,7 +3,6 @@ use Rattle.std.proofs.Common.{◌≡◌, ◌≤◌, ℕ, ◌+◌, ◌<◌, Bool,
 use Rattle.std.proofs.Common.{Option, Some, None, IfSome, find, refl, sym, ap, ◌∙◌, subst, arith}
 use Rattle.std.specs.Option.{option_map}
 use Rattle.std.specs.List.{range_with_len}
-use Rattle.std.specs.Bool.{Decides}
 use Rattle.std.proofs.Common.{◌⊎◌, inl, inr}
 use Rattle.std.proofs.lemmas.Bool.{cases_lt}
 use Rattle.std.specs.Char.{to_ascii_lowercase}
@@ -17,22 +16,14 @@ use Rattle.em_prompt.specs.Register.{same_letters, or_else, index_named, named_a
 
 -- ---- the test of letters
 
-decided_true : (b : Bool) (P : Type 0) → Decides b P → b ≡ true → P
-decided_true true P d e = d
-decided_true false P d e = cc
-
-decided_false : (b : Bool) (P : Type 0) → Decides b P → b ≡ false → P → ⊥
-decided_false true P d e p = cc
-decided_false false P d e p = d p
-
 abbrev lowered : List ℕ → List ℕ
 lowered word = map to_ascii_lowercase word
 
 same_true : (a b : List ℕ) → same_letters a b ≡ true → SameLetters a b
-same_true a b e = decided_true _ _ (bytes_eq-Decides (lowered a) (lowered b)) e
+same_true a b e = (bytes_eq-Decides (lowered a) (lowered b)).0 e
 
 same_false : (a b : List ℕ) → same_letters a b ≡ false → SameLetters a b → ⊥
-same_false a b e = decided_false _ _ (bytes_eq-Decides (lowered a) (lowered b)) e
+same_false a b e h = let t = (bytes_eq-Decides (lowered a) (lowered b)).1 h in cc
 
 -- ---- what is found in a range
 

@@ -1,5 +1,5 @@
 -- A line of em_bench's, and its text as it is kept.
-use Rattle.std.specs.Prelude.{ℕ, List, [], ◌∷◌, ◌++◌, codes, slice_get, Option, Some, None, Result, Ok, Err}
+use Rattle.std.specs.Prelude.{ℕ, List, [], ◌∷◌, ◌++◌, codes, slice_get, if◌then◌else◌, Option, Some, None, Result, Ok, Err}
 use Rattle.em_text.specs.Words.{words_of}
 use Rattle.em_text.specs.Writer.{value_digits}
 use Rattle.em_regs.specs.declared.reg.Reg.{Reg}
@@ -11,7 +11,7 @@ use Rattle.em_prompt.specs.declared.bench_line.BenchLine.{BenchLine as Lent}
 use Rattle.em_prompt.specs.Behind.{Behind, behind_of}
 use Rattle.em_prompt.specs.Bits.{bits_of}
 use Rattle.em_prompt.specs.Command.{name_of}
-use Rattle.em_prompt.specs.Form.{Form, of_kinds, plan, file, form_of}
+use Rattle.em_prompt.specs.Form.{Form, of_kinds, plan, file, form_of, is_there}
 use Rattle.em_prompt.specs.Register.{named, known}
 use Rattle.em_prompt.specs.Word.{bare, hex_number_in, data_digits}
 
@@ -55,8 +55,7 @@ kept_word _ before word = word
 -- the same behind a space; nothing where there is no word
 abbrev pub kept_behind : Option Kind → List ℕ → List ℕ → List ℕ
 kept_behind None before word = []
-kept_behind (Some kind) before [] = []
-kept_behind (Some kind) before (octet ∷ octets) = codes " " ++ kept_word kind before (octet ∷ octets)
+kept_behind (Some kind) before word = if is_there word then codes " " ++ kept_word kind before word else []
 
 -- what is kept of the words behind a name, of which these forms have two at most
 abbrev pub words_text : List Kind → Behind → List ℕ
@@ -69,8 +68,10 @@ form_text (of_kinds must kinds) behind rest = words_text kinds behind
 form_text plan behind rest = rest
 form_text file behind rest = rest
 
+-- a command with what stands behind its name
+abbrev pub line_text : Command → Behind → List ℕ → List ℕ
+line_text command behind rest = name_of command ++ form_text (form_of command behind) behind rest
+
 -- the text of a line
 abbrev pub text_of : BenchLine → List ℕ
-text_of line =
-    let behind = behind_of (words_of line.rest) in
-    name_of line.command ++ form_text (form_of line.command behind) behind line.rest
+text_of line = line_text line.command (behind_of (words_of line.rest)) line.rest

@@ -25,13 +25,16 @@ no_register_text near word = (codes "no register " ++ word) ++ near_text near
 abbrev pub no_command_text : List ℕ → List ℕ
 no_command_text word = codes "no command " ++ (word ++ codes ": help says which there are")
 
+-- a text behind a command's name, and its end
+abbrev pub at_text : Command → List ℕ → List ℕ → List ℕ
+at_text command text end = name_of command ++ (codes ": " ++ (text ++ end))
+
 -- a fault behind a command's name; `near` are the registers that may be meant
 abbrev pub fault_text : Option (List Reg) → Command → Fault → List ℕ
-fault_text near command (missing kind) = name_of command ++ (codes ": " ++ (called kind ++ codes " is missing"))
-fault_text near command (too_many word) = name_of command ++ (codes ": " ++ (word ++ codes " is too much"))
-fault_text near command (no kind) = name_of command ++ (codes ": " ++ (called kind ++ rule kind))
-fault_text near command (odd_digits count) =
-    name_of command ++ (codes ": " ++ (decimal count ++ codes " digits are no octets"))
+fault_text near command (missing kind) = at_text command (called kind) (codes " is missing")
+fault_text near command (too_many word) = at_text command word (codes " is too much")
+fault_text near command (no kind) = at_text command (called kind) (rule kind)
+fault_text near command (odd_digits count) = at_text command (decimal count) (codes " digits are no octets")
 fault_text near command (no_register word) = no_register_text near word
 fault_text near command (no_bit word reg) =
     codes "no bit " ++ (word ++ (codes " in " ++ names.name_of reg))

@@ -1,10 +1,11 @@
 //! A line of em_bench's, as it is kept.
-ghost use Rattle.std.specs.Prelude.{◌≡◌};
+ghost use Rattle.std.specs.Prelude.{◌≡◌, ◌++◌, codes, slice_get};
 ghost use Rattle.em_text.specs.Writer.{Writes, value_digits};
 ghost use Rattle.em_prompt.specs.Behind.{plain as plain_behind};
+ghost use Rattle.em_prompt.specs.Command.{name_of};
 ghost use Rattle.em_prompt.specs.Form.{plain as plain_form};
 ghost use Rattle.em_prompt.specs.Word.{data_digits, hex_number_in};
-ghost use Rattle.em_prompt.specs.BenchLine.{plain, kept_word, kept_behind, form_text, text_of, register_text};
+ghost use Rattle.em_prompt.specs.BenchLine.{plain, kept_word, kept_behind, form_text, text_of, line_text, register_text};
 ghost use Rattle.em_prompt.specs.BenchLine.{named_value_text, value_text, words_text};
 
 use crate::behind::{Behind, behind_of};
@@ -35,10 +36,28 @@ impl BenchLine<'_> {
     pub fn write<W: Write>(&self, writer: &mut W) -> Result<(), WriteFailed>
         ensures writes { Writes (W.contents writer.old) (W.contents writer.new) result (text_of (plain self.now)) }
     {
-        let behind = behind_of(self.words);
-        write_whole(writer, self.command.name().as_bytes())?;
-        write_form(writer, self.command.form(&behind), &behind, self.words.0)
+        write_line(writer, self.command, &behind_of(self.words), self.words.0)
     }
+}
+
+/// Writes a command with what is kept of the words behind its name.
+fn write_line<W: Write>(
+    writer: &mut W,
+    command: Command,
+    behind: &Behind<'_>,
+    rest: &[u8],
+) -> Result<(), WriteFailed>
+    ensures writes { Writes (W.contents writer.old) (W.contents writer.new) result
+        (line_text command (plain_behind behind.now) rest.now) }
+{
+    write_name(writer, command)?;
+    write_form(writer, command.form(behind), behind, rest)
+}
+
+fn write_name<W: Write>(writer: &mut W, command: Command) -> Result<(), WriteFailed>
+    ensures writes { Writes (W.contents writer.old) (W.contents writer.new) result (name_of command) }
+{
+    write_whole(writer, command.name().as_bytes())
 }
 
 /// Writes what is kept of the words behind a name.
@@ -66,8 +85,16 @@ fn write_words<W: Write>(
     ensures writes { Writes (W.contents writer.old) (W.contents writer.new) result
         (words_text kinds.now (plain_behind behind.now)) }
 {
-    write_behind(writer, kinds.first().copied(), b"", behind.first)?;
-    write_behind(writer, kinds.get(1).copied(), behind.first, behind.second)
+    let first = kind_at(kinds, 0);
+    let second = kind_at(kinds, 1);
+    write_behind(writer, first, b"", behind.first)?;
+    write_behind(writer, second, behind.first, behind.second)
+}
+
+fn kind_at(kinds: &[Kind], at: usize) -> Option<Kind>
+    ensures { result ≡ slice_get kinds.now at }
+{
+    kinds.get(at).copied()
 }
 
 /// Writes what is kept of a word behind a space; nothing where there is no word.
@@ -80,12 +107,21 @@ fn write_behind<W: Write>(
     ensures writes { Writes (W.contents writer.old) (W.contents writer.new) result
         (kept_behind kind before.now word.now) }
 {
-    let Some(kind) = kind else {
-        return Ok(());
-    };
-    if word.is_empty() {
-        return Ok(());
+    match kind {
+        Some(kind) if !word.is_empty() => write_spaced(writer, kind, before, word),
+        _ => Ok(()),
     }
+}
+
+fn write_spaced<W: Write>(
+    writer: &mut W,
+    kind: Kind,
+    before: &[u8],
+    word: &[u8],
+) -> Result<(), WriteFailed>
+    ensures writes { Writes (W.contents writer.old) (W.contents writer.new) result
+        (codes " " ++ kept_word kind before.now word.now) }
+{
     write_whole(writer, b" ")?;
     write_word(writer, kind, before, word)
 }

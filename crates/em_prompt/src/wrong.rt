@@ -4,7 +4,7 @@ ghost use Rattle.em_text.specs.Writer.{Writes};
 ghost use Rattle.em_names.specs.Names.{name_of};
 ghost use Rattle.em_prompt.specs.Fault.{plain as plain_fault};
 ghost use Rattle.em_prompt.specs.Prompt.{plain_wrong};
-ghost use Rattle.em_prompt.specs.WrongText.{wrong_text, fault_text, no_command_text, near_text, no_register_text};
+ghost use Rattle.em_prompt.specs.WrongText.{wrong_text, fault_text, at_text, no_command_text, near_text, no_register_text};
 
 use crate::command::Command;
 use crate::fault::Fault;
@@ -49,26 +49,36 @@ fn write_fault<W: Write>(
     ensures writes { Writes (W.contents writer.old) (W.contents writer.new) result
         (fault_text near command (plain_fault fault.entry)) }
 {
-    let at = command.name().as_bytes();
     match fault {
-        Fault::Missing(kind) => write_at(writer, at, kind.called().as_bytes(), b" is missing"),
-        Fault::TooMany(word) => write_at(writer, at, word, b" is too much"),
-        Fault::No(kind) => write_at(writer, at, kind.called().as_bytes(), kind.rule().as_bytes()),
-        Fault::OddDigits(count) => write_odd_digits(writer, at, count),
+        Fault::Missing(kind) => {
+            write_at(writer, command, kind.called().as_bytes(), b" is missing")
+        }
+        Fault::TooMany(word) => write_at(writer, command, word, b" is too much"),
+        Fault::No(kind) => write_at(
+            writer,
+            command,
+            kind.called().as_bytes(),
+            kind.rule().as_bytes(),
+        ),
+        Fault::OddDigits(count) => write_odd_digits(writer, command, count),
         Fault::NoRegister(word) => write_no_register(writer, word, near),
         Fault::NoBit(word, reg) => write_no_bit(writer, word, reg),
         Fault::NoCommand(word) => write_no_command(writer, word),
     }
 }
 
-fn write_odd_digits<W: Write>(writer: &mut W, at: &[u8], count: usize) -> Result<(), WriteFailed>
+fn write_odd_digits<W: Write>(
+    writer: &mut W,
+    command: Command,
+    count: usize,
+) -> Result<(), WriteFailed>
     ensures writes { Writes (W.contents writer.old) (W.contents writer.new) result
-        (at.now ++ (codes ": " ++ (decimal count ++ codes " digits are no octets"))) }
+        (at_text command (decimal count) (codes " digits are no octets")) }
 {
     let mut digits = Buffer::new();
     write_at(
         writer,
-        at,
+        command,
         digits.format(count).as_bytes(),
         b" digits are no octets",
     )
@@ -77,14 +87,15 @@ fn write_odd_digits<W: Write>(writer: &mut W, at: &[u8], count: usize) -> Result
 /// Writes a text behind a command's name, and its end.
 fn write_at<'a, W: Write>(
     writer: &mut W,
-    at: &'a [u8],
+    command: Command,
     text: &'a [u8],
     end: &'a [u8],
 ) -> Result<(), WriteFailed>
     ensures writes { Writes (W.contents writer.old) (W.contents writer.new) result
-        (at.now ++ (codes ": " ++ (text.now ++ end.now))) }
+        (at_text command text.now end.now) }
 {
-    write_pieces(writer, &[at, b": ", text, end])
+    let name: &'a [u8] = command.name().as_bytes();
+    write_pieces(writer, &[name, b": ", text, end])
 }
 
 fn write_no_command<W: Write>(writer: &mut W, word: &[u8]) -> Result<(), WriteFailed>
