@@ -36,7 +36,7 @@ found_passes p a (suc n) i e = by_first (p a) refl e where
   by_first false t e = let rest = found_passes p (a + 1) n i e in (rest.0, omega (arith, rest.1))
 
 at_or_above : (k a : ℕ) → a ≤ k → (k ≡ a) ⊎ (a + 1 ≤ k)
-at_or_above k a le = elim (cases_lt a k) [ | inl lt ↦ inr (omega arith) | inr ge ↦ inl (omega arith) ]
+at_or_above k a le = elim (cases_lt a k) [ inl lt ↦ inr (omega arith) | inr ge ↦ inl (omega arith) ]
 
 pub none_passes : (p : ℕ → Bool) (a n : ℕ) → find p (range_with_len a n) ≡ None → (k : ℕ) → a ≤ k → k < a + n
     → p k ≡ false
@@ -45,6 +45,7 @@ none_passes p a (suc n) e k from to = by_first (p a) refl e where
   next : p a ≡ false → find p (range_with_len (a + 1) n) ≡ None → (k ≡ a) ⊎ (a + 1 ≤ k) → p k ≡ false
   next t e (inl same) = rw same t
   next t e (inr more) = none_passes p (a + 1) n e k more (omega arith)
+
   by_first : (b : Bool) → p a ≡ b → cond b (Some a) (find p (range_with_len (a + 1) n)) ≡ None → p k ≡ false
   by_first true t e = cc
   by_first false t e = next t e (at_or_above k a from)
@@ -88,6 +89,7 @@ named_is word result some every = by_found (named_among word registers) refl whe
       → named_among word registers ≡ None → result ≡ None
   no_other None some e = refl
   no_other (Some reg) some e = absurd (names_none word (named_none word registers e) reg some.0 some.1)
+
   by_found : (found : Option Reg) → named_among word registers ≡ found → result ≡ named_among word registers
   by_found (Some reg) e = let it = named_sound word registers reg e in every reg it.0 it.1 ∙ sym e
   by_found None e = no_other result some e ∙ sym e

@@ -60,7 +60,7 @@ fn is_bar(octet: u8) -> bool
 
 /// The bit of this name.
 fn bit_among(fields: &[Field], word: &[u8]) -> Option<u32>
-    ensures { result ≡ option_map (λ field. field.mask) (find (λ field. is_called word field) fields.now) }
+    ensures { result ≡ option_map (λ field. field.mask) (find (λ field. is_called word.now field) fields.now) }
 {
     match fields.iter().copied().find(|field| is_called(*field, word)) {
         Some(field) => Some(field.mask),
@@ -70,7 +70,7 @@ fn bit_among(fields: &[Field], word: &[u8]) -> Option<u32>
 
 /// Whether a field is a bit of this name, in either case.
 fn is_called(field: Field, word: &[u8]) -> bool
-    ensures { result ≡ is_called word field }
+    ensures { result ≡ is_called word.now field }
 {
     is_bit(field) && word.eq_ignore_ascii_case(field.name.as_bytes())
 }
