@@ -62,10 +62,20 @@ fn is_bar(octet: u8) -> bool
 fn bit_among(fields: &[Field], word: &[u8]) -> Option<u32>
     ensures { result ≡ option_map (λ field. field.mask) (find (λ field. is_called word.now field) fields.now) }
 {
-    match fields.iter().copied().find(|field| is_called(*field, word)) {
+    match field_called(fields, word) {
         Some(field) => Some(field.mask),
         None => None,
     }
+}
+
+/// The field that is a bit of this name.
+fn field_called(fields: &[Field], word: &[u8]) -> Option<Field>
+    ensures { result ≡ find (λ field. is_called word.now field) fields.now }
+{
+    fields
+        .iter()
+        .copied()
+        .find(|field| is_called(*field, word))
 }
 
 /// Whether a field is a bit of this name, in either case.

@@ -1,6 +1,6 @@
 //! The part of a line that says something.
-ghost use Rattle.std.specs.Prelude.{◌≡◌, ◌≤◌, length, reverse, slice_index};
-ghost use Rattle.std.specs.List.{prefix_len, position_or_len};
+ghost use Rattle.std.specs.Prelude.{◌≡◌, ◌≤◌, length, reverse, slice_index, find};
+ghost use Rattle.std.specs.List.{prefix_len, position_or_len, range_with_len};
 ghost use Rattle.em_text.specs.Words.{is_blank};
 ghost use Rattle.em_prompt.specs.Told.{told, without_mark, before_comment, is_comment_at, from_word, first_word, behind_first};
 ghost use Rattle.em_prompt.specs.Told.{without_blanks};
@@ -29,10 +29,17 @@ fn without_mark(line: &[u8]) -> &[u8]
 fn before_comment(line: &[u8]) -> &[u8]
     ensures { result.now ≡ before_comment line.now }
 {
-    match (0..line.len()).find(|at| is_comment_at(line, *at)) {
+    match comment_at(line) {
         Some(at) => &line[..at.min(line.len())],
         None => line,
     }
+}
+
+/// Where the first comment begins.
+fn comment_at(line: &[u8]) -> Option<usize>
+    ensures { result ≡ find (is_comment_at line.now) (range_with_len 0 (length line.now)) }
+{
+    (0..line.len()).find(|at| is_comment_at(line, *at))
 }
 
 /// Whether a comment begins at an octet: it is a hash, and no word stands right before it.

@@ -2,6 +2,7 @@
 ghost use Rattle.std.specs.Prelude.{◌++◌, codes, decimal};
 ghost use Rattle.em_text.specs.Writer.{Writes};
 ghost use Rattle.em_names.specs.Names.{name_of};
+ghost use Rattle.em_prompt.specs.Command.{name_of as name_of_command};
 ghost use Rattle.em_prompt.specs.Fault.{plain as plain_fault};
 ghost use Rattle.em_prompt.specs.Prompt.{plain_wrong};
 ghost use Rattle.em_prompt.specs.WrongText.{wrong_text, fault_text, at_text, no_command_text, near_text, no_register_text};
@@ -73,14 +74,17 @@ fn write_odd_digits<W: Write>(
     count: usize,
 ) -> Result<(), WriteFailed>
     ensures writes { Writes (W.contents writer.old) (W.contents writer.new) result
-        (at_text command (decimal count) (codes " digits are no octets")) }
+        (name_of_command command ++ (codes ": " ++ (decimal count ++ codes " digits are no octets"))) }
 {
     let mut digits = Buffer::new();
-    write_at(
+    write_pieces(
         writer,
-        command,
-        digits.format(count).as_bytes(),
-        b" digits are no octets",
+        &[
+            command.name().as_bytes(),
+            b": ",
+            digits.format(count).as_bytes(),
+            b" digits are no octets",
+        ],
     )
 }
 
