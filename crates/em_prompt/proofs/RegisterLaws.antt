@@ -29,26 +29,26 @@ same_false a b e h = let t = (bytes_eq-Decides (lowered a) (lowered b)).1 h in c
 
 pub found_passes : (p : ℕ → Bool) (a n i : ℕ) → find p (range_with_len a n) ≡ Some i → (p i ≡ true) × (i < a + n)
 found_passes p a zero i e = cc
-found_passes p a (suc n) i e = by_first (p a) refl e where
+found_passes p a (suc n) i e = by_first (p a) refl e (found_passes p (a + 1) n i) where
   by_first : (b : Bool) → p a ≡ b → cond b (Some a) (find p (range_with_len (a + 1) n)) ≡ Some i
+      → (find p (range_with_len (a + 1) n) ≡ Some i → (p i ≡ true) × (i < (a + 1) + n))
       → (p i ≡ true) × (i < a + suc n)
-  by_first true t e = let same : a ≡ i = cc in (subst (λ k. p k ≡ true) same t, omega arith)
-  by_first false t e = let rest = found_passes p (a + 1) n i e in (rest.0, omega (arith, rest.1))
+  by_first true t e more = let same : a ≡ i = cc in (subst (λ k. p k ≡ true) same t, omega arith)
+  by_first false t e more = let rest = more e in (rest.0, omega (arith, rest.1))
 
 at_or_above : (k a : ℕ) → a ≤ k → (k ≡ a) ⊎ (a + 1 ≤ k)
-at_or_above k a le = elim (cases_lt a k) [ inl lt ↦ inr (omega arith) | inr ge ↦ inl (omega arith) ]
+at_or_above k a le = elim (cases_lt a k) [ | inl lt ↦ inr (omega arith) | inr ge ↦ inl (omega arith) ]
 
 pub none_passes : (p : ℕ → Bool) (a n : ℕ) → find p (range_with_len a n) ≡ None → (k : ℕ) → a ≤ k → k < a + n
     → p k ≡ false
 none_passes p a zero e k from to = let no : ⊥ = omega arith in absurd no
-none_passes p a (suc n) e k from to = by_first (p a) refl e where
-  next : p a ≡ false → find p (range_with_len (a + 1) n) ≡ None → (k ≡ a) ⊎ (a + 1 ≤ k) → p k ≡ false
-  next t e (inl same) = rw same t
-  next t e (inr more) = none_passes p (a + 1) n e k more (omega arith)
-
-  by_first : (b : Bool) → p a ≡ b → cond b (Some a) (find p (range_with_len (a + 1) n)) ≡ None → p k ≡ false
-  by_first true t e = cc
-  by_first false t e = next t e (at_or_above k a from)
+none_passes p a (suc n) e k from to = by_first (p a) refl e (none_passes p (a + 1) n) (at_or_above k a from) where
+  by_first : (b : Bool) → p a ≡ b → cond b (Some a) (find p (range_with_len (a + 1) n)) ≡ None
+      → (find p (range_with_len (a + 1) n) ≡ None → (j : ℕ) → a + 1 ≤ j → j < (a + 1) + n → p j ≡ false)
+      → (k ≡ a) ⊎ (a + 1 ≤ k) → p k ≡ false
+  by_first true t e more at = cc
+  by_first false t e more (inl same) = subst (λ j. p j ≡ false) (sym same) t
+  by_first false t e more (inr above) = more e k above (omega arith)
 
 -- ---- the rows
 
@@ -56,11 +56,12 @@ none_passes p a (suc n) e k from to = by_first (p a) refl e where
 named_sound : (word : List ℕ) (rows : List Reg) (reg : Reg) → named_among word rows ≡ Some reg
     → IsReg reg × IsNamed word reg
 named_sound word [] reg e = cc
-named_sound word (row ∷ rows) reg e = by_index (index_named word row) refl e where
+named_sound word (row ∷ rows) reg e = by_index (index_named word row) refl e (named_sound word rows reg) where
   by_index : (o : Option ℕ) → index_named word row ≡ o
-      → or_else (option_map (with_index row) o) (named_among word rows) ≡ Some reg → IsReg reg × IsNamed word reg
-  by_index None o e = named_sound word rows reg e
-  by_index (Some i) o e =
+      → or_else (option_map (with_index row) o) (named_among word rows) ≡ Some reg
+      → (named_among word rows ≡ Some reg → IsReg reg × IsNamed word reg) → IsReg reg × IsNamed word reg
+  by_index None o e more = more e
+  by_index (Some i) o e more =
       let found = found_passes (λ k. same_letters word (name_of (with_index row k))) 0 (row_of row).words i o in
       let same : with_index row i ≡ reg = cc in
       subst (λ r. IsReg r × IsNamed word r) same
@@ -70,15 +71,17 @@ named_sound word (row ∷ rows) reg e = by_index (index_named word row) refl e w
 named_none : (word : List ℕ) (rows : List Reg) → named_among word rows ≡ None → (k : ℕ) → k < length rows
     → NamesNone word (get_or rows k Ctrl)
 named_none word [] e k lt = let no : ⊥ = omega arith in absurd no
-named_none word (row ∷ rows) e k lt = by_index (index_named word row) refl e k lt where
+named_none word (row ∷ rows) e k lt = by_index (index_named word row) refl e (named_none word rows) k lt where
   by_index : (o : Option ℕ) → index_named word row ≡ o
       → or_else (option_map (with_index row) o) (named_among word rows) ≡ None
-      → (k : ℕ) → k < length (row ∷ rows) → NamesNone word (get_or (row ∷ rows) k Ctrl)
-  by_index (Some i) o e k lt = cc
-  by_index None o e zero lt = λ i h.
+      → (named_among word rows ≡ None → (j : ℕ) → j < length rows → NamesNone word (get_or rows j Ctrl))
+      → (j : ℕ) → j < length (row ∷ rows) → NamesNone word (get_or (row ∷ rows) j Ctrl)
+  by_index (Some i) o e more j lt = cc
+  by_index None o e more zero lt = λ i below h.
       same_false word (name_of (with_index row i))
       (none_passes (λ j. same_letters word (name_of (with_index row j))) 0 (row_of row).words o i (omega arith) (omega arith))
-  by_index None o e (suc k) lt = named_none word rows e k (omega arith)
+      h
+  by_index None o e more (suc j) lt = more e j (omega arith)
 
 -- what is read of a name is the register that it names
 pub named_is : (word : List ℕ) (result : Option Reg) → IfSome result (λ reg. IsReg reg × IsNamed word reg)

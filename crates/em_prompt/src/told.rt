@@ -10,14 +10,16 @@ const HASH: u8 = b'#';
 
 /// What a line says: it is cut off before a comment, and a byte order mark before it is left out.
 pub(crate) fn told(line: &[u8]) -> &[u8]
-    ensures { result.now ≡ told line.now }
+    ensures value { result.now ≡ told line.now }
+    ensures within { length result.now ≤ length line.now }
 {
     before_comment(without_mark(line))
 }
 
 /// A line without a byte order mark before it.
 fn without_mark(line: &[u8]) -> &[u8]
-    ensures { result.now ≡ without_mark line.now }
+    ensures value { result.now ≡ without_mark line.now }
+    ensures within { length result.now ≤ length line.now }
 {
     match line {
         [0xEF, 0xBB, 0xBF, rest @ ..] => rest,
@@ -27,7 +29,8 @@ fn without_mark(line: &[u8]) -> &[u8]
 
 /// A line up to a comment.
 fn before_comment(line: &[u8]) -> &[u8]
-    ensures { result.now ≡ before_comment line.now }
+    ensures value { result.now ≡ before_comment line.now }
+    ensures within { length result.now ≤ length line.now }
 {
     match comment_at(line) {
         Some(at) => &line[..at.min(line.len())],
@@ -60,6 +63,7 @@ fn octet_at(line: &[u8], at: usize) -> u8
 pub(crate) fn first_word(text: &[u8]) -> (&[u8], &[u8])
     ensures word { result.0.now ≡ first_word text.now }
     ensures behind { result.1.now ≡ behind_first text.now }
+    ensures within { length result.1.now ≤ length text.now }
 {
     let text = from_word(text);
     text.split_at(word_len(text))
@@ -75,7 +79,8 @@ pub(crate) fn without_blanks(text: &[u8]) -> &[u8]
 
 /// A text from its first octet on that is no blank.
 fn from_word(text: &[u8]) -> &[u8]
-    ensures { result.now ≡ from_word text.now }
+    ensures value { result.now ≡ from_word text.now }
+    ensures within { length result.now ≤ length text.now }
 {
     &text[blanks_len(text)..]
 }

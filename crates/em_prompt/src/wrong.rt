@@ -51,10 +51,12 @@ fn write_fault<W: Write>(
         (fault_text near command (plain_fault fault.entry)) }
 {
     match fault {
-        Fault::Missing(kind) => {
-            write_at(writer, command, kind.called().as_bytes(), b" is missing")
-        }
-        Fault::TooMany(word) => write_at(writer, command, word, b" is too much"),
+        Fault::Missing(kind) => write_missing(
+            writer,
+            command.name().as_bytes(),
+            kind.called().as_bytes(),
+        ),
+        Fault::TooMany(word) => write_too_many(writer, command.name().as_bytes(), word),
         Fault::No(kind) => write_at(
             writer,
             command,
@@ -68,6 +70,28 @@ fn write_fault<W: Write>(
     }
 }
 
+fn write_missing<'a, W: Write>(
+    writer: &mut W,
+    at: &'a [u8],
+    what: &'a [u8],
+) -> Result<(), WriteFailed>
+    ensures writes { Writes (W.contents writer.old) (W.contents writer.new) result
+        (at.now ++ (codes ": " ++ (what.now ++ codes " is missing"))) }
+{
+    write_pieces(writer, &[at, b": ", what, b" is missing"])
+}
+
+fn write_too_many<'a, W: Write>(
+    writer: &mut W,
+    at: &'a [u8],
+    word: &'a [u8],
+) -> Result<(), WriteFailed>
+    ensures writes { Writes (W.contents writer.old) (W.contents writer.new) result
+        (at.now ++ (codes ": " ++ (word.now ++ codes " is too much"))) }
+{
+    write_pieces(writer, &[at, b": ", word, b" is too much"])
+}
+
 fn write_odd_digits<W: Write>(
     writer: &mut W,
     command: Command,
@@ -77,15 +101,22 @@ fn write_odd_digits<W: Write>(
         (name_of_command command ++ (codes ": " ++ (decimal count ++ codes " digits are no octets"))) }
 {
     let mut digits = Buffer::new();
-    write_pieces(
+    write_no_octets(
         writer,
-        &[
-            command.name().as_bytes(),
-            b": ",
-            digits.format(count).as_bytes(),
-            b" digits are no octets",
-        ],
+        command.name().as_bytes(),
+        digits.format(count).as_bytes(),
     )
+}
+
+fn write_no_octets<'a, W: Write>(
+    writer: &mut W,
+    at: &'a [u8],
+    digits: &'a [u8],
+) -> Result<(), WriteFailed>
+    ensures writes { Writes (W.contents writer.old) (W.contents writer.new) result
+        (at.now ++ (codes ": " ++ (digits.now ++ codes " digits are no octets"))) }
+{
+    write_pieces(writer, &[at, b": ", digits, b" digits are no octets"])
 }
 
 /// Writes a text behind a command's name, and its end.

@@ -23,7 +23,7 @@ returns g c =
     record {
       writes = Writes-more _ _ _ _ (kept_behind c.kind_at-first.result [] first)
           (kept_behind c.kind_at-second.result first second) _
-          c.in_ok-write_behind.ensures.writes c.write_behind.ensures.writes
+          c.in_ok-write_behind.ensures.writes c.write_behind-2.ensures.writes
           (ap (λ k. kept_behind k [] first ++ kept_behind (slice_get c.args.kinds.now 1) first second)
           (sym c.kind_at-first.ensures)
           ∙ ap (λ k. kept_behind c.kind_at-first.result [] first ++ kept_behind k first second)
