@@ -1,5 +1,6 @@
 //! Lines that look.
 
+use crate::said::show_help;
 use crate::shown::Shown;
 use anyhow::{Result, bail};
 use em_text::{Words, decimal_number, is_name};
@@ -11,6 +12,7 @@ pub(crate) fn look<W: Write>(
     shown: &mut Shown,
     mut words: Words<'_>,
 ) -> Result<()> {
+    let line = words.0;
     let what = words.next_short().unwrap_or_default();
     let first = words.next_short().unwrap_or_default();
     let second = words.next_short().unwrap_or_default();
@@ -27,6 +29,8 @@ pub(crate) fn look<W: Write>(
         writeln!(writer, "from {from}")?;
     } else if is_name(what, b"frame") {
         shown.show_frame(writer)?;
+    } else if is_name(what, b"help") {
+        show_help(writer, line)?;
     } else if is_name(what, b"called") {
         writeln!(writer, "{} events", shown.called())?;
     } else if is_name(what, b"outcomes") {

@@ -6,6 +6,9 @@
 //!
 //! - `show rx FROM MOST`, `show tx FROM MOST`: a ring, from a descriptor on
 //! - `show from rx`, `show from tx`: where a ring is shown from where nothing is asked for
+//! - `say LINE`: what somebody says that types the line into a debugger: the line as em_bench reads it, or the command,
+//!   or what is wrong with it
+//! - `show help`, `show help WORD`: the help of a debugger's commands, or of one
 //! - `show frame`: how many octets of the first frame that waits lie up to the packet buffer's end and behind it, and the
 //!   frame itself where it has at most 64
 //! - `show called`: how many events the last call of a driver performed
@@ -15,10 +18,12 @@
 
 mod looks;
 mod pieces;
+mod said;
 mod shown;
 
 use crate::looks::look;
 use crate::pieces::show_pieces;
+use crate::said::say;
 use crate::shown::Shown;
 use anyhow::{Context, Result, bail};
 use em_text::{Words, is_name, read_script};
@@ -57,6 +62,7 @@ fn answer<W: Write>(writer: &mut W, shown: &mut Shown, line: &[u8]) -> Result<()
     let mut words = Words(line);
     match words.next_short() {
         Some(word) if is_name(word, b"show") => look(writer, shown, words),
+        Some(word) if is_name(word, b"say") => say(writer, shown.alloc, words.0),
         _ => shown.play(writer, line),
     }
 }

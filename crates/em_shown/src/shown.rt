@@ -16,6 +16,7 @@ const MOST_FRAME: usize = 64;
 /// A session, and what plays its lines.
 #[derive(Drop)]
 pub(crate) struct Shown {
+    pub(crate) alloc: Global,
     session: Session,
     player: Player,
     number: u32,
@@ -27,6 +28,7 @@ impl Shown {
     pub(crate) fn new(alloc: Global) -> Result<Shown> {
         match Settings::default().machine(alloc) {
             Ok(machine) => Ok(Shown {
+                alloc,
                 session: Session::new(alloc, machine),
                 player: Player::new(alloc),
                 number: 0,

@@ -1,0 +1,2 @@
+pub mod BitsLaws
+pub mod RegisterLaws

@@ -1,0 +1,98 @@
+-- The register that a word names.
+use Rattle.std.proofs.Common.{◌≡◌, ◌≤◌, ℕ, ◌+◌, ◌<◌, Bool, true, false, cond, List, [], ◌∷◌, length, get_or, map, zero, suc}
+use Rattle.std.proofs.Common.{Option, Some, None, IfSome, find, refl, sym, ap, ◌∙◌, subst, arith}
+use Rattle.std.specs.Option.{option_map}
+use Rattle.std.specs.List.{range_with_len}
+use Rattle.std.proofs.Common.{◌⊎◌, inl, inr}
+use Rattle.std.proofs.lemmas.Bool.{cases_lt}
+use Rattle.std.specs.Char.{to_ascii_lowercase}
+use Rattle.std.proofs.lemmas.Slice.Eq.{bytes_eq-Decides}
+use Rattle.em_regs.specs.declared.reg.Reg.{Reg}
+use Rattle.em_regs.specs.declared.reg.Reg.TheVariants.{Ctrl}
+use Rattle.em_regs.specs.Table.{IsReg, row_of, with_index, registers}
+use Rattle.em_names.specs.Names.{name_of, IsNamed, SameLetters}
+use Rattle.em_names.proofs.NameLaws.{NamesNone, is_reg-with_index, names_none}
+use Rattle.em_prompt.specs.Register.{same_letters, or_else, index_named, named_among, named}
+
+-- ---- the test of letters
+
+abbrev lowered : List ℕ → List ℕ
+lowered word = map to_ascii_lowercase word
+
+same_true : (a b : List ℕ) → same_letters a b ≡ true → SameLetters a b
+same_true a b e = (bytes_eq-Decides (lowered a) (lowered b)).0 e
+
+same_false : (a b : List ℕ) → same_letters a b ≡ false → SameLetters a b → ⊥
+same_false a b e h = let t = (bytes_eq-Decides (lowered a) (lowered b)).1 h in cc
+
+-- ---- what is found in a range
+
+pub found_passes : (p : ℕ → Bool) (a n i : ℕ) → find p (range_with_len a n) ≡ Some i → (p i ≡ true) × (i < a + n)
+found_passes p a zero i e = cc
+found_passes p a (suc n) i e = by_first (p a) refl e (found_passes p (a + 1) n i) where
+  by_first : (b : Bool) → p a ≡ b → cond b (Some a) (find p (range_with_len (a + 1) n)) ≡ Some i
+      → (find p (range_with_len (a + 1) n) ≡ Some i → (p i ≡ true) × (i < (a + 1) + n))
+      → (p i ≡ true) × (i < a + suc n)
+  by_first true t e more = let same : a ≡ i = cc in (subst (λ k. p k ≡ true) same t, omega arith)
+  by_first false t e more = let rest = more e in (rest.0, omega (arith, rest.1))
+
+at_or_above : (k a : ℕ) → a ≤ k → (k ≡ a) ⊎ (a + 1 ≤ k)
+at_or_above k a le = elim (cases_lt a k) [ | inl lt ↦ inr (omega arith) | inr ge ↦ inl (omega arith) ]
+
+pub none_passes : (p : ℕ → Bool) (a n : ℕ) → find p (range_with_len a n) ≡ None → (k : ℕ) → a ≤ k → k < a + n
+    → p k ≡ false
+none_passes p a zero e k from to = let no : ⊥ = omega arith in absurd no
+none_passes p a (suc n) e k from to = by_first (p a) refl e (none_passes p (a + 1) n) (at_or_above k a from) where
+  by_first : (b : Bool) → p a ≡ b → cond b (Some a) (find p (range_with_len (a + 1) n)) ≡ None
+      → (find p (range_with_len (a + 1) n) ≡ None → (j : ℕ) → a + 1 ≤ j → j < (a + 1) + n → p j ≡ false)
+      → (k ≡ a) ⊎ (a + 1 ≤ k) → p k ≡ false
+  by_first true t e more at = cc
+  by_first false t e more (inl same) = subst (λ j. p j ≡ false) (sym same) t
+  by_first false t e more (inr above) = more e k above (omega arith)
+
+-- ---- the rows
+
+-- the register that is found has the word as its name
+named_sound : (word : List ℕ) (rows : List Reg) (reg : Reg) → named_among word rows ≡ Some reg
+    → IsReg reg × IsNamed word reg
+named_sound word [] reg e = cc
+named_sound word (row ∷ rows) reg e = by_index (index_named word row) refl e (named_sound word rows reg) where
+  by_index : (o : Option ℕ) → index_named word row ≡ o
+      → or_else (option_map (with_index row) o) (named_among word rows) ≡ Some reg
+      → (named_among word rows ≡ Some reg → IsReg reg × IsNamed word reg) → IsReg reg × IsNamed word reg
+  by_index None o e more = more e
+  by_index (Some i) o e more =
+      let found = found_passes (λ k. same_letters word (name_of (with_index row k))) 0 (row_of row).words i o in
+      let same : with_index row i ≡ reg = cc in
+      subst (λ r. IsReg r × IsNamed word r) same
+      (is_reg-with_index row i (omega (arith, found.1)), same_true word (name_of (with_index row i)) found.0)
+
+-- where none is found, no row has one of this name
+named_none : (word : List ℕ) (rows : List Reg) → named_among word rows ≡ None → (k : ℕ) → k < length rows
+    → NamesNone word (get_or rows k Ctrl)
+named_none word [] e k lt = let no : ⊥ = omega arith in absurd no
+named_none word (row ∷ rows) e k lt = by_index (index_named word row) refl e (named_none word rows) k lt where
+  by_index : (o : Option ℕ) → index_named word row ≡ o
+      → or_else (option_map (with_index row) o) (named_among word rows) ≡ None
+      → (named_among word rows ≡ None → (j : ℕ) → j < length rows → NamesNone word (get_or rows j Ctrl))
+      → (j : ℕ) → j < length (row ∷ rows) → NamesNone word (get_or (row ∷ rows) j Ctrl)
+  by_index (Some i) o e more j lt = cc
+  by_index None o e more zero lt = λ i below h.
+      same_false word (name_of (with_index row i))
+      (none_passes (λ j. same_letters word (name_of (with_index row j))) 0 (row_of row).words o i (omega arith) (omega arith))
+      h
+  by_index None o e more (suc j) lt = more e j (omega arith)
+
+-- what is read of a name is the register that it names
+pub named_is : (word : List ℕ) (result : Option Reg) → IfSome result (λ reg. IsReg reg × IsNamed word reg)
+    → ((reg : Reg) → IsReg reg → IsNamed word reg → result ≡ Some reg) → result ≡ named word
+unfolding named
+named_is word result some every = by_found (named_among word registers) refl where
+  no_other : (result : Option Reg) → IfSome result (λ reg. IsReg reg × IsNamed word reg)
+      → named_among word registers ≡ None → result ≡ None
+  no_other None some e = refl
+  no_other (Some reg) some e = absurd (names_none word (named_none word registers e) reg some.0 some.1)
+
+  by_found : (found : Option Reg) → named_among word registers ≡ found → result ≡ named_among word registers
+  by_found (Some reg) e = let it = named_sound word registers reg e in every reg it.0 it.1 ∙ sym e
+  by_found None e = no_other result some e ∙ sym e

@@ -1,0 +1,16 @@
+pub mod Told
+pub mod Register
+pub mod Word
+pub mod Number
+pub mod Kind
+pub mod Bits
+pub mod Watch
+pub mod Behind
+pub mod Command
+pub mod Form
+pub mod Fault
+pub mod BenchLine
+pub mod Typed
+pub mod Prompt
+pub mod WrongText
+pub mod Help

@@ -1,0 +1,117 @@
+//! The commands by their names.
+ghost use Rattle.std.specs.Prelude.{◌≡◌};
+ghost use Rattle.std.specs.Str.{bytes_eq};
+ghost use Rattle.em_prompt.specs.Command.{name_of, command_of};
+
+/// A command: what the first word of a line names.
+#[derive(Clone, Copy, PartialEq, Eq, Debug)]
+pub enum Command {
+    // em_bench's lines
+    Read,
+    Write,
+    Poke,
+    Peek,
+    Arrive,
+    Rx,
+    Tx,
+    Link,
+    Line,
+    Regs,
+    Wire,
+    Init,
+    Send,
+    Recv,
+    Stats,
+    Mac,
+    Turns,
+    // the debugger's own
+    Look,
+    Who,
+    Back,
+    Forward,
+    Goto,
+    Next,
+    Run,
+    Load,
+    Save,
+    SaveOver,
+    History,
+    Effect,
+    Ring,
+    Frame,
+    Memory,
+    Help,
+    Quit,
+}
+
+/// All of them, as the help shows them.
+#[rattlefmt::skip]
+pub(crate) static COMMANDS: [Command; 34] = [
+    Command::Read, Command::Write, Command::Poke, Command::Peek, Command::Arrive, Command::Rx,
+    Command::Tx, Command::Link, Command::Line, Command::Regs, Command::Wire, Command::Init,
+    Command::Send, Command::Recv, Command::Stats, Command::Mac, Command::Turns, Command::Look,
+    Command::Who, Command::Back, Command::Forward, Command::Goto, Command::Next, Command::Run,
+    Command::Load, Command::Save, Command::SaveOver, Command::History, Command::Effect,
+    Command::Ring, Command::Frame, Command::Memory, Command::Help, Command::Quit,
+];
+
+impl Command {
+    /// Its name.
+    pub fn name(self) -> &'static str
+        ensures { result.now ≡ name_of self }
+    {
+        match self {
+            Command::Read => "r",
+            Command::Write => "w",
+            Command::Poke => "poke",
+            Command::Peek => "peek",
+            Command::Arrive => "arrive",
+            Command::Rx => "rx",
+            Command::Tx => "tx",
+            Command::Link => "link",
+            Command::Line => "line",
+            Command::Regs => "regs",
+            Command::Wire => "wire",
+            Command::Init => "init",
+            Command::Send => "send",
+            Command::Recv => "recv",
+            Command::Stats => "stats",
+            Command::Mac => "mac",
+            Command::Turns => "turns",
+            Command::Look => "look",
+            Command::Who => "who",
+            Command::Back => "back",
+            Command::Forward => "forward",
+            Command::Goto => "goto",
+            Command::Next => "next",
+            Command::Run => "run",
+            Command::Load => "load",
+            Command::Save => "save",
+            Command::SaveOver => "save!",
+            Command::History => "history",
+            Command::Effect => "effect",
+            Command::Ring => "ring",
+            Command::Frame => "frame",
+            Command::Memory => "memory",
+            Command::Help => "help",
+            Command::Quit => "quit",
+        }
+    }
+
+    /// The command that a word names.
+    pub(crate) fn of(word: &[u8]) -> Option<Command>
+        ensures { result ≡ command_of word.now }
+    {
+        COMMANDS
+            .iter()
+            .copied()
+            .find(|command| command.is_called(word))
+    }
+
+    /// Whether a word is its name.
+    fn is_called(self, word: &[u8]) -> bool
+        ensures { result ≡ bytes_eq word.now (name_of self) }
+    {
+        word == self.name().as_bytes()
+    }
+}

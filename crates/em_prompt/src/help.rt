@@ -1,0 +1,85 @@
+//! The help: a line for each command.
+ghost use Rattle.std.specs.Prelude.{◌≡◌};
+ghost use Rattle.std.specs.List.{flat_map};
+ghost use Rattle.em_text.specs.Writer.{Writes};
+ghost use Rattle.em_prompt.specs.Help.{help_of, line_of, help_text};
+
+use crate::command::{COMMANDS, Command};
+use em_text::{WriteFailed, write_pieces, write_whole};
+use std::io::Write;
+
+/// What stands behind all of them.
+const WORDS: &[u8] = b"WATCH is a register, ADDR LEN, line, link, frames or sent.\n";
+
+/// Writes a line for each command.
+pub fn write_whole_help<W: Write>(writer: &mut W) -> Result<(), WriteFailed>
+    ensures writes { Writes (W.contents writer.old) (W.contents writer.new) result help_text }
+{
+    write_lines(writer, &COMMANDS)?;
+    write_whole(writer, WORDS)
+}
+
+/// Writes the lines of commands.
+fn write_lines<W: Write>(writer: &mut W, commands: &[Command]) -> Result<(), WriteFailed>
+    ensures writes { Writes (W.contents writer.old) (W.contents writer.new) result (flat_map line_of commands.now) }
+{
+    for command in commands {
+        write_help(writer, *command)?;
+    }
+    Ok(())
+}
+
+/// Writes the line of a command.
+pub fn write_help<W: Write>(writer: &mut W, command: Command) -> Result<(), WriteFailed>
+    ensures writes { Writes (W.contents writer.old) (W.contents writer.new) result (line_of command) }
+{
+    write_pieces(writer, &[command.help().as_bytes(), b"\n"])
+}
+
+impl Command {
+    /// What it does, in a line.
+    pub fn help(self) -> &'static str
+        ensures { result.now ≡ help_of self }
+    {
+        match self {
+            Command::Read => "r NAME|OFF: reads a register",
+            Command::Write => "w NAME|OFF VAL: writes a register; VAL may be bits, as EN|BAM",
+            Command::Poke => "poke ADDR DATA: writes octets to guest memory",
+            Command::Peek => "peek ADDR LEN: shows octets of guest memory",
+            Command::Arrive => "arrive DATA [LEN]: a frame arrives, with zeros up to LEN octets",
+            Command::Rx => "rx: the receive engine handles a descriptor",
+            Command::Tx => "tx: the transmit engine handles a descriptor",
+            Command::Link => "link up|down: takes the link up or down",
+            Command::Line => "line: shows the interrupt line",
+            Command::Regs => "regs: shows every register that is not zero",
+            Command::Wire => "wire: shows the frames that were sent",
+            Command::Init => "init: starts the driver",
+            Command::Send => "send DATA [LEN]: gives the driver a packet to send",
+            Command::Recv => "recv N: takes at most N packets from the driver",
+            Command::Stats => "stats: reads the driver's counters",
+            Command::Mac => "mac [DATA]: reads or sets the driver's Ethernet address",
+            Command::Turns => {
+                "turns WORD ..: what others do between the accesses of the driver's next call"
+            }
+            Command::Look => "look NAME|OFF: shows a register with its bits, and no event",
+            Command::Who => {
+                "who WATCH [again|all]: the last event that changed it; who again: the one before"
+            }
+            Command::Back => "back [N]: N events back; back to LINE",
+            Command::Forward => "forward [N]: N events forward; forward to LINE",
+            Command::Goto => "goto EVENT: to where so many events are performed",
+            Command::Next => "next [N]: performs N lines",
+            Command::Run => "run [until refused|dropped|LINE|WATCH changes]: performs lines",
+            Command::Load => "load FILE: puts the lines of a file behind the others",
+            Command::Save => "save FILE: writes the lines to a new file",
+            Command::SaveOver => "save! FILE: the same, over a file that is there",
+            Command::History => "history [N]: shows the newest N events",
+            Command::Effect => "effect [EVENT]: shows what an event changed",
+            Command::Ring => "ring rx|tx: shows the descriptors of a ring",
+            Command::Frame => "frame [I]: shows the frames in the adapter, or frame I",
+            Command::Memory => "memory ADDR LEN: shows guest memory in lines",
+            Command::Help => "help [COMMAND]: shows this",
+            Command::Quit => "quit: ends the session",
+        }
+    }
+}

@@ -1,0 +1,128 @@
+//! What the words of a line are.
+ghost use Rattle.std.specs.Prelude.{◌≡◌};
+ghost use Rattle.em_prompt.specs.Kind.{is_choice, called, rule};
+
+use crate::number::Number;
+use em_text::is_name;
+
+/// One of a few words.
+#[derive(Clone, Copy, PartialEq, Eq, Debug)]
+pub enum Choice {
+    /// `up` or `down`.
+    Way,
+    /// `rx` or `tx`.
+    Side,
+    /// `again` or `all`.
+    More,
+    /// `to`.
+    To,
+    /// `until`.
+    Until,
+    /// `refused` or `dropped`.
+    Stop,
+    /// `changes`.
+    Changes,
+}
+
+/// What a word of a line is.
+#[derive(Clone, Copy, PartialEq, Eq, Debug)]
+pub enum Kind {
+    /// A register, by its name or its offset; any offset will do.
+    Register,
+    /// A register of the table, by its name or its offset.
+    Known,
+    /// A value of the register before it: a number, or names of bits.
+    Value,
+    /// An address in guest memory.
+    Address,
+    /// Octets.
+    Data,
+    /// 6 octets.
+    Ethernet,
+    /// How long a frame of the octets before it is.
+    FrameLen,
+    /// A turn of a plan.
+    Turn,
+    /// What is watched, in one word.
+    Watch,
+    /// The name of a file.
+    File,
+    /// The name of a command.
+    Name,
+    /// A number in decimal digits.
+    Number(Number),
+    /// One of a few words.
+    Choice(Choice),
+}
+
+impl Choice {
+    /// Whether a word is one of these.
+    pub(crate) fn is(self, word: &[u8]) -> bool
+        ensures { result ≡ is_choice self word.now }
+    {
+        match self {
+            Choice::Way => is_name(word, b"up") || is_name(word, b"down"),
+            Choice::Side => is_name(word, b"rx") || is_name(word, b"tx"),
+            Choice::More => is_name(word, b"again") || is_name(word, b"all"),
+            Choice::To => is_name(word, b"to"),
+            Choice::Until => is_name(word, b"until"),
+            Choice::Stop => is_name(word, b"refused") || is_name(word, b"dropped"),
+            Choice::Changes => is_name(word, b"changes"),
+        }
+    }
+}
+
+impl Kind {
+    /// What a word of this kind is called.
+    pub(crate) fn called(self) -> &'static str
+        ensures { result.now ≡ called self }
+    {
+        match self {
+            Kind::Register => "OFF",
+            Kind::Known => "a register",
+            Kind::Value => "VAL",
+            Kind::Address => "ADDR",
+            Kind::Data | Kind::Ethernet => "DATA",
+            Kind::FrameLen => "LEN",
+            Kind::Turn => "a turn",
+            Kind::Watch => "WATCH",
+            Kind::File => "FILE",
+            Kind::Name => "a command",
+            Kind::Number(Number::Peeked) | Kind::Number(Number::Watched) => "LEN",
+            Kind::Number(Number::Packets) => "N",
+            Kind::Number(Number::Count) => "a count",
+            Kind::Number(Number::Line) => "a line",
+            Kind::Number(Number::Event) => "an event",
+            Kind::Number(Number::Index) => "I",
+            Kind::Choice(Choice::Way) => "up or down",
+            Kind::Choice(Choice::Side) => "rx or tx",
+            Kind::Choice(Choice::More) => "again or all",
+            Kind::Choice(Choice::To) => "to",
+            Kind::Choice(Choice::Until) => "until",
+            Kind::Choice(Choice::Stop) => "refused or dropped",
+            Kind::Choice(Choice::Changes) => "changes",
+        }
+    }
+
+    /// What is said of it, behind that, where a word is none.
+    pub(crate) fn rule(self) -> &'static str
+        ensures { result.now ≡ rule self }
+    {
+        match self {
+            Kind::Value => " is 1 to 8 hexadecimal digits, or names of bits",
+            Kind::Address => " is 1 to 16 hexadecimal digits",
+            Kind::Data => " is octets, of two hexadecimal digits each",
+            Kind::Ethernet => " is 6 octets",
+            Kind::FrameLen => " is at most 32768, and not below DATA's octets",
+            Kind::Turn => " is rx, tx, ., arrive:DATA or arrive:DATA:LEN",
+            Kind::Number(Number::Peeked) => " is 1 to 16384",
+            Kind::Number(Number::Watched) => " is 1 to 16",
+            Kind::Number(Number::Packets) => " is 0 to 1024",
+            Kind::Number(Number::Count) => " is wanted, of 1 to 65536",
+            Kind::Number(Number::Line) => " is wanted, of 1 to 9999999",
+            Kind::Number(Number::Event) => " is wanted, of 0 to 9999999",
+            Kind::Number(Number::Index) => " is 0 to 9999999",
+            _ => " is wanted",
+        }
+    }
+}

@@ -1,0 +1,49 @@
+//! What a line says that somebody types, or what is wrong with it.
+ghost use Rattle.std.specs.Prelude.{◌≡◌, ◌<◌, length};
+ghost use Rattle.em_text.specs.Words.{words_of};
+ghost use Rattle.em_prompt.specs.Prompt.{plain, command_line, named_line, prompted};
+
+use crate::behind::behind_of;
+use crate::command::Command;
+use crate::fault::form_fault;
+use crate::told::{first_word, told};
+use crate::typed::{Typed, says};
+use crate::wrong::Wrong;
+use em_text::Words;
+
+/// What a line says, or what is wrong with it. A line without a word says nothing, and so does a comment.
+#[tactic(auto, unfolding(crate::specs::Prompt::prompted))]
+pub fn prompted(line: &[u8]) -> Result<Typed<'_>, Wrong<'_>>
+    requires { length line.now < 0xFFFF_FFFF }
+    ensures { plain result ≡ prompted line.now }
+{
+    let (name, rest) = first_word(told(line));
+    named_line(name, rest)
+}
+
+/// What a line says that has this first word.
+fn named_line<'a>(name: &'a [u8], rest: &'a [u8]) -> Result<Typed<'a>, Wrong<'a>>
+    requires { length rest.now < 0xFFFF_FFFF }
+    ensures { plain result ≡ named_line name.now rest.now }
+{
+    if name.is_empty() {
+        return Ok(Typed::Silent);
+    }
+    match Command::of(name) {
+        Some(command) => command_line(command, rest),
+        None => Err(Wrong::Unknown(name)),
+    }
+}
+
+/// What a command says with what stands behind its name.
+fn command_line(command: Command, rest: &[u8]) -> Result<Typed<'_>, Wrong<'_>>
+    requires { length rest.now < 0xFFFF_FFFF }
+    ensures { plain result ≡ command_line command rest.now }
+{
+    let words = Words(rest);
+    let behind = behind_of(words);
+    match form_fault(command.form(&behind), words) {
+        Some(fault) => Err(Wrong::Behind(command, fault)),
+        None => Ok(says(command, &behind, words)),
+    }
+}
