@@ -37,7 +37,7 @@ found_passes p a (suc n) i e = by_first (p a) refl e (found_passes p (a + 1) n i
   by_first false t e more = let rest = more e in (rest.0, omega (arith, rest.1))
 
 at_or_above : (k a : ℕ) → a ≤ k → (k ≡ a) ⊎ (a + 1 ≤ k)
-at_or_above k a le = elim (cases_lt a k) [ | inl lt ↦ inr (omega arith) | inr ge ↦ inl (omega arith) ]
+at_or_above k a le = elim (cases_lt a k) [ inl lt ↦ inr (omega arith) | inr ge ↦ inl (omega arith) ]
 
 pub none_passes : (p : ℕ → Bool) (a n : ℕ) → find p (range_with_len a n) ≡ None → (k : ℕ) → a ≤ k → k < a + n
     → p k ≡ false

@@ -72,10 +72,7 @@ fn bit_among(fields: &[Field], word: &[u8]) -> Option<u32>
 fn field_called(fields: &[Field], word: &[u8]) -> Option<Field>
     ensures { result ≡ find (λ field. is_called word.now field) fields.now }
 {
-    fields
-        .iter()
-        .copied()
-        .find(|field| is_called(*field, word))
+    fields.iter().copied().find(|field| is_called(*field, word))
 }
 
 /// Whether a field is a bit of this name, in either case.
