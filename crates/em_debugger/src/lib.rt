@@ -1,0 +1,27 @@
+//! A debugger that one types into: each line is performed on a tape of lines, or looks at the machine at its place.
+//!
+//! [`Debugger`] answers a line; files are reached through a [`Disk`]. [docs/debugger.md](../../../docs/debugger.md)
+//! shows it at work.
+#![tactic(auto)]
+
+mod answering;
+mod debugger;
+mod deeper;
+mod disk;
+mod effects;
+mod files;
+mod frames;
+mod history;
+mod looks;
+mod moves;
+mod numbers;
+mod performing;
+mod played;
+mod search;
+mod sights;
+mod stops;
+mod told;
+mod who;
+
+pub use debugger::Debugger;
+pub use disk::{Disk, DiskFault};
