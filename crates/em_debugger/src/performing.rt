@@ -131,11 +131,12 @@ pub(crate) fn write_dropped<W: Write>(writer: &mut W, dropped: usize) -> Result<
     if dropped == 0 {
         return Ok(());
     }
+    write_whole(writer, b"dropped ")?;
     write_count(
         writer,
         dropped as u64,
-        b"dropped 1 line that lay ahead\n",
-        b" lines that lay ahead are dropped\n",
+        b"1 line that lay ahead\n",
+        b" lines that lay ahead\n",
     )
 }
 

@@ -15,7 +15,7 @@ pub(crate) struct Found {
 
 /// What a search gave.
 #[derive(Clone, Copy, PartialEq, Eq, Debug)]
-pub(crate) enum Search {
+pub(crate) enum Sought {
     Found(Found),
     /// No event changed it.
     Never,
@@ -30,37 +30,37 @@ pub(crate) fn search(
     tape: &Tape,
     watch: Watch,
     event: u64,
-) -> Search {
+) -> Sought {
     if let Some(found) = in_journal(tape, watch, event) {
-        return Search::Found(found);
+        return Sought::Found(found);
     }
     let reached = oldest(tape).min(event);
     if reached == 0 {
-        return Search::Never;
+        return Sought::Never;
     }
     match deeper(alloc, settings, tape, reached) {
         Some(deep) => in_deeper(deep, watch, reached),
-        None => Search::Unreached,
+        None => Sought::Unreached,
     }
 }
 
 /// The same on a tape of its own, which may go from window to window.
-fn in_deeper(mut deep: Tape, watch: Watch, event: u64) -> Search {
+fn in_deeper(mut deep: Tape, watch: Watch, event: u64) -> Sought {
     let mut reached = event;
     while reached > 0 {
         if let Some(found) = in_journal(&deep, watch, reached) {
-            return Search::Found(found);
+            return Sought::Found(found);
         }
         let next = oldest(&deep);
         if next == 0 {
-            return Search::Never;
+            return Sought::Never;
         }
         if next >= reached || !go_anew(&mut deep, next) {
-            return Search::Unreached;
+            return Sought::Unreached;
         }
         reached = next;
     }
-    Search::Never
+    Sought::Never
 }
 
 /// The newest change among the first so many events, as far as the journal reaches.

@@ -2,7 +2,7 @@
 
 use crate::debugger::Debugger;
 use crate::numbers::{write_number, write_short};
-use crate::search::{Found, Search, search};
+use crate::search::{Found, Sought, search};
 use crate::sights::{watch_of, write_difference, write_watch};
 use em_prompt::Which;
 use em_tape::Tape;
@@ -61,15 +61,15 @@ impl Debugger {
         event: u64,
     ) -> Result<(), WriteFailed> {
         match search(self.alloc, self.settings, &self.tape, watch, event) {
-            Search::Found(found) => {
+            Sought::Found(found) => {
                 self.asked = Some(Asked {
                     watch,
                     event: found.event,
                 });
                 write_found(writer, &self.tape, watch, found)
             }
-            Search::Never => write_never(writer, watch, event < self.tape.event()),
-            Search::Unreached => write_unreached(writer, watch, event),
+            Sought::Never => write_never(writer, watch, event < self.tape.event()),
+            Sought::Unreached => write_unreached(writer, watch, event),
         }
     }
 
@@ -79,13 +79,13 @@ impl Debugger {
         let mut count = 0u64;
         while event > 0 {
             match search(self.alloc, self.settings, &self.tape, watch, event) {
-                Search::Found(found) => {
+                Sought::Found(found) => {
                     write_found(writer, &self.tape, watch, found)?;
                     event = found.event.saturating_sub(1).min(event - 1);
                     count = count.saturating_add(1);
                 }
-                Search::Never => event = 0,
-                Search::Unreached => return write_unreached(writer, watch, event),
+                Sought::Never => event = 0,
+                Sought::Unreached => return write_unreached(writer, watch, event),
             }
         }
         if count == 0 {
