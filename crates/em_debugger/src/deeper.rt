@@ -10,12 +10,7 @@ const MOST_BUDGET: u64 = 16_777_216;
 
 /// A tape of the lines up to the place of another, at an event of theirs; none where memory is refused, or where the
 /// event is not reached.
-pub(crate) fn deeper(
-    alloc: Global,
-    settings: Settings,
-    tape: &Tape,
-    event: u64,
-) -> Option<Tape> {
+pub(crate) fn deeper(alloc: Global, settings: Settings, tape: &Tape, event: u64) -> Option<Tape> {
     let settings = Settings {
         budget: MOST_BUDGET,
         ..settings
@@ -26,7 +21,11 @@ pub(crate) fn deeper(
         let _ = deep.perform_next(&mut sink()).ok()?;
     }
     deep.goto(event).ok()?;
-    if deep.event() == event { Some(deep) } else { None }
+    if deep.event() == event {
+        Some(deep)
+    } else {
+        None
+    }
 }
 
 /// How many events stand before the oldest that the journal can take back.

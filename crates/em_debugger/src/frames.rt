@@ -12,7 +12,12 @@ pub(crate) fn show_waiting<W: Write>(writer: &mut W, machine: &Machine) -> Resul
         return write_whole(writer, b"no frame waits\n");
     };
     let waiting = machine.frames() as u64;
-    write_count(writer, waiting, b"1 frame waits\n", b" frames wait, the first:\n")?;
+    write_count(
+        writer,
+        waiting,
+        b"1 frame waits\n",
+        b" frames wait, the first:\n",
+    )?;
     write_stored_frame(writer, &frame)
 }
 

@@ -6,7 +6,7 @@ use em_names::write_register;
 use em_output::{write_bit, write_octets, write_refusal, write_registers, write_wire};
 use em_prompt::Side;
 use em_regs::Reg;
-use em_text::{WriteFailed, Words, decimal_number, is_name, write_whole};
+use em_text::{Words, WriteFailed, decimal_number, is_name, write_whole};
 use std::alloc::Global;
 use std::io::Write;
 

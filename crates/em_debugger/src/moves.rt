@@ -63,10 +63,16 @@ impl Debugger {
         let gone = self.tape.goto(event);
         self.write_gone(writer, gone)?;
         if gone.is_ok() && self.tape.event() < event {
-            return write_whole(writer, b"no more events were performed: next and run perform lines\n");
+            return write_whole(
+                writer,
+                b"no more events were performed: next and run perform lines\n",
+            );
         }
         if gone.is_ok() && self.tape.event() > event {
-            return write_whole(writer, b"the journal does not reach further into this line\n");
+            return write_whole(
+                writer,
+                b"the journal does not reach further into this line\n",
+            );
         }
         Ok(())
     }
@@ -90,7 +96,10 @@ impl Debugger {
         let gone = self.tape.to_line(before);
         self.write_gone(writer, gone)?;
         if gone.is_ok() && self.tape.line() < before {
-            return write_whole(writer, b"no more lines were performed: next and run perform lines\n");
+            return write_whole(
+                writer,
+                b"no more lines were performed: next and run perform lines\n",
+            );
         }
         Ok(())
     }

@@ -120,21 +120,13 @@ fn write_found<W: Write>(
 }
 
 /// Writes that no event changed it, or none before the change that was told last.
-fn write_never<W: Write>(
-    writer: &mut W,
-    watch: Watch,
-    is_again: bool,
-) -> Result<(), WriteFailed> {
+fn write_never<W: Write>(writer: &mut W, watch: Watch, is_again: bool) -> Result<(), WriteFailed> {
     write_whole(writer, b"nothing changed ")?;
     write_watch(writer, watch)?;
     write_whole(writer, if is_again { b" before that\n" } else { b"\n" })
 }
 
-fn write_unreached<W: Write>(
-    writer: &mut W,
-    watch: Watch,
-    event: u64,
-) -> Result<(), WriteFailed> {
+fn write_unreached<W: Write>(writer: &mut W, watch: Watch, event: u64) -> Result<(), WriteFailed> {
     write_whole(writer, b"no memory to see what changed ")?;
     write_watch(writer, watch)?;
     write_number(writer, b" up to event ", event, b"\n")
