@@ -16,6 +16,7 @@ pub use descriptor::{Bits, Descriptor, Fields};
 pub use descriptor_line::write_descriptor;
 pub use frame::{Heading, write_frame, write_stored_frame};
 pub use lines::write_octet_lines;
+pub use piece::write_address;
 pub use ring::{Owner, Ring, Side};
 pub use ring_lines::{MOST_SHOWN, write_ring};
 pub use trouble::Trouble;

@@ -107,7 +107,8 @@ fn write_column<W: Write>(writer: &mut W, number: u32) -> Result<(), WriteFailed
     )
 }
 
-fn write_address<W: Write>(writer: &mut W, address: u128) -> Result<(), WriteFailed>
+/// Writes an address in six hexadecimal digits, or as many more as its octets need.
+pub fn write_address<W: Write>(writer: &mut W, address: u128) -> Result<(), WriteFailed>
     ensures writes { Writes (W.contents writer.old) (W.contents writer.new) result (address_text address) }
 {
     let left_out = (address.leading_zeros() / OCTET_BITS) as usize;

@@ -15,7 +15,7 @@
 //! Each function of `Adapter` gives an `Undo` too. `Records::keep` puts it first in the journal, and `back` gives
 //! it to `Adapter::take_back`: the words of the latches by `Latches::put_back`, and then its effect.
 ghost use Rattle.std.specs.Prelude.{◌≡◌, ◌+◌, ◌<◌, ◌≤◌, ◌↔◌, IfOk, IfErr, OnOk, OnErr, IsErrOf, IsTrue};
-ghost use Rattle.std.specs.Prelude.{IfSome, IsNone};
+ghost use Rattle.std.specs.Prelude.{◌/◌, IfSome, IsNone};
 ghost use Rattle.std.specs.Prelude.{length, min, replicate, slice_get};
 ghost use Rattle.std.specs.Option.{option_map};
 ghost use Rattle.em_mem.specs.Memory.{part};
@@ -26,6 +26,7 @@ ghost use Rattle.em_rx.specs.Fifo.{first};
 ghost use Rattle.em_rx.specs.StoredFrame.{LiesSo};
 ghost use Rattle.em_step.specs.Access.{gives};
 ghost use Rattle.em_step.specs.Cells.{shows};
+ghost use Rattle.em_step.specs.Cost.{least_cost};
 ghost use Rattle.em_step.specs.Event.{plain, reads, writes, pokes, arrives, links, receives, transmits};
 ghost use Rattle.em_journal.specs.Budget.{IsBudget};
 ghost use Rattle.em_journal.specs.History.{performs, refuses, goes_back, is_empty, Does, Run};
@@ -374,8 +375,16 @@ impl Machine {
     pub fn can_go_back(&self) -> usize
         ensures past { result ≡ length self.now.past }
         ensures costs { result ≡ length self.now.costs }
+        ensures places { result ≤ self.now.budget / least_cost }
     {
         self.records.ring.len()
+    }
+
+    /// How many events the journal holds at most: as many as its budget has of the least cost of a record.
+    pub fn places(&self) -> usize
+        ensures { result ≡ self.now.budget / least_cost }
+    {
+        self.records.ring.capacity()
     }
 
     /// The record of the event that step back number `k` from here takes back, the newest one's at 0; none where the

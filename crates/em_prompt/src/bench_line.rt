@@ -31,6 +31,13 @@ impl BenchLine<'_> {
     ghost use Rattle.em_text.specs.Writer.{Writes};
     ghost use Rattle.em_prompt.specs.BenchLine.{plain, text_of};
 
+    /// The command of em_bench's language that it is.
+    pub fn command(&self) -> Command
+        ensures { result ≡ self.now.command }
+    {
+        self.command
+    }
+
     /// Writes its text as em_bench reads it, without a newline: a register as its offset, bits as their value, numbers
     /// without `0x`, an Ethernet address without colons.
     pub fn write<W: Write>(&self, writer: &mut W) -> Result<(), WriteFailed>

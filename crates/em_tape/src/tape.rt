@@ -253,13 +253,14 @@ impl Tape {
     }
 
     /// Goes to where so many lines stand whole, or all that were performed so far. Where memory is refused to that,
-    /// the place stays.
+    /// the place stays. A place that is there already stays too.
     pub fn to_line(&mut self, line: usize) -> Result<(), BenchFault>
         ensures ok { OnOk result (self.new ≡ record self.old {
           whole = min line (length self.old.ends);
           back = 0;
           session = self.new.session;
         }) }
+        ensures here { self.old.back ≡ 0 → min line (length self.old.ends) ≡ self.old.whole → self.new ≡ self.old }
         ensures err { OnErr result (self.new ≡ self.old) }
         ensures only { IfErr result (λ fault. fault ≡ BenchFault.Memory) }
     {
@@ -389,6 +390,16 @@ impl Tape {
         ensures { IsLineOf event self.now.ends result }
     {
         line_of(self.ends.as_slice(), event)
+    }
+
+    /// How many events stand after so many lines, of those that were performed so far; 0 after more lines.
+    pub fn end_of(&self, line: usize) -> u64
+        ensures { result ≡ end_of line self.now.ends }
+    {
+        if line > self.ends.len() {
+            return 0;
+        }
+        end_of(self.ends.as_slice(), line)
     }
 
     /// How many lines there are.
