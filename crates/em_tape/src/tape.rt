@@ -392,13 +392,11 @@ impl Tape {
         line_of(self.ends.as_slice(), event)
     }
 
-    /// How many events stand after so many lines, of those that were performed so far; 0 after more lines.
+    /// How many events stand after so many lines, of those that were performed so far.
     pub fn end_of(&self, line: usize) -> u64
+        requires { line ≤ length self.now.ends }
         ensures { result ≡ end_of line self.now.ends }
     {
-        if line > self.ends.len() {
-            return 0;
-        }
         end_of(self.ends.as_slice(), line)
     }
 
