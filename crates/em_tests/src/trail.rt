@@ -70,18 +70,6 @@ impl Tested {
         }
         Ok(())
     }
-
-    // The same, as many as memory is there for; how many were performed.
-    fn performs_some(&mut self, count: u64) -> Result<usize, Fail> {
-        let mut performed = 0usize;
-        for tag in 0..count {
-            match self.traced.perform(tag, Event::Write(Reg::Fct.offset(), 1)) {
-                Ok(_) => performed = performed.wrapping_add(1),
-                Err(refusal) => same("refused", refusal, Refusal::Memory)?,
-            }
-        }
-        Ok(performed)
-    }
 }
 
 // Fails where a value is not the one that is wanted.
@@ -150,9 +138,9 @@ fn a_note_goes_with_its_record(rt: HostRuntime) -> Result<(), Fail> {
     })
 }
 
-// The least budget holds 2,048 of the cheapest records.
+// The least budget holds 2,048 of the cheapest records, and there are places for as many notes.
 #[test]
-fn notes_find_room(rt: HostRuntime) -> Result<(), Fail> {
+fn a_full_trail_keeps_the_newest_notes(rt: HostRuntime) -> Result<(), Fail> {
     on_a_trail(rt.alloc(), |tested| {
         tested.performs_many(3000)?;
         tested.has(2048)?;
@@ -161,11 +149,12 @@ fn notes_find_room(rt: HostRuntime) -> Result<(), Fail> {
     })
 }
 
-// Where memory is refused to a note, its event was not performed. Each request for memory is refused in turn.
+// For runs in which a request for memory is refused: it can be that of the notes' places. Once they are made, a note
+// takes none.
 #[test]
-fn refused_notes_change_nothing(rt: HostRuntime) -> Result<(), Fail> {
+fn a_refused_trail_is_named(rt: HostRuntime) -> Result<(), Fail> {
     on_a_trail(rt.alloc(), |tested| {
-        let performed = tested.performs_some(200)?;
-        tested.has(performed)
+        tested.performs_many(200)?;
+        tested.has(200)
     })
 }

@@ -1,3 +1,2 @@
 pub mod Note
-pub mod Notes
 pub mod Trail

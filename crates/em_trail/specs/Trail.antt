@@ -1,17 +1,16 @@
 -- A machine's view, and what each of its events was.
-use Rattle.std.specs.Prelude.{◌≡◌, ◌⊎◌, ℕ, suc, List, [], ◌∷◌, take, length, slice_get, Some, Ok, refl}
+use Rattle.std.specs.Prelude.{◌≡◌, ◌/◌, ℕ, suc, List, [], ◌∷◌, take, length, slice_get, Some, Ok, refl}
 use Rattle.std.specs.Coded.{Coded, code_by, coded×, coded_list}
+use Rattle.circular_buffer.specs.Buffer.{Buffer}
 use Rattle.em_step.specs.State.{State}
 use Rattle.em_step.specs.Event.{Event}
-use Rattle.em_step.specs.Step.{step, Refuses}
+use Rattle.em_step.specs.Step.{step}
+use Rattle.em_step.specs.Cost.{least_cost}
 use Rattle.em_step.specs.declared.event.Answer.{Answer}
-use Rattle.em_step.specs.declared.refusal.Refusal.{Refusal}
-use Rattle.em_step.specs.declared.refusal.Refusal.TheVariants.{Memory}
-use Rattle.em_journal.specs.View.{View, states}
+use Rattle.em_journal.specs.View.{View}
 use Rattle.em_journal.specs.History.{Does, performs, goes_back}
 use Rattle.em_trail.specs.declared.note.Note.{Note}
 use Rattle.em_trail.specs.Note.{note_of}
-use Rattle.em_trail.specs.Notes.{newest_first}
 
 pub record Trail : Type 0 where
   -- what the machine shows
@@ -40,9 +39,15 @@ IsTrail present (before ∷ past) (note ∷ notes) = Tells note before present �
 IsTrail present [] (note ∷ notes) = ⊥
 IsTrail present (before ∷ past) [] = ⊥
 
--- of a machine's notes those that stand beside its states to go back to, the newest first
-abbrev pub newest : View → List Note → List Note → List Note
-newest view older recent = take (length view.past) (newest_first older recent)
+-- of notes that begin with the newest, those that stand beside a machine's states to go back to
+abbrev pub newest : View → List Note → List Note
+newest view notes = take (length view.past) notes
+
+-- the ring's newest notes are the trail of a machine, and it has as many places as the journal can have records
+pub record HoldsTrail (ring : Buffer Note) (view : View) : Type 0 where
+  pub trail : IsTrail view.present view.past (newest view ring.items)
+  -- no record costs less
+  pub places : ring.capacity ≡ view.budget / least_cost
 
 -- a machine that has performed nothing
 abbrev pub starting : View → Trail
@@ -52,10 +57,6 @@ starting view = record { view = view; notes = [] }
 pub record Noted (old new : Trail) (tag : ℕ) (event : Event) (answer : Answer) : Type 0 where
   pub performed : Does old.view (performs event answer) new.view
   pub notes : new.notes ≡ take (length new.view.past) (note_of event answer tag ∷ old.notes)
-
--- what refuses an event: what refuses it to the machine, or the want of memory for its note
-abbrev pub RefusesNoted : State → Event → Refusal → Type 0
-RefusesNoted s event refusal = (refusal ≡ Memory) ⊎ Refuses s event refusal
 
 -- the newest event was taken back, and the note told of it
 pub record TakesBack (old new : Trail) (note : Note) : Type 0 where

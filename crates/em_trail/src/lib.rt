@@ -2,7 +2,6 @@
 #![tactic(auto)]
 
 mod note;
-mod notes;
 mod traced;
 
 pub use note::{Kind, Note};

@@ -107,7 +107,6 @@ pub(crate) fn note_of(event: Event<'_>, answer: Answer, tag: u64) -> Note
 }
 
 /// What a read gave.
-#[inline(always)]
 fn value_of(answer: Answer) -> u32
     ensures { result ≡ value_of answer }
 {
@@ -118,7 +117,6 @@ fn value_of(answer: Answer) -> u32
 }
 
 /// What became of a frame that arrived.
-#[inline(always)]
 fn arrived(answer: Answer) -> Kind
     ensures { result ≡ arrived answer }
 {
@@ -129,7 +127,6 @@ fn arrived(answer: Answer) -> Kind
 }
 
 /// The note of a step of the receive engine.
-#[inline(always)]
 fn received(answer: Answer, tag: u64) -> Note
     ensures { result ≡ received answer tag }
 {
@@ -147,7 +144,6 @@ fn received(answer: Answer, tag: u64) -> Note
 }
 
 /// The note of a step of the transmit engine.
-#[inline(always)]
 fn sent(answer: Answer, tag: u64) -> Note
     ensures { result ≡ sent answer tag }
 {

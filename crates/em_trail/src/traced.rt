@@ -1,11 +1,12 @@
 //! A machine with its trail.
 ghost use Rattle.std.specs.Prelude.{◌≡◌, ◌==◌, ◌<◌, ◌∷◌, [], length, take, slice_get, IfOk, IfErr, IfSome, OnOk, OnErr};
 ghost use Rattle.em_step.specs.Event.{plain};
+ghost use Rattle.em_step.specs.Step.{Refuses};
 ghost use Rattle.em_journal.specs.View.{states};
-ghost use Rattle.em_trail.specs.Trail.{IsTrail, Noted, RefusesNoted, TakesBack, TellsAt, starting};
+ghost use Rattle.em_trail.specs.Trail.{Noted, TakesBack, TellsAt, starting};
 
 use crate::note::{Note, note_of};
-use crate::notes::Notes;
+use circular_buffer::HeapCircularBuffer;
 use em_journal::{Empty, Machine};
 use em_step::{Answer, Event, Refusal};
 use std::alloc::Global;
@@ -18,39 +19,35 @@ use std::marker::Model;
 #[derive(Drop)]
 pub struct Traced {
     machine: Machine,
-    // The newest, as many as the journal has records, are the trail. Others may still be there behind them.
-    notes: Notes,
+    // The newest first. As many of them as the journal has records are the trail; others may lie behind them until
+    // newer ones take their places.
+    notes: HeapCircularBuffer<Note>,
 }
 
 impl Model for Traced {
     ghost use Rattle.em_journal.specs.View.{view_code};
-    ghost use Rattle.em_trail.specs.Trail.{Trail, IsTrail, newest};
-    ghost use Rattle.em_trail.specs.Trail.{trail_code};
+    ghost use Rattle.em_trail.specs.Trail.{Trail, HoldsTrail, newest, trail_code};
     ghost use Rattle.em_trail.specs.contracts.note.Note as one;
 
     ghost Value = { Trail };
 
     ghost coded = { trail_code view_code one.the_row.coded };
 
-    ghost view = { λ t. record {
-      view = t.machine;
-      notes = newest t.machine t.notes.older.items t.notes.recent.items;
-    } };
+    ghost view = { λ t. record { view = t.machine; notes = newest t.machine t.notes.items } };
 
-    ghost invariant = { λ t. IsTrail t.machine.present t.machine.past
-        (newest t.machine t.notes.older.items t.notes.recent.items) };
+    ghost invariant = { λ t. HoldsTrail t.notes t.machine };
 }
 
 impl Traced {
-    /// A machine with an empty journal, and its empty trail. Where memory is refused, the machine comes back as it
-    /// was.
+    /// A machine with an empty journal, and its empty trail; all places of its notes are made here. Where memory is
+    /// refused, the machine comes back as it was.
     pub fn new(alloc: Global, machine: Machine) -> Result<Traced, (Machine, Refusal)>
         requires { machine.past ≡ [] }
         ensures ok { IfOk result (λ traced. traced ≡ starting machine) }
         ensures memory { IfErr result (λ e. e.1 ≡ Refusal.Memory) }
         ensures same { IfErr result (λ e. e.0 ≡ machine) }
     {
-        match Notes::new(alloc) {
+        match HeapCircularBuffer::with_capacity(alloc, machine.places()) {
             Ok(notes) => Ok(Traced { machine, notes }),
             Err(_) => Err((machine, Refusal::Memory)),
         }
@@ -58,19 +55,20 @@ impl Traced {
 
     /// Performs an event, and notes it with a tag of the caller's.
     ///
-    /// It is refused as `Machine::perform` refuses it, and as Memory where the note's memory is refused. A refused
-    /// event changes nothing.
+    /// It is refused as `Machine::perform` refuses it, and for no other cause: a note takes no memory. A refused event
+    /// changes nothing.
     #[inline(always)]
     pub fn perform(&mut self, tag: u64, event: Event<'_>) -> Result<Answer, Refusal>
         ensures ok { IfOk result (λ answer. Noted self.old self.new tag (plain event.entry) answer) }
         // a performed event can always be taken back
         ensures kept { OnOk result (0 < length self.new.notes) }
-        ensures err { IfErr result (λ refusal. RefusesNoted self.old.view.present (plain event.entry) refusal) }
+        ensures err { IfErr result (λ refusal. Refuses self.old.view.present (plain event.entry) refusal) }
         ensures same { OnErr result (self.new ≡ self.old) }
     {
-        self.notes.make_room(self.machine.can_go_back())?;
         let answer = self.machine.perform(event)?;
-        self.notes.push(note_of(event, answer, tag));
+        // A full ring drops its oldest note. That one is not needed, since there are no more records than places.
+        prove!(self.machine.can_go_back() <= self.notes.capacity());
+        self.notes.push_front(note_of(event, answer, tag));
         Ok(answer)
     }
 
@@ -85,7 +83,7 @@ impl Traced {
             Ok(()) => {}
             Err(Empty) => return Err(Empty),
         }
-        let Some(note) = self.notes.pop() else {
+        let Some(note) = self.notes.pop_front() else {
             unreachable!();
         };
         Ok(note)
@@ -105,7 +103,7 @@ impl Traced {
         ensures tells { IfSome result (λ note. TellsAt (states self.now.view) k note) }
     {
         if k < self.len() {
-            self.notes.get(k)
+            self.notes.get(k).copied()
         } else {
             None
         }
