@@ -250,7 +250,7 @@ prove_and_build() {
   trap 'exit 129' HUP
   trap 'exit 130' INT
   trap 'exit 143' TERM
-  say "proving and building, which takes some 20 minutes, once"
+  say "proving and building, which takes some 17 minutes, once"
   while [ "${#proved[@]}" -lt "${#order[@]}" ]; do
     for crate in "${order[@]}"; do
       if [ -n "${process[$crate]-}" ]; then
