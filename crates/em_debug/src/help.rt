@@ -1,0 +1,28 @@
+//! What `--help` and `--version` say.
+
+/// The command line, and where to read on.
+pub const HELP: &str = "\
+Plays a script on a software model of Intel's 82540EM network adapter, and then answers what is typed, line by line:
+the lines of em_bench's language, who changed something, back and forward.
+
+Usage: em_debug [OPTIONS] [SCRIPT]
+
+Arguments:
+  [SCRIPT]  A script of em_bench's language, which is played to its end first
+
+Options:
+      --step         Load the script, and perform none of its lines
+  -x <COMMANDS>      Take what is typed from this file
+      --memory <N>   Octets of guest memory: a multiple of 4096 up to 16777216 [default: 65536]
+      --budget <N>   Octets that the journal's records may cost together: from 65536 to 16777216 [default: 1048576]
+      --mac <HEX12>  The adapter's Ethernet address, octet 0 first; colons may stand in it [default: 525400123456]
+  -h, --help         Print help
+  -V, --version      Print version
+
+`help` shows what one may type. Ctrl-D ends.
+
+The status is 0, or 2 where the command line was bad, 3 where the run stopped.
+";
+
+/// The name and the version.
+pub const VERSION: &str = "em_debug 0.1.0\n";

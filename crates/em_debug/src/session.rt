@@ -1,0 +1,27 @@
+//! The debugger as what answers a console.
+ghost use Rattle.std.specs.Prelude.{⊤};
+
+use em_console::{Answers, Flow};
+use em_debugger::{Debugger, Disk};
+use std::alloc::AllocError;
+
+/// A debugger, and where its files lie.
+#[derive(Drop)]
+pub struct Served<D: Disk + Drop> {
+    pub debugger: Debugger,
+    pub disk: D,
+}
+
+impl<D: Disk + Drop> Answers for Served<D> {
+    ghost answers = { λ before line text flow after. ⊤ };
+
+    ghost stops = { λ before line after. ⊤ };
+
+    fn answer(&mut self, line: &[u8], text: &mut Vec<u8>) -> Result<Flow, AllocError> {
+        match self.debugger.answer(text, &mut self.disk, line) {
+            Ok(flow) => Ok(flow),
+            // A vector fails only where memory is refused.
+            Err(_) => Err(AllocError),
+        }
+    }
+}

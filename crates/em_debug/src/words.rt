@@ -1,0 +1,97 @@
+//! The words of the command line.
+
+use anyhow::{Result, bail};
+use std::alloc::Global;
+use std::env;
+use std::rt::Env;
+
+/// What the words ask for beside em_bench's options.
+#[derive(Clone, Copy, PartialEq, Eq, Debug)]
+pub enum Asked {
+    /// A session.
+    Session,
+    /// The help.
+    Help,
+    /// The version.
+    Version,
+}
+
+/// The words, told apart.
+#[derive(Drop)]
+pub struct Words {
+    /// The program's name, and the words that are em_bench's too.
+    pub options: Vec<String>,
+    /// Whether the script is only loaded at first.
+    pub step: bool,
+    /// The file that commands come from.
+    pub commands: Option<String>,
+    pub asked: Asked,
+}
+
+impl Words {
+    /// Reads the words of the command line.
+    pub fn read(rt: &(impl Env + AllocGlobal)) -> Result<Words> {
+        let mut words = Words {
+            options: Vec::new(rt.alloc()),
+            step: false,
+            commands: None,
+            asked: Asked::Session,
+        };
+        let mut before = Before::Other;
+        for word in env::args(rt)? {
+            before = words.take(rt.alloc(), before, word)?;
+        }
+        match before {
+            Before::Commands => bail!("-x wants a file"),
+            _ => Ok(words),
+        }
+    }
+
+    /// Takes a word, and gives what it is to the next.
+    fn take(&mut self, alloc: Global, before: Before, word: String) -> Result<Before> {
+        match before {
+            Before::Commands => {
+                self.commands = Some(word);
+                return Ok(Before::Other);
+            }
+            Before::Mac => {
+                self.options.push(without_colons(alloc, &word)?)?;
+                return Ok(Before::Other);
+            }
+            Before::Other => {}
+        }
+        match word.as_str() {
+            "-x" => return Ok(Before::Commands),
+            "--step" => self.step = true,
+            "-h" | "--help" => self.asked = Asked::Help,
+            "-V" | "--version" => self.asked = Asked::Version,
+            "--mac" => {
+                self.options.push(word)?;
+                return Ok(Before::Mac);
+            }
+            _ => self.options.push(word)?,
+        }
+        Ok(Before::Other)
+    }
+}
+
+/// What the word before one is to it.
+#[derive(Clone, Copy, PartialEq, Eq, Debug)]
+enum Before {
+    /// `-x`, which a file follows.
+    Commands,
+    /// `--mac`, which an address follows.
+    Mac,
+    Other,
+}
+
+/// An Ethernet address as em_bench has it: without colons.
+fn without_colons(alloc: Global, word: &String) -> Result<String> {
+    let mut digits = String::new(alloc);
+    for digit in word.as_str().chars() {
+        if digit != ':' {
+            digits.push(digit)?;
+        }
+    }
+    Ok(digits)
+}

@@ -1,0 +1,9 @@
+pub mod AddingLaws
+pub mod EffectLaws
+pub mod HistoryLaws
+pub mod MovesLaws
+pub mod NextLaws
+pub mod PlaceLaws
+pub mod PlayedLaws
+pub mod TextLaws
+pub mod ToldLaws

@@ -1,0 +1,71 @@
+-- Lines that are performed and shown, one after another.
+use Rattle.std.proofs.Common.{◌≡◌, ℕ, ◌+◌, ◌≤◌, List, [], ◌∷◌, ◌++◌, length, Option, Result, Ok, Err, refl, sym, ap}
+use Rattle.std.proofs.Common.{◌∙◌, subst, append-nil, arith}
+use Rattle.std.specs.List.{flat_map}
+use Rattle.std.specs.Prelude.{OnOk}
+use Rattle.std.specs.Io.KnownBytes.{Appends}
+use Rattle.std.proofs.lemmas.List.{length_push}
+use Rattle.std.proofs.lemmas.List.Concat.{flat_map-append}
+use Rattle.em_console.specs.Turns.{Leads}
+use Rattle.em_console.proofs.ServingLaws.{Leads-append}
+use Rattle.em_script.specs.declared.runner.BenchFault.{BenchFault}
+use Rattle.em_text.specs.Writer.{Writes}
+use Rattle.em_text.specs.declared.writer.WriteFailed.{WriteFailed}
+use Rattle.em_text.proofs.WritingLemmas.{Appends-more, Appends-same}
+use Rattle.em_debugger.specs.declared.debugger.Debugger.{Debugger}
+use Rattle.em_debugger.specs.declared.performing.Performed.{Performed}
+use Rattle.em_debugger.specs.Performing.{Performs, IsLast, performed_text, no_line_text, fault_text}
+use Rattle.em_debugger.specs.Next.{Shown, Shows, EndsBy, TellsNext, reached, over, stopped, shown_text}
+
+-- so many lines were performed and shown
+pub record ShowsSo (first now : Debugger) (old new : Option (List ℕ)) (count : ℕ) : Type 0 where
+  pub shown : List Shown
+  pub long : length shown ≡ count
+  pub leads : Leads Shows shown first now
+  pub written : Appends old new (shown_text shown)
+
+pub ShowsSo-none : (d : Debugger) (old : Option (List ℕ)) → ShowsSo d d old old 0
+ShowsSo-none d old = record { shown = []; long = refl; leads = refl; written = Appends-same old }
+
+-- one line more
+pub ShowsSo-more : (first now next : Debugger) (old new later : Option (List ℕ)) (count : ℕ) (p : Performed)
+    → ShowsSo first now old new count → Performs now next p → Appends new later (performed_text next p)
+    → ShowsSo first next old later (count + 1)
+ShowsSo-more first now next old new later count p h performs written =
+    let one : Shown = record { performed = p; text = performed_text next p } in
+    record {
+      shown = h.shown ++ one ∷ [];
+      long = length_push h.shown one ∙ ap (λ n. n + 1) h.long;
+      leads = Leads-append Shows h.shown (one ∷ []) first now next h.leads
+          (next, record { performs = performs; text = refl }, refl);
+      written = Appends-more old new later (shown_text h.shown) (performed_text next p) _ h.written written
+          (flat_map-append (λ (s : Shown). s.text) h.shown (one ∷ [])
+          ∙ ap (λ l. shown_text h.shown ++ l) (append-nil (performed_text next p)));
+    }
+
+-- what came then
+pub TellsNext-end : (asked count : ℕ) (first now last : Debugger) (old new later : Option (List ℕ)) (end : List ℕ)
+    → ShowsSo first now old new count → count ≤ asked → Appends new later end → EndsBy asked count now last end
+    → (text : List ℕ) × Appends old later text × TellsNext asked first last text
+TellsNext-end asked count first now last old new later end h few written ended = (
+  shown_text h.shown ++ end,
+  Appends-more old new later (shown_text h.shown) end _ h.written written refl,
+  record {
+    shown = h.shown;
+    few = omega (arith, h.long);
+    between = now;
+    leads = h.leads;
+    end = end;
+    ended = subst (λ n. EndsBy asked n now last end) (sym h.long) ended;
+    told = refl;
+  },
+)
+
+-- the same, where what came then was written whole if at all
+pub TellsNext-written : (asked count : ℕ) (first now last : Debugger) (old new later : Option (List ℕ))
+    (end : List ℕ) {T E : Type 0} (result : Result T E) → ShowsSo first now old new count → count ≤ asked
+    → Writes new later result end → EndsBy asked count now last end
+    → OnOk result ((text : List ℕ) × Appends old later text × TellsNext asked first last text)
+TellsNext-written asked count first now last old new later end (Ok x) h few written ended =
+    TellsNext-end asked count first now last old new later end h few written ended
+TellsNext-written asked count first now last old new later end (Err x) h few written ended = tt

@@ -1,0 +1,49 @@
+use Rattle.std.proofs.Common.{◌++◌, refl}
+use Rattle.std.specs.Prelude.{codes}
+use Rattle.std.proofs.lemmas.Result.{MatchResult-from_err}
+use Rattle.em_text.proofs.WritingLemmas.{WroteFront-more, WroteFront-none, WroteFront-part, Writes-more}
+use Rattle.std.proofs.Common.{length, take}
+use Rattle.em_looks.specs.Numbers.{short_text}
+use Rattle.em_debugger.specs.Debugger.{told}
+use Rattle.em_debugger.specs.Place.{text_of}
+use Rattle.em_debugger.specs.History.{answer_text, around_text, events_of_text, last_of, line_text, lines_between}
+use Rattle.em_debugger.specs.History.{lines_text}
+use Rattle.em_debugger.specs.History.{number_of_line_text, start_text}
+use Rattle.em_debugger.proofs.debugger.Debugger.write_around.Goals as goal
+
+pub returns-in_err-write_start : goal.returns-in_err-write_start
+returns-in_err-write_start g c =
+    let wrote-0 = WroteFront-none (g.W.Write.contents c.args.writer.now) (around_text c.args.self.now c.args.most
+    c.args.here) in
+    record {
+      writes = MatchResult-from_err _ _ _ c.from_residual.ensures.0 (λ _.
+          WroteFront-part ((lines_text c.args.self.now c.args.here (last_of c.args.most (lines_between
+          c.args.self.now.tape.ends 0 c.args.here))) ++ (lines_text c.args.self.now c.args.here (take c.args.most
+          (lines_between c.args.self.now.tape.ends c.args.here (length c.args.self.now.tape.ends))))) wrote-0 refl
+          c.in_err-write_start.ensures.writes);
+    }
+
+pub returns-in_err-write_newest : goal.returns-in_err-write_newest
+returns-in_err-write_newest g c =
+    let wrote-0 = WroteFront-none (g.W.Write.contents c.args.writer.now) (around_text c.args.self.now c.args.most
+    c.args.here) in
+    let wrote-1 = WroteFront-more (start_text c.args.here) wrote-0 refl c.in_ok-write_start.ensures.writes in
+    record {
+      writes = MatchResult-from_err _ _ _ c.from_residual-in_err-write_newest.ensures.0 (λ _.
+          WroteFront-part (lines_text c.args.self.now c.args.here (take c.args.most (lines_between
+          c.args.self.now.tape.ends c.args.here (length c.args.self.now.tape.ends)))) wrote-1 refl
+          c.in_err-write_newest.ensures.writes);
+    }
+
+pub returns : goal.returns
+returns g c =
+    let wrote-0 = WroteFront-none (g.W.Write.contents c.args.writer.now) (around_text c.args.self.now c.args.most
+    c.args.here) in
+    let wrote-1 = WroteFront-more (start_text c.args.here) wrote-0 refl c.in_ok-write_start.ensures.writes in
+    let wrote-2 = WroteFront-more (lines_text c.args.self.now c.args.here (last_of c.args.most (lines_between
+    c.args.self.now.tape.ends 0 c.args.here))) wrote-1 refl c.in_ok-write_newest.ensures.writes in
+    record {
+      writes = Writes-more _ _ _ _ wrote-2.front (lines_text c.args.self.now c.args.here (take c.args.most
+          (lines_between c.args.self.now.tape.ends c.args.here (length c.args.self.now.tape.ends)))) _ wrote-2.written
+          c.write_ahead.ensures.writes wrote-2.whole;
+    }

@@ -1,0 +1,47 @@
+use Rattle.std.proofs.Common.{◌++◌, refl}
+use Rattle.std.specs.Prelude.{codes}
+use Rattle.std.proofs.lemmas.Result.{MatchResult-from_err}
+use Rattle.em_text.proofs.WritingLemmas.{WroteFront-more, WroteFront-none, WroteFront-part, Writes-more}
+use Rattle.std.proofs.Common.{length, take}
+use Rattle.em_looks.specs.Numbers.{short_text}
+use Rattle.em_debugger.specs.Debugger.{told}
+use Rattle.em_debugger.specs.Place.{text_of}
+use Rattle.em_debugger.specs.History.{answer_text, around_text, events_of_text, last_of, line_text, lines_between}
+use Rattle.em_debugger.specs.History.{lines_text}
+use Rattle.em_debugger.specs.History.{number_of_line_text, start_text}
+use Rattle.em_debugger.proofs.debugger.Debugger.write_line.Goals as goal
+
+pub returns-in_err-write_number_of_line : goal.returns-in_err-write_number_of_line
+returns-in_err-write_number_of_line g c =
+    let wrote-0 = WroteFront-none (g.W.Write.contents c.args.writer.now) (line_text c.args.self.now c.args.here
+    c.args.line) in
+    record {
+      writes = MatchResult-from_err _ _ _ c.from_residual.ensures.0 (λ _.
+          WroteFront-part ((events_of_text c.args.self.now.tape.ends c.args.line) ++ (answer_text c.args.self.now
+          c.args.line)) wrote-0 refl c.in_err-write_number_of_line.ensures.writes);
+    }
+
+pub returns-in_err-write_events_of : goal.returns-in_err-write_events_of
+returns-in_err-write_events_of g c =
+    let wrote-0 = WroteFront-none (g.W.Write.contents c.args.writer.now) (line_text c.args.self.now c.args.here
+    c.args.line) in
+    let wrote-1 = WroteFront-more (number_of_line_text c.args.here c.args.line) wrote-0 refl
+    c.in_ok-write_number_of_line.ensures.writes in
+    record {
+      writes = MatchResult-from_err _ _ _ c.from_residual-in_err-write_events_of.ensures.0 (λ _.
+          WroteFront-part (answer_text c.args.self.now c.args.line) wrote-1 refl
+          c.in_err-write_events_of.ensures.writes);
+    }
+
+pub returns : goal.returns
+returns g c =
+    let wrote-0 = WroteFront-none (g.W.Write.contents c.args.writer.now) (line_text c.args.self.now c.args.here
+    c.args.line) in
+    let wrote-1 = WroteFront-more (number_of_line_text c.args.here c.args.line) wrote-0 refl
+    c.in_ok-write_number_of_line.ensures.writes in
+    let wrote-2 = WroteFront-more (events_of_text c.args.self.now.tape.ends c.args.line) wrote-1 refl
+    c.in_ok-write_events_of.ensures.writes in
+    record {
+      writes = Writes-more _ _ _ _ wrote-2.front (answer_text c.args.self.now c.args.line) _ wrote-2.written
+          c.write_answer.ensures.writes wrote-2.whole;
+    }

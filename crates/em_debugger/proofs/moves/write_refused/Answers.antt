@@ -1,0 +1,25 @@
+use Rattle.std.proofs.Common.{[], false, refl}
+use Rattle.std.specs.Prelude.{codes}
+use Rattle.std.proofs.lemmas.Result.{MatchResult-from_err}
+use Rattle.em_text.proofs.WritingLemmas.{WroteFront-more, WroteFront-none, WroteFront-part, Writes-more}
+use Rattle.em_debugger.specs.Moves.{gone_text}
+use Rattle.em_debugger.specs.Moves.{place_text}
+use Rattle.em_debugger.proofs.moves.write_refused.Goals as goal
+
+pub returns-in_err-write_whole : goal.returns-in_err-write_whole
+returns-in_err-write_whole g c =
+    let wrote-0 = WroteFront-none (g.W.Write.contents c.args.writer.now) (gone_text c.args.tape.now [] false) in
+    record {
+      writes = MatchResult-from_err _ _ _ c.from_residual.ensures.0 (λ _.
+          WroteFront-part (place_text c.args.tape.now) wrote-0 refl c.in_err-write_whole.ensures.writes);
+    }
+
+pub returns : goal.returns
+returns g c =
+    let wrote-0 = WroteFront-none (g.W.Write.contents c.args.writer.now) (gone_text c.args.tape.now [] false) in
+    let wrote-1 = WroteFront-more (codes "no memory to play it again: the place stays\n") wrote-0 refl
+    c.in_ok-write_whole.ensures.writes in
+    record {
+      writes = Writes-more _ _ _ _ wrote-1.front (place_text c.args.tape.now) _ wrote-1.written
+          c.write_place.ensures.writes wrote-1.whole;
+    }

@@ -1,0 +1,26 @@
+-- What a debugger begins with, and what its parts hold.
+use Rattle.std.specs.Prelude.{◌≡◌, ℕ, List, [], Option, None}
+use Rattle.em_turn.specs.Planned.{lists}
+use Rattle.em_journal.specs.Settings.{new_machine}
+use Rattle.em_journal.specs.declared.settings.Settings.{Settings}
+use Rattle.em_script.specs.Session.{bare}
+use Rattle.em_tape.specs.Tape.{empty_tape}
+use Rattle.em_debugger.specs.declared.debugger.Debugger.{Debugger}
+use Rattle.em_debugger.specs.Told.{told_of}
+
+-- what is kept of the answer to the line of a number
+abbrev pub told : ℕ → Debugger → List ℕ
+told line d = told_of line (lists d.told.answers.items)
+
+-- a new machine, no line, and nothing asked for
+pub record Begins (given : Settings) (d : Debugger) : Type 0 where
+  pub settings : d.settings ≡ given
+  pub tape : d.tape ≡ empty_tape (bare (new_machine given))
+  pub told : lists d.told.answers.items ≡ []
+  pub asked : d.asked ≡ None
+
+-- all but the place on the tape is as it was
+pub record KeepsRest (old new : Debugger) : Type 0 where
+  pub settings : new.settings ≡ old.settings
+  pub told : new.told ≡ old.told
+  pub asked : new.asked ≡ old.asked

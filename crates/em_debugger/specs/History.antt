@@ -1,0 +1,81 @@
+-- The lines that did something, and how they are shown.
+use Rattle.std.specs.Prelude.{ℕ, zero, suc, ◌+◌, ◌-◌, ◌==◌, nat_lt, Bool, not, if◌then◌else◌, Option, Some, None}
+use Rattle.std.specs.Prelude.{List, [], ◌++◌, codes, decimal, length, take, drop, filter}
+use Rattle.std.specs.List.{flat_map, range_with_len}
+use Rattle.em_tape.specs.Ends.{end_of}
+use Rattle.em_looks.specs.Numbers.{short_text}
+use Rattle.em_debugger.specs.declared.debugger.Debugger.{Debugger}
+use Rattle.em_debugger.specs.Debugger.{told}
+use Rattle.em_debugger.specs.Place.{line_here, text_of}
+
+-- more or fewer events stand after the line than before it
+abbrev pub did_something : List ℕ → ℕ → Bool
+did_something ends line = not (end_of line ends == end_of (line - 1) ends)
+
+-- of the first k lines the last that did something; 0 where none did
+abbrev pub newest_line : List ℕ → ℕ → ℕ
+newest_line ends zero = 0
+newest_line ends (suc k) = if did_something ends (suc k) then suc k else newest_line ends k
+
+-- those that did something, from behind one line up to another
+abbrev pub lines_between : List ℕ → ℕ → ℕ → List ℕ
+lines_between ends before last = filter (did_something ends) (range_with_len (before + 1) (last - before))
+
+-- the last n of them
+abbrev pub last_of : ℕ → List ℕ → List ℕ
+last_of n lines = drop (length lines - n) lines
+
+-- ---- texts
+
+-- some events that a line added, up to this one
+abbrev pub added_text : ℕ → ℕ → List ℕ
+added_text first last =
+    if first == last then codes ", event " ++ decimal last else
+    codes ", events " ++ (decimal first ++ (codes " to " ++ decimal last))
+
+-- those of a line before which so many stood, and after which so many do; none where it took some back
+abbrev pub events_text : ℕ → ℕ → List ℕ
+events_text before after = if nat_lt before after then added_text (before + 1) after else []
+
+-- the line at the place is marked
+abbrev pub mark_text : ℕ → ℕ → List ℕ
+mark_text here line = if line == here then codes "> " else codes "  "
+
+-- a line by its number
+abbrev pub number_of_line_text : ℕ → ℕ → List ℕ
+number_of_line_text here line = mark_text here line ++ (codes "line " ++ decimal line)
+
+abbrev pub events_of_text : List ℕ → ℕ → List ℕ
+events_of_text ends line = events_text (end_of (line - 1) ends) (end_of line ends)
+
+-- a line and its answer
+abbrev pub answer_text : Debugger → ℕ → List ℕ
+answer_text d line =
+    codes ": " ++ (short_text (text_of line d.tape) ++ (codes ": " ++ (told line d ++ codes "\n")))
+
+-- a line with its events and its answer
+abbrev pub line_text : Debugger → ℕ → ℕ → List ℕ
+line_text d here line = number_of_line_text here line ++ (events_of_text d.tape.ends line ++ answer_text d line)
+
+abbrev pub lines_text : Debugger → ℕ → List ℕ → List ℕ
+lines_text d here lines = flat_map (line_text d here) lines
+
+-- where no line up to the place did something
+abbrev pub start_text : ℕ → List ℕ
+start_text here = if here == 0 then codes "> at the start\n" else []
+
+-- the newest lines up to the place, at most so many, and so many that were performed and lie ahead
+abbrev pub around_text : Debugger → ℕ → ℕ → List ℕ
+around_text d most here =
+    let ends = d.tape.ends in
+    start_text here
+    ++ (lines_text d here (last_of most (lines_between ends 0 here))
+    ++ lines_text d here (take most (lines_between ends here (length ends))))
+
+-- 16 where it is not said how many
+abbrev pub most_of : Option ℕ → ℕ
+most_of None = 16
+most_of (Some most) = most
+
+abbrev pub history_text : Debugger → Option ℕ → List ℕ
+history_text d asked = around_text d (most_of asked) (newest_line d.tape.ends (line_here d.tape))

@@ -1,0 +1,15 @@
+pub mod BenchLooks
+pub mod Debugger
+pub mod Deeper
+pub mod Effect
+pub mod Files
+pub mod History
+pub mod Moves
+pub mod Next
+pub mod Performing
+pub mod Place
+pub mod Played
+pub mod Search
+pub mod Stops
+pub mod Told
+pub mod Who

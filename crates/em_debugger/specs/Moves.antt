@@ -1,0 +1,108 @@
+-- Going to another place on the tape.
+use Rattle.std.specs.Prelude.{◌≡◌, ℕ, ◌+◌, ◌-◌, ◌==◌, min, nat_lt, if◌then◌else◌, Bool, true, false}
+use Rattle.std.specs.Prelude.{List, [], ◌++◌, codes, length}
+use Rattle.em_tape.specs.Tape.{Tape, event_of, taken_back}
+use Rattle.em_looks.specs.Numbers.{number_text, short_text}
+use Rattle.em_debugger.specs.declared.debugger.Debugger.{Debugger}
+use Rattle.em_debugger.specs.Debugger.{told}
+use Rattle.em_debugger.specs.Place.{line_of, line_here, text_of}
+
+-- ---- back
+
+-- of so many events as many as the journal holds
+abbrev pub taken : ℕ → Tape → ℕ
+taken most tape = min most (length tape.session.machine.past)
+
+-- the place so many events back
+abbrev pub place_back : ℕ → Tape → Tape
+place_back n tape = record tape { back = tape.back + n; session = taken_back n tape.session }
+
+-- at event 0 the place stays
+abbrev pub after_back : ℕ → Tape → Tape
+after_back most tape = if event_of tape == 0 then tape else place_back (taken most tape) tape
+
+-- a line, and what was told of it
+abbrev pub line_told : Debugger → ℕ → List ℕ
+line_told d line =
+    number_text (codes "(line ") line (codes ", ")
+    ++ (short_text (text_of line d.tape) ++ (codes ": " ++ (told line d ++ codes ")\n")))
+
+-- one event was taken back, of this line
+abbrev pub one_back_text : Debugger → ℕ → ℕ → List ℕ
+one_back_text d event line = number_text (codes "took back event ") event (codes " ") ++ line_told d line
+
+-- a line
+abbrev pub line_text : Tape → ℕ → List ℕ
+line_text tape line = number_text (codes "(line ") line (codes ", ") ++ (short_text (text_of line tape) ++ codes ")\n")
+
+-- n events were taken back, the last of them this one
+abbrev pub down_to_text : Tape → ℕ → ℕ → List ℕ
+down_to_text tape n last =
+    number_text (codes "took back ") n (codes " events, ")
+    ++ (number_text (codes "down to event ") last (codes " ") ++ line_text tape (line_of last tape.ends))
+
+-- n events were taken back from the newest one on, which was of this line
+abbrev pub taken_text : Debugger → ℕ → ℕ → ℕ → List ℕ
+taken_text d newest line n =
+    if n == 0 then [] else
+    if n == 1 then one_back_text d newest line else
+    down_to_text d.tape n (newest - (n - 1))
+
+-- fewer were taken than asked for and stood
+abbrev pub budget_text : ℕ → ℕ → List ℕ
+budget_text n wanted =
+    if nat_lt n wanted then codes "the journal's budget dropped the older records: goto EVENT still gets there\n" else
+    []
+
+-- what is said where n events were taken back, of so many that stood and with the place at this line
+abbrev pub stood_text : Debugger → ℕ → ℕ → ℕ → ℕ → List ℕ
+stood_text d most newest line n =
+    if newest == 0 then codes "no event stands here\n" else
+    taken_text d newest line n ++ budget_text n (min most newest)
+
+-- from a tape; the new debugger has its lines, and what was told of them
+abbrev pub back_text : ℕ → Tape → Debugger → List ℕ
+back_text most tape new = stood_text new most (event_of tape) (line_here tape) (taken most tape)
+
+-- ---- to an event, or before a line
+
+-- the lines, and what is known of where they end, stay
+abbrev pub KeepsLines : Tape → Tape → Type 0
+KeepsLines old new = new ≡ record old { whole = new.whole; back = new.back; session = new.session }
+
+-- the place is such a one now; or memory for that was refused, and it stays
+abbrev pub Goes : (Tape → Type 0) → Tape → Tape → Bool → Type 0
+Goes IsThere old new true = KeepsLines old new × IsThere new
+Goes IsThere old new false = new ≡ old
+
+-- behind so many whole lines, or behind the last
+pub record IsBehind (lines : ℕ) (tape : Tape) : Type 0 where
+  pub whole : tape.whole ≡ min lines (length tape.ends)
+  pub back : tape.back ≡ 0
+
+-- where the place is
+abbrev pub place_text : Tape → List ℕ
+place_text tape =
+    number_text (codes "at line ") (line_here tape) (codes ", ")
+    ++ number_text (codes "event ") (event_of tape) (codes "\n")
+
+-- how the place lies to the event that was asked for
+abbrev pub near_text : ℕ → ℕ → List ℕ
+near_text event here =
+    if nat_lt here event then codes "no more events were performed: next and run perform lines\n" else
+    if nat_lt event here then codes "the journal does not reach further into this line\n" else
+    []
+
+-- how it lies to the line that was asked for
+abbrev pub behind_text : ℕ → ℕ → List ℕ
+behind_text lines here =
+    if nat_lt here lines then codes "no more lines were performed: next and run perform lines\n" else []
+
+-- what is said behind the place, if it was reached
+abbrev pub gone_text : Tape → List ℕ → Bool → List ℕ
+gone_text tape more true = place_text tape ++ more
+gone_text tape more false = codes "no memory to play it again: the place stays\n" ++ place_text tape
+
+-- so many events forward; a number of an event has 64 bits
+abbrev pub forward_by : ℕ → Tape → ℕ
+forward_by events tape = min (event_of tape + events) 0xFFFF_FFFF_FFFF_FFFF

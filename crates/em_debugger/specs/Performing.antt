@@ -1,0 +1,95 @@
+-- Performing the line behind the place.
+use Rattle.std.specs.Prelude.{◌≡◌, ℕ, ◌+◌, ◌==◌, ◌≤◌, nat_lt, Bool, true, not, ◌||◌, if◌then◌else◌}
+use Rattle.std.specs.Prelude.{List, [], ◌∷◌, ◌++◌, codes, length, take, Some, None, Ok}
+use Rattle.em_turn.specs.Planned.{lists}
+use Rattle.em_script.specs.Runner.{name_of}
+use Rattle.em_script.specs.declared.runner.BenchFault.{BenchFault}
+use Rattle.em_tape.specs.Ends.{end_of}
+use Rattle.em_tape.specs.Tape.{Tape, event_of}
+use Rattle.em_tape.specs.Moves.{Plays, IsCut}
+use Rattle.em_prompt.specs.BenchLine.{BenchLine, text_of as text_of_line}
+use Rattle.em_looks.specs.Numbers.{number_text, count_text, short_text}
+use Rattle.em_debugger.specs.declared.debugger.Debugger.{Debugger}
+use Rattle.em_debugger.specs.declared.performing.Performed.{Performed}
+use Rattle.em_debugger.specs.BenchLooks.{is_look, look_text}
+use Rattle.em_debugger.specs.Debugger.{KeepsRest}
+use Rattle.em_debugger.specs.Place.{line_here, text_of}
+use Rattle.em_debugger.specs.Told.{Notes}
+
+-- the tape with the line at its place whole
+pub record IsWhole (old whole : Tape) : Type 0 where
+  pub tape : whole ≡ record old { whole = line_here old; back = 0; session = whole.session }
+  pub here : old.back ≡ 0 → whole ≡ old
+
+-- the line behind the place was performed, and answered as em_bench answers it; what is kept of the answer was noted
+pub record Performs (old new : Debugger) (performed : Performed) : Type 0 where
+  pub number : performed.line ≡ line_here old.tape + 1
+  pub before : Tape
+  pub whole : IsWhole old.tape before
+  pub plays : Plays before new.tape (Some []) (Some new.answer.items) (Ok performed.outcome)
+  pub noted : Notes performed.line new.answer.items (lists old.told.answers.items) (lists new.told.answers.items)
+  pub settings : new.settings ≡ old.settings
+  pub asked : new.asked ≡ old.asked
+
+-- no line lies ahead of the place
+abbrev pub IsLast : Debugger → Type 0
+IsLast d = length d.tape.lines ≤ line_here d.tape
+
+-- ---- texts
+
+-- a line that was performed, and its answer
+abbrev pub performed_text : Debugger → Performed → List ℕ
+performed_text d performed =
+    number_text (codes "line ") performed.line (codes ": ")
+    ++ (short_text (text_of performed.line d.tape) ++ (codes "\n" ++ d.answer.items))
+
+-- no line lies ahead, behind so many that did
+abbrev pub no_line_text : ℕ → List ℕ
+no_line_text before = if before == 0 then codes "no line lies ahead\n" else codes "no more line lies ahead\n"
+
+abbrev pub dropped_lines_text : ℕ → List ℕ
+dropped_lines_text n =
+    codes "dropped " ++ count_text n (codes "1 line that lay ahead\n") (codes " lines that lay ahead\n")
+
+-- so many lines were dropped, if any were
+abbrev pub dropped_text : ℕ → List ℕ
+dropped_text n = if n == 0 then [] else dropped_lines_text n
+
+-- why a line was not performed
+abbrev pub fault_text : BenchFault → List ℕ
+fault_text fault = codes "stopped: " ++ (name_of fault ++ codes "\n")
+
+-- ---- a line that is typed
+
+-- lines lie ahead of the place, or events of the line at the place do
+abbrev pub is_among_lines : Tape → Bool
+is_among_lines tape =
+    nat_lt (line_here tape) (length tape.lines) || not (event_of tape == end_of (line_here tape) tape.ends)
+
+-- the lines ahead of the place were dropped, so many of them, and what was told of them and asked for
+pub record Cuts (old new : Debugger) (dropped : ℕ) : Type 0 where
+  pub tape : IsCut old.tape new.tape dropped
+  pub told : lists new.told.answers.items ≡ take (length new.tape.lines) (lists old.told.answers.items)
+  pub asked : new.asked ≡ None
+  pub settings : new.settings ≡ old.settings
+
+-- they were dropped, and a line was put behind the place
+pub record AddsLine (old new : Debugger) (line : List ℕ) (dropped : ℕ) : Type 0 where
+  pub between : Debugger
+  pub cut : Cuts old between dropped
+  pub tape : new.tape ≡ record between.tape { lines = between.tape.lines ++ line ∷ [] }
+  pub rest : KeepsRest between new
+
+-- a line that lay ahead is answered as em_bench answers it; or it is said why it was not performed, and the lines stay
+pub data AnswersNext (old new : Debugger) (text : List ℕ) : Type 0 where
+  performed : (p : Performed) → Performs old new p → text ≡ new.answer.items → AnswersNext old new text
+  stopped : (fault : BenchFault) → text ≡ fault_text fault → new.tape.lines ≡ old.tape.lines → AnswersNext old new text
+
+-- A line of em_bench's was typed. A look among lines gets no place among them, and changes nothing; any other line is
+-- put behind the place, and performed.
+pub data AnswersTyped (old new : Debugger) (line : BenchLine) (text : List ℕ) : Type 0 where
+  looked : is_look line.command ≡ true → is_among_lines old.tape ≡ true → new ≡ old
+      → text ≡ look_text old.tape.session.machine (text_of_line line) → AnswersTyped old new line text
+  added : (between : Debugger) (dropped : ℕ) (rest : List ℕ) → AddsLine old between (text_of_line line) dropped
+      → AnswersNext between new rest → text ≡ dropped_text dropped ++ rest → AnswersTyped old new line text
+  stopped : (fault : BenchFault) → text ≡ fault_text fault → AnswersTyped old new line text

@@ -1,0 +1,132 @@
+-- Running until something happens.
+use Rattle.std.specs.Prelude.{◌≡◌, ℕ, ◌+◌, ◌-◌, ◌≤◌, suc, List, ◌++◌, codes, take, length}
+use Rattle.em_output.specs.declared.outcome.Outcome.TheVariants.{Refused}
+use Rattle.em_script.specs.declared.runner.BenchFault.{BenchFault}
+use Rattle.em_tape.specs.Tape.{event_of}
+use Rattle.em_watch.specs.Change.{IsNextChange}
+use Rattle.em_watch.specs.declared.change.Change.{Change}
+use Rattle.em_watch.specs.declared.watch.Watch.{Watch}
+use Rattle.em_looks.specs.Numbers.{number_text, count_text, short_text}
+use Rattle.em_looks.specs.Sights.{watch_text, IsWatch, HasNoWatch}
+use Rattle.em_prompt.specs.declared.typed.Until.{Until}
+use Rattle.em_prompt.specs.declared.typed.Until.TheVariants as until
+use Rattle.em_debugger.specs.declared.debugger.Debugger.{Debugger}
+use Rattle.em_debugger.specs.declared.performing.Performed.{Performed}
+use Rattle.em_debugger.specs.declared.stops.Stop.{Stop}
+use Rattle.em_debugger.specs.declared.stops.Stop.TheVariants as stop
+use Rattle.em_debugger.specs.declared.stops.Ran.{Ran}
+use Rattle.em_debugger.specs.declared.stops.Ran.TheVariants as ran
+use Rattle.em_debugger.specs.Place.{line_here, text_of}
+use Rattle.em_debugger.specs.Performing.{Performs, IsLast, performed_text, fault_text}
+use Rattle.em_debugger.specs.Who.{TellsNewest}
+
+-- the run ends before the line behind the place
+abbrev pub EndsBefore : Stop → Debugger → Type 0
+EndsBefore (stop.Line n) d = (n ≡ line_here d.tape + 1) × (n ≤ length d.tape.lines)
+EndsBefore _ d = ⊥
+
+-- since so many events stood, one changed this
+pub record ChangedSince (watch : Watch) (events : ℕ) (d : Debugger) : Type 0 where
+  pub change : Change
+  pub next : IsNextChange watch d.tape.session.machine 0 change
+  pub within : change.back ≤ event_of d.tape - events
+
+-- the run ends behind a line, before which so many events stood
+abbrev pub EndsSince : Stop → ℕ → Debugger → Performed → Type 0
+EndsSince stop.Refused events d performed = performed.outcome ≡ Refused
+EndsSince stop.Dropped events d performed = take 7 d.answer.items ≡ codes "dropped"
+EndsSince (stop.Line n) events d performed = ⊥
+EndsSince (stop.Changes watch) events d performed = ChangedSince watch events d
+
+abbrev pub EndsBehind : Stop → Debugger → Debugger → Performed → Type 0
+EndsBehind s before after performed = EndsSince s (event_of before.tape) after performed
+
+-- so many lines were performed, and none of them ended the run
+pub data Runs (s : Stop) (first : Debugger) : ℕ → Debugger → Type 0 where
+  none : Runs s first 0 first
+  more : (n : ℕ) (d after : Debugger) (p : Performed) → Runs s first n d → (EndsBefore s d → ⊥) → Performs d after p
+      → (EndsBehind s d after p → ⊥) → Runs s first (suc n) after
+
+-- ---- texts
+
+abbrev pub played_text : ℕ → List ℕ
+played_text n = codes "played " ++ count_text n (codes "1 line\n") (codes " lines\n")
+
+-- the line before which a run ended
+abbrev pub before_text : Debugger → ℕ → List ℕ
+before_text d line =
+    number_text (codes "before line ") line (codes ": ") ++ (short_text (text_of line d.tape) ++ codes "\n")
+
+abbrev pub unchanged_text : Watch → List ℕ
+unchanged_text watch = codes "none changed " ++ (watch_text watch ++ codes "\n")
+
+-- all lines were performed, and nothing ended the run
+abbrev pub missed_text : Stop → List ℕ
+missed_text stop.Refused = codes "none was refused\n"
+missed_text stop.Dropped = codes "none was dropped\n"
+missed_text (stop.Line n) = number_text (codes "no line ") n (codes " lies ahead\n")
+missed_text (stop.Changes watch) = unchanged_text watch
+
+-- ---- what is answered
+
+-- lines were performed, and one of them ended the run
+pub record RanTo (s : Stop) (first new : Debugger) (n : ℕ) (performed : Performed) : Type 0 where
+  pub before : Debugger
+  pub others : ℕ
+  pub count : n ≡ suc others
+  pub runs : Runs s first others before
+  pub goes_on : EndsBefore s before → ⊥
+  pub performs : Performs before new performed
+  pub ends : EndsBehind s before new performed
+
+-- lines were performed, and then memory was refused: the lines stay
+pub record RanShort (s : Stop) (first new : Debugger) (n : ℕ) : Type 0 where
+  pub before : Debugger
+  pub runs : Runs s first n before
+  pub lines : new.tape.lines ≡ before.tape.lines
+
+-- a run performed n lines, and ended so
+abbrev pub RanSo : Stop → Debugger → Debugger → ℕ → Ran → Type 0
+RanSo s first new n (ran.Behind performed) = RanTo s first new n performed
+RanSo s first new n (ran.Before line) = Runs s first n new × (s ≡ stop.Line line) × EndsBefore s new
+RanSo s first new n ran.End = Runs s first n new × IsLast new
+RanSo s first new n (ran.Fault fault) = RanShort s first new n
+
+-- what is said where a line ended the run: who changed it, or the line and its answer
+abbrev pub TellsStopped : Stop → Debugger → Debugger → Performed → List ℕ → Type 0
+TellsStopped (stop.Changes watch) old new performed text = TellsNewest old new watch (event_of old.tape) text
+TellsStopped _ old new performed text = (text ≡ performed_text old performed) × (new ≡ old)
+
+-- what is said of how a run ended
+abbrev pub TellsRan : Stop → Debugger → Debugger → Ran → List ℕ → Type 0
+TellsRan s old new (ran.Behind performed) text = TellsStopped s old new performed text
+TellsRan s old new (ran.Before line) text = (text ≡ before_text old line) × (new ≡ old)
+TellsRan s old new ran.End text = (text ≡ missed_text s) × (new ≡ old)
+TellsRan s old new (ran.Fault fault) text = (text ≡ fault_text fault) × (new ≡ old)
+
+-- lines were performed until it happened: how many, and what ended the run
+pub record RunsUntil (s : Stop) (old new : Debugger) (text : List ℕ) : Type 0 where
+  pub between : Debugger
+  pub lines : ℕ
+  pub ended : Ran
+  pub ran : RanSo s old between lines ended
+  pub rest : List ℕ
+  pub told : TellsRan s between new ended rest
+  pub said : text ≡ played_text lines ++ rest
+
+-- what a typed line says where the run ends
+abbrev pub IsStop : Until → Stop → Type 0
+IsStop until.Refused s = s ≡ stop.Refused
+IsStop until.Dropped s = s ≡ stop.Dropped
+IsStop (until.Line line) s = s ≡ stop.Line line
+IsStop (until.Changes typed) s = (watch : Watch) × IsWatch typed watch × (s ≡ stop.Changes watch)
+
+-- octets are to be watched that are none or too many
+abbrev pub HasNoStop : Until → Type 0
+HasNoStop (until.Changes typed) = HasNoWatch typed
+HasNoStop _ = ⊥
+
+-- by what was typed
+pub data AnswersRun (old new : Debugger) (until : Until) (text : List ℕ) : Type 0 where
+  no_stop : HasNoStop until → text ≡ codes "run: LEN is 1 to 16\n" → new ≡ old → AnswersRun old new until text
+  runs : (s : Stop) → IsStop until s → RunsUntil s old new text → AnswersRun old new until text

@@ -1,0 +1,17 @@
+-- What the lines were answered, as it is kept.
+use Rattle.std.specs.Prelude.{◌≡◌, ◌≢◌, ℕ, List, [], take, get_or, unwrap_or}
+use Rattle.em_text.specs.Lines.{lines_of}
+use Rattle.em_tape.specs.Tape.{line_at}
+
+-- what is kept of an answer: its first line, and not more than 64 octets of that
+abbrev pub kept_of : List ℕ → List ℕ
+kept_of text = take 64 (get_or (lines_of text) 0 [])
+
+-- what is kept of the answer to the line of a number, from 1; where nothing is, no octet
+abbrev pub told_of : ℕ → List (List ℕ) → List ℕ
+told_of n answers = unwrap_or (line_at n answers) []
+
+-- the answer to one line was kept, and those to the others stay
+pub record Notes (number : ℕ) (text : List ℕ) (old new : List (List ℕ)) : Type 0 where
+  pub this : told_of number new ≡ kept_of text
+  pub others : (n : ℕ) → n ≢ number → told_of n new ≡ told_of n old

@@ -1,0 +1,96 @@
+//! Answering what is typed.
+
+use crate::debugger::Debugger;
+use crate::disk::Disk;
+use em_console::Flow;
+use em_looks::{show_memory, show_register, show_ring, show_sent, show_waiting};
+use em_names::nearest;
+use em_prompt::{Fault, Typed, Wrong, prompted, write_help, write_whole_help, write_wrong};
+use em_regs::Reg;
+use em_text::{WriteFailed, write_whole};
+use std::alloc::Global;
+use std::io::Write;
+
+/// A line that is typed has fewer octets.
+const MOST_TYPED: usize = 0xFFFF_FFFF;
+
+impl Debugger {
+    /// Answers a typed line, and says whether the session goes on.
+    pub fn answer<W: Write, D: Disk>(
+        &mut self,
+        writer: &mut W,
+        disk: &mut D,
+        line: &[u8],
+    ) -> Result<Flow, WriteFailed> {
+        if line.len() >= MOST_TYPED {
+            write_whole(writer, b"the line is too long\n")?;
+            return Ok(Flow::Goes);
+        }
+        match prompted(line) {
+            Ok(Typed::Quit) => return Ok(Flow::Ends),
+            Ok(typed) => self.obey(writer, disk, typed)?,
+            Err(wrong) => tell_wrong(self.alloc, writer, wrong)?,
+        }
+        Ok(Flow::Goes)
+    }
+
+    /// Does what a line says.
+    fn obey<W: Write, D: Disk>(
+        &mut self,
+        writer: &mut W,
+        disk: &mut D,
+        typed: Typed<'_>,
+    ) -> Result<(), WriteFailed> {
+        match typed {
+            Typed::Line(line) => self.perform_typed(writer, line),
+            Typed::Next(count) => self.next(writer, count),
+            Typed::Run => self.run_all(writer),
+            Typed::RunUntil(until) => self.run_until(writer, until),
+            Typed::Back(count) => self.back(writer, count),
+            Typed::BackTo(line) | Typed::ForwardTo(line) => self.go_before_line(writer, line),
+            Typed::Forward(events) => self.forward(writer, events),
+            Typed::Goto(event) => self.go(writer, u64::from(event)),
+            Typed::Who(watch, which) => self.who(writer, watch, which),
+            Typed::WhoAgain => self.who_again(writer),
+            Typed::Load(name) => self.load(writer, disk, name),
+            Typed::Save(name) => self.save(writer, disk, name, false),
+            Typed::SaveOver(name) => self.save(writer, disk, name, true),
+            looking => self.show(writer, looking),
+        }
+    }
+
+    /// Shows what a line asks for that changes nothing.
+    fn show<W: Write>(&self, writer: &mut W, typed: Typed<'_>) -> Result<(), WriteFailed> {
+        let machine = self.tape.machine();
+        match typed {
+            Typed::Look(reg) => show_register(writer, machine, reg),
+            Typed::History(most) => self.history(writer, most),
+            Typed::Effect(event) => self.effect(writer, event),
+            Typed::Ring(side) => show_ring(writer, machine, side),
+            Typed::Frame(None) => show_waiting(writer, machine),
+            Typed::Frame(Some(index)) => show_sent(writer, machine, index),
+            Typed::Memory(addr, len) => show_memory(writer, machine, addr, len),
+            Typed::Help(Some(command)) => write_help(writer, command),
+            Typed::Help(None) => write_whole_help(writer),
+            _ => Ok(()),
+        }
+    }
+}
+
+/// Writes what is wrong with a line; where it names no register, the nearest too.
+fn tell_wrong<W: Write>(
+    alloc: Global,
+    writer: &mut W,
+    wrong: Wrong<'_>,
+) -> Result<(), WriteFailed> {
+    write_wrong(writer, wrong, near_of(alloc, wrong))?;
+    write_whole(writer, b"\n")
+}
+
+/// The registers that may be meant, where a word should name one and does not.
+fn near_of(alloc: Global, wrong: Wrong<'_>) -> Option<[Reg; 3]> {
+    match wrong {
+        Wrong::Behind(_, Fault::NoRegister(word)) => nearest(alloc, word).ok(),
+        _ => None,
+    }
+}

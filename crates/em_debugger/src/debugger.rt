@@ -1,0 +1,47 @@
+//! A debugger: a tape of lines, and what was told so far.
+ghost use Rattle.std.specs.Prelude.{◌≡◌, IfOk, IfErr, None, []};
+ghost use Rattle.em_turn.specs.Planned.{lists};
+ghost use Rattle.em_journal.specs.Settings.{new_machine, IsRefusedAs};
+ghost use Rattle.em_script.specs.Session.{bare};
+ghost use Rattle.em_tape.specs.Tape.{empty_tape};
+ghost use Rattle.em_debugger.specs.Debugger.{Begins};
+
+use crate::told::Told;
+use crate::who::Asked;
+use em_journal::{Settings, SettingsRefusal};
+use em_tape::Tape;
+use std::alloc::Global;
+
+/// A session that one types into.
+#[derive(Drop)]
+pub struct Debugger {
+    pub(crate) alloc: Global,
+    pub(crate) settings: Settings,
+    pub(crate) tape: Tape,
+    // what the lines were answered
+    pub(crate) told: Told,
+    // the answer of the line that was performed last
+    pub(crate) answer: Vec<u8>,
+    // what was asked for last
+    pub(crate) asked: Option<Asked>,
+}
+
+impl Debugger {
+    /// Over a new machine, without a line.
+    pub fn new(alloc: Global, settings: Settings) -> Result<Debugger, SettingsRefusal>
+        ensures ok { IfOk result (Begins settings) }
+        ensures err { IfErr result (IsRefusedAs settings) }
+    {
+        match Tape::new(alloc, settings) {
+            Ok(tape) => Ok(Debugger {
+                alloc,
+                settings,
+                tape,
+                told: Told::new(alloc),
+                answer: Vec::new(alloc),
+                asked: None,
+            }),
+            Err(refusal) => Err(refusal),
+        }
+    }
+}

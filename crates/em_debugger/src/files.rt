@@ -1,0 +1,133 @@
+//! Loading and saving lines.
+ghost use Rattle.std.specs.Prelude.{◌≡◌, ◌++◌, ℕ, List, IfOk, OnOk, length};
+ghost use Rattle.std.specs.Io.KnownBytes.{Appends};
+ghost use Rattle.em_text.specs.Lines.{lines_of};
+ghost use Rattle.em_text.specs.Writer.{Writes};
+ghost use Rattle.em_debugger.specs.Deeper.{lines_here};
+ghost use Rattle.em_debugger.specs.Files.{AddsLines, Loads, Saves, disk_text, loaded_text, saved_text};
+
+use crate::debugger::Debugger;
+use crate::disk::{Disk, DiskFault};
+use crate::performing::{write_dropped, write_fault};
+use crate::place::{line_here, text_of};
+use em_looks::write_count;
+use em_script::BenchFault;
+use em_text::{WriteFailed, next_line, write_pieces, write_whole};
+use std::io::Write;
+
+impl Debugger {
+    /// Puts the lines of a text behind the last line, and gives how many they are. They are not performed.
+    pub fn add_lines(&mut self, text: &[u8]) -> Result<usize, BenchFault> {
+        let before = self.tape.len();
+        let mut rest = text;
+        while !rest.is_empty() {
+            let (line, behind) = next_line(rest);
+            self.tape.add(line)?;
+            rest = behind;
+        }
+        Ok(self.tape.len().saturating_sub(before))
+    }
+
+    /// Begins with a script: loads it, and plays it to its end unless it is to be stepped through. False where it
+    /// cannot be read.
+    pub fn begin<W: Write, D: Disk>(
+        &mut self,
+        writer: &mut W,
+        disk: &mut D,
+        name: &[u8],
+        step: bool,
+    ) -> Result<bool, WriteFailed> {
+        let mut text = Vec::new(self.alloc);
+        if disk.read(name, &mut text).is_err() {
+            return Ok(false);
+        }
+        match self.add_lines(text.as_slice()) {
+            Err(fault) => write_fault(writer, fault)?,
+            Ok(count) if step => write_loaded(writer, count)?,
+            Ok(_) => self.run_all(writer)?,
+        }
+        Ok(true)
+    }
+
+    /// Loads the lines of a file, which are not performed yet. Lines that lie ahead are dropped.
+    pub(crate) fn load<W: Write, D: Disk>(
+        &mut self,
+        writer: &mut W,
+        disk: &mut D,
+        name: &[u8],
+    ) -> Result<(), WriteFailed> {
+        let mut text = Vec::new(self.alloc);
+        if let Err(fault) = disk.read(name, &mut text) {
+            return write_disk_fault(writer, name, fault);
+        }
+        match self.cut() {
+            Ok(dropped) => {
+                write_dropped(writer, dropped)?;
+                self.load_text(writer, text.as_slice())
+            }
+            Err(fault) => write_fault(writer, fault),
+        }
+    }
+
+    /// Loads the lines of a text behind the last line.
+    fn load_text<W: Write>(&mut self, writer: &mut W, text: &[u8]) -> Result<(), WriteFailed> {
+        match self.add_lines(text) {
+            Ok(count) => write_loaded(writer, count),
+            Err(fault) => write_fault(writer, fault),
+        }
+    }
+
+    /// Saves the lines up to the place.
+    pub(crate) fn save<W: Write, D: Disk>(
+        &self,
+        writer: &mut W,
+        disk: &mut D,
+        name: &[u8],
+        over: bool,
+    ) -> Result<(), WriteFailed> {
+        let mut text = Vec::new(self.alloc);
+        self.write_lines(&mut text)?;
+        let saved = if over {
+            disk.replace(name, text.as_slice())
+        } else {
+            disk.create(name, text.as_slice())
+        };
+        if let Err(fault) = saved {
+            return write_disk_fault(writer, name, fault);
+        }
+        write_saved(writer, line_here(&self.tape))
+    }
+
+    /// Writes the lines up to the place as a script.
+    fn write_lines<W: Write>(&self, writer: &mut W) -> Result<(), WriteFailed> {
+        for number in 1..=line_here(&self.tape) {
+            write_pieces(writer, &[text_of(&self.tape, number), b"\n"])?;
+        }
+        Ok(())
+    }
+}
+
+fn write_loaded<W: Write>(writer: &mut W, count: usize) -> Result<(), WriteFailed>
+    ensures writes { Writes (W.contents writer.old) (W.contents writer.new) result (loaded_text count) }
+{
+    write_whole(writer, b"loaded ")?;
+    write_count(writer, count as u64, b"1 line\n", b" lines\n")
+}
+
+fn write_saved<W: Write>(writer: &mut W, count: usize) -> Result<(), WriteFailed>
+    ensures writes { Writes (W.contents writer.old) (W.contents writer.new) result (saved_text count) }
+{
+    write_whole(writer, b"saved ")?;
+    write_count(writer, count as u64, b"1 line\n", b" lines\n")
+}
+
+fn write_disk_fault<W: Write>(
+    writer: &mut W,
+    name: &[u8],
+    fault: DiskFault,
+) -> Result<(), WriteFailed>
+    ensures writes { Writes (W.contents writer.old) (W.contents writer.new) result (name.now ++ disk_text fault) }
+{
+    write_whole(writer, name)?;
+    write_whole(writer, fault.text())
+}

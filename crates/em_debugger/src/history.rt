@@ -1,0 +1,285 @@
+//! The lines that did something, by their numbers.
+ghost use Rattle.std.specs.Prelude.{◌≡◌, ◌≤◌, length, take, if◌then◌else◌, []};
+ghost use Rattle.em_text.specs.Writer.{Writes};
+ghost use Rattle.em_debugger.specs.History.{added_text, answer_text, around_text, did_something, events_of_text};
+ghost use Rattle.em_debugger.specs.History.{events_text, history_text, last_of};
+ghost use Rattle.em_debugger.specs.History.{line_text, lines_between, lines_text, most_of, newest_line};
+ghost use Rattle.em_debugger.specs.History.{mark_text, number_of_line_text, start_text};
+
+use crate::debugger::Debugger;
+use crate::place::{line_here, text_of};
+use em_looks::write_short;
+use em_text::{WriteFailed, write_pieces, write_whole};
+use itoa::Buffer;
+use std::io::Write;
+
+/// How many lines are shown where nothing else is asked for.
+const SHOWN: usize = 16;
+
+impl Debugger {
+    /// Shows lines after which more or fewer events stand than before: the newest up to the place, the last of them
+    /// marked, and those that were performed and lie ahead.
+    pub(crate) fn history<W: Write>(
+        &self,
+        writer: &mut W,
+        typed: Option<u32>,
+    ) -> Result<(), WriteFailed>
+        ensures writes { Writes (W.contents writer.old) (W.contents writer.new) result (history_text self.now typed) }
+    {
+        let here = self.newest_line(line_here(&self.tape));
+        self.write_around(writer, most_of(typed), here)
+    }
+
+    /// Writes the newest lines up to this one, and those that were performed behind it.
+    fn write_around<W: Write>(
+        &self,
+        writer: &mut W,
+        most: usize,
+        here: usize,
+    ) -> Result<(), WriteFailed>
+        requires { here ≤ length self.now.tape.ends }
+        ensures writes { Writes (W.contents writer.old) (W.contents writer.new) result
+            (around_text self.now most here) }
+    {
+        write_start(writer, here)?;
+        self.write_newest(writer, most, here)?;
+        self.write_ahead(writer, most, here)
+    }
+
+    fn write_newest<W: Write>(
+        &self,
+        writer: &mut W,
+        most: usize,
+        here: usize,
+    ) -> Result<(), WriteFailed>
+        requires { here ≤ length self.now.tape.ends }
+        ensures writes { Writes (W.contents writer.old) (W.contents writer.new) result
+            (lines_text self.now here (last_of most (lines_between self.now.tape.ends 0 here))) }
+    {
+        let before = self.before_shown(most, here);
+        self.write_lines_between(writer, before, here, here)
+    }
+
+    fn write_ahead<W: Write>(
+        &self,
+        writer: &mut W,
+        most: usize,
+        here: usize,
+    ) -> Result<(), WriteFailed>
+        requires { here ≤ length self.now.tape.ends }
+        ensures writes { Writes (W.contents writer.old) (W.contents writer.new) result (lines_text self.now here
+            (take most (lines_between self.now.tape.ends here (length self.now.tape.ends)))) }
+    {
+        let last = self.last_shown(most, here);
+        self.write_lines_between(writer, here, last, here)
+    }
+
+    /// Whether more or fewer events stand after a line than before it.
+    fn did_something(&self, line: usize) -> bool
+        requires { line ≤ length self.now.tape.ends }
+        ensures { result ≡ did_something self.now.tape.ends line }
+    {
+        self.tape.end_of(line) != self.tape.end_of(line.saturating_sub(1))
+    }
+
+    /// The last of the first lines that did something; 0 where none did.
+    fn newest_line(&self, last: usize) -> usize
+        requires { last ≤ length self.now.tape.ends }
+        ensures newest { result ≡ newest_line self.now.tape.ends last }
+        ensures within { result ≤ last }
+    {
+        let mut line = last;
+        while line > 0 {
+            if self.did_something(line) {
+                return line;
+            }
+            line -= 1;
+        }
+        line
+    }
+
+    /// Behind which line the newest lines begin that did something, so many up to this one, or all.
+    fn before_shown(&self, most: usize, here: usize) -> usize
+        requires { here ≤ length self.now.tape.ends }
+        ensures lines { lines_between self.now.tape.ends result here
+            ≡ last_of most (lines_between self.now.tape.ends 0 here) }
+        ensures within { result ≤ here }
+    {
+        let mut before = here;
+        let mut left = most;
+        while before > 0 {
+            if left == 0 {
+                return before;
+            }
+            if self.did_something(before) {
+                left -= 1;
+            }
+            before -= 1;
+        }
+        before
+    }
+
+    /// The last of so many lines that did something behind this one, or of all that were performed.
+    fn last_shown(&self, most: usize, here: usize) -> usize
+        requires { here ≤ length self.now.tape.ends }
+        ensures lines { lines_between self.now.tape.ends here result
+            ≡ take most (lines_between self.now.tape.ends here (length self.now.tape.ends)) }
+        ensures behind { here ≤ result }
+        ensures known { result ≤ length self.now.tape.ends }
+    {
+        let performed = self.tape.performed();
+        let mut last = here;
+        let mut left = most;
+        while last < performed {
+            if left == 0 {
+                return last;
+            }
+            if self.did_something(last + 1) {
+                left -= 1;
+            }
+            last += 1;
+        }
+        last
+    }
+
+    /// Writes the lines that did something, from behind one line up to another.
+    fn write_lines_between<W: Write>(
+        &self,
+        writer: &mut W,
+        before: usize,
+        last: usize,
+        here: usize,
+    ) -> Result<(), WriteFailed>
+        requires order { before ≤ last }
+        requires known { last ≤ length self.now.tape.ends }
+        ensures writes { Writes (W.contents writer.old) (W.contents writer.new) result
+            (lines_text self.now here (lines_between self.now.tape.ends before last)) }
+    {
+        for passed in before..last {
+            self.write_if_did(writer, passed + 1, here)?;
+        }
+        Ok(())
+    }
+
+    /// Writes a line if it did something.
+    fn write_if_did<W: Write>(
+        &self,
+        writer: &mut W,
+        line: usize,
+        here: usize,
+    ) -> Result<(), WriteFailed>
+        requires { line ≤ length self.now.tape.ends }
+        ensures writes { Writes (W.contents writer.old) (W.contents writer.new) result
+            (if did_something self.now.tape.ends line then line_text self.now here line else []) }
+    {
+        if self.did_something(line) {
+            self.write_line(writer, line, here)
+        } else {
+            Ok(())
+        }
+    }
+
+    /// Writes a line with its events and its answer: `> line 5, events 3 to 6: init: ok`.
+    fn write_line<W: Write>(
+        &self,
+        writer: &mut W,
+        line: usize,
+        here: usize,
+    ) -> Result<(), WriteFailed>
+        requires { line ≤ length self.now.tape.ends }
+        ensures writes { Writes (W.contents writer.old) (W.contents writer.new) result (line_text self.now here line) }
+    {
+        write_number_of_line(writer, line, here)?;
+        self.write_events_of(writer, line)?;
+        self.write_answer(writer, line)
+    }
+
+    /// Writes the events of a line, if it added some.
+    fn write_events_of<W: Write>(&self, writer: &mut W, line: usize) -> Result<(), WriteFailed>
+        requires { line ≤ length self.now.tape.ends }
+        ensures writes { Writes (W.contents writer.old) (W.contents writer.new) result
+            (events_of_text self.now.tape.ends line) }
+    {
+        let before = self.tape.end_of(line.saturating_sub(1));
+        let after = self.tape.end_of(line);
+        write_events(writer, before, after)
+    }
+
+    /// Writes a line and its answer.
+    fn write_answer<W: Write>(&self, writer: &mut W, line: usize) -> Result<(), WriteFailed>
+        ensures writes { Writes (W.contents writer.old) (W.contents writer.new) result
+            (answer_text self.now line) }
+    {
+        write_whole(writer, b": ")?;
+        write_short(writer, text_of(&self.tape, line))?;
+        write_pieces(writer, &[b": ", self.told.of(line), b"\n"])
+    }
+}
+
+/// How many lines are shown where so many are asked for, if it is said.
+fn most_of(typed: Option<u32>) -> usize
+    ensures { result ≡ most_of typed }
+{
+    match typed {
+        Some(most) => most as usize,
+        None => SHOWN,
+    }
+}
+
+/// Writes that no line up to the place did something, where the newest is none.
+fn write_start<W: Write>(writer: &mut W, here: usize) -> Result<(), WriteFailed>
+    ensures writes { Writes (W.contents writer.old) (W.contents writer.new) result (start_text here) }
+{
+    if here == 0 {
+        return write_whole(writer, b"> at the start\n");
+    }
+    Ok(())
+}
+
+/// Writes the number of a line behind a mark, where it is the one at the place.
+fn write_number_of_line<W: Write>(
+    writer: &mut W,
+    line: usize,
+    here: usize,
+) -> Result<(), WriteFailed>
+    ensures writes { Writes (W.contents writer.old) (W.contents writer.new) result (number_of_line_text here line) }
+{
+    let mut digits = Buffer::new();
+    write_pieces(
+        writer,
+        &[mark(line, here), b"line ", digits.format(line).as_bytes()],
+    )
+}
+
+/// What marks the line at the place.
+fn mark(line: usize, here: usize) -> &'static [u8]
+    ensures { result.now ≡ mark_text here line }
+{
+    if line == here { b"> " } else { b"  " }
+}
+
+/// Writes the events of a line before which so many stood, and after which so many do, if it added some.
+fn write_events<W: Write>(writer: &mut W, before: u64, after: u64) -> Result<(), WriteFailed>
+    ensures writes { Writes (W.contents writer.old) (W.contents writer.new) result (events_text before after) }
+{
+    if before < after {
+        write_added(writer, before + 1, after)
+    } else {
+        Ok(())
+    }
+}
+
+/// Writes the events that a line added, up to the last.
+fn write_added<W: Write>(writer: &mut W, first: u64, last: u64) -> Result<(), WriteFailed>
+    ensures writes { Writes (W.contents writer.old) (W.contents writer.new) result (added_text first last) }
+{
+    let mut digits = Buffer::new();
+    let last_digits = digits.format(last).as_bytes();
+    if first == last {
+        write_pieces(writer, &[b", event ", last_digits])
+    } else {
+        let mut digits = Buffer::new();
+        let first_digits = digits.format(first).as_bytes();
+        write_pieces(writer, &[b", events ", first_digits, b" to ", last_digits])
+    }
+}

@@ -1,0 +1,26 @@
+//! A debugger that one types into: each line is performed on a tape of lines, or looks at the machine at its place.
+//!
+//! [`Debugger`] answers a line; files are reached through a [`Disk`]. [docs/debugger.md](../../../docs/debugger.md)
+//! shows it at work.
+#![tactic(auto)]
+
+mod answering;
+mod bench_looks;
+mod debugger;
+mod deeper;
+mod disk;
+mod effect;
+mod files;
+mod history;
+mod moves;
+mod next;
+mod performing;
+mod place;
+mod played;
+mod search;
+mod stops;
+mod told;
+mod who;
+
+pub use debugger::Debugger;
+pub use disk::{Disk, DiskFault};

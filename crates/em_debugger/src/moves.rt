@@ -1,0 +1,217 @@
+//! Going to another place.
+ghost use Rattle.std.specs.Prelude.{◌≡◌, ◌-◌, Bool, true, false, []};
+ghost use Rattle.em_tape.specs.Tape.{IsNear, event_of};
+ghost use Rattle.em_text.specs.Writer.{Writes};
+ghost use Rattle.em_debugger.specs.Debugger.{KeepsRest};
+ghost use Rattle.em_debugger.specs.Place.{line_here};
+ghost use Rattle.em_debugger.specs.Moves.{after_back, back_text, behind_text, budget_text, down_to_text, forward_by};
+ghost use Rattle.em_debugger.specs.Moves.{gone_text, line_text, near_text, one_back_text, place_text, taken_text};
+ghost use Rattle.em_debugger.specs.Moves.{Goes, IsBehind};
+
+use crate::debugger::Debugger;
+use crate::place::{line_here, line_of, text_of};
+use em_looks::{write_number, write_short};
+use em_tape::Tape;
+use em_text::{WriteFailed, write_pieces, write_whole};
+use std::io::Write;
+
+impl Debugger {
+    /// Takes events back, and says which.
+    pub(crate) fn back<W: Write>(&mut self, writer: &mut W, most: u32) -> Result<(), WriteFailed>
+        ensures writes { Writes (W.contents writer.old) (W.contents writer.new) result
+            (back_text most self.old.tape self.new) }
+        ensures tape { self.new.tape ≡ after_back most self.old.tape }
+        ensures rest { KeepsRest self.old self.new }
+    {
+        let newest = self.tape.event();
+        if newest == 0 {
+            return write_whole(writer, b"no event stands here\n");
+        }
+        let line = line_here(&self.tape);
+        let taken = self.tape.back(most as usize) as u64;
+        self.write_taken(writer, newest, line, taken)?;
+        write_budget(writer, taken, u64::from(most).min(newest))
+    }
+
+    /// Writes which events were taken back, from the newest one on, where the place was at this line.
+    fn write_taken<W: Write>(
+        &self,
+        writer: &mut W,
+        newest: u64,
+        line: usize,
+        taken: u64,
+    ) -> Result<(), WriteFailed>
+        ensures writes { Writes (W.contents writer.old) (W.contents writer.new) result
+            (taken_text self.now newest line taken) }
+    {
+        match taken {
+            0 => Ok(()),
+            1 => self.write_one_back(writer, newest, line),
+            _ => write_down_to(writer, &self.tape, taken, newest.saturating_sub(taken - 1)),
+        }
+    }
+
+    /// Writes which event was taken back: `took back event 22 (line 18, rx: wrote 1)`.
+    fn write_one_back<W: Write>(
+        &self,
+        writer: &mut W,
+        event: u64,
+        line: usize,
+    ) -> Result<(), WriteFailed>
+        ensures writes { Writes (W.contents writer.old) (W.contents writer.new) result
+            (one_back_text self.now event line) }
+    {
+        write_number(writer, b"took back event ", event, b" ")?;
+        write_number(writer, b"(line ", line as u64, b", ")?;
+        write_short(writer, text_of(&self.tape, line))?;
+        write_pieces(writer, &[b": ", self.told.of(line), b")\n"])
+    }
+
+    /// Goes to where so many events stand, and says where the place then is.
+    pub(crate) fn go<W: Write>(&mut self, writer: &mut W, event: u64) -> Result<(), WriteFailed>
+        ensures goes { (gone : Bool) × Goes (IsNear event) self.old.tape self.new.tape gone
+            × Writes (W.contents writer.old) (W.contents writer.new) result
+            (gone_text self.new.tape (near_text event (event_of self.new.tape)) gone) }
+        ensures rest { KeepsRest self.old self.new }
+    {
+        match self.tape.goto(event) {
+            Ok(()) => write_reached(writer, &self.tape, event),
+            Err(_) => write_refused(writer, &self.tape),
+        }
+    }
+
+    /// Goes so many events forward.
+    pub(crate) fn forward<W: Write>(
+        &mut self,
+        writer: &mut W,
+        events: u32,
+    ) -> Result<(), WriteFailed>
+        ensures goes { (gone : Bool) × Goes (IsNear (forward_by events self.old.tape)) self.old.tape self.new.tape gone
+            × Writes (W.contents writer.old) (W.contents writer.new) result
+            (gone_text self.new.tape (near_text (forward_by events self.old.tape) (event_of self.new.tape)) gone) }
+        ensures rest { KeepsRest self.old self.new }
+    {
+        let event = self.tape.event().saturating_add(u64::from(events));
+        self.go(writer, event)
+    }
+
+    /// Goes to before the line of this number, among those that were performed.
+    pub(crate) fn go_before_line<W: Write>(
+        &mut self,
+        writer: &mut W,
+        line: u32,
+    ) -> Result<(), WriteFailed>
+        ensures goes { (gone : Bool) × Goes (IsBehind (line - 1)) self.old.tape self.new.tape gone
+            × Writes (W.contents writer.old) (W.contents writer.new) result
+            (gone_text self.new.tape (behind_text (line - 1) (line_here self.new.tape)) gone) }
+        ensures rest { KeepsRest self.old self.new }
+    {
+        let before = (line as usize).saturating_sub(1);
+        match self.tape.to_line(before) {
+            Ok(()) => write_before(writer, &self.tape, before),
+            Err(_) => write_refused(writer, &self.tape),
+        }
+    }
+}
+
+/// Writes that events were taken back down to one: `took back 3 events, down to event 20 (line 17, rx)`.
+fn write_down_to<W: Write>(
+    writer: &mut W,
+    tape: &Tape,
+    taken: u64,
+    last: u64,
+) -> Result<(), WriteFailed>
+    ensures writes { Writes (W.contents writer.old) (W.contents writer.new) result (down_to_text tape.now taken last) }
+{
+    write_number(writer, b"took back ", taken, b" events, ")?;
+    write_number(writer, b"down to event ", last, b" ")?;
+    write_line(writer, tape, line_of(tape, last))
+}
+
+/// Writes a line, in parentheses.
+fn write_line<W: Write>(writer: &mut W, tape: &Tape, line: usize) -> Result<(), WriteFailed>
+    ensures writes { Writes (W.contents writer.old) (W.contents writer.new) result (line_text tape.now line) }
+{
+    write_number(writer, b"(line ", line as u64, b", ")?;
+    write_short(writer, text_of(tape, line))?;
+    write_whole(writer, b")\n")
+}
+
+/// Writes how one gets further back, where fewer events were taken back than could be.
+fn write_budget<W: Write>(writer: &mut W, taken: u64, wanted: u64) -> Result<(), WriteFailed>
+    ensures writes { Writes (W.contents writer.old) (W.contents writer.new) result (budget_text taken wanted) }
+{
+    if taken < wanted {
+        return write_whole(
+            writer,
+            b"the journal's budget dropped the older records: goto EVENT still gets there\n",
+        );
+    }
+    Ok(())
+}
+
+/// Writes where the place is.
+fn write_place<W: Write>(writer: &mut W, tape: &Tape) -> Result<(), WriteFailed>
+    ensures writes { Writes (W.contents writer.old) (W.contents writer.new) result (place_text tape.now) }
+{
+    write_number(writer, b"at line ", line_here(tape) as u64, b", ")?;
+    write_number(writer, b"event ", tape.event(), b"\n")
+}
+
+/// Writes that there was no memory to go, and where the place is.
+fn write_refused<W: Write>(writer: &mut W, tape: &Tape) -> Result<(), WriteFailed>
+    ensures writes { Writes (W.contents writer.old) (W.contents writer.new) result (gone_text tape.now [] false) }
+{
+    write_whole(writer, b"no memory to play it again: the place stays\n")?;
+    write_place(writer, tape)
+}
+
+/// Writes where the place is, and how it lies to the event that was asked for.
+fn write_reached<W: Write>(writer: &mut W, tape: &Tape, event: u64) -> Result<(), WriteFailed>
+    ensures writes { Writes (W.contents writer.old) (W.contents writer.new) result
+        (gone_text tape.now (near_text event (event_of tape.now)) true) }
+{
+    write_place(writer, tape)?;
+    write_near(writer, event, tape.event())
+}
+
+/// Writes where the place is, and how it lies to the lines that were asked for.
+fn write_before<W: Write>(writer: &mut W, tape: &Tape, lines: usize) -> Result<(), WriteFailed>
+    ensures writes { Writes (W.contents writer.old) (W.contents writer.new) result
+        (gone_text tape.now (behind_text lines (line_here tape.now)) true) }
+{
+    write_place(writer, tape)?;
+    write_behind(writer, lines, line_here(tape))
+}
+
+/// Writes why the place is not at the event that was asked for, if it is not.
+fn write_near<W: Write>(writer: &mut W, event: u64, here: u64) -> Result<(), WriteFailed>
+    ensures writes { Writes (W.contents writer.old) (W.contents writer.new) result (near_text event here) }
+{
+    if here < event {
+        write_whole(
+            writer,
+            b"no more events were performed: next and run perform lines\n",
+        )
+    } else if here > event {
+        write_whole(
+            writer,
+            b"the journal does not reach further into this line\n",
+        )
+    } else {
+        Ok(())
+    }
+}
+
+/// Writes that the place is not behind so many lines, if it is not.
+fn write_behind<W: Write>(writer: &mut W, lines: usize, here: usize) -> Result<(), WriteFailed>
+    ensures writes { Writes (W.contents writer.old) (W.contents writer.new) result (behind_text lines here) }
+{
+    if here < lines {
+        return write_whole(
+            writer,
+            b"no more lines were performed: next and run perform lines\n",
+        );
+    }
+    Ok(())
+}

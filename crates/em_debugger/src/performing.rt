@@ -1,0 +1,149 @@
+//! Performing lines.
+ghost use Rattle.std.specs.Prelude.{◌≡◌, ◌<◌, List, ℕ, Ok, None, OnOk, OnErr, IfOk, IfErr, IfSome, length};
+ghost use Rattle.std.specs.Io.KnownBytes.{Appends};
+ghost use Rattle.em_text.specs.Writer.{Writes};
+ghost use Rattle.em_prompt.specs.BenchLine.{plain as plain_line};
+ghost use Rattle.em_debugger.specs.Place.{line_here};
+ghost use Rattle.em_debugger.specs.Performing.{Performs, IsLast, Cuts, AddsLine, AnswersNext, AnswersTyped};
+ghost use Rattle.em_debugger.specs.Performing.{is_among_lines, performed_text, dropped_text, dropped_lines_text};
+ghost use Rattle.em_debugger.specs.Performing.{fault_text};
+
+use crate::bench_looks::{answer_look, is_look};
+use crate::debugger::Debugger;
+use crate::place::{line_here, text_of};
+use em_looks::{write_count, write_number, write_short};
+use em_prompt::BenchLine;
+use em_script::{BenchFault, Outcome};
+use em_text::{WriteFailed, write_pieces, write_whole};
+use std::io::Write;
+
+/// A line that was performed: its number, and how it came out.
+#[derive(Clone, Copy, PartialEq, Eq, Debug)]
+pub(crate) struct Performed {
+    pub(crate) line: usize,
+    pub(crate) outcome: Outcome,
+}
+
+impl Debugger {
+    /// Performs a typed line, and answers it as em_bench does. A look among lines that lie ahead is answered without a
+    /// place among them; other lines drop what lies ahead.
+    pub(crate) fn perform_typed<W: Write>(
+        &mut self,
+        writer: &mut W,
+        line: BenchLine<'_>,
+    ) -> Result<(), WriteFailed> {
+        let mut text = Vec::new(self.alloc);
+        line.write(&mut text)?;
+        if is_look(line.command()) && self.is_among_lines() {
+            return answer_look(writer, self.tape.machine(), text.as_slice());
+        }
+        match self.add_typed(text.as_slice()) {
+            Ok(dropped) => {
+                write_dropped(writer, dropped)?;
+                self.perform_answered(writer)
+            }
+            Err(fault) => write_fault(writer, fault),
+        }
+    }
+
+    /// Whether lines lie ahead of the place, or events of the line at the place.
+    fn is_among_lines(&self) -> bool
+        ensures { result ≡ is_among_lines self.now.tape }
+    {
+        let line = line_here(&self.tape);
+        line < self.tape.len() || self.tape.event() != self.tape.end_of(line)
+    }
+
+    /// Puts a line behind the place, and gives how many lines it dropped there.
+    fn add_typed(&mut self, text: &[u8]) -> Result<usize, BenchFault> {
+        let dropped = self.cut()?;
+        self.tape.add(text)?;
+        Ok(dropped)
+    }
+
+    /// Drops the lines ahead of the place.
+    pub(crate) fn cut(&mut self) -> Result<usize, BenchFault>
+        ensures ok { IfOk result (Cuts self.old self.new) }
+        ensures only { IfErr result (λ fault. fault ≡ BenchFault.Memory) }
+    {
+        let dropped = self.tape.cut()?;
+        self.told.keep(self.tape.len());
+        self.asked = None;
+        Ok(dropped)
+    }
+
+    /// Performs the next line, and writes its answer.
+    fn perform_answered<W: Write>(&mut self, writer: &mut W) -> Result<(), WriteFailed> {
+        match self.perform_next() {
+            Ok(_) => write_whole(writer, self.answer.as_slice()),
+            Err(fault) => write_fault(writer, fault),
+        }
+    }
+
+    /// Performs the line behind the place, and keeps its answer; none where no line lies ahead.
+    pub(crate) fn perform_next(&mut self) -> Result<Option<Performed>, BenchFault>
+        ensures some { IfOk result (λ performed. IfSome performed (Performs self.old self.new)) }
+        ensures none { result ≡ Ok None → (self.new ≡ self.old) × IsLast self.old }
+        ensures err { OnErr result (self.new.tape.lines ≡ self.old.tape.lines) }
+        ensures settings { self.new.settings ≡ self.old.settings }
+    {
+        let line = line_here(&self.tape);
+        if line >= self.tape.len() {
+            return Ok(None);
+        }
+        self.tape.to_line(line)?;
+        self.answer.clear();
+        let Some(outcome) = self.tape.perform_next(&mut self.answer)? else {
+            return Ok(None);
+        };
+        let line = line + 1;
+        match self.told.note(line, self.answer.as_slice()) {
+            Ok(()) => Ok(Some(Performed { line, outcome })),
+            Err(_) => Err(BenchFault::Memory),
+        }
+    }
+
+    /// Writes a line with its answer.
+    pub(crate) fn write_performed<W: Write>(
+        &self,
+        writer: &mut W,
+        performed: Performed,
+    ) -> Result<(), WriteFailed>
+        ensures writes { Writes (W.contents writer.old) (W.contents writer.new) result
+            (performed_text self.now performed) }
+    {
+        write_number(writer, b"line ", performed.line as u64, b": ")?;
+        write_short(writer, text_of(&self.tape, performed.line))?;
+        write_whole(writer, b"\n")?;
+        write_whole(writer, self.answer.as_slice())
+    }
+}
+
+/// Writes how many lines were dropped, if any were.
+pub(crate) fn write_dropped<W: Write>(writer: &mut W, dropped: usize) -> Result<(), WriteFailed>
+    ensures writes { Writes (W.contents writer.old) (W.contents writer.new) result (dropped_text dropped) }
+{
+    if dropped == 0 {
+        return Ok(());
+    }
+    write_dropped_lines(writer, dropped)
+}
+
+fn write_dropped_lines<W: Write>(writer: &mut W, dropped: usize) -> Result<(), WriteFailed>
+    ensures writes { Writes (W.contents writer.old) (W.contents writer.new) result (dropped_lines_text dropped) }
+{
+    write_whole(writer, b"dropped ")?;
+    write_count(
+        writer,
+        dropped as u64,
+        b"1 line that lay ahead\n",
+        b" lines that lay ahead\n",
+    )
+}
+
+/// Writes why a line was not performed.
+pub(crate) fn write_fault<W: Write>(writer: &mut W, fault: BenchFault) -> Result<(), WriteFailed>
+    ensures writes { Writes (W.contents writer.old) (W.contents writer.new) result (fault_text fault) }
+{
+    write_pieces(writer, &[b"stopped: ", fault.name().as_bytes(), b"\n"])
+}

@@ -1,0 +1,178 @@
+//! Running until something happens.
+ghost use Rattle.std.specs.Prelude.{◌↔◌, ℕ, List, IsTrue, IsNone, IfSome, OnOk};
+ghost use Rattle.std.specs.Io.KnownBytes.{Appends};
+ghost use Rattle.em_text.specs.Writer.{Writes};
+ghost use Rattle.em_debugger.specs.Stops.{AnswersRun, ChangedSince, EndsSince, HasNoStop, IsStop, RanSo};
+ghost use Rattle.em_debugger.specs.Stops.{TellsRan, TellsStopped, before_text, missed_text, played_text, unchanged_text};
+
+use crate::debugger::Debugger;
+use crate::performing::{Performed, write_fault};
+use crate::place::{line_here, text_of};
+use em_looks::{watch_of, write_count, write_number, write_short, write_watch};
+use em_prompt::Until;
+use em_script::{BenchFault, Outcome};
+use em_text::{WriteFailed, write_whole};
+use em_watch::{Watch, last_change};
+use std::io::Write;
+
+/// What the answer of a frame that is lost begins with.
+const DROPPED: &[u8] = b"dropped";
+
+/// Where a run ends.
+#[derive(Clone, Copy, PartialEq, Eq, Debug)]
+enum Stop {
+    Refused,
+    Dropped,
+    Line(usize),
+    Changes(Watch),
+}
+
+/// How a run ended.
+#[derive(Clone, Copy, PartialEq, Eq, Debug)]
+enum Ran {
+    /// Behind this line.
+    Behind(Performed),
+    /// Before the line of this number.
+    Before(usize),
+    /// Behind the last line.
+    End,
+    Fault(BenchFault),
+}
+
+impl Debugger {
+    /// Performs lines until something happens, and says what.
+    pub(crate) fn run_until<W: Write>(
+        &mut self,
+        writer: &mut W,
+        until: Until,
+    ) -> Result<(), WriteFailed> {
+        let Some(stop) = stop_of(until) else {
+            return write_whole(writer, b"run: LEN is 1 to 16\n");
+        };
+        let (lines, ran) = self.play_until(stop);
+        write_lines_played(writer, lines)?;
+        self.tell_ran(writer, stop, ran)
+    }
+
+    /// Says how a run ended.
+    fn tell_ran<W: Write>(
+        &mut self,
+        writer: &mut W,
+        stop: Stop,
+        ran: Ran,
+    ) -> Result<(), WriteFailed> {
+        match ran {
+            Ran::Behind(performed) => self.tell_stopped(writer, stop, performed),
+            Ran::Before(line) => self.write_before(writer, line),
+            Ran::End => write_missed(writer, stop),
+            Ran::Fault(fault) => write_fault(writer, fault),
+        }
+    }
+
+    /// Performs lines, and gives how many and how the run ended.
+    fn play_until(&mut self, stop: Stop) -> (usize, Ran) {
+        let ahead = self.tape.len() - line_here(&self.tape);
+        for lines in 0..ahead {
+            let next = line_here(&self.tape).saturating_add(1);
+            if stop == Stop::Line(next) {
+                return (lines, Ran::Before(next));
+            }
+            let before = self.tape.event();
+            match self.perform_next() {
+                Ok(Some(performed)) => {
+                    if self.stops_here(stop, performed, before) {
+                        return (lines + 1, Ran::Behind(performed));
+                    }
+                }
+                Ok(None) => return (lines, Ran::End),
+                Err(fault) => return (lines, Ran::Fault(fault)),
+            }
+        }
+        (ahead, Ran::End)
+    }
+
+    /// Whether a run ends behind a line, before which so many events stood.
+    fn stops_here(&self, stop: Stop, performed: Performed, before: u64) -> bool {
+        match stop {
+            Stop::Refused => performed.outcome == Outcome::Refused,
+            Stop::Dropped => self.answer.as_slice().starts_with(DROPPED),
+            Stop::Line(_) => false,
+            Stop::Changes(watch) => self.is_changed(watch, before),
+        }
+    }
+
+    /// Whether something was changed since so many events stood.
+    fn is_changed(&self, watch: Watch, before: u64) -> bool {
+        let events = self.tape.event().saturating_sub(before);
+        match last_change(self.tape.machine(), watch) {
+            Some(change) => change.back as u64 <= events,
+            None => false,
+        }
+    }
+
+    /// Shows the line behind which a run ended, or what it did to what is watched.
+    fn tell_stopped<W: Write>(
+        &mut self,
+        writer: &mut W,
+        stop: Stop,
+        performed: Performed,
+    ) -> Result<(), WriteFailed> {
+        let event = self.tape.event();
+        match stop {
+            Stop::Changes(watch) => self.who_before(writer, watch, event),
+            _ => self.write_performed(writer, performed),
+        }
+    }
+
+    /// Shows the line before which a run ended.
+    fn write_before<W: Write>(&self, writer: &mut W, line: usize) -> Result<(), WriteFailed>
+        ensures writes { Writes (W.contents writer.old) (W.contents writer.new) result (before_text self.now line) }
+    {
+        write_number(writer, b"before line ", line as u64, b": ")?;
+        write_short(writer, text_of(&self.tape, line))?;
+        write_whole(writer, b"\n")
+    }
+}
+
+fn write_lines_played<W: Write>(writer: &mut W, lines: usize) -> Result<(), WriteFailed>
+    ensures writes { Writes (W.contents writer.old) (W.contents writer.new) result (played_text lines) }
+{
+    write_whole(writer, b"played ")?;
+    write_count(writer, lines as u64, b"1 line\n", b" lines\n")
+}
+
+/// What a typed line says; none where octets are to be watched that are none or too many.
+fn stop_of(until: Until) -> Option<Stop>
+    ensures some { IfSome result (IsStop until) }
+    ensures none { IsNone result → HasNoStop until }
+{
+    match until {
+        Until::Refused => Some(Stop::Refused),
+        Until::Dropped => Some(Stop::Dropped),
+        Until::Line(line) => Some(Stop::Line(line as usize)),
+        Until::Changes(watch) => match watch_of(watch) {
+            Some(watch) => Some(Stop::Changes(watch)),
+            None => None,
+        },
+    }
+}
+
+/// Writes that the lines ended before anything happened.
+fn write_missed<W: Write>(writer: &mut W, stop: Stop) -> Result<(), WriteFailed>
+    ensures writes { Writes (W.contents writer.old) (W.contents writer.new) result (missed_text stop) }
+{
+    match stop {
+        Stop::Refused => write_whole(writer, b"none was refused\n"),
+        Stop::Dropped => write_whole(writer, b"none was dropped\n"),
+        Stop::Line(line) => write_number(writer, b"no line ", line as u64, b" lies ahead\n"),
+        Stop::Changes(watch) => write_unchanged(writer, watch),
+    }
+}
+
+fn write_unchanged<W: Write>(writer: &mut W, watch: Watch) -> Result<(), WriteFailed>
+    ensures writes { Writes (W.contents writer.old) (W.contents writer.new) result (unchanged_text watch) }
+{
+    write_whole(writer, b"none changed ")?;
+    write_watch(writer, watch)?;
+    write_whole(writer, b"\n")
+}

@@ -1,0 +1,88 @@
+//! What the lines were answered.
+ghost use Rattle.std.specs.Prelude.{◌≡◌, ◌<◌, OnOk, [], take, slice_get};
+ghost use Rattle.std.specs.Option.{option_map};
+ghost use Rattle.em_turn.specs.Planned.{lists};
+ghost use Rattle.em_tape.specs.Tape.{line_at};
+ghost use Rattle.em_debugger.specs.Told.{kept_of, told_of, Notes};
+
+use em_text::next_line;
+use std::alloc::{AllocError, Global};
+
+/// The most octets that are kept of an answer.
+const MOST_KEPT: usize = 64;
+
+/// By line, what is kept of its answer.
+#[derive(Drop)]
+pub(crate) struct Told {
+    alloc: Global,
+    answers: Vec<Vec<u8>>,
+}
+
+impl Told {
+    /// Before any line.
+    pub(crate) fn new(alloc: Global) -> Told
+        ensures { lists result.answers.items ≡ [] }
+    {
+        Told {
+            alloc,
+            answers: Vec::new(alloc),
+        }
+    }
+
+    /// Notes the answer to the line of this number, from 1.
+    pub(crate) fn note(&mut self, number: usize, text: &[u8]) -> Result<(), AllocError>
+        requires { 0 < number }
+        ensures ok { OnOk result (Notes number text.now (lists self.old.answers.items) (lists self.new.answers.items)) }
+    {
+        let kept = kept_of(text).to_vec(self.alloc)?;
+        while self.answers.len() < number {
+            self.answers.push(Vec::new(self.alloc))?;
+        }
+        self.answers[number - 1] = kept;
+        Ok(())
+    }
+
+    /// What is kept of the answer to the line of this number; where nothing is, no octet.
+    pub(crate) fn of(&self, number: usize) -> &[u8]
+        ensures { result.now ≡ told_of number (lists self.now.answers.items) }
+    {
+        self.find(number).unwrap_or_default()
+    }
+
+    fn find(&self, number: usize) -> Option<&[u8]>
+        ensures { option_map (λ text. text.now) result ≡ line_at number (lists self.now.answers.items) }
+    {
+        if number == 0 {
+            return None;
+        }
+        answer_at(self.answers.as_slice(), number - 1)
+    }
+
+    /// Forgets the answers to the lines behind so many.
+    pub(crate) fn keep(&mut self, lines: usize)
+        ensures { lists self.new.answers.items ≡ take lines (lists self.old.answers.items) }
+    {
+        self.answers.truncate(lines);
+    }
+}
+
+/// The answer behind the first so many.
+fn answer_at(answers: &[Vec<u8>], before: usize) -> Option<&[u8]>
+    ensures { option_map (λ text. text.now) result ≡ slice_get (lists answers.now) before }
+{
+    match answers.get(before) {
+        Some(answer) => Some(answer.as_slice()),
+        None => None,
+    }
+}
+
+/// What is kept of an answer: its first line, and not more than 64 octets of that.
+fn kept_of(text: &[u8]) -> &[u8]
+    ensures { result.now ≡ kept_of text.now }
+{
+    if text.is_empty() {
+        return text;
+    }
+    let (line, _) = next_line(text);
+    &line[..line.len().min(MOST_KEPT)]
+}

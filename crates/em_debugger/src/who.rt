@@ -1,0 +1,176 @@
+//! Who changed it.
+ghost use Rattle.std.specs.Prelude.{◌≡◌, ◌↔◌, ℕ, List, IsTrue, OnOk};
+ghost use Rattle.std.specs.Io.KnownBytes.{Appends};
+ghost use Rattle.em_text.specs.Writer.{Writes};
+ghost use Rattle.em_debugger.specs.Who.{AnswersWho, TellsNewest, TellsAll, TellsAgain, was_asked_for};
+ghost use Rattle.em_debugger.specs.Who.{event_text, found_text, never_text, sought_text, unchanged_and, unreached_text};
+
+use crate::debugger::Debugger;
+use crate::place::{line_of, text_of};
+use crate::search::{Found, Sought, search};
+use em_looks::{watch_of, write_difference, write_number, write_short, write_watch};
+use em_prompt::Which;
+use em_tape::Tape;
+use em_text::{WriteFailed, write_whole};
+use em_watch::Watch;
+use std::io::Write;
+
+/// What was asked for last, and the event that was told.
+#[derive(Clone, Copy, PartialEq, Eq, Debug)]
+pub(crate) struct Asked {
+    pub(crate) watch: Watch,
+    pub(crate) event: u64,
+}
+
+impl Debugger {
+    /// Answers who changed this.
+    pub(crate) fn who<W: Write>(
+        &mut self,
+        writer: &mut W,
+        typed: em_prompt::Watch,
+        which: Which,
+    ) -> Result<(), WriteFailed> {
+        let Some(watch) = watch_of(typed) else {
+            return write_whole(writer, b"who: LEN is 1 to 16\n");
+        };
+        let event = self.tape.event();
+        match which {
+            Which::All => self.who_all(writer, watch),
+            Which::Again if self.asked_for(watch) => self.who_again(writer),
+            _ => self.who_before(writer, watch, event),
+        }
+    }
+
+    fn asked_for(&self, watch: Watch) -> bool {
+        match self.asked {
+            Some(asked) => asked.watch == watch,
+            None => false,
+        }
+    }
+
+    /// Answers who changed it before the change that was told last.
+    pub(crate) fn who_again<W: Write>(&mut self, writer: &mut W) -> Result<(), WriteFailed> {
+        match self.asked {
+            Some(asked) => {
+                let before = asked.event.saturating_sub(1).min(self.tape.event());
+                self.who_before(writer, asked.watch, before)
+            }
+            None => write_whole(writer, b"who again: nothing was asked for\n"),
+        }
+    }
+
+    /// Tells the newest change among the first so many events.
+    pub(crate) fn who_before<W: Write>(
+        &mut self,
+        writer: &mut W,
+        watch: Watch,
+        event: u64,
+    ) -> Result<(), WriteFailed> {
+        let sought = search(self.alloc, self.settings, &self.tape, watch, event);
+        if let Sought::Found(found) = sought {
+            self.asked = Some(Asked {
+                watch,
+                event: found.event,
+            });
+        }
+        write_sought(writer, &self.tape, watch, event, sought)
+    }
+
+    /// Tells all changes, the newest first.
+    fn who_all<W: Write>(&self, writer: &mut W, watch: Watch) -> Result<(), WriteFailed> {
+        let mut event = self.tape.event();
+        let mut count = 0u64;
+        while event > 0 {
+            match search(self.alloc, self.settings, &self.tape, watch, event) {
+                Sought::Found(found) => {
+                    write_found(writer, &self.tape, watch, found)?;
+                    event = found.event.saturating_sub(1).min(event - 1);
+                    count = count.saturating_add(1);
+                }
+                Sought::Never => break,
+                Sought::Unreached => return write_unreached(writer, watch, event),
+            }
+        }
+        if count == 0 {
+            return write_never(writer, watch, false);
+        }
+        write_number(writer, b"changes: ", count, b"\n")
+    }
+}
+
+/// Writes what a search among the first so many events gave.
+fn write_sought<W: Write>(
+    writer: &mut W,
+    tape: &Tape,
+    watch: Watch,
+    event: u64,
+    sought: Sought,
+) -> Result<(), WriteFailed>
+    ensures writes { Writes (W.contents writer.old) (W.contents writer.new) result
+        (sought_text tape.now watch event sought) }
+{
+    match sought {
+        Sought::Found(found) => write_found(writer, tape, watch, found),
+        Sought::Never => write_never(writer, watch, event < tape.event()),
+        Sought::Unreached => write_unreached(writer, watch, event),
+    }
+}
+
+/// Writes an event: its line, its number, and the text of the line.
+pub(crate) fn write_event<W: Write>(
+    writer: &mut W,
+    tape: &Tape,
+    event: u64,
+) -> Result<(), WriteFailed>
+    ensures writes { Writes (W.contents writer.old) (W.contents writer.new) result (event_text tape.now event) }
+{
+    let line = line_of(tape, event);
+    write_number(writer, b"line ", line as u64, b", ")?;
+    write_number(writer, b"event ", event, b": ")?;
+    write_short(writer, text_of(tape, line))
+}
+
+/// Writes a change: the event, and what it did.
+fn write_found<W: Write>(
+    writer: &mut W,
+    tape: &Tape,
+    watch: Watch,
+    found: Found,
+) -> Result<(), WriteFailed>
+    ensures writes { Writes (W.contents writer.old) (W.contents writer.new) result (found_text tape.now watch found) }
+{
+    write_event(writer, tape, found.event)?;
+    write_whole(writer, b"\n")?;
+    write_difference(writer, watch, found.difference)
+}
+
+/// Writes that no event changed it, or none before one that was told.
+fn write_never<W: Write>(writer: &mut W, watch: Watch, is_before: bool) -> Result<(), WriteFailed>
+    ensures writes { Writes (W.contents writer.old) (W.contents writer.new) result (never_text watch is_before) }
+{
+    if is_before {
+        write_unchanged_and(writer, watch, b" before that\n")
+    } else {
+        write_unchanged_and(writer, watch, b"\n")
+    }
+}
+
+fn write_unchanged_and<W: Write>(
+    writer: &mut W,
+    watch: Watch,
+    end: &[u8],
+) -> Result<(), WriteFailed>
+    ensures writes { Writes (W.contents writer.old) (W.contents writer.new) result (unchanged_and watch end.now) }
+{
+    write_whole(writer, b"nothing changed ")?;
+    write_watch(writer, watch)?;
+    write_whole(writer, end)
+}
+
+fn write_unreached<W: Write>(writer: &mut W, watch: Watch, event: u64) -> Result<(), WriteFailed>
+    ensures writes { Writes (W.contents writer.old) (W.contents writer.new) result (unreached_text watch event) }
+{
+    write_whole(writer, b"no memory to see what changed ")?;
+    write_watch(writer, watch)?;
+    write_number(writer, b" up to event ", event, b"\n")
+}

@@ -1,0 +1,5 @@
+pub mod Numbers
+pub mod Sights
+pub mod Frames
+pub mod Views
+pub mod Effects

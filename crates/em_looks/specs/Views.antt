@@ -1,0 +1,48 @@
+-- A register, a ring and guest memory, as text.
+use Rattle.std.specs.Prelude.{ℕ, ◌+◌, nat_lt, if◌then◌else◌, min, List, ◌++◌, codes, length, unwrap_or}
+use Rattle.std.specs.Option.{option_map}
+use Rattle.em_mem.specs.Memory.{part}
+use Rattle.em_regs.specs.declared.reg.Reg.{Reg}
+use Rattle.em_regs.specs.Setup.{rx_setup, tx_setup}
+use Rattle.em_regs.specs.Storage.{Registers}
+use Rattle.em_regs.specs.Table.{offset_of, reg_at}
+use Rattle.em_step.specs.Access.{gives}
+use Rattle.em_step.specs.State.{State}
+use Rattle.em_step.specs.declared.refusal.Refusal.TheVariants.{Range}
+use Rattle.em_names.specs.Bits as names
+use Rattle.em_output.specs.Output.{refusal_text}
+use Rattle.em_inspect.specs.Lines.{lines_text}
+use Rattle.em_inspect.specs.Ring.{rx_ring, tx_ring}
+use Rattle.em_inspect.specs.RingText as ring
+use Rattle.em_inspect.specs.declared.ring.Ring.{Ring}
+use Rattle.em_prompt.specs.declared.typed.Side.{Side}
+use Rattle.em_prompt.specs.declared.typed.Side.TheVariants.{Receive, Transmit}
+
+-- what a look at a register's offset shows
+abbrev pub look_at : State → Reg → ℕ
+look_at s reg = unwrap_or (option_map (gives s) (reg_at (offset_of reg))) 0
+
+-- a line of a register with its bits
+abbrev pub register_text : State → Reg → List ℕ
+register_text s reg = names.register_text reg (look_at s reg) ++ codes "\n"
+
+-- the ring of a side, as the registers say
+abbrev pub ring_of : Registers → Side → Ring
+ring_of registers Receive = rx_ring (rx_setup registers)
+ring_of registers Transmit = tx_ring (tx_setup registers)
+
+-- its 64 descriptors around the head
+abbrev pub window_text : Ring → List ℕ → List ℕ
+window_text r memory = ring.ring_text r memory (ring.shown_from r) 64
+
+abbrev pub ring_text : State → Side → List ℕ
+ring_text s side = window_text (ring_of s.registers side) s.memory
+
+-- n octets of guest memory from an address on, if it has them
+abbrev pub octets_text : List ℕ → ℕ → ℕ → List ℕ
+octets_text memory addr n =
+    if nat_lt (length memory) (addr + n) then refusal_text Range else lines_text addr (part memory addr n)
+
+-- of more octets than 16,384 the first
+abbrev pub memory_text : State → ℕ → ℕ → List ℕ
+memory_text s addr len = octets_text s.memory addr (min len 16_384)

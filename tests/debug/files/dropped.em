@@ -1,0 +1,2 @@
+w 2818 3
+arrive FFFFFFFFFFFF 60
