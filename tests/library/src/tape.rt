@@ -1,6 +1,4 @@
-//! A tape that is gone through. Each call here goes through a function without a contract: else the prover would carry
-//! what the call says on to all that a test asks after it. What a test does is a function over a tape that another one
-//! holds: else each way out of it would drop the tape, which takes the prover long.
+//! A tape that is gone through.
 use em_journal::Settings;
 use em_script::Outcome;
 use em_tape::Tape;

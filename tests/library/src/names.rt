@@ -1,5 +1,4 @@
-//! Expected texts are worked out from the manual's tables by hand. Each call here goes through a function without a
-//! contract: else the prover would carry what the call says on to all that a test asserts after it.
+//! Names of registers and bits. Expected texts are worked out from the manual's tables by hand.
 use bitflags::Flags;
 use em_names::{fields, name, nearest, parse, write_name, write_register};
 use em_regs::{Causes, Ctrl, Eerd, Rah, Rctl, Reg, Status, Tctl};

@@ -1,7 +1,4 @@
 //! Guest memory by its calls.
-ghost use Rattle.std.specs.Prelude.{◌≡◌, IfOk};
-ghost use Rattle.em_mem.specs.Memory.{Fits};
-
 use em_mem::{
     FEW, FewOctets, GuestMemory, MOST_RECORD, MemRefusal, MemUndo, Reversible, lay_over, least,
     next_octet,
@@ -9,15 +6,17 @@ use em_mem::{
 use std::alloc::Global;
 use std::test::Fail;
 
-// It has no clause, so that no proof below computes with that many zeros.
 fn memory_of(alloc: Global, size: u64) -> Result<GuestMemory, MemRefusal> {
     GuestMemory::new(alloc, size)
 }
 
 /// Writes octets as an adapter does that a poke meets, and gives what takes the write back.
-fn poke(alloc: Global, memory: &mut GuestMemory, addr: u64, octets: &[u8]) -> Result<MemUndo, Fail>
-    ensures { IfOk result (λ undo. Fits memory.new undo) }
-{
+fn poke(
+    alloc: Global,
+    memory: &mut GuestMemory,
+    addr: u64,
+    octets: &[u8],
+) -> Result<MemUndo, Fail> {
     if octets.len() > MOST_RECORD || !memory.holds(addr, octets.len() as u64) {
         return Err(Fail::from("out of range"));
     }
@@ -28,9 +27,7 @@ fn poke(alloc: Global, memory: &mut GuestMemory, addr: u64, octets: &[u8]) -> Re
 }
 
 /// Writes 1 to 9 octets, whose record takes no memory.
-fn poke_few(memory: &mut GuestMemory, addr: u64, octets: &[u8]) -> Result<FewOctets, Fail>
-    ensures { IfOk result (λ undo. Fits memory.new undo) }
-{
+fn poke_few(memory: &mut GuestMemory, addr: u64, octets: &[u8]) -> Result<FewOctets, Fail> {
     if octets.is_empty() || octets.len() > FEW || !memory.holds(addr, octets.len() as u64) {
         return Err(Fail::from("out of range"));
     }
@@ -39,9 +36,7 @@ fn poke_few(memory: &mut GuestMemory, addr: u64, octets: &[u8]) -> Result<FewOct
 }
 
 /// Exchanges octets with memory's, so that the caller's own room becomes the record.
-fn exchange(memory: &mut GuestMemory, addr: u64, octets: Vec<u8>) -> Result<MemUndo, Fail>
-    ensures { IfOk result (λ undo. Fits memory.new undo) }
-{
+fn exchange(memory: &mut GuestMemory, addr: u64, octets: Vec<u8>) -> Result<MemUndo, Fail> {
     if octets.len() > MOST_RECORD || !memory.holds(addr, octets.len() as u64) {
         return Err(Fail::from("out of range"));
     }
@@ -52,10 +47,7 @@ fn exchange(memory: &mut GuestMemory, addr: u64, octets: Vec<u8>) -> Result<MemU
 }
 
 /// Takes a change back, of whatever part of a model it is.
-fn undo<P: Reversible>(part: &mut P, change: P::Undo)
-    requires { P.fits part.old change }
-    ensures { part.new ≡ P.undone part.old change }
-{
+fn undo<P: Reversible>(part: &mut P, change: P::Undo) {
     part.take_back(change);
 }
 
@@ -153,21 +145,6 @@ fn exchanges_octets_over_two_pages(rt: HostRuntime) -> Result<(), Fail> {
     undo(&mut memory, change);
     peek(&memory, 0xFFD, &mut out)?;
     assert_eq!(rt; out, [0; 6]);
-    Ok(())
-}
-
-#[test]
-fn shows_the_same_where_a_page_is_refused(rt: HostRuntime) -> Result<(), Fail> {
-    let mut memory = memory_of(rt.alloc(), 65_536)?;
-    poke_few(&mut memory, 0x2000, &[7])?;
-    assert!(rt; memory.holds(0x1FFF, 0x3000));
-    if let Err(refusal) = memory.touch(0x1FFF, 0x3000) {
-        assert_eq!(rt; refusal, MemRefusal::Memory);
-    }
-    let mut out = [9; 3];
-    peek(&memory, 0x1FFF, &mut out)?;
-    assert_eq!(rt; out, [0, 7, 0]);
-    assert_eq!(rt; memory.len(), 65_536);
     Ok(())
 }
 

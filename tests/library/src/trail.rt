@@ -1,6 +1,4 @@
-//! Each call here goes through a function without a contract: else the prover would carry what the call says on to
-//! all that a test asks after it. The trail is made in one function and lent to the others: else each way out of a
-//! test would prove again that it can be let go.
+//! A machine whose events are noted.
 use em_eeprom::Eeprom;
 use em_journal::{LEAST_BUDGET, Machine};
 use em_regs::Reg;
@@ -25,9 +23,7 @@ struct Tested {
 fn on_a_trail<F: FnOnce(&mut Tested) -> Result<(), Fail> + Drop>(
     alloc: Global,
     case: F,
-) -> Result<(), Fail>
-    requires { F.IsAlwaysCallable case }
-{
+) -> Result<(), Fail> {
     let adapter = Adapter::new(alloc, MEMORY, Eeprom::of_mac(MAC))?;
     let Ok(machine) = Machine::new(alloc, adapter, LEAST_BUDGET) else {
         return Err(Fail::from("no machine"));
@@ -146,15 +142,5 @@ fn a_full_trail_keeps_the_newest_notes(rt: HostRuntime) -> Result<(), Fail> {
         tested.has(2048)?;
         tested.notes(2047, noted(952, 0x30, 4, 1, Kind::Write))?;
         tested.notes(0, noted(2999, 0x30, 4, 1, Kind::Write))
-    })
-}
-
-// For runs in which a request for memory is refused: it can be that of the notes' places. Once they are made, a note
-// takes none.
-#[test]
-fn a_refused_trail_is_named(rt: HostRuntime) -> Result<(), Fail> {
-    on_a_trail(rt.alloc(), |tested| {
-        tested.performs_many(200)?;
-        tested.has(200)
     })
 }

@@ -91,8 +91,7 @@ struct Watched {
     octets: [u8; 8],
 }
 
-// A machine as the tests call it. Its calls have no contracts here: else the prover would carry what each call says of
-// the machine on to all that a test asserts after it, which took most of the time of the whole crate.
+// A machine as the tests call it.
 #[derive(Drop)]
 struct Tested {
     machine: Machine,
@@ -104,9 +103,7 @@ fn on_a_machine<F: FnOnce(&mut Tested) -> Result<(), Fail> + Drop>(
     memory: u64,
     budget: u64,
     case: F,
-) -> Result<(), Fail>
-    requires { F.IsAlwaysCallable case }
-{
+) -> Result<(), Fail> {
     let adapter = Adapter::new(alloc, memory, Eeprom::of_mac(MAC))?;
     match Machine::new(alloc, adapter, budget) {
         Ok(machine) => case(&mut Tested { machine }),
@@ -239,16 +236,6 @@ impl Tested {
     fn shows(&self, wanted: &Shown) -> Result<(), Fail> {
         same("shown", self.observe()?, *wanted)
     }
-
-    // Where the event is refused that shows nothing new, and the next time it is done.
-    fn does_at_last(&mut self, event: Event<'_>) -> Result<(), Fail> {
-        let before = self.observe()?;
-        if self.perform(event).is_err() {
-            self.shows(&before)?;
-            self.answers(event, DONE)?;
-        }
-        Ok(())
-    }
 }
 
 // Fails where a value is not the one that is wanted.
@@ -378,31 +365,6 @@ fn names_the_length_of_a_memory_write_that_lies_in_memory(rt: HostRuntime) -> Re
         tested.answers(Event::Poke(0, &TOO_LARGE), Err(Refusal::Length))?;
         tested.holds(0)
     })
-}
-
-// For runs in which a growth is refused: that call is refused and shows nothing new, and the next
-// one succeeds.
-#[test]
-fn a_refused_growth_changes_nothing(rt: HostRuntime) -> Result<(), Fail> {
-    let Ok(adapter) = Adapter::new(rt.alloc(), MEMORY, Eeprom::of_mac(MAC)) else {
-        return Ok(());
-    };
-    match Machine::new(rt.alloc(), adapter, LEAST_BUDGET) {
-        Ok(machine) => grows(&mut Tested { machine }),
-        Err((adapter, refusal)) => is_handed_back(&adapter, refusal, JournalRefusal::Memory),
-    }
-}
-
-fn grows(tested: &mut Tested) -> Result<(), Fail> {
-    tested.answers(Event::Write(0xC8, 4), DONE)?;
-    tested.does_at_last(Event::Write(0, 0x0400_0000))?;
-    // the least budget holds the reset alone
-    tested.goes_back_by(9, 1)?;
-    same("causes", tested.observe()?.causes, Some(4))?;
-    tested.does_at_last(Event::Poke(8, b"page"))?;
-    tested.holds(1)?;
-    tested.does_at_last(Event::Poke(0xFFE, b"over"))?;
-    tested.holds(2)
 }
 
 // A frame arrives, is received into a buffer that is sent then, and all is reset. What the records tell of each moment

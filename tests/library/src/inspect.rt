@@ -1,5 +1,4 @@
-//! Expected texts and values are worked out by hand. Each call here goes through a function without a contract: else the
-//! prover would carry what the call says on to all that a test asserts after it.
+//! Octets and frames as text. Expected texts and values are worked out by hand.
 use em_inspect::{Heading, write_frame, write_octet_lines};
 use em_text::WriteFailed;
 use std::test::Fail;

@@ -1,7 +1,4 @@
 //! What no contract says: that the parser takes words at all, and which it refuses.
-//!
-//! The calls go through functions without contracts: else the prover would carry what they say on to all that a test
-//! asserts after them.
 use clap::error::ErrorKind;
 use em_journal::Settings;
 use em_options::{Options, OptionsRefused, options};
@@ -23,9 +20,7 @@ fn says<F: FnOnce(&Options<'_>) -> bool + Drop>(
     alloc: Global,
     words: &[&str],
     holds: F,
-) -> Result<bool, Fail>
-    requires { F.IsAlwaysCallable holds }
-{
+) -> Result<bool, Fail> {
     let line = command_line(alloc, words)?;
     match options(alloc, line.as_slice()) {
         Ok(options) => Ok(holds(&options)),

@@ -23,7 +23,7 @@ const RESET: Event<'static> = Event::Write(0, 0x0400_0000);
 const BROADCAST: [u8; 60] =
     *b"\xFF\xFF\xFF\xFF\xFF\xFFhost..MNOPQRSTUVWXYZabcdefghijklmnopqrstuvwxyz01234567";
 
-// A machine as the tests call it. Its calls have no contracts here, so that the prover carries none on.
+// A machine as the tests call it.
 #[derive(Drop)]
 struct Tested {
     machine: Machine,
@@ -34,9 +34,7 @@ fn on_a_machine<F: FnOnce(&mut Tested) -> Result<(), Fail> + Drop>(
     alloc: Global,
     budget: u64,
     case: F,
-) -> Result<(), Fail>
-    requires { F.IsAlwaysCallable case }
-{
+) -> Result<(), Fail> {
     let adapter = Adapter::new(alloc, MEMORY, Eeprom::of_mac(MAC))?;
     match Machine::new(alloc, adapter, budget) {
         Ok(machine) => case(&mut Tested { machine }),

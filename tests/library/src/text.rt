@@ -1,5 +1,4 @@
-//! Each call here goes through a function without a contract: else the prover would carry what the call says on to
-//! all that a test asserts after it.
+//! Words, numbers and octets as text, both ways.
 use em_text::{
     Words, WriteFailed, decimal_number, next_line, octets_into, read_script, write_number_line,
     write_numbers_line, write_octets, write_octets_line, write_pieces, write_register_line,

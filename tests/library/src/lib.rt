@@ -1,6 +1,4 @@
-//! Tests of the libraries from outside: each calls what a user can call. They stand in one crate, since a crate with
-//! tests is proved a second time with them.
-#![tactic(auto)]
+//! Tests of the libraries from outside: each calls what a user can call. They are run without a proof.
 
 #[cfg(test)]
 mod command_line;
