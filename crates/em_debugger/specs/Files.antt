@@ -1,14 +1,15 @@
 -- Loading and saving lines.
-use Rattle.std.specs.Prelude.{◌≡◌, ℕ, List, ◌++◌, codes, length}
+use Rattle.std.specs.Prelude.{◌≡◌, ℕ, Bool, true, false, List, [], ◌++◌, codes, length}
+use Rattle.std.specs.List.{flat_map}
 use Rattle.em_text.specs.Lines.{lines_of}
-use Rattle.em_tape.specs.Tape.{Tape}
 use Rattle.em_script.specs.declared.runner.BenchFault.{BenchFault}
 use Rattle.em_looks.specs.Numbers.{count_text}
 use Rattle.em_debugger.specs.declared.debugger.Debugger.{Debugger}
 use Rattle.em_debugger.specs.declared.disk.DiskFault.{DiskFault}
 use Rattle.em_debugger.specs.declared.disk.DiskFault.TheVariants.{Missing, Exists, Name, TooLarge, Memory, Failed}
 use Rattle.em_debugger.specs.Debugger.{KeepsRest}
-use Rattle.em_debugger.specs.Deeper.{lines_here}
+use Rattle.em_debugger.specs.Place.{line_here}
+use Rattle.em_debugger.specs.Played.{RunsAll}
 use Rattle.em_debugger.specs.Performing.{Cuts, dropped_text, fault_text}
 
 -- lines were put behind the last one; none of them is performed
@@ -33,16 +34,52 @@ disk_text TooLarge = codes ": it has more than 4194304 octets\n"
 disk_text Memory = codes ": no memory for it\n"
 disk_text Failed = codes ": the system refuses it\n"
 
+-- lines as a script: a newline behind each
+abbrev pub script_of : List (List ℕ) → List ℕ
+script_of lines = flat_map (λ line. line ++ codes "\n") lines
+
 -- ---- what is answered
 
--- the file was not read; or what lay ahead was dropped, and the file's lines were put there; or memory was refused
+-- the lines of a script were put behind the last one, and it is said how many; or memory was refused
+pub data LoadsText (old new : Debugger) (script text : List ℕ) : Type 0 where
+  loads : AddsLines old new (lines_of script) → text ≡ loaded_text (length (lines_of script))
+      → LoadsText old new script text
+  stops : (fault : BenchFault) → text ≡ fault_text fault → LoadsText old new script text
+
+-- and before that how many lines were dropped
+pub record LoadsBehind (dropped : ℕ) (old new : Debugger) (script text : List ℕ) : Type 0 where
+  pub rest : List ℕ
+  pub loads : LoadsText old new script rest
+  pub said : text ≡ dropped_text dropped ++ rest
+
+-- what lay ahead was dropped, and the script's lines were put there; or memory was refused
+pub data LoadsInstead (old new : Debugger) (script text : List ℕ) : Type 0 where
+  cuts : (between : Debugger) (dropped : ℕ) → Cuts old between dropped → LoadsBehind dropped between new script text
+      → LoadsInstead old new script text
+  stops : (fault : BenchFault) → text ≡ fault_text fault → LoadsInstead old new script text
+
+-- the file was not read; or what it holds was put in the place of what lay ahead
 pub data Loads (old new : Debugger) (name text : List ℕ) : Type 0 where
   fails : (fault : DiskFault) → text ≡ name ++ disk_text fault → new ≡ old → Loads old new name text
-  loads : (script : List ℕ) (cut : Debugger) (dropped : ℕ) → Cuts old cut dropped → AddsLines cut new (lines_of script)
-      → text ≡ dropped_text dropped ++ loaded_text (length (lines_of script)) → Loads old new name text
-  stops : (front : List ℕ) (fault : BenchFault) → text ≡ front ++ fault_text fault → Loads old new name text
+  reads : (script : List ℕ) → LoadsInstead old new script text → Loads old new name text
+
+-- the script's lines were put behind the last one, and played; or memory was refused
+pub data PlaysText (old new : Debugger) (script text : List ℕ) : Type 0 where
+  plays : (between : Debugger) → AddsLines old between (lines_of script) → RunsAll between new text
+      → PlaysText old new script text
+  stops : (fault : BenchFault) → text ≡ fault_text fault → PlaysText old new script text
+
+-- the script is stepped through, or played to its end
+abbrev pub BeginsText : Bool → Debugger → Debugger → List ℕ → List ℕ → Type 0
+BeginsText true old new script text = LoadsText old new script text
+BeginsText false old new script text = PlaysText old new script text
+
+-- the file was read, or it was not, and nothing is said
+abbrev pub BeginsWith : Bool → Bool → Debugger → Debugger → List ℕ → Type 0
+BeginsWith true step old new text = (script : List ℕ) × BeginsText step old new script text
+BeginsWith false step old new text = (new ≡ old) × (text ≡ [])
 
 -- the file was not written, or it was
 pub data Saves (d : Debugger) (name text : List ℕ) : Type 0 where
   fails : (fault : DiskFault) → text ≡ name ++ disk_text fault → Saves d name text
-  saves : text ≡ saved_text (length (lines_here d.tape)) → Saves d name text
+  saves : text ≡ saved_text (line_here d.tape) → Saves d name text

@@ -1,3 +1,4 @@
+pub mod Answering
 pub mod BenchLooks
 pub mod Debugger
 pub mod Deeper

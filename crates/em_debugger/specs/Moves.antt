@@ -1,10 +1,10 @@
 -- Going to another place on the tape.
 use Rattle.std.specs.Prelude.{◌≡◌, ℕ, ◌+◌, ◌-◌, ◌==◌, min, nat_lt, if◌then◌else◌, Bool, true, false}
 use Rattle.std.specs.Prelude.{List, [], ◌++◌, codes, length}
-use Rattle.em_tape.specs.Tape.{Tape, event_of, taken_back}
+use Rattle.em_tape.specs.Tape.{IsNear, Tape, event_of, taken_back}
 use Rattle.em_looks.specs.Numbers.{number_text, short_text}
 use Rattle.em_debugger.specs.declared.debugger.Debugger.{Debugger}
-use Rattle.em_debugger.specs.Debugger.{told}
+use Rattle.em_debugger.specs.Debugger.{KeepsRest, told}
 use Rattle.em_debugger.specs.Place.{line_of, line_here, text_of}
 
 -- ---- back
@@ -106,3 +106,24 @@ gone_text tape more false = codes "no memory to play it again: the place stays\n
 -- so many events forward; a number of an event has 64 bits
 abbrev pub forward_by : ℕ → Tape → ℕ
 forward_by events tape = min (event_of tape + events) 0xFFFF_FFFF_FFFF_FFFF
+
+-- ---- what is answered
+
+-- the place is so many events back, and it is said which
+pub record GoesBack (most : ℕ) (old new : Debugger) (text : List ℕ) : Type 0 where
+  pub tape : new.tape ≡ after_back most old.tape
+  pub rest : KeepsRest old new
+  pub told : text ≡ back_text most old.tape new
+
+-- the place is such a one now, and it is said where that is, and how it lies to what was asked for; or memory was refused
+pub record GoesTo (IsThere : Tape → Type 0) (near : Tape → List ℕ) (old new : Debugger) (text : List ℕ) : Type 0 where
+  pub gone : Bool
+  pub goes : Goes IsThere old.tape new.tape gone
+  pub rest : KeepsRest old new
+  pub told : text ≡ gone_text new.tape (near new.tape) gone
+
+abbrev pub GoesToEvent : ℕ → Debugger → Debugger → List ℕ → Type 0
+GoesToEvent event = GoesTo (IsNear event) (λ tape. near_text event (event_of tape))
+
+abbrev pub GoesBeforeLine : ℕ → Debugger → Debugger → List ℕ → Type 0
+GoesBeforeLine line = GoesTo (IsBehind (line - 1)) (λ tape. behind_text (line - 1) (line_here tape))

@@ -1,5 +1,5 @@
 -- Performing the line behind the place.
-use Rattle.std.specs.Prelude.{◌≡◌, ℕ, ◌+◌, ◌==◌, ◌≤◌, nat_lt, Bool, true, not, ◌||◌, if◌then◌else◌}
+use Rattle.std.specs.Prelude.{◌≡◌, ℕ, ◌+◌, ◌==◌, ◌≤◌, nat_lt, Bool, true, false, not, ◌&&◌, ◌||◌, if◌then◌else◌}
 use Rattle.std.specs.Prelude.{List, [], ◌∷◌, ◌++◌, codes, length, take, Some, None, Ok}
 use Rattle.em_turn.specs.Planned.{lists}
 use Rattle.em_script.specs.Runner.{name_of}
@@ -85,11 +85,27 @@ pub data AnswersNext (old new : Debugger) (text : List ℕ) : Type 0 where
   performed : (p : Performed) → Performs old new p → text ≡ new.answer.items → AnswersNext old new text
   stopped : (fault : BenchFault) → text ≡ fault_text fault → new.tape.lines ≡ old.tape.lines → AnswersNext old new text
 
+-- what was dropped is said, and then the line is answered
+pub record AnswersAdded (old new : Debugger) (dropped : ℕ) (text : List ℕ) : Type 0 where
+  pub answer : List ℕ
+  pub next : AnswersNext old new answer
+  pub said : text ≡ dropped_text dropped ++ answer
+
+-- a line was put behind the place and performed; or it is said why it was not
+pub data AnswersNew (old new : Debugger) (line text : List ℕ) : Type 0 where
+  added : (between : Debugger) (dropped : ℕ) → AddsLine old between line dropped → AnswersAdded between new dropped text
+      → AnswersNew old new line text
+  stopped : (fault : BenchFault) → text ≡ fault_text fault → AnswersNew old new line text
+
+-- a line that only looks, where lines or events lie ahead
+abbrev pub looks_back : Tape → BenchLine → Bool
+looks_back tape line = is_look line.command && is_among_lines tape
+
+abbrev pub AnswersLine : Bool → Debugger → Debugger → BenchLine → List ℕ → Type 0
+AnswersLine true old new line text = (new ≡ old) × (text ≡ look_text old.tape.session.machine (text_of_line line))
+AnswersLine false old new line text = AnswersNew old new (text_of_line line) text
+
 -- A line of em_bench's was typed. A look among lines gets no place among them, and changes nothing; any other line is
 -- put behind the place, and performed.
-pub data AnswersTyped (old new : Debugger) (line : BenchLine) (text : List ℕ) : Type 0 where
-  looked : is_look line.command ≡ true → is_among_lines old.tape ≡ true → new ≡ old
-      → text ≡ look_text old.tape.session.machine (text_of_line line) → AnswersTyped old new line text
-  added : (between : Debugger) (dropped : ℕ) (rest : List ℕ) → AddsLine old between (text_of_line line) dropped
-      → AnswersNext between new rest → text ≡ dropped_text dropped ++ rest → AnswersTyped old new line text
-  stopped : (fault : BenchFault) → text ≡ fault_text fault → AnswersTyped old new line text
+abbrev pub AnswersTyped : Debugger → Debugger → BenchLine → List ℕ → Type 0
+AnswersTyped old new line text = AnswersLine (looks_back old.tape line) old new line text

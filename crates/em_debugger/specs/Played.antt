@@ -80,3 +80,10 @@ played_text d played =
 abbrev pub ended_text : Option BenchFault → List ℕ
 ended_text None = []
 ended_text (Some fault) = fault_text fault
+
+-- the lines ahead of the place were performed, and it is said how many, which were refused, and why the rest was not
+pub record RunsAll (old new : Debugger) (text : List ℕ) : Type 0 where
+  pub played : Played
+  pub fault : Option BenchFault
+  pub plays : PlaysAll old new played fault
+  pub told : text ≡ played_text new played ++ ended_text fault

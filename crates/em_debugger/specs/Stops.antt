@@ -1,5 +1,6 @@
 -- Running until something happens.
-use Rattle.std.specs.Prelude.{◌≡◌, ℕ, ◌+◌, ◌-◌, ◌≤◌, suc, List, ◌++◌, codes, take, length}
+use Rattle.std.specs.Prelude.{◌≡◌, ℕ, ◌+◌, ◌-◌, ◌<◌, ◌≤◌, ◌==◌, suc, List, ◌++◌, codes, take, length, Bool, true, false}
+use Rattle.std.specs.Str.{bytes_eq}
 use Rattle.em_output.specs.declared.outcome.Outcome.TheVariants.{Refused}
 use Rattle.em_script.specs.declared.runner.BenchFault.{BenchFault}
 use Rattle.em_tape.specs.Tape.{event_of}
@@ -20,10 +21,18 @@ use Rattle.em_debugger.specs.Place.{line_here, text_of}
 use Rattle.em_debugger.specs.Performing.{Performs, IsLast, performed_text, fault_text}
 use Rattle.em_debugger.specs.Who.{TellsNewest}
 
--- the run ends before the line behind the place
+-- the run ends before the line of this number
+abbrev pub is_before : Stop → ℕ → Bool
+is_before (stop.Line n) line = n == line
+is_before _ line = false
+
+-- it ends before the line behind the place
 abbrev pub EndsBefore : Stop → Debugger → Type 0
-EndsBefore (stop.Line n) d = (n ≡ line_here d.tape + 1) × (n ≤ length d.tape.lines)
-EndsBefore _ d = ⊥
+EndsBefore s d = (is_before s (line_here d.tape + 1) ≡ true) × (line_here d.tape < length d.tape.lines)
+
+-- an answer that says that a frame was lost
+abbrev pub says_dropped : List ℕ → Bool
+says_dropped answer = bytes_eq (take 7 answer) (codes "dropped")
 
 -- since so many events stood, one changed this
 pub record ChangedSince (watch : Watch) (events : ℕ) (d : Debugger) : Type 0 where
@@ -34,7 +43,7 @@ pub record ChangedSince (watch : Watch) (events : ℕ) (d : Debugger) : Type 0 w
 -- the run ends behind a line, before which so many events stood
 abbrev pub EndsSince : Stop → ℕ → Debugger → Performed → Type 0
 EndsSince stop.Refused events d performed = performed.outcome ≡ Refused
-EndsSince stop.Dropped events d performed = take 7 d.answer.items ≡ codes "dropped"
+EndsSince stop.Dropped events d performed = says_dropped d.answer.items ≡ true
 EndsSince (stop.Line n) events d performed = ⊥
 EndsSince (stop.Changes watch) events d performed = ChangedSince watch events d
 
@@ -88,7 +97,7 @@ pub record RanShort (s : Stop) (first new : Debugger) (n : ℕ) : Type 0 where
 -- a run performed n lines, and ended so
 abbrev pub RanSo : Stop → Debugger → Debugger → ℕ → Ran → Type 0
 RanSo s first new n (ran.Behind performed) = RanTo s first new n performed
-RanSo s first new n (ran.Before line) = Runs s first n new × (s ≡ stop.Line line) × EndsBefore s new
+RanSo s first new n (ran.Before line) = Runs s first n new × (line ≡ line_here new.tape + 1) × EndsBefore s new
 RanSo s first new n ran.End = Runs s first n new × IsLast new
 RanSo s first new n (ran.Fault fault) = RanShort s first new n
 

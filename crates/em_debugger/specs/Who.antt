@@ -51,6 +51,11 @@ sought_text tape watch n (sought.Found found) = found_text tape watch found
 sought_text tape watch n sought.Never = never_text watch (nat_lt n (event_of tape))
 sought_text tape watch n sought.Unreached = unreached_text watch n
 
+-- so many events changed it
+abbrev pub changes_text : Watch → ℕ → List ℕ
+changes_text watch count =
+    if nat_lt 0 count then number_text (codes "changes: ") count (codes "\n") else never_text watch false
+
 abbrev pub length_text : List ℕ
 length_text = codes "who: LEN is 1 to 16\n"
 
@@ -82,8 +87,7 @@ before_last tape asked = min (asked.event - 1) (event_of tape)
 -- how a list of changes ends: none is older, or the search went no further
 abbrev pub end_text : Watch → ℕ → ℕ → Bool → List ℕ
 end_text watch count n false = unreached_text watch n
-end_text watch count n true =
-    if nat_lt 0 count then number_text (codes "changes: ") count (codes "\n") else never_text watch false
+end_text watch count n true = changes_text watch count
 
 -- each is the newest change among the events before the one that was told before it
 abbrev pub AreNext : Debugger → Watch → ℕ → List Found → ℕ → Type 0
@@ -117,12 +121,20 @@ abbrev pub TellsAgain : Debugger → Debugger → Option Asked → List ℕ → 
 TellsAgain old new None text = (text ≡ codes "who again: nothing was asked for\n") × (new ≡ old)
 TellsAgain old new (Some asked) text = TellsNewest old new asked.watch (before_last old.tape asked) text
 
+-- the change before the one that was told last, where that was of the same; else the newest
+pub data TellsOlder (old new : Debugger) (watch : Watch) (text : List ℕ) : Type 0 where
+  older : was_asked_for watch old.asked → TellsAgain old new old.asked text → TellsOlder old new watch text
+  newest : (was_asked_for watch old.asked → ⊥) → TellsNewest old new watch (event_of old.tape) text
+      → TellsOlder old new watch text
+
 -- by what was typed: the newest change, the one before that which was told last, or all
+abbrev pub AnswersWatch : Which → Debugger → Debugger → Watch → List ℕ → Type 0
+AnswersWatch Newest old new watch text = TellsNewest old new watch (event_of old.tape) text
+AnswersWatch Again old new watch text = TellsOlder old new watch text
+AnswersWatch All old new watch text = TellsAll old watch text × (new ≡ old)
+
+-- octets are to be watched that are none or too many; or it is answered who changed what is watched
 pub data AnswersWho (old new : Debugger) (typed : TypedWatch) (which : Which) (text : List ℕ) : Type 0 where
   no_watch : HasNoWatch typed → text ≡ length_text → new ≡ old → AnswersWho old new typed which text
-  all : (watch : Watch) → IsWatch typed watch → which ≡ All → TellsAll old watch text → new ≡ old
-      → AnswersWho old new typed which text
-  again : (watch : Watch) → IsWatch typed watch → which ≡ Again → was_asked_for watch old.asked
-      → TellsAgain old new old.asked text → AnswersWho old new typed which text
-  newest : (watch : Watch) → IsWatch typed watch → TellsNewest old new watch (event_of old.tape) text
+  watched : (watch : Watch) → IsWatch typed watch → AnswersWatch which old new watch text
       → AnswersWho old new typed which text

@@ -1,4 +1,9 @@
 //! Answering what is typed.
+ghost use Rattle.std.specs.Prelude.{◌++◌, ℕ, List, codes, IfOk, OnOk};
+ghost use Rattle.std.specs.Io.KnownBytes.{Appends};
+ghost use Rattle.em_prompt.specs.Prompt.{plain_wrong};
+ghost use Rattle.em_prompt.specs.Typed.{plain};
+ghost use Rattle.em_debugger.specs.Answering.{Answers, Obeys, Shows, TellsWrong};
 
 use crate::debugger::Debugger;
 use crate::disk::Disk;
@@ -21,7 +26,10 @@ impl Debugger {
         writer: &mut W,
         disk: &mut D,
         line: &[u8],
-    ) -> Result<Flow, WriteFailed> {
+    ) -> Result<Flow, WriteFailed>
+        ensures ok { IfOk result (λ flow. (text : List ℕ) × Appends (W.contents writer.old) (W.contents writer.new) text
+            × Answers self.old self.new line.now flow text) }
+    {
         if line.len() >= MOST_TYPED {
             write_whole(writer, b"the line is too long\n")?;
             return Ok(Flow::Goes);
@@ -40,7 +48,10 @@ impl Debugger {
         writer: &mut W,
         disk: &mut D,
         typed: Typed<'_>,
-    ) -> Result<(), WriteFailed> {
+    ) -> Result<(), WriteFailed>
+        ensures ok { OnOk result ((text : List ℕ) × Appends (W.contents writer.old) (W.contents writer.new) text
+            × Obeys self.old self.new (plain typed) text) }
+    {
         match typed {
             Typed::Line(line) => self.perform_typed(writer, line),
             Typed::Next(count) => self.next(writer, count),
@@ -60,7 +71,10 @@ impl Debugger {
     }
 
     /// Shows what a line asks for that changes nothing.
-    fn show<W: Write>(&self, writer: &mut W, typed: Typed<'_>) -> Result<(), WriteFailed> {
+    fn show<W: Write>(&self, writer: &mut W, typed: Typed<'_>) -> Result<(), WriteFailed>
+        ensures ok { OnOk result ((text : List ℕ) × Appends (W.contents writer.old) (W.contents writer.new) text
+            × Shows self.now (plain typed) text) }
+    {
         let machine = self.tape.machine();
         match typed {
             Typed::Look(reg) => show_register(writer, machine, reg),
@@ -78,11 +92,10 @@ impl Debugger {
 }
 
 /// Writes what is wrong with a line; where it names no register, the nearest too.
-fn tell_wrong<W: Write>(
-    alloc: Global,
-    writer: &mut W,
-    wrong: Wrong<'_>,
-) -> Result<(), WriteFailed> {
+fn tell_wrong<W: Write>(alloc: Global, writer: &mut W, wrong: Wrong<'_>) -> Result<(), WriteFailed>
+    ensures ok { OnOk result ((text : List ℕ) × Appends (W.contents writer.old) (W.contents writer.new) text
+        × TellsWrong (plain_wrong wrong) text) }
+{
     write_wrong(writer, wrong, near_of(alloc, wrong))?;
     write_whole(writer, b"\n")
 }

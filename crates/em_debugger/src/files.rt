@@ -4,7 +4,8 @@ ghost use Rattle.std.specs.Io.KnownBytes.{Appends};
 ghost use Rattle.em_text.specs.Lines.{lines_of};
 ghost use Rattle.em_text.specs.Writer.{Writes};
 ghost use Rattle.em_debugger.specs.Deeper.{lines_here};
-ghost use Rattle.em_debugger.specs.Files.{AddsLines, Loads, Saves, disk_text, loaded_text, saved_text};
+ghost use Rattle.em_debugger.specs.Files.{AddsLines, BeginsText, BeginsWith, Loads, LoadsBehind, LoadsInstead};
+ghost use Rattle.em_debugger.specs.Files.{LoadsText, PlaysText, Saves, disk_text, loaded_text, saved_text, script_of};
 
 use crate::debugger::Debugger;
 use crate::disk::{Disk, DiskFault};
@@ -17,7 +18,10 @@ use std::io::Write;
 
 impl Debugger {
     /// Puts the lines of a text behind the last line, and gives how many they are. They are not performed.
-    pub fn add_lines(&mut self, text: &[u8]) -> Result<usize, BenchFault> {
+    pub fn add_lines(&mut self, text: &[u8]) -> Result<usize, BenchFault>
+        ensures ok { OnOk result (AddsLines self.old self.new (lines_of text.now)) }
+        ensures count { IfOk result (λ count. count ≡ length (lines_of text.now)) }
+    {
         let before = self.tape.len();
         let mut rest = text;
         while !rest.is_empty() {
@@ -36,17 +40,43 @@ impl Debugger {
         disk: &mut D,
         name: &[u8],
         step: bool,
-    ) -> Result<bool, WriteFailed> {
+    ) -> Result<bool, WriteFailed>
+        ensures ok { IfOk result (λ read. (text : List ℕ) × Appends (W.contents writer.old) (W.contents writer.new) text
+            × BeginsWith read step self.old self.new text) }
+    {
         let mut text = Vec::new(self.alloc);
         if disk.read(name, &mut text).is_err() {
             return Ok(false);
         }
-        match self.add_lines(text.as_slice()) {
-            Err(fault) => write_fault(writer, fault)?,
-            Ok(count) if step => write_loaded(writer, count)?,
-            Ok(_) => self.run_all(writer)?,
-        }
+        self.begin_text(writer, text.as_slice(), step)?;
         Ok(true)
+    }
+
+    fn begin_text<W: Write>(
+        &mut self,
+        writer: &mut W,
+        script: &[u8],
+        step: bool,
+    ) -> Result<(), WriteFailed>
+        ensures ok { OnOk result ((text : List ℕ) × Appends (W.contents writer.old) (W.contents writer.new) text
+            × BeginsText step self.old self.new script.now text) }
+    {
+        if step {
+            self.load_text(writer, script)
+        } else {
+            self.play_text(writer, script)
+        }
+    }
+
+    /// Loads the lines of a text, and plays them.
+    fn play_text<W: Write>(&mut self, writer: &mut W, script: &[u8]) -> Result<(), WriteFailed>
+        ensures ok { OnOk result ((text : List ℕ) × Appends (W.contents writer.old) (W.contents writer.new) text
+            × PlaysText self.old self.new script.now text) }
+    {
+        match self.add_lines(script) {
+            Ok(_) => self.run_all(writer),
+            Err(fault) => write_fault(writer, fault),
+        }
     }
 
     /// Loads the lines of a file, which are not performed yet. Lines that lie ahead are dropped.
@@ -55,23 +85,48 @@ impl Debugger {
         writer: &mut W,
         disk: &mut D,
         name: &[u8],
-    ) -> Result<(), WriteFailed> {
+    ) -> Result<(), WriteFailed>
+        ensures ok { OnOk result ((text : List ℕ) × Appends (W.contents writer.old) (W.contents writer.new) text
+            × Loads self.old self.new name.now text) }
+    {
         let mut text = Vec::new(self.alloc);
-        if let Err(fault) = disk.read(name, &mut text) {
-            return write_disk_fault(writer, name, fault);
+        match disk.read(name, &mut text) {
+            Ok(()) => self.load_instead(writer, text.as_slice()),
+            Err(fault) => write_disk_fault(writer, name, fault),
         }
+    }
+
+    /// Loads the lines of a text in the place of those that lie ahead.
+    fn load_instead<W: Write>(&mut self, writer: &mut W, script: &[u8]) -> Result<(), WriteFailed>
+        ensures ok { OnOk result ((text : List ℕ) × Appends (W.contents writer.old) (W.contents writer.new) text
+            × LoadsInstead self.old self.new script.now text) }
+    {
         match self.cut() {
-            Ok(dropped) => {
-                write_dropped(writer, dropped)?;
-                self.load_text(writer, text.as_slice())
-            }
+            Ok(dropped) => self.load_behind(writer, dropped, script),
             Err(fault) => write_fault(writer, fault),
         }
     }
 
+    /// Says how many lines were dropped, and loads the lines of a text.
+    fn load_behind<W: Write>(
+        &mut self,
+        writer: &mut W,
+        dropped: usize,
+        script: &[u8],
+    ) -> Result<(), WriteFailed>
+        ensures ok { OnOk result ((text : List ℕ) × Appends (W.contents writer.old) (W.contents writer.new) text
+            × LoadsBehind dropped self.old self.new script.now text) }
+    {
+        write_dropped(writer, dropped)?;
+        self.load_text(writer, script)
+    }
+
     /// Loads the lines of a text behind the last line.
-    fn load_text<W: Write>(&mut self, writer: &mut W, text: &[u8]) -> Result<(), WriteFailed> {
-        match self.add_lines(text) {
+    fn load_text<W: Write>(&mut self, writer: &mut W, script: &[u8]) -> Result<(), WriteFailed>
+        ensures ok { OnOk result ((text : List ℕ) × Appends (W.contents writer.old) (W.contents writer.new) text
+            × LoadsText self.old self.new script.now text) }
+    {
+        match self.add_lines(script) {
             Ok(count) => write_loaded(writer, count),
             Err(fault) => write_fault(writer, fault),
         }
@@ -84,7 +139,10 @@ impl Debugger {
         disk: &mut D,
         name: &[u8],
         over: bool,
-    ) -> Result<(), WriteFailed> {
+    ) -> Result<(), WriteFailed>
+        ensures ok { OnOk result ((text : List ℕ) × Appends (W.contents writer.old) (W.contents writer.new) text
+            × Saves self.now name.now text) }
+    {
         let mut text = Vec::new(self.alloc);
         self.write_lines(&mut text)?;
         let saved = if over {
@@ -92,14 +150,17 @@ impl Debugger {
         } else {
             disk.create(name, text.as_slice())
         };
-        if let Err(fault) = saved {
-            return write_disk_fault(writer, name, fault);
+        match saved {
+            Ok(()) => write_saved(writer, line_here(&self.tape)),
+            Err(fault) => write_disk_fault(writer, name, fault),
         }
-        write_saved(writer, line_here(&self.tape))
     }
 
     /// Writes the lines up to the place as a script.
-    fn write_lines<W: Write>(&self, writer: &mut W) -> Result<(), WriteFailed> {
+    fn write_lines<W: Write>(&self, writer: &mut W) -> Result<(), WriteFailed>
+        ensures writes { Writes (W.contents writer.old) (W.contents writer.new) result
+            (script_of (lines_here self.now.tape)) }
+    {
         for number in 1..=line_here(&self.tape) {
             write_pieces(writer, &[text_of(&self.tape, number), b"\n"])?;
         }

@@ -5,6 +5,7 @@ ghost use Rattle.em_text.specs.Writer.{Writes};
 ghost use Rattle.em_prompt.specs.BenchLine.{plain as plain_line};
 ghost use Rattle.em_debugger.specs.Place.{line_here};
 ghost use Rattle.em_debugger.specs.Performing.{Performs, IsLast, Cuts, AddsLine, AnswersNext, AnswersTyped};
+ghost use Rattle.em_debugger.specs.Performing.{AnswersNew, AnswersAdded};
 ghost use Rattle.em_debugger.specs.Performing.{is_among_lines, performed_text, dropped_text, dropped_lines_text};
 ghost use Rattle.em_debugger.specs.Performing.{fault_text};
 
@@ -31,19 +32,39 @@ impl Debugger {
         &mut self,
         writer: &mut W,
         line: BenchLine<'_>,
-    ) -> Result<(), WriteFailed> {
+    ) -> Result<(), WriteFailed>
+        ensures ok { OnOk result ((text : List ℕ) × Appends (W.contents writer.old) (W.contents writer.new) text
+            × AnswersTyped self.old self.new (plain_line line) text) }
+    {
         let mut text = Vec::new(self.alloc);
         line.write(&mut text)?;
+        let text = text.as_slice();
         if is_look(line.command()) && self.is_among_lines() {
-            return answer_look(writer, self.tape.machine(), text.as_slice());
+            answer_look(writer, self.tape.machine(), text)
+        } else {
+            self.perform_new(writer, text)
         }
-        match self.add_typed(text.as_slice()) {
-            Ok(dropped) => {
-                write_dropped(writer, dropped)?;
-                self.perform_answered(writer)
-            }
+    }
+
+    /// Puts a line behind the place, performs it, and answers it.
+    fn perform_new<W: Write>(&mut self, writer: &mut W, text: &[u8]) -> Result<(), WriteFailed>
+        ensures ok { OnOk result ((said : List ℕ) × Appends (W.contents writer.old) (W.contents writer.new) said
+            × AnswersNew self.old self.new text.now said) }
+    {
+        match self.add_typed(text) {
+            Ok(dropped) => self.perform_added(writer, dropped),
             Err(fault) => write_fault(writer, fault),
         }
+    }
+
+    /// Says how many lines were dropped, performs the line behind the place, and answers it.
+    fn perform_added<W: Write>(&mut self, writer: &mut W, dropped: usize) -> Result<(), WriteFailed>
+        requires { line_here self.old.tape < length self.old.tape.lines }
+        ensures ok { OnOk result ((said : List ℕ) × Appends (W.contents writer.old) (W.contents writer.new) said
+            × AnswersAdded self.old self.new dropped said) }
+    {
+        write_dropped(writer, dropped)?;
+        self.perform_answered(writer)
     }
 
     /// Whether lines lie ahead of the place, or events of the line at the place.
@@ -55,7 +76,10 @@ impl Debugger {
     }
 
     /// Puts a line behind the place, and gives how many lines it dropped there.
-    fn add_typed(&mut self, text: &[u8]) -> Result<usize, BenchFault> {
+    fn add_typed(&mut self, text: &[u8]) -> Result<usize, BenchFault>
+        ensures ok { IfOk result (AddsLine self.old self.new text.now) }
+        ensures ahead { OnOk result (line_here self.new.tape < length self.new.tape.lines) }
+    {
         let dropped = self.cut()?;
         self.tape.add(text)?;
         Ok(dropped)
@@ -73,9 +97,14 @@ impl Debugger {
     }
 
     /// Performs the next line, and writes its answer.
-    fn perform_answered<W: Write>(&mut self, writer: &mut W) -> Result<(), WriteFailed> {
+    fn perform_answered<W: Write>(&mut self, writer: &mut W) -> Result<(), WriteFailed>
+        requires { line_here self.old.tape < length self.old.tape.lines }
+        ensures ok { OnOk result ((said : List ℕ) × Appends (W.contents writer.old) (W.contents writer.new) said
+            × AnswersNext self.old self.new said) }
+    {
         match self.perform_next() {
-            Ok(_) => write_whole(writer, self.answer.as_slice()),
+            Ok(Some(_)) => write_whole(writer, self.answer.as_slice()),
+            Ok(None) => unreachable!(),
             Err(fault) => write_fault(writer, fault),
         }
     }

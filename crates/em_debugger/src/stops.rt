@@ -1,9 +1,10 @@
 //! Running until something happens.
-ghost use Rattle.std.specs.Prelude.{◌↔◌, ℕ, List, IsTrue, IsNone, IfSome, OnOk};
+ghost use Rattle.std.specs.Prelude.{◌≡◌, ◌↔◌, ℕ, List, IsTrue, IsNone, IfSome, OnOk};
 ghost use Rattle.std.specs.Io.KnownBytes.{Appends};
 ghost use Rattle.em_text.specs.Writer.{Writes};
-ghost use Rattle.em_debugger.specs.Stops.{AnswersRun, ChangedSince, EndsSince, HasNoStop, IsStop, RanSo};
-ghost use Rattle.em_debugger.specs.Stops.{TellsRan, TellsStopped, before_text, missed_text, played_text, unchanged_text};
+ghost use Rattle.em_debugger.specs.Stops.{AnswersRun, ChangedSince, EndsSince, HasNoStop, IsStop, RanSo, RunsUntil};
+ghost use Rattle.em_debugger.specs.Stops.{TellsRan, TellsStopped, before_text, is_before, missed_text, played_text};
+ghost use Rattle.em_debugger.specs.Stops.{says_dropped, unchanged_text};
 
 use crate::debugger::Debugger;
 use crate::performing::{Performed, write_fault};
@@ -11,12 +12,12 @@ use crate::place::{line_here, text_of};
 use em_looks::{watch_of, write_count, write_number, write_short, write_watch};
 use em_prompt::Until;
 use em_script::{BenchFault, Outcome};
-use em_text::{WriteFailed, write_whole};
+use em_text::{WriteFailed, is_name, write_whole};
 use em_watch::{Watch, last_change};
 use std::io::Write;
 
 /// What the answer of a frame that is lost begins with.
-const DROPPED: &[u8] = b"dropped";
+const DROPPED: &[u8; 7] = b"dropped";
 
 /// Where a run ends.
 #[derive(Clone, Copy, PartialEq, Eq, Debug)]
@@ -39,16 +40,45 @@ enum Ran {
     Fault(BenchFault),
 }
 
+impl Stop {
+    /// Whether a run ends before the line of this number.
+    fn is_before(self, line: usize) -> bool
+        ensures { result ≡ is_before self line }
+    {
+        match self {
+            Stop::Line(number) => number == line,
+            _ => false,
+        }
+    }
+}
+
+/// Whether an answer says that a frame was lost.
+fn says_dropped(answer: &[u8]) -> bool
+    ensures { result ≡ says_dropped answer.now }
+{
+    is_name(&answer[..answer.len().min(DROPPED.len())], DROPPED)
+}
+
 impl Debugger {
     /// Performs lines until something happens, and says what.
     pub(crate) fn run_until<W: Write>(
         &mut self,
         writer: &mut W,
         until: Until,
-    ) -> Result<(), WriteFailed> {
-        let Some(stop) = stop_of(until) else {
-            return write_whole(writer, b"run: LEN is 1 to 16\n");
-        };
+    ) -> Result<(), WriteFailed>
+        ensures ok { OnOk result ((text : List ℕ) × Appends (W.contents writer.old) (W.contents writer.new) text
+            × AnswersRun self.old self.new until text) }
+    {
+        match stop_of(until) {
+            Some(stop) => self.run_to(writer, stop),
+            None => write_whole(writer, b"run: LEN is 1 to 16\n"),
+        }
+    }
+
+    fn run_to<W: Write>(&mut self, writer: &mut W, stop: Stop) -> Result<(), WriteFailed>
+        ensures ok { OnOk result ((text : List ℕ) × Appends (W.contents writer.old) (W.contents writer.new) text
+            × RunsUntil stop self.old self.new text) }
+    {
         let (lines, ran) = self.play_until(stop);
         write_lines_played(writer, lines)?;
         self.tell_ran(writer, stop, ran)
@@ -60,7 +90,10 @@ impl Debugger {
         writer: &mut W,
         stop: Stop,
         ran: Ran,
-    ) -> Result<(), WriteFailed> {
+    ) -> Result<(), WriteFailed>
+        ensures ok { OnOk result ((text : List ℕ) × Appends (W.contents writer.old) (W.contents writer.new) text
+            × TellsRan stop self.old self.new ran text) }
+    {
         match ran {
             Ran::Behind(performed) => self.tell_stopped(writer, stop, performed),
             Ran::Before(line) => self.write_before(writer, line),
@@ -70,11 +103,13 @@ impl Debugger {
     }
 
     /// Performs lines, and gives how many and how the run ended.
-    fn play_until(&mut self, stop: Stop) -> (usize, Ran) {
-        let ahead = self.tape.len() - line_here(&self.tape);
+    fn play_until(&mut self, stop: Stop) -> (usize, Ran)
+        ensures { RanSo stop self.old self.new result.0 result.1 }
+    {
+        let ahead = self.tape.len().saturating_sub(line_here(&self.tape));
         for lines in 0..ahead {
             let next = line_here(&self.tape).saturating_add(1);
-            if stop == Stop::Line(next) {
+            if stop.is_before(next) {
                 return (lines, Ran::Before(next));
             }
             let before = self.tape.event();
@@ -92,17 +127,21 @@ impl Debugger {
     }
 
     /// Whether a run ends behind a line, before which so many events stood.
-    fn stops_here(&self, stop: Stop, performed: Performed, before: u64) -> bool {
+    fn stops_here(&self, stop: Stop, performed: Performed, before: u64) -> bool
+        ensures { IsTrue result ↔ EndsSince stop before self.now performed }
+    {
         match stop {
-            Stop::Refused => performed.outcome == Outcome::Refused,
-            Stop::Dropped => self.answer.as_slice().starts_with(DROPPED),
+            Stop::Refused => matches!(performed.outcome, Outcome::Refused),
+            Stop::Dropped => says_dropped(self.answer.as_slice()),
             Stop::Line(_) => false,
             Stop::Changes(watch) => self.is_changed(watch, before),
         }
     }
 
     /// Whether something was changed since so many events stood.
-    fn is_changed(&self, watch: Watch, before: u64) -> bool {
+    fn is_changed(&self, watch: Watch, before: u64) -> bool
+        ensures { IsTrue result ↔ ChangedSince watch before self.now }
+    {
         let events = self.tape.event().saturating_sub(before);
         match last_change(self.tape.machine(), watch) {
             Some(change) => change.back as u64 <= events,
@@ -116,10 +155,12 @@ impl Debugger {
         writer: &mut W,
         stop: Stop,
         performed: Performed,
-    ) -> Result<(), WriteFailed> {
-        let event = self.tape.event();
+    ) -> Result<(), WriteFailed>
+        ensures ok { OnOk result ((text : List ℕ) × Appends (W.contents writer.old) (W.contents writer.new) text
+            × TellsStopped stop self.old self.new performed text) }
+    {
         match stop {
-            Stop::Changes(watch) => self.who_before(writer, watch, event),
+            Stop::Changes(watch) => self.who_newest(writer, watch),
             _ => self.write_performed(writer, performed),
         }
     }

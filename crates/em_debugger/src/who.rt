@@ -1,9 +1,11 @@
 //! Who changed it.
 ghost use Rattle.std.specs.Prelude.{◌≡◌, ◌↔◌, ℕ, List, IsTrue, OnOk};
+ghost use Rattle.em_tape.specs.Tape.{event_of};
 ghost use Rattle.std.specs.Io.KnownBytes.{Appends};
 ghost use Rattle.em_text.specs.Writer.{Writes};
-ghost use Rattle.em_debugger.specs.Who.{AnswersWho, TellsNewest, TellsAll, TellsAgain, was_asked_for};
-ghost use Rattle.em_debugger.specs.Who.{event_text, found_text, never_text, sought_text, unchanged_and, unreached_text};
+ghost use Rattle.em_debugger.specs.Who.{AnswersWatch, AnswersWho, TellsNewest, TellsAll, TellsAgain, TellsOlder};
+ghost use Rattle.em_debugger.specs.Who.{changes_text, event_text, found_text, never_text, sought_text};
+ghost use Rattle.em_debugger.specs.Who.{unchanged_and, unreached_text, was_asked_for};
 
 use crate::debugger::Debugger;
 use crate::place::{line_of, text_of};
@@ -29,19 +31,60 @@ impl Debugger {
         writer: &mut W,
         typed: em_prompt::Watch,
         which: Which,
-    ) -> Result<(), WriteFailed> {
-        let Some(watch) = watch_of(typed) else {
-            return write_whole(writer, b"who: LEN is 1 to 16\n");
-        };
-        let event = self.tape.event();
-        match which {
-            Which::All => self.who_all(writer, watch),
-            Which::Again if self.asked_for(watch) => self.who_again(writer),
-            _ => self.who_before(writer, watch, event),
+    ) -> Result<(), WriteFailed>
+        ensures ok { OnOk result ((text : List ℕ) × Appends (W.contents writer.old) (W.contents writer.new) text
+            × AnswersWho self.old self.new typed which text) }
+    {
+        match watch_of(typed) {
+            Some(watch) => self.who_watched(writer, watch, which),
+            None => write_whole(writer, b"who: LEN is 1 to 16\n"),
         }
     }
 
-    fn asked_for(&self, watch: Watch) -> bool {
+    fn who_watched<W: Write>(
+        &mut self,
+        writer: &mut W,
+        watch: Watch,
+        which: Which,
+    ) -> Result<(), WriteFailed>
+        ensures ok { OnOk result ((text : List ℕ) × Appends (W.contents writer.old) (W.contents writer.new) text
+            × AnswersWatch which self.old self.new watch text) }
+    {
+        match which {
+            Which::Newest => self.who_newest(writer, watch),
+            Which::Again => self.who_older(writer, watch),
+            Which::All => self.who_all(writer, watch),
+        }
+    }
+
+    /// Tells the newest change up to the place.
+    pub(crate) fn who_newest<W: Write>(
+        &mut self,
+        writer: &mut W,
+        watch: Watch,
+    ) -> Result<(), WriteFailed>
+        ensures ok { OnOk result ((text : List ℕ) × Appends (W.contents writer.old) (W.contents writer.new) text
+            × TellsNewest self.old self.new watch (event_of self.old.tape) text) }
+    {
+        let event = self.tape.event();
+        self.who_before(writer, watch, event)
+    }
+
+    /// Tells the change before the one that was told last, where that was of the same; else the newest.
+    fn who_older<W: Write>(&mut self, writer: &mut W, watch: Watch) -> Result<(), WriteFailed>
+        ensures ok { OnOk result ((text : List ℕ) × Appends (W.contents writer.old) (W.contents writer.new) text
+            × TellsOlder self.old self.new watch text) }
+    {
+        if self.asked_for(watch) {
+            self.who_again(writer)
+        } else {
+            self.who_newest(writer, watch)
+        }
+    }
+
+    fn asked_for(&self, watch: Watch) -> bool
+        ensures { IsTrue result ↔ was_asked_for watch self.now.asked }
+    {
         match self.asked {
             Some(asked) => asked.watch == watch,
             None => false,
@@ -49,7 +92,10 @@ impl Debugger {
     }
 
     /// Answers who changed it before the change that was told last.
-    pub(crate) fn who_again<W: Write>(&mut self, writer: &mut W) -> Result<(), WriteFailed> {
+    pub(crate) fn who_again<W: Write>(&mut self, writer: &mut W) -> Result<(), WriteFailed>
+        ensures ok { OnOk result ((text : List ℕ) × Appends (W.contents writer.old) (W.contents writer.new) text
+            × TellsAgain self.old self.new self.old.asked text) }
+    {
         match self.asked {
             Some(asked) => {
                 let before = asked.event.saturating_sub(1).min(self.tape.event());
@@ -60,12 +106,15 @@ impl Debugger {
     }
 
     /// Tells the newest change among the first so many events.
-    pub(crate) fn who_before<W: Write>(
+    fn who_before<W: Write>(
         &mut self,
         writer: &mut W,
         watch: Watch,
         event: u64,
-    ) -> Result<(), WriteFailed> {
+    ) -> Result<(), WriteFailed>
+        ensures ok { OnOk result ((text : List ℕ) × Appends (W.contents writer.old) (W.contents writer.new) text
+            × TellsNewest self.old self.new watch event text) }
+    {
         let sought = search(self.alloc, self.settings, &self.tape, watch, event);
         if let Sought::Found(found) = sought {
             self.asked = Some(Asked {
@@ -77,7 +126,10 @@ impl Debugger {
     }
 
     /// Tells all changes, the newest first.
-    fn who_all<W: Write>(&self, writer: &mut W, watch: Watch) -> Result<(), WriteFailed> {
+    fn who_all<W: Write>(&self, writer: &mut W, watch: Watch) -> Result<(), WriteFailed>
+        ensures ok { OnOk result ((text : List ℕ) × Appends (W.contents writer.old) (W.contents writer.new) text
+            × TellsAll self.now watch text) }
+    {
         let mut event = self.tape.event();
         let mut count = 0u64;
         while event > 0 {
@@ -87,14 +139,22 @@ impl Debugger {
                     event = found.event.saturating_sub(1).min(event - 1);
                     count = count.saturating_add(1);
                 }
-                Sought::Never => break,
+                Sought::Never => return write_changes(writer, watch, count),
                 Sought::Unreached => return write_unreached(writer, watch, event),
             }
         }
-        if count == 0 {
-            return write_never(writer, watch, false);
-        }
+        write_changes(writer, watch, count)
+    }
+}
+
+/// Writes how many changes there were, where none is older.
+fn write_changes<W: Write>(writer: &mut W, watch: Watch, count: u64) -> Result<(), WriteFailed>
+    ensures writes { Writes (W.contents writer.old) (W.contents writer.new) result (changes_text watch count) }
+{
+    if count > 0 {
         write_number(writer, b"changes: ", count, b"\n")
+    } else {
+        write_never(writer, watch, false)
     }
 }
 

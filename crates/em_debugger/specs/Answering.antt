@@ -1,0 +1,71 @@
+-- What is answered to each line that is typed.
+use Rattle.std.specs.Prelude.{◌≡◌, ◌≤◌, ℕ, List, [], ◌++◌, codes, length, Option, Some, None, Result, Ok, Err}
+use Rattle.em_regs.specs.declared.reg.Reg.{Reg}
+use Rattle.em_console.specs.declared.session.Flow.{Flow}
+use Rattle.em_console.specs.declared.session.Flow.TheVariants.{Goes, Ends}
+use Rattle.em_looks.specs.Frames.{waiting_text, sent_text}
+use Rattle.em_looks.specs.Views.{register_text, ring_text, memory_text}
+use Rattle.em_prompt.specs.Help.{line_of, help_text}
+use Rattle.em_prompt.specs.Prompt.{Wrong, prompted}
+use Rattle.em_prompt.specs.Typed.{Typed, silent, line, look, who, who_again, back, back_to, forward, forward_to, goto}
+use Rattle.em_prompt.specs.Typed.{next, run, run_until, load, save, save_over, history, effect, ring, frame, memory}
+use Rattle.em_prompt.specs.Typed.{help, quit}
+use Rattle.em_prompt.specs.WrongText.{wrong_text}
+use Rattle.em_debugger.specs.declared.debugger.Debugger.{Debugger}
+use Rattle.em_debugger.specs.Effect.{AnswersEffect, asked_event}
+use Rattle.em_debugger.specs.Files.{Loads, Saves}
+use Rattle.em_debugger.specs.History.{history_text}
+use Rattle.em_debugger.specs.Moves.{GoesBack, GoesBeforeLine, GoesToEvent, forward_by}
+use Rattle.em_debugger.specs.Next.{TellsNext}
+use Rattle.em_debugger.specs.Performing.{AnswersTyped}
+use Rattle.em_debugger.specs.Played.{RunsAll}
+use Rattle.em_debugger.specs.Stops.{AnswersRun}
+use Rattle.em_debugger.specs.Who.{AnswersWho, TellsAgain}
+
+-- what is shown of a debugger
+abbrev pub Shows : Debugger → Typed → List ℕ → Type 0
+Shows d (look reg) text = text ≡ register_text d.tape.session.machine.present reg
+Shows d (history most) text = text ≡ history_text d most
+Shows d (effect event) text = AnswersEffect d (asked_event event d.tape) text
+Shows d (ring side) text = text ≡ ring_text d.tape.session.machine.present side
+Shows d (frame None) text = text ≡ waiting_text d.tape.session.machine.present.fifo
+Shows d (frame (Some index)) text = text ≡ sent_text d.tape.session.machine.present.wire index
+Shows d (memory addr len) text = text ≡ memory_text d.tape.session.machine.present addr len
+Shows d (help (Some command)) text = text ≡ line_of command
+Shows d (help None) text = text ≡ help_text
+Shows d _ text = text ≡ []
+
+-- By what was typed, what it made of the debugger, and what is said. A command that only looks changes nothing.
+abbrev pub Obeys : Debugger → Debugger → Typed → List ℕ → Type 0
+Obeys old new (line typed) text = AnswersTyped old new typed text
+Obeys old new (next count) text = TellsNext count old new text
+Obeys old new run text = RunsAll old new text
+Obeys old new (run_until until) text = AnswersRun old new until text
+Obeys old new (back count) text = GoesBack count old new text
+Obeys old new (back_to number) text = GoesBeforeLine number old new text
+Obeys old new (forward_to number) text = GoesBeforeLine number old new text
+Obeys old new (forward events) text = GoesToEvent (forward_by events old.tape) old new text
+Obeys old new (goto event) text = GoesToEvent event old new text
+Obeys old new (who watch which) text = AnswersWho old new watch which text
+Obeys old new who_again text = TellsAgain old new old.asked text
+Obeys old new (load name) text = Loads old new name text
+Obeys old new (save name) text = (new ≡ old) × Saves old name text
+Obeys old new (save_over name) text = (new ≡ old) × Saves old name text
+Obeys old new typed text = (new ≡ old) × Shows old typed text
+
+-- what is wrong is said; where a word names no register, with those that may be meant
+pub record TellsWrong (wrong : Wrong) (text : List ℕ) : Type 0 where
+  pub near : Option (List Reg)
+  pub told : text ≡ wrong_text near wrong ++ codes "\n"
+
+-- the session ends; or what is typed is obeyed, or it is said what is wrong with it
+abbrev pub AnswersPrompted : Debugger → Debugger → Result Typed Wrong → Flow → List ℕ → Type 0
+AnswersPrompted old new (Ok quit) flow text = (flow ≡ Ends) × ((new ≡ old) × (text ≡ []))
+AnswersPrompted old new (Ok typed) flow text = (flow ≡ Goes) × Obeys old new typed text
+AnswersPrompted old new (Err wrong) flow text = (flow ≡ Goes) × ((new ≡ old) × TellsWrong wrong text)
+
+-- a line was typed: one that is too long is none
+pub data Answers (old new : Debugger) (typed : List ℕ) (flow : Flow) (text : List ℕ) : Type 0 where
+  too_long : 0xFFFF_FFFF ≤ length typed → flow ≡ Goes → new ≡ old → text ≡ codes "the line is too long\n"
+      → Answers old new typed flow text
+  said : AnswersPrompted old new (prompted typed) flow text → Answers old new typed flow text
