@@ -14,11 +14,14 @@ mod words;
 use crate::disk::Host;
 use crate::help::{HELP, VERSION};
 use crate::session::Served;
-use crate::words::{Asked, Words};
+use crate::words::{Asked, Words, WordsRefused};
 use anyhow::{Result, bail};
 use em_console::{Answers, Console, LineConsole, prompt_for, serve};
 use em_debugger::{Debugger, Disk};
-use em_options::{Options, options};
+use em_ending::Ending;
+use em_journal::SettingsRefusal;
+use em_options::{Options, OptionsRefused, options};
+use em_script::BenchFault;
 use std::fs::File;
 use std::io::{self, BufRead, BufReader, BufWriter};
 use std::mem;
@@ -28,6 +31,9 @@ use std::rt::{Env, Files};
 /// What a line is asked for with at a terminal.
 const PROMPT: &[u8] = b"(em) ";
 
+/// The status of a session that came to its end, and of help.
+const WELL: u8 = 0;
+
 /// The status of a run that failed.
 const FAILED: u8 = 3;
 
@@ -35,57 +41,74 @@ const FAILED: u8 = 3;
 const REFUSED: u8 = 2;
 
 fn main(rt: HostRuntime) -> ExitCode {
-    let words = match Words::read(&rt) {
-        Ok(words) => words,
-        Err(error) => {
+    ExitCode::from(debug(&rt, prompt_for(&rt.stdin(), PROMPT)))
+}
+
+/// Does what the words of the command line ask for, and gives the status.
+fn debug<R: Env + Files + Input + Print + Eprint + AllocGlobal>(rt: &R, prompt: &[u8]) -> u8 {
+    match Words::read(rt) {
+        Ok(words) => with_words(rt, &words, prompt),
+        Err(WordsRefused::NoText(error)) => {
             let _ = eprintln!(rt; "em_debug: {error}");
-            return ExitCode::from(REFUSED);
+            Ending::without_words(&error).status()
         }
-    };
-    match words.asked {
-        Asked::Session => {}
-        Asked::Help => return told(&rt, HELP),
-        Asked::Version => return told(&rt, VERSION),
+        Err(WordsRefused::Memory) => failed(rt, BenchFault::Memory.name()),
+        Err(WordsRefused::NoCommands) => {
+            let _ = eprintln!(rt; "em_debug: -x wants a file");
+            REFUSED
+        }
     }
-    match options(rt.alloc(), words.options.as_slice()) {
-        Ok(options) => match with_options(&rt, &options, &words, prompt_for(&rt.stdin(), PROMPT)) {
-            Ok(()) => ExitCode::from(0),
-            Err(error) => {
-                let _ = eprintln!(rt; "em_debug: {error}");
-                ExitCode::from(FAILED)
-            }
+}
+
+fn with_words<R: Files + Input + Print + Eprint + AllocGlobal>(
+    rt: &R,
+    words: &Words,
+    prompt: &[u8],
+) -> u8 {
+    match words.asked {
+        Asked::Help => told(rt, HELP),
+        Asked::Version => told(rt, VERSION),
+        Asked::Session => match options(rt.alloc(), words.options.as_slice()) {
+            Ok(options) => with_options(rt, &options, words, prompt),
+            Err(refused) => without_options(rt, &refused),
         },
-        Err(refused) => {
-            let is_asked = match refused.told() {
-                Some(error) => {
-                    let _ = error.print(&rt);
-                    error.exit_code() == 0
-                }
-                None => {
-                    let _ = eprintln!(rt; "em_debug: {refused}");
-                    false
-                }
-            };
-            ExitCode::from(if is_asked { 0 } else { REFUSED })
-        }
     }
 }
 
 /// Prints a text, and gives the status.
-fn told(rt: &impl Print, text: &str) -> ExitCode {
+fn told<R: Print>(rt: &R, text: &str) -> u8 {
     match print!(rt; "{text}") {
-        Ok(()) => ExitCode::from(0),
-        Err(_) => ExitCode::from(FAILED),
+        Ok(()) => WELL,
+        Err(_) => FAILED,
     }
 }
 
-/// Makes the machine, plays the script, and then answers lines.
-fn with_options<R: Files + Input + Print + AllocGlobal>(
+/// Says why the run stopped, and gives the status.
+fn failed<R: Eprint>(rt: &R, why: &str) -> u8 {
+    let _ = eprintln!(rt; "em_debug: {why}");
+    FAILED
+}
+
+/// Says why the options are refused, and gives the status, which is em_bench's.
+fn without_options<R: Print + Eprint>(rt: &R, refused: &OptionsRefused) -> u8 {
+    let ending = Ending::without_options(refused);
+    if let Ending::Fault(fault) = ending {
+        return failed(rt, fault.name());
+    }
+    let is_printed = match refused.told() {
+        Some(error) => error.print(rt).is_ok(),
+        None => eprintln!(rt; "em_debug: {refused}").is_ok(),
+    };
+    ending.after_print(is_printed).status()
+}
+
+/// Makes the machine, plays the script, answers lines, and gives the status.
+fn with_options<R: Files + Input + Print + Eprint + AllocGlobal>(
     rt: &R,
     options: &Options<'_>,
     words: &Words,
     prompt: &[u8],
-) -> Result<()> {
+) -> u8 {
     match Debugger::new(rt.alloc(), options.settings()) {
         Ok(debugger) => {
             let mut served = Served {
@@ -95,9 +118,21 @@ fn with_options<R: Files + Input + Print + AllocGlobal>(
             let ended = with_session(rt, &mut served, options.script, words, prompt);
             // The system takes its memory back when the program ends, all at once.
             mem::forget(served);
-            ended
+            match ended {
+                Ok(()) => WELL,
+                Err(error) => {
+                    let _ = eprintln!(rt; "em_debug: {error}");
+                    FAILED
+                }
+            }
         }
-        Err(refusal) => bail!("{}", refusal.name()),
+        Err(refusal) => {
+            let _ = eprintln!(rt; "em_debug: {}", refusal.name());
+            match refusal {
+                SettingsRefusal::Size | SettingsRefusal::Budget => REFUSED,
+                SettingsRefusal::Memory => FAILED,
+            }
+        }
     }
 }
 

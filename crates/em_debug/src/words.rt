@@ -1,9 +1,8 @@
 //! The words of the command line.
 
-use anyhow::{Result, bail};
-use std::alloc::Global;
-use std::env;
+use std::alloc::{AllocError, Global};
 use std::rt::Env;
+use std::{env, io};
 
 /// What the words ask for beside em_bench's options.
 #[derive(Clone, Copy, PartialEq, Eq, Debug)]
@@ -28,27 +27,45 @@ pub struct Words {
     pub asked: Asked,
 }
 
+/// Why there are no words.
+#[derive(Drop)]
+pub enum WordsRefused {
+    /// One of them is no text, or memory was refused to have them.
+    NoText(io::Error),
+    /// Memory was refused to tell them apart.
+    Memory,
+    /// No file stands behind `-x`.
+    NoCommands,
+}
+
 impl Words {
     /// Reads the words of the command line.
-    pub fn read(rt: &(impl Env + AllocGlobal)) -> Result<Words> {
+    pub fn read<R: Env + AllocGlobal>(rt: &R) -> Result<Words, WordsRefused> {
         let mut words = Words {
             options: Vec::new(rt.alloc()),
             step: false,
             commands: None,
             asked: Asked::Session,
         };
+        let given = match env::args(rt) {
+            Ok(given) => given,
+            Err(error) => return Err(WordsRefused::NoText(error)),
+        };
         let mut before = Before::Other;
-        for word in env::args(rt)? {
-            before = words.take(rt.alloc(), before, word)?;
+        for word in given {
+            match words.take(rt.alloc(), before, word) {
+                Ok(next) => before = next,
+                Err(_) => return Err(WordsRefused::Memory),
+            }
         }
         match before {
-            Before::Commands => bail!("-x wants a file"),
+            Before::Commands => Err(WordsRefused::NoCommands),
             _ => Ok(words),
         }
     }
 
     /// Takes a word, and gives what it is to the next.
-    fn take(&mut self, alloc: Global, before: Before, word: String) -> Result<Before> {
+    fn take(&mut self, alloc: Global, before: Before, word: String) -> Result<Before, AllocError> {
         match before {
             Before::Commands => {
                 self.commands = Some(word);
@@ -86,7 +103,7 @@ enum Before {
 }
 
 /// An Ethernet address as em_bench has it: without colons.
-fn without_colons(alloc: Global, word: &String) -> Result<String> {
+fn without_colons(alloc: Global, word: &String) -> Result<String, AllocError> {
     let mut digits = String::new(alloc);
     for digit in word.as_str().chars() {
         if digit != ':' {
