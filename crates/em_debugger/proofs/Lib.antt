@@ -3,6 +3,7 @@ pub mod EffectLaws
 pub mod HistoryLaws
 pub mod MovesLaws
 pub mod NextLaws
+pub mod PerformingLaws
 pub mod PlaceLaws
 pub mod PlayedLaws
 pub mod TextLaws

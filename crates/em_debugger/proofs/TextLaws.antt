@@ -1,9 +1,10 @@
 -- Texts that are written by whether one number is below another.
-use Rattle.std.proofs.Common.{◌≡◌, ◌≢◌, ℕ, ◌<◌, ◌≤◌, cond, ltb, eqb, List, Option, Result, Ok, Err, sym, subst, arith}
+use Rattle.std.proofs.Common.{◌≡◌, ◌≢◌, ℕ, ◌<◌, ◌≤◌, cond, ltb, eqb, List, Option, Result, Ok, Err, refl, sym, subst, arith, ◌++◌}
 use Rattle.std.proofs.lemmas.Bool.{lt-ltb, le-ltb, ne_eqb}
 use Rattle.std.specs.Prelude.{OnOk}
 use Rattle.std.specs.Io.KnownBytes.{Appends}
 use Rattle.em_text.specs.Writer.{Writes}
+use Rattle.em_text.proofs.WritingLemmas.{Appends-more}
 
 pub Writes-below : {T E : Type 0} (old new : Option (List ℕ)) (result : Result T E) (a b : ℕ) (xs ys : List ℕ) → a < b
     → Writes old new result xs → Writes old new result (cond (ltb a b) xs ys)
@@ -28,3 +29,18 @@ pub OnOk-written : {T E : Type 0} (old new : Option (List ℕ)) (result : Result
     → OnOk result ((t : List ℕ) × Appends old new t × P t)
 OnOk-written old new (Ok x) text P h p = (text, h, p)
 OnOk-written old new (Err x) text P h p = tt
+
+-- what is told of a text is told otherwise
+pub OnOk-told : {T E : Type 0} (old new : Option (List ℕ)) (result : Result T E) (P Q : List ℕ → Type 0)
+    → ((t : List ℕ) → P t → Q t) → OnOk result ((t : List ℕ) × Appends old new t × P t)
+    → OnOk result ((t : List ℕ) × Appends old new t × Q t)
+OnOk-told old new (Ok x) P Q so h = (h.0, h.1, so h.0 h.2)
+OnOk-told old new (Err x) P Q so h = tt
+
+-- a text that was written behind another
+pub OnOk-behind : {T E : Type 0} (old between new : Option (List ℕ)) (result : Result T E) (front : List ℕ)
+    (P Q : List ℕ → Type 0) → Appends old between front → ((t : List ℕ) → P t → Q (front ++ t))
+    → OnOk result ((t : List ℕ) × Appends between new t × P t) → OnOk result ((t : List ℕ) × Appends old new t × Q t)
+OnOk-behind old between new (Ok x) front P Q written so h =
+    (front ++ h.0, Appends-more old between new front h.0 _ written h.1 refl, so h.0 h.2)
+OnOk-behind old between new (Err x) front P Q written so h = tt

@@ -95,7 +95,7 @@ pub record AnswersAdded (old new : Debugger) (dropped : ℕ) (text : List ℕ) :
 pub data AnswersNew (old new : Debugger) (line text : List ℕ) : Type 0 where
   added : (between : Debugger) (dropped : ℕ) → AddsLine old between line dropped → AnswersAdded between new dropped text
       → AnswersNew old new line text
-  stopped : (fault : BenchFault) → text ≡ fault_text fault → AnswersNew old new line text
+  refused : (fault : BenchFault) → text ≡ fault_text fault → AnswersNew old new line text
 
 -- a line that only looks, where lines or events lie ahead
 abbrev pub looks_back : Tape → BenchLine → Bool

@@ -50,7 +50,7 @@ impl Debugger {
         typed: Typed<'_>,
     ) -> Result<(), WriteFailed>
         ensures ok { OnOk result ((text : List ℕ) × Appends (W.contents writer.old) (W.contents writer.new) text
-            × Obeys self.old self.new (plain typed) text) }
+            × Obeys self.old self.new (plain typed.entry) text) }
     {
         match typed {
             Typed::Line(line) => self.perform_typed(writer, line),
@@ -73,7 +73,7 @@ impl Debugger {
     /// Shows what a line asks for that changes nothing.
     fn show<W: Write>(&self, writer: &mut W, typed: Typed<'_>) -> Result<(), WriteFailed>
         ensures ok { OnOk result ((text : List ℕ) × Appends (W.contents writer.old) (W.contents writer.new) text
-            × Shows self.now (plain typed) text) }
+            × Shows self.now (plain typed.entry) text) }
     {
         let machine = self.tape.machine();
         match typed {
@@ -94,7 +94,7 @@ impl Debugger {
 /// Writes what is wrong with a line; where it names no register, the nearest too.
 fn tell_wrong<W: Write>(alloc: Global, writer: &mut W, wrong: Wrong<'_>) -> Result<(), WriteFailed>
     ensures ok { OnOk result ((text : List ℕ) × Appends (W.contents writer.old) (W.contents writer.new) text
-        × TellsWrong (plain_wrong wrong) text) }
+        × TellsWrong (plain_wrong wrong.entry) text) }
 {
     write_wrong(writer, wrong, near_of(alloc, wrong))?;
     write_whole(writer, b"\n")

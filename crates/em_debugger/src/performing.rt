@@ -5,7 +5,7 @@ ghost use Rattle.em_text.specs.Writer.{Writes};
 ghost use Rattle.em_prompt.specs.BenchLine.{plain as plain_line};
 ghost use Rattle.em_debugger.specs.Place.{line_here};
 ghost use Rattle.em_debugger.specs.Performing.{Performs, IsLast, Cuts, AddsLine, AnswersNext, AnswersTyped};
-ghost use Rattle.em_debugger.specs.Performing.{AnswersNew, AnswersAdded};
+ghost use Rattle.em_debugger.specs.Performing.{AnswersNew, AnswersAdded, looks_back};
 ghost use Rattle.em_debugger.specs.Performing.{is_among_lines, performed_text, dropped_text, dropped_lines_text};
 ghost use Rattle.em_debugger.specs.Performing.{fault_text};
 
@@ -34,12 +34,12 @@ impl Debugger {
         line: BenchLine<'_>,
     ) -> Result<(), WriteFailed>
         ensures ok { OnOk result ((text : List ℕ) × Appends (W.contents writer.old) (W.contents writer.new) text
-            × AnswersTyped self.old self.new (plain_line line) text) }
+            × AnswersTyped self.old self.new (plain_line line.entry) text) }
     {
         let mut text = Vec::new(self.alloc);
         line.write(&mut text)?;
         let text = text.as_slice();
-        if is_look(line.command()) && self.is_among_lines() {
+        if self.looks_back(line) {
             answer_look(writer, self.tape.machine(), text)
         } else {
             self.perform_new(writer, text)
@@ -65,6 +65,13 @@ impl Debugger {
     {
         write_dropped(writer, dropped)?;
         self.perform_answered(writer)
+    }
+
+    /// Whether a line only looks, where lines or events lie ahead.
+    fn looks_back(&self, line: BenchLine<'_>) -> bool
+        ensures { result ≡ looks_back self.now.tape (plain_line line.entry) }
+    {
+        is_look(line.command()) && self.is_among_lines()
     }
 
     /// Whether lines lie ahead of the place, or events of the line at the place.
@@ -122,8 +129,11 @@ impl Debugger {
         }
         self.tape.to_line(line)?;
         self.answer.clear();
-        let Some(outcome) = self.tape.perform_next(&mut self.answer)? else {
-            return Ok(None);
+        let outcome = match self.tape.perform_next(&mut self.answer) {
+            Ok(Some(outcome)) => outcome,
+            Ok(None) => return Ok(None),
+            // A vector fails only where memory is refused.
+            Err(_) => return Err(BenchFault::Memory),
         };
         let line = line + 1;
         match self.told.note(line, self.answer.as_slice()) {

@@ -20,7 +20,7 @@ returns-in-Ok-clause-some c =
             ∙ ap (λ n. record old { whole = n; back = 0; session = before.session }) there;
         here = λ none. c.to_line.ensures.here none (there ∙ line_here-whole old none);
       };
-      plays = rw c.clear.ensures.items at (rw c.in-Some.is at c.in_ok-outcome.ensures.ok);
+      plays = rw c.clear.ensures.items at (rw c.in-Ok-Some.field-0-is at c.in-Ok-Some.ensures.ok);
       noted = rw c.as_slice.ensures.value at c.in-Ok.ensures.ok;
       settings = refl;
       asked = refl;
