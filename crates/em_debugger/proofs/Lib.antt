@@ -1,10 +1,14 @@
 pub mod AddingLaws
+pub mod AnsweringLaws
 pub mod EffectLaws
+pub mod FilesLaws
 pub mod HistoryLaws
 pub mod MovesLaws
 pub mod NextLaws
 pub mod PerformingLaws
 pub mod PlaceLaws
 pub mod PlayedLaws
+pub mod StopsLaws
 pub mod TextLaws
 pub mod ToldLaws
+pub mod WhoLaws

@@ -89,9 +89,14 @@ counts_more lines p first old new wrong h some count same others =
 here_whole : (tape : Tape) → tape.back ≡ 0 → line_here tape ≡ tape.whole
 here_whole tape none = ap (λ b. cond (eqb b 0) tape.whole (line_of (event_of tape) tape.ends)) none
 
-pub ahead_falls : (old new : Debugger) (p : Performed) → Performs old new p
-    → length new.tape.lines - line_here new.tape < length old.tape.lines - line_here old.tape
-ahead_falls old new p h =
+-- a line that is performed is the next one, and none is added or lost
+pub record Goes (old new : Debugger) : Type 0 where
+  pub here : line_here new.tape ≡ line_here old.tape + 1
+  pub lines : length new.tape.lines ≡ length old.tape.lines
+  pub ahead : line_here old.tape < length old.tape.lines
+
+pub performs_next : (old new : Debugger) (p : Performed) → Performs old new p → Goes old new
+performs_next old new p h =
     let before = h.before in
     let new_lines : length new.tape.lines ≡ length before.lines = ap (λ (t : Tape). length t.lines) h.plays.tape in
     let new_whole : new.tape.whole ≡ before.whole + 1 = ap (λ (t : Tape). t.whole) h.plays.tape in
@@ -99,9 +104,14 @@ ahead_falls old new p h =
     here_whole new.tape (ap (λ (t : Tape). t.back) h.plays.tape) in
     let lines : length before.lines ≡ length old.tape.lines = ap (λ (t : Tape). length t.lines) h.whole.tape in
     let whole : before.whole ≡ line_here old.tape = ap (λ (t : Tape). t.whole) h.whole.tape in
-    let ahead : before.whole < length before.lines =
+    let within : before.whole < length before.lines =
     slice_get_within before.lines before.whole h.plays.line h.plays.next in
-    omega arith
+    record { here = omega arith; lines = new_lines ∙ lines; ahead = omega arith }
+
+pub ahead_falls : (old new : Debugger) (p : Performed) → Performs old new p
+    → length new.tape.lines - line_here new.tape < length old.tape.lines - line_here old.tape
+ahead_falls old new p h =
+    let goes = performs_next old new p h in omega (arith, goes.here, goes.lines, goes.ahead)
 
 abbrev Step : Debugger → Performed → Debugger → Type 0
 Step before line after = Performs before after line

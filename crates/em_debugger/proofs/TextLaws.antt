@@ -1,7 +1,7 @@
 -- Texts that are written by whether one number is below another.
-use Rattle.std.proofs.Common.{◌≡◌, ◌≢◌, ℕ, ◌<◌, ◌≤◌, cond, ltb, eqb, List, Option, Result, Ok, Err, refl, sym, subst, arith, ◌++◌}
+use Rattle.std.proofs.Common.{◌≡◌, ◌≢◌, ℕ, ◌<◌, ◌≤◌, cond, ltb, eqb, List, Option, Result, Ok, Err, refl, sym, subst, arith, ◌++◌, Bool, false}
 use Rattle.std.proofs.lemmas.Bool.{lt-ltb, le-ltb, ne_eqb}
-use Rattle.std.specs.Prelude.{OnOk}
+use Rattle.std.specs.Prelude.{OnOk, IsTrue}
 use Rattle.std.specs.Io.KnownBytes.{Appends}
 use Rattle.em_text.specs.Writer.{Writes}
 use Rattle.em_text.proofs.WritingLemmas.{Appends-more}
@@ -44,3 +44,15 @@ pub OnOk-behind : {T E : Type 0} (old between new : Option (List ℕ)) (result :
 OnOk-behind old between new (Ok x) front P Q written so h =
     (front ++ h.0, Appends-more old between new front h.0 _ written h.1 refl, so h.0 h.2)
 OnOk-behind old between new (Err x) front P Q written so h = tt
+
+-- what is false is not true
+pub is_not : {b : Bool} → b ≡ false → IsTrue b → ⊥
+is_not is holds = absurd (cc)
+
+-- two texts that were written one behind the other, and what is told by both
+pub OnOk-behind-written : {T E : Type 0} (old between new : Option (List ℕ)) (result : Result T E)
+    (front text : List ℕ) (P : List ℕ → Type 0) → Appends old between front → Writes between new result text
+    → P (front ++ text) → OnOk result ((t : List ℕ) × Appends old new t × P t)
+OnOk-behind-written old between new (Ok x) front text P first then p =
+    (front ++ text, Appends-more old between new front text _ first then refl, p)
+OnOk-behind-written old between new (Err x) front text P first then p = tt

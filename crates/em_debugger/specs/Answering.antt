@@ -58,10 +58,14 @@ pub record TellsWrong (wrong : Wrong) (text : List ℕ) : Type 0 where
   pub near : Option (List Reg)
   pub told : text ≡ wrong_text near wrong ++ codes "\n"
 
--- the session ends; or what is typed is obeyed, or it is said what is wrong with it
+-- the session goes on, but behind quit
+abbrev pub flow_of : Typed → Flow
+flow_of quit = Ends
+flow_of _ = Goes
+
+-- what is typed is obeyed, or it is said what is wrong with it
 abbrev pub AnswersPrompted : Debugger → Debugger → Result Typed Wrong → Flow → List ℕ → Type 0
-AnswersPrompted old new (Ok quit) flow text = (flow ≡ Ends) × ((new ≡ old) × (text ≡ []))
-AnswersPrompted old new (Ok typed) flow text = (flow ≡ Goes) × Obeys old new typed text
+AnswersPrompted old new (Ok typed) flow text = (flow ≡ flow_of typed) × Obeys old new typed text
 AnswersPrompted old new (Err wrong) flow text = (flow ≡ Goes) × ((new ≡ old) × TellsWrong wrong text)
 
 -- a line was typed: one that is too long is none

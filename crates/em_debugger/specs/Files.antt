@@ -56,18 +56,18 @@ pub record LoadsBehind (dropped : ℕ) (old new : Debugger) (script text : List 
 pub data LoadsInstead (old new : Debugger) (script text : List ℕ) : Type 0 where
   cuts : (between : Debugger) (dropped : ℕ) → Cuts old between dropped → LoadsBehind dropped between new script text
       → LoadsInstead old new script text
-  stops : (fault : BenchFault) → text ≡ fault_text fault → LoadsInstead old new script text
+  uncut : (fault : BenchFault) → text ≡ fault_text fault → LoadsInstead old new script text
 
 -- the file was not read; or what it holds was put in the place of what lay ahead
 pub data Loads (old new : Debugger) (name text : List ℕ) : Type 0 where
-  fails : (fault : DiskFault) → text ≡ name ++ disk_text fault → new ≡ old → Loads old new name text
+  unread : (fault : DiskFault) → text ≡ name ++ disk_text fault → new ≡ old → Loads old new name text
   reads : (script : List ℕ) → LoadsInstead old new script text → Loads old new name text
 
 -- the script's lines were put behind the last one, and played; or memory was refused
 pub data PlaysText (old new : Debugger) (script text : List ℕ) : Type 0 where
   plays : (between : Debugger) → AddsLines old between (lines_of script) → RunsAll between new text
       → PlaysText old new script text
-  stops : (fault : BenchFault) → text ≡ fault_text fault → PlaysText old new script text
+  unplayed : (fault : BenchFault) → text ≡ fault_text fault → PlaysText old new script text
 
 -- the script is stepped through, or played to its end
 abbrev pub BeginsText : Bool → Debugger → Debugger → List ℕ → List ℕ → Type 0
@@ -81,5 +81,5 @@ BeginsWith false step old new text = (new ≡ old) × (text ≡ [])
 
 -- the file was not written, or it was
 pub data Saves (d : Debugger) (name text : List ℕ) : Type 0 where
-  fails : (fault : DiskFault) → text ≡ name ++ disk_text fault → Saves d name text
+  unsaved : (fault : DiskFault) → text ≡ name ++ disk_text fault → Saves d name text
   saves : text ≡ saved_text (line_here d.tape) → Saves d name text

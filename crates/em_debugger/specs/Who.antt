@@ -78,9 +78,10 @@ pub record TellsNewest (old new : Debugger) (watch : Watch) (n : ℕ) (text : Li
   pub asked : new.asked ≡ asked_after old.asked watch given
   pub tape : new.tape ≡ old.tape
 
--- the change before the one that was told last
-abbrev pub before_last : Tape → Asked → ℕ
-before_last tape asked = min (asked.event - 1) (event_of tape)
+-- how many events stand before the one that was told last; up to the place, where none was
+abbrev pub before_told : Tape → Option Asked → ℕ
+before_told tape None = event_of tape
+before_told tape (Some asked) = min (asked.event - 1) (event_of tape)
 
 -- ---- all changes
 
@@ -111,26 +112,16 @@ pub record TellsAll (d : Debugger) (watch : Watch) (text : List ℕ) : Type 0 wh
 
 -- ---- by what was typed
 
--- what was asked for last is this
-abbrev pub was_asked_for : Watch → Option Asked → Type 0
-was_asked_for watch None = ⊥
-was_asked_for watch (Some asked) = asked.watch ≡ watch
-
--- the change before the one that was told last, if any was
+-- the newest change of what was asked for last, before the event that was told
 abbrev pub TellsAgain : Debugger → Debugger → Option Asked → List ℕ → Type 0
 TellsAgain old new None text = (text ≡ codes "who again: nothing was asked for\n") × (new ≡ old)
-TellsAgain old new (Some asked) text = TellsNewest old new asked.watch (before_last old.tape asked) text
+TellsAgain old new (Some asked) text =
+    TellsNewest old new asked.watch (before_told old.tape (Some asked)) text
 
--- the change before the one that was told last, where that was of the same; else the newest
-pub data TellsOlder (old new : Debugger) (watch : Watch) (text : List ℕ) : Type 0 where
-  older : was_asked_for watch old.asked → TellsAgain old new old.asked text → TellsOlder old new watch text
-  newest : (was_asked_for watch old.asked → ⊥) → TellsNewest old new watch (event_of old.tape) text
-      → TellsOlder old new watch text
-
--- by what was typed: the newest change, the one before that which was told last, or all
+-- by what was typed: the newest change, the newest before the event that was told last, or all
 abbrev pub AnswersWatch : Which → Debugger → Debugger → Watch → List ℕ → Type 0
 AnswersWatch Newest old new watch text = TellsNewest old new watch (event_of old.tape) text
-AnswersWatch Again old new watch text = TellsOlder old new watch text
+AnswersWatch Again old new watch text = TellsNewest old new watch (before_told old.tape old.asked) text
 AnswersWatch All old new watch text = TellsAll old watch text × (new ≡ old)
 
 -- octets are to be watched that are none or too many; or it is answered who changed what is watched

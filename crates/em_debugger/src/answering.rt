@@ -1,9 +1,9 @@
 //! Answering what is typed.
-ghost use Rattle.std.specs.Prelude.{◌++◌, ℕ, List, codes, IfOk, OnOk};
+ghost use Rattle.std.specs.Prelude.{◌≡◌, ℕ, List, IfOk, OnOk};
 ghost use Rattle.std.specs.Io.KnownBytes.{Appends};
 ghost use Rattle.em_prompt.specs.Prompt.{plain_wrong};
 ghost use Rattle.em_prompt.specs.Typed.{plain};
-ghost use Rattle.em_debugger.specs.Answering.{Answers, Obeys, Shows, TellsWrong};
+ghost use Rattle.em_debugger.specs.Answering.{Answers, Obeys, Shows, TellsWrong, flow_of};
 
 use crate::debugger::Debugger;
 use crate::disk::Disk;
@@ -35,11 +35,15 @@ impl Debugger {
             return Ok(Flow::Goes);
         }
         match prompted(line) {
-            Ok(Typed::Quit) => return Ok(Flow::Ends),
-            Ok(typed) => self.obey(writer, disk, typed)?,
-            Err(wrong) => tell_wrong(self.alloc, writer, wrong)?,
+            Ok(typed) => {
+                self.obey(writer, disk, typed)?;
+                Ok(flow_of(typed))
+            }
+            Err(wrong) => {
+                tell_wrong(self.alloc, writer, wrong)?;
+                Ok(Flow::Goes)
+            }
         }
-        Ok(Flow::Goes)
     }
 
     /// Does what a line says.
@@ -66,7 +70,15 @@ impl Debugger {
             Typed::Load(name) => self.load(writer, disk, name),
             Typed::Save(name) => self.save(writer, disk, name, false),
             Typed::SaveOver(name) => self.save(writer, disk, name, true),
-            looking => self.show(writer, looking),
+            Typed::Silent => self.show(writer, typed),
+            Typed::Look(_) => self.show(writer, typed),
+            Typed::History(_) => self.show(writer, typed),
+            Typed::Effect(_) => self.show(writer, typed),
+            Typed::Ring(_) => self.show(writer, typed),
+            Typed::Frame(_) => self.show(writer, typed),
+            Typed::Memory(..) => self.show(writer, typed),
+            Typed::Help(_) => self.show(writer, typed),
+            Typed::Quit => self.show(writer, typed),
         }
     }
 
@@ -86,8 +98,33 @@ impl Debugger {
             Typed::Memory(addr, len) => show_memory(writer, machine, addr, len),
             Typed::Help(Some(command)) => write_help(writer, command),
             Typed::Help(None) => write_whole_help(writer),
-            _ => Ok(()),
+            Typed::Silent
+            | Typed::Line(_)
+            | Typed::Who(..)
+            | Typed::WhoAgain
+            | Typed::Back(_)
+            | Typed::BackTo(_)
+            | Typed::Forward(_)
+            | Typed::ForwardTo(_)
+            | Typed::Goto(_)
+            | Typed::Next(_)
+            | Typed::Run
+            | Typed::RunUntil(_)
+            | Typed::Load(_)
+            | Typed::Save(_)
+            | Typed::SaveOver(_)
+            | Typed::Quit => Ok(()),
         }
+    }
+}
+
+/// Whether the session goes on behind a line.
+fn flow_of(typed: Typed<'_>) -> Flow
+    ensures { result ≡ flow_of (plain typed.entry) }
+{
+    match typed {
+        Typed::Quit => Flow::Ends,
+        _ => Flow::Goes,
     }
 }
 

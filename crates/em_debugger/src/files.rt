@@ -1,9 +1,10 @@
 //! Loading and saving lines.
-ghost use Rattle.std.specs.Prelude.{◌≡◌, ◌++◌, ℕ, List, IfOk, OnOk, length};
+ghost use Rattle.std.specs.Prelude.{◌≡◌, ◌++◌, ℕ, List, IfOk, OnOk, codes, length};
 ghost use Rattle.std.specs.Io.KnownBytes.{Appends};
 ghost use Rattle.em_text.specs.Lines.{lines_of};
 ghost use Rattle.em_text.specs.Writer.{Writes};
 ghost use Rattle.em_debugger.specs.Deeper.{lines_here};
+ghost use Rattle.em_debugger.specs.Place.{text_of};
 ghost use Rattle.em_debugger.specs.Files.{AddsLines, BeginsText, BeginsWith, Loads, LoadsBehind, LoadsInstead};
 ghost use Rattle.em_debugger.specs.Files.{LoadsText, PlaysText, Saves, disk_text, loaded_text, saved_text, script_of};
 
@@ -13,6 +14,7 @@ use crate::performing::{write_dropped, write_fault};
 use crate::place::{line_here, text_of};
 use em_looks::write_count;
 use em_script::BenchFault;
+use em_tape::Tape;
 use em_text::{WriteFailed, next_line, write_pieces, write_whole};
 use std::io::Write;
 
@@ -22,14 +24,7 @@ impl Debugger {
         ensures ok { OnOk result (AddsLines self.old self.new (lines_of text.now)) }
         ensures count { IfOk result (λ count. count ≡ length (lines_of text.now)) }
     {
-        let before = self.tape.len();
-        let mut rest = text;
-        while !rest.is_empty() {
-            let (line, behind) = next_line(rest);
-            self.tape.add(line)?;
-            rest = behind;
-        }
-        Ok(self.tape.len().saturating_sub(before))
+        add_all(&mut self.tape, text)
     }
 
     /// Begins with a script: loads it, and plays it to its end unless it is to be stepped through. False where it
@@ -158,14 +153,36 @@ impl Debugger {
 
     /// Writes the lines up to the place as a script.
     fn write_lines<W: Write>(&self, writer: &mut W) -> Result<(), WriteFailed>
-        ensures writes { Writes (W.contents writer.old) (W.contents writer.new) result
-            (script_of (lines_here self.now.tape)) }
+        ensures ok { OnOk result (Appends (W.contents writer.old) (W.contents writer.new)
+            (script_of (lines_here self.now.tape))) }
     {
-        for number in 1..=line_here(&self.tape) {
-            write_pieces(writer, &[text_of(&self.tape, number), b"\n"])?;
+        for before in 0..line_here(&self.tape) {
+            self.write_script_line(writer, before + 1)?;
         }
         Ok(())
     }
+
+    fn write_script_line<W: Write>(&self, writer: &mut W, number: usize) -> Result<(), WriteFailed>
+        ensures writes { Writes (W.contents writer.old) (W.contents writer.new) result
+            (text_of number self.now.tape ++ codes "\n") }
+    {
+        write_pieces(writer, &[text_of(&self.tape, number), b"\n"])
+    }
+}
+
+/// Puts the lines of a text behind the last line of a tape, and gives how many they are.
+fn add_all(tape: &mut Tape, text: &[u8]) -> Result<usize, BenchFault>
+    ensures ok { OnOk result (tape.new ≡ record tape.old { lines = tape.old.lines ++ lines_of text.now }) }
+    ensures count { IfOk result (λ count. count ≡ length (lines_of text.now)) }
+{
+    let before = tape.len();
+    let mut rest = text;
+    while !rest.is_empty() {
+        let (line, behind) = next_line(rest);
+        tape.add(line)?;
+        rest = behind;
+    }
+    Ok(tape.len().saturating_sub(before))
 }
 
 fn write_loaded<W: Write>(writer: &mut W, count: usize) -> Result<(), WriteFailed>

@@ -1,11 +1,11 @@
 //! Who changed it.
-ghost use Rattle.std.specs.Prelude.{◌≡◌, ◌↔◌, ℕ, List, IsTrue, OnOk};
+ghost use Rattle.std.specs.Prelude.{◌≡◌, ℕ, List, OnOk};
 ghost use Rattle.em_tape.specs.Tape.{event_of};
 ghost use Rattle.std.specs.Io.KnownBytes.{Appends};
 ghost use Rattle.em_text.specs.Writer.{Writes};
-ghost use Rattle.em_debugger.specs.Who.{AnswersWatch, AnswersWho, TellsNewest, TellsAll, TellsAgain, TellsOlder};
+ghost use Rattle.em_debugger.specs.Who.{AnswersWatch, AnswersWho, TellsNewest, TellsAll, TellsAgain, before_told};
 ghost use Rattle.em_debugger.specs.Who.{changes_text, event_text, found_text, never_text, sought_text};
-ghost use Rattle.em_debugger.specs.Who.{unchanged_and, unreached_text, was_asked_for};
+ghost use Rattle.em_debugger.specs.Who.{unchanged_and, unreached_text};
 
 use crate::debugger::Debugger;
 use crate::place::{line_of, text_of};
@@ -70,24 +70,22 @@ impl Debugger {
         self.who_before(writer, watch, event)
     }
 
-    /// Tells the change before the one that was told last, where that was of the same; else the newest.
+    /// Tells the newest change before the event that was told last; up to the place, where none was.
     fn who_older<W: Write>(&mut self, writer: &mut W, watch: Watch) -> Result<(), WriteFailed>
         ensures ok { OnOk result ((text : List ℕ) × Appends (W.contents writer.old) (W.contents writer.new) text
-            × TellsOlder self.old self.new watch text) }
+            × TellsNewest self.old self.new watch (before_told self.old.tape self.old.asked) text) }
     {
-        if self.asked_for(watch) {
-            self.who_again(writer)
-        } else {
-            self.who_newest(writer, watch)
-        }
+        let before = self.before_told();
+        self.who_before(writer, watch, before)
     }
 
-    fn asked_for(&self, watch: Watch) -> bool
-        ensures { IsTrue result ↔ was_asked_for watch self.now.asked }
+    /// How many events stand before the one that was told last; up to the place, where none was.
+    fn before_told(&self) -> u64
+        ensures { result ≡ before_told self.now.tape self.now.asked }
     {
         match self.asked {
-            Some(asked) => asked.watch == watch,
-            None => false,
+            Some(asked) => asked.event.saturating_sub(1).min(self.tape.event()),
+            None => self.tape.event(),
         }
     }
 
@@ -97,10 +95,7 @@ impl Debugger {
             × TellsAgain self.old self.new self.old.asked text) }
     {
         match self.asked {
-            Some(asked) => {
-                let before = asked.event.saturating_sub(1).min(self.tape.event());
-                self.who_before(writer, asked.watch, before)
-            }
+            Some(asked) => self.who_older(writer, asked.watch),
             None => write_whole(writer, b"who again: nothing was asked for\n"),
         }
     }

@@ -1,0 +1,82 @@
+-- Lines that are added one after another, and lines as a script.
+use Rattle.std.proofs.Common.{◌≡◌, ◌∙◌, ℕ, zero, suc, ◌+◌, ◌<◌, List, [], ◌∷◌, ◌++◌, length, codes, append-nil, append_assoc}
+use Rattle.std.proofs.Common.{refl, sym, ap, subst, arith, take}
+use Rattle.std.specs.Prelude.{Option, Some, slice_get, unwrap_or}
+use Rattle.std.specs.List.{flat_map}
+use Rattle.std.specs.Io.KnownBytes.{Appends}
+use Rattle.std.proofs.lemmas.List.Concat.{flat_map-append}
+use Rattle.std.proofs.lemmas.List.{nil_from_length}
+use Rattle.em_text.specs.Lines.{lines_of}
+use Rattle.em_text.proofs.WritingLemmas.{Appends-more}
+use Rattle.em_text.proofs.LinesLemmas.{lines_of-nil}
+use Rattle.em_tape.specs.Tape.{Tape}
+use Rattle.em_tape.proofs.TapeLaws.{take-more}
+use Rattle.em_debugger.specs.Files.{script_of}
+use Rattle.em_debugger.specs.Place.{text_of}
+
+-- the lines of a text were added as far as this rest of it
+pub record AddedSo (first now : Tape) (text rest : List ℕ) : Type 0 where
+  pub lines : List (List ℕ)
+  pub tape : now ≡ record first { lines = first.lines ++ lines }
+  pub all : lines_of text ≡ lines ++ lines_of rest
+
+abbrev with_lines : Tape → List (List ℕ) → Tape
+with_lines tape lines = record tape { lines = lines }
+
+pub AddedSo-none : (first : Tape) (text : List ℕ) → AddedSo first first text text
+AddedSo-none first text = record {
+  lines = [];
+  tape = ap (with_lines first) (sym (append-nil first.lines));
+  all = refl;
+}
+
+-- one line more
+pub AddedSo-more : (first now next : Tape) (text rest line behind : List ℕ) → AddedSo first now text rest
+    → lines_of rest ≡ line ∷ lines_of behind → next ≡ record now { lines = now.lines ++ line ∷ [] }
+    → AddedSo first next text behind
+AddedSo-more first now next text rest line behind h is added = record {
+  lines = h.lines ++ line ∷ [];
+  tape = added ∙ ap (λ (t : Tape). with_lines t (t.lines ++ line ∷ [])) h.tape
+      ∙ ap (with_lines first) (append_assoc first.lines h.lines (line ∷ []));
+  all = h.all ∙ ap (λ l. h.lines ++ l) is ∙ sym (append_assoc h.lines (line ∷ []) (lines_of behind));
+}
+
+none_left : (rest : List ℕ) → length rest ≡ 0 → lines_of rest ≡ []
+none_left rest none = ap lines_of (nil_from_length rest none) ∙ lines_of-nil
+
+-- all lines were added, where nothing is left
+pub AddedSo-all : (first now : Tape) (text rest : List ℕ) → AddedSo first now text rest → length rest ≡ 0
+    → now ≡ record first { lines = first.lines ++ lines_of text }
+AddedSo-all first now text rest h none =
+    let all : lines_of text ≡ h.lines = h.all ∙ ap (λ l. h.lines ++ l) (none_left rest none) ∙ append-nil h.lines in
+    h.tape ∙ ap (λ l. with_lines first (first.lines ++ l)) (sym all)
+
+-- ---- a script
+
+text_there : (lines : List (List ℕ)) (k : ℕ) → k < length lines
+    → slice_get lines k ≡ Some (unwrap_or (slice_get lines k) [])
+text_there [] k lt = absurd (omega (arith, lt))
+text_there (line ∷ lines) zero lt = refl
+text_there (line ∷ lines) (suc k) lt = text_there lines k (omega (arith, lt))
+
+text_of-there : (tape : Tape) (k : ℕ) → k < length tape.lines → slice_get tape.lines k ≡ Some (text_of (k + 1) tape)
+text_of-there tape k lt =
+    let one : suc k ≡ k + 1 = omega arith in
+    subst (λ n. slice_get tape.lines k ≡ Some (text_of n tape)) one (text_there tape.lines k lt)
+
+-- the lines so far, and the next one
+script_more : (tape : Tape) (k : ℕ) → k < length tape.lines
+    → script_of (take (k + 1) tape.lines) ≡ script_of (take k tape.lines) ++ (text_of (k + 1) tape ++ codes "\n")
+script_more tape k lt =
+    let line = text_of (k + 1) tape in
+    ap script_of (take-more k tape.lines line (text_of-there tape k lt))
+    ∙ flat_map-append (λ (l : List ℕ). l ++ codes "\n") (take k tape.lines) (line ∷ [])
+    ∙ ap (λ l. script_of (take k tape.lines) ++ l) (append-nil (line ++ codes "\n"))
+
+-- so many octets of a script were written, and the next line
+pub wrote_more : (tape : Tape) (k : ℕ) (old now next : Option (List ℕ)) → k < length tape.lines
+    → Appends old now (script_of (take k tape.lines)) → Appends now next (text_of (k + 1) tape ++ codes "\n")
+    → Appends old next (script_of (take (k + 1) tape.lines))
+wrote_more tape k old now next lt front line =
+    Appends-more old now next (script_of (take k tape.lines)) (text_of (k + 1) tape ++ codes "\n")
+    (script_of (take (k + 1) tape.lines)) front line (script_more tape k lt)

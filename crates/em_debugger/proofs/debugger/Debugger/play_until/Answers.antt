@@ -1,0 +1,34 @@
+use Rattle.std.proofs.Common.{◌≡◌, ◌∙◌, ◌+◌, sym, subst, arith}
+use Rattle.em_debugger.specs.Place.{line_here}
+use Rattle.em_debugger.specs.Stops.{EndsSince}
+use Rattle.em_debugger.proofs.StopsLaws.{RanTo-here, RunsSo-more, RunsSo-none, not_before}
+use Rattle.em_debugger.proofs.TextLaws.{is_not}
+use Rattle.em_debugger.proofs.debugger.Debugger.play_until.Goals as goal
+
+pub loop-lines-init : goal.loop-lines-init
+loop-lines-init c = RunsSo-none c.args.stop c.args.self.now
+
+pub returns-then-stops_here : goal.returns-then-stops_here
+returns-then-stops_here c =
+    let h = c.loop-lines.invariant in
+    let now = c.loop-lines.self in
+    let next : c.saturating_add-next.result ≡ line_here now.tape + 1 =
+    omega (arith, c.line_here-in-loop-lines.ensures.line, c.line_here.ensures.line, h.here, h.all) in
+    RanTo-here c.args.stop c.args.self.now now c.perform_next.new.self c.loop-lines.lines c.in-Ok-Some.performed h
+    (not_before c.args.stop now c.saturating_add-next.result (sym c.is_before.ensures ∙ c.if-is_before.false) next)
+    (rw c.in-Ok-Some.field-0-is at c.in-Ok-Some.ensures.some)
+    (subst (λ e. EndsSince c.args.stop e c.perform_next.new.self c.in-Ok-Some.performed) c.event-before.ensures
+    (c.stops_here.ensures.0 c.if-stops_here.true))
+
+pub loop-lines-preserved : goal.loop-lines-preserved
+loop-lines-preserved c =
+    let h = c.loop-lines.invariant in
+    let now = c.loop-lines.self in
+    let next : c.saturating_add-next.result ≡ line_here now.tape + 1 =
+    omega (arith, c.line_here-in-loop-lines.ensures.line, c.line_here.ensures.line, h.here, h.all) in
+    RunsSo-more c.args.stop c.args.self.now now c.perform_next.new.self c.loop-lines.lines c.in-Ok-Some.performed h
+    (not_before c.args.stop now c.saturating_add-next.result (sym c.is_before.ensures ∙ c.if-is_before.false) next)
+    (rw c.in-Ok-Some.field-0-is at c.in-Ok-Some.ensures.some)
+    (λ ends. is_not c.if-stops_here.false (c.stops_here.ensures.1
+    (subst (λ e. EndsSince c.args.stop e c.perform_next.new.self c.in-Ok-Some.performed) (sym c.event-before.ensures)
+    ends)))

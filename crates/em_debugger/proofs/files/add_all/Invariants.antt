@@ -1,0 +1,10 @@
+use Rattle.std.proofs.Common.{length}
+use Rattle.em_debugger.proofs.FilesLaws.{AddedSo}
+use Rattle.em_debugger.proofs.files.add_all.Given as goal
+
+-- the lines of the text were added as far as the rest
+abbrev pub invariant-loop-rest : goal.invariant-loop-rest
+invariant-loop-rest l = AddedSo l.fn.tape l.tape l.fn.text l.rest
+
+abbrev pub decreases-loop-rest : goal.decreases-loop-rest
+decreases-loop-rest l = length l.rest
