@@ -2,7 +2,6 @@
 use Rattle.std.proofs.Common.{◌≡◌, ◌∙◌, ℕ, zero, suc, ◌+◌, ◌<◌, List, [], ◌∷◌, ◌++◌, length, codes, append-nil, append_assoc}
 use Rattle.std.proofs.Common.{refl, sym, ap, subst, arith, take}
 use Rattle.std.specs.Prelude.{Option, Some, slice_get, unwrap_or}
-use Rattle.std.specs.List.{flat_map}
 use Rattle.std.specs.Io.KnownBytes.{Appends}
 use Rattle.std.proofs.lemmas.List.Concat.{flat_map-append}
 use Rattle.std.proofs.lemmas.List.{nil_from_length}

@@ -1,21 +1,18 @@
 -- Lines that are performed and shown, one after another.
 use Rattle.std.proofs.Common.{◌≡◌, ℕ, ◌+◌, ◌≤◌, List, [], ◌∷◌, ◌++◌, length, Option, Result, Ok, Err, refl, sym, ap}
 use Rattle.std.proofs.Common.{◌∙◌, subst, append-nil, arith}
-use Rattle.std.specs.List.{flat_map}
 use Rattle.std.specs.Prelude.{OnOk}
 use Rattle.std.specs.Io.KnownBytes.{Appends}
 use Rattle.std.proofs.lemmas.List.{length_push}
 use Rattle.std.proofs.lemmas.List.Concat.{flat_map-append}
 use Rattle.em_console.specs.Turns.{Leads}
 use Rattle.em_console.proofs.ServingLaws.{Leads-append}
-use Rattle.em_script.specs.declared.runner.BenchFault.{BenchFault}
 use Rattle.em_text.specs.Writer.{Writes}
-use Rattle.em_text.specs.declared.writer.WriteFailed.{WriteFailed}
 use Rattle.em_text.proofs.WritingLemmas.{Appends-more, Appends-same}
 use Rattle.em_debugger.specs.declared.debugger.Debugger.{Debugger}
 use Rattle.em_debugger.specs.declared.performing.Performed.{Performed}
-use Rattle.em_debugger.specs.Performing.{Performs, IsLast, performed_text, no_line_text, fault_text}
-use Rattle.em_debugger.specs.Next.{Shown, Shows, EndsBy, TellsNext, reached, over, stopped, shown_text}
+use Rattle.em_debugger.specs.Performing.{Performs, performed_text}
+use Rattle.em_debugger.specs.Next.{Shown, Shows, EndsBy, TellsNext, shown_text}
 
 -- so many lines were performed and shown
 pub record ShowsSo (first now : Debugger) (old new : Option (List ℕ)) (count : ℕ) : Type 0 where

@@ -1,6 +1,6 @@
 -- Which line an event belongs to.
 use Rattle.std.proofs.Common.{◌≡◌, ◌≢◌, ℕ, ◌-◌, ◌<◌, ◌≤◌, zero, suc, Bool, true, false, cond, List, length, arith, ap}
-use Rattle.std.proofs.Common.{inl, inr, refl, ltb, eqb, subst, sym}
+use Rattle.std.proofs.Common.{inl, inr, refl, ltb, eqb}
 use Rattle.std.proofs.lemmas.Bool.{cases_lt, ltb-true, ltb-false, eqb-true, eqb-false}
 use Rattle.em_tape.specs.Ends.{end_of, IsLineOf}
 use Rattle.em_tape.specs.Tape.{Tape, event_of}

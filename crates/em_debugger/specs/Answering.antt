@@ -7,7 +7,7 @@ use Rattle.em_looks.specs.Frames.{waiting_text, sent_text}
 use Rattle.em_looks.specs.Views.{register_text, ring_text, memory_text}
 use Rattle.em_prompt.specs.Help.{line_of, help_text}
 use Rattle.em_prompt.specs.Prompt.{Wrong, prompted}
-use Rattle.em_prompt.specs.Typed.{Typed, silent, line, look, who, who_again, back, back_to, forward, forward_to, goto}
+use Rattle.em_prompt.specs.Typed.{Typed, line, look, who, who_again, back, back_to, forward, forward_to, goto}
 use Rattle.em_prompt.specs.Typed.{next, run, run_until, load, save, save_over, history, effect, ring, frame, memory}
 use Rattle.em_prompt.specs.Typed.{help, quit}
 use Rattle.em_prompt.specs.WrongText.{wrong_text}

@@ -1,5 +1,5 @@
 -- What a debugger begins with, and what its parts hold.
-use Rattle.std.specs.Prelude.{◌≡◌, ℕ, List, [], Option, None}
+use Rattle.std.specs.Prelude.{◌≡◌, ℕ, List, [], None}
 use Rattle.em_turn.specs.Planned.{lists}
 use Rattle.em_journal.specs.Settings.{new_machine}
 use Rattle.em_journal.specs.declared.settings.Settings.{Settings}

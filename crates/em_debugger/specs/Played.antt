@@ -1,7 +1,7 @@
 -- Lines that are played without their answers, and what is said of them all.
-use Rattle.std.specs.Prelude.{◌≡◌, ℕ, ◌+◌, ◌-◌, ◌==◌, ◌<◌, ◌^◌, min, nat_lt, Bool, true, false, if◌then◌else◌}
+use Rattle.std.specs.Prelude.{◌≡◌, ℕ, ◌-◌, min, nat_lt, Bool, true, false, if◌then◌else◌}
 use Rattle.std.specs.Prelude.{slice_get}
-use Rattle.std.specs.Prelude.{List, [], ◌∷◌, ◌++◌, codes, length, filter, Option, Some, None}
+use Rattle.std.specs.Prelude.{List, [], ◌++◌, codes, length, filter, Option, Some, None}
 use Rattle.em_console.specs.Turns.{Leads}
 use Rattle.em_output.specs.declared.outcome.Outcome.{Outcome}
 use Rattle.em_output.specs.declared.outcome.Outcome.TheVariants.{Refused, Bad}

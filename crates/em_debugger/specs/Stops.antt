@@ -2,7 +2,6 @@
 use Rattle.std.specs.Prelude.{◌≡◌, ℕ, ◌+◌, ◌-◌, ◌<◌, ◌≤◌, ◌==◌, suc, List, ◌++◌, codes, take, length, Bool, true, false}
 use Rattle.std.specs.Str.{bytes_eq}
 use Rattle.em_output.specs.declared.outcome.Outcome.TheVariants.{Refused}
-use Rattle.em_script.specs.declared.runner.BenchFault.{BenchFault}
 use Rattle.em_tape.specs.Tape.{event_of}
 use Rattle.em_watch.specs.Change.{IsNextChange}
 use Rattle.em_watch.specs.declared.change.Change.{Change}

@@ -2,7 +2,6 @@
 use Rattle.std.specs.Prelude.{◌≡◌, ◌⊎◌, ℕ, ◌-◌, min, nat_lt, Bool, true, false, if◌then◌else◌}
 use Rattle.std.specs.Prelude.{List, [], ◌∷◌, ◌++◌, codes, length, Option, Some, None}
 use Rattle.std.specs.List.{flat_map}
-use Rattle.em_journal.specs.declared.settings.Settings.{Settings}
 use Rattle.em_tape.specs.Tape.{Tape, event_of}
 use Rattle.em_watch.specs.declared.watch.Watch.{Watch}
 use Rattle.em_prompt.specs.declared.watch.Watch.{Watch as TypedWatch}

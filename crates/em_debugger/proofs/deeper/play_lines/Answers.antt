@@ -1,4 +1,4 @@
-use Rattle.std.proofs.Common.{◌≡◌, ◌∙◌, ap, rules}
+use Rattle.std.proofs.Common.{◌∙◌, ap, rules}
 use Rattle.em_tape.specs.Tape.{Tape}
 use Rattle.em_debugger.proofs.AddingLaws.{lines-more}
 use Rattle.em_debugger.proofs.deeper.play_lines.Goals as goal

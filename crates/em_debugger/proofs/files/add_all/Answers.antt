@@ -1,4 +1,4 @@
-use Rattle.std.proofs.Common.{◌≡◌, ◌∙◌, ◌+◌, ◌-◌, ◌++◌, ap, length, length-append, arith, rules}
+use Rattle.std.proofs.Common.{◌≡◌, ◌∙◌, ◌+◌, ap, length, length-append, arith, rules}
 use Rattle.em_text.specs.Lines.{lines_of}
 use Rattle.em_tape.specs.Tape.{Tape}
 use Rattle.em_debugger.proofs.FilesLaws.{AddedSo-all}

@@ -1,9 +1,9 @@
-use Rattle.std.proofs.Common.{◌++◌, refl}
+use Rattle.std.proofs.Common.{refl}
 use Rattle.std.specs.Prelude.{codes}
 use Rattle.std.proofs.lemmas.Result.{MatchResult-from_err}
 use Rattle.em_text.proofs.WritingLemmas.{WroteFront-more, WroteFront-none, WroteFront-part, Writes-more}
 use Rattle.em_looks.specs.Numbers.{count_text}
-use Rattle.em_debugger.specs.Files.{loaded_text, saved_text}
+use Rattle.em_debugger.specs.Files.{loaded_text}
 use Rattle.em_debugger.proofs.files.write_loaded.Goals as goal
 
 pub returns-in_err-write_whole : goal.returns-in_err-write_whole

@@ -1,7 +1,4 @@
-use Rattle.std.proofs.Common.{◌≡◌, ◌∙◌, sym, ap, rules, arith}
-use Rattle.std.specs.Prelude.{min}
-use Rattle.em_tape.specs.Tape.{Tape}
-use Rattle.em_debugger.specs.Deeper.{IsAgain}
+use Rattle.std.proofs.Common.{◌∙◌, rules}
 use Rattle.em_debugger.specs.Search.{found, never, deeper, unreached}
 use Rattle.em_debugger.proofs.search.in_deeper.Goals as goal
 

@@ -1,5 +1,4 @@
-use Rattle.std.proofs.Common.{◌≡◌, rules}
-use Rattle.em_debugger.specs.Deeper.{lines_here}
+use Rattle.std.proofs.Common.{rules}
 use Rattle.em_debugger.specs.Search.{found, never, deeper, unreached}
 use Rattle.em_debugger.proofs.search.search.Goals as goal
 

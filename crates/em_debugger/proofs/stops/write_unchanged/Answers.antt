@@ -2,11 +2,8 @@ use Rattle.std.proofs.Common.{◌++◌, refl}
 use Rattle.std.specs.Prelude.{codes}
 use Rattle.std.proofs.lemmas.Result.{MatchResult-from_err}
 use Rattle.em_text.proofs.WritingLemmas.{WroteFront-more, WroteFront-none, WroteFront-part, Writes-more}
-use Rattle.em_looks.specs.Numbers.{number_text, short_text}
-use Rattle.em_looks.specs.Sights.{watch_text, difference_text}
-use Rattle.em_debugger.specs.Who.{event_text, found_text, never_text, unreached_text}
+use Rattle.em_looks.specs.Sights.{watch_text}
 use Rattle.em_debugger.specs.Stops.{unchanged_text}
-use Rattle.em_debugger.specs.Place.{line_of, text_of}
 use Rattle.em_debugger.proofs.stops.write_unchanged.Goals as goal
 
 pub returns-in_err-write_whole : goal.returns-in_err-write_whole

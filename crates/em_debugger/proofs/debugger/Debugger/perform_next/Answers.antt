@@ -1,6 +1,5 @@
 use Rattle.std.proofs.Common.{◌≡◌, ◌+◌, ◌∙◌, ap, length, refl, arith}
 use Rattle.std.specs.Prelude.{min}
-use Rattle.em_tape.specs.Tape.{Tape}
 use Rattle.em_debugger.specs.Place.{line_here}
 use Rattle.em_debugger.proofs.AddingLaws.{line_here-whole}
 use Rattle.em_debugger.proofs.debugger.Debugger.perform_next.Goals as goal

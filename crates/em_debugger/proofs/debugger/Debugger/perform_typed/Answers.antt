@@ -1,4 +1,4 @@
-use Rattle.std.proofs.Common.{◌≡◌, ◌∙◌, Bool, false, List, ℕ, sym}
+use Rattle.std.proofs.Common.{◌≡◌, ◌∙◌, false, sym}
 use Rattle.em_prompt.specs.BenchLine.{plain, text_of}
 use Rattle.em_debugger.specs.Performing.{looks_back}
 use Rattle.em_debugger.proofs.PerformingLaws.{answered_line}

@@ -1,4 +1,4 @@
-use Rattle.std.proofs.Common.{◌≡◌, ◌<◌, ◌≤◌, refl, codes, arith}
+use Rattle.std.proofs.Common.{◌<◌, ◌≤◌, refl, codes, arith}
 use Rattle.em_debugger.specs.Deeper.{oldest}
 use Rattle.em_debugger.specs.Effect.{TellsChanged, unreached}
 use Rattle.em_debugger.proofs.EffectLaws.{told_again, told_effect, told_held}

@@ -1,14 +1,8 @@
 use Rattle.std.proofs.Common.{◌++◌, refl}
-use Rattle.std.specs.Prelude.{codes}
 use Rattle.std.proofs.lemmas.Result.{MatchResult-from_err}
 use Rattle.em_text.proofs.WritingLemmas.{WroteFront-more, WroteFront-none, WroteFront-part, Writes-more}
-use Rattle.std.proofs.Common.{length, take}
-use Rattle.em_looks.specs.Numbers.{short_text}
-use Rattle.em_debugger.specs.Debugger.{told}
-use Rattle.em_debugger.specs.Place.{text_of}
-use Rattle.em_debugger.specs.History.{answer_text, around_text, events_of_text, last_of, line_text, lines_between}
-use Rattle.em_debugger.specs.History.{lines_text}
-use Rattle.em_debugger.specs.History.{number_of_line_text, start_text}
+use Rattle.em_debugger.specs.History.{answer_text, events_of_text, line_text}
+use Rattle.em_debugger.specs.History.{number_of_line_text}
 use Rattle.em_debugger.proofs.debugger.Debugger.write_line.Goals as goal
 
 pub returns-in_err-write_number_of_line : goal.returns-in_err-write_number_of_line

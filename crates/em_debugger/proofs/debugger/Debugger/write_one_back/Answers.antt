@@ -2,12 +2,10 @@ use Rattle.std.proofs.Common.{◌++◌, refl}
 use Rattle.std.specs.Prelude.{codes}
 use Rattle.std.proofs.lemmas.Result.{MatchResult-from_err}
 use Rattle.em_text.proofs.WritingLemmas.{WroteFront-more, WroteFront-none, WroteFront-part, Writes-more}
-use Rattle.em_tape.specs.Tape.{event_of}
 use Rattle.em_looks.specs.Numbers.{number_text, short_text}
 use Rattle.em_debugger.specs.Debugger.{told}
-use Rattle.em_debugger.specs.Place.{line_here, line_of, text_of}
-use Rattle.em_debugger.specs.Moves.{behind_text, down_to_text, gone_text, line_text, near_text, one_back_text}
-use Rattle.em_debugger.specs.Moves.{place_text}
+use Rattle.em_debugger.specs.Place.{text_of}
+use Rattle.em_debugger.specs.Moves.{one_back_text}
 use Rattle.em_debugger.proofs.debugger.Debugger.write_one_back.Goals as goal
 
 pub returns-in_err-write_number : goal.returns-in_err-write_number

@@ -2,9 +2,7 @@ use Rattle.std.proofs.Common.{◌++◌, refl}
 use Rattle.std.specs.Prelude.{codes}
 use Rattle.std.proofs.lemmas.Result.{MatchResult-from_err}
 use Rattle.em_text.proofs.WritingLemmas.{WroteFront-more, WroteFront-none, WroteFront-part, Writes-more}
-use Rattle.em_looks.specs.Numbers.{count_text, number_text}
-use Rattle.em_debugger.specs.Debugger.{told}
-use Rattle.em_debugger.specs.Played.{first_text, one_wrong_text, others_text, wrong_ones_text, wrong_text}
+use Rattle.em_debugger.specs.Played.{first_text, others_text, wrong_ones_text}
 use Rattle.em_debugger.proofs.debugger.Debugger.write_wrong_ones.Goals as goal
 
 pub returns-in_err-write_first : goal.returns-in_err-write_first
