@@ -1,5 +1,6 @@
 //! The debugger as what answers a console.
 ghost use Rattle.std.specs.Prelude.{⊤};
+ghost use Rattle.em_debugger.specs.Answering.{Answers as AnswersLine};
 
 use em_console::{Answers, Flow};
 use em_debugger::{Debugger, Disk};
@@ -13,8 +14,9 @@ pub struct Served<D: Disk + Drop> {
 }
 
 impl<D: Disk + Drop> Answers for Served<D> {
-    ghost answers = { λ before line text flow after. ⊤ };
+    ghost answers = { λ before line text flow after. AnswersLine before.debugger after.debugger line flow text };
 
+    // Where memory is refused, a part of the line may be done.
     ghost stops = { λ before line after. ⊤ };
 
     fn answer(&mut self, line: &[u8], text: &mut Vec<u8>) -> Result<Flow, AllocError> {
