@@ -7,4 +7,6 @@ mod journal;
 #[cfg(test)]
 mod memory;
 #[cfg(test)]
+mod script;
+#[cfg(test)]
 mod trail;

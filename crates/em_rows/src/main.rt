@@ -14,21 +14,6 @@ use std::alloc::Global;
 use std::rt::Files;
 use std::{fs, io};
 
-#[cfg(test)]
-mod descriptors;
-#[cfg(test)]
-mod filters;
-#[cfg(test)]
-mod offsets;
-#[cfg(test)]
-mod refusals;
-#[cfg(test)]
-mod registers;
-#[cfg(test)]
-mod tests;
-#[cfg(test)]
-mod wire;
-
 /// The file of a row that holds its script.
 const SCRIPT: &str = "script";
 
