@@ -1,0 +1,4 @@
+pub mod Table
+pub mod RxIdle
+pub mod TxIdle
+pub mod Dropped

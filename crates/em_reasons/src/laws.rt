@@ -1,0 +1,17 @@
+//! What the definitions of reasons and the adapter's steps say together.
+ghost use Rattle.std.specs.Prelude.{◌≡◌, ◌↔◌, ℕ, List, Some, None, option_map};
+ghost use Rattle.em_step.specs.Arrival.{arrival};
+ghost use Rattle.em_step.specs.State.{State};
+ghost use Rattle.em_step.specs.declared.event.Answer.{Answer};
+ghost use Rattle.em_step.specs.declared.event.Reason.{Reason};
+ghost use Rattle.em_reasons.specs.Dropped.{IsDropped, reason_of, why};
+
+/// A frame is dropped for a reason exactly where the first test of the table that holds says that reason, and stored
+/// exactly where none holds. A drop leaves what the tests look at: asked afterwards, they say the same.
+pub fn drops_are_explained()
+    ensures dropped { (s : State) (f : List ℕ) (r : Reason) →
+        IsDropped s f r ↔ (option_map reason_of (why s f) ≡ Some r) }
+    ensures stored { (s : State) (f : List ℕ) → ((arrival s f).0 ≡ Answer.Stored) ↔ (why s f ≡ None) }
+    ensures again { (s : State) (f : List ℕ) (r : Reason) → IsDropped s f r → IsDropped (arrival s f).1 f r }
+    ensures same { (s : State) (f : List ℕ) (r : Reason) → IsDropped s f r → why (arrival s f).1 f ≡ why s f }
+{}
