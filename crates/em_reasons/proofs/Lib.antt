@@ -1,2 +1,3 @@
 pub mod IdleLemmas
 pub mod DropLemmas
+pub mod RefusalLemmas

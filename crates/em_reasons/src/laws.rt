@@ -1,10 +1,14 @@
 //! What the definitions of reasons and the adapter's steps say together.
-ghost use Rattle.std.specs.Prelude.{◌≡◌, ◌↔◌, ℕ, List, Some, None, option_map};
+ghost use Rattle.std.specs.Prelude.{◌≡◌, ◌↔◌, ℕ, List, Some, None, Err, option_map};
 ghost use Rattle.em_step.specs.Arrival.{arrival};
+ghost use Rattle.em_step.specs.Event.{Event};
 ghost use Rattle.em_step.specs.State.{State};
+ghost use Rattle.em_step.specs.Step.{step};
 ghost use Rattle.em_step.specs.declared.event.Answer.{Answer};
 ghost use Rattle.em_step.specs.declared.event.Reason.{Reason};
+ghost use Rattle.em_step.specs.declared.refusal.Refusal.{Refusal};
 ghost use Rattle.em_reasons.specs.Dropped.{IsDropped, reason_of, why};
+ghost use Rattle.em_reasons.specs.Refused as refused;
 
 /// A frame is dropped for a reason exactly where the first test of the table that holds says that reason, and stored
 /// exactly where none holds. A drop leaves what the tests look at: asked afterwards, they say the same.
@@ -14,4 +18,11 @@ pub fn drops_are_explained()
     ensures stored { (s : State) (f : List ℕ) → ((arrival s f).0 ≡ Answer.Stored) ↔ (why s f ≡ None) }
     ensures again { (s : State) (f : List ℕ) (r : Reason) → IsDropped s f r → IsDropped (arrival s f).1 f r }
     ensures same { (s : State) (f : List ℕ) (r : Reason) → IsDropped s f r → why (arrival s f).1 f ≡ why s f }
+{}
+
+/// An event is refused by its own rules, and not for want of memory, exactly where the first test of its table that
+/// holds says that refusal.
+pub fn refusals_are_explained()
+    ensures { (s : State) (e : Event) (r : Refusal) →
+        (step s e ≡ Err r) ↔ (option_map refused.refusal_of (refused.why s e) ≡ Some r) }
 {}
