@@ -10,7 +10,6 @@ use Rattle.em_regs.specs.Setup.{rx_setup, tx_setup}
 use Rattle.em_rx.specs.Fifo.{Fifo}
 use Rattle.em_rx.specs.Receive as rx
 use Rattle.em_rx.specs.declared.receive.RxAnswer.TheVariants as rx_answer
-use Rattle.em_rx.specs.declared.refusal.RxRefusal.{RxRefusal}
 use Rattle.em_rx.specs.declared.refusal.RxRefusal.TheVariants as rx_refusal
 use Rattle.em_tx.specs.Cells.{Shown}
 use Rattle.em_tx.specs.Engine.{gather, handle, refusal, sends, transmit, unless}

@@ -2,7 +2,7 @@
 use Rattle.std.proofs.Common.{◌≡◌, ℕ, Bool, true, false, List, length, Option, Some, None, Result, Ok, Err, refl, sym, ap}
 use Rattle.std.proofs.Common.{◌∙◌}
 use Rattle.std.specs.Prelude.{[], ◌∷◌, ◌+◌, ◌*◌, ◌==◌, ◌&&◌, ◌||◌, ◌↔◌, nat_lt, is_none, option_map, if◌then◌else◌}
-use Rattle.em_mem.specs.Memory.{part, put}
+use Rattle.em_mem.specs.Memory.{part}
 use Rattle.em_regs.specs.declared.reg.Reg.{Reg}
 use Rattle.em_regs.specs.declared.setup.RxSetup.{RxSetup}
 use Rattle.em_regs.specs.declared.setup.TxSetup.{TxSetup}
@@ -15,28 +15,26 @@ use Rattle.em_rx.specs.declared.receive.RxAnswer.TheVariants as rx_answer
 use Rattle.em_rx.specs.declared.refusal.RxRefusal.TheVariants as rx_refusal
 use Rattle.em_tx.specs.Cells.{Shown}
 use Rattle.em_tx.specs.Descriptor.{address, dext, length_of}
-use Rattle.em_tx.specs.Engine.{handle, refusal as tx_cause, transmit, unless}
+use Rattle.em_tx.specs.Engine.{refusal as tx_cause, transmit, unless}
 use Rattle.em_tx.specs.Ring as tx
 use Rattle.em_tx.specs.declared.answer.TxAnswer.{TxAnswer}
 use Rattle.em_tx.specs.declared.answer.TxAnswer.TheVariants as tx_answer
 use Rattle.em_tx.specs.declared.refusal.TxRefusal.TheVariants as tx_refusal
-use Rattle.em_step.specs.Arrival.{arrival}
 use Rattle.em_step.specs.Engines.{rx_stepped, sending, tx_stepped}
 use Rattle.em_step.specs.Event.{Event, reads, writes, pokes, arrives, links, receives, transmits}
 use Rattle.em_step.specs.State.{State}
-use Rattle.em_step.specs.Step.{arrive, at_register, poke, step}
+use Rattle.em_step.specs.Step.{at_register, step}
 use Rattle.em_step.specs.declared.event.Answer.{Answer}
-use Rattle.em_step.specs.declared.event.Answer.TheVariants.{Done}
 use Rattle.em_step.specs.declared.refusal.Refusal.{Refusal}
 use Rattle.em_step.specs.declared.refusal.Refusal.TheVariants as refusal
 use Rattle.em_reasons.specs.Table.{first_of}
 use Rattle.em_reasons.specs.declared.refused.Refused.{Refused}
 use Rattle.em_reasons.specs.declared.refused.Refused.TheVariants.{NoRegister, Range, WriteLength, FrameLength}
 use Rattle.em_reasons.specs.declared.refused.Refused.TheVariants.{RxDescriptor, RxBuffer, TxDescriptor, Extended, TooLong}
-use Rattle.em_reasons.specs.Refused.{access_table, frame_table, octets_at, refusal_of, refusal_table, refused_descriptor}
+use Rattle.em_reasons.specs.Refused.{access_table, octets_at, refusal_of, refusal_table, refused_descriptor}
 use Rattle.em_reasons.specs.Refused.{refused_receive, refused_transmit}
 use Rattle.em_reasons.specs.Refused.{refused_write, rx_buffer, rx_table, tx_buffer, tx_octets, tx_table, unless_idle}
-use Rattle.em_reasons.specs.Refused.{why, write_table}
+use Rattle.em_reasons.specs.Refused.{why}
 
 -- the refusal of a step that is refused
 abbrev refusal_in : Result (Answer × State) Refusal → Option Refusal

@@ -1,5 +1,5 @@
 -- What a test looked at, reason by reason.
-use Rattle.std.specs.Prelude.{ℕ, ◌+◌, ◌/◌, ◌%◌, ◌^◌, List, [], ◌∷◌}
+use Rattle.std.specs.Prelude.{◌+◌, ◌^◌, List, [], ◌∷◌}
 use Rattle.em_regs.specs.declared.reg.Reg.TheVariants.{Status, Vet, Rctl, Tctl, Mta, Vfta}
 use Rattle.em_regs.specs.declared.reg.Reg.TheVariants.{Rdbal, Rdbah, Rdlen, Rdh, Rdt, Tdbal, Tdbah, Tdlen, Tdh, Tdt}
 use Rattle.em_reasons.specs.declared.look.Look.{Look}

@@ -91,11 +91,7 @@ fn write_long<W: Write>(writer: &mut W, octets: u64, most: u32) -> Result<(), Wr
 fn most_text(most: u32) -> &'static [u8]
     ensures { result.now ≡ most_text most }
 {
-    if most == MOST {
-        b", LPE is clear"
-    } else {
-        b""
-    }
+    if most == MOST { b", LPE is clear" } else { b"" }
 }
 
 fn write_vlan<W: Write>(writer: &mut W, identifier: u16) -> Result<(), WriteFailed>

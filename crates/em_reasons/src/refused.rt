@@ -20,15 +20,29 @@ const DESCRIPTOR_OCTETS: usize = 16;
 #[derive(Clone, Copy, Debug, PartialEq, Eq)]
 pub enum Refused {
     /// No register lies at the offset.
-    NoRegister { offset: u32 },
+    NoRegister {
+        offset: u32,
+    },
     /// So many octets from an address on leave guest memory, which has so many.
-    Range { at: u64, octets: u64, memory: u64 },
+    Range {
+        at: u64,
+        octets: u64,
+        memory: u64,
+    },
     /// A memory write has no octet, or more than 16,384.
-    WriteLength { octets: u64 },
+    WriteLength {
+        octets: u64,
+    },
     /// A frame has fewer than 14 octets, or more than 20,000.
-    FrameLength { octets: u64 },
+    FrameLength {
+        octets: u64,
+    },
     /// The descriptor at RDH leaves guest memory.
-    RxDescriptor { index: u32, at: u128, memory: u64 },
+    RxDescriptor {
+        index: u32,
+        at: u128,
+        memory: u64,
+    },
     /// What is to go of the first frame, which has so many octets, into the buffer of the descriptor at RDH leaves guest
     /// memory.
     RxBuffer {
@@ -40,11 +54,22 @@ pub enum Refused {
         memory: u64,
     },
     /// The descriptor at TDH leaves guest memory.
-    TxDescriptor { index: u32, at: u128, memory: u64 },
+    TxDescriptor {
+        index: u32,
+        at: u128,
+        memory: u64,
+    },
     /// The descriptor at TDH is extended (DEXT).
-    Extended { index: u32, at: u128 },
+    Extended {
+        index: u32,
+        at: u128,
+    },
     /// The octets of the descriptor at TDH are, with those that are gathered, more than 16,380.
-    TooLong { index: u32, at: u128, octets: u16 },
+    TooLong {
+        index: u32,
+        at: u128,
+        octets: u16,
+    },
     /// The buffer of the descriptor at TDH leaves guest memory.
     TxBuffer {
         index: u32,

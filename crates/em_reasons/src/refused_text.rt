@@ -205,11 +205,7 @@ fn write_rx_buffer<W: Write>(
 }
 
 /// Writes where a transmit descriptor and its buffer lie, which is outside guest memory.
-fn write_tx_buffer<W: Write>(
-    writer: &mut W,
-    place: Buffer,
-    memory: u64,
-) -> Result<(), WriteFailed>
+fn write_tx_buffer<W: Write>(writer: &mut W, place: Buffer, memory: u64) -> Result<(), WriteFailed>
     ensures writes { Writes (W.contents writer.old) (W.contents writer.new) result
         (tx_buffer_text place.index place.at place.buffer place.octets memory) }
 {

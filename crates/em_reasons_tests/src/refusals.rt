@@ -68,10 +68,7 @@ fn receives(t: &mut Tested) -> Result<(), Fail> {
         b"descriptor 2 at 010000000000000010, memory ends at 002000",
     )?;
     t.sets(&[(Reg::Rdbah, 0), (Reg::Rdbal, 0x1000)])?;
-    t.does(Event::Poke(
-        0x1020,
-        &[0x45, 0x25, 0x41, 0x63, 0x25, 0x01, 0xA0, 0x00],
-    ))?;
+    t.does(Event::Poke(0x1020, &[0x45, 0x25, 0x41, 0x63, 0x25, 0x01, 0xA0, 0x00]))?;
     t.refuses(
         Event::RxStep,
         b"descriptor 2 at 001020, buffer A0012563412545 of 2048 octets for a frame of 60, memory ends at 002000",
@@ -110,8 +107,5 @@ fn transmits(t: &mut Tested) -> Result<(), Fail> {
     )?;
     // DEXT comes first
     t.does(Event::Poke(0x181B, &[0x20]))?;
-    t.refuses(
-        Event::TxStep,
-        b"descriptor 1 at 001810 is extended (DEXT)",
-    )
+    t.refuses(Event::TxStep, b"descriptor 1 at 001810 is extended (DEXT)")
 }

@@ -13,7 +13,7 @@ pub returns-then-matches-clause-first : goal.returns-then-matches-clause-first
 returns-then-matches-clause-first c =
     let is : c.args.refusal ≡ Memory
     = elim c.match-matches.branch [
-      in-Memory w ↦ w.in-Memory.is
+      | in-Memory w ↦ w.in-Memory.is
       | in_default w ↦ let no = w.matches-is in let yes = c.if-matches.true in cc
     ] in
     never_memory c.args.machine.now.present (plain c.args.event) c.args.refusal refused.Memory is
