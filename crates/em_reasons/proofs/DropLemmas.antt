@@ -1,7 +1,8 @@
 -- The table of drops beside the arrival of a frame.
 use Rattle.std.proofs.Common.{◌≡◌, ℕ, Bool, true, false, List, length, Option, Some, None, refl, sym, ap}
 use Rattle.std.proofs.Common.{◌∙◌, arith}
-use Rattle.std.specs.Prelude.{[], ◌∷◌, ◌+◌, ◌-◌, ◌%◌, ◌==◌, ◌&&◌, ◌≤◌, ◌↔◌, nat_le, nat_lt, not, option_map, if◌then◌else◌}
+use Rattle.std.specs.Prelude.{[], ◌∷◌, ◌+◌, ◌-◌, ◌%◌, ◌==◌, ◌&&◌, ◌≤◌, ◌↔◌, nat_le, nat_lt, not}
+use Rattle.std.specs.Prelude.{option_map, if◌then◌else◌}
 use Rattle.std.proofs.lemmas.Bool.Decides.{nat_tests}
 use Rattle.em_address.specs.declared.kind.Kind.{Kind}
 use Rattle.em_address.specs.declared.kind.Kind.TheVariants as kind
@@ -19,7 +20,8 @@ use Rattle.em_step.specs.Arrival.{after_accept, after_miss, arrival, is_enabled,
 use Rattle.em_step.specs.State.{State}
 use Rattle.em_step.proofs.ArrivalLaws.{stored_len}
 use Rattle.em_step.specs.declared.event.Answer.{Answer}
-use Rattle.em_step.specs.declared.event.Answer.TheVariants.{Stored, Dropped as Drops, Done, Value, Idle, Wrote, Fetched, Sent}
+use Rattle.em_step.specs.declared.event.Answer.TheVariants.{Stored, Dropped as Drops, Done, Value, Idle}
+use Rattle.em_step.specs.declared.event.Answer.TheVariants.{Wrote, Fetched, Sent}
 use Rattle.em_step.specs.declared.event.Reason.{Reason}
 use Rattle.em_step.specs.declared.event.Reason.TheVariants as reason
 use Rattle.em_reasons.specs.Table.{first_of}
@@ -43,7 +45,8 @@ abbrev answer_in : Answer × State → Answer
 answer_in r = r.0
 
 by_room : (s : State) (f : List ℕ) (kind : Kind) (full : Bool) (x y : State)
-    → answer_in (if full then (Drops reason.Missed, x) else (Stored, y)) ≡ (if full then Drops reason.Missed else Stored)
+    → answer_in (if full then (Drops reason.Missed, x) else (Stored, y))
+    ≡ (if full then Drops reason.Missed else Stored)
 by_room s f kind true x y = refl
 by_room s f kind false x y = refl
 
@@ -82,7 +85,8 @@ arrival_by : (s : State) (f : List ℕ) → (arrival s f).0 ≡ answer_of s f
 unfolding verdict
 arrival_by s f =
     by_state s.link (is_enabled s) s _
-    ∙ ap (λ (a : Answer). if not s.link then Drops reason.Down else if not (is_enabled s) then Drops reason.Disabled else a)
+    ∙ ap (λ (a : Answer).
+    if not s.link then Drops reason.Down else if not (is_enabled s) then Drops reason.Disabled else a)
     (by_verdict s f (accepts s.registers (destination f)) (nat_lt (length f + 4) 64)
     (nat_lt (longest s.registers) (length f + 4)) (passes_vlan s.registers f) (kind_of (destination f)))
 
@@ -127,7 +131,8 @@ first_said true true true false false true false a u o v m r h = cc
 abbrev said_of : State → List ℕ → Reason → Dropped
 said_of s f r =
     said r (accepts s.registers (destination f)) (unfiltered s.registers (to_of f)) (Undersize (length f + 4))
-    (Oversize (length f + 4) (longest s.registers)) (unlisted f) (Missed (len_of (kept_frame s f)) (length s.fifo.frames))
+    (Oversize (length f + 4) (longest s.registers)) (unlisted f)
+    (Missed (len_of (kept_frame s f)) (length s.fifo.frames))
 
 pub drop_said : (s : State) (f : List ℕ) (r q : Reason) (d : Dropped) → r ≡ q → said_of s f q ≡ d → IsDropped s f r
     → why s f ≡ Some d
@@ -272,7 +277,8 @@ verdict_keeps s f (Accept kind) r h = room_keeps s f kind r (lacks_room s f) h
 state_keeps : (up on : Bool) (s : State) (a : Answer × State) (r : Reason)
     → (answer_in a ≡ Drops r → LooksTheSame s (state_in a))
     → answer_in (if not up then (Drops reason.Down, s) else if not on then (Drops reason.Disabled, s) else a) ≡ Drops r
-    → LooksTheSame s (state_in (if not up then (Drops reason.Down, s) else if not on then (Drops reason.Disabled, s) else a))
+    → LooksTheSame s
+    (state_in (if not up then (Drops reason.Down, s) else if not on then (Drops reason.Disabled, s) else a))
 state_keeps false on s a r keeps h = record { registers = refl; link = refl; fifo = refl }
 state_keeps true false s a r keeps h = record { registers = refl; link = refl; fifo = refl }
 state_keeps true true s a r keeps h = keeps h

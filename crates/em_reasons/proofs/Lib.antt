@@ -1,3 +1,4 @@
+pub mod TableLemmas
 pub mod IdleLemmas
 pub mod DropLemmas
 pub mod RefusalLemmas

@@ -1,5 +1,6 @@
 -- The tables of refusals beside the steps.
-use Rattle.std.proofs.Common.{◌≡◌, ℕ, Bool, true, false, List, length, Option, Some, None, Result, Ok, Err, refl, sym, ap}
+use Rattle.std.proofs.Common.{◌≡◌, ℕ, Bool, true, false, List, length, Option, Some, None, Result, Ok, Err, refl}
+use Rattle.std.proofs.Common.{sym, ap}
 use Rattle.std.proofs.Common.{◌∙◌}
 use Rattle.std.specs.Prelude.{[], ◌∷◌, ◌+◌, ◌*◌, ◌==◌, ◌&&◌, ◌||◌, ◌↔◌, nat_lt, is_none, option_map, if◌then◌else◌}
 use Rattle.em_mem.specs.Memory.{part}
@@ -30,7 +31,8 @@ use Rattle.em_step.specs.declared.refusal.Refusal.TheVariants as refusal
 use Rattle.em_reasons.specs.Table.{first_of}
 use Rattle.em_reasons.specs.declared.refused.Refused.{Refused}
 use Rattle.em_reasons.specs.declared.refused.Refused.TheVariants.{NoRegister, Range, WriteLength, FrameLength}
-use Rattle.em_reasons.specs.declared.refused.Refused.TheVariants.{RxDescriptor, RxBuffer, TxDescriptor, Extended, TooLong}
+use Rattle.em_reasons.specs.declared.refused.Refused.TheVariants.{RxDescriptor, RxBuffer, TxDescriptor, Extended}
+use Rattle.em_reasons.specs.declared.refused.Refused.TheVariants.{TooLong}
 use Rattle.em_reasons.specs.Refused.{access_table, octets_at, refusal_of, refusal_table, refused_descriptor}
 use Rattle.em_reasons.specs.Refused.{refused_receive, refused_transmit}
 use Rattle.em_reasons.specs.Refused.{refused_write, rx_buffer, rx_table, tx_buffer, tx_octets, tx_table, unless_idle}
@@ -250,7 +252,8 @@ tables_lack s (pokes a octets) = (λ h. cc, (λ h. cc, tt))
 tables_lack s (arrives f) = (λ h. cc, tt)
 tables_lack s (links up) = tt
 tables_lack s receives =
-    let q = rx_setup s.registers in lacks_busy (rx.is_idle q s.fifo) (rx_table q s.memory s.fifo) (λ h. cc, (λ h. cc, tt))
+    let q = rx_setup s.registers in
+    lacks_busy (rx.is_idle q s.fifo) (rx_table q s.memory s.fifo) (λ h. cc, (λ h. cc, tt))
 tables_lack s transmits =
     let q = tx_setup s.registers in
     lacks_busy (tx.is_idle q) (tx_table q s.memory s.gathered (tx_octets q s.memory))
@@ -286,13 +289,14 @@ pub receive_inside : (p q : RxSetup) (memory octets : List ℕ) (fifo : Fifo) (p
     → buffer ≡ (descriptor_of octets).address → n ≡ length (first fifo).octets → size ≡ length memory
     → RxBuffer p.head place buffer p.buffer n size ≡ refused_receive q memory fifo
 receive_inside p q memory octets fifo place buffer n size same some at address frame count =
-    let found = inside (nat_lt (length memory) (rx.descriptor_at p + 16)) (part memory (rx.descriptor_at p) 16) octets some in
+    let found = inside (nat_lt (length memory) (rx.descriptor_at p + 16)) (part memory (rx.descriptor_at p) 16) octets some
+    in
     ap (λ (k : ℕ). RxBuffer p.head k buffer p.buffer n size) at
     ∙ ap (λ (k : ℕ). RxBuffer p.head (rx.descriptor_at p) k p.buffer n size)
     (address ∙ ap (λ (l : List ℕ). (descriptor_of l).address) found.1)
     ∙ ap (λ (k : ℕ). RxBuffer p.head (rx.descriptor_at p) (rx.buffer_at p memory) p.buffer k size) frame
-    ∙ ap (λ (k : ℕ). RxBuffer p.head (rx.descriptor_at p) (rx.buffer_at p memory) p.buffer (length (first fifo).octets) k)
-    count
+    ∙ ap (λ (k : ℕ).
+    RxBuffer p.head (rx.descriptor_at p) (rx.buffer_at p memory) p.buffer (length (first fifo).octets) k) count
     ∙ sym (ap (λ (b : Bool). if b then RxDescriptor p.head (rx.descriptor_at p) (length memory)
     else rx_buffer p memory fifo) found.0)
     ∙ ap (λ (r : RxSetup). refused_receive r memory fifo) same

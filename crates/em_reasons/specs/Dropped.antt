@@ -1,5 +1,6 @@
 -- Why a frame was dropped.
-use Rattle.std.specs.Prelude.{◌≡◌, ℕ, ◌+◌, ◌%◌, nat_lt, not, Bool, List, [], ◌∷◌, length, slice_index, Option, if◌then◌else◌}
+use Rattle.std.specs.Prelude.{◌≡◌, ℕ, ◌+◌, ◌%◌, nat_lt, not, Bool, List, [], ◌∷◌, length, slice_index, Option}
+use Rattle.std.specs.Prelude.{if◌then◌else◌}
 use Rattle.em_address.specs.declared.kind.Kind.{Kind}
 use Rattle.em_address.specs.declared.kind.Kind.TheVariants as kind
 use Rattle.em_address.specs.Kind.{destination, kind_of}

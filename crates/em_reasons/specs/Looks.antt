@@ -1,6 +1,6 @@
 -- What a test looked at, reason by reason.
 use Rattle.std.specs.Prelude.{◌+◌, ◌^◌, List, [], ◌∷◌}
-use Rattle.em_regs.specs.declared.reg.Reg.TheVariants.{Status, Vet, Rctl, Tctl, Mta, Vfta}
+use Rattle.em_regs.specs.declared.reg.Reg.TheVariants.{Ctrl, Status, Vet, Rctl, Tctl, Mta, Vfta}
 use Rattle.em_regs.specs.declared.reg.Reg.TheVariants.{Rdbal, Rdbah, Rdlen, Rdh, Rdt, Tdbal, Tdbah, Tdlen, Tdh, Tdt}
 use Rattle.em_reasons.specs.declared.look.Look.{Look}
 use Rattle.em_reasons.specs.declared.look.Look.TheVariants.{Bits, Entries, Frames, Octets}
@@ -31,8 +31,9 @@ tx_idle_looks (tx_idle.HeadPast head count) = Bits Tdh 0xFFFF ∷ Bits Tdlen 0x0
 tx_idle_looks (tx_idle.TailPast tail count) = Bits Tdt 0xFFFF ∷ Bits Tdlen 0x000F_FF80 ∷ []
 tx_idle_looks (tx_idle.Empty at) = Bits Tdh 0xFFFF ∷ Bits Tdt 0xFFFF ∷ []
 
--- of a frame: LU is bit 1 of STATUS; of RCTL, UPE is bit 3, MPE 4, LPE 5, MO 13:12, BAM 15, VFE 18; the bit of a hash in
--- the multicast table, and of an identifier in the VLAN filter table
+-- of a frame: LU is bit 1 of STATUS; of RCTL, UPE is bit 3, MPE 4, LPE 5, MO 13:12, BAM 15, VFE 18; the bit of a hash
+-- in the multicast table, and of an identifier in the VLAN filter table; VME, bit 30 of CTRL, and VET say how many octets
+-- are stored
 abbrev pub dropped_looks : Dropped → List Look
 dropped_looks dropped.Down = Bits Status (2 ^ 1) ∷ []
 dropped_looks dropped.Disabled = Bits Rctl (2 ^ 1) ∷ []
@@ -45,22 +46,27 @@ dropped_looks (dropped.Undersize octets) = []
 dropped_looks (dropped.Oversize octets most) = Bits Rctl (2 ^ 5) ∷ []
 dropped_looks (dropped.Vlan identifier) =
     Bits Rctl (2 ^ 18) ∷ Bits Vet 0xFFFF ∷ Bits (Vfta (word_of identifier)) (2 ^ bit_of identifier) ∷ []
-dropped_looks (dropped.Missed octets frames) = Frames ∷ []
+dropped_looks (dropped.Missed octets frames) = Frames ∷ Bits Ctrl (2 ^ 30) ∷ Bits Vet 0xFFFF ∷ []
 
--- of an event that was refused: where the ring's descriptor lies, by its base and its head; BSIZE (bits 17:16) and BSEX
--- (25) of RCTL; the address of a descriptor's buffer (octets 0 to 7), its length (8 and 9), CMD (11)
+-- where the descriptor at a ring's head lies
+abbrev pub rx_place : List Look
+rx_place = Bits Rdbal 0xFFFF_FFF0 ∷ Bits Rdbah 0xFFFF_FFFF ∷ Bits Rdh 0xFFFF ∷ []
+
+abbrev pub tx_place : List Look
+tx_place = Bits Tdbal 0xFFFF_FFF0 ∷ Bits Tdbah 0xFFFF_FFFF ∷ Bits Tdh 0xFFFF ∷ []
+
+-- of an event that was refused: where the ring's descriptor lies; the address of its buffer (octets 0 to 7), its length
+-- (8 and 9), CMD (11); BSIZE (bits 17:16) and BSEX (25) of RCTL
 abbrev pub refused_looks : Refused → List Look
 refused_looks (refused.NoRegister offset) = []
 refused_looks (refused.Range at octets memory) = []
 refused_looks (refused.WriteLength octets) = []
 refused_looks (refused.FrameLength octets) = []
-refused_looks (refused.RxDescriptor index at memory) =
-    Bits Rdbal 0xFFFF_FFF0 ∷ Bits Rdbah 0xFFFF_FFFF ∷ Bits Rdh 0xFFFF ∷ []
+refused_looks (refused.RxDescriptor index at memory) = rx_place
 refused_looks (refused.RxBuffer index at buffer size frame memory) =
-    Octets at 0 8 ∷ Bits Rctl (0x0003_0000 + 2 ^ 25) ∷ Frames ∷ []
-refused_looks (refused.TxDescriptor index at memory) =
-    Bits Tdbal 0xFFFF_FFF0 ∷ Bits Tdbah 0xFFFF_FFFF ∷ Bits Tdh 0xFFFF ∷ []
-refused_looks (refused.Extended index at) = Octets at 11 1 ∷ []
-refused_looks (refused.TooLong index at octets) = Octets at 8 2 ∷ []
-refused_looks (refused.TxBuffer index at buffer octets memory) = Octets at 0 10 ∷ []
+    Octets at 0 8 ∷ Bits Rctl (0x0003_0000 + 2 ^ 25) ∷ Frames ∷ rx_place
+refused_looks (refused.TxDescriptor index at memory) = tx_place
+refused_looks (refused.Extended index at) = Octets at 11 1 ∷ tx_place
+refused_looks (refused.TooLong index at octets) = Octets at 8 2 ∷ tx_place
+refused_looks (refused.TxBuffer index at buffer octets memory) = Octets at 0 10 ∷ tx_place
 refused_looks refused.Memory = []

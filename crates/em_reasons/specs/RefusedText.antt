@@ -3,8 +3,8 @@ use Rattle.std.specs.Prelude.{ℕ, List, ◌++◌, codes, decimal}
 use Rattle.em_inspect.specs.AddressText.{address_text}
 use Rattle.em_reasons.specs.declared.refused.Refused.{Refused}
 use Rattle.em_reasons.specs.declared.refused.Refused.TheVariants.{NoRegister, Range, WriteLength, FrameLength}
-use Rattle.em_reasons.specs.declared.refused.Refused.TheVariants.{RxDescriptor, RxBuffer, TxDescriptor, TxBuffer, Extended}
-use Rattle.em_reasons.specs.declared.refused.Refused.TheVariants.{TooLong, Memory}
+use Rattle.em_reasons.specs.declared.refused.Refused.TheVariants.{RxDescriptor, RxBuffer, TxDescriptor, TxBuffer}
+use Rattle.em_reasons.specs.declared.refused.Refused.TheVariants.{Extended, TooLong, Memory}
 
 -- where guest memory ends
 abbrev pub end_text : ℕ → List ℕ

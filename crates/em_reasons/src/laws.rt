@@ -7,8 +7,21 @@ ghost use Rattle.em_step.specs.Step.{step};
 ghost use Rattle.em_step.specs.declared.event.Answer.{Answer};
 ghost use Rattle.em_step.specs.declared.event.Reason.{Reason};
 ghost use Rattle.em_step.specs.declared.refusal.Refusal.{Refusal};
+ghost use Rattle.em_reasons.specs.declared.dropped.Dropped.{Dropped};
+ghost use Rattle.em_reasons.specs.declared.refused.Refused.{Refused};
+ghost use Rattle.em_reasons.specs.declared.rx_idle.RxIdle.{RxIdle};
+ghost use Rattle.em_reasons.specs.declared.tx_idle.TxIdle.{TxIdle};
 ghost use Rattle.em_reasons.specs.Dropped.{IsDropped, reason_of, why};
 ghost use Rattle.em_reasons.specs.Refused as refused;
+ghost use Rattle.em_reasons.specs.Table.{GivesFirst};
+
+/// Each table gives a reason exactly where the test beside it holds and none before it does.
+pub fn the_first_test_decides()
+    ensures rx_idle { GivesFirst RxIdle }
+    ensures tx_idle { GivesFirst TxIdle }
+    ensures dropped { GivesFirst Dropped }
+    ensures refused { GivesFirst Refused }
+{}
 
 /// A frame is dropped for a reason exactly where the first test of the table that holds says that reason, and stored
 /// exactly where none holds. A drop leaves what the tests look at: asked afterwards, they say the same.

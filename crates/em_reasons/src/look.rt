@@ -1,7 +1,7 @@
 //! What the tests looked at, so that a caller can follow it to the event that set it.
 ghost use Rattle.std.specs.Prelude.{◌≡◌, ◌+◌, ◌^◌, [], ◌∷◌, IfOk};
 ghost use Rattle.em_reasons.specs.Bits.{bit_of, word_of};
-ghost use Rattle.em_reasons.specs.Looks.{dropped_looks, refused_looks, rx_idle_looks, tx_idle_looks};
+ghost use Rattle.em_reasons.specs.Looks.{dropped_looks, refused_looks, rx_idle_looks, tx_idle_looks, tx_place};
 
 use crate::bits::{mask_of, word_of};
 use crate::{Dropped, Refused, RxIdle, TxIdle};
@@ -17,6 +17,9 @@ const LOW_HALF: u32 = 0x0000_FFFF;
 const BASE: u32 = 0xFFFF_FFF0;
 
 const LENGTH: u32 = 0x000F_FF80;
+
+/// CTRL.VME.
+const VME: u32 = 0x4000_0000;
 
 /// STATUS.LU.
 const LU: u32 = 0x0000_0002;
@@ -147,7 +150,10 @@ impl Dropped {
                     bits(Reg::Vfta(word_of(identifier)), mask_of(identifier)),
                 ],
             ),
-            Dropped::Missed { .. } => Vec::from_slice(alloc, &[Look::Frames]),
+            Dropped::Missed { .. } => Vec::from_slice(
+                alloc,
+                &[Look::Frames, bits(Reg::Ctrl, VME), bits(Reg::Vet, LOW_HALF)],
+            ),
         }
     }
 }
@@ -187,6 +193,9 @@ impl Refused {
                     },
                     bits(Reg::Rctl, BSIZE_BSEX),
                     Look::Frames,
+                    bits(Reg::Rdbal, BASE),
+                    bits(Reg::Rdbah, EVERY_BIT),
+                    bits(Reg::Rdh, LOW_HALF),
                 ],
             ),
             Refused::TxDescriptor { .. } => Vec::from_slice(
@@ -197,17 +206,25 @@ impl Refused {
                     bits(Reg::Tdh, LOW_HALF),
                 ],
             ),
-            Refused::Extended { at, .. } => octets_of(alloc, at, COMMAND_AT, COMMAND_OCTETS),
-            Refused::TooLong { at, .. } => octets_of(alloc, at, LENGTH_AT, LENGTH_OCTETS),
-            Refused::TxBuffer { at, .. } => octets_of(alloc, at, 0, BUFFER_OCTETS),
+            Refused::Extended { at, .. } => tx_octets(alloc, at, COMMAND_AT, COMMAND_OCTETS),
+            Refused::TooLong { at, .. } => tx_octets(alloc, at, LENGTH_AT, LENGTH_OCTETS),
+            Refused::TxBuffer { at, .. } => tx_octets(alloc, at, 0, BUFFER_OCTETS),
             Refused::Memory => Ok(Vec::new(alloc)),
         }
     }
 }
 
-/// Octets of a descriptor alone.
-fn octets_of(alloc: Global, at: u128, first: u32, count: u32) -> Result<Vec<Look>, AllocError>
-    ensures { IfOk result (λ looks. looks.items ≡ Look.Octets at first count ∷ []) }
+/// Octets of the descriptor at TDH, and where that lies.
+fn tx_octets(alloc: Global, at: u128, first: u32, count: u32) -> Result<Vec<Look>, AllocError>
+    ensures { IfOk result (λ looks. looks.items ≡ Look.Octets at first count ∷ tx_place) }
 {
-    Vec::from_slice(alloc, &[Look::Octets { at, first, count }])
+    Vec::from_slice(
+        alloc,
+        &[
+            Look::Octets { at, first, count },
+            bits(Reg::Tdbal, BASE),
+            bits(Reg::Tdbah, EVERY_BIT),
+            bits(Reg::Tdh, LOW_HALF),
+        ],
+    )
 }

@@ -43,8 +43,8 @@ pub enum Refused {
         at: u128,
         memory: u64,
     },
-    /// What is to go of the first frame, which has so many octets, into the buffer of the descriptor at RDH leaves guest
-    /// memory.
+    /// What is to go of the first frame, which has so many octets, into the buffer of the descriptor at RDH leaves
+    /// guest memory.
     RxBuffer {
         index: u32,
         at: u128,

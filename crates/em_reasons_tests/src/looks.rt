@@ -79,10 +79,15 @@ fn refusals(alloc: Global) -> Result<(), Fail> {
             at: 0x1810,
         }
         .looked_at(alloc),
-        &[Look::Octets {
-            at: 0x1810,
-            first: 11,
-            count: 1,
-        }],
+        &[
+            Look::Octets {
+                at: 0x1810,
+                first: 11,
+                count: 1,
+            },
+            bits(Reg::Tdbal, 0xFFFF_FFF0),
+            bits(Reg::Tdbah, 0xFFFF_FFFF),
+            bits(Reg::Tdh, 0xFFFF),
+        ],
     )
 }
