@@ -145,7 +145,7 @@ drop_said s f r q d same is dropped =
     ∙ ap Some is
 
 -- the destination lies in the first six octets
-destination_to : (f : List ℕ) → destination (to_of f) ≡ destination f
+pub destination_to : (f : List ℕ) → destination (to_of f) ≡ destination f
 unfolding destination
 destination_to f = refl
 

@@ -11,3 +11,4 @@ pub mod RxIdleText
 pub mod TxIdleText
 pub mod DroppedText
 pub mod RefusedText
+pub mod SameLooks

@@ -13,7 +13,11 @@ ghost use Rattle.em_reasons.specs.declared.rx_idle.RxIdle.{RxIdle};
 ghost use Rattle.em_reasons.specs.declared.tx_idle.TxIdle.{TxIdle};
 ghost use Rattle.em_reasons.specs.Dropped.{IsDropped, reason_of, why};
 ghost use Rattle.em_reasons.specs.Refused as refused;
+ghost use Rattle.em_reasons.specs.Looks.{dropped_looks, rx_idle_looks, tx_idle_looks};
+ghost use Rattle.em_reasons.specs.RxIdle.{IsIdleReceiving, rx_idle};
+ghost use Rattle.em_reasons.specs.SameLooks.{SameLooks};
 ghost use Rattle.em_reasons.specs.Table.{GivesFirst};
+ghost use Rattle.em_reasons.specs.TxIdle.{IsIdleSending, tx_idle};
 
 /// Each table gives a reason exactly where the test beside it holds and none before it does.
 pub fn the_first_test_decides()
@@ -38,4 +42,19 @@ pub fn drops_are_explained()
 pub fn refusals_are_explained()
     ensures { (s : State) (e : Event) (r : Refusal) →
         (step s e ≡ Err r) ↔ (option_map refused.refusal_of (refused.why s e) ≡ Some r) }
+{}
+
+/// As long as what the test looked at stays as it is, a step stays idle, though maybe for an earlier reason.
+pub fn idle_steps_stay_idle()
+    ensures receives { (s t : State) (reason : RxIdle) → rx_idle s ≡ Some reason →
+        SameLooks s t (rx_idle_looks reason) → IsIdleReceiving t }
+    ensures transmits { (s t : State) (reason : TxIdle) → tx_idle s ≡ Some reason →
+        SameLooks s t (tx_idle_looks reason) → IsIdleSending t }
+{}
+
+/// As long as what the test looked at stays as it is, the frame is dropped whenever it arrives, though maybe for another
+/// reason.
+pub fn dropped_frames_stay_dropped()
+    ensures { (s t : State) (f : List ℕ) (dropped : Dropped) → why s f ≡ Some dropped →
+        SameLooks s t (dropped_looks dropped) → (again : Reason) × IsDropped t f again }
 {}
