@@ -1,0 +1,302 @@
+-- The table of drops beside the arrival of a frame.
+use Rattle.std.proofs.Common.{◌≡◌, ℕ, Bool, true, false, List, length, Option, Some, None, refl, sym, ap}
+use Rattle.std.proofs.Common.{◌∙◌, arith}
+use Rattle.std.specs.Prelude.{[], ◌∷◌, ◌+◌, ◌-◌, ◌%◌, ◌==◌, ◌&&◌, ◌≤◌, ◌↔◌, nat_le, nat_lt, not}
+use Rattle.std.specs.Prelude.{option_map, if◌then◌else◌}
+use Rattle.std.proofs.lemmas.Bool.Decides.{nat_tests}
+use Rattle.em_address.specs.declared.kind.Kind.{Kind}
+use Rattle.em_address.specs.declared.kind.Kind.TheVariants as kind
+use Rattle.em_address.specs.Kind.{destination, kind_of}
+use Rattle.em_filter.specs.declared.outcome.Verdict.{Verdict}
+use Rattle.em_filter.specs.declared.outcome.Verdict.TheVariants.{Reject, Accept}
+use Rattle.em_filter.specs.declared.outcome.Verdict.TheVariants.{Undersize as TooShort, Oversize as TooLong}
+use Rattle.em_filter.specs.Address.{accepts}
+use Rattle.em_filter.specs.Filters.{longest, verdict}
+use Rattle.em_filter.specs.Bits.{vet, vme}
+use Rattle.em_filter.specs.Vlan.{passes_vlan, tag_of, tagged, type_of}
+use Rattle.em_regs.specs.Storage.{Registers}
+use Rattle.em_rx.specs.Frame.{len_of, stored_frame}
+use Rattle.em_step.specs.Arrival.{after_accept, after_miss, arrival, is_enabled, judgement, kept_frame, lacks_room}
+use Rattle.em_step.specs.State.{State}
+use Rattle.em_step.proofs.ArrivalLaws.{stored_len}
+use Rattle.em_step.specs.declared.event.Answer.{Answer}
+use Rattle.em_step.specs.declared.event.Answer.TheVariants.{Stored, Dropped as Drops, Done, Value, Idle}
+use Rattle.em_step.specs.declared.event.Answer.TheVariants.{Wrote, Fetched, Sent}
+use Rattle.em_step.specs.declared.event.Reason.{Reason}
+use Rattle.em_step.specs.declared.event.Reason.TheVariants as reason
+use Rattle.em_reasons.specs.Table.{first_of}
+use Rattle.em_reasons.specs.declared.dropped.Dropped.{Dropped}
+use Rattle.em_reasons.specs.declared.dropped.Dropped.TheVariants.{Down, Disabled, Undersize, Oversize, Vlan, Missed}
+use Rattle.em_reasons.specs.Dropped.{IsDropped, reason_of, rejected, to_of, unfiltered, unfiltered_by, unlisted, why}
+
+-- the answer by the tests, one after another
+abbrev answer_by : Bool → Bool → Bool → Bool → Bool → Bool → Bool → Answer
+answer_by up on known short long passes full =
+    if not up then Drops reason.Down
+    else if not on then Drops reason.Disabled
+    else if not known then Drops reason.Rejected
+    else if short then Drops reason.Undersize
+    else if long then Drops reason.Oversize
+    else if not passes then Drops reason.Rejected
+    else if full then Drops reason.Missed
+    else Stored
+
+abbrev answer_in : Answer × State → Answer
+answer_in r = r.0
+
+by_room : (s : State) (f : List ℕ) (kind : Kind) (full : Bool) (x y : State)
+    → answer_in (if full then (Drops reason.Missed, x) else (Stored, y))
+    ≡ (if full then Drops reason.Missed else Stored)
+by_room s f kind true x y = refl
+by_room s f kind false x y = refl
+
+by_verdict : (s : State) (f : List ℕ) (known short long passes : Bool) (kind : Kind)
+    → answer_in (judgement s f (if not known then Reject
+    else if short then TooShort
+    else if long then TooLong
+    else if not passes then Reject
+    else Accept kind))
+    ≡ (if not known then Drops reason.Rejected
+    else if short then Drops reason.Undersize
+    else if long then Drops reason.Oversize
+    else if not passes then Drops reason.Rejected
+    else if lacks_room s f then Drops reason.Missed
+    else Stored)
+by_verdict s f false short long passes kind = refl
+by_verdict s f true true long passes kind = refl
+by_verdict s f true false true passes kind = refl
+by_verdict s f true false false false kind = refl
+by_verdict s f true false false true kind = by_room s f kind (lacks_room s f) _ _
+
+by_state : (up on : Bool) (s : State) (a : Answer × State)
+    → answer_in (if not up then (Drops reason.Down, s) else if not on then (Drops reason.Disabled, s) else a)
+    ≡ (if not up then Drops reason.Down else if not on then Drops reason.Disabled else a.0)
+by_state false on s a = refl
+by_state true false s a = refl
+by_state true true s a = refl
+
+-- the tests that the table has
+abbrev answer_of : State → List ℕ → Answer
+answer_of s f =
+    answer_by s.link (is_enabled s) (accepts s.registers (destination f)) (nat_lt (length f + 4) 64)
+    (nat_lt (longest s.registers) (length f + 4)) (passes_vlan s.registers f) (lacks_room s f)
+
+arrival_by : (s : State) (f : List ℕ) → (arrival s f).0 ≡ answer_of s f
+unfolding verdict
+arrival_by s f =
+    by_state s.link (is_enabled s) s _
+    ∙ ap (λ (a : Answer).
+    if not s.link then Drops reason.Down else if not (is_enabled s) then Drops reason.Disabled else a)
+    (by_verdict s f (accepts s.registers (destination f)) (nat_lt (length f + 4) 64)
+    (nat_lt (longest s.registers) (length f + 4)) (passes_vlan s.registers f) (kind_of (destination f)))
+
+-- ---- each reason, and the first test that holds
+-- the table by its tests
+abbrev table_by : Bool → Bool → Bool → Bool → Bool → Bool → Bool → Dropped → Dropped → Dropped → Dropped → Dropped
+    → List (Bool × Dropped)
+table_by up on known short long passes full address undersize oversize vlan missed =
+    (not up, Down) ∷ (not on, Disabled) ∷ (not known, address) ∷ (short, undersize) ∷ (long, oversize)
+    ∷ (not passes, vlan) ∷ (full, missed) ∷ []
+
+-- what it says of a drop
+abbrev said : Reason → Bool → Dropped → Dropped → Dropped → Dropped → Dropped → Dropped
+said reason.Down known address undersize oversize vlan missed = Down
+said reason.Disabled known address undersize oversize vlan missed = Disabled
+said reason.Rejected known address undersize oversize vlan missed = if known then vlan else address
+said reason.Undersize known address undersize oversize vlan missed = undersize
+said reason.Oversize known address undersize oversize vlan missed = oversize
+said reason.Missed known address undersize oversize vlan missed = missed
+
+first_said : (up on known short long passes full : Bool) (a u o v m : Dropped) (r : Reason)
+    → answer_by up on known short long passes full ≡ Drops r
+    → first_of (table_by up on known short long passes full a u o v m) ≡ Some (said r known a u o v m)
+first_said false on known short long passes full a u o v m r h =
+    let is : reason.Down ≡ r = cc in ap (λ (x : Reason). Some (said x known a u o v m)) is
+first_said true false known short long passes full a u o v m r h =
+    let is : reason.Disabled ≡ r = cc in ap (λ (x : Reason). Some (said x known a u o v m)) is
+first_said true true false short long passes full a u o v m r h =
+    let is : reason.Rejected ≡ r = cc in ap (λ (x : Reason). Some (said x false a u o v m)) is
+first_said true true true true long passes full a u o v m r h =
+    let is : reason.Undersize ≡ r = cc in ap (λ (x : Reason). Some (said x true a u o v m)) is
+first_said true true true false true passes full a u o v m r h =
+    let is : reason.Oversize ≡ r = cc in ap (λ (x : Reason). Some (said x true a u o v m)) is
+first_said true true true false false false full a u o v m r h =
+    let is : reason.Rejected ≡ r = cc in ap (λ (x : Reason). Some (said x true a u o v m)) is
+first_said true true true false false true true a u o v m r h =
+    let is : reason.Missed ≡ r = cc in ap (λ (x : Reason). Some (said x true a u o v m)) is
+first_said true true true false false true false a u o v m r h = cc
+
+-- ---- what the functions answer
+-- what is said of a drop of the frame for a reason
+abbrev said_of : State → List ℕ → Reason → Dropped
+said_of s f r =
+    said r (accepts s.registers (destination f)) (unfiltered s.registers (to_of f)) (Undersize (length f + 4))
+    (Oversize (length f + 4) (longest s.registers)) (unlisted f)
+    (Missed (len_of (kept_frame s f)) (length s.fifo.frames))
+
+pub drop_said : (s : State) (f : List ℕ) (r q : Reason) (d : Dropped) → r ≡ q → said_of s f q ≡ d → IsDropped s f r
+    → why s f ≡ Some d
+drop_said s f r q d same is dropped =
+    first_said s.link (is_enabled s) (accepts s.registers (destination f)) (nat_lt (length f + 4) 64)
+    (nat_lt (longest s.registers) (length f + 4)) (passes_vlan s.registers f) (lacks_room s f)
+    (unfiltered s.registers (to_of f)) (Undersize (length f + 4)) (Oversize (length f + 4) (longest s.registers))
+    (unlisted f) (Missed (len_of (kept_frame s f)) (length s.fifo.frames)) r (sym (arrival_by s f) ∙ dropped)
+    ∙ ap (λ (x : Reason). Some (said_of s f x)) same
+    ∙ ap Some is
+
+-- the destination lies in the first six octets
+pub destination_to : (f : List ℕ) → destination (to_of f) ≡ destination f
+unfolding destination
+destination_to f = refl
+
+known : (m : Registers) (f to : List ℕ) (b : Bool) → to ≡ to_of f → b ≡ accepts m (destination to)
+    → accepts m (destination f) ≡ b
+known m f to b at is = ap (accepts m) (sym (destination_to f) ∙ ap destination (sym at)) ∙ sym is
+
+pub by_vlan : (m : Registers) (f to : List ℕ) (b : Bool) (id : ℕ) → to ≡ to_of f → b ≡ accepts m (destination to)
+    → b ≡ true → id ≡ tag_of f % 4096 → Vlan id ≡ rejected m f
+by_vlan m f to b id at is accepted value =
+    ap Vlan value
+    ∙ sym (ap (λ (x : Bool). if x then unlisted f else unfiltered m (to_of f)) (known m f to b at is ∙ accepted))
+
+pub by_address : (m : Registers) (f to : List ℕ) (b : Bool) (d : Dropped) → to ≡ to_of f
+    → b ≡ accepts m (destination to) → b ≡ false → d ≡ unfiltered m to → d ≡ rejected m f
+by_address m f to b d at is refused value =
+    value ∙ ap (unfiltered m) at
+    ∙ sym (ap (λ (x : Bool). if x then unlisted f else unfiltered m (to_of f)) (known m f to b at is ∙ refused))
+
+-- a tagged frame is long enough for its tag
+second : (a b c : Bool) → (a && (b && c)) ≡ true → b ≡ true
+second true true c h = refl
+second true false c h = cc
+second false b c h = cc
+
+pub tagged_long : (m : Registers) (f : List ℕ) → tagged m f ≡ true → 16 ≤ length f
+unfolding tagged
+tagged_long m f h =
+    let long : nat_le 16 (length f) ≡ true = second (vme m) (nat_le 16 (length f)) (type_of f == vet m) h in
+    grind (arith, nat_tests)
+
+pub kept_len : (s : State) (f : List ℕ) (b : Bool) → b ≡ tagged s.registers f → b ≡ true
+    → length f - 4 ≡ len_of (kept_frame s f)
+kept_len s f b is so =
+    let tagged_so : tagged s.registers f ≡ true = sym is ∙ so in
+    sym (ap (λ (t : Bool). len_of (stored_frame f t)) tagged_so
+    ∙ stored_len f true (tagged_long s.registers f tagged_so))
+
+-- ---- what the laws say
+-- the reason of an answer that says so
+abbrev reason_in : Answer → Option Reason
+reason_in (Drops r) = Some r
+reason_in _ = None
+
+is_drop : (a : Answer) (r : Reason) → (a ≡ Drops r) ↔ (reason_in a ≡ Some r)
+is_drop Done r = (λ h. cc, λ h. cc)
+is_drop (Value v) r = (λ h. cc, λ h. cc)
+is_drop Stored r = (λ h. cc, λ h. cc)
+is_drop (Drops s) r = (λ h. cc, λ h. cc)
+is_drop Idle r = (λ h. cc, λ h. cc)
+is_drop (Wrote i) r = (λ h. cc, λ h. cc)
+is_drop (Fetched i) r = (λ h. cc, λ h. cc)
+is_drop (Sent i n) r = (λ h. cc, λ h. cc)
+
+reasons : (up on known short long passes full : Bool) (a u o v m : Dropped) → reason_of a ≡ reason.Rejected
+    → reason_of u ≡ reason.Undersize → reason_of o ≡ reason.Oversize → reason_of v ≡ reason.Rejected
+    → reason_of m ≡ reason.Missed
+    → option_map reason_of (first_of (table_by up on known short long passes full a u o v m))
+    ≡ reason_in (answer_by up on known short long passes full)
+reasons false on known short long passes full a u o v m ha hu ho hv hm = refl
+reasons true false known short long passes full a u o v m ha hu ho hv hm = refl
+reasons true true false short long passes full a u o v m ha hu ho hv hm = ap Some ha
+reasons true true true true long passes full a u o v m ha hu ho hv hm = ap Some hu
+reasons true true true false true passes full a u o v m ha hu ho hv hm = ap Some ho
+reasons true true true false false false full a u o v m ha hu ho hv hm = ap Some hv
+reasons true true true false false true true a u o v m ha hu ho hv hm = ap Some hm
+reasons true true true false false true false a u o v m ha hu ho hv hm = refl
+
+none_or_stored : (up on known short long passes full : Bool) (a u o v m : Dropped)
+    → (answer_by up on known short long passes full ≡ Stored)
+    ↔ (first_of (table_by up on known short long passes full a u o v m) ≡ None)
+none_or_stored false on known short long passes full a u o v m = (λ h. cc, λ h. cc)
+none_or_stored true false known short long passes full a u o v m = (λ h. cc, λ h. cc)
+none_or_stored true true false short long passes full a u o v m = (λ h. cc, λ h. cc)
+none_or_stored true true true true long passes full a u o v m = (λ h. cc, λ h. cc)
+none_or_stored true true true false true passes full a u o v m = (λ h. cc, λ h. cc)
+none_or_stored true true true false false false full a u o v m = (λ h. cc, λ h. cc)
+none_or_stored true true true false false true true a u o v m = (λ h. cc, λ h. cc)
+none_or_stored true true true false false true false a u o v m = (λ h. refl, λ h. refl)
+
+unfiltered_reason : (k : Kind) (m : Registers) (to : List ℕ) → reason_of (unfiltered_by k m to) ≡ reason.Rejected
+unfiltered_reason kind.Unicast m to = refl
+unfiltered_reason kind.Multicast m to = refl
+unfiltered_reason kind.Broadcast m to = refl
+
+reason_of_why : (s : State) (f : List ℕ) → option_map reason_of (why s f) ≡ reason_in (arrival s f).0
+reason_of_why s f =
+    reasons s.link (is_enabled s) (accepts s.registers (destination f)) (nat_lt (length f + 4) 64)
+    (nat_lt (longest s.registers) (length f + 4)) (passes_vlan s.registers f) (lacks_room s f) _ _ _ _ _
+    (unfiltered_reason (kind_of (destination (to_of f))) s.registers (to_of f)) refl refl refl refl
+    ∙ ap reason_in (sym (arrival_by s f))
+
+pub drops_with_reason : (s : State) (f : List ℕ) (r : Reason)
+    → IsDropped s f r ↔ (option_map reason_of (why s f) ≡ Some r)
+drops_with_reason s f r =
+    let both = is_drop (arrival s f).0 r in
+    (λ h. reason_of_why s f ∙ both.0 h, λ h. both.1 (sym (reason_of_why s f) ∙ h))
+
+pub stores_without_reason : (s : State) (f : List ℕ) → ((arrival s f).0 ≡ Stored) ↔ (why s f ≡ None)
+stores_without_reason s f =
+    let both = none_or_stored s.link (is_enabled s) (accepts s.registers (destination f)) (nat_lt (length f + 4) 64)
+    (nat_lt (longest s.registers) (length f + 4)) (passes_vlan s.registers f) (lacks_room s f)
+    (unfiltered s.registers (to_of f)) (Undersize (length f + 4)) (Oversize (length f + 4) (longest s.registers))
+    (unlisted f) (Missed (len_of (kept_frame s f)) (length s.fifo.frames)) in
+    (λ h. both.0 (sym (arrival_by s f) ∙ h), λ h. arrival_by s f ∙ both.1 h)
+
+-- the tests look at the same in both
+record LooksTheSame (s t : State) : Type 0 where
+  registers : t.registers ≡ s.registers
+  link : t.link ≡ s.link
+  fifo : t.fifo ≡ s.fifo
+
+abbrev state_in : Answer × State → State
+state_in r = r.1
+
+room_keeps : (s : State) (f : List ℕ) (kind : Kind) (r : Reason) (full : Bool)
+    → answer_in (if full then (Drops reason.Missed, after_miss s) else (Stored, after_accept s f kind)) ≡ Drops r
+    → LooksTheSame s (state_in (if full then (Drops reason.Missed, after_miss s) else (Stored, after_accept s f kind)))
+room_keeps s f kind r true h = record { registers = refl; link = refl; fifo = refl }
+room_keeps s f kind r false h = cc
+
+verdict_keeps : (s : State) (f : List ℕ) (v : Verdict) (r : Reason) → answer_in (judgement s f v) ≡ Drops r
+    → LooksTheSame s (state_in (judgement s f v))
+verdict_keeps s f Reject r h = record { registers = refl; link = refl; fifo = refl }
+verdict_keeps s f TooShort r h = record { registers = refl; link = refl; fifo = refl }
+verdict_keeps s f TooLong r h = record { registers = refl; link = refl; fifo = refl }
+verdict_keeps s f (Accept kind) r h = room_keeps s f kind r (lacks_room s f) h
+
+state_keeps : (up on : Bool) (s : State) (a : Answer × State) (r : Reason)
+    → (answer_in a ≡ Drops r → LooksTheSame s (state_in a))
+    → answer_in (if not up then (Drops reason.Down, s) else if not on then (Drops reason.Disabled, s) else a) ≡ Drops r
+    → LooksTheSame s
+    (state_in (if not up then (Drops reason.Down, s) else if not on then (Drops reason.Disabled, s) else a))
+state_keeps false on s a r keeps h = record { registers = refl; link = refl; fifo = refl }
+state_keeps true false s a r keeps h = record { registers = refl; link = refl; fifo = refl }
+state_keeps true true s a r keeps h = keeps h
+
+drop_keeps : (s : State) (f : List ℕ) (r : Reason) → IsDropped s f r → LooksTheSame s (arrival s f).1
+drop_keeps s f r = state_keeps s.link (is_enabled s) s _ r (verdict_keeps s f (verdict s.registers f) r)
+
+answer_same : (s t : State) (f : List ℕ) → LooksTheSame s t → answer_of t f ≡ answer_of s f
+answer_same s t f same = λ i.
+    answer_of (record s { registers = same.registers i; link = same.link i; fifo = same.fifo i }) f
+
+why_same : (s t : State) (f : List ℕ) → LooksTheSame s t → why t f ≡ why s f
+why_same s t f same = λ i.
+    why (record s { registers = same.registers i; link = same.link i; fifo = same.fifo i }) f
+
+pub drops_again : (s : State) (f : List ℕ) (r : Reason) → IsDropped s f r → IsDropped (arrival s f).1 f r
+drops_again s f r h =
+    arrival_by (arrival s f).1 f ∙ answer_same s (arrival s f).1 f (drop_keeps s f r h) ∙ sym (arrival_by s f) ∙ h
+
+pub same_why_after : (s : State) (f : List ℕ) (r : Reason) → IsDropped s f r → why (arrival s f).1 f ≡ why s f
+same_why_after s f r h = why_same s (arrival s f).1 f (drop_keeps s f r h)

@@ -1,0 +1,6 @@
+pub mod TableLemmas
+pub mod IdleLemmas
+pub mod DropLemmas
+pub mod RefusalLemmas
+pub mod StayLemmas
+pub mod LostLemmas

@@ -1,0 +1,55 @@
+-- Why a frame was dropped, in words.
+use Rattle.std.specs.Prelude.{ℕ, ◌==◌, if◌then◌else◌, List, [], ◌++◌, codes, decimal}
+use Rattle.em_reasons.specs.declared.dropped.Dropped.{Dropped}
+use Rattle.em_reasons.specs.declared.dropped.Dropped.TheVariants.{Down, Disabled, Unicast, Multicast, Broadcast}
+use Rattle.em_reasons.specs.declared.dropped.Dropped.TheVariants.{Undersize, Oversize, Vlan, Missed}
+use Rattle.em_reasons.specs.Bits.{bit_of, word_of}
+use Rattle.em_reasons.specs.Piece.{mac_text}
+
+-- no filter has a group's address
+abbrev pub group_text : List ℕ → ℕ → List ℕ
+group_text to hash =
+    mac_text to
+    ++ (codes " is in no filter (MTA["
+    ++ (decimal (word_of hash)
+    ++ (codes "] bit " ++ (decimal (bit_of hash) ++ codes " is clear, MPE is clear)"))))
+
+-- nor has any the broadcast address
+abbrev pub broadcast_text : ℕ → List ℕ
+broadcast_text hash =
+    codes "FF:FF:FF:FF:FF:FF is in no filter (MTA["
+    ++ (decimal (word_of hash)
+    ++ (codes "] bit " ++ (decimal (bit_of hash) ++ codes " is clear, MPE is clear, BAM is clear)")))
+
+-- the most octets that there may be are these with LPE clear
+abbrev pub most_text : ℕ → List ℕ
+most_text most = if most == 1522 then codes ", LPE is clear" else []
+
+abbrev pub long_text : ℕ → ℕ → List ℕ
+long_text octets most =
+    decimal octets ++ (codes " octets with the FCS are above " ++ (decimal most ++ most_text most))
+
+-- the VLAN of an identifier has no bit
+abbrev pub vlan_text : ℕ → List ℕ
+vlan_text identifier =
+    codes "VLAN "
+    ++ (decimal identifier
+    ++ (codes " is not in VFTA["
+    ++ (decimal (word_of identifier) ++ (codes "] (bit " ++ (decimal (bit_of identifier) ++ codes " is clear)")))))
+
+-- the FIFO is full
+abbrev pub missed_text : ℕ → ℕ → List ℕ
+missed_text octets frames =
+    codes "the FIFO has no room for "
+    ++ (decimal octets ++ (codes " octets more (frames that wait: " ++ (decimal frames ++ codes ")")))
+
+abbrev pub dropped_text : Dropped → List ℕ
+dropped_text Down = codes "the link is down"
+dropped_text Disabled = codes "RCTL.EN is clear"
+dropped_text (Unicast to) = mac_text to ++ codes " is in no filter (no valid RAL and RAH has it, UPE is clear)"
+dropped_text (Multicast to hash) = group_text to hash
+dropped_text (Broadcast hash) = broadcast_text hash
+dropped_text (Undersize octets) = decimal octets ++ codes " octets with the FCS are below 64"
+dropped_text (Oversize octets most) = long_text octets most
+dropped_text (Vlan identifier) = vlan_text identifier
+dropped_text (Missed octets frames) = missed_text octets frames

@@ -1,0 +1,14 @@
+pub mod Table
+pub mod RxIdle
+pub mod TxIdle
+pub mod Dropped
+pub mod Refused
+pub mod Bits
+pub mod Looks
+pub mod Piece
+pub mod RingText
+pub mod RxIdleText
+pub mod TxIdleText
+pub mod DroppedText
+pub mod RefusedText
+pub mod SameLooks

@@ -1,0 +1,123 @@
+-- Why an event was refused.
+use Rattle.std.specs.Prelude.{ℕ, ◌+◌, ◌*◌, ◌==◌, ◌&&◌, ◌||◌, nat_lt, is_none, Bool, List, [], ◌∷◌, length, Option, Some}
+use Rattle.std.specs.Prelude.{None, if◌then◌else◌}
+use Rattle.em_mem.specs.Memory.{part}
+use Rattle.em_regs.specs.declared.setup.RxSetup.{RxSetup}
+use Rattle.em_regs.specs.declared.setup.TxSetup.{TxSetup}
+use Rattle.em_regs.specs.Setup.{rx_setup, tx_setup}
+use Rattle.em_regs.specs.Table.{reg_at}
+use Rattle.em_rx.specs.Fifo.{Fifo, first}
+use Rattle.em_rx.specs.Receive as rx
+use Rattle.em_tx.specs.Descriptor.{address, dext, length_of}
+use Rattle.em_tx.specs.Ring as tx
+use Rattle.em_step.specs.Event.{Event, reads, writes, pokes, arrives, links, receives, transmits}
+use Rattle.em_step.specs.State.{State}
+use Rattle.em_step.specs.declared.refusal.Refusal.{Refusal}
+use Rattle.em_step.specs.declared.refusal.Refusal.TheVariants as refusal
+use Rattle.em_reasons.specs.declared.refused.Refused.{Refused}
+use Rattle.em_reasons.specs.declared.refused.Refused.TheVariants.{NoRegister, Range, WriteLength, FrameLength}
+use Rattle.em_reasons.specs.declared.refused.Refused.TheVariants.{RxDescriptor, RxBuffer, TxDescriptor, TxBuffer}
+use Rattle.em_reasons.specs.declared.refused.Refused.TheVariants.{Extended, TooLong, Memory}
+use Rattle.em_reasons.specs.Table.{first_of}
+
+-- of an access: no register lies at the offset
+abbrev pub access_table : ℕ → List (Bool × Refused)
+access_table o = (is_none (reg_at o), NoRegister o) ∷ []
+
+-- of a memory write: the octets leave memory, and then they are none or more than 16,384
+abbrev pub write_table : ℕ → ℕ → ℕ → List (Bool × Refused)
+write_table size a n =
+    (nat_lt size (a + n), Range a n size) ∷ (n == 0 || nat_lt 16_384 n, WriteLength n) ∷ []
+
+-- of a frame: it has fewer than 14 octets or more than 20,000
+abbrev pub frame_table : ℕ → List (Bool × Refused)
+frame_table n = (nat_lt n 14 || nat_lt 20_000 n, FrameLength n) ∷ []
+
+-- the descriptor at RDH, which lies there, and where its buffer lies
+abbrev pub rx_buffer : RxSetup → List ℕ → Fifo → Refused
+rx_buffer q memory fifo =
+    RxBuffer q.head (rx.descriptor_at q) (rx.buffer_at q memory) q.buffer (length (first fifo).octets) (length memory)
+
+-- of a receive step that is not idle: the descriptor leaves memory, and then what is to go into its buffer
+abbrev pub rx_table : RxSetup → List ℕ → Fifo → List (Bool × Refused)
+rx_table q memory fifo =
+    (nat_lt (length memory) (rx.descriptor_at q + 16), RxDescriptor q.head (rx.descriptor_at q) (length memory))
+    ∷ (nat_lt (length memory) (rx.buffer_at q memory + rx.count_of q fifo), rx_buffer q memory fifo)
+    ∷ []
+
+-- the octets of the descriptor at TDH
+abbrev pub tx_octets : TxSetup → List ℕ → List ℕ
+tx_octets q memory = part memory (tx.place q) 16
+
+-- that descriptor d, which lies there, and where its buffer lies
+abbrev pub tx_buffer : TxSetup → List ℕ → List ℕ → Refused
+tx_buffer q memory d = TxBuffer q.head (tx.place q) (address d) (length_of d) (length memory)
+
+-- of a transmit step that is not idle: the descriptor leaves memory; it has DEXT; its octets are, with those that are
+-- gathered, more than 16,380; and it has some, and they leave memory
+abbrev pub tx_table : TxSetup → List ℕ → List ℕ → List ℕ → List (Bool × Refused)
+tx_table q memory gathered d =
+    (nat_lt (length memory) (tx.place q + 16), TxDescriptor q.head (tx.place q) (length memory))
+    ∷ (dext d, Extended q.head (tx.place q))
+    ∷ (nat_lt 16380 (length gathered + length_of d), TooLong q.head (tx.place q) (length_of d))
+    ∷ (nat_lt 0 (length_of d) && nat_lt (length memory) (address d + length_of d), tx_buffer q memory d)
+    ∷ []
+
+-- an idle step is not refused
+abbrev pub unless_idle : Bool → List (Bool × Refused) → List (Bool × Refused)
+unless_idle idle table = if idle then [] else table
+
+-- the tests that refuse an event
+abbrev pub refusal_table : State → Event → List (Bool × Refused)
+refusal_table s (reads o) = access_table o
+refusal_table s (writes o v) = access_table o
+refusal_table s (pokes a octets) = write_table (length s.memory) a (length octets)
+refusal_table s (arrives f) = frame_table (length f)
+refusal_table s (links up) = []
+refusal_table s receives =
+    let q = rx_setup s.registers in unless_idle (rx.is_idle q s.fifo) (rx_table q s.memory s.fifo)
+refusal_table s transmits =
+    let q = tx_setup s.registers in
+    unless_idle (tx.is_idle q) (tx_table q s.memory s.gathered (tx_octets q s.memory))
+
+-- why an event is refused, if it is, and not for want of memory
+abbrev pub why : State → Event → Option Refused
+why s e = first_of (refusal_table s e)
+
+-- which of the adapter's refusals it is
+abbrev pub refusal_of : Refused → Refusal
+refusal_of (NoRegister o) = refusal.NoRegister
+refusal_of (Range a n size) = refusal.Range
+refusal_of (WriteLength n) = refusal.Length
+refusal_of (FrameLength n) = refusal.Length
+refusal_of (RxDescriptor i at size) = refusal.DmaRange
+refusal_of (TxDescriptor i at size) = refusal.DmaRange
+refusal_of (RxBuffer i at buffer room n size) = refusal.DmaRange
+refusal_of (TxBuffer i at buffer n size) = refusal.DmaRange
+refusal_of (Extended i at) = refusal.Extended
+refusal_of (TooLong i at n) = refusal.TooLong
+refusal_of Memory = refusal.Memory
+
+-- ---- by the refusal that was answered
+abbrev pub refused_write : ℕ → ℕ → ℕ → Refused
+refused_write size a n = if nat_lt size (a + n) then Range a n size else WriteLength n
+
+abbrev pub refused_receive : RxSetup → List ℕ → Fifo → Refused
+refused_receive q memory fifo =
+    if nat_lt (length memory) (rx.descriptor_at q + 16) then RxDescriptor q.head (rx.descriptor_at q) (length memory)
+    else rx_buffer q memory fifo
+
+abbrev pub refused_descriptor : Refusal → TxSetup → List ℕ → List ℕ → Refused
+refused_descriptor refusal.Extended q memory d = Extended q.head (tx.place q)
+refused_descriptor refusal.TooLong q memory d = TooLong q.head (tx.place q) (length_of d)
+refused_descriptor _ q memory d = tx_buffer q memory d
+
+abbrev pub refused_transmit : Refusal → TxSetup → List ℕ → Refused
+refused_transmit r q memory =
+    if nat_lt (length memory) (tx.place q + 16) then TxDescriptor q.head (tx.place q) (length memory)
+    else refused_descriptor r q memory (tx_octets q memory)
+
+-- the octets of the descriptor of an index in a ring; none where it leaves memory
+abbrev pub octets_at : ℕ → ℕ → List ℕ → Option (List ℕ)
+octets_at base i memory =
+    if nat_lt (length memory) (base + 16 * i + 16) then None else Some (part memory (base + 16 * i) 16)

@@ -1,0 +1,117 @@
+//! Why a frame was dropped.
+ghost use Rattle.std.specs.Prelude.{◌≡◌, Some};
+ghost use Rattle.em_rx.specs.Frame.{len_of};
+ghost use Rattle.em_step.specs.Arrival.{kept_frame};
+ghost use Rattle.em_reasons.specs.Dropped.{IsDropped, rejected, to_of, unfiltered, why};
+
+use crate::filters::{accepts, hash_of, identifier_of, longest, octet, tagged};
+use em_address::{Kind, kind_of};
+use em_journal::Machine;
+use em_step::Reason;
+
+/// The octets of the frame check sequence, which follow a frame on the wire.
+const CHECK_OCTETS: u64 = 4;
+
+/// The octets of a tag that is taken out of a frame.
+const TAG_OCTETS: u64 = 4;
+
+/// Why a frame was dropped. The tests are made in this order but that the VLAN filter's comes before the FIFO's, and
+/// the first that holds is the reason.
+#[derive(Clone, Copy, Debug, PartialEq, Eq)]
+pub enum Dropped {
+    /// The link is down.
+    Down,
+    /// RCTL.EN is clear.
+    Disabled,
+    /// No filter has its destination, which is a unicast address.
+    Unicast { to: [u8; 6] },
+    /// No filter has its destination, which is the address of a group with this hash.
+    Multicast { to: [u8; 6], hash: u16 },
+    /// No filter has its destination, which is the broadcast address, with this hash.
+    Broadcast { hash: u16 },
+    /// It has fewer than 64 octets, the frame check sequence among them.
+    Undersize { octets: u64 },
+    /// It has more octets than there may be by RCTL.LPE, the frame check sequence among them.
+    Oversize { octets: u64, most: u32 },
+    /// Its VLAN is not in the VFTA.
+    Vlan { identifier: u16 },
+    /// The FIFO, in which so many frames wait, has no room for so many octets.
+    Missed { octets: u64, frames: usize },
+}
+
+/// Why a machine dropped a frame and answered this reason. A frame that is dropped leaves what the tests look at.
+pub fn why_dropped(machine: &Machine, frame: &[u8], reason: Reason) -> Dropped
+    ensures { IsDropped machine.now.present frame.now reason → why machine.now.present frame.now ≡ Some result }
+{
+    let octets = frame.len() as u64 + CHECK_OCTETS;
+    match reason {
+        Reason::Down => Dropped::Down,
+        Reason::Disabled => Dropped::Disabled,
+        Reason::Rejected => rejected(machine, frame),
+        Reason::Undersize => Dropped::Undersize { octets },
+        Reason::Oversize => Dropped::Oversize {
+            octets,
+            most: longest(machine),
+        },
+        Reason::Missed => Dropped::Missed {
+            octets: stored_octets(machine, frame),
+            frames: machine.frames(),
+        },
+    }
+}
+
+/// Why the filters reject a frame that they reject.
+fn rejected(machine: &Machine, frame: &[u8]) -> Dropped
+    ensures { result ≡ rejected machine.now.present.registers frame.now }
+{
+    let to = destination(frame);
+    if accepts(machine, &to) {
+        Dropped::Vlan {
+            identifier: identifier_of(frame),
+        }
+    } else {
+        unfiltered(machine, to)
+    }
+}
+
+/// That no filter has a destination.
+fn unfiltered(machine: &Machine, to: [u8; 6]) -> Dropped
+    ensures { result ≡ unfiltered machine.now.present.registers to }
+{
+    match kind_of(&to) {
+        Kind::Unicast => Dropped::Unicast { to },
+        Kind::Multicast => Dropped::Multicast {
+            to,
+            hash: hash_of(machine, &to),
+        },
+        Kind::Broadcast => Dropped::Broadcast {
+            hash: hash_of(machine, &to),
+        },
+    }
+}
+
+/// The destination of a frame.
+fn destination(frame: &[u8]) -> [u8; 6]
+    ensures { result ≡ to_of frame.now }
+{
+    [
+        octet(frame, 0),
+        octet(frame, 1),
+        octet(frame, 2),
+        octet(frame, 3),
+        octet(frame, 4),
+        octet(frame, 5),
+    ]
+}
+
+/// How many octets a frame has as it is stored: a tagged one without its tag.
+fn stored_octets(machine: &Machine, frame: &[u8]) -> u64
+    ensures { result ≡ len_of (kept_frame machine.now.present frame.now) }
+{
+    let octets = frame.len() as u64;
+    if tagged(machine, frame) {
+        octets - TAG_OCTETS
+    } else {
+        octets
+    }
+}

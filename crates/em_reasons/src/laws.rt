@@ -1,0 +1,60 @@
+//! What the definitions of reasons and the adapter's steps say together.
+ghost use Rattle.std.specs.Prelude.{◌≡◌, ◌↔◌, ℕ, List, Some, None, Err, option_map};
+ghost use Rattle.em_step.specs.Arrival.{arrival};
+ghost use Rattle.em_step.specs.Event.{Event};
+ghost use Rattle.em_step.specs.State.{State};
+ghost use Rattle.em_step.specs.Step.{step};
+ghost use Rattle.em_step.specs.declared.event.Answer.{Answer};
+ghost use Rattle.em_step.specs.declared.event.Reason.{Reason};
+ghost use Rattle.em_step.specs.declared.refusal.Refusal.{Refusal};
+ghost use Rattle.em_reasons.specs.declared.dropped.Dropped.{Dropped};
+ghost use Rattle.em_reasons.specs.declared.refused.Refused.{Refused};
+ghost use Rattle.em_reasons.specs.declared.rx_idle.RxIdle.{RxIdle};
+ghost use Rattle.em_reasons.specs.declared.tx_idle.TxIdle.{TxIdle};
+ghost use Rattle.em_reasons.specs.Dropped.{IsDropped, reason_of, why};
+ghost use Rattle.em_reasons.specs.Refused as refused;
+ghost use Rattle.em_reasons.specs.Looks.{dropped_looks, rx_idle_looks, tx_idle_looks};
+ghost use Rattle.em_reasons.specs.RxIdle.{IsIdleReceiving, rx_idle};
+ghost use Rattle.em_reasons.specs.SameLooks.{SameLooks};
+ghost use Rattle.em_reasons.specs.Table.{GivesFirst};
+ghost use Rattle.em_reasons.specs.TxIdle.{IsIdleSending, tx_idle};
+
+/// Each table gives a reason exactly where the test beside it holds and none before it does.
+pub fn the_first_test_decides()
+    ensures rx_idle { GivesFirst RxIdle }
+    ensures tx_idle { GivesFirst TxIdle }
+    ensures dropped { GivesFirst Dropped }
+    ensures refused { GivesFirst Refused }
+{}
+
+/// A frame is dropped for a reason exactly where the first test of the table that holds says that reason, and stored
+/// exactly where none holds. A drop leaves what the tests look at: asked afterwards, they say the same.
+pub fn drops_are_explained()
+    ensures dropped { (s : State) (f : List ℕ) (r : Reason) →
+        IsDropped s f r ↔ (option_map reason_of (why s f) ≡ Some r) }
+    ensures stored { (s : State) (f : List ℕ) → ((arrival s f).0 ≡ Answer.Stored) ↔ (why s f ≡ None) }
+    ensures again { (s : State) (f : List ℕ) (r : Reason) → IsDropped s f r → IsDropped (arrival s f).1 f r }
+    ensures same { (s : State) (f : List ℕ) (r : Reason) → IsDropped s f r → why (arrival s f).1 f ≡ why s f }
+{}
+
+/// An event is refused by its own rules, and not for want of memory, exactly where the first test of its table that
+/// holds says that refusal.
+pub fn refusals_are_explained()
+    ensures { (s : State) (e : Event) (r : Refusal) →
+        (step s e ≡ Err r) ↔ (option_map refused.refusal_of (refused.why s e) ≡ Some r) }
+{}
+
+/// As long as what the test looked at stays as it is, a step stays idle, though maybe for an earlier reason.
+pub fn idle_steps_stay_idle()
+    ensures receives { (s t : State) (reason : RxIdle) → rx_idle s ≡ Some reason →
+        SameLooks s t (rx_idle_looks reason) → IsIdleReceiving t }
+    ensures transmits { (s t : State) (reason : TxIdle) → tx_idle s ≡ Some reason →
+        SameLooks s t (tx_idle_looks reason) → IsIdleSending t }
+{}
+
+/// As long as what the test looked at stays as it is, the frame is dropped whenever it arrives, though maybe for another
+/// reason.
+pub fn dropped_frames_stay_dropped()
+    ensures { (s t : State) (f : List ℕ) (dropped : Dropped) → why s f ≡ Some dropped →
+        SameLooks s t (dropped_looks dropped) → (again : Reason) × IsDropped t f again }
+{}

@@ -1,0 +1,29 @@
+//! Why an adapter does not do what is asked of it: why a step is idle, why a frame was dropped, and why an event was
+//! refused, each by the test that decided, with its numbers and the registers that it looked at.
+#![tactic(auto)]
+
+mod bits;
+mod dropped;
+mod dropped_text;
+mod filters;
+pub mod laws;
+mod look;
+mod piece;
+mod refused;
+mod refused_text;
+mod registers;
+mod ring_text;
+mod rx_idle;
+mod rx_idle_text;
+mod tx_idle;
+mod tx_idle_text;
+
+pub use dropped::{Dropped, why_dropped};
+pub use dropped_text::write_dropped;
+pub use look::Look;
+pub use refused::{Refused, why_refused};
+pub use refused_text::write_refused;
+pub use rx_idle::{RxIdle, why_rx_idle};
+pub use rx_idle_text::write_rx_idle;
+pub use tx_idle::{TxIdle, why_tx_idle};
+pub use tx_idle_text::write_tx_idle;

@@ -1,0 +1,218 @@
+//! Why an event was refused.
+ghost use Rattle.std.specs.Prelude.{◌≡◌, ◌+◌, ◌*◌, Err, Some, length};
+ghost use Rattle.em_regs.specs.Setup.{rx_setup, tx_setup};
+ghost use Rattle.em_rx.specs.Fifo.{first};
+ghost use Rattle.em_step.specs.Event.{plain};
+ghost use Rattle.em_step.specs.Step.{step};
+ghost use Rattle.em_reasons.specs.Refused.{octets_at, refused_descriptor, refused_receive, refused_transmit};
+ghost use Rattle.em_reasons.specs.Refused.{refused_write, why};
+
+use em_journal::Machine;
+use em_regs::TxSetup;
+use em_rx::RxDescriptor;
+use em_step::{Event, Refusal};
+use em_tx::TxDescriptor;
+
+/// How many octets a descriptor has.
+const DESCRIPTOR_OCTETS: usize = 16;
+
+/// Why an event was refused. The tests of an event are made in this order, and the first that holds is the reason.
+#[derive(Clone, Copy, Debug, PartialEq, Eq)]
+pub enum Refused {
+    /// No register lies at the offset.
+    NoRegister {
+        offset: u32,
+    },
+    /// So many octets from an address on leave guest memory, which has so many.
+    Range {
+        at: u64,
+        octets: u64,
+        memory: u64,
+    },
+    /// A memory write has no octet, or more than 16,384.
+    WriteLength {
+        octets: u64,
+    },
+    /// A frame has fewer than 14 octets, or more than 20,000.
+    FrameLength {
+        octets: u64,
+    },
+    /// The descriptor at RDH leaves guest memory.
+    RxDescriptor {
+        index: u32,
+        at: u128,
+        memory: u64,
+    },
+    /// What is to go of the first frame, which has so many octets, into the buffer of the descriptor at RDH leaves
+    /// guest memory.
+    RxBuffer {
+        index: u32,
+        at: u128,
+        buffer: u64,
+        size: u32,
+        frame: u64,
+        memory: u64,
+    },
+    /// The descriptor at TDH leaves guest memory.
+    TxDescriptor {
+        index: u32,
+        at: u128,
+        memory: u64,
+    },
+    /// The descriptor at TDH is extended (DEXT).
+    Extended {
+        index: u32,
+        at: u128,
+    },
+    /// The octets of the descriptor at TDH are, with those that are gathered, more than 16,380.
+    TooLong {
+        index: u32,
+        at: u128,
+        octets: u16,
+    },
+    /// The buffer of the descriptor at TDH leaves guest memory.
+    TxBuffer {
+        index: u32,
+        at: u128,
+        buffer: u64,
+        octets: u16,
+        memory: u64,
+    },
+    /// The host refused memory that the event takes.
+    Memory,
+}
+
+/// Why a machine refused an event with this refusal. A refused event changes nothing, so it is asked of the machine
+/// afterwards.
+pub fn why_refused(machine: &Machine, event: Event<'_>, refusal: Refusal) -> Refused
+    ensures memory { refusal ≡ Refusal.Memory → result ≡ Refused.Memory }
+    ensures first { step machine.now.present (plain event.entry) ≡ Err refusal
+        → why machine.now.present (plain event.entry) ≡ Some result }
+{
+    if matches!(refusal, Refusal::Memory) {
+        return Refused::Memory;
+    }
+    match event {
+        Event::Read(offset) => Refused::NoRegister { offset },
+        Event::Write(offset, _) => Refused::NoRegister { offset },
+        Event::Poke(at, octets) => refused_write(machine, at, octets.len() as u64),
+        Event::Arrive(frame) => Refused::FrameLength {
+            octets: frame.len() as u64,
+        },
+        // a change of the link is never refused
+        Event::Link(_) => Refused::Memory,
+        Event::RxStep => refused_receive(machine),
+        Event::TxStep => refused_transmit(machine, refusal),
+    }
+}
+
+/// Why a memory write was refused.
+fn refused_write(machine: &Machine, at: u64, octets: u64) -> Refused
+    ensures { result ≡ refused_write (length machine.now.present.memory) at octets }
+{
+    let memory = machine.memory_size();
+    if u128::from(memory) < u128::from(at) + u128::from(octets) {
+        Refused::Range { at, octets, memory }
+    } else {
+        Refused::WriteLength { octets }
+    }
+}
+
+/// Why a receive step was refused.
+fn refused_receive(machine: &Machine) -> Refused
+    ensures { result ≡ refused_receive (rx_setup machine.now.present.registers) machine.now.present.memory
+        machine.now.present.fifo }
+{
+    let ring = machine.ring_rx();
+    let index = ring.head;
+    let at = descriptor_at(ring.base, index);
+    let memory = machine.memory_size();
+    match octets_at(machine, ring.base, index) {
+        None => Refused::RxDescriptor { index, at, memory },
+        Some(octets) => Refused::RxBuffer {
+            index,
+            at,
+            buffer: RxDescriptor::read(&octets).address(),
+            size: ring.buffer,
+            frame: first_len(machine),
+            memory,
+        },
+    }
+}
+
+/// How many octets the first frame of the FIFO has; 0 where none waits.
+fn first_len(machine: &Machine) -> u64
+    ensures { result ≡ length (first machine.now.present.fifo).octets }
+{
+    match machine.first_frame() {
+        Some(frame) => (frame.front.len() + frame.back.len()) as u64,
+        None => 0,
+    }
+}
+
+/// Why a transmit step was refused so.
+fn refused_transmit(machine: &Machine, refusal: Refusal) -> Refused
+    ensures { result ≡ refused_transmit refusal (tx_setup machine.now.present.registers)
+        machine.now.present.memory }
+{
+    let ring = machine.ring_tx();
+    match octets_at(machine, ring.base, ring.head) {
+        None => Refused::TxDescriptor {
+            index: ring.head,
+            at: descriptor_at(ring.base, ring.head),
+            memory: machine.memory_size(),
+        },
+        Some(octets) => refused_descriptor(machine, refusal, &ring, octets),
+    }
+}
+
+/// Why the transmit descriptor of these octets was refused so.
+fn refused_descriptor(
+    machine: &Machine,
+    refusal: Refusal,
+    ring: &TxSetup,
+    octets: [u8; DESCRIPTOR_OCTETS],
+) -> Refused
+    ensures { result ≡ refused_descriptor refusal ring.now machine.now.present.memory octets }
+{
+    let descriptor = TxDescriptor::of_octets(octets);
+    let index = ring.head;
+    let at = descriptor_at(ring.base, index);
+    let length = descriptor.length();
+    match refusal {
+        Refusal::Extended => Refused::Extended { index, at },
+        Refusal::TooLong => Refused::TooLong {
+            index,
+            at,
+            octets: length,
+        },
+        _ => Refused::TxBuffer {
+            index,
+            at,
+            buffer: descriptor.address(),
+            octets: length,
+            memory: machine.memory_size(),
+        },
+    }
+}
+
+/// Where the descriptor of an index lies in a ring.
+fn descriptor_at(base: u64, index: u32) -> u128
+    ensures { result ≡ base + 16 * index }
+{
+    u128::from(base) + 16 * u128::from(index)
+}
+
+/// The octets of the descriptor of an index in a ring; none where it leaves guest memory.
+fn octets_at(machine: &Machine, base: u64, index: u32) -> Option<[u8; DESCRIPTOR_OCTETS]>
+    ensures { result ≡ octets_at base index machine.now.present.memory }
+{
+    // memory is smaller than 2^64 octets, so that a sum past that leaves it
+    let _size = machine.memory_size();
+    let address = base.checked_add(16 * u64::from(index))?;
+    let mut octets = [0u8; DESCRIPTOR_OCTETS];
+    match machine.peek(address, &mut octets) {
+        Ok(()) => Some(octets),
+        Err(_) => None,
+    }
+}
