@@ -11,7 +11,7 @@ use Rattle.em_text.specs.Writer.{Writes}
 use Rattle.em_text.proofs.WritingLemmas.{Appends-more, Appends-same}
 use Rattle.em_debugger.specs.declared.debugger.Debugger.{Debugger}
 use Rattle.em_debugger.specs.declared.performing.Performed.{Performed}
-use Rattle.em_debugger.specs.Performing.{Performs, performed_text}
+use Rattle.em_debugger.specs.Performing.{Performs, ShowsPerformed}
 use Rattle.em_debugger.specs.Next.{Shown, Shows, EndsBy, TellsNext, shown_text}
 
 -- so many lines were performed and shown
@@ -26,18 +26,18 @@ ShowsSo-none d old = record { shown = []; long = refl; leads = refl; written = A
 
 -- one line more
 pub ShowsSo-more : (first now next : Debugger) (old new later : Option (List ℕ)) (count : ℕ) (p : Performed)
-    → ShowsSo first now old new count → Performs now next p → Appends new later (performed_text next p)
-    → ShowsSo first next old later (count + 1)
-ShowsSo-more first now next old new later count p h performs written =
-    let one : Shown = record { performed = p; text = performed_text next p } in
+    (text : List ℕ) → ShowsSo first now old new count → Performs now next p → ShowsPerformed next p text
+    → Appends new later text → ShowsSo first next old later (count + 1)
+ShowsSo-more first now next old new later count p text h performs shows written =
+    let one : Shown = record { performed = p; text = text } in
     record {
       shown = h.shown ++ one ∷ [];
       long = length_push h.shown one ∙ ap (λ n. n + 1) h.long;
       leads = Leads-append Shows h.shown (one ∷ []) first now next h.leads
-          (next, record { performs = performs; text = refl }, refl);
-      written = Appends-more old new later (shown_text h.shown) (performed_text next p) _ h.written written
+          (next, record { performs = performs; text = shows }, refl);
+      written = Appends-more old new later (shown_text h.shown) text _ h.written written
           (flat_map-append (λ (s : Shown). s.text) h.shown (one ∷ [])
-          ∙ ap (λ l. shown_text h.shown ++ l) (append-nil (performed_text next p)));
+          ∙ ap (λ l. shown_text h.shown ++ l) (append-nil text));
     }
 
 -- what came then

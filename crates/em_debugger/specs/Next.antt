@@ -5,7 +5,7 @@ use Rattle.em_console.specs.Turns.{Leads}
 use Rattle.em_script.specs.declared.runner.BenchFault.{BenchFault}
 use Rattle.em_debugger.specs.declared.debugger.Debugger.{Debugger}
 use Rattle.em_debugger.specs.declared.performing.Performed.{Performed}
-use Rattle.em_debugger.specs.Performing.{Performs, IsLast, performed_text, no_line_text, fault_text}
+use Rattle.em_debugger.specs.Performing.{Performs, IsLast, ShowsPerformed, no_line_text, fault_text}
 
 -- a line that was performed, and what was shown of it
 pub record Shown : Type 0 where
@@ -15,7 +15,7 @@ pub record Shown : Type 0 where
 -- the line behind the place was performed, and shown with its answer
 pub record Shows (old : Debugger) (shown : Shown) (new : Debugger) : Type 0 where
   pub performs : Performs old new shown.performed
-  pub text : shown.text ≡ performed_text new shown.performed
+  pub text : ShowsPerformed new shown.performed shown.text
 
 -- the text of each, one behind the other
 abbrev pub shown_text : List Shown → List ℕ

@@ -8,6 +8,7 @@ use Rattle.em_tape.specs.Ends.{end_of}
 use Rattle.em_tape.specs.Tape.{Tape, event_of}
 use Rattle.em_tape.specs.Moves.{Plays, IsCut}
 use Rattle.em_prompt.specs.BenchLine.{BenchLine, text_of as text_of_line}
+use Rattle.em_explain.specs.Explain.{Explains}
 use Rattle.em_looks.specs.Numbers.{number_text, count_text, short_text}
 use Rattle.em_debugger.specs.declared.debugger.Debugger.{Debugger}
 use Rattle.em_debugger.specs.declared.performing.Performed.{Performed}
@@ -37,11 +38,11 @@ IsLast d = length d.tape.lines ≤ line_here d.tape
 
 -- ---- texts
 
--- a line that was performed, and its answer
-abbrev pub performed_text : Debugger → Performed → List ℕ
-performed_text d performed =
+-- a line that was performed, with its number
+abbrev pub heading_text : Debugger → Performed → List ℕ
+heading_text d performed =
     number_text (codes "line ") performed.line (codes ": ")
-    ++ (short_text (text_of performed.line d.tape) ++ (codes "\n" ++ d.answer.items))
+    ++ (short_text (text_of performed.line d.tape) ++ codes "\n")
 
 -- no line lies ahead, behind so many that did
 abbrev pub no_line_text : ℕ → List ℕ
@@ -80,9 +81,19 @@ pub record AddsLine (old new : Debugger) (line : List ℕ) (dropped : ℕ) : Typ
   pub tape : new.tape ≡ record between.tape { lines = between.tape.lines ++ line ∷ [] }
   pub rest : KeepsRest between new
 
--- a line that lay ahead is answered as em_bench answers it; or it is said why it was not performed, and the lines stay
+-- a line that was performed is answered as em_bench answers it, and where its event did nothing, with the reason
+abbrev pub AnswersPerformed : Debugger → Performed → List ℕ → Type 0
+AnswersPerformed d p text = Explains d.tape.session.machine.present (text_of p.line d.tape) d.answer.items text
+
+-- the line, and then its answer
+pub record ShowsPerformed (d : Debugger) (p : Performed) (text : List ℕ) : Type 0 where
+  pub answer : List ℕ
+  pub answers : AnswersPerformed d p answer
+  pub told : text ≡ heading_text d p ++ answer
+
+-- a line that lay ahead is answered so; or it is said why it was not performed, and the lines stay
 pub data AnswersNext (old new : Debugger) (text : List ℕ) : Type 0 where
-  performed : (p : Performed) → Performs old new p → text ≡ new.answer.items → AnswersNext old new text
+  performed : (p : Performed) → Performs old new p → AnswersPerformed new p text → AnswersNext old new text
   stopped : (fault : BenchFault) → text ≡ fault_text fault → new.tape.lines ≡ old.tape.lines → AnswersNext old new text
 
 -- what was dropped is said, and then the line is answered

@@ -17,7 +17,7 @@ use Rattle.em_debugger.specs.declared.stops.Stop.TheVariants as stop
 use Rattle.em_debugger.specs.declared.stops.Ran.{Ran}
 use Rattle.em_debugger.specs.declared.stops.Ran.TheVariants as ran
 use Rattle.em_debugger.specs.Place.{line_here, text_of}
-use Rattle.em_debugger.specs.Performing.{Performs, IsLast, performed_text, fault_text}
+use Rattle.em_debugger.specs.Performing.{Performs, IsLast, ShowsPerformed, fault_text}
 use Rattle.em_debugger.specs.Who.{TellsNewest}
 
 -- the run ends before the line of this number
@@ -103,7 +103,7 @@ RanSo s first new n (ran.Fault fault) = RanShort s first new n
 -- what is said where a line ended the run: who changed it, or the line and its answer
 abbrev pub TellsStopped : Stop → Debugger → Debugger → Performed → List ℕ → Type 0
 TellsStopped (stop.Changes watch) old new performed text = TellsNewest old new watch (event_of old.tape) text
-TellsStopped _ old new performed text = (text ≡ performed_text old performed) × (new ≡ old)
+TellsStopped _ old new performed text = ShowsPerformed old performed text × (new ≡ old)
 
 -- what is said of how a run ended
 abbrev pub TellsRan : Stop → Debugger → Debugger → Ran → List ℕ → Type 0

@@ -5,13 +5,15 @@ ghost use Rattle.em_text.specs.Writer.{Writes};
 ghost use Rattle.em_prompt.specs.BenchLine.{plain as plain_line};
 ghost use Rattle.em_debugger.specs.Place.{line_here};
 ghost use Rattle.em_debugger.specs.Performing.{Performs, IsLast, Cuts, AddsLine, AnswersNext, AnswersTyped};
-ghost use Rattle.em_debugger.specs.Performing.{AnswersNew, AnswersAdded, looks_back};
-ghost use Rattle.em_debugger.specs.Performing.{is_among_lines, performed_text, dropped_text, dropped_lines_text};
+ghost use Rattle.em_debugger.specs.Performing.{AnswersNew, AnswersAdded, AnswersPerformed, ShowsPerformed};
+ghost use Rattle.em_debugger.specs.Performing.{heading_text, looks_back};
+ghost use Rattle.em_debugger.specs.Performing.{is_among_lines, dropped_text, dropped_lines_text};
 ghost use Rattle.em_debugger.specs.Performing.{fault_text};
 
 use crate::bench_looks::{answer_look, is_look};
 use crate::debugger::Debugger;
 use crate::place::{line_here, text_of};
+use em_explain::write_explained;
 use em_looks::{write_count, write_number, write_short};
 use em_prompt::BenchLine;
 use em_script::{BenchFault, Outcome};
@@ -110,10 +112,24 @@ impl Debugger {
             × AnswersNext self.old self.new said) }
     {
         match self.perform_next() {
-            Ok(Some(_)) => write_whole(writer, self.answer.as_slice()),
+            Ok(Some(performed)) => self.write_explained(writer, performed),
             Ok(None) => unreachable!(),
             Err(fault) => write_fault(writer, fault),
         }
+    }
+
+    /// Writes the answer of a line that was performed, and why it did nothing, if it did.
+    fn write_explained<W: Write>(
+        &self,
+        writer: &mut W,
+        performed: Performed,
+    ) -> Result<(), WriteFailed>
+        ensures ok { OnOk result ((said : List ℕ) × Appends (W.contents writer.old) (W.contents writer.new) said
+            × AnswersPerformed self.now performed said) }
+    {
+        let machine = self.tape.machine();
+        let line = text_of(&self.tape, performed.line);
+        write_explained(self.alloc, writer, machine, line, self.answer.as_slice())
     }
 
     /// Performs the line behind the place, and keeps its answer; none where no line lies ahead.
@@ -148,13 +164,25 @@ impl Debugger {
         writer: &mut W,
         performed: Performed,
     ) -> Result<(), WriteFailed>
+        ensures ok { OnOk result ((said : List ℕ) × Appends (W.contents writer.old) (W.contents writer.new) said
+            × ShowsPerformed self.now performed said) }
+    {
+        self.write_heading(writer, performed)?;
+        self.write_explained(writer, performed)
+    }
+
+    /// Writes a line and its number.
+    fn write_heading<W: Write>(
+        &self,
+        writer: &mut W,
+        performed: Performed,
+    ) -> Result<(), WriteFailed>
         ensures writes { Writes (W.contents writer.old) (W.contents writer.new) result
-            (performed_text self.now performed) }
+            (heading_text self.now performed) }
     {
         write_number(writer, b"line ", performed.line as u64, b": ")?;
         write_short(writer, text_of(&self.tape, performed.line))?;
-        write_whole(writer, b"\n")?;
-        write_whole(writer, self.answer.as_slice())
+        write_whole(writer, b"\n")
     }
 }
 

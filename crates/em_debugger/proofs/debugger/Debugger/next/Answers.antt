@@ -10,9 +10,10 @@ loop-index-init g c = ShowsSo-none c.args.self.now (g.W.Write.contents c.args.wr
 
 pub loop-index-preserved : goal.loop-index-preserved
 loop-index-preserved g c =
+    let wrote = c.in_ok-write_performed-in-Ok-Some.ensures.ok in
     ShowsSo-more c.args.self.now c.loop-index.self c.perform_next.new.self _ _ _ c.loop-index.index
-    c.in-Ok-Some.performed c.loop-index.invariant
-    (rw c.in-Ok-Some.field-0-is at c.in-Ok-Some.ensures.some) c.in_ok-write_performed-in-Ok-Some.ensures.writes
+    c.in-Ok-Some.performed wrote.0 c.loop-index.invariant (rw c.in-Ok-Some.field-0-is at c.in-Ok-Some.ensures.some)
+    wrote.2 wrote.1
 
 pub returns-in-Ok-None : goal.returns-in-Ok-None
 returns-in-Ok-None g c =

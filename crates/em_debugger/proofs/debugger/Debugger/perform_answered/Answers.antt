@@ -1,14 +1,17 @@
 use Rattle.std.proofs.Common.{refl}
-use Rattle.em_debugger.specs.Performing.{AnswersNext, fault_text, performed, stopped}
-use Rattle.em_debugger.proofs.TextLaws.{OnOk-written}
+use Rattle.em_debugger.specs.Performing.{AnswersNext, AnswersPerformed, fault_text, performed, stopped}
+use Rattle.em_debugger.proofs.TextLaws.{OnOk-told, OnOk-written}
 use Rattle.em_debugger.proofs.debugger.Debugger.perform_answered.Goals as goal
 
 pub returns-in-Ok-Some : goal.returns-in-Ok-Some
-returns-in-Ok-Some g c = record {
-  ok = OnOk-written _ _ _ c.perform_next.new.self.answer.items
-      (AnswersNext c.args.self.now c.perform_next.new.self) (rw c.as_slice.ensures.value at c.write_whole.ensures.writes)
-      (performed c.in-Ok-Some.field-0-0 (rw c.in-Ok-Some.field-0-is at c.in-Ok-Some.ensures.some) refl);
-}
+returns-in-Ok-Some g c =
+    let old = c.args.self.now in
+    let new = c.perform_next.new.self in
+    let p = c.in-Ok-Some.performed in
+    record {
+      ok = OnOk-told _ _ c.write_explained.result (AnswersPerformed new p) (AnswersNext old new)
+          (λ t h. performed p (rw c.in-Ok-Some.field-0-is at c.in-Ok-Some.ensures.some) h) c.write_explained.ensures.ok;
+    }
 
 pub returns-in-Err : goal.returns-in-Err
 returns-in-Err g c = record {

@@ -1,0 +1,3 @@
+pub mod EventLine
+pub mod Explain
+pub mod Undone
