@@ -32,12 +32,12 @@ fn off(rt: HostRuntime) -> Result<(), Fail> {
 
 fn is_off(t: &mut Tested) -> Result<(), Fail> {
     let frame = to(&MAC);
-    t.drops(&frame[..60], b"the link is down")?;
+    t.drops(&frame, 60, b"the link is down")?;
     t.does(Event::Link(true))?;
-    t.drops(&frame[..60], b"RCTL.EN is clear")?;
+    t.drops(&frame, 60, b"RCTL.EN is clear")?;
     t.does(Event::Link(false))?;
     t.writes(Reg::Rctl, EN)?;
-    t.drops(&frame[..60], b"the link is down")
+    t.drops(&frame, 60, b"the link is down")
 }
 
 #[test]
@@ -50,50 +50,70 @@ fn in_no_filter(t: &mut Tested) -> Result<(), Fail> {
     t.writes(Reg::Rctl, EN)?;
     let other = to(&[0x02, 0, 0, 0, 0, 0x07]);
     t.drops(
-        &other[..60],
+        &other,
+        60,
         b"02:00:00:00:00:07 is in no filter (no valid RAL and RAH has it, UPE is clear)",
     )?;
     // it is in no filter before it is too short
     t.drops(
-        &other[..14],
+        &other,
+        14,
         b"02:00:00:00:00:07 is in no filter (no valid RAL and RAH has it, UPE is clear)",
     )?;
     // the first entry without AV
     t.writes(Reg::Rah(0), 0x0000_5634)?;
     t.drops(
-        &to(&MAC)[..60],
+        &to(&MAC),
+        60,
         b"52:54:00:12:34:56 is in no filter (no valid RAL and RAH has it, UPE is clear)",
     )?;
+    Ok(())
+}
+
+#[test]
+fn groups(rt: HostRuntime) -> Result<(), Fail> {
+    on_a_machine(rt.alloc(), in_no_table)
+}
+
+fn in_no_table(t: &mut Tested) -> Result<(), Fail> {
+    t.does(Event::Link(true))?;
+    t.writes(Reg::Rctl, EN)?;
     // octets 5 and 4 are 01 and 00: bits 47:36 are 010h, word 0 and bit 16
     let group = to(&[0x01, 0x00, 0x5E, 0, 0, 0x01]);
     t.drops(
-        &group[..60],
+        &group,
+        60,
         b"01:00:5E:00:00:01 is in no filter (MTA[0] bit 16 is clear, MPE is clear)",
     )?;
     // FB 00: FB0h, word 125 and bit 16
     t.drops(
-        &to(&[0x01, 0x00, 0x5E, 0, 0, 0xFB])[..60],
+        &to(&[0x01, 0x00, 0x5E, 0, 0, 0xFB]),
+        60,
         b"01:00:5E:00:00:FB is in no filter (MTA[125] bit 16 is clear, MPE is clear)",
     )?;
     t.drops(
-        &to(&[0xFF; 6])[..60],
+        &to(&[0xFF; 6]),
+        60,
         b"FF:FF:FF:FF:FF:FF is in no filter (MTA[127] bit 31 is clear, MPE is clear, BAM is clear)",
     )?;
     // MO 3: bits 43:32 are 100h, word 8 and bit 0
     t.writes(Reg::Rctl, EN | 0x0000_3000)?;
     t.drops(
-        &group[..60],
+        &group,
+        60,
         b"01:00:5E:00:00:01 is in no filter (MTA[8] bit 0 is clear, MPE is clear)",
     )?;
     // MO 1: bits 46:35 are 020h, word 1 and bit 0; MO 2: bits 45:34 are 040h, word 2 and bit 0
     t.writes(Reg::Rctl, EN | 0x0000_1000)?;
     t.drops(
-        &group[..60],
+        &group,
+        60,
         b"01:00:5E:00:00:01 is in no filter (MTA[1] bit 0 is clear, MPE is clear)",
     )?;
     t.writes(Reg::Rctl, EN | 0x0000_2000)?;
     t.drops(
-        &group[..60],
+        &group,
+        60,
         b"01:00:5E:00:00:01 is in no filter (MTA[2] bit 0 is clear, MPE is clear)",
     )
 }
@@ -107,17 +127,15 @@ fn of_no_size(t: &mut Tested) -> Result<(), Fail> {
     t.does(Event::Link(true))?;
     t.writes(Reg::Rctl, UPE)?;
     let frame = to(&[0x02, 0, 0, 0, 0, 0x07]);
-    t.drops(&frame[..59], b"63 octets with the FCS are below 64")?;
+    t.drops(&frame, 59, b"63 octets with the FCS are below 64")?;
     t.drops(
-        &frame[..1519],
+        &frame,
+        1519,
         b"1523 octets with the FCS are above 1522, LPE is clear",
     )?;
     t.writes(Reg::Rctl, UPE | 0x0000_0020)?;
-    t.does(Event::Arrive(&frame[..1519]))?;
-    t.drops(
-        &frame[..16_381],
-        b"16385 octets with the FCS are above 16384",
-    )
+    t.arrives(&frame, 1519)?;
+    t.drops(&frame, 16_381, b"16385 octets with the FCS are above 16384")
 }
 
 #[test]
@@ -131,20 +149,24 @@ fn of_no_vlan(t: &mut Tested) -> Result<(), Fail> {
     t.sets(&[(Reg::Vet, 0x8100), (Reg::Rctl, EN | 0x0004_0000)])?;
     // priority 1, VLAN 7; and VLAN 100: word 3 and bit 4
     t.drops(
-        &tagged(&MAC, 0x20, 0x07)[..60],
+        &tagged(&MAC, 0x20, 0x07),
+        60,
         b"VLAN 7 is not in VFTA[0] (bit 7 is clear)",
     )?;
     t.drops(
-        &tagged(&MAC, 0x00, 0x64)[..60],
+        &tagged(&MAC, 0x00, 0x64),
+        60,
         b"VLAN 100 is not in VFTA[3] (bit 4 is clear)",
     )?;
     t.drops(
-        &tagged(&MAC, 0xEF, 0xFF)[..60],
+        &tagged(&MAC, 0xEF, 0xFF),
+        60,
         b"VLAN 4095 is not in VFTA[127] (bit 31 is clear)",
     )?;
     // the address comes first
     t.drops(
-        &tagged(&[0x02, 0, 0, 0, 0, 0x07], 0x20, 0x07)[..60],
+        &tagged(&[0x02, 0, 0, 0, 0, 0x07], 0x20, 0x07),
+        60,
         b"02:00:00:00:00:07 is in no filter (no valid RAL and RAH has it, UPE is clear)",
     )
 }
@@ -160,16 +182,18 @@ fn without_room(t: &mut Tested) -> Result<(), Fail> {
     let frame = tagged(&MAC, 0x20, 0x07);
     // 32 times 1,514 octets are 48,448 of 49,152
     for _ in 0..32 {
-        t.does(Event::Arrive(&frame[..1514]))?;
+        t.arrives(&frame, 1514)?;
     }
     t.drops(
-        &frame[..1514],
+        &frame,
+        1514,
         b"the FIFO has no room for 1514 octets more (frames that wait: 32)",
     )?;
     // with VME it is stored without its tag
     t.writes(Reg::Ctrl, 0x4000_0000)?;
     t.drops(
-        &frame[..1514],
+        &frame,
+        1514,
         b"the FIFO has no room for 1510 octets more (frames that wait: 32)",
     )
 }

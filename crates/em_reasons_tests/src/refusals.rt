@@ -31,10 +31,7 @@ fn without_reason_in_memory(t: &mut Tested) -> Result<(), Fail> {
         b"1 octets at FFFFFFFFFFFFFFFF, memory ends at 002000",
     )?;
     t.refuses(Event::Poke(0x1000, &[]), b"0 octets are not 1 to 16384")?;
-    t.refuses(
-        Event::Arrive(&frame()[..13]),
-        b"13 octets are not 14 to 20000",
-    )?;
+    t.refuses(Event::Arrive(&[0; 13]), b"13 octets are not 14 to 20000")?;
     t.refuses(
         Event::Arrive(&[0; 20_001]),
         b"20001 octets are not 14 to 20000",

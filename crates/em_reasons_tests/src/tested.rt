@@ -71,6 +71,11 @@ impl Tested {
         Ok(reason)
     }
 
+    /// So many octets of a frame arrive.
+    pub fn arrives(&mut self, frame: &[u8], len: usize) -> Result<(), Fail> {
+        self.does(Event::Arrive(front(frame, len)?))
+    }
+
     /// Why a frame is dropped that arrives now.
     pub fn dropped(&mut self, frame: &[u8]) -> Result<Dropped, Fail> {
         match self.machine.perform(Event::Arrive(frame))? {
@@ -116,10 +121,10 @@ impl Tested {
         same(text.as_slice(), wanted)
     }
 
-    /// A frame is dropped, and this says why.
-    pub fn drops(&mut self, frame: &[u8], wanted: &[u8]) -> Result<(), Fail> {
+    /// A frame of so many octets is dropped, and this says why.
+    pub fn drops(&mut self, frame: &[u8], len: usize, wanted: &[u8]) -> Result<(), Fail> {
         let mut text = Vec::new(self.alloc);
-        let reason = self.dropped(frame)?;
+        let reason = self.dropped(front(frame, len)?)?;
         write_dropped(&mut text, reason)?;
         same(text.as_slice(), wanted)
     }
@@ -135,6 +140,14 @@ impl Tested {
         let mut text = Vec::new(self.alloc);
         write_refused(&mut text, reason)?;
         same(text.as_slice(), wanted)
+    }
+}
+
+/// The first octets of a frame.
+fn front(frame: &[u8], len: usize) -> Result<&[u8], Fail> {
+    match frame.get(..len) {
+        Some(front) => Ok(front),
+        None => Err(Fail::from("the frame is shorter")),
     }
 }
 
