@@ -289,8 +289,8 @@ pub receive_inside : (p q : RxSetup) (memory octets : List ℕ) (fifo : Fifo) (p
     → buffer ≡ (descriptor_of octets).address → n ≡ length (first fifo).octets → size ≡ length memory
     → RxBuffer p.head place buffer p.buffer n size ≡ refused_receive q memory fifo
 receive_inside p q memory octets fifo place buffer n size same some at address frame count =
-    let found = inside (nat_lt (length memory) (rx.descriptor_at p + 16)) (part memory (rx.descriptor_at p) 16) octets some
-    in
+    let there = part memory (rx.descriptor_at p) 16 in
+    let found = inside (nat_lt (length memory) (rx.descriptor_at p + 16)) there octets some in
     ap (λ (k : ℕ). RxBuffer p.head k buffer p.buffer n size) at
     ∙ ap (λ (k : ℕ). RxBuffer p.head (rx.descriptor_at p) k p.buffer n size)
     (address ∙ ap (λ (l : List ℕ). (descriptor_of l).address) found.1)

@@ -32,8 +32,8 @@ tx_idle_looks (tx_idle.TailPast tail count) = Bits Tdt 0xFFFF ∷ Bits Tdlen 0x0
 tx_idle_looks (tx_idle.Empty at) = Bits Tdh 0xFFFF ∷ Bits Tdt 0xFFFF ∷ []
 
 -- of a frame: LU is bit 1 of STATUS; of RCTL, UPE is bit 3, MPE 4, LPE 5, MO 13:12, BAM 15, VFE 18; the bit of a hash
--- in the multicast table, and of an identifier in the VLAN filter table; VME, bit 30 of CTRL, and VET say how many octets
--- are stored
+-- in the multicast table, and of an identifier in the VLAN filter table; VME, bit 30 of CTRL, and VET say how many
+-- octets are stored
 abbrev pub dropped_looks : Dropped → List Look
 dropped_looks dropped.Down = Bits Status (2 ^ 1) ∷ []
 dropped_looks dropped.Disabled = Bits Rctl (2 ^ 1) ∷ []

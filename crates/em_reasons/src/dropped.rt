@@ -15,8 +15,7 @@ const CHECK_OCTETS: u64 = 4;
 /// The octets of a tag that is taken out of a frame.
 const TAG_OCTETS: u64 = 4;
 
-/// Why a frame was dropped. The tests are made in this order but that the VLAN filter's comes before the FIFO's, and
-/// the first that holds is the reason.
+/// Why a frame was dropped. The tests are made in this order, and the first that holds is the reason.
 #[derive(Clone, Copy, Debug, PartialEq, Eq)]
 pub enum Dropped {
     /// The link is down.

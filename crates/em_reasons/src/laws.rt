@@ -52,8 +52,8 @@ pub fn idle_steps_stay_idle()
         SameLooks s t (tx_idle_looks reason) → IsIdleSending t }
 {}
 
-/// As long as what the test looked at stays as it is, the frame is dropped whenever it arrives, though maybe for another
-/// reason.
+/// As long as what the test looked at stays as it is, the frame is dropped whenever it arrives, though maybe for
+/// another reason.
 pub fn dropped_frames_stay_dropped()
     ensures { (s t : State) (f : List ℕ) (dropped : Dropped) → why s f ≡ Some dropped →
         SameLooks s t (dropped_looks dropped) → (again : Reason) × IsDropped t f again }
