@@ -10,9 +10,9 @@
        em_write(&m, 0x00D0, 4);
        em_free(&m);
 
-   WHAT EACH CALL GIVES. EM_OK, which is 0, or the number of the reason why it did nothing (enum em_refusal). A call that
-   was refused has changed nothing: neither the machine, nor what a pointer points to. (em_wire_frame alone also tells
-   how much room a frame needs.) What a call tells goes through its last pointers.
+   WHAT EACH CALL GIVES. EM_OK, which is 0, or the number of the reason why it did nothing (enum em_refusal). A call
+   that was refused has changed nothing: neither the machine, nor what a pointer points to. (em_wire_frame alone also
+   tells how much room a frame needs.) What a call tells goes through its last pointers.
 
    WHAT MUST HOLD. The proofs of the library rest on this, and nothing checks it:
 

@@ -1,1 +1,2 @@
 pub mod BoxForm
+pub mod TrailBack

@@ -47,10 +47,10 @@ impl Tagged {
         ensures back { self.new ≡ after_backs n self.old }
     {
         let count = n.min(self.traced.len());
-        for _ in 0..count {
+        for done in 0..count {
             match self.traced.back() {
                 Ok(_) => {}
-                Err(Empty) => unreachable!(),
+                Err(Empty) => return done,
             }
         }
         count
