@@ -52,6 +52,8 @@ impl EmMachine {
     }
 
     /// Performs an event on the machine that is held.
+    // Inlined, so that what a call does is known by its event, and nothing is asked twice.
+    #[inline(always)]
     pub fn perform(&mut self, alloc: Global, event: Event<'_>) -> Result<Answer, Refused>
         ensures { Performs self.old.sealed.held (plain event.entry) result self.new.sealed.held }
     {
