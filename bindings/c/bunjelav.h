@@ -10,9 +10,10 @@
        em_write(&m, 0x00D0, 4);
        em_free(&m);
 
-   WHAT EACH CALL GIVES. EM_OK, which is 0, or the number of the reason why it did nothing (enum em_refusal). A call
-   that was refused has changed nothing: neither the machine, nor what a pointer points to. (em_wire_frame alone also
-   tells how much room a frame needs.) What a call tells goes through its last pointers.
+   WHAT EACH CALL GIVES. EM_OK, which is 0, or the number of the reason why it did nothing (enum em_code). A call
+   that was refused has changed nothing: neither the machine, nor what a pointer points to. Only the calls that fill
+   room also tell how much they need, and em_run_rx and em_run_tx tell how many steps went well before the one that was
+   refused. What a call tells goes through its last pointers.
 
    WHAT MUST HOLD. The proofs of the library rest on this, and nothing checks it:
 
@@ -53,7 +54,7 @@ typedef struct em_machine {
   { false, NULL }
 
 /* Why a call did nothing. The numbers stay as they are. */
-typedef enum em_refusal {
+typedef enum em_code {
   EM_OK = 0,           /* nothing refused it */
   EM_NO_REGISTER = 1,  /* no register lies at the offset */
   EM_RANGE = 2,        /* the octets leave guest memory */
@@ -67,8 +68,13 @@ typedef enum em_refusal {
   EM_MADE_ALREADY = 27, /* the handle holds a machine already */
   EM_SIZE = 28,        /* a guest memory that is no multiple of 4,096 from 4,096 to 16,777,216 octets */
   EM_NO_FRAME = 29,    /* so many frames were not sent */
-  EM_ROOM = 30         /* what is told has more octets than there is room for */
-} em_refusal;
+  EM_ROOM = 30,        /* what is told has more octets than there is room for */
+  EM_NO_EVENT = 31,    /* the journal does not hold so many events */
+  EM_NO_CHANGE = 32,   /* no event of the journal changed what is watched */
+  EM_NO_WATCH = 33,    /* there is no such kind of watch */
+  EM_NO_NAME = 34,     /* no register has the name */
+  EM_NO_REFUSAL = 35   /* no refusal has the number */
+} em_code;
 
 /* What an event was, and what came of it. The numbers stay as they are. */
 typedef enum em_kind {
@@ -92,7 +98,7 @@ typedef enum em_kind {
 } em_kind;
 
 /* An event that was performed. */
-typedef struct em_event {
+typedef struct em_note {
   uint64_t tag;    /* what the caller called it by */
   uint64_t at;     /* of an access the register's offset, of a memory write its address; else 0 */
   uint32_t length; /* octets: of an access 4, of a memory write those written, of a frame that arrived or was sent the
@@ -100,7 +106,7 @@ typedef struct em_event {
   uint32_t value;  /* of a read the value that it gave, of a write the value written, of a step of an engine that was
                       not idle the descriptor's index; else 0 */
   uint32_t kind;   /* an em_kind */
-} em_event;
+} em_note;
 
 /* Room in which each frame that a machine sends fits: 16,380 gathered octets and a tag. */
 #define EM_MOST_SENT 16384
@@ -139,6 +145,10 @@ uint32_t em_poke(em_machine *machine, uint64_t address, const uint8_t *octets, s
 /* Copies octets out; any number of them. It is no event. */
 uint32_t em_peek(em_machine *machine, uint64_t address, uint8_t *out, size_t length);
 
+/* Makes `ram` what guest memory is, after events and after steps back. Refused as EM_LENGTH where `size` is not the size
+   of guest memory. The cost is that of copying it. */
+uint32_t em_sync_out(em_machine *machine, uint8_t *ram, size_t size);
+
 /* How many octets guest memory has. Constant. */
 uint32_t em_memory_size(em_machine *machine, uint64_t *size);
 
@@ -146,16 +156,21 @@ uint32_t em_memory_size(em_machine *machine, uint64_t *size);
 
 /* A frame of 14 to 20,000 octets arrives, without its FCS; the event tells what became of it: EM_STORED, or why it was
    dropped. */
-uint32_t em_arrive(em_machine *machine, const uint8_t *frame, size_t length, em_event *event);
+uint32_t em_arrive(em_machine *machine, const uint8_t *frame, size_t length, em_note *event);
 
 /* The link goes up, or down. Constant. */
 uint32_t em_set_link(em_machine *machine, bool up);
 
 /* The receive engine handles one descriptor: EM_RX_IDLE, or EM_WROTE with the descriptor's index. */
-uint32_t em_rx_step(em_machine *machine, em_event *event);
+uint32_t em_rx_step(em_machine *machine, em_note *event);
 
 /* The transmit engine handles one descriptor: EM_TX_IDLE, or EM_FETCHED or EM_SENT with the descriptor's index. */
-uint32_t em_tx_step(em_machine *machine, em_event *event);
+uint32_t em_tx_step(em_machine *machine, em_note *event);
+
+/* An engine steps until a step is idle or refused, and at most n times that are neither; `done` tells how many those
+   were. An idle step is an event too. The cost is that of the steps. */
+uint32_t em_run_rx(em_machine *machine, size_t n, size_t *done);
+uint32_t em_run_tx(em_machine *machine, size_t n, size_t *done);
 
 /* The interrupt line: 1 where it is asserted, else 0. Constant. */
 uint32_t em_line(em_machine *machine, uint32_t *level);
@@ -175,6 +190,55 @@ uint32_t em_back(em_machine *machine, size_t n, size_t *done);
 
 /* How many events can be taken back. Constant. */
 uint32_t em_can_go_back(em_machine *machine, size_t *count);
+
+/* ---- what happened, and who did it */
+
+/* The tag of the events from now on: a line's number, a program counter. It begins as 0. Constant. */
+uint32_t em_tag(em_machine *machine, uint64_t tag);
+
+/* What an event of the journal was: the newest at k = 0, as many as em_can_go_back tells. Constant. */
+uint32_t em_event(em_machine *machine, size_t k, em_note *event);
+
+/* What is watched. */
+typedef struct em_watch {
+  uint32_t kind;    /* an em_watched */
+  uint32_t offset;  /* of a register */
+  uint64_t address; /* of octets, where they begin */
+  size_t octets;    /* and how many: 1 to 16 */
+} em_watch;
+
+typedef enum em_watched {
+  EM_WATCH_REGISTER = 1, /* a register, as em_look shows it */
+  EM_WATCH_OCTETS = 2,   /* octets of guest memory */
+  EM_WATCH_LINE = 3,     /* the interrupt line */
+  EM_WATCH_LINK = 4,     /* the link */
+  EM_WATCH_FRAMES = 5,   /* how many frames lie in the FIFO */
+  EM_WATCH_SENT = 6 /* how many frames were sent */
+} em_watched;
+
+/* A change of what is watched. */
+typedef struct em_change {
+  size_t back;        /* so many steps back lead before the event that made it: em_event tells of it at back - 1 */
+  uint64_t value;     /* what was seen before it, but for octets; of the line and the link 1 or 0 */
+  uint8_t before[16]; /* the octets that were seen before it, and zeros behind them */
+} em_change;
+
+/* The newest change of what is watched, with nothing taken back; refused as EM_NO_CHANGE where the journal has none.
+   The cost is that of a look into each record back to there. */
+uint32_t em_last_change(em_machine *machine, const em_watch *watch, em_change *change);
+
+/* ---- names; no machine is needed */
+
+/* The manual's name of the register at an offset, without a zero behind it: MTA[5], RAL0. None has more than 9 letters.
+   Where `room` is too small it is refused as EM_ROOM, and `length` tells how much is needed. Constant. */
+uint32_t em_name(uint32_t offset, uint8_t *out, size_t room, size_t *length);
+
+/* The offset of the register that has this name, in either case of its letters. The cost is some hundred comparisons. */
+uint32_t em_find(const uint8_t *name, size_t length, uint32_t *offset);
+
+/* The name of a refusal, and a sentence: "Range: the octets leave guest memory". None has more than 80 octets. Where
+   `room` is too small it is refused as EM_ROOM, and `length` tells how much is needed. Constant. */
+uint32_t em_refusal(uint32_t refusal, uint8_t *out, size_t room, size_t *length);
 
 #ifdef __cplusplus
 }

@@ -42,7 +42,7 @@ static uint32_t bar_read(void *opaque, uint64_t offset) {
 
 /* Lets both engines work until they have nothing to do, or refuse what they were given. */
 static void run_engines(nic *n) {
-  em_event event;
+  em_note event;
   while (em_rx_step(&n->machine, &event) == EM_OK && event.kind != EM_RX_IDLE)
     printf("  descriptor %u is written\n", (unsigned)event.value);
   while (em_tx_step(&n->machine, &event) == EM_OK && event.kind != EM_TX_IDLE)
@@ -59,7 +59,7 @@ static void bar_write(void *opaque, uint64_t offset, uint32_t value) {
 
 /* The network has a frame. */
 static void deliver(nic *n, const uint8_t *frame, size_t length) {
-  em_event event;
+  em_note event;
   uint32_t refusal = em_arrive(&n->machine, frame, length, &event);
   if (refusal == EM_LENGTH) return; /* no Ethernet frame has such a length */
   must(refusal, "a frame");

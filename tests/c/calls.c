@@ -124,7 +124,11 @@ static void refuses_an_empty_handle(void) {
   uint64_t size = 7;
   size_t count = 7;
   uint8_t octets[14] = {7};
-  em_event event = {7, 7, 7, 7, 7};
+  em_note event = {7, 7, 7, 7, 7};
+  em_watch watch = {EM_WATCH_LINE, 0, 0, 0};
+  em_change change;
+  memset(&change, 0, sizeof change);
+  change.back = change.value = change.before[15] = 7;
   REFUSED(em_read(&machine, STATUS, &value), EM_NOT_MADE);
   REFUSED(em_write(&machine, IMS, 4), EM_NOT_MADE);
   REFUSED(em_look(&machine, STATUS, &value), EM_NOT_MADE);
@@ -140,6 +144,13 @@ static void refuses_an_empty_handle(void) {
   REFUSED(em_wire_frame(&machine, 0, octets, 14, &count), EM_NOT_MADE);
   REFUSED(em_back(&machine, 1, &count), EM_NOT_MADE);
   REFUSED(em_can_go_back(&machine, &count), EM_NOT_MADE);
+  REFUSED(em_run_rx(&machine, 1, &count), EM_NOT_MADE);
+  REFUSED(em_run_tx(&machine, 1, &count), EM_NOT_MADE);
+  REFUSED(em_sync_out(&machine, octets, 14), EM_NOT_MADE);
+  REFUSED(em_tag(&machine, 1), EM_NOT_MADE);
+  REFUSED(em_event(&machine, 0, &event), EM_NOT_MADE);
+  REFUSED(em_last_change(&machine, &watch, &change), EM_NOT_MADE);
+  CHECK(change.back == 7 && change.value == 7 && change.before[15] == 7);
   CHECK(value == 7 && size == 7 && count == 7 && octets[0] == 7);
   CHECK(event.tag == 7 && event.at == 7 && event.length == 7 && event.value == 7 && event.kind == 7);
 }
@@ -191,6 +202,23 @@ static void reads_and_writes_memory(void) {
   em_free(&machine);
 }
 
+static void syncs(void) {
+  em_machine machine = made();
+  static uint8_t ram[MEMORY + 1];
+  size_t done;
+  memset(ram, 9, sizeof ram);
+  REFUSED(em_sync_out(&machine, ram, MEMORY - 1), EM_LENGTH);
+  REFUSED(em_sync_out(&machine, ram, MEMORY + 1), EM_LENGTH);
+  CHECK(ram[0] == 9);
+  OK(em_poke(&machine, 4094, (const uint8_t *)"hello", 5));
+  OK(em_sync_out(&machine, ram, MEMORY));
+  CHECK(memcmp(ram + 4093, "\0hello", 7) == 0 && ram[MEMORY - 1] == 0 && ram[MEMORY] == 9);
+  OK(em_back(&machine, 1, &done));
+  OK(em_sync_out(&machine, ram, MEMORY));
+  CHECK(ram[4094] == 0 && ram[4098] == 0);
+  em_free(&machine);
+}
+
 /* a frame to ff:ff:ff:ff:ff:ff, of octets that count up */
 static void fill(uint8_t *frame, size_t length) {
   for (size_t i = 0; i < length; i++) frame[i] = i < 6 ? 0xFF : (uint8_t)i;
@@ -208,7 +236,7 @@ static void set_receiving(em_machine *machine) {
 static void receives(void) {
   em_machine machine = made();
   uint8_t frame[20001], out[60], status[8];
-  em_event event = {7, 7, 7, 7, 7};
+  em_note event = {7, 7, 7, 7, 7};
   fill(frame, sizeof frame);
   REFUSED(em_arrive(&machine, frame, 13, &event), EM_LENGTH);
   REFUSED(em_arrive(&machine, frame, 20001, &event), EM_LENGTH);
@@ -253,7 +281,7 @@ static void sends(void) {
   em_machine machine = made();
   uint8_t frame[64], out[64];
   size_t count = 7, length = 7;
-  em_event event;
+  em_note event;
   fill(frame, sizeof frame);
   OK(em_write(&machine, TDBAL, TX_RING));
   OK(em_write(&machine, TDLEN, 16 * DESCRIPTORS));
@@ -313,12 +341,124 @@ static void goes_back(void) {
   em_free(&machine);
 }
 
+/* steps until an engine has nothing to do, or is refused */
+static void runs_the_engines(void) {
+  em_machine machine = made();
+  uint8_t frame[60];
+  size_t done = 7;
+  em_note event;
+  fill(frame, sizeof frame);
+  set_receiving(&machine);
+  for (int i = 0; i < 3; i++) OK(em_arrive(&machine, frame, 60, &event));
+  OK(em_run_rx(&machine, 2, &done));
+  CHECK(done == 2 && read_of(&machine, RDH) == 2);
+  OK(em_run_rx(&machine, 2, &done));
+  CHECK(done == 1 && read_of(&machine, RDH) == 3);
+  OK(em_run_rx(&machine, 0, &done));
+  CHECK(done == 0);
+  OK(em_write(&machine, TDBAL, TX_RING));
+  OK(em_write(&machine, TDLEN, 16 * DESCRIPTORS));
+  OK(em_write(&machine, TCTL, TCTL_EN));
+  put_descriptor(&machine, TX_RING, BUFFER, 60, EOP);
+  put_descriptor(&machine, TX_RING + 16, BUFFER, 60, EOP | DEXT);
+  OK(em_write(&machine, TDT, 2));
+  REFUSED(em_run_tx(&machine, 9, &done), EM_EXTENDED);
+  CHECK(done == 1 && read_of(&machine, TDH) == 1);
+  OK(em_write(&machine, TDT, 1));
+  OK(em_run_tx(&machine, 9, &done));
+  CHECK(done == 0);
+  em_free(&machine);
+}
+
+/* which event did what, and under which tag */
+static void tells_who_did_it(void) {
+  em_machine machine = made();
+  em_note event = {7, 7, 7, 7, 7};
+  em_watch watch = {EM_WATCH_REGISTER, RDT, 0, 0};
+  em_change change;
+  memset(&change, 7, sizeof change);
+  REFUSED(em_event(&machine, 0, &event), EM_NO_EVENT);
+  REFUSED(em_last_change(&machine, &watch, &change), EM_NO_CHANGE);
+  CHECK(event.kind == 7 && change.before[0] == 7);
+  OK(em_tag(&machine, 0x123456789ABCDEF0));
+  OK(em_write(&machine, RDT, 5));
+  OK(em_tag(&machine, 42));
+  OK(em_poke(&machine, 0x1234, (const uint8_t *)"abc", 3));
+  CHECK(read_of(&machine, RDT) == 5);
+  OK(em_set_link(&machine, true));
+  OK(em_event(&machine, 0, &event));
+  CHECK(event.kind == EM_LINK_UP && event.tag == 42 && event.at == 0 && event.length == 0 && event.value == 0);
+  OK(em_event(&machine, 1, &event));
+  CHECK(event.kind == EM_READ && event.at == RDT && event.length == 4 && event.value == 5);
+  OK(em_event(&machine, 2, &event));
+  CHECK(event.kind == EM_POKE && event.at == 0x1234 && event.length == 3 && event.value == 0);
+  OK(em_event(&machine, 3, &event));
+  CHECK(event.kind == EM_WRITE && event.at == RDT && event.value == 5 && event.tag == 0x123456789ABCDEF0);
+  REFUSED(em_event(&machine, 4, &event), EM_NO_EVENT);
+  OK(em_last_change(&machine, &watch, &change));
+  CHECK(change.back == 4 && change.value == 0);
+  watch.kind = EM_WATCH_OCTETS, watch.address = 0x1236, watch.octets = 2;
+  OK(em_last_change(&machine, &watch, &change));
+  CHECK(change.back == 3 && change.value == 0 && change.before[0] == 0 && change.before[15] == 0);
+  watch.kind = EM_WATCH_LINK;
+  OK(em_last_change(&machine, &watch, &change));
+  CHECK(change.back == 1 && change.value == 0);
+  watch.kind = EM_WATCH_LINE;
+  REFUSED(em_last_change(&machine, &watch, &change), EM_NO_CHANGE);
+  watch.kind = EM_WATCH_FRAMES;
+  REFUSED(em_last_change(&machine, &watch, &change), EM_NO_CHANGE);
+  watch.kind = EM_WATCH_SENT;
+  REFUSED(em_last_change(&machine, &watch, &change), EM_NO_CHANGE);
+  watch.kind = 7;
+  REFUSED(em_last_change(&machine, &watch, &change), EM_NO_WATCH);
+  watch.kind = EM_WATCH_REGISTER, watch.offset = 4;
+  REFUSED(em_last_change(&machine, &watch, &change), EM_NO_REGISTER);
+  watch.kind = EM_WATCH_OCTETS, watch.octets = 17;
+  REFUSED(em_last_change(&machine, &watch, &change), EM_LENGTH);
+  watch.octets = 0;
+  REFUSED(em_last_change(&machine, &watch, &change), EM_LENGTH);
+  em_free(&machine);
+}
+
+static bool has_text(const uint8_t *room, size_t length, const char *text) {
+  return length == strlen(text) && memcmp(room, text, length) == 0;
+}
+
+static void names_registers_and_refusals(void) {
+  uint8_t room[80];
+  size_t length = 7;
+  uint32_t offset = 7;
+  OK(em_name(ICR, room, sizeof room, &length));
+  CHECK(has_text(room, length, "ICR"));
+  OK(em_name(0x5200 + 4 * 127, room, 8, &length));
+  CHECK(has_text(room, length, "MTA[127]"));
+  room[0] = 9;
+  REFUSED(em_name(0x5200 + 4 * 127, room, 7, &length), EM_ROOM);
+  CHECK(length == 8 && room[0] == 9);
+  REFUSED(em_name(4, room, 8, &length), EM_NO_REGISTER);
+  OK(em_find((const uint8_t *)"rah15", 5, &offset));
+  CHECK(offset == 0x547C);
+  REFUSED(em_find((const uint8_t *)"RAH16", 5, &offset), EM_NO_NAME);
+  REFUSED(em_find((const uint8_t *)"", 0, &offset), EM_NO_NAME);
+  CHECK(offset == 0x547C);
+  OK(em_refusal(EM_RANGE, room, sizeof room, &length));
+  CHECK(has_text(room, length, "Range: the octets leave guest memory"));
+  REFUSED(em_refusal(EM_RANGE, room, 5, &length), EM_ROOM);
+  CHECK(length == 36);
+  REFUSED(em_refusal(EM_OK, room, sizeof room, &length), EM_NO_REFUSAL);
+  REFUSED(em_refusal(7, room, sizeof room, &length), EM_NO_REFUSAL);
+  for (uint32_t code = 0, known = 0; code < 1000; code++) {
+    known += em_refusal(code, room, sizeof room, &length) == EM_OK;
+    if (code == 999) CHECK(known == 18); /* as many as enum em_code has, without EM_OK */
+  }
+}
+
 /* each request for memory is refused in turn; a call that was refused has changed nothing, and leaves nothing behind */
 static void is_refused_memory(void) {
   em_machine machine = EM_NO_MACHINE;
   uint32_t code = EM_MEMORY;
   uint8_t frame[60], out[1];
-  em_event event = {7, 7, 7, 7, 7};
+  em_note event = {7, 7, 7, 7, 7};
   long granted;
   CHECK(blocks == 0);
   for (granted = 0; granted < 100 && code == EM_MEMORY; granted++) {
@@ -362,9 +502,13 @@ int main(void) {
   refuses_an_empty_handle();
   reads_and_writes_registers();
   reads_and_writes_memory();
+  syncs();
   receives();
   sends();
   goes_back();
+  runs_the_engines();
+  tells_who_did_it();
+  names_registers_and_refusals();
   is_refused_memory();
   has_many_machines();
   printf("%u passed, %u failed\n", passed, failed);

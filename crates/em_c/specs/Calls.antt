@@ -6,11 +6,11 @@ use Rattle.em_step.specs.declared.event.Answer.{Answer}
 use Rattle.em_step.specs.declared.refusal.Refusal.{Refusal}
 use Rattle.em_trail.specs.Note.{value_of}
 use Rattle.em_trail.specs.declared.note.Note.{Note}
-use Rattle.em_c.specs.declared.event.EmEvent.{EmEvent}
+use Rattle.em_c.specs.declared.note.EmNote.{EmNote}
 use Rattle.em_c.specs.declared.refused.Refused.{Refused}
 use Rattle.em_c.specs.declared.refused.Refused.TheVariants.{NoMachine}
 use Rattle.em_c.specs.declared.tagged.Tagged.{Tagged}
-use Rattle.em_c.specs.Event.{event_of}
+use Rattle.em_c.specs.Note.{told_note}
 use Rattle.em_c.specs.Refused.{number, of_event, Shows}
 use Rattle.em_c.specs.Tagged as one
 use Rattle.em_c.specs.Tagged.{after_backs, present_of}
@@ -40,17 +40,17 @@ Reads held offset old code new after =
     × Shows (value_read outcome) old code new
 
 -- an event that is performed is told as its note tells it
-abbrev pub Tells : Option Tagged → Event → Result EmEvent Refused → Option Tagged → Type 0
+abbrev pub Tells : Option Tagged → Event → Result EmNote Refused → Option Tagged → Type 0
 Tells None event outcome after = (outcome ≡ Err NoMachine) × (after ≡ None)
 Tells (Some t) event (Ok told) after =
-    (u : Tagged) × (note : Note) × one.IsNoteOf t event u note × (told ≡ event_of note) × (after ≡ Some u)
+    (u : Tagged) × (note : Note) × one.IsNoteOf t event u note × (told ≡ told_note note) × (after ≡ Some u)
 Tells (Some t) event (Err refused) after =
     (refusal : Refusal) × Refuses (present_of t) event refusal × (refused ≡ of_event refusal) × (after ≡ Some t)
 
 -- a call for an event, which is told
-abbrev pub CallsAndTells : Option Tagged → Event → EmEvent → ℕ → EmEvent → Option Tagged → Type 0
+abbrev pub CallsAndTells : Option Tagged → Event → EmNote → ℕ → EmNote → Option Tagged → Type 0
 CallsAndTells held event old code new after =
-    (outcome : Result EmEvent Refused) × Tells held event outcome after × Shows outcome old code new
+    (outcome : Result EmNote Refused) × Tells held event outcome after × Shows outcome old code new
 
 -- how many steps back are taken of n
 abbrev pub steps_back : Option Tagged → ℕ → Result ℕ Refused

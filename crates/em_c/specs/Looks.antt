@@ -1,5 +1,5 @@
 -- What calls tell that only look at a machine.
-use Rattle.std.specs.Prelude.{ℕ, ◌+◌, ◌++◌, nat_lt, List, length, drop, Option, Some, None, Result, Ok, Err}
+use Rattle.std.specs.Prelude.{ℕ, ◌+◌, ◌++◌, ◌==◌, nat_lt, List, length, drop, Option, Some, None, Result, Ok, Err}
 use Rattle.std.specs.Prelude.{if◌then◌else◌, slice_get}
 use Rattle.em_mem.specs.Memory.{part}
 use Rattle.em_regs.specs.Table.{reg_at}
@@ -10,7 +10,7 @@ use Rattle.em_step.specs.State.{State}
 use Rattle.em_journal.specs.View.{View}
 use Rattle.em_watch.specs.Watching.{is_asserted}
 use Rattle.em_c.specs.declared.refused.Refused.{Refused}
-use Rattle.em_c.specs.declared.refused.Refused.TheVariants.{NoMachine, NoRegister, Range, NoFrame, Room}
+use Rattle.em_c.specs.declared.refused.Refused.TheVariants.{NoMachine, NoRegister, Range, Length, NoFrame, Room}
 use Rattle.em_c.specs.declared.tagged.Tagged.{Tagged}
 
 -- what is asked of the machine that is held, where one is
@@ -35,6 +35,10 @@ octets_at addr n v =
 -- how many octets guest memory has
 abbrev pub memory_size : View → Result ℕ Refused
 memory_size v = Ok (length v.present.memory)
+
+-- all octets of guest memory, where they are so many
+abbrev pub whole_memory : ℕ → View → Result (List ℕ) Refused
+whole_memory n v = if length v.present.memory == n then Ok v.present.memory else Err Length
 
 -- the interrupt line: 1 where it is asserted, else 0
 abbrev pub line : View → Result ℕ Refused

@@ -5,6 +5,7 @@ use Rattle.em_step.specs.declared.refusal.Refusal.TheVariants as event
 use Rattle.em_c.specs.declared.refused.Refused.{Refused}
 use Rattle.em_c.specs.declared.refused.Refused.TheVariants.{NoRegister, Range, Length, DmaRange, Extended, TooLong}
 use Rattle.em_c.specs.declared.refused.Refused.TheVariants.{Memory, Budget, NoMachine, HasMachine, Size, NoFrame, Room}
+use Rattle.em_c.specs.declared.refused.Refused.TheVariants.{NoEvent, NoChange, NoWatch, NoName, NoRefusal}
 
 -- what refuses an event has the model's number; the others have numbers that no other refusal of the model has
 abbrev pub number_of : Refused → ℕ
@@ -21,6 +22,11 @@ number_of HasMachine = 27
 number_of Size = 28
 number_of NoFrame = 29
 number_of Room = 30
+number_of NoEvent = 31
+number_of NoChange = 32
+number_of NoWatch = 33
+number_of NoName = 34
+number_of NoRefusal = 35
 
 abbrev pub of_event : Refusal → Refused
 of_event event.NoRegister = NoRegister

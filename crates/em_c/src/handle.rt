@@ -4,7 +4,7 @@ ghost use Rattle.std.specs.Option.{option_map};
 ghost use Rattle.em_step.specs.Event.{plain};
 ghost use Rattle.em_c.specs.Calls.{Performs, Tells};
 
-use crate::event::EmEvent;
+use crate::note::EmNote;
 use crate::parts::Parts;
 use crate::refused::Refused;
 use crate::sealed::Sealed;
@@ -67,14 +67,14 @@ impl EmMachine {
     }
 
     /// Performs an event on the machine that is held, and gives what its note tells.
-    pub fn perform_noted(&mut self, alloc: Global, event: Event<'_>) -> Result<EmEvent, Refused>
+    pub fn perform_noted(&mut self, alloc: Global, event: Event<'_>) -> Result<EmNote, Refused>
         ensures { Tells self.old.sealed.held (plain event.entry) result self.new.sealed.held }
     {
         let mut machine = self.take(alloc)?;
         let result = machine.perform_noted(event);
         self.put(machine);
         match result {
-            Ok(note) => Ok(EmEvent::of(note)),
+            Ok(note) => Ok(EmNote::of(note)),
             Err(refusal) => Err(Refused::of_event(refusal)),
         }
     }

@@ -5,13 +5,20 @@
 #![tactic(auto)]
 
 mod back;
-mod event;
 mod handle;
 mod making;
 mod memory;
+mod names;
+mod note;
+mod notes;
 mod parts;
+mod refusal_text;
 mod refused;
 mod registers;
+mod room;
+mod run;
 mod sealed;
+mod sync;
 mod tagged;
+mod watch;
 mod wire;

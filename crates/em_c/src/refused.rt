@@ -36,6 +36,16 @@ pub enum Refused {
     NoFrame = 29,
     /// What is told has more octets than there is room for.
     Room = 30,
+    /// The journal does not hold so many events.
+    NoEvent = 31,
+    /// The journal holds no change of what is watched.
+    NoChange = 32,
+    /// A watch of a kind that there is not.
+    NoWatch = 33,
+    /// No register has the name.
+    NoName = 34,
+    /// No refusal has the number.
+    NoRefusal = 35,
 }
 
 impl Refused {

@@ -2,6 +2,7 @@
 ghost use Rattle.std.specs.Prelude.{◌≡◌, ◌<◌, IfOk, IfErr, OnOk, OnErr, length, min};
 ghost use Rattle.em_step.specs.Event.{plain};
 ghost use Rattle.em_step.specs.Step.{Refuses};
+ghost use Rattle.em_c.specs.Run.{Stops};
 ghost use Rattle.em_c.specs.Tagged.{Performs, IsNoteOf, after_backs, present_of};
 
 use em_journal::Empty;
@@ -54,5 +55,20 @@ impl Tagged {
             }
         }
         count
+    }
+
+    /// Performs an event until it is idle or refused, and at most `n` times that are neither; gives how many those
+    /// were, and why the next one was refused.
+    pub fn repeat(&mut self, event: Event<'_>, n: usize) -> (usize, Option<Refusal>)
+        ensures { Stops result.0 n (plain event.entry) self.old self.new result.1 }
+    {
+        for done in 0..n {
+            match self.perform(event) {
+                Ok(Answer::Idle) => return (done, None),
+                Ok(_) => {}
+                Err(refusal) => return (done, Some(refusal)),
+            }
+        }
+        (n, None)
     }
 }

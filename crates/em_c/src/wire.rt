@@ -1,13 +1,13 @@
 //! The wire, the link, the engines and the interrupt line.
 ghost use Rattle.std.specs.Prelude.{◌≡◌};
-ghost use Rattle.std.specs.Option.{option_copied};
 ghost use Rattle.em_step.specs.Event.{plain, arrives, links, receives, transmits};
 ghost use Rattle.em_c.specs.Refused.{number, told, Shows};
 ghost use Rattle.em_c.specs.Calls.{Calls, CallsAndTells};
-ghost use Rattle.em_c.specs.Looks.{asked, frame_or_none, laid_into, length_of, line, wire_count, wire_frame};
+ghost use Rattle.em_c.specs.Looks.{asked, laid_into, length_of, line, wire_count, wire_frame};
 
-use crate::event::EmEvent;
+use crate::note::EmNote;
 use crate::handle::EmMachine;
+use crate::room::lay;
 use crate::refused::{Refused, number, tell};
 use em_step::Event;
 use std::alloc::Global;
@@ -18,7 +18,7 @@ pub extern "C" fn em_arrive(
     alloc: Global,
     machine: &mut EmMachine,
     frame: &[u8],
-    event: &mut EmEvent,
+    event: &mut EmNote,
 ) -> u32
     ensures { CallsAndTells machine.old.sealed.held (arrives frame.now) event.old result event.new machine.new.sealed.held }
 {
@@ -35,7 +35,7 @@ pub extern "C" fn em_set_link(alloc: Global, machine: &mut EmMachine, up: bool) 
 
 /// The receive engine handles a descriptor; what it did is told.
 #[unsafe(no_mangle)]
-pub extern "C" fn em_rx_step(alloc: Global, machine: &mut EmMachine, event: &mut EmEvent) -> u32
+pub extern "C" fn em_rx_step(alloc: Global, machine: &mut EmMachine, event: &mut EmNote) -> u32
     ensures { CallsAndTells machine.old.sealed.held receives event.old result event.new machine.new.sealed.held }
 {
     tell(machine.perform_noted(alloc, Event::RxStep), event)
@@ -43,7 +43,7 @@ pub extern "C" fn em_rx_step(alloc: Global, machine: &mut EmMachine, event: &mut
 
 /// The transmit engine handles a descriptor; what it did is told.
 #[unsafe(no_mangle)]
-pub extern "C" fn em_tx_step(alloc: Global, machine: &mut EmMachine, event: &mut EmEvent) -> u32
+pub extern "C" fn em_tx_step(alloc: Global, machine: &mut EmMachine, event: &mut EmNote) -> u32
     ensures { CallsAndTells machine.old.sealed.held transmits event.old result event.new machine.new.sealed.held }
 {
     tell(machine.perform_noted(alloc, Event::TxStep), event)
@@ -120,24 +120,10 @@ fn copy_frame(
     ensures same { machine.new.sealed.held ≡ machine.old.sealed.held }
 {
     let held = machine.take(alloc)?;
-    let outcome = lay_frame(held.traced.machine().wire_frame(index), out, octets);
+    let outcome = match held.traced.machine().wire_frame(index) {
+        Some(frame) => lay(frame, out, octets),
+        None => Err(Refused::NoFrame),
+    };
     machine.put(held);
     outcome
-}
-
-/// Copies a frame, where there is one, to the head of the room for it.
-fn lay_frame(frame: Option<&[u8]>, out: &mut [u8], octets: &mut usize) -> Result<(), Refused>
-    ensures outcome { number result ≡ number (laid_into out.old (frame_or_none (option_copied frame.entry))) }
-    ensures frame { out.new ≡ told out.old (laid_into out.old (frame_or_none (option_copied frame.entry))) }
-    ensures octets { octets.new ≡ told octets.old (length_of (frame_or_none (option_copied frame.entry))) }
-{
-    let Some(frame) = frame else {
-        return Err(Refused::NoFrame);
-    };
-    *octets = frame.len();
-    if frame.len() > out.len() {
-        return Err(Refused::Room);
-    }
-    out[..frame.len()].copy_from_slice(frame);
-    Ok(())
 }

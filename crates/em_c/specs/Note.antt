@@ -6,7 +6,7 @@ use Rattle.em_trail.specs.declared.note.Kind.{Kind}
 use Rattle.em_trail.specs.declared.note.Kind.TheVariants.{Read, Write, Poke, Stored, Dropped, LinkUp, LinkDown}
 use Rattle.em_trail.specs.declared.note.Kind.TheVariants.{ReceiveIdle, Wrote, TransmitIdle, Fetched, Sent}
 use Rattle.em_trail.specs.declared.note.Note.{Note}
-use Rattle.em_c.specs.declared.event.EmEvent.{EmEvent}
+use Rattle.em_c.specs.declared.note.EmNote.{EmNote}
 
 -- a frame that was dropped
 abbrev pub number_of_reason : Reason → ℕ
@@ -32,8 +32,8 @@ number_of_kind Stored = 11
 number_of_kind (Dropped reason) = number_of_reason reason
 
 -- what a note tells
-abbrev pub event_of : Note → EmEvent
-event_of note = record {
+abbrev pub told_note : Note → EmNote
+told_note note = record {
   tag = note.tag;
   at = note.at;
   length = note.length;

@@ -1,6 +1,6 @@
 //! What an event was, as C sees it.
 ghost use Rattle.std.specs.Prelude.{◌≡◌};
-ghost use Rattle.em_c.specs.Event.{number_of_reason, number_of_kind, event_of};
+ghost use Rattle.em_c.specs.Note.{number_of_reason, number_of_kind, told_note};
 
 use em_step::Reason;
 use em_trail::{Kind, Note};
@@ -8,7 +8,7 @@ use em_trail::{Kind, Note};
 /// An event that was performed.
 #[repr(C)]
 #[derive(Clone, Copy, PartialEq, Eq, Debug)]
-pub struct EmEvent {
+pub struct EmNote {
     /// What the caller called it by.
     pub tag: u64,
     /// Of an access the register's offset, of a memory write its address; else 0.
@@ -23,12 +23,12 @@ pub struct EmEvent {
     pub kind: u32,
 }
 
-impl EmEvent {
+impl EmNote {
     /// What a note tells.
-    pub fn of(note: Note) -> EmEvent
-        ensures { result ≡ event_of note }
+    pub fn of(note: Note) -> EmNote
+        ensures { result ≡ told_note note }
     {
-        EmEvent {
+        EmNote {
             tag: note.tag,
             at: note.at,
             length: note.length,
