@@ -1,2 +1,3 @@
 pub mod BoxForm
 pub mod TrailBack
+pub mod RunLaws

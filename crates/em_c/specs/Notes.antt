@@ -1,5 +1,5 @@
 -- What the notes of a machine's events tell, and the tag of the next ones.
-use Rattle.std.specs.Prelude.{◌≡◌, ℕ, Option, Some, None, Result, Ok, Err, slice_get}
+use Rattle.std.specs.Prelude.{ℕ, Option, Some, None, Result, Ok, Err, slice_get}
 use Rattle.em_trail.specs.declared.note.Note.{Note}
 use Rattle.em_c.specs.declared.note.EmNote.{EmNote}
 use Rattle.em_c.specs.declared.refused.Refused.{Refused}

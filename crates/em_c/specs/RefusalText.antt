@@ -1,5 +1,5 @@
 -- What the refusals are called, and what each says.
-use Rattle.std.specs.Prelude.{ℕ, List, Option, Some, None, Result, Ok, Err, codes}
+use Rattle.std.specs.Prelude.{ℕ, ◌==◌, if◌then◌else◌, List, Option, Some, None, Result, Ok, Err, codes}
 use Rattle.em_c.specs.declared.refused.Refused.{Refused}
 use Rattle.em_c.specs.declared.refused.Refused.TheVariants.{NoRegister, Range, Length, DmaRange, Extended, TooLong}
 use Rattle.em_c.specs.declared.refused.Refused.TheVariants.{Memory, Budget, NoMachine, HasMachine, Size, NoFrame, Room}
@@ -27,25 +27,26 @@ text_of NoName = codes "NoName: no register has the name"
 text_of NoRefusal = codes "NoRefusal: no refusal has the number"
 
 abbrev pub with_number : ℕ → Option Refused
-with_number 1 = Some NoRegister
-with_number 2 = Some Range
-with_number 3 = Some Length
-with_number 4 = Some DmaRange
-with_number 5 = Some Extended
-with_number 6 = Some TooLong
-with_number 9 = Some Memory
-with_number 24 = Some Budget
-with_number 26 = Some NoMachine
-with_number 27 = Some HasMachine
-with_number 28 = Some Size
-with_number 29 = Some NoFrame
-with_number 30 = Some Room
-with_number 31 = Some NoEvent
-with_number 32 = Some NoChange
-with_number 33 = Some NoWatch
-with_number 34 = Some NoName
-with_number 35 = Some NoRefusal
-with_number other = None
+with_number code =
+    if code == 1 then Some NoRegister
+    else if code == 2 then Some Range
+    else if code == 3 then Some Length
+    else if code == 4 then Some DmaRange
+    else if code == 5 then Some Extended
+    else if code == 6 then Some TooLong
+    else if code == 9 then Some Memory
+    else if code == 24 then Some Budget
+    else if code == 26 then Some NoMachine
+    else if code == 27 then Some HasMachine
+    else if code == 28 then Some Size
+    else if code == 29 then Some NoFrame
+    else if code == 30 then Some Room
+    else if code == 31 then Some NoEvent
+    else if code == 32 then Some NoChange
+    else if code == 33 then Some NoWatch
+    else if code == 34 then Some NoName
+    else if code == 35 then Some NoRefusal
+    else None
 
 abbrev pub text_or_none : Option Refused → Result (List ℕ) Refused
 text_or_none None = Err NoRefusal

@@ -1,5 +1,5 @@
 -- An event again and again: until it is idle, or refused, or so many times.
-use Rattle.std.specs.Prelude.{◌≡◌, ◌≢◌, ◌⊎◌, ℕ, ◌<◌, zero, suc, Option, Some, None}
+use Rattle.std.specs.Prelude.{◌≡◌, ◌⊎◌, ℕ, Bool, true, false, ◌<◌, zero, suc, Option, Some, None}
 use Rattle.em_step.specs.Event.{Event}
 use Rattle.em_step.specs.Step.{Refuses}
 use Rattle.em_step.specs.declared.event.Answer.{Answer}
@@ -10,11 +10,16 @@ use Rattle.em_c.specs.declared.tagged.Tagged.{Tagged}
 use Rattle.em_c.specs.Refused.{number_of, of_event}
 use Rattle.em_c.specs.Tagged.{Performs, present_of}
 
+-- an engine had nothing to do
+abbrev pub is_idle : Answer → Bool
+is_idle Idle = true
+is_idle other = false
+
 -- the event is performed k times, and never idle
 abbrev pub Repeats : ℕ → Event → Tagged → Tagged → Type 0
 Repeats zero event t u = u ≡ t
 Repeats (suc k) event t u =
-    (m : Tagged) × (answer : Answer) × Performs t event answer m × (answer ≢ Idle) × Repeats k event m u
+    (m : Tagged) × (answer : Answer) × Performs t event answer m × (is_idle answer ≡ false) × Repeats k event m u
 
 -- after k times, fewer than n, it is refused
 pub record IsRefusedAfter (k n : ℕ) (event : Event) (t u : Tagged) (refusal : Refusal) : Type 0 where
@@ -25,9 +30,11 @@ pub record IsRefusedAfter (k n : ℕ) (event : Event) (t u : Tagged) (refusal : 
 -- after k times, fewer than n, it is idle
 pub record IsIdleAfter (k n : ℕ) (event : Event) (t u : Tagged) : Type 0 where
   pub last : Tagged
+  pub answer : Answer
   pub fewer : k < n
   pub repeats : Repeats k event t last
-  pub idle : Performs last event Idle u
+  pub performs : Performs last event answer u
+  pub idle : is_idle answer ≡ true
 
 -- it is performed n times, or idle after k
 abbrev pub Ends : ℕ → ℕ → Event → Tagged → Tagged → Type 0

@@ -1,5 +1,5 @@
 -- What C watches, and the change that it is told.
-use Rattle.std.specs.Prelude.{◌≡◌, ◌⊎◌, ℕ, ◌<◌, ◌≤◌, List, replicate, if◌then◌else◌, Option, Some, None}
+use Rattle.std.specs.Prelude.{◌≡◌, ◌⊎◌, ℕ, ◌<◌, List, replicate, if◌then◌else◌, Option, Some, None}
 use Rattle.em_regs.specs.Table.{reg_at}
 use Rattle.em_journal.specs.View.{View}
 use Rattle.em_watch.specs.Change.{IsNextChange, NeverDiffers}

@@ -1,5 +1,5 @@
 //! The manual's names of the registers.
-ghost use Rattle.std.specs.Prelude.{◌≡◌, ◌×◌};
+ghost use Rattle.std.specs.Prelude.{◌≡◌};
 ghost use Rattle.em_regs.specs.declared.reg.Reg.{Reg};
 ghost use Rattle.em_regs.specs.Table.{IsReg};
 ghost use Rattle.em_names.specs.Names.{IsNamed};

@@ -2,7 +2,7 @@
 ghost use Rattle.std.specs.Prelude.{◌≡◌, ◌<◌, IfOk, IfErr, OnOk, OnErr, length, min};
 ghost use Rattle.em_step.specs.Event.{plain};
 ghost use Rattle.em_step.specs.Step.{Refuses};
-ghost use Rattle.em_c.specs.Run.{Stops};
+ghost use Rattle.em_c.specs.Run.{Stops, is_idle};
 ghost use Rattle.em_c.specs.Tagged.{Performs, IsNoteOf, after_backs, present_of};
 
 use em_journal::Empty;
@@ -64,11 +64,21 @@ impl Tagged {
     {
         for done in 0..n {
             match self.perform(event) {
-                Ok(Answer::Idle) => return (done, None),
-                Ok(_) => {}
+                Ok(answer) => {
+                    if is_idle(answer) {
+                        return (done, None);
+                    }
+                }
                 Err(refusal) => return (done, Some(refusal)),
             }
         }
         (n, None)
     }
+}
+
+/// Whether an engine had nothing to do.
+fn is_idle(answer: Answer) -> bool
+    ensures { result ≡ is_idle answer }
+{
+    matches!(answer, Answer::Idle)
 }
