@@ -41,7 +41,7 @@ def _found() -> Path:
     for place in [Path(named)] if named else [it / "libbunjelav.so" for it in places]:
         if place.is_file():
             return place
-    raise ImportError("there is no libbunjelav.so here: BUNJELAV_LIBRARY says where it lies, or bindings/c/build makes it")
+    raise ImportError("there is no libbunjelav.so: BUNJELAV_LIBRARY says where it lies, or bindings/c/build makes it")
 
 
 _library = ctypes.CDLL(str(_found()))
@@ -62,7 +62,12 @@ class _Note(ctypes.Structure):
 
 
 class _Watch(ctypes.Structure):
-    _fields_ = [("kind", ctypes.c_uint32), ("offset", ctypes.c_uint32), ("address", ctypes.c_uint64), ("octets", SIZE_T)]
+    _fields_ = [
+        ("kind", ctypes.c_uint32),
+        ("offset", ctypes.c_uint32),
+        ("address", ctypes.c_uint64),
+        ("octets", SIZE_T),
+    ]
 
 
 class _Change(ctypes.Structure):
