@@ -37,7 +37,12 @@ pub extern "C" fn em_memory_size(alloc: Global, machine: &mut EmMachine, size: &
 }
 
 /// Copies octets of guest memory out.
-fn copy_out(alloc: Global, machine: &mut EmMachine, addr: u64, out: &mut [u8]) -> Result<(), Refused>
+fn copy_out(
+    alloc: Global,
+    machine: &mut EmMachine,
+    addr: u64,
+    out: &mut [u8],
+) -> Result<(), Refused>
     ensures outcome { number result ≡ number (asked machine.old.sealed.held (octets_at addr (length out.old))) }
     ensures octets { out.new ≡ told out.old (asked machine.old.sealed.held (octets_at addr (length out.old))) }
     ensures same { machine.new.sealed.held ≡ machine.old.sealed.held }

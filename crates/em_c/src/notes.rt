@@ -3,8 +3,8 @@ ghost use Rattle.std.specs.Prelude.{◌≡◌};
 ghost use Rattle.em_c.specs.Refused.{number, Shows};
 ghost use Rattle.em_c.specs.Notes.{event_at, holding, with_tag};
 
-use crate::note::EmNote;
 use crate::handle::EmMachine;
+use crate::note::EmNote;
 use crate::refused::{Refused, number, tell};
 use std::alloc::Global;
 

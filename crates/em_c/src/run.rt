@@ -37,13 +37,7 @@ pub extern "C" fn em_run_tx(
 }
 
 /// The event again and again.
-fn run(
-    alloc: Global,
-    machine: &mut EmMachine,
-    event: Event<'_>,
-    n: usize,
-    done: &mut usize,
-) -> u32
+fn run(alloc: Global, machine: &mut EmMachine, event: Event<'_>, n: usize, done: &mut usize) -> u32
     ensures { Runs machine.old.sealed.held (plain event.entry) n done.old result done.new machine.new.sealed.held }
 {
     let mut held = match machine.take(alloc) {

@@ -109,13 +109,7 @@ fn value_of(sight: Sight) -> u64
     match sight {
         Sight::Nothing | Sight::Octets(_) => 0,
         Sight::Value(value) => u64::from(value),
-        Sight::Line(is) | Sight::Link(is) => {
-            if is {
-                1
-            } else {
-                0
-            }
-        }
+        Sight::Line(is) | Sight::Link(is) => { if is { 1 } else { 0 } }
         Sight::Count(count) => count as u64,
     }
 }

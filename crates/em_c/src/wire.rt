@@ -5,10 +5,10 @@ ghost use Rattle.em_c.specs.Refused.{number, told, Shows};
 ghost use Rattle.em_c.specs.Calls.{Calls, CallsAndTells};
 ghost use Rattle.em_c.specs.Looks.{asked, laid_into, length_of, line, wire_count, wire_frame};
 
-use crate::note::EmNote;
 use crate::handle::EmMachine;
-use crate::room::lay;
+use crate::note::EmNote;
 use crate::refused::{Refused, number, tell};
+use crate::room::lay;
 use em_step::Event;
 use std::alloc::Global;
 
