@@ -1,5 +1,6 @@
 -- Steps back of a machine with its notes, several at a time, and the note of its newest event.
-use Rattle.std.proofs.Common.{◌≡◌, ℕ, ◌+◌, ◌<◌, zero, suc, List, [], ◌∷◌, length, take, drop, Some, refl, sym, ap, ◌∙◌, arith}
+use Rattle.std.proofs.Common.{◌≡◌, ℕ, ◌+◌, ◌<◌, zero, suc, List, [], ◌∷◌, length, take, drop, Some, refl, sym, ap}
+use Rattle.std.proofs.Common.{◌∙◌, arith}
 use Rattle.std.specs.Prelude.{slice_get, min, None}
 use Rattle.em_step.specs.State.{State}
 use Rattle.em_journal.specs.View as journal
@@ -27,7 +28,8 @@ more_back k t u w note is back tag =
     let next : suc k ≡ k + 1 = omega arith in
     same w (after_backs (k + 1) t)
     (one.more_back k t.traced.view u.traced.view w.traced.view (ap (λ (x : Tagged). x.traced.view) is) back.went.1)
-    (sym (drop_one_more k t.traced.notes note w.traced.notes (sym (ap (λ (x : Tagged). x.traced.notes) is) ∙ back.told))
+    (sym (drop_one_more k t.traced.notes note w.traced.notes (sym (ap (λ (x : Tagged). x.traced.notes) is) ∙
+    back.told))
     ∙ ap (λ n. drop n t.traced.notes) next)
     (tag ∙ ap (λ (x : Tagged). x.tag) is)
 

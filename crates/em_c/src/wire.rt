@@ -20,7 +20,8 @@ pub extern "C" fn em_arrive(
     frame: &[u8],
     event: &mut EmNote,
 ) -> u32
-    ensures { CallsAndTells machine.old.sealed.held (arrives frame.now) event.old result event.new machine.new.sealed.held }
+    ensures { CallsAndTells machine.old.sealed.held (arrives frame.now) event.old result event.new
+        machine.new.sealed.held }
 {
     tell(machine.perform_noted(alloc, Event::Arrive(frame)), event)
 }
@@ -77,7 +78,8 @@ pub extern "C" fn em_wire_frame(
     out: &mut [u8],
     octets: &mut usize,
 ) -> u32
-    ensures frame { Shows (laid_into out.old (asked machine.old.sealed.held (wire_frame index))) out.old result out.new }
+    ensures frame { Shows (laid_into out.old (asked machine.old.sealed.held (wire_frame index))) out.old result
+        out.new }
     ensures octets { octets.new ≡ told octets.old (length_of (asked machine.old.sealed.held (wire_frame index))) }
     ensures same { machine.new.sealed.held ≡ machine.old.sealed.held }
 {

@@ -24,4 +24,5 @@ held alloc ptr (Some v) = (lies Row.the_row machine ptr v, heap.frees.frees allo
 pub send : IsSend the_row
 send =
     let all : AllSend (fields the_type) = (search sendable, (handle.the_field_send, tt)) in
-    owning_send the_type all (λ d. held d.alloc d.ptr d.held) (λ k. quiet (to the_type) (exits_of k (fields the_type)) ((struct_send (shape the_type) all).leaving k))
+    owning_send the_type all (λ d. held d.alloc d.ptr d.held) (λ k. quiet (to the_type) (exits_of k (fields
+    the_type)) ((struct_send (shape the_type) all).leaving k))
