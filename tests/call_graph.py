@@ -43,7 +43,8 @@ class Graph:
 
     def is_root(self, function: Function) -> bool:
         of_std = function.trait and function.trait not in self.traits and function.trait != "const"
-        return function.is_test or function.is_law or (function.name == "main" and not function.owner) or bool(of_std)
+        is_main = function.name == "main" and not function.owner
+        return function.is_test or function.is_export or function.is_law or is_main or bool(of_std)
 
     def reached(self) -> set[Function]:
         """What a program or a test runs."""

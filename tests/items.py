@@ -42,6 +42,7 @@ class Function:
     trait: str  # the trait that it implements or belongs to, or nothing; `const` and `derived` are no functions
     name: str
     is_test: bool = False
+    is_export: bool = False  # a caller outside the crates, in C, calls it
     generics: dict = field(default_factory=dict)  # by type parameter its bounds
     params: list = field(default_factory=list)  # patterns with types
     gives: Type = field(default_factory=lambda: Type("tuple"))
@@ -197,7 +198,9 @@ class Reader:
                 at = stop
             elif token.text == "pub":
                 at = past(self.tokens, at + 1) if after == "(" else at + 1
-            elif token.text in ("unsafe", "extern") or (token.text, after) == ("const", "fn"):
+            elif token.text == "extern":
+                at += 2  # and the name of its calls, "C"
+            elif token.text == "unsafe" or (token.text, after) == ("const", "fn"):
                 at += 1
             else:
                 at = self.item(at, head, within)
@@ -318,6 +321,7 @@ class Reader:
         made.params = [self.parameter(part) for part in split(self.tokens[opens + 1 : ends - 1])]
         made.changes = "mut" in [token.text for token in self.tokens[opens:ends]]
         made.is_test = head.has("test") and not head.has("cfg")
+        made.is_export = head.has("no_mangle")
         at = ends
         if self.tokens[at].text == "->":
             stop = at = at + 1

@@ -1,0 +1,175 @@
+//! What an event was, and what is watched.
+use crate::raw;
+use crate::Refusal;
+use core::fmt;
+
+/// What kind of event it was, with what came of it.
+#[derive(Clone, Copy, PartialEq, Eq, Hash, Debug)]
+pub enum Kind {
+    Read,
+    Write,
+    Poke,
+    LinkUp,
+    LinkDown,
+    RxIdle,
+    Wrote,
+    TxIdle,
+    Fetched,
+    Sent,
+    Stored,
+    Down,
+    Disabled,
+    Rejected,
+    Undersize,
+    Oversize,
+    Missed,
+}
+
+/// Each kind at its number in bunjelav.h, less one, with what it is called.
+const KINDS: [(Kind, &str); 17] = [
+    (Kind::Read, "read"),
+    (Kind::Write, "write"),
+    (Kind::Poke, "poke"),
+    (Kind::LinkUp, "link up"),
+    (Kind::LinkDown, "link down"),
+    (Kind::RxIdle, "receive idle"),
+    (Kind::Wrote, "wrote"),
+    (Kind::TxIdle, "transmit idle"),
+    (Kind::Fetched, "fetched"),
+    (Kind::Sent, "sent"),
+    (Kind::Stored, "stored"),
+    (Kind::Down, "dropped: the link is down"),
+    (Kind::Disabled, "dropped: RCTL.EN is clear"),
+    (Kind::Rejected, "dropped: no filter accepts it"),
+    (Kind::Undersize, "dropped: too short"),
+    (Kind::Oversize, "dropped: too long"),
+    (Kind::Missed, "dropped: the FIFO has no room"),
+];
+
+/// An event that was performed.
+#[derive(Clone, Copy, PartialEq, Eq, Hash, Debug)]
+pub struct Event {
+    pub kind: Kind,
+    /// Of an access the register's offset, of a memory write its address; else 0.
+    pub at: u64,
+    /// How many octets an access, a memory write or a frame has; else 0.
+    pub length: u32,
+    /// Of a read what it gave, of a write what was written, of an engine's step the descriptor's index; else 0.
+    pub value: u32,
+    /// The caller's tag.
+    pub tag: u64,
+}
+
+impl Event {
+    pub(crate) fn of(note: raw::Note) -> Event {
+        let kind = KINDS[(note.kind as usize).clamp(1, KINDS.len()) - 1].0;
+        Event { kind, at: note.at, length: note.length, value: note.value, tag: note.tag }
+    }
+}
+
+impl fmt::Display for Kind {
+    fn fmt(&self, f: &mut fmt::Formatter<'_>) -> fmt::Result {
+        f.write_str(KINDS[*self as usize].1)
+    }
+}
+
+impl fmt::Display for Event {
+    fn fmt(&self, f: &mut fmt::Formatter<'_>) -> fmt::Result {
+        match self.kind {
+            Kind::Read | Kind::Write => write!(f, "{} {:05X} {:08X}", self.kind, self.at, self.value),
+            Kind::Poke => write!(f, "{} {:X} {}", self.kind, self.at, self.length),
+            Kind::Wrote | Kind::Fetched => write!(f, "{} {}", self.kind, self.value),
+            Kind::Sent => write!(f, "{} {} {}", self.kind, self.value, self.length),
+            _ => write!(f, "{}", self.kind),
+        }
+    }
+}
+
+/// What is watched.
+#[derive(Clone, Copy, PartialEq, Eq, Hash, Debug)]
+pub enum Watch {
+    /// The register at an offset.
+    Register(u32),
+    /// So many octets of guest memory from an address on: 1 to 16.
+    Octets(u64, usize),
+    /// The interrupt line.
+    Line,
+    /// The link.
+    Link,
+    /// How many frames lie in the FIFO.
+    Frames,
+    /// How many frames were sent.
+    Sent,
+}
+
+impl Watch {
+    pub(crate) fn raw(self) -> raw::Watch {
+        let (kind, offset, address, octets) = match self {
+            Watch::Register(offset) => (1, offset, 0, 0),
+            Watch::Octets(address, octets) => (2, 0, address, octets),
+            Watch::Line => (3, 0, 0, 0),
+            Watch::Link => (4, 0, 0, 0),
+            Watch::Frames => (5, 0, 0, 0),
+            Watch::Sent => (6, 0, 0, 0),
+        };
+        raw::Watch { kind, offset, address, octets }
+    }
+}
+
+/// A change of what is watched.
+#[derive(Clone, Copy, PartialEq, Eq, Hash, Debug)]
+pub struct Change {
+    /// How many steps back lead before the event that made it.
+    pub back: usize,
+    /// What was seen before it, but for octets; of the line and the link 1 or 0.
+    pub value: u64,
+    /// The octets that were seen before it, and zeros behind them.
+    pub octets: [u8; 16],
+}
+
+impl Change {
+    pub(crate) fn of(change: raw::Change) -> Change {
+        Change { back: change.back, value: change.value, octets: change.before }
+    }
+}
+
+/// The offset of the register of this name, in either case of its letters.
+pub fn offset_of(name: &str) -> Result<u32, Refusal> {
+    let mut offset = 0;
+    // SAFETY: the text is as long as is said, and the call writes one number.
+    match unsafe { raw::em_find(name.as_ptr(), name.len(), &mut offset) } {
+        0 => Ok(offset),
+        number => Err(Refusal::of(number)),
+    }
+}
+
+/// The manual's name of a register, as text.
+#[derive(Clone, Copy, PartialEq, Eq, Hash, Debug)]
+pub struct Name {
+    letters: [u8; 16],
+    length: usize,
+}
+
+impl Name {
+    /// The name of the register at an offset.
+    pub fn of(offset: u32) -> Result<Name, Refusal> {
+        let mut name = Name { letters: [0; 16], length: 0 };
+        let (room, most) = (name.letters.as_mut_ptr(), name.letters.len());
+        // SAFETY: the room is as long as is said, and the length lies beside it.
+        match unsafe { raw::em_name(offset, room, most, &mut name.length) } {
+            0 => Ok(name),
+            number => Err(Refusal::of(number)),
+        }
+    }
+
+    /// Its letters.
+    pub fn as_str(&self) -> &str {
+        core::str::from_utf8(&self.letters[..self.length.min(16)]).unwrap_or("")
+    }
+}
+
+impl fmt::Display for Name {
+    fn fmt(&self, f: &mut fmt::Formatter<'_>) -> fmt::Result {
+        f.write_str(self.as_str())
+    }
+}

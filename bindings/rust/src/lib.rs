@@ -1,0 +1,37 @@
+//! Bunjelav: Intel's 82540EM as a model that can be stepped backwards.
+//!
+//! ```
+//! use bunjelav::{offset_of, Kind, Machine, Watch};
+//!
+//! # fn main() -> Result<(), bunjelav::Refusal> {
+//! let mut m = Machine::new(65_536, 1 << 20, [0x52, 0x54, 0x00, 0x12, 0x34, 0x56])?;
+//! let (ims, icr) = (offset_of("IMS")?, offset_of("ICR")?);
+//! m.write(ims, 4)?; // LSC may interrupt
+//! m.set_link(true)?;
+//! assert!(m.line());
+//! assert_eq!(m.read(icr)?, 4); // which clears it
+//! assert!(!m.line());
+//!
+//! // who changed ICR last?
+//! let change = m.last_change(Watch::Register(icr))?.expect("it was read");
+//! assert_eq!((change.back, change.value), (1, 4));
+//! assert_eq!(m.event(0)?.kind, Kind::Read);
+//!
+//! m.back(1);
+//! assert!(m.line());
+//! # Ok(())
+//! # }
+//! ```
+//!
+//! The model is proved; this binding is not. `unsafe` stands only at the calls of the library, whose header says what
+//! must hold of pointers.
+#![no_std]
+
+mod event;
+mod machine;
+mod raw;
+mod refusal;
+
+pub use event::{offset_of, Change, Event, Kind, Name, Watch};
+pub use machine::{Events, Frame, Frames, Machine, MOST_SENT};
+pub use refusal::Refusal;

@@ -1,0 +1,157 @@
+//! Each call of the binding once, and each refusal: what they give was worked out from the manual's tables.
+use bunjelav::{offset_of, Kind, Machine, Name, Refusal, Watch};
+
+const MAC: [u8; 6] = [0x52, 0x54, 0x00, 0x12, 0x34, 0x56];
+const STATUS: u32 = 0x0008;
+const ICR: u32 = 0x00C0;
+const IMS: u32 = 0x00D0;
+const RDT: u32 = 0x2818;
+const RDH: u32 = 0x2810;
+const BUFFER: u64 = 0x4000;
+
+fn made() -> Machine {
+    Machine::new(65_536, 1 << 20, MAC).unwrap()
+}
+
+fn frame() -> [u8; 60] {
+    let mut frame = [0; 60];
+    frame[..6].fill(0xFF);
+    frame
+}
+
+fn descriptor(length: u8, command: u8) -> [u8; 16] {
+    let mut octets = [0; 16];
+    octets[..8].copy_from_slice(&BUFFER.to_le_bytes());
+    octets[8] = length;
+    octets[11] = command;
+    octets
+}
+
+fn receiving() -> Machine {
+    let mut m = made();
+    m.set_link(true).unwrap();
+    for i in 0..8 {
+        m.poke(0x1000 + 16 * i, &descriptor(0, 0)).unwrap();
+    }
+    for (offset, value) in [(0x2800, 0x1000), (0x2808, 128), (RDT, 4), (0x0100, 0x8002)] {
+        m.write(offset, value).unwrap();
+    }
+    m
+}
+
+#[test]
+fn makes() {
+    assert_eq!(Machine::new(4_097, 1 << 20, MAC).err(), Some(Refusal::Size));
+    assert_eq!(Machine::new(4_096, 1, MAC).err(), Some(Refusal::Budget));
+    let mut words = [0; 64];
+    words[0] = 0x1234;
+    let mut m = Machine::with_eeprom(4_096, 65_536, &words).unwrap();
+    assert_eq!((m.look(0x5400), m.memory_size()), (Ok(0x1234), 4_096));
+}
+
+#[test]
+fn reads_and_writes() {
+    let mut m = made();
+    assert_eq!(m.read(4), Err(Refusal::NoRegister));
+    assert_eq!(m.write(4, 1), Err(Refusal::NoRegister));
+    assert_eq!(m.look(4), Err(Refusal::NoRegister));
+    assert_eq!(m.read(STATUS), Ok(0x81));
+    m.set_link(true).unwrap();
+    m.write(IMS, 4).unwrap();
+    assert!(m.line());
+    assert_eq!((m.look(ICR), m.read(ICR), m.read(ICR)), (Ok(4), Ok(4), Ok(0)));
+    assert!(!m.line());
+    let mut out = [9; 5];
+    m.poke(4_094, b"hello").unwrap();
+    m.peek(4_094, &mut out).unwrap();
+    assert_eq!(&out, b"hello");
+    assert_eq!(m.poke(65_535, b"12"), Err(Refusal::Range));
+    assert_eq!(m.poke(0, b""), Err(Refusal::Length));
+    assert_eq!(m.peek(65_532, &mut out), Err(Refusal::Range));
+    assert_eq!(&out, b"hello");
+}
+
+#[test]
+fn receives() {
+    let mut m = receiving();
+    assert_eq!(m.arrive(&[0; 13]), Err(Refusal::Length));
+    for _ in 0..3 {
+        assert_eq!(m.arrive(&frame()).unwrap().kind, Kind::Stored);
+    }
+    let event = m.rx_step().unwrap();
+    assert_eq!((event.kind, event.value), (Kind::Wrote, 0));
+    assert_eq!((m.run_rx(9), m.run_rx(9), m.look(RDH)), (Ok(2), Ok(0), Ok(3)));
+    m.write(0x2800, 65_536).unwrap();
+    m.arrive(&frame()).unwrap();
+    assert_eq!(m.rx_step(), Err(Refusal::DmaRange));
+}
+
+#[test]
+fn sends() {
+    let mut m = made();
+    m.poke(BUFFER, &frame()).unwrap();
+    m.poke(0x2000, &descriptor(60, 1)).unwrap();
+    m.poke(0x2010, &descriptor(60, 0x21)).unwrap();
+    for (offset, value) in [(0x3800, 0x2000), (0x3808, 128), (0x0400, 2), (0x3818, 1)] {
+        m.write(offset, value).unwrap();
+    }
+    let mut out = [0; 60];
+    assert_eq!(m.wire_frame(0, &mut out), Err(Refusal::NoFrame));
+    let event = m.tx_step().unwrap();
+    assert_eq!((event.kind, event.value, event.length), (Kind::Sent, 0, 60));
+    assert_eq!(event.to_string(), "sent 0 60");
+    assert_eq!((m.wire_count(), m.wire_frame(0, &mut out[..59])), (1, Err(Refusal::Room)));
+    assert_eq!((m.wire_frame(0, &mut out), out), (Ok(60), frame()));
+    assert!(m.frames().map(|it| it.to_vec()).eq([frame().to_vec()]));
+    m.write(0x3818, 2).unwrap();
+    assert_eq!(m.run_tx(9), Err(Refusal::Extended));
+}
+
+#[test]
+fn goes_back_and_tells_who() {
+    let mut m = made();
+    assert_eq!((m.back(1), m.can_go_back(), m.event(0)), (0, 0, Err(Refusal::NoEvent)));
+    assert_eq!(m.last_change(Watch::Register(RDT)), Ok(None));
+    m.tag(77);
+    m.write(RDT, 5).unwrap();
+    m.poke(0x100, b"ab").unwrap();
+    m.set_link(true).unwrap();
+    let change = m.last_change(Watch::Register(RDT)).unwrap().unwrap();
+    assert_eq!((change.back, change.value), (3, 0));
+    let event = m.event(change.back - 1).unwrap();
+    assert_eq!((event.kind, event.at, event.value, event.tag), (Kind::Write, RDT as u64, 5, 77));
+    assert_eq!(event.to_string(), "write 02818 00000005");
+    assert_eq!(m.last_change(Watch::Octets(0x101, 2)).unwrap().unwrap().back, 2);
+    assert_eq!(m.last_change(Watch::Link).unwrap().unwrap().back, 1);
+    for watch in [Watch::Line, Watch::Frames, Watch::Sent] {
+        assert_eq!(m.last_change(watch), Ok(None));
+    }
+    assert_eq!(m.last_change(Watch::Octets(0, 17)), Err(Refusal::Length));
+    let kinds: Vec<_> = m.events().map(|it| it.kind).collect();
+    assert_eq!(kinds, [Kind::LinkUp, Kind::Poke, Kind::Write]);
+    assert_eq!((m.back(2), m.look(RDT), m.back(9), m.look(RDT)), (2, Ok(5), 1, Ok(0)));
+}
+
+#[test]
+fn names() {
+    assert_eq!((offset_of("rah15"), offset_of("RAH16")), (Ok(0x547C), Err(Refusal::NoName)));
+    assert_eq!(Name::of(0x5200 + 4 * 127).unwrap().to_string(), "MTA[127]");
+    assert_eq!(Name::of(4), Err(Refusal::NoRegister));
+    assert_eq!((Refusal::Range.number(), Refusal::Range.to_string()), (2, "the octets leave guest memory".into()));
+}
+
+#[test]
+fn goes_to_another_thread() {
+    let machines: Vec<_> = (0..3)
+        .map(|k| {
+            std::thread::spawn(move || {
+                let mut m = made();
+                m.write(RDT, k).unwrap();
+                m
+            })
+        })
+        .collect();
+    for (k, machine) in machines.into_iter().enumerate() {
+        assert_eq!(machine.join().unwrap().look(RDT), Ok(k as u32));
+    }
+}

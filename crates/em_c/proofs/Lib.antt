@@ -1,0 +1,3 @@
+pub mod BoxForm
+pub mod TrailBack
+pub mod RunLaws

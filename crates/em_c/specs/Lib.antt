@@ -1,0 +1,12 @@
+pub mod Tagged
+pub mod Refused
+pub mod Note
+pub mod Sealed
+pub mod Calls
+pub mod Making
+pub mod Looks
+pub mod Notes
+pub mod Names
+pub mod Run
+pub mod Watch
+pub mod RefusalText

@@ -1,0 +1,57 @@
+-- What the refusals are called, and what each says.
+use Rattle.std.specs.Prelude.{ℕ, ◌==◌, if◌then◌else◌, List, Option, Some, None, Result, Ok, Err, codes}
+use Rattle.em_c.specs.declared.refused.Refused.{Refused}
+use Rattle.em_c.specs.declared.refused.Refused.TheVariants.{NoRegister, Range, Length, DmaRange, Extended, TooLong}
+use Rattle.em_c.specs.declared.refused.Refused.TheVariants.{Memory, Budget, NoMachine, HasMachine, Size, NoFrame, Room}
+use Rattle.em_c.specs.declared.refused.Refused.TheVariants.{NoEvent, NoChange, NoWatch, NoName, NoRefusal}
+
+-- its name, and a sentence
+abbrev pub text_of : Refused → List ℕ
+text_of NoRegister = codes "NoRegister: no register lies at the offset"
+text_of Range = codes "Range: the octets leave guest memory"
+text_of Length = codes "Length: too few octets, or too many"
+text_of DmaRange = codes "DmaRange: a descriptor or its buffer leaves guest memory"
+text_of Extended = codes "Extended: a transmit descriptor has DEXT"
+text_of TooLong = codes "TooLong: a frame's buffers hold more than 16,380 octets together"
+text_of Memory = codes "Memory: the host gave no memory"
+text_of Budget = codes "Budget: the budget lies outside 65,536 to 16,777,216"
+text_of NoMachine = codes "NotMade: the handle holds no machine"
+text_of HasMachine = codes "MadeAlready: the handle holds a machine already"
+text_of Size = codes "Size: guest memory has a multiple of 4,096 octets, from 4,096 to 16,777,216"
+text_of NoFrame = codes "NoFrame: so many frames were not sent"
+text_of Room = codes "Room: there is no room for what is told"
+text_of NoEvent = codes "NoEvent: the journal does not hold so many events"
+text_of NoChange = codes "NoChange: no event of the journal changed what is watched"
+text_of NoWatch = codes "NoWatch: there is no such kind of watch"
+text_of NoName = codes "NoName: no register has the name"
+text_of NoRefusal = codes "NoRefusal: no refusal has the number"
+
+abbrev pub with_number : ℕ → Option Refused
+with_number code =
+    if code == 1 then Some NoRegister
+    else if code == 2 then Some Range
+    else if code == 3 then Some Length
+    else if code == 4 then Some DmaRange
+    else if code == 5 then Some Extended
+    else if code == 6 then Some TooLong
+    else if code == 9 then Some Memory
+    else if code == 24 then Some Budget
+    else if code == 26 then Some NoMachine
+    else if code == 27 then Some HasMachine
+    else if code == 28 then Some Size
+    else if code == 29 then Some NoFrame
+    else if code == 30 then Some Room
+    else if code == 31 then Some NoEvent
+    else if code == 32 then Some NoChange
+    else if code == 33 then Some NoWatch
+    else if code == 34 then Some NoName
+    else if code == 35 then Some NoRefusal
+    else None
+
+abbrev pub text_or_none : Option Refused → Result (List ℕ) Refused
+text_or_none None = Err NoRefusal
+text_or_none (Some refused) = Ok (text_of refused)
+
+-- of the refusal with a number
+abbrev pub text_at : ℕ → Result (List ℕ) Refused
+text_at code = text_or_none (with_number code)

@@ -1,0 +1,52 @@
+-- Why a call did nothing, and its number.
+use Rattle.std.specs.Prelude.{◌≡◌, ℕ, Result, Ok, Err}
+use Rattle.em_step.specs.declared.refusal.Refusal.{Refusal}
+use Rattle.em_step.specs.declared.refusal.Refusal.TheVariants as event
+use Rattle.em_c.specs.declared.refused.Refused.{Refused}
+use Rattle.em_c.specs.declared.refused.Refused.TheVariants.{NoRegister, Range, Length, DmaRange, Extended, TooLong}
+use Rattle.em_c.specs.declared.refused.Refused.TheVariants.{Memory, Budget, NoMachine, HasMachine, Size, NoFrame, Room}
+use Rattle.em_c.specs.declared.refused.Refused.TheVariants.{NoEvent, NoChange, NoWatch, NoName, NoRefusal}
+
+-- what refuses an event has the model's number; the others have numbers that no other refusal of the model has
+abbrev pub number_of : Refused → ℕ
+number_of NoRegister = 1
+number_of Range = 2
+number_of Length = 3
+number_of DmaRange = 4
+number_of Extended = 5
+number_of TooLong = 6
+number_of Memory = 9
+number_of Budget = 24
+number_of NoMachine = 26
+number_of HasMachine = 27
+number_of Size = 28
+number_of NoFrame = 29
+number_of Room = 30
+number_of NoEvent = 31
+number_of NoChange = 32
+number_of NoWatch = 33
+number_of NoName = 34
+number_of NoRefusal = 35
+
+abbrev pub of_event : Refusal → Refused
+of_event event.NoRegister = NoRegister
+of_event event.Range = Range
+of_event event.Length = Length
+of_event event.DmaRange = DmaRange
+of_event event.Extended = Extended
+of_event event.TooLong = TooLong
+of_event event.Memory = Memory
+
+-- the number that a call gives: 0, or that of the reason
+abbrev pub number : {X : Type 0} → Result X Refused → ℕ
+number (Ok x) = 0
+number (Err refused) = number_of refused
+
+-- what is told, where nothing refused it; else what was there
+abbrev pub told : {X : Type 0} → X → Result X Refused → X
+told old (Ok x) = x
+told old (Err refused) = old
+
+-- the number, and what is told
+abbrev pub Shows : {X : Type 0} → Result X Refused → X → ℕ → X → Type 0
+Shows outcome old code new = (code ≡ number outcome) × (new ≡ told old outcome)

@@ -1,0 +1,24 @@
+//! The model as a library for C: calls over a handle that holds a machine, or none.
+//!
+//! Each call gives a number: 0, or that of the refusal. What a call tells goes through a pointer. A refusal changes
+//! nothing: neither the machine, nor what a pointer points to.
+#![tactic(auto)]
+
+mod back;
+mod handle;
+mod making;
+mod memory;
+mod names;
+mod note;
+mod notes;
+mod parts;
+mod refusal_text;
+mod refused;
+mod registers;
+mod room;
+mod run;
+mod sealed;
+mod sync;
+mod tagged;
+mod watch;
+mod wire;

@@ -1,0 +1,108 @@
+//! Machines are made, and freed.
+ghost use Rattle.std.specs.Prelude.{◌≡◌, ◌↔◌, None, IfOk, IfErr, OnOk};
+ghost use Rattle.em_eeprom.specs.Eeprom.{words_of_mac};
+ghost use Rattle.em_mem.specs.Memory.{IsMemorySize};
+ghost use Rattle.em_journal.specs.Budget.{IsBudget};
+ghost use Rattle.em_c.specs.Making.{new_machine, IsRefusedAs, Makes};
+
+use crate::handle::EmMachine;
+use crate::refused::{DONE, Refused};
+use crate::tagged::Tagged;
+use em_eeprom::Eeprom;
+use em_journal::{JournalRefusal, LEAST_BUDGET, MOST_BUDGET, Machine};
+use em_mem::MemRefusal;
+use em_step::Adapter;
+use em_trail::Traced;
+use std::alloc::Global;
+
+/// How many words the EEPROM has.
+const EEPROM_WORDS: usize = 64;
+
+/// Makes a machine with this Ethernet address in its EEPROM.
+#[unsafe(no_mangle)]
+pub extern "C" fn em_make(
+    alloc: Global,
+    machine: &mut EmMachine,
+    memory: u64,
+    budget: u64,
+    mac: &[u8; 6],
+) -> u32
+    ensures { Makes machine.old.sealed.held memory budget (words_of_mac mac.now) result machine.new.sealed.held }
+{
+    make(alloc, machine, memory, budget, Eeprom::of_mac(*mac))
+}
+
+/// Makes a machine with these words in its EEPROM.
+#[unsafe(no_mangle)]
+pub extern "C" fn em_make_with_eeprom(
+    alloc: Global,
+    machine: &mut EmMachine,
+    memory: u64,
+    budget: u64,
+    words: &[u16; EEPROM_WORDS],
+) -> u32
+    ensures { Makes machine.old.sealed.held memory budget words.now result machine.new.sealed.held }
+{
+    make(alloc, machine, memory, budget, Eeprom::of_words(*words))
+}
+
+/// Frees the machine that a handle holds, where it holds one.
+#[unsafe(no_mangle)]
+pub extern "C" fn em_free(alloc: Global, machine: &mut EmMachine)
+    ensures { machine.new.sealed.held ≡ None }
+{
+    drop(machine.take(alloc));
+}
+
+/// Makes a machine in a handle that holds none.
+fn make(alloc: Global, machine: &mut EmMachine, memory: u64, budget: u64, eeprom: Eeprom) -> u32
+    ensures { Makes machine.old.sealed.held memory budget eeprom result machine.new.sealed.held }
+{
+    if machine.made {
+        return Refused::HasMachine.number();
+    }
+    match made(alloc, memory, budget, eeprom) {
+        Ok(made) => {
+            machine.put(made);
+            DONE
+        }
+        Err(refused) => refused.number(),
+    }
+}
+
+/// A new machine in a box.
+fn made(alloc: Global, memory: u64, budget: u64, eeprom: Eeprom) -> Result<Box<Tagged>, Refused>
+    ensures ok { IfOk result (λ made. made.value ≡ new_machine memory budget eeprom) }
+    ensures size { OnOk result (IsMemorySize memory) }
+    ensures budget { OnOk result (IsBudget budget) }
+    ensures err { IfErr result (IsRefusedAs memory budget) }
+{
+    let adapter = match Adapter::new(alloc, memory, eeprom) {
+        Ok(adapter) => adapter,
+        Err(refusal) => return Err(without_adapter(refusal, memory, budget)),
+    };
+    let machine = match Machine::new(alloc, adapter, budget) {
+        Ok(machine) => machine,
+        Err((_, JournalRefusal::Budget)) => return Err(Refused::Budget),
+        Err((_, JournalRefusal::Memory)) => return Err(Refused::Memory),
+    };
+    let Ok(traced) = Traced::new(alloc, machine) else {
+        return Err(Refused::Memory);
+    };
+    let Ok(made) = Box::new(alloc, Tagged { traced, tag: 0 }) else {
+        return Err(Refused::Memory);
+    };
+    Ok(made)
+}
+
+/// Why no machine is made where no adapter was: a budget that is not allowed is named before the want of memory.
+fn without_adapter(refusal: MemRefusal, memory: u64, budget: u64) -> Refused
+    requires { (refusal ≡ MemRefusal.Size) ↔ (IsMemorySize memory → ⊥) }
+    ensures { IsRefusedAs memory budget result }
+{
+    match refusal {
+        MemRefusal::Size => Refused::Size,
+        MemRefusal::Memory if LEAST_BUDGET <= budget && budget <= MOST_BUDGET => Refused::Memory,
+        MemRefusal::Memory => Refused::Budget,
+    }
+}

@@ -1,0 +1,68 @@
+//! Guest memory.
+ghost use Rattle.std.specs.Prelude.{◌≡◌, length};
+ghost use Rattle.em_step.specs.Event.{pokes};
+ghost use Rattle.em_c.specs.Refused.{number, told, Shows};
+ghost use Rattle.em_c.specs.Calls.{Calls};
+ghost use Rattle.em_c.specs.Looks.{asked, octets_at, memory_size};
+
+use crate::handle::EmMachine;
+use crate::refused::{Refused, number, tell};
+use em_step::Event;
+use std::alloc::Global;
+
+/// Software writes octets to guest memory.
+#[unsafe(no_mangle)]
+pub extern "C" fn em_poke(alloc: Global, machine: &mut EmMachine, addr: u64, octets: &[u8]) -> u32
+    ensures { Calls machine.old.sealed.held (pokes addr octets.now) result machine.new.sealed.held }
+{
+    number(machine.perform(alloc, Event::Poke(addr, octets)))
+}
+
+/// Copies octets of guest memory out.
+#[unsafe(no_mangle)]
+pub extern "C" fn em_peek(alloc: Global, machine: &mut EmMachine, addr: u64, out: &mut [u8]) -> u32
+    ensures octets { Shows (asked machine.old.sealed.held (octets_at addr (length out.old))) out.old result out.new }
+    ensures same { machine.new.sealed.held ≡ machine.old.sealed.held }
+{
+    number(copy_out(alloc, machine, addr, out))
+}
+
+/// How many octets guest memory has.
+#[unsafe(no_mangle)]
+pub extern "C" fn em_memory_size(alloc: Global, machine: &mut EmMachine, size: &mut u64) -> u32
+    ensures size { Shows (asked machine.old.sealed.held memory_size) size.old result size.new }
+    ensures same { machine.new.sealed.held ≡ machine.old.sealed.held }
+{
+    tell(memory_size(alloc, machine), size)
+}
+
+/// Copies octets of guest memory out.
+fn copy_out(
+    alloc: Global,
+    machine: &mut EmMachine,
+    addr: u64,
+    out: &mut [u8],
+) -> Result<(), Refused>
+    ensures outcome { number result ≡ number (asked machine.old.sealed.held (octets_at addr (length out.old))) }
+    ensures octets { out.new ≡ told out.old (asked machine.old.sealed.held (octets_at addr (length out.old))) }
+    ensures same { machine.new.sealed.held ≡ machine.old.sealed.held }
+{
+    let held = machine.take(alloc)?;
+    let outcome = held.traced.machine().peek(addr, out);
+    machine.put(held);
+    match outcome {
+        Ok(()) => Ok(()),
+        Err(_) => Err(Refused::Range),
+    }
+}
+
+/// How many octets guest memory has.
+fn memory_size(alloc: Global, machine: &mut EmMachine) -> Result<u64, Refused>
+    ensures size { result ≡ asked machine.old.sealed.held memory_size }
+    ensures same { machine.new.sealed.held ≡ machine.old.sealed.held }
+{
+    let held = machine.take(alloc)?;
+    let size = held.traced.machine().memory_size();
+    machine.put(held);
+    Ok(size)
+}

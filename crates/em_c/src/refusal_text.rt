@@ -1,0 +1,74 @@
+//! What the refusals are called, and what each says.
+ghost use Rattle.std.specs.Prelude.{◌≡◌, ◌↔◌, IfSome, IsNone};
+ghost use Rattle.em_c.specs.Refused.{number, number_of, told, Shows};
+ghost use Rattle.em_c.specs.Looks.{laid_into, length_of};
+ghost use Rattle.em_c.specs.RefusalText.{text_of, text_at, with_number};
+
+use crate::refused::{Refused, number};
+use crate::room::lay;
+
+/// The name of a refusal, and a sentence; how many octets they have is told also where there is no room for them.
+#[unsafe(no_mangle)]
+pub extern "C" fn em_refusal(code: u32, out: &mut [u8], octets: &mut usize) -> u32
+    ensures text { Shows (laid_into out.old (text_at code)) out.old result out.new }
+    ensures octets { octets.new ≡ told octets.old (length_of (text_at code)) }
+{
+    match with_number(code) {
+        Some(refused) => number(lay(text_of(refused).as_bytes(), out, octets)),
+        None => Refused::NoRefusal.number(),
+    }
+}
+
+/// The refusal that has a number.
+fn with_number(code: u32) -> Option<Refused>
+    ensures { result ≡ with_number code }
+{
+    match code {
+        1 => Some(Refused::NoRegister),
+        2 => Some(Refused::Range),
+        3 => Some(Refused::Length),
+        4 => Some(Refused::DmaRange),
+        5 => Some(Refused::Extended),
+        6 => Some(Refused::TooLong),
+        9 => Some(Refused::Memory),
+        24 => Some(Refused::Budget),
+        26 => Some(Refused::NoMachine),
+        27 => Some(Refused::HasMachine),
+        28 => Some(Refused::Size),
+        29 => Some(Refused::NoFrame),
+        30 => Some(Refused::Room),
+        31 => Some(Refused::NoEvent),
+        32 => Some(Refused::NoChange),
+        33 => Some(Refused::NoWatch),
+        34 => Some(Refused::NoName),
+        35 => Some(Refused::NoRefusal),
+        _ => None,
+    }
+}
+
+/// A refusal's name, and what it says.
+fn text_of(refused: Refused) -> &'static str
+    ensures { result.now ≡ text_of refused }
+{
+    match refused {
+        Refused::NoRegister => "NoRegister: no register lies at the offset",
+        Refused::Range => "Range: the octets leave guest memory",
+        Refused::Length => "Length: too few octets, or too many",
+        Refused::DmaRange => "DmaRange: a descriptor or its buffer leaves guest memory",
+        Refused::Extended => "Extended: a transmit descriptor has DEXT",
+        Refused::TooLong => "TooLong: a frame's buffers hold more than 16,380 octets together",
+        Refused::Memory => "Memory: the host gave no memory",
+        Refused::Budget => "Budget: the budget lies outside 65,536 to 16,777,216",
+        Refused::NoMachine => "NotMade: the handle holds no machine",
+        Refused::HasMachine => "MadeAlready: the handle holds a machine already",
+        Refused::Size =>
+            "Size: guest memory has a multiple of 4,096 octets, from 4,096 to 16,777,216",
+        Refused::NoFrame => "NoFrame: so many frames were not sent",
+        Refused::Room => "Room: there is no room for what is told",
+        Refused::NoEvent => "NoEvent: the journal does not hold so many events",
+        Refused::NoChange => "NoChange: no event of the journal changed what is watched",
+        Refused::NoWatch => "NoWatch: there is no such kind of watch",
+        Refused::NoName => "NoName: no register has the name",
+        Refused::NoRefusal => "NoRefusal: no refusal has the number",
+    }
+}

@@ -1,0 +1,97 @@
+//! Why a call did nothing, and the number of each reason.
+ghost use Rattle.std.specs.Prelude.{◌≡◌};
+ghost use Rattle.em_c.specs.Refused.{number_of, of_event, number, Shows};
+
+use em_step::Refusal;
+
+/// The number that a call gives where nothing refused it.
+pub const DONE: u32 = 0;
+
+/// Why a call did nothing. Each reason has a number of its own.
+#[derive(Clone, Copy, PartialEq, Eq, Debug)]
+pub enum Refused {
+    /// No register lies at the offset.
+    NoRegister = 1,
+    /// The range leaves guest memory.
+    Range = 2,
+    /// A memory write outside 1 to 16,384 octets, or a frame outside 14 to 20,000.
+    Length = 3,
+    /// A descriptor or its buffer leaves guest memory.
+    DmaRange = 4,
+    /// A transmit descriptor is extended (DEXT).
+    Extended = 5,
+    /// The gathered octets would exceed 16,380.
+    TooLong = 6,
+    /// The host refused memory.
+    Memory = 9,
+    /// The budget lies outside 65,536 to 16,777,216.
+    Budget = 24,
+    /// The handle holds no machine.
+    NoMachine = 26,
+    /// The handle holds a machine already.
+    HasMachine = 27,
+    /// The size of guest memory is no multiple of 4,096 from 4,096 to 16,777,216.
+    Size = 28,
+    /// So many frames were not sent.
+    NoFrame = 29,
+    /// What is told has more octets than there is room for.
+    Room = 30,
+    /// The journal does not hold so many events.
+    NoEvent = 31,
+    /// The journal holds no change of what is watched.
+    NoChange = 32,
+    /// A watch of a kind that there is not.
+    NoWatch = 33,
+    /// No register has the name.
+    NoName = 34,
+    /// No refusal has the number.
+    NoRefusal = 35,
+}
+
+impl Refused {
+    /// The number of the reason.
+    pub fn number(self) -> u32
+        ensures { result ≡ number_of self }
+    {
+        self as u32
+    }
+
+    /// Why an event was refused.
+    pub fn of_event(refusal: Refusal) -> Refused
+        ensures { result ≡ of_event refusal }
+    {
+        match refusal {
+            Refusal::NoRegister => Refused::NoRegister,
+            Refusal::Range => Refused::Range,
+            Refusal::Length => Refused::Length,
+            Refusal::DmaRange => Refused::DmaRange,
+            Refusal::Extended => Refused::Extended,
+            Refusal::TooLong => Refused::TooLong,
+            Refusal::Memory => Refused::Memory,
+        }
+    }
+}
+
+/// The number that a call gives for an outcome.
+pub fn number<T: Drop>(outcome: Result<T, Refused>) -> u32
+    ensures { result ≡ number outcome }
+{
+    match outcome {
+        Ok(_) => DONE,
+        Err(refused) => refused.number(),
+    }
+}
+
+/// The number that a call gives for an outcome, of which the value goes where it is wanted. A refusal leaves what was
+/// there.
+pub fn tell<T: Drop>(outcome: Result<T, Refused>, place: &mut T) -> u32
+    ensures { Shows outcome place.old result place.new }
+{
+    match outcome {
+        Ok(value) => {
+            *place = value;
+            DONE
+        }
+        Err(refused) => refused.number(),
+    }
+}

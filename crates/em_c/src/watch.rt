@@ -1,0 +1,125 @@
+//! Who changed this last?
+ghost use Rattle.std.specs.Prelude.{◌≡◌, IfOk, IfErr};
+ghost use Rattle.em_c.specs.Watch.{IsWatch, IsNoWatch, change_of, octets_of, value_of, FindsChange};
+
+use crate::handle::EmMachine;
+use crate::refused::{DONE, Refused};
+use em_regs::Reg;
+use em_watch::{Change, MemoryRange, Sight, Watch};
+use std::alloc::Global;
+
+/// How many octets are watched at most.
+const MOST_OCTETS: usize = 16;
+
+/// What is watched.
+#[repr(C)]
+#[derive(Clone, Copy, PartialEq, Eq, Debug)]
+pub struct EmWatch {
+    /// 1: a register; 2: octets of guest memory; 3: the interrupt line; 4: the link; 5: how many frames lie in the
+    /// FIFO; 6: how many frames were sent.
+    pub kind: u32,
+    /// Of a register, its offset.
+    pub offset: u32,
+    /// Of octets, where they begin.
+    pub address: u64,
+    /// Of octets, how many.
+    pub octets: usize,
+}
+
+/// A change of what is watched.
+#[repr(C)]
+#[derive(Clone, Copy, PartialEq, Eq, Debug)]
+pub struct EmChange {
+    /// How many steps back lead before the event that made it: the newest event is 1.
+    pub back: usize,
+    /// What was seen before it, but for octets: of the line and the link 1 or 0.
+    pub value: u64,
+    /// The octets that were seen before it, and zeros behind them.
+    pub before: [u8; MOST_OCTETS],
+}
+
+/// The newest change of what is watched, among the events of the journal.
+#[unsafe(no_mangle)]
+pub extern "C" fn em_last_change(
+    alloc: Global,
+    machine: &mut EmMachine,
+    watch: &EmWatch,
+    change: &mut EmChange,
+) -> u32
+    ensures found { FindsChange machine.old.sealed.held watch.now change.old result change.new }
+    ensures same { machine.new.sealed.held ≡ machine.old.sealed.held }
+{
+    let held = match machine.take(alloc) {
+        Ok(held) => held,
+        Err(refused) => return refused.number(),
+    };
+    let watched = watch_of(*watch);
+    let found = match watched {
+        Ok(watch) => em_watch::last_change(held.traced.machine(), watch),
+        Err(_) => None,
+    };
+    machine.put(held);
+    match (watched, found) {
+        (Err(refused), _) => refused.number(),
+        (Ok(_), None) => Refused::NoChange.number(),
+        (Ok(_), Some(found)) => {
+            *change = change_of(found);
+            DONE
+        }
+    }
+}
+
+/// What a caller watches, or why it is nothing.
+fn watch_of(watch: EmWatch) -> Result<Watch, Refused>
+    ensures ok { IfOk result (IsWatch watch) }
+    ensures err { IfErr result (IsNoWatch watch) }
+{
+    match watch.kind {
+        1 => match Reg::of_offset(watch.offset) {
+            Some(reg) => Ok(Watch::Register(reg)),
+            None => Err(Refused::NoRegister),
+        },
+        2 => match MemoryRange::new(watch.address, watch.octets) {
+            Some(range) => Ok(Watch::Octets(range)),
+            None => Err(Refused::Length),
+        },
+        3 => Ok(Watch::Line),
+        4 => Ok(Watch::Link),
+        5 => Ok(Watch::Frames),
+        6 => Ok(Watch::Sent),
+        _ => Err(Refused::NoWatch),
+    }
+}
+
+/// A change, as C sees it.
+fn change_of(change: Change) -> EmChange
+    ensures { result ≡ change_of change }
+{
+    EmChange {
+        back: change.back,
+        value: value_of(change.before),
+        before: octets_of(change.before),
+    }
+}
+
+/// What was seen as a number.
+fn value_of(sight: Sight) -> u64
+    ensures { result ≡ value_of sight }
+{
+    match sight {
+        Sight::Nothing | Sight::Octets(_) => 0,
+        Sight::Value(value) => u64::from(value),
+        Sight::Line(is) | Sight::Link(is) => { if is { 1 } else { 0 } }
+        Sight::Count(count) => count as u64,
+    }
+}
+
+/// What was seen as octets.
+fn octets_of(sight: Sight) -> [u8; MOST_OCTETS]
+    ensures { result ≡ octets_of sight }
+{
+    match sight {
+        Sight::Octets(octets) => octets,
+        _ => [0; MOST_OCTETS],
+    }
+}

@@ -1,0 +1,131 @@
+//! The wire, the link, the engines and the interrupt line.
+ghost use Rattle.std.specs.Prelude.{◌≡◌};
+ghost use Rattle.em_step.specs.Event.{plain, arrives, links, receives, transmits};
+ghost use Rattle.em_c.specs.Refused.{number, told, Shows};
+ghost use Rattle.em_c.specs.Calls.{Calls, CallsAndTells};
+ghost use Rattle.em_c.specs.Looks.{asked, laid_into, length_of, line, wire_count, wire_frame};
+
+use crate::handle::EmMachine;
+use crate::note::EmNote;
+use crate::refused::{Refused, number, tell};
+use crate::room::lay;
+use em_step::Event;
+use std::alloc::Global;
+
+/// A frame arrives from the wire; what became of it is told.
+#[unsafe(no_mangle)]
+pub extern "C" fn em_arrive(
+    alloc: Global,
+    machine: &mut EmMachine,
+    frame: &[u8],
+    event: &mut EmNote,
+) -> u32
+    ensures { CallsAndTells machine.old.sealed.held (arrives frame.now) event.old result event.new
+        machine.new.sealed.held }
+{
+    tell(machine.perform_noted(alloc, Event::Arrive(frame)), event)
+}
+
+/// The link goes up, or down.
+#[unsafe(no_mangle)]
+pub extern "C" fn em_set_link(alloc: Global, machine: &mut EmMachine, up: bool) -> u32
+    ensures { Calls machine.old.sealed.held (links up) result machine.new.sealed.held }
+{
+    number(machine.perform(alloc, Event::Link(up)))
+}
+
+/// The receive engine handles a descriptor; what it did is told.
+#[unsafe(no_mangle)]
+pub extern "C" fn em_rx_step(alloc: Global, machine: &mut EmMachine, event: &mut EmNote) -> u32
+    ensures { CallsAndTells machine.old.sealed.held receives event.old result event.new machine.new.sealed.held }
+{
+    tell(machine.perform_noted(alloc, Event::RxStep), event)
+}
+
+/// The transmit engine handles a descriptor; what it did is told.
+#[unsafe(no_mangle)]
+pub extern "C" fn em_tx_step(alloc: Global, machine: &mut EmMachine, event: &mut EmNote) -> u32
+    ensures { CallsAndTells machine.old.sealed.held transmits event.old result event.new machine.new.sealed.held }
+{
+    tell(machine.perform_noted(alloc, Event::TxStep), event)
+}
+
+/// The interrupt line: 1 where it is asserted, else 0.
+#[unsafe(no_mangle)]
+pub extern "C" fn em_line(alloc: Global, machine: &mut EmMachine, level: &mut u32) -> u32
+    ensures level { Shows (asked machine.old.sealed.held line) level.old result level.new }
+    ensures same { machine.new.sealed.held ≡ machine.old.sealed.held }
+{
+    tell(line(alloc, machine), level)
+}
+
+/// How many frames were sent.
+#[unsafe(no_mangle)]
+pub extern "C" fn em_wire_count(alloc: Global, machine: &mut EmMachine, count: &mut usize) -> u32
+    ensures count { Shows (asked machine.old.sealed.held wire_count) count.old result count.new }
+    ensures same { machine.new.sealed.held ≡ machine.old.sealed.held }
+{
+    tell(wire_count(alloc, machine), count)
+}
+
+/// Copies a frame out that was sent, the first one at 0, and tells how many octets it has: also where there is no room
+/// for them, and then nothing is copied.
+#[unsafe(no_mangle)]
+pub extern "C" fn em_wire_frame(
+    alloc: Global,
+    machine: &mut EmMachine,
+    index: usize,
+    out: &mut [u8],
+    octets: &mut usize,
+) -> u32
+    ensures frame { Shows (laid_into out.old (asked machine.old.sealed.held (wire_frame index))) out.old result
+        out.new }
+    ensures octets { octets.new ≡ told octets.old (length_of (asked machine.old.sealed.held (wire_frame index))) }
+    ensures same { machine.new.sealed.held ≡ machine.old.sealed.held }
+{
+    number(copy_frame(alloc, machine, index, out, octets))
+}
+
+/// The interrupt line.
+fn line(alloc: Global, machine: &mut EmMachine) -> Result<u32, Refused>
+    ensures level { result ≡ asked machine.old.sealed.held line }
+    ensures same { machine.new.sealed.held ≡ machine.old.sealed.held }
+{
+    let held = machine.take(alloc)?;
+    let asserted = held.traced.machine().line();
+    machine.put(held);
+    Ok(if asserted { 1 } else { 0 })
+}
+
+/// How many frames were sent.
+fn wire_count(alloc: Global, machine: &mut EmMachine) -> Result<usize, Refused>
+    ensures count { result ≡ asked machine.old.sealed.held wire_count }
+    ensures same { machine.new.sealed.held ≡ machine.old.sealed.held }
+{
+    let held = machine.take(alloc)?;
+    let count = held.traced.machine().wire_len();
+    machine.put(held);
+    Ok(count)
+}
+
+/// Copies a frame out that was sent.
+fn copy_frame(
+    alloc: Global,
+    machine: &mut EmMachine,
+    index: usize,
+    out: &mut [u8],
+    octets: &mut usize,
+) -> Result<(), Refused>
+    ensures outcome { number result ≡ number (laid_into out.old (asked machine.old.sealed.held (wire_frame index))) }
+    ensures frame { out.new ≡ told out.old (laid_into out.old (asked machine.old.sealed.held (wire_frame index))) }
+    ensures octets { octets.new ≡ told octets.old (length_of (asked machine.old.sealed.held (wire_frame index))) }
+    ensures same { machine.new.sealed.held ≡ machine.old.sealed.held }
+{
+    let held = machine.take(alloc)?;
+    let outcome = match held.traced.machine().wire_frame(index) {
+        Some(frame) => lay(frame, out, octets),
+        None => Err(Refused::NoFrame),
+    };
+    machine.put(held);
+    outcome
+}

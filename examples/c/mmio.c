@@ -1,0 +1,118 @@
+/* The adapter behind a virtual machine: the callbacks of its register window, its interrupt line, frames from a file.
+
+       cc -I. mmio.c libbunjelav.a -o mmio && ./mmio frames.txt
+
+   A virtual machine calls bar_read and bar_write where its guest touches the window, and deliver where its network has
+   a frame. Here main plays the guest: a driver that enables interrupts, gives buffers, and answers each interrupt. */
+#include "bunjelav.h"
+
+#include <stdio.h>
+#include <stdlib.h>
+
+typedef struct nic {
+  em_machine machine;
+  uint32_t level; /* the interrupt line, as the virtual machine's controller knows it */
+} nic;
+
+/* What this program can't go on after. */
+static void must(uint32_t refusal, const char *what) {
+  if (refusal == EM_OK) return;
+  fprintf(stderr, "mmio: %s was refused: %u\n", what, (unsigned)refusal);
+  exit(1);
+}
+
+/* ---- the device's side */
+
+/* Tells the interrupt controller where the line has another level than it knows. */
+static void update_line(nic *n) {
+  uint32_t level;
+  must(em_line(&n->machine, &level), "the line");
+  if (level != n->level) printf("  irq %s\n", level ? "raised" : "lowered");
+  n->level = level;
+}
+
+/* The guest reads 4 octets of the window. What no register answers reads as ones, as on a bus. */
+static uint32_t bar_read(void *opaque, uint64_t offset) {
+  nic *n = opaque;
+  uint32_t value;
+  if (offset > UINT32_MAX || em_read(&n->machine, (uint32_t)offset, &value) != EM_OK) value = UINT32_MAX;
+  update_line(n);
+  return value;
+}
+
+/* Lets both engines work until they have nothing to do, or refuse what they were given. */
+static void run_engines(nic *n) {
+  em_note event;
+  while (em_rx_step(&n->machine, &event) == EM_OK && event.kind != EM_RX_IDLE)
+    printf("  descriptor %u is written\n", (unsigned)event.value);
+  while (em_tx_step(&n->machine, &event) == EM_OK && event.kind != EM_TX_IDLE)
+    if (event.kind == EM_SENT) printf("  a frame of %u octets is sent\n", (unsigned)event.length);
+  update_line(n);
+}
+
+/* The guest writes 4 octets of the window. */
+static void bar_write(void *opaque, uint64_t offset, uint32_t value) {
+  nic *n = opaque;
+  if (offset <= UINT32_MAX && em_write(&n->machine, (uint32_t)offset, value) == EM_MEMORY) must(EM_MEMORY, "a write");
+  run_engines(n);
+}
+
+/* The network has a frame. */
+static void deliver(nic *n, const uint8_t *frame, size_t length) {
+  em_note event;
+  uint32_t refusal = em_arrive(&n->machine, frame, length, &event);
+  if (refusal == EM_LENGTH) return; /* no Ethernet frame has such a length */
+  must(refusal, "a frame");
+  printf("frame of %zu octets: %s\n", length, event.kind == EM_STORED ? "stored" : "dropped");
+  run_engines(n);
+}
+
+/* ---- the guest's side */
+
+enum { ICR = 0x00C0, IMS = 0x00D0, RCTL = 0x0100, RDBAL = 0x2800, RDLEN = 0x2808, RDT = 0x2818 };
+enum { RXT0 = 0x80, EN = 0x2, BAM = 0x8000, RING = 0x1000, BUFFERS = 0x2000 };
+
+static void start_driver(nic *n) {
+  for (unsigned i = 0; i < 8; i++) { /* the addresses of the buffers, low octet first */
+    const uint8_t address[8] = {0, (uint8_t)((BUFFERS + 0x800 * i) >> 8)};
+    must(em_poke(&n->machine, RING + 16 * i, address, sizeof address), "a descriptor");
+  }
+  bar_write(n, RDBAL, RING);
+  bar_write(n, RDLEN, 8 * 16);
+  bar_write(n, RDT, 7);
+  bar_write(n, IMS, RXT0);
+  bar_write(n, RCTL, EN | BAM);
+}
+
+static void handle_interrupt(nic *n) {
+  while (n->level) printf("  guest reads ICR: %08X\n", (unsigned)bar_read(n, ICR));
+}
+
+/* The next frame of the file: a line of hexadecimal digits. */
+static size_t next_frame(FILE *file, uint8_t *frame, size_t room) {
+  static char digits[40001];
+  size_t length = 0;
+  unsigned octet;
+  if (fscanf(file, "%40000s", digits) != 1) return 0;
+  while (length < room && sscanf(digits + 2 * length, "%2x", &octet) == 1) frame[length++] = (uint8_t)octet;
+  return length;
+}
+
+int main(int count, char **words) {
+  nic n = {EM_NO_MACHINE, 0};
+  const uint8_t mac[6] = {0x52, 0x54, 0x00, 0x12, 0x34, 0x56};
+  static uint8_t frame[20000];
+  size_t length, done, back = 0;
+  FILE *file = count > 1 ? fopen(words[1], "r") : stdin;
+  if (!file) return perror(words[1]), 1;
+  must(em_make(&n.machine, 65536, 1048576, mac), "a machine");
+  must(em_set_link(&n.machine, true), "the link");
+  start_driver(&n);
+  for (; (length = next_frame(file, frame, sizeof frame)) != 0; handle_interrupt(&n)) deliver(&n, frame, length);
+  /* and now the other way: back to where the line was up for the last time */
+  for (uint32_t level = 0; !level && em_back(&n.machine, 1, &done) == EM_OK && done == 1; back++)
+    must(em_line(&n.machine, &level), "the line");
+  printf("the line was up %zu step%s back\n", back, back == 1 ? "" : "s");
+  em_free(&n.machine);
+  return 0;
+}

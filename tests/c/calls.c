@@ -1,0 +1,516 @@
+/* Each call of the C library once, and each refusal: what they give was worked out from the manual's tables. The last
+   line is `N passed, M failed`. The linker hands malloc and realloc to this file (--wrap), which can refuse them. */
+#include "bunjelav.h"
+
+#include <stdio.h>
+#include <string.h>
+
+static unsigned passed, failed;
+
+#define CHECK(condition) \
+  ((condition) ? (void)passed++ : (void)(failed++, printf("calls.c:%d: %s\n", __LINE__, #condition)))
+#define OK(call) CHECK((call) == EM_OK)
+#define REFUSED(call, why) CHECK((call) == (why))
+
+/* ---- memory that is refused */
+
+static bool refusing; /* from here on each request is refused */
+static long refused_after = -1; /* so many more requests are granted; -1: all */
+static long blocks; /* how many blocks are out */
+
+void *__real_malloc(size_t);
+void *__real_realloc(void *, size_t);
+void __real_free(void *);
+void *__wrap_malloc(size_t);
+void *__wrap_realloc(void *, size_t);
+void __wrap_free(void *);
+
+static bool refuses(void) {
+  if (refused_after > 0) {
+    refused_after--;
+    return false;
+  }
+  return refusing || refused_after == 0;
+}
+
+void *__wrap_malloc(size_t octets) {
+  void *block = refuses() ? NULL : __real_malloc(octets);
+  blocks += block != NULL;
+  return block;
+}
+
+void *__wrap_realloc(void *block, size_t octets) { return refuses() ? NULL : __real_realloc(block, octets); }
+
+void __wrap_free(void *block) {
+  blocks -= block != NULL;
+  __real_free(block);
+}
+
+/* ---- registers and descriptors, as the manual has them */
+
+enum {
+  CTRL = 0x0000, STATUS = 0x0008, EERD = 0x0014, ICR = 0x00C0, IMS = 0x00D0, RCTL = 0x0100, TCTL = 0x0400,
+  RDBAL = 0x2800, RDLEN = 0x2808, RDH = 0x2810, RDT = 0x2818,
+  TDBAL = 0x3800, TDLEN = 0x3808, TDH = 0x3810, TDT = 0x3818, RAL0 = 0x5400, RAH0 = 0x5404
+};
+enum { LSC = 0x4, RXT0 = 0x80, TXQE = 0x2, TXDW = 0x1 };
+enum { RCTL_EN = 0x2, RCTL_UPE = 0x8, TCTL_EN = 0x2 };
+enum { EOP = 0x1, RS = 0x8, DEXT = 0x20, DD = 0x1 };
+enum { MEMORY = 65536, BUDGET = 1048576, RX_RING = 0x1000, TX_RING = 0x2000, BUFFER = 0x4000, DESCRIPTORS = 8 };
+
+static const uint8_t MAC[6] = {0x52, 0x54, 0x00, 0x12, 0x34, 0x56};
+
+static em_machine made(void) {
+  em_machine machine = EM_NO_MACHINE;
+  OK(em_make(&machine, MEMORY, BUDGET, MAC));
+  return machine;
+}
+
+static uint32_t read_of(em_machine *machine, uint32_t offset) {
+  uint32_t value = 0xDEAD;
+  OK(em_read(machine, offset, &value));
+  return value;
+}
+
+static size_t reach(em_machine *machine) {
+  size_t count = 12345;
+  OK(em_can_go_back(machine, &count));
+  return count;
+}
+
+/* a descriptor: its buffer, the length, and octets 11 (CMD) and 12 (status) */
+static void put_descriptor(em_machine *machine, uint64_t at, uint64_t buffer, unsigned length, uint8_t command) {
+  uint8_t octets[16] = {0};
+  for (int i = 0; i < 8; i++) octets[i] = (uint8_t)(buffer >> 8 * i);
+  octets[8] = (uint8_t)length;
+  octets[9] = (uint8_t)(length >> 8);
+  octets[11] = command;
+  OK(em_poke(machine, at, octets, sizeof octets));
+}
+
+/* ---- the calls */
+
+static void makes_and_frees(void) {
+  em_machine machine = EM_NO_MACHINE;
+  uint16_t words[64] = {0x5452, 0x1200, 0x5634};
+  REFUSED(em_make(&machine, 4095, BUDGET, MAC), EM_SIZE);
+  REFUSED(em_make(&machine, 4097, 65535, MAC), EM_SIZE);
+  REFUSED(em_make(&machine, 16777216 + 4096, BUDGET, MAC), EM_SIZE);
+  REFUSED(em_make(&machine, 4096, 65535, MAC), EM_BUDGET);
+  REFUSED(em_make(&machine, 4096, 16777217, MAC), EM_BUDGET);
+  CHECK(!machine.made);
+  OK(em_make(&machine, MEMORY, BUDGET, MAC));
+  CHECK(machine.made);
+  REFUSED(em_make(&machine, MEMORY, BUDGET, MAC), EM_MADE_ALREADY);
+  REFUSED(em_make_with_eeprom(&machine, MEMORY, BUDGET, words), EM_MADE_ALREADY);
+  CHECK(read_of(&machine, RAL0) == 0x12005452 && read_of(&machine, RAH0) == 0x80005634);
+  em_free(&machine);
+  CHECK(!machine.made);
+  em_free(&machine);
+  words[63] = 0xCAFE;
+  REFUSED(em_make_with_eeprom(&machine, 0, BUDGET, words), EM_SIZE);
+  OK(em_make_with_eeprom(&machine, 4096, 65536, words));
+  CHECK(read_of(&machine, RAL0) == 0x12005452);
+  OK(em_write(&machine, EERD, 0x3F01)); /* the word at 63 */
+  CHECK(read_of(&machine, EERD) == 0xCAFE3F10);
+  em_free(&machine);
+  CHECK(blocks == 0);
+}
+
+/* each call of a handle that holds no machine */
+static void refuses_an_empty_handle(void) {
+  em_machine machine = EM_NO_MACHINE;
+  uint32_t value = 7;
+  uint64_t size = 7;
+  size_t count = 7;
+  uint8_t octets[14] = {7};
+  em_note event = {7, 7, 7, 7, 7};
+  em_watch watch = {EM_WATCH_LINE, 0, 0, 0};
+  em_change change;
+  memset(&change, 0, sizeof change);
+  change.back = change.value = change.before[15] = 7;
+  REFUSED(em_read(&machine, STATUS, &value), EM_NOT_MADE);
+  REFUSED(em_write(&machine, IMS, 4), EM_NOT_MADE);
+  REFUSED(em_look(&machine, STATUS, &value), EM_NOT_MADE);
+  REFUSED(em_poke(&machine, 0, octets, 1), EM_NOT_MADE);
+  REFUSED(em_peek(&machine, 0, octets, 1), EM_NOT_MADE);
+  REFUSED(em_memory_size(&machine, &size), EM_NOT_MADE);
+  REFUSED(em_arrive(&machine, octets, 14, &event), EM_NOT_MADE);
+  REFUSED(em_set_link(&machine, true), EM_NOT_MADE);
+  REFUSED(em_rx_step(&machine, &event), EM_NOT_MADE);
+  REFUSED(em_tx_step(&machine, &event), EM_NOT_MADE);
+  REFUSED(em_line(&machine, &value), EM_NOT_MADE);
+  REFUSED(em_wire_count(&machine, &count), EM_NOT_MADE);
+  REFUSED(em_wire_frame(&machine, 0, octets, 14, &count), EM_NOT_MADE);
+  REFUSED(em_back(&machine, 1, &count), EM_NOT_MADE);
+  REFUSED(em_can_go_back(&machine, &count), EM_NOT_MADE);
+  REFUSED(em_run_rx(&machine, 1, &count), EM_NOT_MADE);
+  REFUSED(em_run_tx(&machine, 1, &count), EM_NOT_MADE);
+  REFUSED(em_sync_out(&machine, octets, 14), EM_NOT_MADE);
+  REFUSED(em_tag(&machine, 1), EM_NOT_MADE);
+  REFUSED(em_event(&machine, 0, &event), EM_NOT_MADE);
+  REFUSED(em_last_change(&machine, &watch, &change), EM_NOT_MADE);
+  CHECK(change.back == 7 && change.value == 7 && change.before[15] == 7);
+  CHECK(value == 7 && size == 7 && count == 7 && octets[0] == 7);
+  CHECK(event.tag == 7 && event.at == 7 && event.length == 7 && event.value == 7 && event.kind == 7);
+}
+
+static void reads_and_writes_registers(void) {
+  em_machine machine = made();
+  uint32_t value = 7;
+  REFUSED(em_read(&machine, 0x0004, &value), EM_NO_REGISTER);
+  REFUSED(em_write(&machine, 0x0004, 1), EM_NO_REGISTER);
+  REFUSED(em_look(&machine, 0x0004, &value), EM_NO_REGISTER);
+  CHECK(value == 7 && reach(&machine) == 0);
+  CHECK(read_of(&machine, STATUS) == 0x81);
+  OK(em_set_link(&machine, true));
+  CHECK(read_of(&machine, STATUS) == 0x83);
+  OK(em_line(&machine, &value));
+  CHECK(value == 0);
+  OK(em_write(&machine, IMS, LSC));
+  OK(em_line(&machine, &value));
+  CHECK(value == 1);
+  OK(em_look(&machine, ICR, &value));
+  CHECK(value == LSC);
+  CHECK(read_of(&machine, ICR) == LSC);
+  CHECK(read_of(&machine, ICR) == 0);
+  OK(em_line(&machine, &value));
+  CHECK(value == 0);
+  em_free(&machine);
+}
+
+static void reads_and_writes_memory(void) {
+  em_machine machine = made();
+  static uint8_t many[16385];
+  uint8_t out[5] = {9, 9, 9, 9, 9};
+  uint64_t size = 0;
+  OK(em_memory_size(&machine, &size));
+  CHECK(size == MEMORY);
+  OK(em_poke(&machine, 4094, (const uint8_t *)"hello", 5)); /* over two pages */
+  OK(em_peek(&machine, 4094, out, 5));
+  CHECK(memcmp(out, "hello", 5) == 0);
+  REFUSED(em_poke(&machine, MEMORY - 1, out, 2), EM_RANGE);
+  REFUSED(em_poke(&machine, UINT64_MAX, out, 5), EM_RANGE);
+  REFUSED(em_peek(&machine, MEMORY - 4, out, 5), EM_RANGE);
+  REFUSED(em_poke(&machine, 0, out, 0), EM_LENGTH);
+  REFUSED(em_poke(&machine, 0, many, 16385), EM_LENGTH);
+  CHECK(memcmp(out, "hello", 5) == 0);
+  OK(em_poke(&machine, 0, many, 16384));
+  OK(em_peek(&machine, MEMORY, out, 0));
+  OK(em_peek(&machine, MEMORY - 1, out, 1));
+  CHECK(out[0] == 0 && out[1] == 'e');
+  em_free(&machine);
+}
+
+static void syncs(void) {
+  em_machine machine = made();
+  static uint8_t ram[MEMORY + 1];
+  size_t done;
+  memset(ram, 9, sizeof ram);
+  REFUSED(em_sync_out(&machine, ram, MEMORY - 1), EM_LENGTH);
+  REFUSED(em_sync_out(&machine, ram, MEMORY + 1), EM_LENGTH);
+  CHECK(ram[0] == 9);
+  OK(em_poke(&machine, 4094, (const uint8_t *)"hello", 5));
+  OK(em_sync_out(&machine, ram, MEMORY));
+  CHECK(memcmp(ram + 4093, "\0hello", 7) == 0 && ram[MEMORY - 1] == 0 && ram[MEMORY] == 9);
+  OK(em_back(&machine, 1, &done));
+  OK(em_sync_out(&machine, ram, MEMORY));
+  CHECK(ram[4094] == 0 && ram[4098] == 0);
+  em_free(&machine);
+}
+
+/* a frame to ff:ff:ff:ff:ff:ff, of octets that count up */
+static void fill(uint8_t *frame, size_t length) {
+  for (size_t i = 0; i < length; i++) frame[i] = i < 6 ? 0xFF : (uint8_t)i;
+}
+
+static void set_receiving(em_machine *machine) {
+  OK(em_set_link(machine, true));
+  OK(em_write(machine, RDBAL, RX_RING));
+  OK(em_write(machine, RDLEN, 16 * DESCRIPTORS));
+  OK(em_write(machine, RDT, 4));
+  for (unsigned i = 0; i < DESCRIPTORS; i++) put_descriptor(machine, RX_RING + 16 * i, BUFFER + 0x800 * i, 0, 0);
+  OK(em_write(machine, RCTL, RCTL_EN | RCTL_UPE | 0x8000)); /* BAM: broadcasts too */
+}
+
+static void receives(void) {
+  em_machine machine = made();
+  uint8_t frame[20001], out[60], status[8];
+  em_note event = {7, 7, 7, 7, 7};
+  fill(frame, sizeof frame);
+  REFUSED(em_arrive(&machine, frame, 13, &event), EM_LENGTH);
+  REFUSED(em_arrive(&machine, frame, 20001, &event), EM_LENGTH);
+  CHECK(event.kind == 7);
+  OK(em_arrive(&machine, frame, 60, &event));
+  CHECK(event.kind == EM_DOWN && event.length == 60 && event.tag == 0 && event.at == 0 && event.value == 0);
+  OK(em_set_link(&machine, true));
+  OK(em_arrive(&machine, frame, 60, &event));
+  CHECK(event.kind == EM_DISABLED);
+  set_receiving(&machine);
+  OK(em_rx_step(&machine, &event));
+  CHECK(event.kind == EM_RX_IDLE && event.length == 0);
+  OK(em_arrive(&machine, frame, 59, &event));
+  CHECK(event.kind == EM_UNDERSIZE && event.length == 59);
+  OK(em_arrive(&machine, frame, 1519, &event));
+  CHECK(event.kind == EM_OVERSIZE);
+  frame[0] = 0x01; /* another group address, which no filter lets pass */
+  OK(em_arrive(&machine, frame, 60, &event));
+  CHECK(event.kind == EM_REJECTED);
+  frame[0] = 0xFF;
+  OK(em_arrive(&machine, frame, 60, &event));
+  CHECK(event.kind == EM_STORED && event.length == 60);
+  OK(em_rx_step(&machine, &event));
+  CHECK(event.kind == EM_WROTE && event.value == 0 && event.length == 0);
+  OK(em_peek(&machine, BUFFER, out, 60));
+  CHECK(memcmp(out, frame, 60) == 0);
+  OK(em_peek(&machine, RX_RING + 8, status, 8));
+  CHECK(status[0] == 60 && status[1] == 0 && status[4] == 0x07); /* DD, EOP, IXSM */
+  CHECK(read_of(&machine, RDH) == 1 && (read_of(&machine, ICR) & RXT0) != 0);
+  for (int i = 0; i < 1000; i++) {
+    OK(em_arrive(&machine, frame, 1518, &event));
+    if (event.kind == EM_MISSED) break;
+  }
+  CHECK(event.kind == EM_MISSED);
+  OK(em_write(&machine, RDBAL, MEMORY));
+  REFUSED(em_rx_step(&machine, &event), EM_DMA_RANGE);
+  CHECK(event.kind == EM_MISSED);
+  em_free(&machine);
+}
+
+static void sends(void) {
+  em_machine machine = made();
+  uint8_t frame[64], out[64];
+  size_t count = 7, length = 7;
+  em_note event;
+  fill(frame, sizeof frame);
+  OK(em_write(&machine, TDBAL, TX_RING));
+  OK(em_write(&machine, TDLEN, 16 * DESCRIPTORS));
+  OK(em_write(&machine, TCTL, TCTL_EN));
+  OK(em_tx_step(&machine, &event));
+  CHECK(event.kind == EM_TX_IDLE);
+  OK(em_poke(&machine, BUFFER, frame, 64));
+  put_descriptor(&machine, TX_RING, BUFFER, 20, 0);
+  put_descriptor(&machine, TX_RING + 16, BUFFER + 20, 44, EOP | RS);
+  put_descriptor(&machine, TX_RING + 32, BUFFER, 64, EOP | DEXT);
+  put_descriptor(&machine, TX_RING + 48, BUFFER, 16381, EOP);
+  put_descriptor(&machine, TX_RING + 64, MEMORY - 63, 64, EOP);
+  OK(em_write(&machine, TDT, 2));
+  OK(em_wire_count(&machine, &count));
+  CHECK(count == 0);
+  REFUSED(em_wire_frame(&machine, 0, out, 64, &length), EM_NO_FRAME);
+  CHECK(length == 7);
+  OK(em_tx_step(&machine, &event));
+  CHECK(event.kind == EM_FETCHED && event.value == 0 && event.length == 0);
+  OK(em_tx_step(&machine, &event));
+  CHECK(event.kind == EM_SENT && event.value == 1 && event.length == 64);
+  OK(em_wire_count(&machine, &count));
+  CHECK(count == 1 && read_of(&machine, TDH) == 2);
+  CHECK(read_of(&machine, ICR) == (TXDW | TXQE));
+  memset(out, 9, sizeof out);
+  REFUSED(em_wire_frame(&machine, 0, out, 63, &length), EM_ROOM);
+  CHECK(length == 64 && out[0] == 9);
+  OK(em_wire_frame(&machine, 0, out, 64, &length));
+  CHECK(length == 64 && memcmp(out, frame, 64) == 0);
+  OK(em_write(&machine, TDT, 7));
+  REFUSED(em_tx_step(&machine, &event), EM_EXTENDED);
+  OK(em_write(&machine, TDH, 3));
+  REFUSED(em_tx_step(&machine, &event), EM_TOO_LONG);
+  OK(em_write(&machine, TDH, 4));
+  REFUSED(em_tx_step(&machine, &event), EM_DMA_RANGE);
+  CHECK(event.kind == EM_SENT);
+  em_free(&machine);
+}
+
+static void goes_back(void) {
+  em_machine machine = made();
+  size_t done = 7;
+  uint32_t value = 7;
+  OK(em_back(&machine, 5, &done));
+  CHECK(done == 0);
+  OK(em_set_link(&machine, true));
+  OK(em_write(&machine, IMS, LSC));
+  CHECK(read_of(&machine, ICR) == LSC);
+  CHECK(reach(&machine) == 3);
+  OK(em_back(&machine, 1, &done));
+  OK(em_look(&machine, ICR, &value));
+  CHECK(done == 1 && value == LSC && reach(&machine) == 2);
+  OK(em_back(&machine, 0, &done));
+  CHECK(done == 0 && reach(&machine) == 2);
+  OK(em_back(&machine, 99, &done));
+  CHECK(done == 2 && reach(&machine) == 0 && read_of(&machine, STATUS) == 0x81);
+  em_free(&machine);
+}
+
+/* steps until an engine has nothing to do, or is refused */
+static void runs_the_engines(void) {
+  em_machine machine = made();
+  uint8_t frame[60];
+  size_t done = 7;
+  em_note event;
+  fill(frame, sizeof frame);
+  set_receiving(&machine);
+  for (int i = 0; i < 3; i++) OK(em_arrive(&machine, frame, 60, &event));
+  OK(em_run_rx(&machine, 2, &done));
+  CHECK(done == 2 && read_of(&machine, RDH) == 2);
+  OK(em_run_rx(&machine, 2, &done));
+  CHECK(done == 1 && read_of(&machine, RDH) == 3);
+  OK(em_run_rx(&machine, 0, &done));
+  CHECK(done == 0);
+  OK(em_write(&machine, TDBAL, TX_RING));
+  OK(em_write(&machine, TDLEN, 16 * DESCRIPTORS));
+  OK(em_write(&machine, TCTL, TCTL_EN));
+  put_descriptor(&machine, TX_RING, BUFFER, 60, EOP);
+  put_descriptor(&machine, TX_RING + 16, BUFFER, 60, EOP | DEXT);
+  OK(em_write(&machine, TDT, 2));
+  REFUSED(em_run_tx(&machine, 9, &done), EM_EXTENDED);
+  CHECK(done == 1 && read_of(&machine, TDH) == 1);
+  OK(em_write(&machine, TDT, 1));
+  OK(em_run_tx(&machine, 9, &done));
+  CHECK(done == 0);
+  em_free(&machine);
+}
+
+/* which event did what, and under which tag */
+static void tells_who_did_it(void) {
+  em_machine machine = made();
+  em_note event = {7, 7, 7, 7, 7};
+  em_watch watch = {EM_WATCH_REGISTER, RDT, 0, 0};
+  em_change change;
+  memset(&change, 7, sizeof change);
+  REFUSED(em_event(&machine, 0, &event), EM_NO_EVENT);
+  REFUSED(em_last_change(&machine, &watch, &change), EM_NO_CHANGE);
+  CHECK(event.kind == 7 && change.before[0] == 7);
+  OK(em_tag(&machine, 0x123456789ABCDEF0));
+  OK(em_write(&machine, RDT, 5));
+  OK(em_tag(&machine, 42));
+  OK(em_poke(&machine, 0x1234, (const uint8_t *)"abc", 3));
+  CHECK(read_of(&machine, RDT) == 5);
+  OK(em_set_link(&machine, true));
+  OK(em_event(&machine, 0, &event));
+  CHECK(event.kind == EM_LINK_UP && event.tag == 42 && event.at == 0 && event.length == 0 && event.value == 0);
+  OK(em_event(&machine, 1, &event));
+  CHECK(event.kind == EM_READ && event.at == RDT && event.length == 4 && event.value == 5);
+  OK(em_event(&machine, 2, &event));
+  CHECK(event.kind == EM_POKE && event.at == 0x1234 && event.length == 3 && event.value == 0);
+  OK(em_event(&machine, 3, &event));
+  CHECK(event.kind == EM_WRITE && event.at == RDT && event.value == 5 && event.tag == 0x123456789ABCDEF0);
+  REFUSED(em_event(&machine, 4, &event), EM_NO_EVENT);
+  OK(em_last_change(&machine, &watch, &change));
+  CHECK(change.back == 4 && change.value == 0);
+  watch.kind = EM_WATCH_OCTETS, watch.address = 0x1236, watch.octets = 2;
+  OK(em_last_change(&machine, &watch, &change));
+  CHECK(change.back == 3 && change.value == 0 && change.before[0] == 0 && change.before[15] == 0);
+  watch.kind = EM_WATCH_LINK;
+  OK(em_last_change(&machine, &watch, &change));
+  CHECK(change.back == 1 && change.value == 0);
+  watch.kind = EM_WATCH_LINE;
+  REFUSED(em_last_change(&machine, &watch, &change), EM_NO_CHANGE);
+  watch.kind = EM_WATCH_FRAMES;
+  REFUSED(em_last_change(&machine, &watch, &change), EM_NO_CHANGE);
+  watch.kind = EM_WATCH_SENT;
+  REFUSED(em_last_change(&machine, &watch, &change), EM_NO_CHANGE);
+  watch.kind = 7;
+  REFUSED(em_last_change(&machine, &watch, &change), EM_NO_WATCH);
+  watch.kind = EM_WATCH_REGISTER, watch.offset = 4;
+  REFUSED(em_last_change(&machine, &watch, &change), EM_NO_REGISTER);
+  watch.kind = EM_WATCH_OCTETS, watch.octets = 17;
+  REFUSED(em_last_change(&machine, &watch, &change), EM_LENGTH);
+  watch.octets = 0;
+  REFUSED(em_last_change(&machine, &watch, &change), EM_LENGTH);
+  em_free(&machine);
+}
+
+static bool has_text(const uint8_t *room, size_t length, const char *text) {
+  return length == strlen(text) && memcmp(room, text, length) == 0;
+}
+
+static void names_registers_and_refusals(void) {
+  uint8_t room[80];
+  size_t length = 7;
+  uint32_t offset = 7;
+  OK(em_name(ICR, room, sizeof room, &length));
+  CHECK(has_text(room, length, "ICR"));
+  OK(em_name(0x5200 + 4 * 127, room, 8, &length));
+  CHECK(has_text(room, length, "MTA[127]"));
+  room[0] = 9;
+  REFUSED(em_name(0x5200 + 4 * 127, room, 7, &length), EM_ROOM);
+  CHECK(length == 8 && room[0] == 9);
+  REFUSED(em_name(4, room, 8, &length), EM_NO_REGISTER);
+  OK(em_find((const uint8_t *)"rah15", 5, &offset));
+  CHECK(offset == 0x547C);
+  REFUSED(em_find((const uint8_t *)"RAH16", 5, &offset), EM_NO_NAME);
+  REFUSED(em_find((const uint8_t *)"", 0, &offset), EM_NO_NAME);
+  CHECK(offset == 0x547C);
+  OK(em_refusal(EM_RANGE, room, sizeof room, &length));
+  CHECK(has_text(room, length, "Range: the octets leave guest memory"));
+  REFUSED(em_refusal(EM_RANGE, room, 5, &length), EM_ROOM);
+  CHECK(length == 36);
+  REFUSED(em_refusal(EM_OK, room, sizeof room, &length), EM_NO_REFUSAL);
+  REFUSED(em_refusal(7, room, sizeof room, &length), EM_NO_REFUSAL);
+  for (uint32_t code = 0, known = 0; code < 1000; code++) {
+    known += em_refusal(code, room, sizeof room, &length) == EM_OK;
+    if (code == 999) CHECK(known == 18); /* as many as enum em_code has, without EM_OK */
+  }
+}
+
+/* each request for memory is refused in turn; a call that was refused has changed nothing, and leaves nothing behind */
+static void is_refused_memory(void) {
+  em_machine machine = EM_NO_MACHINE;
+  uint32_t code = EM_MEMORY;
+  uint8_t frame[60], out[1];
+  em_note event = {7, 7, 7, 7, 7};
+  long granted;
+  CHECK(blocks == 0);
+  for (granted = 0; granted < 100 && code == EM_MEMORY; granted++) {
+    refused_after = granted;
+    refusing = true;
+    code = em_make(&machine, MEMORY, BUDGET, MAC);
+    refusing = false;
+    refused_after = -1;
+    CHECK(code == EM_OK || (code == EM_MEMORY && !machine.made && blocks == 0));
+  }
+  CHECK(code == EM_OK && granted > 3);
+  set_receiving(&machine);
+  fill(frame, sizeof frame);
+  size_t before = reach(&machine);
+  refusing = true;
+  REFUSED(em_poke(&machine, 0x8000, frame, 60), EM_MEMORY); /* a page that was not written yet */
+  REFUSED(em_write(&machine, CTRL, 0x04000000), EM_MEMORY); /* RST */
+  REFUSED(em_make(&machine, MEMORY, BUDGET, MAC), EM_MADE_ALREADY);
+  REFUSED(em_arrive(&machine, frame, 60, &event), EM_MEMORY);
+  refusing = false;
+  CHECK(event.kind == 7 && reach(&machine) == before);
+  OK(em_peek(&machine, 0x8000, out, 1));
+  CHECK(out[0] == 0 && read_of(&machine, STATUS) == 0x83);
+  em_free(&machine);
+  CHECK(blocks == 0);
+}
+
+static void has_many_machines(void) {
+  em_machine machines[3] = {EM_NO_MACHINE, EM_NO_MACHINE, EM_NO_MACHINE};
+  for (int i = 0; i < 3; i++) OK(em_make(&machines[i], 4096, 65536, MAC));
+  OK(em_set_link(&machines[1], true));
+  CHECK(read_of(&machines[0], STATUS) == 0x81);
+  CHECK(read_of(&machines[1], STATUS) == 0x83);
+  CHECK(read_of(&machines[2], STATUS) == 0x81);
+  for (int i = 0; i < 3; i++) em_free(&machines[i]);
+  CHECK(blocks == 0);
+}
+
+int main(void) {
+  makes_and_frees();
+  refuses_an_empty_handle();
+  reads_and_writes_registers();
+  reads_and_writes_memory();
+  syncs();
+  receives();
+  sends();
+  goes_back();
+  runs_the_engines();
+  tells_who_did_it();
+  names_registers_and_refusals();
+  is_refused_memory();
+  has_many_machines();
+  printf("%u passed, %u failed\n", passed, failed);
+  return failed != 0;
+}
