@@ -61,15 +61,26 @@ module _ {M : Type 1} {𝓤 : Ura M} (𝓛 : Logic 𝓤) (at_mem : Memory → SP
       let w : Val = vstruct (vcons (vint w64 0) (vcons hv vnil)) in
       let Γ : List (Item 𝓤) = ‵ (E.al.row.own_val a (hv ∷ [])) ∷ [] in
       by ! (subst (λ (us : List Val). ent 𝓤 (types.Kit.⋆ 𝓛 Γ) (WpFn 𝓤 H 𝓣.C 𝓣.Λ code.function (us ++ []) Post)) (sym
-          ea)
+      ea)
       (qed 𝓛 Γ ∵ enter ! 𝓣.C 𝓣.Λ code.function (hv ∷ []) _ $ alloc_all ! (λ ls. pass_all ! refl (fa, tt) $
-      sets ! (agg ! (and_then ! (lit ! tt) (and_then ! (get ! refl) (no_more !)))) refl (and_tt (has_ty (layout
-      E.al.row) hv) fa.0, (record { fits = lit< tt }, (fa.1, tt))) $ returns ! (look_at ! 0 refl) $ free_all ! refl $
+      sets ! (agg ! (and_then ! (lit ! tt) (and_then ! (get ! refl) (no_more !)))) refl (
+        and_tt (has_ty (layout
+            E.al.row) hv) fa.0,
+        (record { fits = lit< tt }, (fa.1, tt)),
+      ) $ returns ! (look_at ! 0 refl) $ free_all ! refl $
       nothing ! $ nothing ! $ move ! (2 ∷ 0 ∷ []) $ fjoin ! $
       feq_i ! (List Val) (vint w64 0 ∷ []) (vint w64 0 ∷ []) refl $ fjoin ! $
       feq_i ! (List Val) (w ∷ []) (w ∷ []) refl $ fjoin ! $
-      fpack ! (Valss (RawPtr ∷ (Heap.the_field).row ∷ [])) (within (shape Sealed.the_type) (null_ptr, (((tt, tt),
-      tt), tt)) (w ∷ [])) (vint w64 0 ∷ [], (hv ∷ [], tt)) $ fjoin ! $
+      fpack ! (Valss (RawPtr ∷ (Heap.the_field).row ∷ [])) (within (shape Sealed.the_type) (
+        null_ptr,
+        (
+          (
+            (tt, tt),
+            tt,
+          ),
+          tt,
+        ),
+      ) (w ∷ [])) (vint w64 0 ∷ [], (hv ∷ [], tt)) $ fjoin ! $
       suffices ! _ (ends_at 𝓛 F.ended stayed (F.clauses 𝓛 at_mem run) z w made (tt, tt) (tt, tt)) $ says ! refl $
       nothing ! $ nothing ! $ fjoin ! $ join ! $ nothing ! $ join ! $ done !))))
 
