@@ -137,6 +137,17 @@ uint32_t em_write(em_machine *machine, uint32_t offset, uint32_t value);
 /* What a read would give. It is no event, and clears nothing. */
 uint32_t em_look(em_machine *machine, uint32_t offset, uint32_t *value);
 
+/* A register, and what a read of it would give. */
+typedef struct em_register {
+  uint32_t offset;
+  uint32_t value;
+} em_register;
+
+/* All registers that are not zero, by offset: at most EM_REGISTERS of them. Where `room` is too small it is refused as
+   EM_ROOM, and `count` tells how much is needed. It is no event. The cost is that of some thousand looks. */
+#define EM_REGISTERS 350
+uint32_t em_registers(em_machine *machine, em_register *out, size_t room, size_t *count);
+
 /* ---- guest memory; the cost is that of copying the octets */
 
 /* The driver writes 1 to 16,384 octets. */

@@ -61,6 +61,10 @@ class _Note(ctypes.Structure):
     ]
 
 
+class _Register(ctypes.Structure):
+    _fields_ = [("offset", ctypes.c_uint32), ("value", ctypes.c_uint32)]
+
+
 class _Watch(ctypes.Structure):
     _fields_ = [
         ("kind", ctypes.c_uint32),
@@ -84,8 +88,10 @@ _CALLS = {
     "em_read": [_H, _U32, _P32],
     "em_write": [_H, _U32, _U32],
     "em_look": [_H, _U32, _P32],
+    "em_registers": [_H, ctypes.POINTER(_Register), SIZE_T, _PSIZE],
     "em_poke": [_H, _U64, _OCTETS, SIZE_T],
     "em_peek": [_H, _U64, _ROOM, SIZE_T],
+    "em_sync_out": [_H, _ROOM, SIZE_T],
     "em_memory_size": [_H, _P64],
     "em_arrive": [_H, _OCTETS, SIZE_T, _PNOTE],
     "em_set_link": [_H, ctypes.c_bool],
@@ -367,17 +373,19 @@ class Machine:
 
     def registers(self) -> Dict[str, int]:
         """The registers that are not 0, by name, in the order of their offsets."""
-        shown, value = {}, _U32()
-        for offset in range(0, 0x5800, 4):
-            if _library.em_look(self._at, offset, ctypes.byref(value)) == DONE and value.value:
-                shown[name_of(offset)] = value.value
-        return shown
+        room, count = (_Register * 350)(), SIZE_T()
+        _must(_library.em_registers(self._at, room, len(room), ctypes.byref(count)))
+        return {name_of(one.offset): one.value for one in room[: count.value]}
 
     # ---- memory, the wire, the link, the engines
 
     def poke(self, address: int, octets: bytes) -> None:
         """The driver writes 1 to 16,384 octets to guest memory: one event."""
         _must(_library.em_poke(self._at, address, bytes(octets), len(octets)))
+
+    def sync_out(self, ram: bytearray) -> None:
+        """Makes a bytearray what guest memory is; it has to be as large."""
+        _must(_library.em_sync_out(self._at, (ctypes.c_uint8 * len(ram)).from_buffer(ram), len(ram)))
 
     def arrive(self, frame: bytes) -> Event:
         """A frame arrives; the event says what became of it."""

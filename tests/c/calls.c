@@ -125,6 +125,7 @@ static void refuses_an_empty_handle(void) {
   size_t count = 7;
   uint8_t octets[14] = {7};
   em_note event = {7, 7, 7, 7, 7};
+  em_register one = {7, 7};
   em_watch watch = {EM_WATCH_LINE, 0, 0, 0};
   em_change change;
   memset(&change, 0, sizeof change);
@@ -147,6 +148,8 @@ static void refuses_an_empty_handle(void) {
   REFUSED(em_run_rx(&machine, 1, &count), EM_NOT_MADE);
   REFUSED(em_run_tx(&machine, 1, &count), EM_NOT_MADE);
   REFUSED(em_sync_out(&machine, octets, 14), EM_NOT_MADE);
+  REFUSED(em_registers(&machine, &one, 1, &count), EM_NOT_MADE);
+  CHECK(one.offset == 7 && one.value == 7);
   REFUSED(em_tag(&machine, 1), EM_NOT_MADE);
   REFUSED(em_event(&machine, 0, &event), EM_NOT_MADE);
   REFUSED(em_last_change(&machine, &watch, &change), EM_NOT_MADE);
@@ -176,6 +179,32 @@ static void reads_and_writes_registers(void) {
   CHECK(read_of(&machine, ICR) == 0);
   OK(em_line(&machine, &value));
   CHECK(value == 0);
+  em_free(&machine);
+}
+
+/* as a look at each offset tells them */
+static void lists_registers(void) {
+  em_machine machine = made();
+  em_register all[EM_REGISTERS];
+  size_t count = 7, needed = 7, k = 0;
+  uint32_t value;
+  memset(all, 9, sizeof all);
+  OK(em_write(&machine, RDT, 5));
+  REFUSED(em_registers(&machine, all, 3, &needed), EM_ROOM);
+  CHECK(all[0].offset == 0x09090909);
+  OK(em_registers(&machine, all, EM_REGISTERS, &count));
+  CHECK(needed == 4 && count == 4 && all[0].offset == STATUS && all[0].value == 0x81);
+  CHECK(all[1].offset == RDT && all[1].value == 5 && all[2].offset == RAL0 && all[3].offset == RAH0);
+  for (uint32_t offset = 0; offset < 0x5800; offset += 4) {
+    if (em_look(&machine, offset, &value) != EM_OK || value == 0) continue;
+    CHECK(k < count && all[k].offset == offset && all[k].value == value);
+    k++;
+  }
+  CHECK(k == count && (count == EM_REGISTERS || all[count].offset == 0x09090909));
+  for (uint32_t offset = 0x2800; offset < 0x5800; offset += 4) (void)em_write(&machine, offset, UINT32_MAX);
+  for (uint32_t offset = 0x0C0; offset < 0x2800; offset += 4) (void)em_write(&machine, offset, UINT32_MAX);
+  OK(em_registers(&machine, all, EM_REGISTERS, &count));
+  CHECK(count > 300 && count < EM_REGISTERS);
   em_free(&machine);
 }
 
@@ -501,6 +530,7 @@ int main(void) {
   makes_and_frees();
   refuses_an_empty_handle();
   reads_and_writes_registers();
+  lists_registers();
   reads_and_writes_memory();
   syncs();
   receives();

@@ -51,8 +51,9 @@ class Registers(unittest.TestCase):
         self.assertFalse(m.line)
         m["RDT"] = 7
         m.write("RDH", 3)
-        self.assertEqual(m.registers()["RDT"], 7)
-        self.assertEqual(m.registers()["STATUS"], 0x83)
+        shown = m.registers()
+        self.assertEqual(list(shown), ["STATUS", "IMS", "RDH", "RDT", "RAL0", "RAH0"])
+        self.assertEqual((shown["RDT"], shown["STATUS"], shown["RAH0"]), (7, 0x83, 0x80005634))
 
     def test_what_is_refused(self):
         m = Machine()
@@ -83,6 +84,13 @@ class MemoryAndFrames(unittest.TestCase):
         self.assertRaises(bunjelav.Length, m.poke, 0, b"")
         self.assertRaises(ValueError, m.memory.__setitem__, slice(0, 4), b"12345")
         self.assertRaises(bunjelav.Range, m.memory.__getitem__, 65536)
+
+    def test_copied_out(self):
+        m, ram = Machine(), bytearray(65536)
+        m.memory[4094:4099] = b"hello"
+        m.sync_out(ram)
+        self.assertEqual(ram[4093:4100], b"\0hello\0")
+        self.assertRaises(bunjelav.Length, m.sync_out, bytearray(4096))
 
     def test_receiving(self):
         m = receiving()

@@ -33,5 +33,6 @@ mod raw;
 mod refusal;
 
 pub use event::{offset_of, Change, Event, Kind, Name, Watch};
-pub use machine::{Events, Frame, Frames, Machine, MOST_SENT};
+pub use machine::{Events, Frame, Frames, Machine, MOST_SENT, REGISTERS};
+pub use raw::Register;
 pub use refusal::Refusal;

@@ -1,9 +1,13 @@
 //! A machine.
 use crate::raw;
+use crate::raw::Register;
 use crate::{Change, Event, Refusal, Watch};
 
 /// Room in which each frame that a machine sends fits.
 pub const MOST_SENT: usize = 16_384;
+
+/// How many registers there are.
+pub const REGISTERS: usize = 350;
 
 /// An adapter with its guest's memory and a journal of its latest events.
 ///
@@ -65,6 +69,18 @@ impl Machine {
         let mut value = 0;
         told(unsafe { raw::em_look(&mut self.handle, offset, &mut value) }, ())?;
         Ok(value)
+    }
+
+    /// Puts the registers that are not zero into the room for them, by offset, and gives how many they are.
+    pub fn registers(&mut self, out: &mut [Register]) -> Result<usize, Refusal> {
+        let mut count = 0;
+        told(unsafe { raw::em_registers(&mut self.handle, out.as_mut_ptr(), out.len(), &mut count) }, ())?;
+        Ok(count)
+    }
+
+    /// Makes `ram` what guest memory is; it has to be as large.
+    pub fn sync_out(&mut self, ram: &mut [u8]) -> Result<(), Refusal> {
+        told(unsafe { raw::em_sync_out(&mut self.handle, ram.as_mut_ptr(), ram.len()) }, ())
     }
 
     /// The driver writes 1 to 16,384 octets to guest memory.

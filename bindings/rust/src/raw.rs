@@ -18,6 +18,14 @@ pub(crate) struct Note {
     pub kind: u32,
 }
 
+/// A register, and what a read of it would give (`em_register`).
+#[repr(C)]
+#[derive(Clone, Copy, PartialEq, Eq, Hash, Debug, Default)]
+pub struct Register {
+    pub offset: u32,
+    pub value: u32,
+}
+
 /// What is watched (`em_watch`).
 #[repr(C)]
 #[derive(Clone, Copy, Default)]
@@ -44,8 +52,10 @@ extern "C" {
     pub(crate) fn em_read(m: *mut Handle, offset: u32, value: *mut u32) -> u32;
     pub(crate) fn em_write(m: *mut Handle, offset: u32, value: u32) -> u32;
     pub(crate) fn em_look(m: *mut Handle, offset: u32, value: *mut u32) -> u32;
+    pub(crate) fn em_registers(m: *mut Handle, out: *mut Register, room: usize, count: *mut usize) -> u32;
     pub(crate) fn em_poke(m: *mut Handle, address: u64, octets: *const u8, length: usize) -> u32;
     pub(crate) fn em_peek(m: *mut Handle, address: u64, out: *mut u8, length: usize) -> u32;
+    pub(crate) fn em_sync_out(m: *mut Handle, ram: *mut u8, size: usize) -> u32;
     pub(crate) fn em_memory_size(m: *mut Handle, size: *mut u64) -> u32;
     pub(crate) fn em_arrive(m: *mut Handle, frame: *const u8, length: usize, note: *mut Note) -> u32;
     pub(crate) fn em_set_link(m: *mut Handle, up: bool) -> u32;

@@ -1,5 +1,5 @@
 //! Each call of the binding once, and each refusal: what they give was worked out from the manual's tables.
-use bunjelav::{offset_of, Kind, Machine, Name, Refusal, Watch};
+use bunjelav::{offset_of, Kind, Machine, Name, Refusal, Register, Watch, REGISTERS};
 
 const MAC: [u8; 6] = [0x52, 0x54, 0x00, 0x12, 0x34, 0x56];
 const STATUS: u32 = 0x0008;
@@ -69,6 +69,19 @@ fn reads_and_writes() {
     assert_eq!(m.poke(0, b""), Err(Refusal::Length));
     assert_eq!(m.peek(65_532, &mut out), Err(Refusal::Range));
     assert_eq!(&out, b"hello");
+}
+
+#[test]
+fn lists_registers_and_copies_memory() {
+    let mut m = made();
+    m.write(RDT, 5).unwrap();
+    m.poke(4_094, b"hello").unwrap();
+    let mut room = [Register::default(); REGISTERS];
+    assert_eq!((m.registers(&mut room[..3]), m.registers(&mut room)), (Err(Refusal::Room), Ok(4)));
+    assert_eq!(room[..2], [Register { offset: STATUS, value: 0x81 }, Register { offset: RDT, value: 5 }]);
+    let mut ram = vec![9; 65_536];
+    assert_eq!(m.sync_out(&mut ram[1..]), Err(Refusal::Length));
+    assert_eq!((m.sync_out(&mut ram), &ram[4_093..4_100]), (Ok(()), b"\0hello\0".as_slice()));
 }
 
 #[test]

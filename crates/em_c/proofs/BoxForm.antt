@@ -1,5 +1,5 @@
 -- What a seal and its parts own is what a box of a machine owns: the walks take the steps of std's boxes at these
-types.
+-- types.
 use mathlib.Core.List.{[]}
 use mir.Syntax.{impl, tnil, dnil}
 use denote.Signature.{Slot, plain}

@@ -1,3 +1,4 @@
 pub mod BoxForm
 pub mod TrailBack
 pub mod RunLaws
+pub mod RegisterLaws

@@ -10,3 +10,4 @@ pub mod Names
 pub mod Run
 pub mod Watch
 pub mod RefusalText
+pub mod AllRegisters

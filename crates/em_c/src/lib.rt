@@ -4,6 +4,7 @@
 //! nothing: neither the machine, nor what a pointer points to.
 #![tactic(auto)]
 
+mod all_registers;
 mod back;
 mod handle;
 mod making;
