@@ -58,7 +58,8 @@ typedef enum em_code {
   EM_OK = 0,           /* nothing refused it */
   EM_NO_REGISTER = 1,  /* no register lies at the offset */
   EM_RANGE = 2,        /* the octets leave guest memory */
-  EM_LENGTH = 3,       /* a memory write outside 1 to 16,384 octets, or a frame outside 14 to 20,000 */
+  EM_LENGTH = 3,       /* a memory write outside 1 to 16,384 octets, a frame outside 14 to 20,000, a watch outside 1 to
+                          16, or a copy of guest memory of another size */
   EM_DMA_RANGE = 4,    /* a descriptor, or the buffer that it names, leaves guest memory */
   EM_EXTENDED = 5,     /* a transmit descriptor is extended (DEXT) */
   EM_TOO_LONG = 6,     /* the buffers of one frame would hold more than 16,380 octets together */
