@@ -1,0 +1,259 @@
+/* Bunjelav: Intel's 82540EM as a model that can be stepped backwards, as a library for C and C++.
+
+   A machine is an adapter with its guest's memory and a journal of its latest events. A driver, or a virtual machine,
+   reads and writes its registers and its memory, hands it frames, and takes frames from its wire; then it takes events
+   back, one by one, and looks.
+
+       em_machine m = EM_NO_MACHINE;
+       const uint8_t mac[6] = {0x52, 0x54, 0x00, 0x12, 0x34, 0x56};
+       if (em_make(&m, 65536, 1048576, mac) != EM_OK) ...
+       em_write(&m, 0x00D0, 4);
+       em_free(&m);
+
+   WHAT EACH CALL GIVES. EM_OK, which is 0, or the number of the reason why it did nothing (enum em_code). A call
+   that was refused has changed nothing: neither the machine, nor what a pointer points to. Only the calls that fill
+   room also tell how much they need, and em_run_rx and em_run_tx tell how many steps went well before the one that was
+   refused. What a call tells goes through its last pointers.
+
+   WHAT MUST HOLD. The proofs of the library rest on this, and nothing checks it:
+
+   - Each pointer is valid, aligned for its type, and not null; it points to as many elements as its type or the length
+     beside it says. A length may be 0: nothing is then read or written there, but the pointer is still not null.
+   - What two pointers of one call are to write, or one is to write and another to read, does not overlap; nor does it
+     overlap the handle.
+   - A handle begins as EM_NO_MACHINE. From then on only this library writes it. It is not copied, moved by memcpy while
+     its copy is used, or written by hand; it may be moved as a whole, where its old place is then not used again.
+   - One call at a time is made with a handle. Another thread may make the next one, where a lock, a start, a join or
+     the like orders the two. Machines share nothing: each may have a thread of its own, and there may be any number.
+   - No call is made from a signal handler, or in a forked child of a process with threads.
+   - malloc, realloc and free of the process are one allocator's, and align a block of n octets to each power of two up
+     to 16 that divides n. (Each C library's are.)
+   - A machine holds memory until em_free.
+
+   WHAT EACH CALL COSTS is said with it: "constant" means no loop over what the machine holds, and some ten
+   nanoseconds. Calls that are events also let the oldest records go that the budget no longer holds. */
+#ifndef BUNJELAV_H
+#define BUNJELAV_H
+
+#include <stdbool.h>
+#include <stddef.h>
+#include <stdint.h>
+
+#ifdef __cplusplus
+extern "C" {
+#endif
+
+/* A handle: it holds a machine, or none. Its fields are the library's own. */
+typedef struct em_machine {
+  bool made;
+  void *held;
+} em_machine;
+
+/* What a handle is before em_make and after em_free: `em_machine m = EM_NO_MACHINE;`. */
+#define EM_NO_MACHINE \
+  { false, NULL }
+
+/* Why a call did nothing. The numbers stay as they are. */
+typedef enum em_code {
+  EM_OK = 0,           /* nothing refused it */
+  EM_NO_REGISTER = 1,  /* no register lies at the offset */
+  EM_RANGE = 2,        /* the octets leave guest memory */
+  EM_LENGTH = 3,       /* a memory write outside 1 to 16,384 octets, a frame outside 14 to 20,000, a watch outside 1 to
+                          16, or a copy of guest memory of another size */
+  EM_DMA_RANGE = 4,    /* a descriptor, or the buffer that it names, leaves guest memory */
+  EM_EXTENDED = 5,     /* a transmit descriptor is extended (DEXT) */
+  EM_TOO_LONG = 6,     /* the buffers of one frame would hold more than 16,380 octets together */
+  EM_MEMORY = 9,       /* malloc or realloc gave no memory */
+  EM_BUDGET = 24,      /* a budget outside 65,536 to 16,777,216 */
+  EM_NOT_MADE = 26,    /* the handle holds no machine */
+  EM_MADE_ALREADY = 27, /* the handle holds a machine already */
+  EM_SIZE = 28,        /* a guest memory that is no multiple of 4,096 from 4,096 to 16,777,216 octets */
+  EM_NO_FRAME = 29,    /* so many frames were not sent */
+  EM_ROOM = 30,        /* what is told has more octets than there is room for */
+  EM_NO_EVENT = 31,    /* the journal does not hold so many events */
+  EM_NO_CHANGE = 32,   /* no event of the journal changed what is watched */
+  EM_NO_WATCH = 33,    /* there is no such kind of watch */
+  EM_NO_NAME = 34,     /* no register has the name */
+  EM_NO_REFUSAL = 35   /* no refusal has the number */
+} em_code;
+
+/* What an event was, and what came of it. The numbers stay as they are. */
+typedef enum em_kind {
+  EM_READ = 1,          /* a read of a register */
+  EM_WRITE = 2,         /* a write of a register */
+  EM_POKE = 3,          /* a write of octets to guest memory */
+  EM_LINK_UP = 4,       /* the link went up, or was up */
+  EM_LINK_DOWN = 5,     /* the link went down, or was down */
+  EM_RX_IDLE = 6,       /* a step of the receive engine that had nothing to do */
+  EM_WROTE = 7,         /* a step of the receive engine that wrote a piece of a frame */
+  EM_TX_IDLE = 8,       /* a step of the transmit engine that had nothing to do */
+  EM_FETCHED = 9,       /* a step of the transmit engine that fetched a buffer and sent no frame */
+  EM_SENT = 10,         /* a step of the transmit engine that sent a frame */
+  EM_STORED = 11,       /* a frame that arrived, and lies in the FIFO */
+  EM_DOWN = 12,         /* a frame that was dropped: the link is down */
+  EM_DISABLED = 13,     /* a frame that was dropped: RCTL.EN is clear */
+  EM_REJECTED = 14,     /* a frame that was dropped: no filter accepts its destination, or its VLAN */
+  EM_UNDERSIZE = 15,    /* a frame that was dropped: it is shorter than a frame can be */
+  EM_OVERSIZE = 16,     /* a frame that was dropped: it is longer than RCTL.LPE allows */
+  EM_MISSED = 17        /* a frame that was dropped: the FIFO has no room for it */
+} em_kind;
+
+/* An event that was performed. */
+typedef struct em_note {
+  uint64_t tag;    /* what the caller called it by */
+  uint64_t at;     /* of an access the register's offset, of a memory write its address; else 0 */
+  uint32_t length; /* octets: of an access 4, of a memory write those written, of a frame that arrived or was sent the
+                      frame's; else 0 */
+  uint32_t value;  /* of a read the value that it gave, of a write the value written, of a step of an engine that was
+                      not idle the descriptor's index; else 0 */
+  uint32_t kind;   /* an em_kind */
+} em_note;
+
+/* Room in which each frame that a machine sends fits: 16,380 gathered octets and a tag. */
+#define EM_MOST_SENT 16384
+
+/* ---- making and freeing */
+
+/* Makes a machine as after a reset: `memory` octets of guest memory, all zero; the link down; this Ethernet address in
+   the EEPROM, with its checksum; a journal that holds as many of the latest events as `budget` octets of cost allow
+   (each costs at least 32). Refused as EM_MADE_ALREADY, EM_SIZE, EM_BUDGET or EM_MEMORY, the first that holds. It takes
+   two and a half times the budget of memory, and guest memory by pages, as they are written. */
+uint32_t em_make(em_machine *machine, uint64_t memory, uint64_t budget, const uint8_t mac[6]);
+
+/* The same with the 64 words of the EEPROM. */
+uint32_t em_make_with_eeprom(em_machine *machine, uint64_t memory, uint64_t budget, const uint16_t words[64]);
+
+/* Frees the machine that the handle holds, if it holds one; then it holds none, and may be made again. Cost: the
+   journal's records, and the pages that were written. */
+void em_free(em_machine *machine);
+
+/* ---- registers; constant, but for a write of CTRL that resets */
+
+/* The driver reads the register at an offset in octets (a multiple of 4, as the manual's tables have it). */
+uint32_t em_read(em_machine *machine, uint32_t offset, uint32_t *value);
+
+/* The driver writes a register. */
+uint32_t em_write(em_machine *machine, uint32_t offset, uint32_t value);
+
+/* What a read would give. It is no event, and clears nothing. */
+uint32_t em_look(em_machine *machine, uint32_t offset, uint32_t *value);
+
+/* A register, and what a read of it would give. */
+typedef struct em_register {
+  uint32_t offset;
+  uint32_t value;
+} em_register;
+
+/* All registers that are not zero, by offset: at most EM_REGISTERS of them. Where `room` is too small it is refused as
+   EM_ROOM, and `count` tells how much is needed. It is no event. The cost is that of some thousand looks. */
+#define EM_REGISTERS 350
+uint32_t em_registers(em_machine *machine, em_register *out, size_t room, size_t *count);
+
+/* ---- guest memory; the cost is that of copying the octets */
+
+/* The driver writes 1 to 16,384 octets. */
+uint32_t em_poke(em_machine *machine, uint64_t address, const uint8_t *octets, size_t length);
+
+/* Copies octets out; any number of them. It is no event. */
+uint32_t em_peek(em_machine *machine, uint64_t address, uint8_t *out, size_t length);
+
+/* Makes `ram` what guest memory is, after events and after steps back. Refused as EM_LENGTH where `size` is not the size
+   of guest memory. The cost is that of copying it. */
+uint32_t em_sync_out(em_machine *machine, uint8_t *ram, size_t size);
+
+/* How many octets guest memory has. Constant. */
+uint32_t em_memory_size(em_machine *machine, uint64_t *size);
+
+/* ---- the wire, the link, and the engines; the cost is that of copying the frame, or its piece */
+
+/* A frame of 14 to 20,000 octets arrives, without its FCS; the event tells what became of it: EM_STORED, or why it was
+   dropped. */
+uint32_t em_arrive(em_machine *machine, const uint8_t *frame, size_t length, em_note *event);
+
+/* The link goes up, or down. Constant. */
+uint32_t em_set_link(em_machine *machine, bool up);
+
+/* The receive engine handles one descriptor: EM_RX_IDLE, or EM_WROTE with the descriptor's index. */
+uint32_t em_rx_step(em_machine *machine, em_note *event);
+
+/* The transmit engine handles one descriptor: EM_TX_IDLE, or EM_FETCHED or EM_SENT with the descriptor's index. */
+uint32_t em_tx_step(em_machine *machine, em_note *event);
+
+/* An engine steps until a step is idle or refused, and at most n times that are neither; `done` tells how many those
+   were. An idle step is an event too. The cost is that of the steps. */
+uint32_t em_run_rx(em_machine *machine, size_t n, size_t *done);
+uint32_t em_run_tx(em_machine *machine, size_t n, size_t *done);
+
+/* The interrupt line: 1 where it is asserted, else 0. Constant. */
+uint32_t em_line(em_machine *machine, uint32_t *level);
+
+/* How many frames were sent since the machine was made. Constant. */
+uint32_t em_wire_count(em_machine *machine, size_t *count);
+
+/* Copies a frame that was sent, the first one at 0, to the head of `out`, and tells its length. Where `room` is too
+   small it is refused as EM_ROOM, and `length` tells how much is needed; EM_MOST_SENT is always enough. */
+uint32_t em_wire_frame(em_machine *machine, size_t index, uint8_t *out, size_t room, size_t *length);
+
+/* ---- back */
+
+/* Takes the newest n events back, or as many as the journal holds, and tells how many: the machine is as it was before
+   them. The cost is theirs. */
+uint32_t em_back(em_machine *machine, size_t n, size_t *done);
+
+/* How many events can be taken back. Constant. */
+uint32_t em_can_go_back(em_machine *machine, size_t *count);
+
+/* ---- what happened, and who did it */
+
+/* The tag of the events from now on: a line's number, a program counter. It begins as 0. Constant. */
+uint32_t em_tag(em_machine *machine, uint64_t tag);
+
+/* What an event of the journal was: the newest at k = 0, as many as em_can_go_back tells. Constant. */
+uint32_t em_event(em_machine *machine, size_t k, em_note *event);
+
+/* What is watched. */
+typedef struct em_watch {
+  uint32_t kind;    /* an em_watched */
+  uint32_t offset;  /* of a register */
+  uint64_t address; /* of octets, where they begin */
+  size_t octets;    /* and how many: 1 to 16 */
+} em_watch;
+
+typedef enum em_watched {
+  EM_WATCH_REGISTER = 1, /* a register, as em_look shows it */
+  EM_WATCH_OCTETS = 2,   /* octets of guest memory */
+  EM_WATCH_LINE = 3,     /* the interrupt line */
+  EM_WATCH_LINK = 4,     /* the link */
+  EM_WATCH_FRAMES = 5,   /* how many frames lie in the FIFO */
+  EM_WATCH_SENT = 6 /* how many frames were sent */
+} em_watched;
+
+/* A change of what is watched. */
+typedef struct em_change {
+  size_t back;        /* so many steps back lead before the event that made it: em_event tells of it at back - 1 */
+  uint64_t value;     /* what was seen before it, but for octets; of the line and the link 1 or 0 */
+  uint8_t before[16]; /* the octets that were seen before it, and zeros behind them */
+} em_change;
+
+/* The newest change of what is watched, with nothing taken back; refused as EM_NO_CHANGE where the journal has none.
+   The cost is that of a look into each record back to there. */
+uint32_t em_last_change(em_machine *machine, const em_watch *watch, em_change *change);
+
+/* ---- names; no machine is needed */
+
+/* The manual's name of the register at an offset, without a zero behind it: MTA[5], RAL0. None has more than 9 letters.
+   Where `room` is too small it is refused as EM_ROOM, and `length` tells how much is needed. Constant. */
+uint32_t em_name(uint32_t offset, uint8_t *out, size_t room, size_t *length);
+
+/* The offset of the register that has this name, in either case of its letters. The cost is some hundred comparisons. */
+uint32_t em_find(const uint8_t *name, size_t length, uint32_t *offset);
+
+/* The name of a refusal, and a sentence: "Range: the octets leave guest memory". None has more than 80 octets. Where
+   `room` is too small it is refused as EM_ROOM, and `length` tells how much is needed. Constant. */
+uint32_t em_refusal(uint32_t refusal, uint8_t *out, size_t room, size_t *length);
+
+#ifdef __cplusplus
+}
+#endif
+
+#endif
