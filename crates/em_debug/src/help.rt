@@ -12,6 +12,7 @@ Arguments:
 
 Options:
       --step         Load the script, and perform none of its lines
+      --batch        Print each line of the script with its number and its answer beside it, and end
   -x <COMMANDS>      Take what is typed from this file
       --memory <N>   Octets of guest memory: a multiple of 4096 up to 16777216 [default: 65536]
       --budget <N>   Octets that the journal's records may cost together: from 65536 to 16777216 [default: 1048576]

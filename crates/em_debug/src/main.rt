@@ -2,8 +2,10 @@
 //! types, or that another file has.
 //!
 //!     em_debug [OPTIONS] [--step] [-x COMMANDS] [SCRIPT]
+//!     em_debug [OPTIONS] --batch SCRIPT
 //!
-//! The options are those of em_bench. The script is played to its end first; `--step` stops before its first line.
+//! The options are those of em_bench. The script is played to its end first; `--step` stops before its first line, and
+//! `--batch` lists the lines with their answers, and ends.
 #![tactic(auto)]
 
 mod disk;
@@ -23,7 +25,7 @@ use em_journal::SettingsRefusal;
 use em_options::{Options, OptionsRefused, options};
 use em_script::BenchFault;
 use std::fs::File;
-use std::io::{self, BufRead, BufReader, BufWriter};
+use std::io::{self, BufRead, BufReader, BufWriter, Write};
 use std::mem;
 use std::process::ExitCode;
 use std::rt::{Env, Files};
@@ -109,6 +111,10 @@ fn with_options<R: Files + Input + Print + Eprint + AllocGlobal>(
     words: &Words,
     prompt: &[u8],
 ) -> u8 {
+    if words.batch && options.script.is_none() {
+        let _ = eprintln!(rt; "em_debug: --batch wants a script");
+        return REFUSED;
+    }
     match Debugger::new(rt.alloc(), options.settings()) {
         Ok(debugger) => {
             let mut served = Served {
@@ -146,6 +152,9 @@ fn with_session<R: Files + Input + Print + AllocGlobal>(
 ) -> Result<()> {
     let mut text = Vec::new(rt.alloc());
     if let Some(name) = script {
+        if words.batch {
+            return list(rt, served, name);
+        }
         begin(served, &mut text, name, words.step)?;
     }
     match &words.commands {
@@ -159,6 +168,26 @@ fn with_session<R: Files + Input + Print + AllocGlobal>(
             with_reader(rt, served, reader, text.as_slice(), prompt)
         }
     }
+}
+
+/// Prints each line of the script with its answer beside it.
+fn list<R: Print + AllocGlobal, D: Disk + Drop>(
+    rt: &R,
+    served: &mut Served<D>,
+    name: &str,
+) -> Result<()> {
+    let mut text = Vec::new(rt.alloc());
+    if served.disk.read(name.as_bytes(), &mut text).is_err() {
+        bail!("{name}: the script cannot be read");
+    }
+    if let Err(fault) = served.debugger.add_lines(text.as_slice()) {
+        bail!("{}", fault.name());
+    }
+    let mut writer = BufWriter::new(rt.alloc(), io::writer(rt))?;
+    if served.debugger.list_all(&mut writer).is_err() || writer.flush().is_err() {
+        bail!("{}", BenchFault::Write.name());
+    }
+    Ok(())
 }
 
 /// Tells what the script did, and answers each line of a reader.

@@ -22,6 +22,8 @@ pub struct Words {
     pub options: Vec<String>,
     /// Whether the script is only loaded at first.
     pub step: bool,
+    /// Whether the script is listed, and nothing is asked for.
+    pub batch: bool,
     /// The file that commands come from.
     pub commands: Option<String>,
     pub asked: Asked,
@@ -44,6 +46,7 @@ impl Words {
         let mut words = Words {
             options: Vec::new(rt.alloc()),
             step: false,
+            batch: false,
             commands: None,
             asked: Asked::Session,
         };
@@ -80,6 +83,7 @@ impl Words {
         match word.as_str() {
             "-x" => return Ok(Before::Commands),
             "--step" => self.step = true,
+            "--batch" => self.batch = true,
             "-h" | "--help" => self.asked = Asked::Help,
             "-V" | "--version" => self.asked = Asked::Version,
             "--mac" => {

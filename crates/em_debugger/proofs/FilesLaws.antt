@@ -40,7 +40,7 @@ AddedSo-more first now next text rest line behind h is added = record {
   all = h.all ∙ ap (λ l. h.lines ++ l) is ∙ sym (append_assoc h.lines (line ∷ []) (lines_of behind));
 }
 
-none_left : (rest : List ℕ) → length rest ≡ 0 → lines_of rest ≡ []
+pub none_left : (rest : List ℕ) → length rest ≡ 0 → lines_of rest ≡ []
 none_left rest none = ap lines_of (nil_from_length rest none) ∙ lines_of-nil
 
 -- all lines were added, where nothing is left

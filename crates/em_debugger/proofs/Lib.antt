@@ -3,6 +3,7 @@ pub mod AnsweringLaws
 pub mod EffectLaws
 pub mod FilesLaws
 pub mod HistoryLaws
+pub mod ListingLaws
 pub mod MovesLaws
 pub mod NextLaws
 pub mod PerformingLaws

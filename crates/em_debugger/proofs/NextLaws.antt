@@ -14,30 +14,49 @@ use Rattle.em_debugger.specs.declared.performing.Performed.{Performed}
 use Rattle.em_debugger.specs.Performing.{Performs, ShowsPerformed}
 use Rattle.em_debugger.specs.Next.{Shown, Shows, EndsBy, TellsNext, shown_text}
 
--- so many lines were performed and shown
-pub record ShowsSo (first now : Debugger) (old new : Option (List ℕ)) (count : ℕ) : Type 0 where
+-- lines were performed and told, each by such a step
+pub record ToldBy (Step : Debugger → Shown → Debugger → Type 0) (first now : Debugger) (old new : Option (List ℕ))
+    : Type 0 where
   pub shown : List Shown
-  pub long : length shown ≡ count
-  pub leads : Leads Shows shown first now
+  pub leads : Leads Step shown first now
   pub written : Appends old new (shown_text shown)
 
+pub ToldBy-none : (Step : Debugger → Shown → Debugger → Type 0) (d : Debugger) (old : Option (List ℕ))
+    → ToldBy Step d d old old
+ToldBy-none Step d old = record { shown = []; leads = refl; written = Appends-same old }
+
+-- one line more
+pub ToldBy-more : (Step : Debugger → Shown → Debugger → Type 0) (first now next : Debugger)
+    (old new later : Option (List ℕ)) (one : Shown) → ToldBy Step first now old new → Step now one next
+    → Appends new later one.text → ToldBy Step first next old later
+ToldBy-more Step first now next old new later one h step written = record {
+  shown = h.shown ++ one ∷ [];
+  leads = Leads-append Step h.shown (one ∷ []) first now next h.leads (next, step, refl);
+  written = Appends-more old new later (shown_text h.shown) one.text _ h.written written
+      (flat_map-append (λ (s : Shown). s.text) h.shown (one ∷ [])
+      ∙ ap (λ l. shown_text h.shown ++ l) (append-nil one.text));
+}
+
+-- so many lines were performed and shown
+pub record ShowsSo (first now : Debugger) (old new : Option (List ℕ)) (count : ℕ) : Type 0 where
+  pub told : ToldBy Shows first now old new
+  pub long : length told.shown ≡ count
+
 pub ShowsSo-none : (d : Debugger) (old : Option (List ℕ)) → ShowsSo d d old old 0
-ShowsSo-none d old = record { shown = []; long = refl; leads = refl; written = Appends-same old }
+unfolding ToldBy-none
+ShowsSo-none d old = record { told = ToldBy-none Shows d old; long = refl }
 
 -- one line more
 pub ShowsSo-more : (first now next : Debugger) (old new later : Option (List ℕ)) (count : ℕ) (p : Performed)
     (text : List ℕ) → ShowsSo first now old new count → Performs now next p → ShowsPerformed next p text
     → Appends new later text → ShowsSo first next old later (count + 1)
+unfolding ToldBy-more
 ShowsSo-more first now next old new later count p text h performs shows written =
     let one : Shown = record { performed = p; text = text } in
     record {
-      shown = h.shown ++ one ∷ [];
-      long = length_push h.shown one ∙ ap (λ n. n + 1) h.long;
-      leads = Leads-append Shows h.shown (one ∷ []) first now next h.leads
-          (next, record { performs = performs; text = shows }, refl);
-      written = Appends-more old new later (shown_text h.shown) text _ h.written written
-          (flat_map-append (λ (s : Shown). s.text) h.shown (one ∷ [])
-          ∙ ap (λ l. shown_text h.shown ++ l) (append-nil text));
+      told = ToldBy-more Shows first now next old new later one h.told (record { performs = performs; text = shows })
+          written;
+      long = length_push h.told.shown one ∙ ap (λ n. n + 1) h.long;
     }
 
 -- what came then
@@ -45,13 +64,13 @@ pub TellsNext-end : (asked count : ℕ) (first now last : Debugger) (old new lat
     → ShowsSo first now old new count → count ≤ asked → Appends new later end → EndsBy asked count now last end
     → (text : List ℕ) × Appends old later text × TellsNext asked first last text
 TellsNext-end asked count first now last old new later end h few written ended = (
-  shown_text h.shown ++ end,
-  Appends-more old new later (shown_text h.shown) end _ h.written written refl,
+  shown_text h.told.shown ++ end,
+  Appends-more old new later (shown_text h.told.shown) end _ h.told.written written refl,
   record {
-    shown = h.shown;
+    shown = h.told.shown;
     few = omega (arith, h.long);
     between = now;
-    leads = h.leads;
+    leads = h.told.leads;
     end = end;
     ended = subst (λ n. EndsBy asked n now last end) (sym h.long) ended;
     told = refl;

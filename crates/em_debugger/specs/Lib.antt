@@ -5,6 +5,7 @@ pub mod Deeper
 pub mod Effect
 pub mod Files
 pub mod History
+pub mod Listing
 pub mod Moves
 pub mod Next
 pub mod Performing

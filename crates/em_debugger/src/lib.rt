@@ -12,6 +12,7 @@ mod disk;
 mod effect;
 mod files;
 mod history;
+mod listing;
 mod moves;
 mod next;
 mod performing;

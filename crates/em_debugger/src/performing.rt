@@ -119,7 +119,7 @@ impl Debugger {
     }
 
     /// Writes the answer of a line that was performed, and why it did nothing, if it did.
-    fn write_explained<W: Write>(
+    pub(crate) fn write_explained<W: Write>(
         &self,
         writer: &mut W,
         performed: Performed,

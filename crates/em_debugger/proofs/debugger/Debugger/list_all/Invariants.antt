@@ -1,0 +1,14 @@
+use Rattle.std.proofs.Common.{◌-◌, length}
+use Rattle.em_debugger.specs.Listing.{ListsNext}
+use Rattle.em_debugger.specs.Place.{line_here}
+use Rattle.em_debugger.proofs.NextLaws.{ToldBy}
+use Rattle.em_debugger.proofs.debugger.Debugger.list_all.Given as goal
+
+-- lines were performed and listed
+abbrev pub invariant-ahead : goal.invariant-ahead
+invariant-ahead g l =
+    let contents = g.W.Write.contents in
+    ToldBy ListsNext l.fn.self l.self (contents l.fn.writer) (contents l.writer)
+
+abbrev pub decreases-ahead : goal.decreases-ahead
+decreases-ahead g l = length l.self.tape.lines - line_here l.self.tape
