@@ -552,6 +552,23 @@ static void is_refused_memory(void) {
   CHECK(blocks == 0);
 }
 
+/* where a write is refused, those before it stay */
+static void is_refused_a_write(void) {
+  em_machine machine = made();
+  static uint8_t ram[MEMORY], out[MEMORY];
+  size_t writes, rest;
+  memset(ram, 9, sizeof ram);
+  refused_after = 5;
+  uint32_t code = em_sync_in(&machine, ram, MEMORY, &writes);
+  refused_after = -1;
+  CHECK(code == EM_MEMORY && writes > 0 && writes < MEMORY / 4096 && reach(&machine) == writes);
+  OK(em_peek(&machine, 0, out, MEMORY));
+  CHECK(out[4096 * writes - 1] == 9 && out[4096 * writes] == 0);
+  OK(em_sync_in(&machine, ram, MEMORY, &rest));
+  CHECK(writes + rest == MEMORY / 4096);
+  em_free(&machine);
+}
+
 static void has_many_machines(void) {
   em_machine machines[3] = {EM_NO_MACHINE, EM_NO_MACHINE, EM_NO_MACHINE};
   for (int i = 0; i < 3; i++) OK(em_make(&machines[i], 4096, 65536, MAC));
@@ -578,6 +595,7 @@ int main(void) {
   tells_who_did_it();
   names_registers_and_refusals();
   is_refused_memory();
+  is_refused_a_write();
   has_many_machines();
   printf("%u passed, %u failed\n", passed, failed);
   return failed != 0;

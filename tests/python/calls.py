@@ -100,7 +100,7 @@ class MemoryAndFrames(unittest.TestCase):
         self.assertEqual(m.event(1)[:3], ("poke", 4094, 2))
         self.assertEqual(m.memory[0:65536], bytes(ram))
         self.assertRaises(bunjelav.Length, m.sync_in, bytearray(4096))
-        self.assertEqual(m.can_go_back, 2)
+        self.assertEqual(m.reach, 2)
 
     def test_receiving(self):
         m = receiving()
