@@ -163,8 +163,8 @@ uint32_t em_sync_out(em_machine *machine, uint8_t *ram, size_t size);
 
 /* Makes guest memory what `ram` is, by at most one memory write in each page of 4,096 octets: from the first octet that
    differs to the last. Each write is an event. `writes` tells how many were made. Refused as EM_LENGTH where `size` is
-   not the size of guest memory: nothing is done, nor told. Refused as EM_MEMORY where the host has no memory for a write:
-   those before it stay, and are told. The cost is that of copying and comparing all pages, and of the writes. */
+   not the size of guest memory: nothing is done, nor told. Refused as EM_MEMORY where the host has no memory for a
+   write: those before it stay, and are told. The cost is that of copying and comparing all pages, and of the writes. */
 uint32_t em_sync_in(em_machine *machine, const uint8_t *ram, size_t size, size_t *writes);
 
 /* How many octets guest memory has. Constant. */

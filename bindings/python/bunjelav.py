@@ -389,8 +389,8 @@ class Machine:
         _must(_library.em_sync_out(self._at, (ctypes.c_uint8 * len(ram)).from_buffer(ram), len(ram)))
 
     def sync_in(self, ram: bytearray) -> int:
-        """Makes guest memory what a bytearray is, which has to be as large, by memory writes of what differs: at most one
-        in each page of 4,096 octets. Gives how many. Where the host refuses memory, the writes before stay."""
+        """Makes guest memory what a bytearray is, which has to be as large, by memory writes of what differs: at most
+        one in each page of 4,096 octets. Gives how many. Where the host refuses memory, the writes before stay."""
         writes = SIZE_T()
         octets = (ctypes.c_uint8 * len(ram)).from_buffer(ram)
         _must(_library.em_sync_in(self._at, octets, len(ram), ctypes.byref(writes)))

@@ -38,6 +38,36 @@ same_list xs ys f e head tail here =
     let tail_f : drop f xs ≡ drop f ys = subst (λ k. drop k xs ≡ drop k ys) (sym here) tail in
     sym (take-append-drop f xs) ∙ (λ i. head i ++ tail_f i) ∙ take-append-drop f ys
 
+-- a read of a read
+part-part : (m : List ℕ) (a n f k : ℕ) → f + k ≤ n → take k (drop f (part m a n)) ≡ part m (a + f) k
+part-part m a n f k within =
+    let split : f + (n - f) ≡ n = omega arith in
+    ap (λ j. take k (drop f (take j (drop a m)))) (sym split)
+    ∙ ap (take k) (drop-take f (n - f) (drop a m) ∙ ap (take (n - f)) (drop-drop f a m))
+    ∙ take-take k (n - f) (drop (a + f) m) (omega arith)
+
+-- head, what is between them, and tail
+three_pieces : (xs ys : List ℕ) (f e : ℕ) → f ≤ e → take f xs ≡ take f ys
+    → take (e - f) (drop f xs) ≡ take (e - f) (drop f ys) → drop e xs ≡ drop e ys → xs ≡ ys
+three_pieces xs ys f e l head mid tail =
+    let whole : f + (e - f) ≡ e = omega arith in
+    let so_far : take (f + (e - f)) xs ≡ take (f + (e - f)) ys
+    = take-add f (e - f) xs ∙ (λ i. head i ++ mid i) ∙ sym (take-add f (e - f) ys) in
+    same_list xs ys (f + (e - f)) e so_far tail whole
+
+-- a page is the same where its run is, between head and tail that are
+pub run_differs : (m w old : List ℕ) (a n f e : ℕ) → old ≡ part m a n → f ≤ e → e ≤ n
+    → take f old ≡ take f (part w a n) → drop e old ≡ drop e (part w a n)
+    → part m (a + f) ((a + e) - (a + f)) ≡ part w (a + f) ((a + e) - (a + f)) → old ≡ part w a n
+run_differs m w old a n f e is l r head tail same =
+    let run : (a + e) - (a + f) ≡ e - f = omega arith in
+    let run_same : part m (a + f) (e - f) ≡ part w (a + f) (e - f)
+    = subst (λ k. part m (a + f) k ≡ part w (a + f) k) run same in
+    let mid : take (e - f) (drop f old) ≡ take (e - f) (drop f (part w a n))
+    = ap (λ o. take (e - f) (drop f o)) is ∙ part-part m a n f (e - f) (omega arith) ∙ run_same
+    ∙ sym (part-part w a n f (e - f) (omega arith)) in
+    three_pieces old (part w a n) f e l head mid tail
+
 -- the end of a part
 drop-part : (m : List ℕ) (a n e : ℕ) → e ≤ n → drop e (part m a n) ≡ part m (a + e) (n - e)
 drop-part m a n e r =

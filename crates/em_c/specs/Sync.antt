@@ -14,11 +14,12 @@ use Rattle.em_c.specs.Tagged.{Performs, present_of}
 abbrev pub memory_of : Tagged → List ℕ
 memory_of t = (present_of t).memory
 
--- n octets of the caller's memory are written where they lie in it
+-- n octets of the caller's memory are written where they lie in it, and are not what was there
 pub record Rewrites (ram : List ℕ) (t u : Tagged) : Type 0 where
   pub at : ℕ
   pub n : ℕ
   pub answer : Answer
+  pub differs : part (memory_of t) at n ≡ part ram at n → ⊥
   pub performs : Performs t (pokes at (part ram at n)) answer u
 
 -- it is done k times

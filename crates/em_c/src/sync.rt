@@ -139,6 +139,7 @@ fn sync_run(machine: &mut Tagged, ram: &[u8], from: usize, to: usize) -> Result<
     requires ordered { from < to }
     requires within { to ≤ length ram.now }
     requires page { to ≤ from + PAGE }
+    requires differs { part (memory_of machine.old) from (to - from) ≡ part ram.now from (to - from) → ⊥ }
     ensures writes { IfOk result (λ count. RewritesBy count ram.now machine.old machine.new) }
     ensures one { IfOk result (λ count. count ≡ 1) }
     ensures memory { OnOk result (memory_of machine.new

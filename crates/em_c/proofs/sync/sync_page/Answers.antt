@@ -5,7 +5,7 @@ use Rattle.core.specs.Cmp.Lexicographic.{bytes_decides}
 use Rattle.em_mem.specs.Memory.{part, put}
 use Rattle.em_journal.specs.View.{View}
 use Rattle.em_c.specs.Sync.{memory_of}
-use Rattle.em_c.proofs.SyncLaws.{on_ok, read_is, same_list, same_page, wrote_page}
+use Rattle.em_c.proofs.SyncLaws.{on_ok, read_is, run_differs, same_list, same_page, wrote_page}
 use Rattle.em_c.proofs.sync.sync_page.Goals as goal
 
 -- nothing differs
@@ -36,6 +36,22 @@ sync_run-requires-clause-ordered c =
           c.same_tail-last.ensures.same here in
           absurd (true≢false (sym ((bytes_decides c.peek.new.out new).1 same) ∙ sym c.if-eq.ensures))
     ]
+
+pub sync_run-requires-clause-differs : goal.sync_run-requires-clause-differs
+sync_run-requires-clause-differs c = λ run.
+    let m : List ℕ = memory_of c.args.machine.now in
+    let w : List ℕ = c.args.ram.now in
+    let at : ℕ = c.args.at in
+    let n : ℕ = c.args.end - at in
+    let long : length c.peek.new.out ≡ c.args.end - c.args.at = search rules in
+    let page : length (part c.args.ram.now c.args.at (c.args.end - c.args.at)) ≡ c.args.end - c.args.at
+    = search rules in
+    let old = read_is c.machine.result.now.present.memory c.peek.new.out at _ n c.in-Ok.ensures.ok long
+    ∙ ap (λ (v : View). part v.present.memory at n) c.machine.ensures in
+    let same = run_differs m w c.peek.new.out at n c.same_head-first.result c.same_tail-last.result old
+    c.same_tail-last.ensures.least (omega (arith, c.same_tail-last.ensures.most, page)) c.same_head-first.ensures.same
+    c.same_tail-last.ensures.same run in
+    true≢false (sym ((bytes_decides c.peek.new.out (part w at n)).1 same) ∙ sym c.if-eq.ensures)
 
 -- what differs was written
 pub returns-clause-done : goal.returns-clause-done

@@ -7,6 +7,7 @@ returns-in-Ok-clause-writes c = (
   record {
     at = c.args.from;
     n = c.args.to - c.args.from;
+    differs = c.requires.differs;
     answer = c.in-Ok.field-0;
     performs = c.in-Ok.ensures.ok;
   },
