@@ -62,6 +62,11 @@ int main(void) {
   begin();
   for (int i = 0; i < 100000; i++) must(em_sync_out(&machine, ram, sizeof ram));
   tell("64 KiB of guest memory copied out", 100000);
+
+  size_t writes;
+  begin();
+  for (int i = 0; i < 100000; i++) must(em_sync_in(&machine, ram, sizeof ram, &writes));
+  tell("64 KiB that are the same, synced in", 100000);
   em_free(&machine);
   return (int)(value & level);
 }

@@ -92,6 +92,7 @@ _CALLS = {
     "em_poke": [_H, _U64, _OCTETS, SIZE_T],
     "em_peek": [_H, _U64, _ROOM, SIZE_T],
     "em_sync_out": [_H, _ROOM, SIZE_T],
+    "em_sync_in": [_H, _ROOM, SIZE_T, _PSIZE],
     "em_memory_size": [_H, _P64],
     "em_arrive": [_H, _OCTETS, SIZE_T, _PNOTE],
     "em_set_link": [_H, ctypes.c_bool],
@@ -386,6 +387,14 @@ class Machine:
     def sync_out(self, ram: bytearray) -> None:
         """Makes a bytearray what guest memory is; it has to be as large."""
         _must(_library.em_sync_out(self._at, (ctypes.c_uint8 * len(ram)).from_buffer(ram), len(ram)))
+
+    def sync_in(self, ram: bytearray) -> int:
+        """Makes guest memory what a bytearray is, which has to be as large, by memory writes of what differs: at most
+        one in each page of 4,096 octets. Gives how many. Where the host refuses memory, the writes before stay."""
+        writes = SIZE_T()
+        octets = (ctypes.c_uint8 * len(ram)).from_buffer(ram)
+        _must(_library.em_sync_in(self._at, octets, len(ram), ctypes.byref(writes)))
+        return writes.value
 
     def arrive(self, frame: bytes) -> Event:
         """A frame arrives; the event says what became of it."""

@@ -66,22 +66,10 @@ static void must(uint32_t refusal) {
   exit(1);
 }
 
-/* Makes guest memory what the driver's is: of each page that differs, from the first octet that does to the last. */
-static void sync_in(void) {
-  static uint8_t page[4096];
-  for (size_t at = 0; at < MEMORY; at += sizeof page) {
-    size_t first = 0, last = sizeof page;
-    must(em_peek(&machine, at, page, sizeof page));
-    if (!memcmp(page, ram + at, sizeof page)) continue;
-    while (page[first] == ram[at + first]) first++;
-    while (page[last - 1] == ram[at + last - 1]) last--;
-    must(em_poke(&machine, at + first, ram + at + first, last - first));
-  }
-}
-
 static void before(int line) {
+  size_t writes;
   must(em_tag(&machine, (uint64_t)line));
-  sync_in();
+  must(em_sync_in(&machine, ram, sizeof ram, &writes));
 }
 
 /* The adapter acts, and the driver sees it. */

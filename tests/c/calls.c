@@ -148,6 +148,7 @@ static void refuses_an_empty_handle(void) {
   REFUSED(em_run_rx(&machine, 1, &count), EM_NOT_MADE);
   REFUSED(em_run_tx(&machine, 1, &count), EM_NOT_MADE);
   REFUSED(em_sync_out(&machine, octets, 14), EM_NOT_MADE);
+  REFUSED(em_sync_in(&machine, octets, 14, &count), EM_NOT_MADE);
   REFUSED(em_registers(&machine, &one, 1, &count), EM_NOT_MADE);
   CHECK(one.offset == 7 && one.value == 7);
   REFUSED(em_tag(&machine, 1), EM_NOT_MADE);
@@ -245,6 +246,42 @@ static void syncs(void) {
   OK(em_back(&machine, 1, &done));
   OK(em_sync_out(&machine, ram, MEMORY));
   CHECK(ram[4094] == 0 && ram[4098] == 0);
+  em_free(&machine);
+}
+
+/* the event is a memory write of so many octets at an address, under a tag */
+static bool wrote(em_machine *machine, size_t k, uint64_t at, uint64_t length, uint64_t tag) {
+  em_note event;
+  OK(em_event(machine, k, &event));
+  return event.kind == EM_POKE && event.at == at && event.length == length && event.tag == tag;
+}
+
+static void syncs_in(void) {
+  em_machine machine = made();
+  static uint8_t ram[MEMORY + 1], out[MEMORY];
+  size_t writes = 7, back;
+  REFUSED(em_sync_in(&machine, ram, MEMORY - 1, &writes), EM_LENGTH);
+  REFUSED(em_sync_in(&machine, ram, MEMORY + 1, &writes), EM_LENGTH);
+  OK(em_can_go_back(&machine, &back));
+  CHECK(writes == 7 && back == 0);
+  OK(em_sync_in(&machine, ram, MEMORY, &writes));
+  CHECK(writes == 0);
+  memset(ram, 9, sizeof ram);
+  OK(em_sync_in(&machine, ram, MEMORY, &writes));
+  CHECK(writes == MEMORY / 4096 && wrote(&machine, 0, MEMORY - 4096, 4096, 0));
+  /* the last octet of a page, the first one of the next, and two with others between them */
+  OK(em_tag(&machine, 5));
+  ram[4095] = ram[4096] = ram[8193] = ram[8200] = ram[MEMORY - 1] = 1;
+  OK(em_sync_in(&machine, ram, MEMORY, &writes));
+  CHECK(writes == 4 && wrote(&machine, 3, 4095, 1, 5) && wrote(&machine, 2, 4096, 1, 5));
+  CHECK(wrote(&machine, 1, 8193, 8, 5) && wrote(&machine, 0, MEMORY - 1, 1, 5));
+  OK(em_peek(&machine, 0, out, MEMORY));
+  CHECK(memcmp(out, ram, MEMORY) == 0);
+  OK(em_sync_in(&machine, ram, MEMORY, &writes));
+  CHECK(writes == 0);
+  OK(em_back(&machine, 20, &back));
+  OK(em_peek(&machine, 0, out, MEMORY));
+  CHECK(back == 20 && out[0] == 0 && out[MEMORY - 1] == 0);
   em_free(&machine);
 }
 
@@ -515,6 +552,23 @@ static void is_refused_memory(void) {
   CHECK(blocks == 0);
 }
 
+/* where a write is refused, those before it stay */
+static void is_refused_a_write(void) {
+  em_machine machine = made();
+  static uint8_t ram[MEMORY], out[MEMORY];
+  size_t writes, rest;
+  memset(ram, 9, sizeof ram);
+  refused_after = 5;
+  uint32_t code = em_sync_in(&machine, ram, MEMORY, &writes);
+  refused_after = -1;
+  CHECK(code == EM_MEMORY && writes > 0 && writes < MEMORY / 4096 && reach(&machine) == writes);
+  OK(em_peek(&machine, 0, out, MEMORY));
+  CHECK(out[4096 * writes - 1] == 9 && out[4096 * writes] == 0);
+  OK(em_sync_in(&machine, ram, MEMORY, &rest));
+  CHECK(writes + rest == MEMORY / 4096);
+  em_free(&machine);
+}
+
 static void has_many_machines(void) {
   em_machine machines[3] = {EM_NO_MACHINE, EM_NO_MACHINE, EM_NO_MACHINE};
   for (int i = 0; i < 3; i++) OK(em_make(&machines[i], 4096, 65536, MAC));
@@ -533,6 +587,7 @@ int main(void) {
   lists_registers();
   reads_and_writes_memory();
   syncs();
+  syncs_in();
   receives();
   sends();
   goes_back();
@@ -540,6 +595,7 @@ int main(void) {
   tells_who_did_it();
   names_registers_and_refusals();
   is_refused_memory();
+  is_refused_a_write();
   has_many_machines();
   printf("%u passed, %u failed\n", passed, failed);
   return failed != 0;

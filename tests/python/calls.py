@@ -92,6 +92,16 @@ class MemoryAndFrames(unittest.TestCase):
         self.assertEqual(ram[4093:4100], b"\0hello\0")
         self.assertRaises(bunjelav.Length, m.sync_out, bytearray(4096))
 
+    def test_copied_in(self):
+        m, ram = Machine(), bytearray(65536)
+        ram[4094:4099] = b"hello"
+        self.assertEqual((m.sync_in(ram), m.sync_in(ram)), (2, 0))
+        self.assertEqual(m.event(0)[:3], ("poke", 4096, 3))
+        self.assertEqual(m.event(1)[:3], ("poke", 4094, 2))
+        self.assertEqual(m.memory[0:65536], bytes(ram))
+        self.assertRaises(bunjelav.Length, m.sync_in, bytearray(4096))
+        self.assertEqual(m.reach, 2)
+
     def test_receiving(self):
         m = receiving()
         self.assertTrue(m.arrive(FRAME).is_stored)

@@ -83,6 +83,14 @@ impl Machine {
         told(unsafe { raw::em_sync_out(&mut self.handle, ram.as_mut_ptr(), ram.len()) }, ())
     }
 
+    /// Makes guest memory what `ram` is, which has to be as large, by memory writes of what differs: at most one in
+    /// each page of 4,096 octets. Gives how many. Where the host refuses memory, the writes before stay.
+    pub fn sync_in(&mut self, ram: &[u8]) -> Result<usize, Refusal> {
+        let mut writes = 0;
+        told(unsafe { raw::em_sync_in(&mut self.handle, ram.as_ptr(), ram.len(), &mut writes) }, ())?;
+        Ok(writes)
+    }
+
     /// The driver writes 1 to 16,384 octets to guest memory.
     pub fn poke(&mut self, address: u64, octets: &[u8]) -> Result<(), Refusal> {
         told(unsafe { raw::em_poke(&mut self.handle, address, octets.as_ptr(), octets.len()) }, ())

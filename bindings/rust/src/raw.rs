@@ -56,6 +56,7 @@ extern "C" {
     pub(crate) fn em_poke(m: *mut Handle, address: u64, octets: *const u8, length: usize) -> u32;
     pub(crate) fn em_peek(m: *mut Handle, address: u64, out: *mut u8, length: usize) -> u32;
     pub(crate) fn em_sync_out(m: *mut Handle, ram: *mut u8, size: usize) -> u32;
+    pub(crate) fn em_sync_in(m: *mut Handle, ram: *const u8, size: usize, writes: *mut usize) -> u32;
     pub(crate) fn em_memory_size(m: *mut Handle, size: *mut u64) -> u32;
     pub(crate) fn em_arrive(m: *mut Handle, frame: *const u8, length: usize, note: *mut Note) -> u32;
     pub(crate) fn em_set_link(m: *mut Handle, up: bool) -> u32;

@@ -85,6 +85,20 @@ fn lists_registers_and_copies_memory() {
 }
 
 #[test]
+fn copies_memory_in() {
+    let mut m = made();
+    let mut ram = vec![0; 65_536];
+    ram[4_094..4_099].copy_from_slice(b"hello");
+    assert_eq!((m.sync_in(&ram), m.sync_in(&ram)), (Ok(2), Ok(0)));
+    let event = m.event(0).unwrap();
+    assert_eq!((event.kind, event.at, event.length), (Kind::Poke, 4_096, 3));
+    let mut out = vec![9; 65_536];
+    assert_eq!((m.sync_out(&mut out), out == ram), (Ok(()), true));
+    assert_eq!(m.sync_in(&ram[1..]), Err(Refusal::Length));
+    assert_eq!(m.can_go_back(), 2);
+}
+
+#[test]
 fn receives() {
     let mut m = receiving();
     assert_eq!(m.arrive(&[0; 13]), Err(Refusal::Length));

@@ -2,3 +2,4 @@ pub mod BoxForm
 pub mod TrailBack
 pub mod RunLaws
 pub mod RegisterLaws
+pub mod SyncLaws

@@ -11,3 +11,4 @@ pub mod Run
 pub mod Watch
 pub mod RefusalText
 pub mod AllRegisters
+pub mod Sync

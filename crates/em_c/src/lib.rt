@@ -1,7 +1,8 @@
 //! The model as a library for C: calls over a handle that holds a machine, or none.
 //!
 //! Each call gives a number: 0, or that of the refusal. What a call tells goes through a pointer. A refusal changes
-//! nothing: neither the machine, nor what a pointer points to.
+//! nothing: neither the machine, nor what a pointer points to. Of the calls that are several events, those before the
+//! refused one stay, and how many they were is told.
 #![tactic(auto)]
 
 mod all_registers;
