@@ -12,8 +12,8 @@
 
    WHAT EACH CALL GIVES. EM_OK, which is 0, or the number of the reason why it did nothing (enum em_code). A call
    that was refused has changed nothing: neither the machine, nor what a pointer points to. Only the calls that fill
-   room also tell how much they need, and em_run_rx and em_run_tx tell how many steps went well before the one that was
-   refused. What a call tells goes through its last pointers.
+   room also tell how much they need, and em_run_rx, em_run_tx and em_sync_in tell how many steps or writes went well
+   before the one that was refused; these stay. What a call tells goes through its last pointers.
 
    WHAT MUST HOLD. The proofs of the library rest on this, and nothing checks it:
 
@@ -160,6 +160,12 @@ uint32_t em_peek(em_machine *machine, uint64_t address, uint8_t *out, size_t len
 /* Makes `ram` what guest memory is, after events and after steps back. Refused as EM_LENGTH where `size` is not the size
    of guest memory. The cost is that of copying it. */
 uint32_t em_sync_out(em_machine *machine, uint8_t *ram, size_t size);
+
+/* Makes guest memory what `ram` is, by at most one memory write in each page of 4,096 octets: from the first octet that
+   differs to the last. Each write is an event. `writes` tells how many were made. Refused as EM_LENGTH where `size` is
+   not the size of guest memory: nothing is done, nor told. Refused as EM_MEMORY where the host has no memory for a
+   write: those before it stay, and are told. The cost is that of copying and comparing all pages, and of the writes. */
+uint32_t em_sync_in(em_machine *machine, const uint8_t *ram, size_t size, size_t *writes);
 
 /* How many octets guest memory has. Constant. */
 uint32_t em_memory_size(em_machine *machine, uint64_t *size);
