@@ -5,7 +5,7 @@ use Rattle.em_text.specs.Numbers.{decimal_number}
 use Rattle.em_prompt.specs.declared.command.Command.{Command}
 use Rattle.em_prompt.specs.declared.command.Command.TheVariants as command
 use Rattle.em_prompt.specs.declared.number.Number.TheVariants.{Peeked, Watched, Packets, Count, Line, Event, Index}
-use Rattle.em_prompt.specs.declared.kind.Choice.TheVariants.{Way, Side, More, To, Until, Stop, Changes}
+use Rattle.em_prompt.specs.declared.kind.Choice.TheVariants.{Way, Side, More, To, Until, Stop, Changes, Switch}
 use Rattle.em_prompt.specs.declared.kind.Kind.{Kind}
 use Rattle.em_prompt.specs.declared.kind.Kind.TheVariants.{Register, Known, Value, Address, Data, Ethernet, FrameLen}
 use Rattle.em_prompt.specs.declared.kind.Kind.TheVariants.{Watch, Name, Number, Choice}
@@ -57,7 +57,7 @@ changes_form behind =
     then of_kinds 4 (Choice Until ∷ Address ∷ Number Watched ∷ Choice Changes ∷ [])
     else of_kinds 3 (Choice Until ∷ Watch ∷ Choice Changes ∷ [])
 
--- until refused, until dropped, until LINE, until WATCH changes
+-- until refused, until dropped, until differs, until LINE, until WATCH changes
 abbrev pub until_form : Behind → Form
 until_form behind =
     if is_choice Stop behind.second then of_kinds 2 (Choice Until ∷ Choice Stop ∷ []) else
@@ -103,5 +103,8 @@ form_of command.Effect behind = of_kinds 0 (Number Event ∷ [])
 form_of command.Ring behind = of_kinds 1 (Choice Side ∷ [])
 form_of command.Frame behind = of_kinds 0 (Number Index ∷ [])
 form_of command.Memory behind = of_kinds 2 (Address ∷ Number Peeked ∷ [])
+form_of command.Why behind = of_kinds 0 []
+form_of command.Warnings behind = of_kinds 1 (Choice Switch ∷ [])
+form_of command.Auto behind = of_kinds 1 (Choice Switch ∷ [])
 form_of command.Help behind = of_kinds 0 (Name ∷ [])
 form_of command.Quit behind = of_kinds 0 []

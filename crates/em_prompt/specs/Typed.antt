@@ -1,5 +1,5 @@
 -- What a line says.
-use Rattle.std.specs.Prelude.{ℕ, List, codes, if◌then◌else◌, Option}
+use Rattle.std.specs.Prelude.{ℕ, Bool, List, codes, if◌then◌else◌, Option}
 use Rattle.std.specs.Str.{bytes_eq}
 use Rattle.em_text.specs.Numbers.{decimal_number}
 use Rattle.em_regs.specs.declared.reg.Reg.{Reg}
@@ -13,7 +13,7 @@ use Rattle.em_prompt.specs.declared.typed.Side.TheVariants.{Receive, Transmit}
 use Rattle.em_prompt.specs.declared.typed.Which.{Which}
 use Rattle.em_prompt.specs.declared.typed.Which.TheVariants.{Newest, Again, All}
 use Rattle.em_prompt.specs.declared.typed.Until.{Until}
-use Rattle.em_prompt.specs.declared.typed.Until.TheVariants.{Refused, Dropped, Line, Changes}
+use Rattle.em_prompt.specs.declared.typed.Until.TheVariants.{Refused, Dropped, Differs, Line, Changes}
 use Rattle.em_prompt.specs.declared.typed.Typed.{Typed as Lent}
 use Rattle.em_prompt.specs.declared.typed.Typed.TheVariants as lent
 use Rattle.em_prompt.specs.Behind.{Behind}
@@ -52,6 +52,9 @@ pub data Typed : Type 0 where
   ring : Side → Typed
   frame : Option ℕ → Typed
   memory : ℕ → ℕ → Typed
+  why : Typed
+  warnings : Bool → Typed
+  auto : Bool → Typed
   help : Option Command → Typed
   quit : Typed
 
@@ -78,6 +81,9 @@ plain (lent.Effect n) = effect n
 plain (lent.Ring side) = ring side
 plain (lent.Frame n) = frame n
 plain (lent.Memory addr len) = memory addr len
+plain lent.Why = why
+plain (lent.Warnings on) = warnings on
+plain (lent.Auto on) = auto on
 plain (lent.Help command) = help command
 plain lent.Quit = quit
 
@@ -102,11 +108,12 @@ who_of behind =
     who (watch_of behind.first behind.second)
     (which_of (if is_some (watched behind.first) then behind.second else behind.third))
 
--- refused, dropped, LINE, or WATCH changes
+-- refused, dropped, differs, LINE, or WATCH changes
 abbrev pub until_of : Behind → Until
 until_of behind =
     if bytes_eq behind.second (codes "refused") then Refused else
     if bytes_eq behind.second (codes "dropped") then Dropped else
+    if bytes_eq behind.second (codes "differs") then Differs else
     if is_there behind.third then Changes (watch_of behind.second behind.third) else
     Line (number_or 0 behind.second)
 
@@ -144,6 +151,9 @@ says command.Ring behind rest = ring (side_of behind.first)
 says command.Frame behind rest = frame (decimal_number behind.first)
 says command.Memory behind rest =
     memory (value_or 0 (hex_address_in behind.first)) (number_or 0 behind.second)
+says command.Why behind rest = why
+says command.Warnings behind rest = warnings (bytes_eq behind.first (codes "on"))
+says command.Auto behind rest = auto (bytes_eq behind.first (codes "on"))
 says command.Help behind rest = help (command_of behind.first)
 says command.Quit behind rest = quit
 says command behind rest = line (record { command = command; rest = rest })

@@ -41,6 +41,7 @@ impl Command {
             | Command::Wire
             | Command::Init
             | Command::Stats
+            | Command::Why
             | Command::Quit => Form::Words(0, &[]),
             Command::Link => Form::Words(1, &[Kind::Choice(Choice::Way)]),
             Command::Recv => Form::Words(1, &[Kind::Number(Number::Packets)]),
@@ -56,6 +57,7 @@ impl Command {
             Command::Effect => Form::Words(0, &[Kind::Number(Number::Event)]),
             Command::Ring => Form::Words(1, &[Kind::Choice(Choice::Side)]),
             Command::Frame => Form::Words(0, &[Kind::Number(Number::Index)]),
+            Command::Warnings | Command::Auto => Form::Words(1, &[Kind::Choice(Choice::Switch)]),
             Command::Help => Form::Words(0, &[Kind::Name]),
         }
     }
@@ -103,7 +105,7 @@ fn run_form(behind: &Behind<'_>) -> Form
     }
 }
 
-/// until refused, until dropped, until LINE, until WATCH changes
+/// until refused, until dropped, until differs, until LINE, until WATCH changes
 fn until_form(behind: &Behind<'_>) -> Form
     ensures { plain result ≡ until_form (plain_behind behind.now) }
 {

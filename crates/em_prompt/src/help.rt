@@ -69,7 +69,8 @@ impl Command {
             Command::Forward => "forward [N]: N events forward; forward to LINE",
             Command::Goto => "goto EVENT: to where so many events are performed",
             Command::Next => "next [N]: performs N lines",
-            Command::Run => "run [until refused|dropped|LINE|WATCH changes]: performs lines",
+            Command::Run =>
+                "run [until refused|dropped|differs|LINE|WATCH changes]: performs lines",
             Command::Load => "load FILE: puts the lines of a file behind the others",
             Command::Save => "save FILE: writes the lines to a new file",
             Command::SaveOver => "save! FILE: the same, over a file that is there",
@@ -78,6 +79,11 @@ impl Command {
             Command::Ring => "ring rx|tx: shows the descriptors of a ring",
             Command::Frame => "frame [I]: shows the frames in the adapter, or frame I",
             Command::Memory => "memory ADDR LEN: shows guest memory in lines",
+            Command::Why =>
+                "why: the rule by which the newest event did nothing, and who set what it looked at",
+            Command::Warnings => "warnings on|off: says what drivers get wrong, or does not",
+            Command::Auto =>
+                "auto on|off: receives and transmits by itself behind each line, or does not",
             Command::Help => "help [COMMAND]: shows this",
             Command::Quit => "quit: ends the session",
         }

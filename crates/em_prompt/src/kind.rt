@@ -18,10 +18,12 @@ pub enum Choice {
     To,
     /// `until`.
     Until,
-    /// `refused` or `dropped`.
+    /// `refused`, `dropped` or `differs`.
     Stop,
     /// `changes`.
     Changes,
+    /// `on` or `off`.
+    Switch,
 }
 
 /// What a word of a line is.
@@ -66,8 +68,11 @@ impl Choice {
             Choice::More => is_name(word, b"again") || is_name(word, b"all"),
             Choice::To => is_name(word, b"to"),
             Choice::Until => is_name(word, b"until"),
-            Choice::Stop => is_name(word, b"refused") || is_name(word, b"dropped"),
+            Choice::Stop => {
+                is_name(word, b"refused") || is_name(word, b"dropped") || is_name(word, b"differs")
+            }
             Choice::Changes => is_name(word, b"changes"),
+            Choice::Switch => is_name(word, b"on") || is_name(word, b"off"),
         }
     }
 }
@@ -99,8 +104,9 @@ impl Kind {
             Kind::Choice(Choice::More) => "again or all",
             Kind::Choice(Choice::To) => "to",
             Kind::Choice(Choice::Until) => "until",
-            Kind::Choice(Choice::Stop) => "refused or dropped",
+            Kind::Choice(Choice::Stop) => "refused, dropped or differs",
             Kind::Choice(Choice::Changes) => "changes",
+            Kind::Choice(Choice::Switch) => "on or off",
         }
     }
 

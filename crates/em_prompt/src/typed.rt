@@ -39,6 +39,8 @@ pub enum Until {
     Refused,
     /// Where a frame is dropped.
     Dropped,
+    /// Where an answer is another one than the line expects.
+    Differs,
     /// Before the line of this number.
     Line(u32),
     /// Where this changes.
@@ -82,6 +84,12 @@ pub enum Typed<'a> {
     Frame(Option<u32>),
     /// So many octets of guest memory, from an address on.
     Memory(u64, u32),
+    /// Why the newest event did nothing.
+    Why,
+    /// Say what drivers get wrong, or do not.
+    Warnings(bool),
+    /// Let the engines step by themselves, or do not.
+    Auto(bool),
     /// The help, whole or for one command.
     Help(Option<Command>),
     Quit,
@@ -110,6 +118,9 @@ pub(crate) fn says<'a>(command: Command, behind: &Behind<'_>, words: Words<'a>) 
             hex_address_in(behind.first).unwrap_or(0),
             number_or(0, behind.second),
         ),
+        Command::Why => Typed::Why,
+        Command::Warnings => Typed::Warnings(is_name(behind.first, b"on")),
+        Command::Auto => Typed::Auto(is_name(behind.first, b"on")),
         Command::Help => Typed::Help(Command::of(behind.first)),
         Command::Quit => Typed::Quit,
         _ => Typed::Line(BenchLine { command, words }),
@@ -176,7 +187,7 @@ fn run_of(behind: &Behind<'_>) -> Typed<'static>
     }
 }
 
-/// until refused, until dropped, until LINE, until WATCH changes
+/// until refused, until dropped, until differs, until LINE, until WATCH changes
 fn until_of(behind: &Behind<'_>) -> Until
     ensures { result ≡ until_of (plain_behind behind.now) }
 {
@@ -185,6 +196,9 @@ fn until_of(behind: &Behind<'_>) -> Until
     }
     if is_name(behind.second, b"dropped") {
         return Until::Dropped;
+    }
+    if is_name(behind.second, b"differs") {
+        return Until::Differs;
     }
     if behind.third.is_empty() {
         return Until::Line(number_or(0, behind.second));

@@ -10,79 +10,129 @@ use Rattle.em_output.specs.declared.outcome.Outcome.{Outcome}
 use Rattle.em_script.specs.Session.{Session}
 use Rattle.em_script.specs.Reply.{Performs}
 use Rattle.em_tape.specs.Ends.{noted}
+use Rattle.em_tape.specs.Did.{Does, IsKnown}
+use Rattle.em_tape.specs.Holds.{Holds}
 use Rattle.em_tape.specs.Tape.{Tape, IsAt, IsTape, IsShort, taken_back}
+use Rattle.em_tape.specs.declared.did.Did.{Did}
 use Rattle.em_tape.specs.Moves.{Plays}
+use Rattle.em_tape.proofs.AgainLaws.{known_back, known_cut, known_lines, known_next, place_of}
 use Rattle.em_tape.proofs.EndsLaws.{noted_within}
-use Rattle.em_tape.proofs.TapeLaws.{at_next, at_back, past_back}
+use Rattle.em_tape.proofs.TapeLaws.{past_back}
 
 -- events are taken back
-pub kept_back : {first session new : Session} {lines : List (List ℕ)} {ends : List ℕ} {whole back : ℕ} (taken most : ℕ)
-    → IsTape first lines ends whole back session → taken ≡ min most (length session.machine.past)
-    → new ≡ taken_back taken session → IsTape first lines ends whole (back + taken) new
-kept_back {first = first} {session = session} {lines = lines} {ends = ends} {whole = whole} {back = back} taken most
-    tape count is =
+pub holds_back : {first session new : Session} {lines : List (List ℕ)} {ends : List ℕ} {did : List Did}
+    {whole back : ℕ} (taken most : ℕ) → Holds first lines ends did whole back session
+    → taken ≡ min most (length session.machine.past) → new ≡ taken_back taken session
+    → Holds first lines ends did whole (back + taken) new
+holds_back {session = session} taken most holds count is =
+    let tape = holds.tape in
+    let known = known_back taken holds.known is in
     let left = past_back taken session in
-    subst (IsTape first lines ends whole (back + taken)) (sym is) (record {
-      place = at_back taken tape.place;
-      known = tape.known;
-      performed = tape.performed;
-      short = tape.short;
-      few = tape.few;
-      room = omega (arith, left, count, tape.room);
-    })
+    record {
+      tape = record {
+        place = place_of known;
+        known = tape.known;
+        performed = tape.performed;
+        short = tape.short;
+        few = tape.few;
+        room = omega (arith, left, count, tape.room, ap (λ (s : Session). length s.machine.past) is);
+      };
+      known = known;
+    }
 
 -- a line is added, or none
-pub kept_add : {first session : Session} {lines new : List (List ℕ)} {ends : List ℕ} {whole back : ℕ} (line : List ℕ)
-    → IsTape first lines ends whole back session → IsShort line → length lines < 0xFFFF_FFFF
-    → (new ≡ lines ++ line ∷ []) ⊎ (new ≡ lines) → IsTape first new ends whole back session
-kept_add {first = first} {session = session} {lines = lines} {ends = ends} {whole = whole} {back = back} line tape
-    short few (inl more) =
-    let within : whole ≤ length lines = omega (arith, tape.known, tape.performed) in
+pub holds_add : {first session : Session} {lines new : List (List ℕ)} {ends : List ℕ} {did : List Did}
+    {whole back : ℕ} (line : List ℕ) → Holds first lines ends did whole back session → IsShort line
+    → length lines < 0xFFFF_FFFF → (new ≡ lines ++ line ∷ []) ⊎ (new ≡ lines)
+    → Holds first new ends did whole back session
+holds_add {first = first} {session = session} {lines = lines} {ends = ends} {did = did} {whole = whole} {back = back}
+    line holds short few (inl more) =
+    let tape = holds.tape in
     let long = length-append lines (line ∷ []) in
-    subst (λ ls. IsTape first ls ends whole back session) (sym more) (record {
-      place = subst (λ ls. IsAt first ls back session) (sym (take-append-le whole lines (line ∷ []) within)) tape.place;
-      known = tape.known;
-      performed = omega (arith, long, tape.performed);
-      short = All-push IsShort lines line tape.short short;
-      few = omega (arith, long);
-      room = tape.room;
+    let known : IsKnown first (lines ++ line ∷ []) did whole back session = known_lines holds.known
+    (take-append-le (length did) lines (line ∷ []) holds.known.known) (omega (arith, long, holds.known.known)) in
+    subst (λ ls. Holds first ls ends did whole back session) (sym more) (record {
+      tape = record {
+        place = place_of known;
+        known = tape.known;
+        performed = omega (arith, long, tape.performed);
+        short = All-push IsShort lines line tape.short short;
+        few = omega (arith, long);
+        room = tape.room;
+      };
+      known = known;
     })
-kept_add {first = first} {session = session} {ends = ends} {whole = whole} {back = back} line tape short few (inr same) =
-    subst (λ ls. IsTape first ls ends whole back session) (sym same) tape
+holds_add {first = first} {session = session} {ends = ends} {did = did} {whole = whole} {back = back} line holds short
+    few (inr same) =
+    subst (λ ls. Holds first ls ends did whole back session) (sym same) holds
 
 -- the lines ahead are dropped
-pub kept_cut : {first session : Session} {lines : List (List ℕ)} {ends : List ℕ} {whole back : ℕ}
-    → IsTape first lines ends whole back session
-    → IsTape first (take whole lines) (take whole ends) whole back session
-kept_cut {first = first} {session = session} {lines = lines} {ends = ends} {whole = whole} {back = back} tape =
+pub holds_cut : {first session : Session} {lines : List (List ℕ)} {ends : List ℕ} {did : List Did} {whole back : ℕ}
+    → Holds first lines ends did whole back session
+    → Holds first (take whole lines) (take whole ends) (take whole did) whole back session
+holds_cut {lines = lines} {ends = ends} {did = did} {whole = whole} holds =
+    let tape = holds.tape in
     let here = length-take-le whole ends tape.known in
     let there = length-take-le whole lines (omega (arith, tape.known, tape.performed)) in
+    let some = length-take-le whole did holds.known.within in
+    let same : take (length (take whole did)) (take whole lines) ≡ take (length (take whole did)) lines =
+    take-take (length (take whole did)) whole lines (omega (arith, some)) in
+    let known = known_lines (known_cut holds.known) same (omega (arith, some, there)) in
     record {
-      place = subst (λ ls. IsAt first ls back session) (sym (take-take whole whole lines (omega arith))) tape.place;
-      known = omega (arith, here);
-      performed = omega (arith, here, there);
-      short = All-take IsShort whole lines tape.short;
-      few = omega (arith, there, tape.known, tape.performed, tape.few);
-      room = tape.room;
+      tape = record {
+        place = place_of known;
+        known = omega (arith, here);
+        performed = omega (arith, here, there);
+        short = All-take IsShort whole lines tape.short;
+        few = omega (arith, there, tape.known, tape.performed, tape.few);
+        room = tape.room;
+      };
+      known = known;
     }
 
 -- the next line is performed
-pub kept_play : {first session new : Session} {ends : List ℕ} {whole back number : ℕ}
+pub holds_play : {first session new : Session} {ends : List ℕ} {did : List Did} {whole back number : ℕ}
     {text text' : Option (List ℕ)} {replied : Result Outcome WriteFailed} (lines : List (List ℕ)) (line : List ℕ)
-    (end : ℕ) → IsTape first lines ends whole back session → back ≡ 0 → whole < length lines
+    (end : ℕ) (d : Did) → Holds first lines ends did whole back session → back ≡ 0 → whole < length lines
     → slice_get lines whole ≡ Some line → Performs number (parsed_line line) session new text text' replied
-    → length new.machine.past < 2 ^ 64 → IsTape first lines (noted whole end ends) (whole + 1) back new
-kept_play {first = first} {session = session} {new = new} {ends = ends} {whole = whole} {back = back} lines line end
-    tape none ahead is did room =
+    → Does d (parsed_line line) session new → length new.machine.past < 2 ^ 64
+    → Holds first lines (noted whole end ends) (take whole did ++ d ∷ []) (whole + 1) back new
+holds_play {first = first} {session = session} {new = new} {ends = ends} {did = did} {whole = whole} {back = back}
+    lines line end d holds none ahead is performs does room =
+    let tape = holds.tape in
     let noted = noted_within whole end (length lines) ends tape.known ahead tape.performed in
-    let from = subst (λ b. IsAt first (take whole lines) b session) none tape.place in
+    let from = subst (λ b. IsKnown first lines did whole b session) none holds.known in
+    let next : IsKnown first lines (take whole did ++ d ∷ []) (whole + 1) back new =
+    subst (λ b. IsKnown first lines (take whole did ++ d ∷ []) (whole + 1) b new) (sym none)
+    (known_next d line from is (omega arith) performs does) in
     record {
-      place = subst (λ b. IsAt first (take (whole + 1) lines) b new) (sym none) (at_next lines whole line is from did);
-      known = noted.0;
-      performed = noted.1;
-      short = tape.short;
-      few = tape.few;
-      room = omega (arith, none, room);
+      tape = record {
+        place = place_of next;
+        known = noted.0;
+        performed = noted.1;
+        short = tape.short;
+        few = tape.few;
+        room = omega (arith, none, room);
+      };
+      known = next;
+    }
+
+-- the place is behind another line
+pub holds_at : {first session new : Session} {lines : List (List ℕ)} {ends : List ℕ} {did now : List Did}
+    {whole back : ℕ} (line : ℕ) → Holds first lines ends did whole back session → line ≤ length ends
+    → IsKnown first lines now line 0 new → length new.machine.past < 2 ^ 64 → Holds first lines ends now line 0 new
+holds_at line holds within known room =
+    let tape = holds.tape in
+    record {
+      tape = record {
+        place = place_of known;
+        known = within;
+        performed = tape.performed;
+        short = tape.short;
+        few = tape.few;
+        room = omega (arith, room);
+      };
+      known = known;
     }
 
 -- a line that is performed where its lines were made whole before

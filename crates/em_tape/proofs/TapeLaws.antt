@@ -95,7 +95,7 @@ after_backs-plus (suc m) n v =
     let e : suc (m + n) ≡ suc m + n = omega arith in
     after_backs-plus m n (after_back v) ∙ ap (λ k. after_backs k v) e
 
-taken-plus : (m n : ℕ) (s : Session) → taken_back n (taken_back m s) ≡ taken_back (m + n) s
+pub taken-plus : (m n : ℕ) (s : Session) → taken_back n (taken_back m s) ≡ taken_back (m + n) s
 taken-plus m n s = ap (λ v. record s { machine = v }) (after_backs-plus m n s.machine)
 
 length_nil : {X : Type 0} (xs : List X) (m n : ℕ) → length xs ≡ m - n → m ≤ n → xs ≡ []

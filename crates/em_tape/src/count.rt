@@ -1,6 +1,7 @@
 //! Counting the events that stand.
+use crate::kind::Kind;
 use em_script::Outcome;
-use em_text::{Words, WriteFailed, is_name};
+use em_text::WriteFailed;
 
 /// What is counted along the lines: the events that stand since the start, and whether a driver does.
 ///
@@ -9,21 +10,6 @@ use em_text::{Words, WriteFailed, is_name};
 pub(crate) struct Count {
     pub(crate) events: u64,
     driven: bool,
-}
-
-/// What a line does with events, by its name.
-#[derive(Clone, Copy)]
-enum Kind {
-    /// It performs one.
-    Event,
-    /// It takes some back.
-    Back,
-    /// It starts a driver, which performs some.
-    Start,
-    /// It calls the driver, which performs some.
-    Call,
-    /// It has nothing to do with events.
-    Other,
 }
 
 /// How many records the journal had before a line and after it, and what the session says of its last call of a driver.
@@ -43,25 +29,29 @@ impl Count {
         }
     }
 
-    /// After a line that was answered so; none where it was not played.
+    /// After a line of this kind that was answered so.
     ///
     /// Of a line whose answer could not be written no outcome is known. It is taken for done.
     pub(crate) fn after(
         self,
-        line: &[u8],
-        replied: Option<Result<Outcome, WriteFailed>>,
+        kind: Kind,
+        replied: Result<Outcome, WriteFailed>,
         seen: Seen,
     ) -> Count {
         match replied {
-            None => self,
-            Some(Ok(outcome)) => self.with(kind_of(line), outcome, seen),
-            Some(Err(WriteFailed)) => self.with(kind_of(line), Outcome::Done, seen),
+            Ok(outcome) => self.with(kind, outcome, seen),
+            Err(WriteFailed) => self.with(kind, Outcome::Done, seen),
         }
+    }
+
+    /// Where so many events stand, and a driver as before.
+    pub(crate) fn at(self, events: u64) -> Count {
+        Count { events, ..self }
     }
 
     fn with(self, kind: Kind, outcome: Outcome, seen: Seen) -> Count {
         match (kind, outcome) {
-            (_, Outcome::Silent | Outcome::Bad) | (Kind::Other, _) => self,
+            (_, Outcome::Silent | Outcome::Bad) | (Kind::Look | Kind::Other, _) => self,
             (Kind::Event, Outcome::Done) => self.more(1),
             (Kind::Event, Outcome::Refused) => self,
             (Kind::Back, _) => self.less(seen.before.saturating_sub(seen.after)),
@@ -98,39 +88,4 @@ impl Count {
         let index = (number as usize).wrapping_sub(1);
         ends.get(index).copied() == Some(self.events)
     }
-}
-
-fn kind_of(line: &[u8]) -> Kind {
-    let mut words = Words(line);
-    let Some(name) = words.next_short() else {
-        return Kind::Other;
-    };
-    if is_name(name, b"back") {
-        Kind::Back
-    } else if is_name(name, b"init") {
-        Kind::Start
-    } else if performs_event(name) {
-        Kind::Event
-    } else if calls_driver(name) {
-        Kind::Call
-    } else {
-        Kind::Other
-    }
-}
-
-fn performs_event(name: &[u8]) -> bool {
-    is_name(name, b"r")
-        || is_name(name, b"w")
-        || is_name(name, b"poke")
-        || is_name(name, b"arrive")
-        || is_name(name, b"rx")
-        || is_name(name, b"tx")
-        || is_name(name, b"link")
-}
-
-fn calls_driver(name: &[u8]) -> bool {
-    is_name(name, b"send")
-        || is_name(name, b"recv")
-        || is_name(name, b"stats")
-        || is_name(name, b"mac")
 }

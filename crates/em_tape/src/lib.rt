@@ -2,13 +2,16 @@
 //! forward again, and each time finds the same.
 //!
 //! A [`Tape`] keeps the lines that were typed or loaded, and how many events stand after each. Steps back go through
-//! the machine's journal as far as it reaches. Every other way leads over a new machine, on which the lines are
-//! performed again without their texts. So no place is out of reach, and none is lost where memory is refused on
-//! the way.
+//! the machine's journal as far as it reaches. Forward again, lines that did one event each are performed again from
+//! where the place is. Every other way leads over a new machine, on which all lines are performed again without their
+//! texts. So no place is out of reach, and none is lost where memory is refused on the way.
 #![tactic(auto)]
 
+mod again;
 mod count;
+mod did;
 mod ends;
+mod kind;
 mod laws;
 mod lines;
 mod playing;

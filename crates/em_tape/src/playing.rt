@@ -1,14 +1,17 @@
 //! Performing the lines of a tape, for the first time and again.
-ghost use Rattle.std.specs.Prelude.{◌≡◌, ◌<◌, ◌≤◌, ◌^◌, All, length, IfOk, IfErr, IfSome, OnOk, IsNone};
+ghost use Rattle.std.specs.Prelude.{◌≡◌, ◌<◌, ◌≤◌, ◌^◌, [], All, length, IfOk, IfErr, IfSome, OnOk, IsNone};
 ghost use Rattle.em_turn.specs.Planned.{lists};
 ghost use Rattle.em_journal.specs.Settings.{new_machine, IsRefusedAs};
 ghost use Rattle.em_line.specs.Grammar.{parsed_line};
 ghost use Rattle.em_script.specs.Session.{bare};
 ghost use Rattle.em_script.specs.Reply.{Performs};
 ghost use Rattle.em_tape.specs.Replied.{replied_of};
-ghost use Rattle.em_tape.specs.Tape.{IsAt, IsShort};
+ghost use Rattle.em_tape.specs.Did.{Does, IsKnown};
+ghost use Rattle.em_tape.specs.Tape.{IsShort};
 
 use crate::count::{Count, Seen};
+use crate::did::{Did, did_of};
+use crate::kind::kind_of;
 use em_journal::{Settings, SettingsRefusal};
 use em_script::{BenchFault, Outcome, Player, Session};
 use em_text::WriteFailed;
@@ -34,6 +37,12 @@ pub(crate) fn put(place: &mut Session, session: Session)
     *place = session;
 }
 
+/// How a line came out, and what it did.
+pub(crate) struct Played {
+    pub(crate) replied: Result<Outcome, WriteFailed>,
+    pub(crate) did: Did,
+}
+
 /// Plays a line, and counts its events. None where memory is refused for the octets of the line: then nothing is done
 /// and nothing written.
 pub(crate) fn play<W: Write>(
@@ -43,23 +52,29 @@ pub(crate) fn play<W: Write>(
     number: u32,
     line: &[u8],
     count: &mut Count,
-) -> Option<Result<Outcome, WriteFailed>>
+) -> Option<Played>
     requires { IsShort line.now }
-    ensures done { IfSome result (Performs number (parsed_line line.now)
-        session.old session.new (W.contents writer.old) (W.contents writer.new)) }
+    ensures done { IfSome result (λ played. Performs number (parsed_line line.now)
+        session.old session.new (W.contents writer.old) (W.contents writer.new) played.replied) }
+    ensures did { IfSome result (λ played. Does played.did (parsed_line line.now) session.old session.new) }
     ensures same { IsNone result → session.new ≡ session.old }
     ensures unwritten { IsNone result → W.contents writer.new ≡ W.contents writer.old }
     ensures room { length session.new.machine.past < 2 ^ 64 }
 {
     let before = session.machine().can_go_back();
-    let replied = replied_of(player.play(writer, session, number, line));
+    let replied = replied_of(player.play(writer, session, number, line))?;
     let seen = Seen {
         before,
         after: session.machine().can_go_back(),
         called: session.events_of_call(),
     };
-    *count = count.after(line, replied, seen);
-    replied
+    let kind = kind_of(line);
+    *count = count.after(kind, replied, seen);
+    let did = match replied {
+        Ok(outcome) => did_of(kind, outcome, seen),
+        Err(WriteFailed) => Did::Other,
+    };
+    Some(Played { replied, did })
 }
 
 /// How a line came out that was played.
@@ -73,19 +88,21 @@ fn replied_of(played: Result<Outcome, BenchFault>) -> Option<Result<Outcome, Wri
     }
 }
 
-/// Performs lines again, from the first line on, without their texts. Each must end as it did before: where one does
-/// not, memory was refused to it, now or then.
+/// Performs lines again, from the first line on, without their texts, and keeps what each did. Each must end as it did
+/// before: where one does not, memory was refused to it, now or then.
 fn replay(
     player: &mut Player,
     session: &mut Session,
     lines: &[Vec<u8>],
     ends: &[u64],
     count: &mut Count,
+    did: &mut Vec<Did>,
 ) -> Result<(), BenchFault>
     requires short { All IsShort (lists lines.now) }
     requires few { length lines.now ≤ 0xFFFF_FFFF }
     requires room { length session.old.machine.past < 2 ^ 64 }
-    ensures ok { OnOk result (IsAt session.old (lists lines.now) 0 session.new) }
+    requires first { did.old.items ≡ [] }
+    ensures ok { OnOk result (IsKnown session.old (lists lines.now) did.new.items (length lines.now) 0 session.new) }
     ensures room { length session.new.machine.past < 2 ^ 64 }
     ensures err { IfErr result (λ fault. fault ≡ BenchFault.Memory) }
 {
@@ -93,7 +110,7 @@ fn replay(
     let mut number = 0;
     for line in lines {
         number += 1;
-        let Some(_) = play(
+        let Some(played) = play(
             player,
             &mut nowhere,
             session,
@@ -103,11 +120,18 @@ fn replay(
         ) else {
             return Err(BenchFault::Memory);
         };
-        if !count.ended_so(ends, number) {
+        if !count.ended_so(ends, number) || did.push(played.did).is_err() {
             return Err(BenchFault::Memory);
         }
     }
     Ok(())
+}
+
+/// A session that lines left, and what each of them did.
+pub(crate) struct Replayed {
+    pub(crate) session: Session,
+    pub(crate) did: Vec<Did>,
+    pub(crate) counted: Count,
 }
 
 /// The session that lines leave which are performed again on a new machine.
@@ -117,19 +141,32 @@ pub(crate) fn replayed(
     player: &mut Player,
     lines: &[Vec<u8>],
     ends: &[u64],
-    count: &mut Count,
-) -> Result<Session, BenchFault>
+) -> Result<Replayed, BenchFault>
     requires short { All IsShort (lists lines.now) }
     requires few { length lines.now ≤ 0xFFFF_FFFF }
-    ensures ok { IfOk result (IsAt (bare (new_machine settings)) (lists lines.now) 0) }
-    ensures room { IfOk result (λ session. length session.machine.past < 2 ^ 64) }
+    ensures ok { IfOk result (λ r.
+        IsKnown (bare (new_machine settings)) (lists lines.now) r.did.items (length lines.now) 0 r.session) }
+    ensures room { IfOk result (λ r. length r.session.machine.past < 2 ^ 64) }
     ensures err { IfErr result (λ fault. fault ≡ BenchFault.Memory) }
 {
     let Ok(mut session) = opening(alloc, settings) else {
         return Err(BenchFault::Memory);
     };
-    match replay(player, &mut session, lines, ends, count) {
-        Ok(()) => Ok(session),
+    let mut did = Vec::new(alloc);
+    let mut counted = Count::start();
+    match replay(
+        player,
+        &mut session,
+        lines,
+        ends,
+        &mut counted,
+        &mut did,
+    ) {
+        Ok(()) => Ok(Replayed {
+            session,
+            did,
+            counted,
+        }),
         Err(fault) => Err(fault),
     }
 }

@@ -1,6 +1,6 @@
 //! A debugging session with a place in it.
 ghost use Rattle.std.specs.Prelude.{◌≡◌, ◌⊎◌, ℕ, ◌+◌, ◌-◌, ◌<◌, ◌≤◌, ◌↔◌, ◌∷◌, ◌++◌, [], List, length, take, drop, min};
-ghost use Rattle.std.specs.Prelude.{IfOk, IfErr, OnOk, OnErr, IfSome, IsErrOf, IsTrue, Ok, None, Some};
+ghost use Rattle.std.specs.Prelude.{IfOk, IfErr, OnOk, OnErr, IfSome, IsErrOf, IsTrue, Ok, None, Some, false};
 ghost use Rattle.std.specs.Option.{option_map};
 ghost use Rattle.em_journal.specs.Settings.{new_machine, IsRefusedAs};
 ghost use Rattle.em_script.specs.Session.{bare};
@@ -8,7 +8,9 @@ ghost use Rattle.em_tape.specs.Ends.{end_of, IsLineOf};
 ghost use Rattle.em_tape.specs.Tape.{empty_tape, event_of, taken_back, line_at, IsNear, IsShort, IsTape};
 ghost use Rattle.em_tape.specs.Moves.{Plays, Leaves, Adds, IsCut};
 
+use crate::again::go_along;
 use crate::count::Count;
+use crate::did::{Did, keep};
 use crate::ends::{end_of, line_of, note};
 use crate::lines::{back_line, push_line, text_at};
 use crate::playing::{opening, play, put, replayed};
@@ -47,13 +49,16 @@ pub struct Tape {
     back: usize,
     // what the whole lines count
     counted: Count,
+    // what the lines did, the whole ones and perhaps some behind them
+    did: Vec<Did>,
 }
 
 impl Model for Tape {
     ghost use Rattle.em_turn.specs.Planned.{lists};
     ghost use Rattle.em_journal.specs.Settings.{new_machine};
     ghost use Rattle.em_script.specs.Session.{bare};
-    ghost use Rattle.em_tape.specs.Tape.{Tape, tape_code, IsTape};
+    ghost use Rattle.em_tape.specs.Tape.{Tape, tape_code};
+    ghost use Rattle.em_tape.specs.Holds.{Holds};
 
     ghost Value = { Tape };
 
@@ -69,7 +74,7 @@ impl Model for Tape {
     } };
 
     ghost invariant = { λ t.
-        IsTape (bare (new_machine t.settings)) (lists t.lines.items) t.ends.items t.whole t.back t.session };
+        Holds (bare (new_machine t.settings)) (lists t.lines.items) t.ends.items t.did.items t.whole t.back t.session };
 }
 
 impl Tape {
@@ -89,6 +94,7 @@ impl Tape {
                 whole: 0,
                 back: 0,
                 counted: Count::start(),
+                did: Vec::new(alloc),
             }),
             Err(refusal) => Err(refusal),
         }
@@ -166,7 +172,7 @@ impl Tape {
         if self.back == 0 {
             return Ok(());
         }
-        self.replay_to(line)
+        self.be_behind(line)
     }
 
     /// Performs the next line from a place that is whole. None where memory is refused before that: then nothing is
@@ -179,12 +185,12 @@ impl Tape {
         ensures none { result ≡ None → (self.new ≡ self.old) × (W.contents writer.new ≡ W.contents writer.old) }
     {
         // So that nothing can fail between the line and the note of its end.
-        if self.ends.reserve(1).is_err() {
+        if self.ends.reserve(1).is_err() || self.did.reserve(1).is_err() {
             return None;
         }
         let line = self.lines[self.whole].as_slice();
         let number = (self.whole + 1) as u32;
-        let replied = play(
+        let played = play(
             &mut self.player,
             writer,
             &mut self.session,
@@ -193,8 +199,9 @@ impl Tape {
             &mut self.counted,
         )?;
         note(&mut self.ends, self.whole, self.counted.events);
+        keep(&mut self.did, self.whole, played.did);
         self.whole += 1;
-        Some(replied)
+        Some(played.replied)
     }
 
     /// Takes the newest events back, at most so many and as far as the journal reaches, and gives how many.
@@ -214,8 +221,8 @@ impl Tape {
     /// there are not so many, it goes behind the last; and where the journal doesn't reach back to it from the end of
     /// its line, as near as it does.
     ///
-    /// By steps back where the journal still reaches; else the lines are performed again on a new machine, up to that
-    /// which has the event, and what is too much is taken back. Where memory is refused to that, the place stays.
+    /// By steps back where the journal still reaches; else to behind the line which has the event, and what is too much
+    /// is taken back. Where memory is refused to that, the place stays.
     pub fn goto(&mut self, event: u64) -> Result<(), BenchFault>
         ensures near { OnOk result (IsNear event self.new) }
         ensures kept { OnOk result (self.new ≡ record self.old {
@@ -232,7 +239,7 @@ impl Tape {
             self.back((here - event) as usize);
             return Ok(());
         }
-        self.replay_to(self.line_of(event))?;
+        self.be_behind(self.line_of(event))?;
         let end = self.event();
         self.back(end.saturating_sub(event) as usize);
         Ok(())
@@ -268,7 +275,53 @@ impl Tape {
         if line == self.whole && self.back == 0 {
             return Ok(());
         }
+        self.be_behind(line)
+    }
+
+    /// Goes to where so many lines stand whole: along the lines between where each of them did no more than one event,
+    /// and else from a new machine on.
+    fn be_behind(&mut self, line: usize) -> Result<(), BenchFault>
+        requires { line ≤ length self.old.ends }
+        ensures ok { OnOk result (self.new ≡ record self.old {
+          whole = line;
+          back = 0;
+          session = self.new.session;
+        }) }
+        ensures err { OnErr result (self.new ≡ self.old) }
+        ensures only { IfErr result (λ fault. fault ≡ BenchFault.Memory) }
+    {
+        if self.goes_along(line) {
+            return Ok(());
+        }
         self.replay_to(line)
+    }
+
+    /// Goes to where so many lines stand whole, along lines that did no more than one event each. False where others
+    /// lie between, or where memory is refused: then the place stays.
+    fn goes_along(&mut self, line: usize) -> bool
+        requires { line ≤ length self.old.ends }
+        ensures there { IsTrue result → self.new ≡ record self.old {
+          whole = line;
+          back = 0;
+          session = self.new.session;
+        } }
+        ensures same { result ≡ false → self.new ≡ self.old }
+    {
+        let gone = go_along(
+            &mut self.player,
+            &mut self.session,
+            self.lines.as_slice(),
+            self.did.as_slice(),
+            self.whole,
+            self.back,
+            line,
+        );
+        if gone {
+            self.whole = line;
+            self.back = 0;
+            self.counted = self.counted.at(end_of(self.ends.as_slice(), line));
+        }
+        gone
     }
 
     /// Goes to where so many lines stand whole, from a new machine on.
@@ -282,18 +335,17 @@ impl Tape {
         ensures err { OnErr result (self.new ≡ self.old) }
         ensures only { IfErr result (λ fault. fault ≡ BenchFault.Memory) }
     {
-        let mut counted = Count::start();
         match replayed(
             self.alloc,
             self.settings,
             &mut self.player,
             &self.lines.as_slice()[..line],
             self.ends.as_slice(),
-            &mut counted,
         ) {
-            Ok(session) => {
-                put(&mut self.session, session);
-                self.counted = counted;
+            Ok(replayed) => {
+                put(&mut self.session, replayed.session);
+                self.did = replayed.did;
+                self.counted = replayed.counted;
                 self.whole = line;
                 self.back = 0;
                 Ok(())
@@ -330,6 +382,7 @@ impl Tape {
         let dropped = self.lines.len() - self.whole;
         self.lines.truncate(self.whole);
         self.ends.truncate(self.whole);
+        self.did.truncate(self.whole);
         dropped
     }
 

@@ -1,13 +1,14 @@
-use Rattle.std.proofs.Common.{◌≡◌, ◌<◌, ◌^◌, length, take}
+use Rattle.std.proofs.Common.{◌≡◌, ◌<◌, ◌^◌, length}
 use Rattle.em_turn.specs.Planned.{lists}
-use Rattle.em_tape.specs.Tape.{IsAt}
+use Rattle.em_tape.specs.Did.{IsKnown}
 use Rattle.em_tape.proofs.playing.replay.Given as goal
 
--- the lines so far were played
+-- the lines so far were played, and it is known what each did
 abbrev pub invariant-loop-line : goal.invariant-loop-line
 invariant-loop-line l =
     record {
-      place : IsAt l.fn.session (take l.line-index (lists l.lines)) 0 l.session;
+      known : IsKnown l.fn.session (lists l.lines) l.did.items l.line-index 0 l.session;
+      all : length l.did.items ≡ l.line-index;
       number : l.number ≡ l.line-index;
       room : length l.session.machine.past < 2 ^ 64;
     }

@@ -1,7 +1,7 @@
 use Rattle.std.proofs.Common.{◌≡◌, ◌∙◌, take, ap, sym, refl}
 use Rattle.std.proofs.lemmas.List.{take-map}
 use Rattle.em_turn.specs.Planned.{lists}
-use Rattle.em_tape.proofs.KeptLaws.{kept_cut}
+use Rattle.em_tape.proofs.KeptLaws.{holds_cut}
 use Rattle.em_tape.proofs.tape.Tape.drop_ahead.Goals as goal
 
 pub invariant_of-self : goal.invariant_of-self
@@ -10,7 +10,7 @@ invariant_of-self c =
     let lines = c.self.inside.lines.items in
     let cut : lists c.truncate.new.self.items ≡ take whole (lists lines) =
     ap lists c.truncate.ensures.items ∙ sym (take-map (λ v. v.items) whole lines) in
-    rw (cut, c.truncate-2.ensures.items) (kept_cut c.self.invariant)
+    rw (cut, c.truncate-2.ensures.items, c.truncate-3.ensures.items) (holds_cut c.self.invariant)
 
 pub returns-clause-tape : goal.returns-clause-tape
 returns-clause-tape c =

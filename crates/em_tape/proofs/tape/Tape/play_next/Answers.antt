@@ -7,7 +7,7 @@ use Rattle.em_script.specs.Session.{bare}
 use Rattle.em_tape.specs.Ends.{noted}
 use Rattle.em_tape.specs.Tape.{Tape, IsAt}
 use Rattle.em_tape.proofs.TapeLaws.{line_in, short_at}
-use Rattle.em_tape.proofs.KeptLaws.{kept_play, same_tape}
+use Rattle.em_tape.proofs.KeptLaws.{holds_play, same_tape}
 use Rattle.em_tape.proofs.tape.Tape.play_next.Goals as goal
 
 pub play-requires : goal.play-requires
@@ -19,7 +19,7 @@ play-requires g c =
     let is : slice_get (lists lines) c.self.inside.whole ≡ Some c.as_slice-line.result.now =
     line_in lines c.self.inside.whole c.index.result.now within c.index.ensures
     ∙ ap Some (sym c.as_slice-line.ensures.value) in
-    short_at (lists lines) c.self.inside.whole c.as_slice-line.result.now c.self.invariant.short is
+    short_at (lists lines) c.self.inside.whole c.as_slice-line.result.now c.self.invariant.tape.short is
 
 pub invariant_of-self-2 : goal.invariant_of-self-2
 invariant_of-self-2 g c =
@@ -33,8 +33,10 @@ invariant_of-self-2 g c =
     let none : c.self.inside.back ≡ 0 = ap (λ (t : Tape). t.back) c.self.view_is ∙ c.requires.whole in
     let ends : c.note.new.ends.items ≡ noted c.self.inside.whole c.play.new.count.events c.self.inside.ends.items =
     c.note.ensures ∙ ap (noted c.self.inside.whole c.play.new.count.events) c.reserve.ensures.items in
-    rw ends (kept_play (lists lines) c.as_slice-line.result.now c.play.new.count.events c.self.invariant none ahead is
-    c.in_ok-replied.ensures.done c.in_ok-replied.ensures.room)
+    let did : c.keep.new.all.items ≡ take c.self.inside.whole c.self.inside.did.items ++ c.in_ok-played.did ∷ [] =
+    c.keep.ensures ∙ ap (λ ds. take c.self.inside.whole ds ++ c.in_ok-played.did ∷ []) c.reserve-2.ensures.items in
+    rw (ends, did) (holds_play (lists lines) c.as_slice-line.result.now c.play.new.count.events c.in_ok-played.did
+    c.self.invariant none ahead is c.in_ok-played.ensures.done c.in_ok-played.ensures.did c.in_ok-played.ensures.room)
 
 pub returns-clause-done : goal.returns-clause-done
 returns-clause-done g c =
@@ -53,9 +55,9 @@ returns-clause-done g c =
       line = c.as_slice-line.result.now;
       next = is;
       before = c.self.inside.session;
-      place = subst (λ b. IsAt first (take whole (lists lines)) b c.self.inside.session) none c.self.invariant.place;
+      place = subst (λ b. IsAt first (take whole (lists lines)) b c.self.inside.session) none c.self.invariant.tape.place;
       here = λ _. refl;
-      performs = c.in_ok-replied.ensures.done;
+      performs = c.in_ok-played.ensures.done;
       ended = c.play.new.count.events;
       tape = same_tape first c.play.new.session (lists lines) c.note.new.ends.items _ (whole + 1) c.self.inside.back ends
           none;

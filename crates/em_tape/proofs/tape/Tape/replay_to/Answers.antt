@@ -14,20 +14,20 @@ replayed-requires-clause-short c =
     let is : take c.args.line (lists lines) ≡ lists (take c.args.line c.as_slice.result.now) =
     take-map (λ v. v.items) c.args.line lines
     ∙ ap (λ ls. lists (take c.args.line ls)) (sym c.as_slice.ensures.value) in
-    subst (All IsShort) is (All-take IsShort c.args.line (lists lines) c.self.invariant.short)
+    subst (All IsShort) is (All-take IsShort c.args.line (lists lines) c.self.invariant.tape.short)
 
 pub invariant_of-self : goal.invariant_of-self
 invariant_of-self c =
-    let lines = c.self.inside.lines.items in
+    let lines = lists c.self.inside.lines.items in
     let first = bare (new_machine c.self.inside.settings) in
-    let is : take c.args.line (lists lines) ≡ lists (take c.args.line c.as_slice.result.now) =
-    take-map (λ v. v.items) c.args.line lines
-    ∙ ap (λ ls. lists (take c.args.line ls)) (sym c.as_slice.ensures.value) in
-    rw c.put.ensures (record {
-      place = subst (λ ls. IsAt first ls 0 c.in-Ok.session) (sym is) c.in-Ok.ensures.ok;
-      known = subst (λ (t : Tape). c.args.line ≤ length t.ends) (sym c.self.view_is) c.requires;
-      performed = c.self.invariant.performed;
-      short = c.self.invariant.short;
-      few = c.self.invariant.few;
-      room = omega (arith, c.in-Ok.ensures.room);
-    })
+    let line = c.args.line in
+    let did = c.in-Ok.replayed.did.items in
+    let session = c.in-Ok.replayed.session in
+    let some = lists (take line c.as_slice.result.now) in
+    let is : take line lines ≡ some =
+    take-map (λ v. v.items) line c.self.inside.lines.items
+    ∙ ap (λ ls. lists (take line ls)) (sym c.as_slice.ensures.value) in
+    let within : line ≤ length c.self.inside.ends.items =
+    subst (λ (t : Tape). line ≤ length t.ends) (sym c.self.view_is) c.requires in
+    rw c.put.ensures (holds_at line c.self.invariant within
+    (known_more lines some line is (omega arith) c.in-Ok.ensures.ok) c.in-Ok.ensures.room)

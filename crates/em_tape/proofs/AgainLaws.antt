@@ -1,0 +1,322 @@
+-- Lines that did no more than one event each, taken back and performed again.
+use Rattle.std.proofs.Common.{◌≡◌, ◌⊎◌, ℕ, ◌+◌, ◌-◌, ◌<◌, ◌≤◌, zero, suc, List, [], ◌∷◌, ◌++◌, length, take, drop, map}
+use Rattle.std.proofs.Common.{Option, Some, None, Result, Ok, Err, refl, sym, ap, ◌∙◌, subst, arith, inl, inr}
+use Rattle.std.specs.Prelude.{slice_get, get_or}
+use Rattle.std.specs.Option.{option_map}
+use Rattle.std.proofs.lemmas.List.{length-take-le, length-append, length-drop, length-map, take_all, take-take, take-map, drop-map}
+use Rattle.std.proofs.lemmas.List.{drop-take, map-append, drop_more, take_more, nil_from_length}
+use Rattle.em_line.specs.Grammar.{parsed_line}
+use Rattle.em_line.specs.ParsedLine.{ParsedLine}
+use Rattle.em_script.specs.PlayedLine.{PlayedLine, ArePlayed, AreAllowed, IsAllowed, after_all, after_played}
+use Rattle.em_script.specs.Reply.{Performs}
+use Rattle.em_script.specs.Session.{Session}
+use Rattle.em_tape.specs.Did.{AllDo, AreDone, Does, IsKnown, events_in}
+use Rattle.em_tape.specs.Tape.{IsAt, taken_back}
+use Rattle.em_tape.specs.declared.did.Did.{Did}
+use Rattle.em_tape.specs.declared.did.Did.TheVariants.{Nothing, OneEvent, Other}
+use Rattle.em_tape.proofs.TapeLaws.{after_all-append, allowed_push, take-more, taken-plus}
+use Rattle.em_text.specs.declared.writer.WriteFailed.{WriteFailed}
+use Rattle.em_output.specs.declared.outcome.Outcome.{Outcome}
+
+-- ---- some of the lines
+
+pub AllDo-front : (k : ℕ) (ds : List Did) (xs : List PlayedLine) (s : Session) → AllDo ds xs s → AllDo (take k ds) xs s
+AllDo-front zero ds xs s does = tt
+AllDo-front (suc k) [] xs s does = tt
+AllDo-front (suc k) (d ∷ ds) [] s does = absurd does
+AllDo-front (suc k) (d ∷ ds) (x ∷ xs) s does = (does.0, AllDo-front k ds xs (after_played x s) does.1)
+
+pub AllDo-take : (k : ℕ) (ds : List Did) (xs : List PlayedLine) (s : Session) → AllDo ds xs s
+    → AllDo (take k ds) (take k xs) s
+AllDo-take zero ds xs s does = tt
+AllDo-take (suc k) [] xs s does = tt
+AllDo-take (suc k) (d ∷ ds) [] s does = absurd does
+AllDo-take (suc k) (d ∷ ds) (x ∷ xs) s does = (does.0, AllDo-take k ds xs (after_played x s) does.1)
+
+pub AllDo-drop : (k : ℕ) (ds : List Did) (xs : List PlayedLine) (s : Session) → AllDo ds xs s
+    → AllDo (drop k ds) (drop k xs) (after_all (take k xs) s)
+AllDo-drop zero ds xs s does = does
+AllDo-drop (suc k) [] xs s does = tt
+AllDo-drop (suc k) (d ∷ ds) [] s does = absurd does
+AllDo-drop (suc k) (d ∷ ds) (x ∷ xs) s does = AllDo-drop k ds xs (after_played x s) does.1
+
+pub AllDo-push : (ds : List Did) (xs : List PlayedLine) (d : Did) (x : PlayedLine) (s : Session)
+    → length ds ≡ length xs → AllDo ds xs s
+    → Does d (parsed_line x.line) (after_all xs s) (after_played x (after_all xs s))
+    → AllDo (ds ++ d ∷ []) (xs ++ x ∷ []) s
+AllDo-push [] [] d x s long does did = (did, tt)
+AllDo-push [] (y ∷ ys) d x s long does did = absurd (omega arith)
+AllDo-push (e ∷ ds) [] d x s long does did = absurd does
+AllDo-push (e ∷ ds) (y ∷ ys) d x s long does did =
+    (does.0, AllDo-push ds ys d x (after_played y s) (omega arith) does.1 did)
+
+AreAllowed-take : (k : ℕ) (xs : List PlayedLine) (s : Session) → AreAllowed xs s → AreAllowed (take k xs) s
+AreAllowed-take zero xs s allowed = tt
+AreAllowed-take (suc k) [] s allowed = tt
+AreAllowed-take (suc k) (x ∷ xs) s allowed = (allowed.0, AreAllowed-take k xs (after_played x s) allowed.1)
+
+-- the lines up to one, and then some behind it
+pub split : (i k : ℕ) (xs : List PlayedLine) (s : Session)
+    → after_all (take (i + k) xs) s ≡ after_all (take k (drop i xs)) (after_all (take i xs) s)
+split zero k xs s =
+    let e : zero + k ≡ k = omega arith in
+    ap (λ n. after_all (take n xs) s) e
+split (suc i) k [] s = ap (λ l. after_all l s) (take_all (suc i + k) [] (omega arith) ∙ sym (take_all k [] (omega arith)))
+split (suc i) k (x ∷ xs) s =
+    let e : suc i + k ≡ suc (i + k) = omega arith in
+    ap (λ n. after_all (take n (x ∷ xs)) s) e ∙ split i k xs (after_played x s)
+
+pub split_to : (i j : ℕ) (xs : List PlayedLine) (s : Session) → i ≤ j
+    → after_all (take j xs) s ≡ after_all (take (j - i) (drop i xs)) (after_all (take i xs) s)
+split_to i j xs s le =
+    let e : j ≡ i + (j - i) = omega arith in
+    ap (λ n. after_all (take n xs) s) e ∙ split i (j - i) xs s
+
+-- ---- taken back
+
+one_more : (n : ℕ) (found : Option ℕ) (t after s : Session) → ((m : ℕ) → found ≡ Some m → taken_back m t ≡ after)
+    → taken_back 1 after ≡ s → option_map suc found ≡ Some n → taken_back n t ≡ s
+one_more n None t after s rest undone is = absurd (cc)
+one_more n (Some m) t after s rest undone is =
+    let e : n ≡ m + 1 = omega (arith, same_some (suc m) n is) in
+    ap (λ i. taken_back i t) e ∙ sym (taken-plus m 1 t) ∙ ap (taken_back 1) (rest m refl) ∙ undone
+where
+  same_some : (a b : ℕ) → ◌≡◌ {A = Option ℕ} (Some a) (Some b) → a ≡ b
+  same_some a b is = cc
+
+along_one : (d : Did) (n : ℕ) (ds : List Did) (parsed : ParsedLine) (t after s : Session) → Does d parsed s after
+    → ((m : ℕ) → events_in ds ≡ Some m → taken_back m t ≡ after) → events_in (d ∷ ds) ≡ Some n → taken_back n t ≡ s
+along_one Nothing n ds parsed t after s did rest is = rest n is ∙ did
+along_one OneEvent n ds parsed t after s did rest is = one_more n (events_in ds) t after s rest did.undone is
+along_one Other n ds parsed t after s did rest is = absurd (cc)
+
+-- as many steps back as the lines did events lead to before the first of them
+pub along : (k n : ℕ) (ds : List Did) (xs : List PlayedLine) (s : Session) → AllDo ds xs s → k ≤ length ds
+    → events_in (take k ds) ≡ Some n → taken_back n (after_all (take k xs) s) ≡ s
+along zero n ds xs s does le is =
+    let none : n ≡ 0 = cc in
+    ap (λ i. taken_back i s) none
+along (suc k) n [] xs s does le is = absurd (omega arith)
+along (suc k) n (d ∷ ds) [] s does le is = absurd does
+along (suc k) n (d ∷ ds) (x ∷ xs) s does le is =
+    let after = after_played x s in
+    along_one d n (take k ds) (parsed_line x.line) (after_all (take k xs) after) after s does.0
+    (λ m found. along k m ds xs after does.1 (omega arith) found) is
+
+-- ---- how many events
+
+pub events_push : (ds : List Did) (d : Did) (a b : ℕ) → events_in ds ≡ Some a → events_in (d ∷ []) ≡ Some b
+    → events_in (ds ++ d ∷ []) ≡ Some (a + b)
+events_push [] d a b is one =
+    let none : a ≡ 0 = cc in
+    let e : b ≡ a + b = omega arith in
+    one ∙ ap Some e
+events_push (Nothing ∷ ds) d a b is one = events_push ds d a b is one
+events_push (OneEvent ∷ ds) d a b is one = push_more (events_in ds) d ds a b refl is one
+where
+  push_more : (found : Option ℕ) (d : Did) (ds : List Did) (a b : ℕ) → events_in ds ≡ found
+      → option_map suc found ≡ Some a → events_in (d ∷ []) ≡ Some b
+      → option_map suc (events_in (ds ++ d ∷ [])) ≡ Some (a + b)
+  push_more None d ds a b found is one = absurd (cc)
+  push_more (Some m) d ds a b found is one =
+      let more : suc m ≡ a = cc in
+      let e : suc (m + b) ≡ a + b = omega arith in
+      ap (option_map suc) (events_push ds d m b found one) ∙ ap Some e
+events_push (Other ∷ ds) d a b is one = absurd (cc)
+
+-- ---- what is known
+
+-- as many lines were played as are known
+known_length : {first now : Session} {lines : List (List ℕ)} {did : List Did} {whole back : ℕ}
+    (known : IsKnown first lines did whole back now) → length known.all ≡ length did
+known_length {lines = lines} {did = did} known =
+    let long = length-map known.all (λ (played : PlayedLine). played.line) in
+    let front = length-take-le (length did) lines known.known in
+    omega (arith, ap length known.played.each)
+
+pub place_of : {first now : Session} {lines : List (List ℕ)} {did : List Did} {whole back : ℕ}
+    → IsKnown first lines did whole back now → IsAt first (take whole lines) back now
+place_of {first = first} {lines = lines} {did = did} {whole = whole} known =
+    let xs = known.all in
+    record {
+      all = take whole xs;
+      played = record {
+        each = sym (take-map (λ (played : PlayedLine). played.line) whole xs) ∙ ap (take whole) known.played.each
+            ∙ take-take whole (length did) lines known.within;
+        allowed = AreAllowed-take whole xs first known.played.allowed;
+      };
+      session = known.session;
+    }
+
+pub known_first : (first : Session) (lines : List (List ℕ)) → IsKnown first lines [] 0 0 first
+known_first first lines = record {
+  all = [];
+  played = record { each = refl; allowed = tt };
+  does = tt;
+  within = omega arith;
+  known = omega arith;
+  session = refl;
+}
+
+-- more events are taken back
+pub known_back : {first now new : Session} {lines : List (List ℕ)} {did : List Did} {whole back : ℕ} (n : ℕ)
+    → IsKnown first lines did whole back now → new ≡ taken_back n now → IsKnown first lines did whole (back + n) new
+known_back {back = back} n known is = record {
+  all = known.all;
+  played = known.played;
+  does = known.does;
+  within = known.within;
+  known = known.known;
+  session = is ∙ ap (taken_back n) known.session ∙ taken-plus back n (after_all (take _ known.all) _);
+}
+
+-- lines are put behind the last, or dropped behind the known ones
+pub known_lines : {first now : Session} {lines new : List (List ℕ)} {did : List Did} {whole back : ℕ}
+    → IsKnown first lines did whole back now → take (length did) new ≡ take (length did) lines
+    → length did ≤ length new → IsKnown first new did whole back now
+known_lines known same long = record {
+  all = known.all;
+  played = record { each = known.played.each ∙ sym same; allowed = known.played.allowed };
+  does = known.does;
+  within = known.within;
+  known = long;
+  session = known.session;
+}
+
+-- no more is known than of the whole lines
+pub known_cut : {first now : Session} {lines : List (List ℕ)} {did : List Did} {whole back : ℕ}
+    → IsKnown first lines did whole back now → IsKnown first lines (take whole did) whole back now
+known_cut {first = first} {lines = lines} {did = did} {whole = whole} {back = back} known =
+    let xs = known.all in
+    let place = place_of known in
+    let long = length-take-le whole did known.within in
+    let within : whole ≤ whole = omega arith in
+    record {
+      all = take whole xs;
+      played = record {
+        each = place.played.each ∙ ap (λ n. take n lines) (sym long);
+        allowed = place.played.allowed;
+      };
+      does = AllDo-take whole did xs first known.does;
+      within = omega (arith, long);
+      known = omega (arith, long, known.within, known.known);
+      session = known.session
+          ∙ ap (λ l. taken_back back (after_all l first)) (sym (take-take whole whole xs within));
+    }
+
+-- the line behind the whole ones is played
+pub known_next : {first now new : Session} {lines : List (List ℕ)} {did : List Did} {whole number : ℕ}
+    {text text' : Option (List ℕ)} {replied : Result Outcome WriteFailed} (d : Did) (line : List ℕ)
+    → IsKnown first lines did whole 0 now → slice_get lines whole ≡ Some line → whole + 1 ≤ length lines
+    → Performs number (parsed_line line) now new text text' replied → Does d (parsed_line line) now new
+    → IsKnown first lines (take whole did ++ d ∷ []) (whole + 1) 0 new
+known_next {first = first} {now = now} {new = new} {lines = lines} {did = did} {whole = whole} d line known next within
+    performs does =
+    let cut = known_cut known in
+    let xs = cut.all in
+    let x : PlayedLine = record { line = line; refused = performs.memory } in
+    let front = length-take-le whole did known.within in
+    let many : length xs ≡ whole = known_length cut ∙ front in
+    let here : now ≡ after_all xs first = cut.session ∙ ap (λ l. after_all l first) (take_all whole xs (omega arith)) in
+    let long : length (take whole did ++ d ∷ []) ≡ whole + 1 = omega (arith, length-append (take whole did) (d ∷ [])) in
+    let all_long = length-append xs (x ∷ []) in
+    record {
+      all = xs ++ x ∷ [];
+      played = record {
+        each = map-append (λ (played : PlayedLine). played.line) xs (x ∷ [])
+            ∙ ap (λ l. l ++ line ∷ []) (cut.played.each ∙ ap (λ n. take n lines) front)
+            ∙ sym (take-more whole lines line next) ∙ ap (λ n. take n lines) (sym long);
+        allowed = allowed_push xs x first cut.played.allowed (subst (IsAllowed x) here performs.allowed);
+      };
+      does = AllDo-push (take whole did) xs d x first (front ∙ sym many) cut.does
+          (subst (λ s. Does d (parsed_line line) s (after_played x s)) here
+          (subst (Does d (parsed_line line) now) performs.session does));
+      within = omega arith;
+      known = omega arith;
+      session = performs.session ∙ ap (after_played x) here ∙ sym (after_all-append xs (x ∷ []) first)
+          ∙ ap (λ l. after_all l first) (sym (take_all (whole + 1) (xs ++ x ∷ []) (omega arith)));
+    }
+
+-- ---- along known lines
+
+-- the session is behind an earlier line, where as many events lie between as are taken back
+pub known_here : {first now : Session} {lines : List (List ℕ)} {did : List Did} {whole back : ℕ} (here : ℕ)
+    (known : IsKnown first lines did whole back now) → here ≤ whole
+    → events_in (take (whole - here) (drop here did)) ≡ Some back → now ≡ after_all (take here known.all) first
+known_here {first = first} {did = did} {whole = whole} {back = back} here known le is =
+    let xs = known.all in
+    let s = after_all (take here xs) first in
+    let short : whole - here ≤ length (drop here did) = omega (arith, length-drop here did, known.within) in
+    known.session ∙ ap (taken_back back) (split_to here whole xs first le)
+    ∙ along (whole - here) back (drop here did) (drop here xs) s (AllDo-drop here did xs first known.does) short is
+
+known_at : {first now : Session} {lines : List (List ℕ)} {did : List Did} {whole back : ℕ} (line : ℕ) (new : Session)
+    (known : IsKnown first lines did whole back now) → line ≤ length did → new ≡ after_all (take line known.all) first
+    → IsKnown first lines did line 0 new
+known_at line new known le is = record {
+  all = known.all;
+  played = known.played;
+  does = known.does;
+  within = le;
+  known = known.known;
+  session = is;
+}
+
+-- from there, lines are taken back
+pub known_before : {first now new : Session} {lines : List (List ℕ)} {did : List Did} {whole back : ℕ} (here line : ℕ)
+    (known : IsKnown first lines did whole back now) → here ≤ whole
+    → events_in (take (whole - here) (drop here did)) ≡ Some back → line ≤ here
+    → ((all : List PlayedLine) (from : Session) → AllDo (take (here - line) (drop line did)) all from
+    → now ≡ after_all (take (length (take (here - line) (drop line did))) all) from → new ≡ from)
+    → IsKnown first lines did line 0 new
+known_before {first = first} {now = now} {new = new} {did = did} {whole = whole} here line known le is less leads =
+    let xs = known.all in
+    let s = after_all (take line xs) first in
+    let some = take (here - line) (drop line did) in
+    let long : length some ≡ here - line =
+    length-take-le (here - line) (drop line did) (omega (arith, length-drop line did, known.within)) in
+    let there : now ≡ after_all (take (length some) (drop line xs)) s =
+    known_here here known le is ∙ split_to line here xs first less
+    ∙ ap (λ n. after_all (take n (drop line xs)) s) (sym long) in
+    known_at line new known (omega (arith, known.within))
+    (leads (drop line xs) s (AllDo-front (here - line) (drop line did) (drop line xs) s
+    (AllDo-drop line did xs first known.does)) there)
+
+-- the lines from there on, up to another
+pub done_between : {first now : Session} {lines : List (List ℕ)} {did : List Did} {whole back : ℕ} (here line : ℕ)
+    (known : IsKnown first lines did whole back now) → here ≤ whole
+    → events_in (take (whole - here) (drop here did)) ≡ Some back → here ≤ line → line ≤ length did
+    → AreDone (take (line - here) (drop here known.all)) (take (line - here) (drop here did))
+    (take (line - here) (drop here lines)) now
+done_between {first = first} {lines = lines} {did = did} here line known le is more within =
+    let xs = known.all in
+    let k = line - here in
+    let f = λ (played : PlayedLine). played.line in
+    let upto : here + k ≤ length did = omega arith in
+    record {
+      each = sym (take-map f k (drop here xs)) ∙ ap (take k) (sym (drop-map f here xs) ∙ ap (drop here) known.played.each)
+          ∙ sym (drop-take here k (take (length did) lines))
+          ∙ ap (drop here) (take-take (here + k) (length did) lines upto) ∙ drop-take here k lines;
+      does = subst (AllDo (take k (drop here did)) (take k (drop here xs))) (sym (known_here here known le is))
+          (AllDo-take k (drop here did) (drop here xs) (after_all (take here xs) first)
+          (AllDo-drop here did xs first known.does));
+    }
+
+-- they are performed again
+pub known_behind : {first now new : Session} {lines : List (List ℕ)} {did : List Did} {whole back : ℕ} (here line : ℕ)
+    (known : IsKnown first lines did whole back now) → here ≤ whole
+    → events_in (take (whole - here) (drop here did)) ≡ Some back → here ≤ line → line ≤ length did
+    → ((all : List PlayedLine)
+    → AreDone all (take (line - here) (drop here did)) (take (line - here) (drop here lines)) now
+    → new ≡ after_all (take (length (take (line - here) (drop here did))) all) now) → IsKnown first lines did line 0 new
+known_behind {first = first} {now = now} {new = new} {did = did} here line known le is more within leads =
+    let xs = known.all in
+    let k = line - here in
+    let some = take k (drop here did) in
+    let long : length some ≡ k = length-take-le k (drop here did) (omega (arith, length-drop here did)) in
+    let all : take (length some) (take k (drop here xs)) ≡ take k (drop here xs) =
+    ap (λ n. take n (take k (drop here xs))) long ∙ take-take k k (drop here xs) (omega arith) in
+    known_at line new known within
+    (leads (take k (drop here xs)) (done_between here line known le is more within)
+    ∙ ap (λ l. after_all l now) all ∙ ap (after_all (take k (drop here xs))) (known_here here known le is)
+    ∙ sym (split_to here line xs first more))
