@@ -78,11 +78,9 @@ one_more : (n : ℕ) (found : Option ℕ) (t after s : Session) → ((m : ℕ) �
     → taken_back 1 after ≡ s → option_map suc found ≡ Some n → taken_back n t ≡ s
 one_more n None t after s rest undone is = absurd (cc)
 one_more n (Some m) t after s rest undone is =
-    let e : n ≡ m + 1 = omega (arith, same_some (suc m) n is) in
+    let same : suc m ≡ n = cc in
+    let e : n ≡ m + 1 = omega arith in
     ap (λ i. taken_back i t) e ∙ sym (taken-plus m 1 t) ∙ ap (taken_back 1) (rest m refl) ∙ undone
-where
-  same_some : (a b : ℕ) → ◌≡◌ {A = Option ℕ} (Some a) (Some b) → a ≡ b
-  same_some a b is = cc
 
 along_one : (d : Did) (n : ℕ) (ds : List Did) (parsed : ParsedLine) (t after s : Session) → Does d parsed s after
     → ((m : ℕ) → events_in ds ≡ Some m → taken_back m t ≡ after) → events_in (d ∷ ds) ≡ Some n → taken_back n t ≡ s
@@ -105,6 +103,31 @@ along (suc k) n (d ∷ ds) (x ∷ xs) s does le is =
 
 -- ---- how many events
 
+-- so many more
+abbrev pub plus : ℕ → Option ℕ → Option ℕ
+plus n found = option_map (λ m. n + m) found
+
+pub plus-suc : (n : ℕ) (found : Option ℕ) → plus n (option_map suc found) ≡ plus (n + 1) found
+plus-suc n None = refl
+plus-suc n (Some m) = let e : n + suc m ≡ n + 1 + m = omega arith in ap Some e
+
+-- the line before some of them
+pub events_before : (whole line : ℕ) (ds : List Did) (d : Did) → line < whole → line < length ds
+    → events_in (take (whole - line) (drop line ds))
+    ≡ events_in (get_or ds line d ∷ take (whole - (line + 1)) (drop (line + 1) ds))
+events_before whole line ds d less within =
+    let e : whole - line ≡ suc (whole - (line + 1)) = omega arith in
+    ap (λ n. events_in (take n (drop line ds))) e
+    ∙ ap (λ l. events_in (take (suc (whole - (line + 1))) l)) (drop_more ds line d within)
+
+push_more : (found more : Option ℕ) (a b : ℕ) → ((m : ℕ) → found ≡ Some m → more ≡ Some (m + b))
+    → option_map suc found ≡ Some a → option_map suc more ≡ Some (a + b)
+push_more None more a b rest is = absurd (cc)
+push_more (Some m) more a b rest is =
+    let same : suc m ≡ a = cc in
+    let e : suc (m + b) ≡ a + b = omega arith in
+    ap (option_map suc) (rest m refl) ∙ ap Some e
+
 pub events_push : (ds : List Did) (d : Did) (a b : ℕ) → events_in ds ≡ Some a → events_in (d ∷ []) ≡ Some b
     → events_in (ds ++ d ∷ []) ≡ Some (a + b)
 events_push [] d a b is one =
@@ -112,17 +135,42 @@ events_push [] d a b is one =
     let e : b ≡ a + b = omega arith in
     one ∙ ap Some e
 events_push (Nothing ∷ ds) d a b is one = events_push ds d a b is one
-events_push (OneEvent ∷ ds) d a b is one = push_more (events_in ds) d ds a b refl is one
-where
-  push_more : (found : Option ℕ) (d : Did) (ds : List Did) (a b : ℕ) → events_in ds ≡ found
-      → option_map suc found ≡ Some a → events_in (d ∷ []) ≡ Some b
-      → option_map suc (events_in (ds ++ d ∷ [])) ≡ Some (a + b)
-  push_more None d ds a b found is one = absurd (cc)
-  push_more (Some m) d ds a b found is one =
-      let more : suc m ≡ a = cc in
-      let e : suc (m + b) ≡ a + b = omega arith in
-      ap (option_map suc) (events_push ds d m b found one) ∙ ap Some e
+events_push (OneEvent ∷ ds) d a b is one =
+    push_more (events_in ds) (events_in (ds ++ d ∷ [])) a b (λ m found. events_push ds d m b found one) is
 events_push (Other ∷ ds) d a b is one = absurd (cc)
+
+-- one line does no more than one
+pub one_at_most : (d : Did) (n : ℕ) → events_in (d ∷ []) ≡ Some n → n ≤ 1
+one_at_most Nothing n is = let e : n ≡ 0 = cc in omega arith
+one_at_most OneEvent n is = let e : n ≡ 1 = cc in omega arith
+one_at_most Other n is = absurd (cc)
+
+-- ---- one of the lines
+
+pub does_at : (k : ℕ) (ds : List Did) (xs : List PlayedLine) (ls : List (List ℕ)) (s : Session) (d : Did)
+    (line : List ℕ) → AllDo ds xs s → map (λ (played : PlayedLine). played.line) xs ≡ ls → k < length ds
+    → slice_get ls k ≡ Some line
+    → Does (get_or ds k d) (parsed_line line) (after_all (take k xs) s) (after_all (take (suc k) xs) s)
+does_at k [] xs ls s d line does each lt is = absurd (omega arith)
+does_at k (e ∷ ds) [] ls s d line does each lt is = absurd does
+does_at k (e ∷ ds) (x ∷ xs) [] s d line does each lt is = absurd (cc)
+does_at zero (e ∷ ds) (x ∷ xs) (l ∷ ls) s d line does each lt is =
+    let first : x.line ≡ l = cc in
+    let same : l ≡ line = cc in
+    subst (λ t. Does e (parsed_line t) s (after_played x s)) (first ∙ same) does.0
+does_at (suc k) (e ∷ ds) (x ∷ xs) (l ∷ ls) s d line does each lt is =
+    does_at k ds xs ls (after_played x s) d line does.1 (ap (drop 1) each) (omega arith) is
+
+-- the same of lines that were done
+pub done_at : (k : ℕ) (d : Did) (line : List ℕ) (xs : List PlayedLine) (ds : List Did) (ls : List (List ℕ))
+    (s now : Session) → AreDone xs ds ls s → now ≡ after_all (take k xs) s → k < length ds
+    → slice_get ls k ≡ Some line
+    → Does (get_or ds k d) (parsed_line line) now (after_all (take (k + 1) xs) s)
+done_at k d line xs ds ls s now done here lt is =
+    let e : suc k ≡ k + 1 = omega arith in
+    subst (λ (from : Session). Does (get_or ds k d) (parsed_line line) from (after_all (take (k + 1) xs) s)) (sym here)
+    (subst (λ n. Does (get_or ds k d) (parsed_line line) (after_all (take k xs) s) (after_all (take n xs) s)) e
+    (does_at k ds xs ls s d line done.does done.each lt is))
 
 -- ---- what is known
 
@@ -161,13 +209,13 @@ known_first first lines = record {
 -- more events are taken back
 pub known_back : {first now new : Session} {lines : List (List ℕ)} {did : List Did} {whole back : ℕ} (n : ℕ)
     → IsKnown first lines did whole back now → new ≡ taken_back n now → IsKnown first lines did whole (back + n) new
-known_back {back = back} n known is = record {
+known_back {first = first} {whole = whole} {back = back} n known is = record {
   all = known.all;
   played = known.played;
   does = known.does;
   within = known.within;
   known = known.known;
-  session = is ∙ ap (taken_back n) known.session ∙ taken-plus back n (after_all (take _ known.all) _);
+  session = is ∙ ap (taken_back n) known.session ∙ taken-plus back n (after_all (take whole known.all) first);
 }
 
 -- lines are put behind the last, or dropped behind the known ones
@@ -186,6 +234,7 @@ known_lines known same long = record {
 -- no more is known than of the whole lines
 pub known_cut : {first now : Session} {lines : List (List ℕ)} {did : List Did} {whole back : ℕ}
     → IsKnown first lines did whole back now → IsKnown first lines (take whole did) whole back now
+unfolding place_of
 known_cut {first = first} {lines = lines} {did = did} {whole = whole} {back = back} known =
     let xs = known.all in
     let place = place_of known in

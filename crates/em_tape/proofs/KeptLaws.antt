@@ -117,6 +117,18 @@ holds_play {first = first} {session = session} {new = new} {ends = ends} {did = 
       known = next;
     }
 
+-- what is known of the first lines, of all of them
+pub known_more : {first new : Session} {lines some : List (List ℕ)} {did : List Did} {line count : ℕ} → count ≡ line
+    → take line lines ≡ some → line ≤ length lines → IsKnown first some did count 0 new
+    → IsKnown first lines did line 0 new
+known_more {first = first} {new = new} {lines = lines} {some = some} {did = did} {line = line} {count = count} same is
+    within known =
+    let long = length-take-le line lines within in
+    let here : IsKnown first some did line 0 new = subst (λ n. IsKnown first some did n 0 new) same known in
+    let front : length did ≤ line = omega (arith, known.known, ap length is, long) in
+    known_lines here (sym (take-take (length did) line lines front) ∙ ap (take (length did)) is)
+    (omega (arith, front))
+
 -- the place is behind another line
 pub holds_at : {first session new : Session} {lines : List (List ℕ)} {ends : List ℕ} {did now : List Did}
     {whole back : ℕ} (line : ℕ) → Holds first lines ends did whole back session → line ≤ length ends

@@ -1,6 +1,4 @@
 pub mod TapeLaws
-pub mod KindLaws
-pub mod DidLaws
 pub mod AgainLaws
 pub mod EndsLaws
 pub mod KeptLaws

@@ -20,12 +20,12 @@ use Rattle.em_tape.specs.Tape.{IsAt, IsShort, taken_back}
 
 -- ---- one more line
 
-after_all-append : (xs ys : List PlayedLine) (session : Session)
+pub after_all-append : (xs ys : List PlayedLine) (session : Session)
     → after_all (xs ++ ys) session ≡ after_all ys (after_all xs session)
 after_all-append [] ys session = refl
 after_all-append (x ∷ xs) ys session = after_all-append xs ys (after_played x session)
 
-allowed_push : (xs : List PlayedLine) (x : PlayedLine) (session : Session) → AreAllowed xs session
+pub allowed_push : (xs : List PlayedLine) (x : PlayedLine) (session : Session) → AreAllowed xs session
     → IsAllowed x (after_all xs session) → AreAllowed (xs ++ x ∷ []) session
 allowed_push [] x session all one = (one, tt)
 allowed_push (y ∷ ys) x session all one = (all.0, allowed_push ys x (after_played y session) all.1 one)

@@ -1,5 +1,5 @@
 //! Going along lines that did no more than one event each, from where the session is.
-ghost use Rattle.std.specs.Prelude.{◌≡◌, ◌×◌, ◌<◌, ◌≤◌, ◌^◌, ◌∷◌, [], All, List, ℕ, false, length, take, IsTrue, IsNone, IfSome, Some};
+ghost use Rattle.std.specs.Prelude.{◌≡◌, ◌<◌, ◌≤◌, ◌^◌, ◌∷◌, [], All, List, ℕ, false, length, take, IsTrue, IsNone, IfSome, Some};
 ghost use Rattle.em_turn.specs.Planned.{lists};
 ghost use Rattle.em_line.specs.Grammar.{parsed_line};
 ghost use Rattle.em_script.specs.PlayedLine.{PlayedLine, after_all};

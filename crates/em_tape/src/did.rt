@@ -1,5 +1,5 @@
 //! What lines did, as far as it can be done again by itself.
-ghost use Rattle.std.specs.Prelude.{◌≡◌, ◌<◌, ◌≤◌, ◌-◌, ◌×◌, ◌∷◌, ◌++◌, [], Some, Option, IfSome, length, take, drop};
+ghost use Rattle.std.specs.Prelude.{◌≡◌, ◌<◌, ◌≤◌, ◌-◌, ◌∷◌, ◌++◌, [], Some, Option, IfSome, length, take, drop};
 ghost use Rattle.std.specs.Prelude.{vec_len, vec_capacity};
 ghost use Rattle.em_line.specs.ParsedLine.{ParsedLine};
 ghost use Rattle.em_script.specs.RefusedAt.{RefusedAt};

@@ -23,6 +23,7 @@ pub(crate) enum Kind {
 }
 
 /// What a line does with events.
+#[tactic(auto, unfolding(em_line::specs::Grammar::parsed_line))]
 pub(crate) fn kind_of(line: &[u8]) -> Kind
     ensures { IsKind result (parsed_line line.now) }
 {

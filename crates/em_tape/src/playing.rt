@@ -38,6 +38,7 @@ pub(crate) fn put(place: &mut Session, session: Session)
 }
 
 /// How a line came out, and what it did.
+#[derive(Clone, Copy)]
 pub(crate) struct Played {
     pub(crate) replied: Result<Outcome, WriteFailed>,
     pub(crate) did: Did,
@@ -120,15 +121,18 @@ fn replay(
         ) else {
             return Err(BenchFault::Memory);
         };
-        if !count.ended_so(ends, number) || did.push(played.did).is_err() {
+        if !count.ended_so(ends, number) {
             return Err(BenchFault::Memory);
         }
+        let Ok(()) = did.push(played.did) else {
+            return Err(BenchFault::Memory);
+        };
     }
     Ok(())
 }
 
 /// A session that lines left, and what each of them did.
-pub(crate) struct Replayed {
+pub(crate) struct Left {
     pub(crate) session: Session,
     pub(crate) did: Vec<Did>,
     pub(crate) counted: Count,
@@ -141,7 +145,7 @@ pub(crate) fn replayed(
     player: &mut Player,
     lines: &[Vec<u8>],
     ends: &[u64],
-) -> Result<Replayed, BenchFault>
+) -> Result<Left, BenchFault>
     requires short { All IsShort (lists lines.now) }
     requires few { length lines.now ≤ 0xFFFF_FFFF }
     ensures ok { IfOk result (λ r.
@@ -162,7 +166,7 @@ pub(crate) fn replayed(
         &mut counted,
         &mut did,
     ) {
-        Ok(()) => Ok(Replayed {
+        Ok(()) => Ok(Left {
             session,
             did,
             counted,

@@ -13,7 +13,7 @@ use crate::count::Count;
 use crate::did::{Did, keep};
 use crate::ends::{end_of, line_of, note};
 use crate::lines::{back_line, push_line, text_at};
-use crate::playing::{opening, play, put, replayed};
+use crate::playing::{Left, opening, play, put, replayed};
 use em_journal::{Machine, Settings, SettingsRefusal};
 use em_script::{BenchFault, Outcome, Player, Session};
 use em_text::WriteFailed;
@@ -342,10 +342,14 @@ impl Tape {
             &self.lines.as_slice()[..line],
             self.ends.as_slice(),
         ) {
-            Ok(replayed) => {
-                put(&mut self.session, replayed.session);
-                self.did = replayed.did;
-                self.counted = replayed.counted;
+            Ok(Left {
+                session,
+                did,
+                counted,
+            }) => {
+                put(&mut self.session, session);
+                self.did = did;
+                self.counted = counted;
                 self.whole = line;
                 self.back = 0;
                 Ok(())

@@ -1,4 +1,4 @@
-use Rattle.std.proofs.Common.{◌≡◌, ◌+◌, ◌<◌, ◌∙◌, Some, length, take, ap, sym, refl, subst, arith}
+use Rattle.std.proofs.Common.{◌≡◌, ◌+◌, ◌<◌, ◌∷◌, ◌++◌, ◌∙◌, [], Some, length, take, ap, sym, refl, subst, arith}
 use Rattle.std.specs.Prelude.{slice_get}
 use Rattle.std.proofs.lemmas.List.{length-map}
 use Rattle.em_turn.specs.Planned.{lists}
@@ -33,9 +33,9 @@ invariant_of-self-2 g c =
     let none : c.self.inside.back ≡ 0 = ap (λ (t : Tape). t.back) c.self.view_is ∙ c.requires.whole in
     let ends : c.note.new.ends.items ≡ noted c.self.inside.whole c.play.new.count.events c.self.inside.ends.items =
     c.note.ensures ∙ ap (noted c.self.inside.whole c.play.new.count.events) c.reserve.ensures.items in
-    let did : c.keep.new.all.items ≡ take c.self.inside.whole c.self.inside.did.items ++ c.in_ok-played.did ∷ [] =
-    c.keep.ensures ∙ ap (λ ds. take c.self.inside.whole ds ++ c.in_ok-played.did ∷ []) c.reserve-2.ensures.items in
-    rw (ends, did) (holds_play (lists lines) c.as_slice-line.result.now c.play.new.count.events c.in_ok-played.did
+    let did : c.keep.new.all.items ≡ take c.self.inside.whole c.self.inside.did.items ++ c.in_ok-played.played.did ∷ [] =
+    c.keep.ensures ∙ ap (λ ds. take c.self.inside.whole ds ++ c.in_ok-played.played.did ∷ []) c.reserve-else-is_err.ensures.items in
+    rw (ends, did) (holds_play (lists lines) c.as_slice-line.result.now c.play.new.count.events c.in_ok-played.played.did
     c.self.invariant none ahead is c.in_ok-played.ensures.done c.in_ok-played.ensures.did c.in_ok-played.ensures.room)
 
 pub returns-clause-done : goal.returns-clause-done
