@@ -3,19 +3,9 @@ ghost use Rattle.std.specs.Prelude.{◌≡◌, IfSome, ◌+◌, ◌-◌, ◌<◌
 ghost use Rattle.std.specs.List.{prefix_len, range_with_len, suffix_len};
 ghost use Rattle.std.specs.Option.{option_map};
 ghost use Rattle.em_text.specs.Words.{is_blank, words_of};
-ghost use Rattle.em_expect.specs.Expectation.{
-  asked_in,
-  asks_at,
-  begins_at,
-  expected_in,
-  first_place,
-  is_comment_line,
-  notes_at,
-  said_in,
-  without_blanks,
-  without_comment,
-  without_end,
-};
+ghost use Rattle.em_expect.specs.Expectation.{asked_in, asks_at, begins_at, expected_in, first_place};
+ghost use Rattle.em_expect.specs.Expectation.{is_comment_line, notes_at, said_in, without_blanks};
+ghost use Rattle.em_expect.specs.Expectation.{without_comment, without_end};
 
 use crate::parts::Expectation;
 use em_line::is_comment;

@@ -5,17 +5,9 @@ ghost use Rattle.em_text.specs.Words.{words_of};
 ghost use Rattle.em_text.specs.Writer.{Writes};
 ghost use Rattle.em_names.specs.Bits.{four_digits, number_in, row_of_field};
 ghost use Rattle.em_expect.specs.Agreement.{first_line};
-ghost use Rattle.em_expect.specs.Difference.{
-  differs_text,
-  field_text,
-  fields_text,
-  holds_text,
-  register_read,
-  value_in,
-  wanted_digit,
-  wanted_digits,
-  wanted_value,
-};
+ghost use Rattle.em_expect.specs.Difference.{differs_text, field_text, fields_text, holds_text};
+ghost use Rattle.em_expect.specs.Difference.{register_read, value_in, wanted_digit, wanted_digits};
+ghost use Rattle.em_expect.specs.Difference.{wanted_value};
 
 use crate::agreement::{DASH, first_line};
 use em_line::{Command, read_form};
