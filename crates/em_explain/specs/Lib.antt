@@ -1,3 +1,7 @@
 pub mod EventLine
 pub mod Explain
+pub mod LookText
+pub mod Looked
 pub mod Undone
+pub mod Watched
+pub mod Why

@@ -1,8 +1,17 @@
-//! What stands behind an answer: why an event did nothing.
+//! What stands behind an answer: why an event did nothing, and what to look at then.
 #![tactic(auto)]
 
 mod event_line;
 mod explain;
+mod look_text;
+mod looked;
+mod masked;
 mod undone;
+mod watched;
+mod why;
 
+pub use em_reasons::Look;
 pub use explain::write_explained;
+pub use look_text::write_look;
+pub use looked::looked_at;
+pub use watched::watch_of;

@@ -1,0 +1,199 @@
+//! How an answer differs from the one that was expected.
+ghost use Rattle.std.specs.Prelude.{◌≡◌, ◌<◌, length};
+ghost use Rattle.std.specs.List.{flat_map};
+ghost use Rattle.em_text.specs.Words.{words_of};
+ghost use Rattle.em_text.specs.Writer.{Writes};
+ghost use Rattle.em_names.specs.Bits.{four_digits, number_in, row_of_field};
+ghost use Rattle.em_expect.specs.Agreement.{first_line};
+ghost use Rattle.em_expect.specs.Difference.{differs_text, field_text, fields_text, holds_text};
+ghost use Rattle.em_expect.specs.Difference.{register_read, value_in, wanted_digit, wanted_digits};
+ghost use Rattle.em_expect.specs.Difference.{wanted_value};
+
+use crate::agreement::{DASH, first_line};
+use em_line::{Command, read_form};
+use em_names::{Field, Form, fields};
+use em_regs::Reg;
+use em_step::Event;
+use em_text::{Words, WriteFailed, is_name, write_octets, write_pieces, write_whole};
+use hex::FromHex;
+use std::io::Write;
+
+/// How many digits a register's value has.
+const DIGITS: usize = 8;
+
+/// Writes how an answer differs from the expected one: `differs: 00000004 wanted, LSC is clear` and a newline.
+///
+/// Only the first line of the answer counts. Where `line` reads a register (`r OFF`, and no word behind it) and both texts
+/// are 8 hexadecimal digits, or `-` in the expected one, each bit and each field of the register comes that differs in a
+/// digit that matters, as the answer has it: a field in 4 digits.
+pub fn write_differs<W: Write>(
+    writer: &mut W,
+    line: &[u8],
+    expected: &[u8],
+    answer: &[u8],
+) -> Result<(), WriteFailed>
+    ensures writes { Writes (W.contents writer.old) (W.contents writer.new) result
+        (differs_text line.now expected.now answer.now) }
+{
+    write_pieces(writer, &[b"differs: ", expected, b" wanted"])?;
+    write_told(writer, line, expected, first_line(answer))?;
+    write_whole(writer, b"\n")
+}
+
+/// Writes the bits and fields in which a register's value differs from the one that was expected.
+fn write_told<W: Write>(
+    writer: &mut W,
+    line: &[u8],
+    expected: &[u8],
+    there: &[u8],
+) -> Result<(), WriteFailed>
+    ensures writes { Writes (W.contents writer.old) (W.contents writer.new) result
+        (fields_text (register_read (words_of line.now)) (wanted_value expected.now there.now) (value_in there.now)) }
+{
+    let Some(reg) = register_read(line) else {
+        return Ok(());
+    };
+    let Some(wanted) = wanted_value(expected, there) else {
+        return Ok(());
+    };
+    let Some(value) = value_in(there) else {
+        return Ok(());
+    };
+    write_fields(writer, fields(reg), wanted, value)
+}
+
+/// The register that a line reads, if it reads one.
+fn register_read(line: &[u8]) -> Option<Reg>
+    ensures { result ≡ register_read (words_of line.now) }
+{
+    let mut words = Words(line);
+    let Some(name) = words.next_short() else {
+        return None;
+    };
+    if !is_name(name, b"r") {
+        return None;
+    }
+    match read_form(words) {
+        Some(Command::Event(Event::Read(offset))) => Reg::of_offset(offset),
+        _ => None,
+    }
+}
+
+/// The value that 8 hexadecimal digits write.
+fn value_in(digits: &[u8]) -> Option<u32>
+    ensures { result ≡ value_in digits.now }
+{
+    match <[u8; 4] as FromHex>::from_hex(digits) {
+        Ok(octets) => Some(u32::from_be_bytes(octets)),
+        Err(_) => None,
+    }
+}
+
+/// The value that is wanted: of a digit that does not matter, the one that is there.
+fn wanted_value(expected: &[u8], there: &[u8]) -> Option<u32>
+    ensures { result ≡ wanted_value expected.now there.now }
+{
+    if expected.len() != DIGITS || there.len() != DIGITS {
+        return None;
+    }
+    value_in(&wanted_digits(expected, there))
+}
+
+/// The digits of that value.
+fn wanted_digits(expected: &[u8], there: &[u8]) -> [u8; DIGITS]
+    requires expected { length expected.now ≡ 8 }
+    requires there { length there.now ≡ 8 }
+    ensures { result ≡ wanted_digits expected.now there.now }
+{
+    [
+        wanted_digit(expected, there, 0),
+        wanted_digit(expected, there, 1),
+        wanted_digit(expected, there, 2),
+        wanted_digit(expected, there, 3),
+        wanted_digit(expected, there, 4),
+        wanted_digit(expected, there, 5),
+        wanted_digit(expected, there, 6),
+        wanted_digit(expected, there, 7),
+    ]
+}
+
+/// The digit that is wanted at a place.
+fn wanted_digit(expected: &[u8], there: &[u8], at: usize) -> u8
+    requires expected { at < length expected.now }
+    requires there { at < length there.now }
+    ensures { result ≡ wanted_digit expected.now there.now at }
+{
+    if expected[at] == DASH {
+        there[at]
+    } else {
+        expected[at]
+    }
+}
+
+/// Writes those of a register's fields that differ.
+fn write_fields<W: Write>(
+    writer: &mut W,
+    fields: &[Field],
+    wanted: u32,
+    value: u32,
+) -> Result<(), WriteFailed>
+    ensures writes { Writes (W.contents writer.old) (W.contents writer.new) result
+        (flat_map (λ field. field_text wanted value (row_of_field field)) fields.now) }
+{
+    for field in fields {
+        write_field(writer, *field, wanted, value)?;
+    }
+    Ok(())
+}
+
+/// Writes a field and what it holds, if that is not what is wanted.
+fn write_field<W: Write>(
+    writer: &mut W,
+    field: Field,
+    wanted: u32,
+    value: u32,
+) -> Result<(), WriteFailed>
+    ensures writes { Writes (W.contents writer.old) (W.contents writer.new) result
+        (field_text wanted value (row_of_field field)) }
+{
+    let number = number_in(field, value);
+    if number == number_in(field, wanted) {
+        return Ok(());
+    }
+    let name = field.name.as_bytes();
+    match field.form {
+        Form::Bit if number == 0 => write_pieces(writer, &[b", ", name, b" is clear"]),
+        Form::Bit => write_pieces(writer, &[b", ", name, b" is set"]),
+        Form::Number | Form::Digits | Form::Speed | Form::Size => {
+            write_number(writer, name, number)
+        }
+    }
+}
+
+/// Writes a field's name and the low 16 bits of what it holds: no field has more.
+fn write_number<W: Write>(writer: &mut W, name: &[u8], number: u32) -> Result<(), WriteFailed>
+    ensures writes { Writes (W.contents writer.old) (W.contents writer.new) result
+        (holds_text name.now (four_digits number)) }
+{
+    write_pieces(writer, &[b", ", name, b" is "])?;
+    write_low(writer, number)
+}
+
+/// Writes the low 16 bits of a number in 4 hexadecimal digits.
+fn write_low<W: Write>(writer: &mut W, number: u32) -> Result<(), WriteFailed>
+    ensures writes { Writes (W.contents writer.old) (W.contents writer.new) result (four_digits number) }
+{
+    let low = (number % 0x1_0000) as u16;
+    write_octets(writer, &low.to_be_bytes())
+}
+
+/// What a field holds.
+fn number_in(field: Field, value: u32) -> u32
+    ensures { result ≡ number_in value (row_of_field field) }
+{
+    // no field is without bits
+    if field.lowest == 0 {
+        return 0;
+    }
+    (value & field.mask) / field.lowest
+}
