@@ -85,7 +85,8 @@ given_unwritten memory tail r =
 abbrev pub descriptor_unwritten : State → Reg → Option Warning
 descriptor_unwritten s tail = option_and_then (given_unwritten s.memory tail) (ring_of_tail s.registers tail)
 
--- ---- status-left (manual, chapters on descriptors: software gives a descriptor with DD clear, and waits for it)
+-- ---- status-left (manual, chapters on packet reception and transmission: DD says that the adapter is done with a
+-- descriptor; that software clears it before is this project's profile)
 
 abbrev pub given_with_status : List ℕ → Reg → Ring → Option Warning
 given_with_status memory tail r =

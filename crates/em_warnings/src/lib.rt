@@ -3,6 +3,7 @@
 
 mod descriptors;
 mod flaw;
+pub mod laws;
 mod lines;
 mod piece;
 mod rings;
