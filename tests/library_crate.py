@@ -5,6 +5,7 @@ from pathlib import Path
 from tally import TOP
 
 LIBRARY = TOP / "tests" / "library"
+EXAMPLES = TOP / "examples"
 FILES = sorted(LIBRARY.glob("*.rtt"))
 NAME = "em_tests"
 
@@ -14,10 +15,26 @@ def uses() -> list[str]:
     return (LIBRARY / "uses").read_text().split()
 
 
+def literal(octets: bytes) -> str:
+    """The octets as a byte string of the language."""
+    kept = {10: "\\n", 34: '\\"', 92: "\\\\"}
+    return 'b"' + "".join(kept.get(one) or (chr(one) if 32 <= one < 127 else f"\\x{one:02X}") for one in octets) + '"'
+
+
+def examples() -> str:
+    """The scripts of examples/ as constants, for the tests that play them: that of broken/ring.em is RING_OF_BROKEN."""
+    text = "//! The scripts of examples/, as they stand there.\n"
+    for file in sorted(EXAMPLES.glob("**/*.em")):
+        name = "_OF_".join([file.stem, *file.relative_to(EXAMPLES).parts[:-1]]).replace("-", "_").upper()
+        text += f"\npub const {name}: &[u8] = {literal(file.read_bytes())};\n"
+    return text
+
+
 def copied(to: Path) -> Path:
     """The crate's folder, made below another."""
     crate = to / NAME
     (crate / "src").mkdir(parents=True)
     for file in FILES:
         (crate / "src" / f"{file.stem}.rt").write_text(file.read_text())
+    (crate / "src" / "examples.rt").write_text(examples())
     return crate

@@ -1,0 +1,75 @@
+-- What a search finds.
+use Rattle.std.proofs.Common.{◌≡◌, ◌∙◌, ◌+◌, ◌-◌, ◌<◌, ◌≤◌, ℕ, zero, suc, Bool, true, false, List, [], ◌∷◌, Option}
+use Rattle.std.proofs.Common.{Some, None, cond, refl, sym, ap, arith, add-zero, inl, inr}
+use Rattle.std.specs.Prelude.{find}
+use Rattle.std.specs.Option.{option_or}
+use Rattle.std.specs.List.{range_with_len}
+use Rattle.std.proofs.lemmas.Bool.{cases_lt}
+use Rattle.em_inspect.specs.declared.ring.Ring.{Ring}
+use Rattle.em_warnings.specs.declared.flaw.Flaw.{Flaw}
+use Rattle.em_warnings.specs.Descriptors.{first_flawed, first_from, is_flawed}
+
+same_some : {X : Type 0} (x y : X) → Some x ≡ Some y → x ≡ y
+same_some x y e = cc
+
+-- by the first item, and by those behind it
+passes_by : {X : Type 0} (p : X → Bool) (y x : X) (rest : Option X) (b : Bool) → p y ≡ b
+    → (rest ≡ Some x → p x ≡ true) → cond b (Some y) rest ≡ Some x → p x ≡ true
+passes_by p y x rest true is behind e = ap p (sym (same_some y x e)) ∙ is
+passes_by p y x rest false is behind e = behind e
+
+-- what is found passes the test
+find_passes : {X : Type 0} (p : X → Bool) (xs : List X) (x : X) → find p xs ≡ Some x → p x ≡ true
+find_passes p [] x e = cc
+find_passes p (y ∷ ys) x e = passes_by p y x (find p ys) (p y) refl (find_passes p ys x) e
+
+-- the first number of a range does not pass, where nothing in it is found
+first_fails : (p : ℕ → Bool) (a : ℕ) (rest : Option ℕ) (b : Bool) → p a ≡ b → cond b (Some a) rest ≡ None
+    → p a ≡ false
+first_fails p a rest true is e = cc
+first_fails p a rest false is e = is
+
+-- nor is anything found behind it
+rest_fails : (a : ℕ) (rest : Option ℕ) (b : Bool) → cond b (Some a) rest ≡ None → rest ≡ None
+rest_fails a rest true e = cc
+rest_fails a rest false e = e
+
+-- no number of a range passes in which nothing is found
+find_fails : (p : ℕ → Bool) (a n k : ℕ) → find p (range_with_len a n) ≡ None → k < n → p (a + k) ≡ false
+find_fails p a zero k e less = absurd (omega arith)
+find_fails p a (suc n) zero e less =
+    ap p (add-zero a) ∙ first_fails p a (find p (range_with_len (a + 1) n)) (p a) refl e
+find_fails p a (suc n) (suc k) e less =
+    let next : a + suc k ≡ (a + 1) + k = omega arith in
+    ap p next ∙ find_fails p (a + 1) n k (rest_fails a (find p (range_with_len (a + 1) n)) (p a) e) (omega arith)
+
+-- the same of a number from one on, below another
+fails_from : (p : ℕ → Bool) (a b i : ℕ) → find p (range_with_len a (b - a)) ≡ None → a ≤ i → i < b → p i ≡ false
+fails_from p a b i e from below =
+    let at : i ≡ a + (i - a) = omega arith in ap p at ∙ find_fails p a (b - a) (i - a) e (omega arith)
+
+-- by either search
+found_by : {X : Type 0} (p : X → Bool) (a b : Option X) (x : X) → (a ≡ Some x → p x ≡ true)
+    → (b ≡ Some x → p x ≡ true) → option_or a b ≡ Some x → p x ≡ true
+found_by p None b x one other e = other e
+found_by p (Some y) b x one other e = one e
+
+neither : {X : Type 0} (a b : Option X) → option_or a b ≡ None → (a ≡ None) × (b ≡ None)
+neither None b e = (refl, e)
+neither (Some x) b e = cc
+
+pub flaw_found : (r : Ring) (memory : List ℕ) (flaw : Flaw) (i : ℕ) → first_flawed r memory flaw ≡ Some i
+    → is_flawed r memory flaw i ≡ true
+flaw_found r memory flaw i e =
+    let p = is_flawed r memory flaw in
+    found_by p (first_from r memory flaw r.head r.count) (first_from r memory flaw 0 r.head) i
+    (find_passes p (range_with_len r.head (r.count - r.head)) i) (find_passes p (range_with_len 0 (r.head - 0)) i) e
+
+pub no_flaw : (r : Ring) (memory : List ℕ) (flaw : Flaw) → first_flawed r memory flaw ≡ None → (i : ℕ) → i < r.count
+    → is_flawed r memory flaw i ≡ false
+no_flaw r memory flaw e i below =
+    let none = neither (first_from r memory flaw r.head r.count) (first_from r memory flaw 0 r.head) e in
+    elim (cases_lt i r.head) [
+      | inl before ↦ fails_from (is_flawed r memory flaw) 0 r.head i none.1 (omega arith) before
+      | inr behind ↦ fails_from (is_flawed r memory flaw) r.head r.count i none.0 behind below
+    ]

@@ -1,0 +1,9 @@
+pub mod Names
+pub mod Flaw
+pub mod Descriptors
+pub mod Rings
+pub mod Rules
+pub mod Piece
+pub mod Said
+pub mod WriteLine
+pub mod Warnings

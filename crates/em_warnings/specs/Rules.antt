@@ -1,0 +1,133 @@
+-- The rules by which a write of a register has warnings. Each is asked in the state that the write left.
+use Rattle.std.specs.Prelude.{
+  ℕ,
+  ◌==◌,
+  ◌&&◌,
+  nat_le,
+  nat_lt,
+  not,
+  bit_and,
+  if◌then◌else◌,
+  Bool,
+  true,
+  false,
+  List,
+  [],
+  ◌∷◌,
+  Option,
+  Some,
+  None,
+  option_and_then,
+}
+use Rattle.std.specs.Option.{option_map, option_or}
+use Rattle.em_regs.specs.declared.reg.Reg.{Reg}
+use Rattle.em_regs.specs.declared.reg.Reg.TheVariants as reg
+use Rattle.em_regs.specs.declared.table.Kind.{Kind}
+use Rattle.em_regs.specs.declared.table.Kind.TheVariants.{Stored}
+use Rattle.em_regs.specs.Table.{mask_of, row_of}
+use Rattle.em_regs.specs.Setup.{rx_setup, tx_setup}
+use Rattle.em_step.specs.Access.{gives}
+use Rattle.em_step.specs.State.{State}
+use Rattle.em_inspect.specs.declared.ring.Ring.{Ring}
+use Rattle.em_inspect.specs.Ring.{descriptor_at}
+use Rattle.em_warnings.specs.declared.flaw.Flaw.TheVariants as flaw
+use Rattle.em_warnings.specs.declared.warning.Warning.{Warning}
+use Rattle.em_warnings.specs.declared.warning.Warning.TheVariants.{
+  BitsDropped,
+  TailPastRing,
+  EnabledBeforeRing,
+  DescriptorUnwritten,
+  StatusLeft,
+  InterruptsBeforeRings,
+}
+use Rattle.em_warnings.specs.Descriptors.{first_flawed}
+use Rattle.em_warnings.specs.Rings.{length_of, ring_of_control, ring_of_tail}
+
+-- ---- bits-dropped (manual, chapter on register descriptions: the bits that each register has)
+
+-- a write stores the bits of the row's mask, and does nothing else: no command, and no bits that clear by being 1
+abbrev pub only_stores : Kind → Bool
+only_stores Stored = true
+only_stores _ = false
+
+-- the register does not have all bits that were written
+abbrev pub bits_dropped : Reg → ℕ → Option Warning
+bits_dropped reg v =
+    let kept = bit_and v (mask_of reg) in
+    if only_stores (row_of reg).kind && not (kept == v) then Some (BitsDropped reg kept v) else None
+
+-- ---- tail-past-ring (manual, chapters on the descriptor queues: the tail is an index of the ring)
+
+-- a ring of some descriptors, whose tail is none of their indices
+abbrev pub past_ring : Reg → Ring → Option Warning
+past_ring tail r =
+    if nat_lt 0 r.count && nat_le r.count r.tail then Some (TailPastRing tail r.tail r.count) else None
+
+abbrev pub tail_past_ring : State → Reg → Option Warning
+tail_past_ring s tail = option_and_then (past_ring tail) (ring_of_tail s.registers tail)
+
+-- ---- enabled-before-ring (manual, chapter on initialization: the ring is set up, and then EN is set)
+
+-- EN is set, and the ring has no descriptor; its base may be 0, since a ring can lie there
+abbrev pub without_ring : Reg → Ring → Option Warning
+without_ring control r =
+    if r.enabled && r.count == 0 then Some (EnabledBeforeRing control (length_of r.side)) else None
+
+abbrev pub enabled_before_ring : State → Reg → Option Warning
+enabled_before_ring s control = option_and_then (without_ring control) (ring_of_control s.registers control)
+
+-- ---- descriptor-unwritten (manual, chapters on the descriptor queues: what lies before the tail is ready)
+
+abbrev pub given_unwritten : List ℕ → Reg → Ring → Option Warning
+given_unwritten memory tail r =
+    option_map (λ i. DescriptorUnwritten tail i (descriptor_at r i)) (first_flawed r memory flaw.Unwritten)
+
+abbrev pub descriptor_unwritten : State → Reg → Option Warning
+descriptor_unwritten s tail = option_and_then (given_unwritten s.memory tail) (ring_of_tail s.registers tail)
+
+-- ---- status-left (manual, chapters on packet reception and transmission: DD says that the adapter is done with a
+-- descriptor; that software clears it before is this project's profile)
+
+abbrev pub given_with_status : List ℕ → Reg → Ring → Option Warning
+given_with_status memory tail r =
+    option_map (λ i. StatusLeft tail i (descriptor_at r i)) (first_flawed r memory flaw.StatusLeft)
+
+abbrev pub status_left : State → Reg → Option Warning
+status_left s tail = option_and_then (given_with_status s.memory tail) (ring_of_tail s.registers tail)
+
+-- ---- interrupts-before-rings (this project's profile)
+
+-- the causes of receiving: RXDMT0 (bit 4), RXO (6), RXT0 (7) and SRPD (16); of sending: TXDW (0), TXQE (1) and
+-- TXD_LOW (15). The others, as a change of the link, need no ring.
+abbrev pub rx_causes : ℕ
+rx_causes = 0x0001_00D0
+
+abbrev pub tx_causes : ℕ
+tx_causes = 0x0000_8003
+
+-- of a ring of so many descriptors these causes are let through, and it has none
+abbrev pub early : ℕ → ℕ → Reg → Option Warning
+early count causes length = if count == 0 && nat_lt 0 causes then Some (InterruptsBeforeRings causes length) else None
+
+-- by the mask, of the receive ring or else of the transmit ring
+abbrev pub early_by : State → ℕ → Option Warning
+early_by s mask =
+    option_or (early (rx_setup s.registers).count (bit_and mask rx_causes) reg.Rdlen)
+    (early (tx_setup s.registers).count (bit_and mask tx_causes) reg.Tdlen)
+
+abbrev pub interrupts_before_rings : State → Reg → Option Warning
+interrupts_before_rings s reg.Ims = early_by s (gives s reg.Ims)
+interrupts_before_rings s _ = None
+
+-- ---- all of them
+
+-- what each rule says of a write of a value to a register, in their order
+abbrev pub warnings_of : State → Reg → ℕ → List (Option Warning)
+warnings_of s reg v =
+    bits_dropped reg v
+    ∷ tail_past_ring s reg
+    ∷ enabled_before_ring s reg
+    ∷ descriptor_unwritten s reg
+    ∷ status_left s reg
+    ∷ interrupts_before_rings s reg
+    ∷ []

@@ -1,0 +1,29 @@
+-- The warnings of a line.
+use Rattle.std.specs.Prelude.{ℕ, if◌then◌else◌, List, [], codes, Option, Some, None}
+use Rattle.std.specs.List.{flat_map}
+use Rattle.std.specs.Str.{bytes_eq}
+use Rattle.em_regs.specs.declared.reg.Reg.{Reg}
+use Rattle.em_step.specs.State.{State}
+use Rattle.em_text.specs.Words.{words_of}
+use Rattle.em_warnings.specs.declared.warning.Warning.{Warning}
+use Rattle.em_warnings.specs.Rules.{warnings_of}
+use Rattle.em_warnings.specs.Said.{warning_text}
+use Rattle.em_warnings.specs.WriteLine.{written}
+
+-- a line for a warning, if there is one
+abbrev pub line_of : Option Warning → List ℕ
+line_of None = []
+line_of (Some warning) = warning_text warning
+
+abbrev pub lines_of : List (Option Warning) → List ℕ
+lines_of warnings = flat_map line_of warnings
+
+-- of a write of a value to a register
+abbrev pub lines_of_write : State → Option (Reg × ℕ) → List ℕ
+lines_of_write s None = []
+lines_of_write s (Some write) = lines_of (warnings_of s write.0 write.1)
+
+-- of a line with its answer, in the state that it left: only a write that was performed has warnings
+abbrev pub warnings_text : State → List ℕ → List ℕ → List ℕ
+warnings_text s line answer =
+    if bytes_eq answer (codes "ok\n") then lines_of_write s (written (words_of line)) else []

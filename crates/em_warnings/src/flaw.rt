@@ -1,0 +1,40 @@
+//! What a descriptor can have against it that the driver gives to the adapter.
+ghost use Rattle.std.specs.Prelude.{◌≡◌};
+ghost use Rattle.em_warnings.specs.Flaw.{are_zeros, is_in};
+
+/// How many octets a descriptor has.
+pub(crate) const DESCRIPTOR_OCTETS: usize = 16;
+
+/// Where the status octet lies in a descriptor of either ring.
+const STATUS: usize = 12;
+
+/// DD of the status: the adapter has handled the descriptor.
+const DD: u8 = 0x01;
+
+/// What a descriptor can have against it that the driver gives to the adapter.
+#[derive(Clone, Copy)]
+pub(crate) enum Flaw {
+    /// All its octets are 0.
+    Unwritten,
+    /// Its status has DD, from the lap before.
+    StatusLeft,
+}
+
+impl Flaw {
+    /// Whether a descriptor's octets have it.
+    pub(crate) fn is_in(self, octets: &[u8; DESCRIPTOR_OCTETS]) -> bool
+        ensures { result ≡ is_in self octets.now }
+    {
+        match self {
+            Flaw::Unwritten => are_zeros(octets),
+            Flaw::StatusLeft => octets[STATUS] & DD == DD,
+        }
+    }
+}
+
+/// Whether all octets of a descriptor are 0.
+fn are_zeros(octets: &[u8; DESCRIPTOR_OCTETS]) -> bool
+    ensures { result ≡ are_zeros octets.now }
+{
+    octets.iter().all(|octet| *octet == 0)
+}

@@ -1,0 +1,18 @@
+//! What real drivers get wrong: rules with names, by which a write of a register has warnings.
+#![tactic(auto)]
+
+mod descriptors;
+mod flaw;
+pub mod laws;
+mod lines;
+mod piece;
+mod rings;
+mod rules;
+mod said;
+mod warning;
+mod write_line;
+
+pub use lines::write_warnings;
+pub use rules::warnings_of;
+pub use said::write_warning;
+pub use warning::{RULES, Warning};

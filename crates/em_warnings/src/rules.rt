@@ -1,0 +1,141 @@
+//! The rules by which a write of a register has warnings.
+ghost use Rattle.std.specs.Prelude.{◌≡◌};
+ghost use Rattle.em_step.specs.Access.{gives};
+ghost use Rattle.em_regs.specs.declared.reg.Reg.TheVariants as named;
+ghost use Rattle.em_warnings.specs.Rules.{bits_dropped, descriptor_unwritten, early, early_by, enabled_before_ring};
+ghost use Rattle.em_warnings.specs.Rules.{interrupts_before_rings, status_left, tail_past_ring, warnings_of};
+
+use crate::descriptors::{descriptor_at, first_flawed};
+use crate::flaw::Flaw;
+use crate::rings::{length_of, ring_of_control, ring_of_tail};
+use crate::warning::{RULES, Warning};
+use em_journal::Machine;
+use em_regs::{Kind, Reg};
+
+/// The causes of receiving: RXDMT0, RXO, RXT0 and SRPD.
+const RX_CAUSES: u32 = 0x0001_00D0;
+
+/// The causes of sending: TXDW, TXQE and TXD_LOW.
+const TX_CAUSES: u32 = 0x0000_8003;
+
+/// What each rule says of a write of a value to a register, in the order of the rules; none where it says nothing. The
+/// machine is as the write left it.
+pub fn warnings_of(machine: &Machine, reg: Reg, value: u32) -> [Option<Warning>; RULES]
+    ensures { result ≡ warnings_of machine.now.present reg value }
+{
+    [
+        bits_dropped(reg, value),
+        tail_past_ring(machine, reg),
+        enabled_before_ring(machine, reg),
+        descriptor_unwritten(machine, reg),
+        status_left(machine, reg),
+        interrupts_before_rings(machine, reg),
+    ]
+}
+
+/// The register keeps less than was written, and a write of it only stores.
+fn bits_dropped(reg: Reg, written: u32) -> Option<Warning>
+    ensures { result ≡ bits_dropped reg written }
+{
+    let row = reg.row();
+    let kept = written & row.mask;
+    if matches!(row.kind, Kind::Stored) && kept != written {
+        Some(Warning::BitsDropped { reg, kept, written })
+    } else {
+        None
+    }
+}
+
+/// The register is a tail, and past its ring.
+fn tail_past_ring(machine: &Machine, tail: Reg) -> Option<Warning>
+    ensures { result ≡ tail_past_ring machine.now.present tail }
+{
+    let ring = ring_of_tail(machine, tail)?;
+    if 0 < ring.count && ring.count <= ring.tail {
+        Some(Warning::TailPastRing {
+            tail,
+            index: ring.tail,
+            count: ring.count,
+        })
+    } else {
+        None
+    }
+}
+
+/// The register enables a ring that has no descriptor.
+fn enabled_before_ring(machine: &Machine, control: Reg) -> Option<Warning>
+    ensures { result ≡ enabled_before_ring machine.now.present control }
+{
+    let ring = ring_of_control(machine, control)?;
+    if ring.enabled && ring.count == 0 {
+        Some(Warning::EnabledBeforeRing {
+            control,
+            length: length_of(ring.side),
+        })
+    } else {
+        None
+    }
+}
+
+/// The register is a tail, and a descriptor before it is all zeros.
+fn descriptor_unwritten(machine: &Machine, tail: Reg) -> Option<Warning>
+    ensures { result ≡ descriptor_unwritten machine.now.present tail }
+{
+    let ring = ring_of_tail(machine, tail)?;
+    let index = first_flawed(machine, &ring, Flaw::Unwritten)?;
+    let at = descriptor_at(&ring, index);
+    Some(Warning::DescriptorUnwritten { tail, index, at })
+}
+
+/// The register is a tail, and a descriptor before it has DD.
+fn status_left(machine: &Machine, tail: Reg) -> Option<Warning>
+    ensures { result ≡ status_left machine.now.present tail }
+{
+    let ring = ring_of_tail(machine, tail)?;
+    let index = first_flawed(machine, &ring, Flaw::StatusLeft)?;
+    let at = descriptor_at(&ring, index);
+    Some(Warning::StatusLeft { tail, index, at })
+}
+
+/// The register is IMS, and lets causes of a ring through that has no descriptor.
+fn interrupts_before_rings(machine: &Machine, reg: Reg) -> Option<Warning>
+    ensures { result ≡ interrupts_before_rings machine.now.present reg }
+{
+    match reg {
+        Reg::Ims => early_by(machine, mask_of(machine)),
+        _ => None,
+    }
+}
+
+/// The causes that are let through.
+fn mask_of(machine: &Machine) -> u32
+    ensures { result ≡ gives machine.now.present named.Ims }
+{
+    // each register of the table lies at its offset
+    machine.look(Reg::Ims.offset()).unwrap_or(0)
+}
+
+/// By the mask, of the receive ring or else of the transmit ring.
+fn early_by(machine: &Machine, mask: u32) -> Option<Warning>
+    ensures { result ≡ early_by machine.now.present mask }
+{
+    let rx = machine.ring_rx();
+    match early(rx.count, mask & RX_CAUSES, Reg::Rdlen) {
+        Some(warning) => Some(warning),
+        None => {
+            let tx = machine.ring_tx();
+            early(tx.count, mask & TX_CAUSES, Reg::Tdlen)
+        }
+    }
+}
+
+/// Of a ring of so many descriptors these causes are let through, and it has none.
+fn early(count: u32, causes: u32, length: Reg) -> Option<Warning>
+    ensures { result ≡ early count causes length }
+{
+    if count == 0 && 0 < causes {
+        Some(Warning::InterruptsBeforeRings { causes, length })
+    } else {
+        None
+    }
+}

@@ -1,0 +1,41 @@
+//! The warnings, each by the rule that gives it.
+ghost use Rattle.std.specs.Prelude.{◌≡◌};
+ghost use Rattle.em_warnings.specs.Names.{name_of};
+
+use em_regs::Reg;
+
+/// How many rules there are.
+pub const RULES: usize = 6;
+
+/// What a driver seems to get wrong by a write of a register, with the numbers of the rule that says so.
+#[derive(Clone, Copy, Debug, PartialEq, Eq)]
+pub enum Warning {
+    /// `bits-dropped`: the register keeps only these bits of what was written.
+    BitsDropped { reg: Reg, kept: u32, written: u32 },
+    /// `tail-past-ring`: the tail is at the ring's count of descriptors or past it.
+    TailPastRing { tail: Reg, index: u32, count: u32 },
+    /// `enabled-before-ring`: EN is set in RCTL or TCTL while the ring's length is 0.
+    EnabledBeforeRing { control: Reg, length: Reg },
+    /// `descriptor-unwritten`: the adapter owns a descriptor, at this address (octets), that is all zeros.
+    DescriptorUnwritten { tail: Reg, index: u32, at: u128 },
+    /// `status-left`: the adapter owns a descriptor, at this address (octets), whose status has DD.
+    StatusLeft { tail: Reg, index: u32, at: u128 },
+    /// `interrupts-before-rings`: these causes of a ring are let through while the ring's length is 0.
+    InterruptsBeforeRings { causes: u32, length: Reg },
+}
+
+impl Warning {
+    /// The name of the rule, as it is printed.
+    pub fn name(self) -> &'static str
+        ensures { result.now ≡ name_of self }
+    {
+        match self {
+            Warning::BitsDropped { .. } => "bits-dropped",
+            Warning::TailPastRing { .. } => "tail-past-ring",
+            Warning::EnabledBeforeRing { .. } => "enabled-before-ring",
+            Warning::DescriptorUnwritten { .. } => "descriptor-unwritten",
+            Warning::StatusLeft { .. } => "status-left",
+            Warning::InterruptsBeforeRings { .. } => "interrupts-before-rings",
+        }
+    }
+}
