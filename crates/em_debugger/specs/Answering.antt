@@ -1,5 +1,5 @@
 -- What is answered to each line that is typed.
-use Rattle.std.specs.Prelude.{◌≡◌, ◌≤◌, ℕ, List, [], ◌++◌, codes, length, Option, Some, None, Result, Ok, Err}
+use Rattle.std.specs.Prelude.{◌≡◌, ◌≤◌, ℕ, Bool, true, false, List, [], ◌++◌, codes, length, Option, Some, None, Result, Ok, Err}
 use Rattle.em_regs.specs.declared.reg.Reg.{Reg}
 use Rattle.em_console.specs.declared.session.Flow.{Flow}
 use Rattle.em_console.specs.declared.session.Flow.TheVariants.{Goes, Ends}
@@ -9,7 +9,7 @@ use Rattle.em_prompt.specs.Help.{line_of, help_text}
 use Rattle.em_prompt.specs.Prompt.{Wrong, prompted}
 use Rattle.em_prompt.specs.Typed.{Typed, line, look, who, who_again, back, back_to, forward, forward_to, goto}
 use Rattle.em_prompt.specs.Typed.{next, run, run_until, load, save, save_over, history, effect, ring, frame, memory}
-use Rattle.em_prompt.specs.Typed.{help, quit}
+use Rattle.em_prompt.specs.Typed.{why, warnings, help, quit}
 use Rattle.em_prompt.specs.WrongText.{wrong_text}
 use Rattle.em_debugger.specs.declared.debugger.Debugger.{Debugger}
 use Rattle.em_debugger.specs.Effect.{AnswersEffect, asked_event}
@@ -21,6 +21,12 @@ use Rattle.em_debugger.specs.Performing.{AnswersTyped}
 use Rattle.em_debugger.specs.Played.{RunsAll}
 use Rattle.em_debugger.specs.Stops.{AnswersRun}
 use Rattle.em_debugger.specs.Who.{AnswersWho, TellsAgain}
+use Rattle.em_debugger.specs.Why.{TellsWhy}
+
+-- whether it is said what drivers get wrong
+abbrev pub warnings_are : Bool → List ℕ
+warnings_are true = codes "warnings are on\n"
+warnings_are false = codes "warnings are off\n"
 
 -- what is shown of a debugger
 abbrev pub Shows : Debugger → Typed → List ℕ → Type 0
@@ -31,6 +37,7 @@ Shows d (ring side) text = text ≡ ring_text d.tape.session.machine.present sid
 Shows d (frame None) text = text ≡ waiting_text d.tape.session.machine.present.fifo
 Shows d (frame (Some index)) text = text ≡ sent_text d.tape.session.machine.present.wire index
 Shows d (memory addr len) text = text ≡ memory_text d.tape.session.machine.present addr len
+Shows d why text = TellsWhy d text
 Shows d (help (Some command)) text = text ≡ line_of command
 Shows d (help None) text = text ≡ help_text
 Shows d _ text = text ≡ []
@@ -51,6 +58,7 @@ Obeys old new who_again text = TellsAgain old new old.asked text
 Obeys old new (load name) text = Loads old new name text
 Obeys old new (save name) text = (new ≡ old) × Saves old name text
 Obeys old new (save_over name) text = (new ≡ old) × Saves old name text
+Obeys old new (warnings on) text = (new ≡ record old { warns = on }) × (text ≡ warnings_are on)
 Obeys old new typed text = (new ≡ old) × Shows old typed text
 
 -- what is wrong is said; where a word names no register, with those that may be meant

@@ -1,5 +1,5 @@
 -- What a debugger begins with, and what its parts hold.
-use Rattle.std.specs.Prelude.{◌≡◌, ℕ, List, [], None}
+use Rattle.std.specs.Prelude.{◌≡◌, ℕ, true, List, [], None}
 use Rattle.em_turn.specs.Planned.{lists}
 use Rattle.em_journal.specs.Settings.{new_machine}
 use Rattle.em_journal.specs.declared.settings.Settings.{Settings}
@@ -18,9 +18,11 @@ pub record Begins (given : Settings) (d : Debugger) : Type 0 where
   pub tape : d.tape ≡ empty_tape (bare (new_machine given))
   pub told : lists d.told.answers.items ≡ []
   pub asked : d.asked ≡ None
+  pub warns : d.warns ≡ true
 
 -- all but the place on the tape is as it was
 pub record KeepsRest (old new : Debugger) : Type 0 where
   pub settings : new.settings ≡ old.settings
   pub told : new.told ≡ old.told
   pub asked : new.asked ≡ old.asked
+  pub warns : new.warns ≡ old.warns

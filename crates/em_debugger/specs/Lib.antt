@@ -15,3 +15,4 @@ pub mod Search
 pub mod Stops
 pub mod Told
 pub mod Who
+pub mod Why

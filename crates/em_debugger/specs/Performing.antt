@@ -10,6 +10,7 @@ use Rattle.em_tape.specs.Moves.{Plays, IsCut}
 use Rattle.em_prompt.specs.BenchLine.{BenchLine, text_of as text_of_line}
 use Rattle.em_explain.specs.Explain.{Explains}
 use Rattle.em_looks.specs.Numbers.{number_text, count_text, short_text}
+use Rattle.em_warnings.specs.Warnings.{warnings_text}
 use Rattle.em_debugger.specs.declared.debugger.Debugger.{Debugger}
 use Rattle.em_debugger.specs.declared.performing.Performed.{Performed}
 use Rattle.em_debugger.specs.BenchLooks.{is_look, look_text}
@@ -31,6 +32,7 @@ pub record Performs (old new : Debugger) (performed : Performed) : Type 0 where
   pub noted : Notes performed.line new.answer.items (lists old.told.answers.items) (lists new.told.answers.items)
   pub settings : new.settings ≡ old.settings
   pub asked : new.asked ≡ old.asked
+  pub warns : new.warns ≡ old.warns
 
 -- no line lies ahead of the place
 abbrev pub IsLast : Debugger → Type 0
@@ -73,6 +75,7 @@ pub record Cuts (old new : Debugger) (dropped : ℕ) : Type 0 where
   pub told : lists new.told.answers.items ≡ take (length new.tape.lines) (lists old.told.answers.items)
   pub asked : new.asked ≡ None
   pub settings : new.settings ≡ old.settings
+  pub warns : new.warns ≡ old.warns
 
 -- they were dropped, and a line was put behind the place
 pub record AddsLine (old new : Debugger) (line : List ℕ) (dropped : ℕ) : Type 0 where
@@ -81,9 +84,17 @@ pub record AddsLine (old new : Debugger) (line : List ℕ) (dropped : ℕ) : Typ
   pub tape : new.tape ≡ record between.tape { lines = between.tape.lines ++ line ∷ [] }
   pub rest : KeepsRest between new
 
--- a line that was performed is answered as em_bench answers it, and where its event did nothing, with the reason
-abbrev pub AnswersPerformed : Debugger → Performed → List ℕ → Type 0
-AnswersPerformed d p text = Explains d.tape.session.machine.present (text_of p.line d.tape) d.answer.items text
+-- what drivers get wrong, if that is to be said
+abbrev pub warned_text : Debugger → ℕ → List ℕ
+warned_text d line =
+    if d.warns then warnings_text d.tape.session.machine.present (text_of line d.tape) d.answer.items else []
+
+-- a line that was performed is answered as em_bench answers it, where its event did nothing with the reason, and its
+-- warnings stand behind that
+pub record AnswersPerformed (d : Debugger) (p : Performed) (text : List ℕ) : Type 0 where
+  pub explained : List ℕ
+  pub because : Explains d.tape.session.machine.present (text_of p.line d.tape) d.answer.items explained
+  pub told : text ≡ explained ++ warned_text d p.line
 
 -- the line, and then its answer
 pub record ShowsPerformed (d : Debugger) (p : Performed) (text : List ℕ) : Type 0 where

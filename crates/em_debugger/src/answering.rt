@@ -3,7 +3,8 @@ ghost use Rattle.std.specs.Prelude.{◌≡◌, ℕ, List, IfOk, OnOk};
 ghost use Rattle.std.specs.Io.KnownBytes.{Appends};
 ghost use Rattle.em_prompt.specs.Prompt.{plain_wrong};
 ghost use Rattle.em_prompt.specs.Typed.{plain};
-ghost use Rattle.em_debugger.specs.Answering.{Answers, Obeys, Shows, TellsWrong, flow_of};
+ghost use Rattle.em_text.specs.Writer.{Writes};
+ghost use Rattle.em_debugger.specs.Answering.{Answers, Obeys, Shows, TellsWrong, flow_of, warnings_are};
 
 use crate::debugger::Debugger;
 use crate::disk::Disk;
@@ -70,6 +71,7 @@ impl Debugger {
             Typed::Load(name) => self.load(writer, disk, name),
             Typed::Save(name) => self.save(writer, disk, name, false),
             Typed::SaveOver(name) => self.save(writer, disk, name, true),
+            Typed::Warnings(on) => self.warn(writer, on),
             Typed::Silent => self.show(writer, typed),
             Typed::Look(_) => self.show(writer, typed),
             Typed::History(_) => self.show(writer, typed),
@@ -77,6 +79,7 @@ impl Debugger {
             Typed::Ring(_) => self.show(writer, typed),
             Typed::Frame(_) => self.show(writer, typed),
             Typed::Memory(..) => self.show(writer, typed),
+            Typed::Why => self.show(writer, typed),
             Typed::Help(_) => self.show(writer, typed),
             Typed::Quit => self.show(writer, typed),
         }
@@ -96,6 +99,7 @@ impl Debugger {
             Typed::Frame(None) => show_waiting(writer, machine),
             Typed::Frame(Some(index)) => show_sent(writer, machine, index),
             Typed::Memory(addr, len) => show_memory(writer, machine, addr, len),
+            Typed::Why => self.why(writer),
             Typed::Help(Some(command)) => write_help(writer, command),
             Typed::Help(None) => write_whole_help(writer),
             Typed::Silent
@@ -113,7 +117,21 @@ impl Debugger {
             | Typed::Load(_)
             | Typed::Save(_)
             | Typed::SaveOver(_)
+            | Typed::Warnings(_)
             | Typed::Quit => Ok(()),
+        }
+    }
+
+    /// Lets what drivers get wrong be said, or not.
+    fn warn<W: Write>(&mut self, writer: &mut W, on: bool) -> Result<(), WriteFailed>
+        ensures writes { Writes (W.contents writer.old) (W.contents writer.new) result (warnings_are on) }
+        ensures switched { self.new ≡ record self.old { warns = on } }
+    {
+        self.warns = on;
+        if on {
+            write_whole(writer, b"warnings are on\n")
+        } else {
+            write_whole(writer, b"warnings are off\n")
         }
     }
 }

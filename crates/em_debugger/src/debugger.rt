@@ -24,6 +24,8 @@ pub struct Debugger {
     pub(crate) answer: Vec<u8>,
     // what was asked for last
     pub(crate) asked: Option<Asked>,
+    // whether it is said what drivers get wrong
+    pub(crate) warns: bool,
 }
 
 impl Debugger {
@@ -40,6 +42,7 @@ impl Debugger {
                 told: Told::new(alloc),
                 answer: Vec::new(alloc),
                 asked: None,
+                warns: true,
             }),
             Err(refusal) => Err(refusal),
         }

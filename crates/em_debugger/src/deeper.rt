@@ -1,7 +1,10 @@
 //! A second tape of the same lines, whose journal reaches deeper.
 ghost use Rattle.std.specs.Prelude.{◌≡◌, ◌≤◌, [], IfSome, IsTrue, length, take};
-ghost use Rattle.em_tape.specs.Tape.{event_of};
-ghost use Rattle.em_debugger.specs.Deeper.{IsAgain, lines_here, oldest};
+ghost use Rattle.em_journal.specs.Settings.{new_machine};
+ghost use Rattle.em_script.specs.Session.{bare};
+ghost use Rattle.em_tape.specs.Tape.{empty_tape, event_of};
+ghost use Rattle.em_debugger.specs.Deeper.{IsAgain, deepest, lines_here, oldest};
+ghost use Rattle.em_debugger.specs.Moves.{IsBehind};
 
 use crate::place::line_here;
 use em_journal::Settings;
@@ -18,17 +21,36 @@ pub(crate) fn deeper(alloc: Global, settings: Settings, tape: &Tape, event: u64)
     ensures again { IfSome result (IsAgain settings (lines_here tape.now)) }
     ensures event { IfSome result (λ deep. event_of deep ≡ event) }
 {
-    let settings = Settings {
-        budget: MOST_BUDGET,
-        ..settings
-    };
-    let mut deep = Tape::new(alloc, settings).ok()?;
+    let mut deep = deep_tape(alloc, settings)?;
     play_lines(&mut deep, tape, line_here(tape))?;
     if goes_to(&mut deep, event) {
         Some(deep)
     } else {
         None
     }
+}
+
+/// A tape of the first so many lines of another, behind the last of them; none where memory is refused.
+pub(crate) fn behind(alloc: Global, settings: Settings, tape: &Tape, line: usize) -> Option<Tape>
+    requires { line ≤ length tape.now.lines }
+    ensures again { IfSome result (IsAgain settings (take line tape.now.lines)) }
+    ensures behind { IfSome result (IsBehind line) }
+{
+    let mut deep = deep_tape(alloc, settings)?;
+    play_lines(&mut deep, tape, line)?;
+    deep.to_line(line).ok()?;
+    Some(deep)
+}
+
+/// A tape without a line, over a machine with the deepest journal.
+fn deep_tape(alloc: Global, settings: Settings) -> Option<Tape>
+    ensures { IfSome result (λ deep. deep ≡ empty_tape (bare (new_machine (deepest settings)))) }
+{
+    let settings = Settings {
+        budget: MOST_BUDGET,
+        ..settings
+    };
+    Tape::new(alloc, settings).ok()
 }
 
 /// Adds so many lines of another tape to one without a line, and performs them.

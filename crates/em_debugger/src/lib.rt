@@ -22,6 +22,7 @@ mod search;
 mod stops;
 mod told;
 mod who;
+mod why;
 
 pub use debugger::Debugger;
 pub use disk::{Disk, DiskFault};

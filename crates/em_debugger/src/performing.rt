@@ -8,7 +8,7 @@ ghost use Rattle.em_debugger.specs.Performing.{Performs, IsLast, Cuts, AddsLine,
 ghost use Rattle.em_debugger.specs.Performing.{AnswersNew, AnswersAdded, AnswersPerformed, ShowsPerformed};
 ghost use Rattle.em_debugger.specs.Performing.{heading_text, looks_back};
 ghost use Rattle.em_debugger.specs.Performing.{is_among_lines, dropped_text, dropped_lines_text};
-ghost use Rattle.em_debugger.specs.Performing.{fault_text};
+ghost use Rattle.em_debugger.specs.Performing.{fault_text, warned_text};
 
 use crate::bench_looks::{answer_look, is_look};
 use crate::debugger::Debugger;
@@ -18,6 +18,7 @@ use em_looks::{write_count, write_number, write_short};
 use em_prompt::BenchLine;
 use em_script::{BenchFault, Outcome};
 use em_text::{WriteFailed, write_pieces, write_whole};
+use em_warnings::write_warnings;
 use std::io::Write;
 
 /// A line that was performed: its number, and how it came out.
@@ -112,14 +113,14 @@ impl Debugger {
             × AnswersNext self.old self.new said) }
     {
         match self.perform_next() {
-            Ok(Some(performed)) => self.write_explained(writer, performed),
+            Ok(Some(performed)) => self.write_answered(writer, performed),
             Ok(None) => unreachable!(),
             Err(fault) => write_fault(writer, fault),
         }
     }
 
-    /// Writes the answer of a line that was performed, and why it did nothing, if it did.
-    pub(crate) fn write_explained<W: Write>(
+    /// Writes the answer of a line that was performed, why it did nothing, if it did, and its warnings.
+    pub(crate) fn write_answered<W: Write>(
         &self,
         writer: &mut W,
         performed: Performed,
@@ -129,7 +130,19 @@ impl Debugger {
     {
         let machine = self.tape.machine();
         let line = text_of(&self.tape, performed.line);
-        write_explained(self.alloc, writer, machine, line, self.answer.as_slice())
+        write_explained(self.alloc, writer, machine, line, self.answer.as_slice())?;
+        self.write_warned(writer, performed.line)
+    }
+
+    /// Writes the warnings of a line, if they are to be said.
+    fn write_warned<W: Write>(&self, writer: &mut W, line: usize) -> Result<(), WriteFailed>
+        ensures writes { Writes (W.contents writer.old) (W.contents writer.new) result (warned_text self.now line) }
+    {
+        if !self.warns {
+            return Ok(());
+        }
+        let machine = self.tape.machine();
+        write_warnings(writer, machine, text_of(&self.tape, line), self.answer.as_slice())
     }
 
     /// Performs the line behind the place, and keeps its answer; none where no line lies ahead.
@@ -168,7 +181,7 @@ impl Debugger {
             × ShowsPerformed self.now performed said) }
     {
         self.write_heading(writer, performed)?;
-        self.write_explained(writer, performed)
+        self.write_answered(writer, performed)
     }
 
     /// Writes a line and its number.

@@ -66,12 +66,7 @@ fn take_back(session: &mut Session, did: &[Did]) -> bool
 
 /// Performs lines again, each of which did no more than one event. False where one of them did something else, or does
 /// not do so again: then the session stays.
-fn perform_again(
-    player: &mut Player,
-    session: &mut Session,
-    lines: &[Vec<u8>],
-    did: &[Did],
-) -> bool
+fn perform_again(player: &mut Player, session: &mut Session, lines: &[Vec<u8>], did: &[Did]) -> bool
     requires short { All IsShort (lists lines.now) }
     requires known { length did.now ≤ length lines.now }
     requires room { length session.old.machine.past < 2 ^ 64 }

@@ -158,14 +158,7 @@ pub(crate) fn replayed(
     };
     let mut did = Vec::new(alloc);
     let mut counted = Count::start();
-    match replay(
-        player,
-        &mut session,
-        lines,
-        ends,
-        &mut counted,
-        &mut did,
-    ) {
+    match replay(player, &mut session, lines, ends, &mut counted, &mut did) {
         Ok(()) => Ok(Left {
             session,
             did,

@@ -342,11 +342,13 @@ impl Tape {
             &self.lines.as_slice()[..line],
             self.ends.as_slice(),
         ) {
-            Ok(Left {
-                session,
-                did,
-                counted,
-            }) => {
+            Ok(
+                Left {
+                    session,
+                    did,
+                    counted,
+                },
+            ) => {
                 put(&mut self.session, session);
                 self.did = did;
                 self.counted = counted;

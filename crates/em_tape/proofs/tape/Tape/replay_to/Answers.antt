@@ -29,7 +29,12 @@ invariant_of-self c =
     let within : line ≤ length c.self.inside.ends.items =
     subst (λ (t : Tape). line ≤ length t.ends) (sym c.self.view_is) c.requires in
     let count : length (take line c.as_slice.result.now) ≡ line =
-    length-take-le line c.as_slice.result.now (omega (arith, ap length c.as_slice.ensures.value, length-map
-    c.self.inside.lines.items (λ v. v.items), c.self.invariant.tape.performed)) in
+    length-take-le line c.as_slice.result.now (omega (
+      arith,
+      ap length c.as_slice.ensures.value,
+      length-map
+          c.self.inside.lines.items (λ v. v.items),
+      c.self.invariant.tape.performed,
+    )) in
     rw c.put.ensures (holds_at line c.self.invariant within
     (known_more count is (omega (arith, c.self.invariant.tape.performed)) c.in-Ok.ensures.ok) c.in-Ok.ensures.room)

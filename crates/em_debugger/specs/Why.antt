@@ -1,0 +1,105 @@
+-- Why an event did nothing, and which events set what decided that.
+use Rattle.std.specs.Prelude.{◌≡◌, ℕ, zero, suc, Bool, ◌||◌, if◌then◌else◌, List, [], ◌∷◌, ◌++◌, codes, take, length}
+use Rattle.std.specs.Prelude.{Option, Some, None}
+use Rattle.std.specs.Str.{bytes_eq}
+use Rattle.em_explain.specs.Explain.{Explains}
+use Rattle.em_explain.specs.Looked.{LookedAt}
+use Rattle.em_explain.specs.LookText.{look_text}
+use Rattle.em_explain.specs.Watched.{IsWatchOf}
+use Rattle.em_looks.specs.Numbers.{number_text, short_text}
+use Rattle.em_reasons.specs.declared.look.Look.{Look}
+use Rattle.em_tape.specs.Ends.{end_of}
+use Rattle.em_tape.specs.Tape.{Tape, event_of}
+use Rattle.em_watch.specs.declared.watch.Watch.{Watch}
+use Rattle.em_debugger.specs.declared.debugger.Debugger.{Debugger}
+use Rattle.em_debugger.specs.declared.search.Sought.{Sought}
+use Rattle.em_debugger.specs.declared.search.Sought.TheVariants as sought
+use Rattle.em_debugger.specs.Debugger.{told}
+use Rattle.em_debugger.specs.Deeper.{IsAgain, lines_here}
+use Rattle.em_debugger.specs.Moves.{IsBehind}
+use Rattle.em_debugger.specs.Place.{line_here, text_of}
+use Rattle.em_debugger.specs.Search.{Seeks}
+use Rattle.em_debugger.specs.Who.{event_text}
+
+-- ---- which line
+
+abbrev pub begins_with : List ℕ → List ℕ → Bool
+begins_with answer front = bytes_eq (take 8 answer) front
+
+-- an answer that says that an event did nothing
+abbrev pub is_undone : List ℕ → Bool
+is_undone answer =
+    bytes_eq answer (codes "idle") || begins_with answer (codes "dropped ") || begins_with answer (codes "refused ")
+
+-- of the first k lines the last that was answered so; 0 where none was
+abbrev pub newest_undone : Debugger → ℕ → ℕ
+newest_undone d zero = 0
+newest_undone d (suc k) = if is_undone (told (suc k) d) then suc k else newest_undone d k
+
+-- ---- texts
+
+abbrev pub heading_text : Debugger → ℕ → List ℕ
+heading_text d line =
+    number_text (codes "line ") line (codes ": ") ++ (short_text (text_of line d.tape) ++ codes "\n")
+
+abbrev pub sought_setter : Tape → Sought → List ℕ
+sought_setter tape (sought.Found found) = event_text tape found.event ++ codes "\n"
+sought_setter tape sought.Never = codes "no event changed it\n"
+sought_setter tape sought.Unreached = codes "no memory to see what changed it\n"
+
+-- the event that set it
+abbrev pub setter_text : Tape → Sought → List ℕ
+setter_text tape s = codes "    " ++ sought_setter tape s
+
+-- ---- what is told
+
+-- the newest change up to the place of a tape
+pub record TellsSetter (d : Debugger) (tape : Tape) (watch : Watch) (text : List ℕ) : Type 0 where
+  pub given : Sought
+  pub sought : Seeks d.settings (lines_here tape) watch tape (event_of tape) given
+  pub told : text ≡ setter_text tape given
+
+abbrev pub TellsWatch : Debugger → Tape → Option Watch → List ℕ → Type 0
+TellsWatch d tape None text = text ≡ []
+TellsWatch d tape (Some watch) text = TellsSetter d tape watch text
+
+-- what was looked at, and the event that set it, where that can be watched
+pub record TellsLook (d : Debugger) (tape : Tape) (look : Look) (text : List ℕ) : Type 0 where
+  pub watch : Option Watch
+  pub watched : IsWatchOf look watch
+  pub setter : List ℕ
+  pub sets : TellsWatch d tape watch setter
+  pub told : text ≡ (codes "  " ++ (look_text tape.session.machine.present look ++ codes "\n")) ++ setter
+
+-- one after another
+pub data TellsLooks (d : Debugger) (tape : Tape) : List Look → List ℕ → Type 0 where
+  over : TellsLooks d tape [] []
+  next : (look : Look) (looks : List Look) (first rest : List ℕ) → TellsLook d tape look first
+      → TellsLooks d tape looks rest → TellsLooks d tape (look ∷ looks) (first ++ rest)
+
+-- by what is kept of the answer, over a tape that stands behind the line
+pub record TellsWhyAt (d : Debugger) (tape : Tape) (line : ℕ) (text : List ℕ) : Type 0 where
+  pub explained : List ℕ
+  pub because : Explains tape.session.machine.present (text_of line d.tape) (told line d ++ codes "\n") explained
+  pub looks : List Look
+  pub looked : LookedAt tape.session.machine.present (text_of line d.tape) (told line d ++ codes "\n") looks
+  pub rest : List ℕ
+  pub tells : TellsLooks d tape looks rest
+  pub said : text ≡ heading_text d line ++ (codes "  " ++ (explained ++ rest))
+
+-- over the session's own tape, where it stands behind the line; or over a second one of the first lines, which does;
+-- or there was no memory for that
+pub data TellsWhyOf (d : Debugger) (line : ℕ) (text : List ℕ) : Type 0 where
+  here : line ≡ line_here d.tape → event_of d.tape ≡ end_of line d.tape.ends → TellsWhyAt d d.tape line text
+      → TellsWhyOf d line text
+  again : (deep : Tape) → IsAgain d.settings (take line d.tape.lines) deep → IsBehind line deep
+      → TellsWhyAt d deep line text → TellsWhyOf d line text
+  unreached : text ≡ heading_text d line ++ codes "  no memory to play it again\n" → TellsWhyOf d line text
+
+-- by the newest such line up to the place
+abbrev pub TellsWhyNewest : Debugger → ℕ → List ℕ → Type 0
+TellsWhyNewest d zero text = text ≡ codes "no step was idle, no frame dropped, nothing refused\n"
+TellsWhyNewest d (suc k) text = TellsWhyOf d (suc k) text
+
+abbrev pub TellsWhy : Debugger → List ℕ → Type 0
+TellsWhy d text = TellsWhyNewest d (newest_undone d (line_here d.tape)) text

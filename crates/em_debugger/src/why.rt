@@ -1,0 +1,190 @@
+//! Why an event did nothing, and who set what decided that.
+ghost use Rattle.std.specs.Prelude.{◌≡◌, ◌≤◌, ◌++◌, ℕ, List, OnOk, IfSome, codes, length, take};
+ghost use Rattle.std.specs.Io.KnownBytes.{Appends};
+ghost use Rattle.em_text.specs.Writer.{Writes};
+ghost use Rattle.em_debugger.specs.Deeper.{IsAgain};
+ghost use Rattle.em_debugger.specs.Moves.{IsBehind};
+ghost use Rattle.em_debugger.specs.Place.{line_here};
+ghost use Rattle.em_debugger.specs.Why.{TellsLook, TellsLooks, TellsSetter, TellsWhy, TellsWhyAt, TellsWhyOf, heading_text};
+ghost use Rattle.em_debugger.specs.Why.{begins_with, is_undone, newest_undone, setter_text};
+
+use crate::debugger::Debugger;
+use crate::deeper::behind;
+use crate::place::{line_here, text_of};
+use crate::search::{Sought, search};
+use crate::who::write_event;
+use em_explain::{looked_at, watch_of, write_explained, write_look};
+use em_looks::{write_number, write_short};
+use em_reasons::Look;
+use em_tape::Tape;
+use em_text::{WriteFailed, is_name, write_whole};
+use em_watch::Watch;
+use std::io::Write;
+
+impl Debugger {
+    /// Tells of the newest line up to the place whose event did nothing why that was, what the test looked at, and which
+    /// events set it.
+    pub(crate) fn why<W: Write>(&self, writer: &mut W) -> Result<(), WriteFailed>
+        ensures ok { OnOk result ((text : List ℕ) × Appends (W.contents writer.old) (W.contents writer.new) text
+            × TellsWhy self.now text) }
+    {
+        match self.newest_undone(line_here(&self.tape)) {
+            0 => write_whole(writer, b"no step was idle, no frame dropped, nothing refused\n"),
+            line => self.why_of(writer, line),
+        }
+    }
+
+    /// Of the first so many lines the newest whose answer says that it did nothing; 0 where none does.
+    fn newest_undone(&self, last: usize) -> usize
+        ensures newest { result ≡ newest_undone self.now last }
+        ensures within { result ≤ last }
+    {
+        let mut line = last;
+        while line > 0 {
+            if is_undone(self.told.of(line)) {
+                return line;
+            }
+            line -= 1;
+        }
+        line
+    }
+
+    /// Tells of a line, over the session's machine where the place is behind that line, or over another one.
+    fn why_of<W: Write>(&self, writer: &mut W, line: usize) -> Result<(), WriteFailed>
+        requires { line ≤ length self.now.tape.lines }
+        ensures ok { OnOk result ((text : List ℕ) × Appends (W.contents writer.old) (W.contents writer.new) text
+            × TellsWhyOf self.now line text) }
+    {
+        if line == line_here(&self.tape) && self.tape.event() == self.tape.end_of(line) {
+            return self.why_at(writer, &self.tape, line);
+        }
+        match behind(self.alloc, self.settings, &self.tape, line) {
+            Some(deep) => self.why_at(writer, &deep, line),
+            None => self.write_unseen(writer, line),
+        }
+    }
+
+    /// Writes that the line can't be played again.
+    fn write_unseen<W: Write>(&self, writer: &mut W, line: usize) -> Result<(), WriteFailed>
+        ensures writes { Writes (W.contents writer.old) (W.contents writer.new) result
+            (heading_text self.now line ++ codes "  no memory to play it again\n") }
+    {
+        self.write_heading_of(writer, line)?;
+        write_whole(writer, b"  no memory to play it again\n")
+    }
+
+    /// Tells of a line, over a tape that stands behind it.
+    fn why_at<W: Write>(
+        &self,
+        writer: &mut W,
+        tape: &Tape,
+        line: usize,
+    ) -> Result<(), WriteFailed>
+        ensures ok { OnOk result ((text : List ℕ) × Appends (W.contents writer.old) (W.contents writer.new) text
+            × TellsWhyAt self.now tape.now line text) }
+    {
+        let mut answer = Vec::new(self.alloc);
+        write_whole(&mut answer, self.told.of(line))?;
+        write_whole(&mut answer, b"\n")?;
+        let answer = answer.as_slice();
+        let text = text_of(&self.tape, line);
+        self.write_heading_of(writer, line)?;
+        write_whole(writer, b"  ")?;
+        write_explained(self.alloc, writer, tape.machine(), text, answer)?;
+        match looked_at(self.alloc, tape.machine(), text, answer) {
+            Ok(looks) => self.write_looks(writer, tape, looks.as_slice()),
+            Err(_) => Err(WriteFailed),
+        }
+    }
+
+    /// Writes the number and the text of a line.
+    fn write_heading_of<W: Write>(&self, writer: &mut W, line: usize) -> Result<(), WriteFailed>
+        ensures writes { Writes (W.contents writer.old) (W.contents writer.new) result (heading_text self.now line) }
+    {
+        write_number(writer, b"line ", line as u64, b": ")?;
+        write_short(writer, text_of(&self.tape, line))?;
+        write_whole(writer, b"\n")
+    }
+
+    /// Writes what was looked at, each with the event that set it.
+    fn write_looks<W: Write>(
+        &self,
+        writer: &mut W,
+        tape: &Tape,
+        looks: &[Look],
+    ) -> Result<(), WriteFailed>
+        ensures ok { OnOk result ((text : List ℕ) × Appends (W.contents writer.old) (W.contents writer.new) text
+            × TellsLooks self.now tape.now looks.now text) }
+    {
+        let [look, others @ ..] = looks else {
+            return Ok(());
+        };
+        self.write_look(writer, tape, *look)?;
+        self.write_looks(writer, tape, others)
+    }
+
+    fn write_look<W: Write>(
+        &self,
+        writer: &mut W,
+        tape: &Tape,
+        look: Look,
+    ) -> Result<(), WriteFailed>
+        ensures ok { OnOk result ((text : List ℕ) × Appends (W.contents writer.old) (W.contents writer.new) text
+            × TellsLook self.now tape.now look text) }
+    {
+        write_whole(writer, b"  ")?;
+        write_look(writer, tape.machine(), look)?;
+        write_whole(writer, b"\n")?;
+        match watch_of(look) {
+            Some(watch) => self.write_setter(writer, tape, watch),
+            None => Ok(()),
+        }
+    }
+
+    /// Writes which event set what is watched.
+    fn write_setter<W: Write>(
+        &self,
+        writer: &mut W,
+        tape: &Tape,
+        watch: Watch,
+    ) -> Result<(), WriteFailed>
+        ensures ok { OnOk result ((text : List ℕ) × Appends (W.contents writer.old) (W.contents writer.new) text
+            × TellsSetter self.now tape.now watch text) }
+    {
+        let sought = search(self.alloc, self.settings, tape, watch, tape.event());
+        write_sought_setter(writer, tape, sought)
+    }
+}
+
+/// Writes the event that a search gave.
+fn write_sought_setter<W: Write>(
+    writer: &mut W,
+    tape: &Tape,
+    sought: Sought,
+) -> Result<(), WriteFailed>
+    ensures writes { Writes (W.contents writer.old) (W.contents writer.new) result (setter_text tape.now sought) }
+{
+    write_whole(writer, b"    ")?;
+    match sought {
+        Sought::Found(found) => {
+            write_event(writer, tape, found.event)?;
+            write_whole(writer, b"\n")
+        }
+        Sought::Never => write_whole(writer, b"no event changed it\n"),
+        Sought::Unreached => write_whole(writer, b"no memory to see what changed it\n"),
+    }
+}
+
+/// Whether an answer says that an event did nothing.
+fn is_undone(answer: &[u8]) -> bool
+    ensures { result ≡ is_undone answer.now }
+{
+    is_name(answer, b"idle") || begins_with(answer, b"dropped ") || begins_with(answer, b"refused ")
+}
+
+/// Whether an answer begins with these octets.
+fn begins_with(answer: &[u8], front: &[u8; 8]) -> bool
+    ensures { result ≡ begins_with answer.now front.now }
+{
+    is_name(&answer[..answer.len().min(8)], front)
+}
