@@ -22,7 +22,8 @@ Options:
 
 `help` shows what one may type. Ctrl-D ends.
 
-The status is 0, or 2 where the command line was bad, 3 where the run stopped.
+The status is 0, or 1 where an answer was another than its line expects, 2 where the command line was bad, 3 where the
+run stopped.
 ";
 
 /// The name and the version.

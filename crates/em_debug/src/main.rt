@@ -19,7 +19,7 @@ use crate::session::Served;
 use crate::words::{Asked, Words, WordsRefused};
 use anyhow::{Result, bail};
 use em_console::{Answers, Console, LineConsole, prompt_for, serve};
-use em_debugger::{Debugger, Disk};
+use em_debugger::{Debugger, Disk, Score};
 use em_ending::Ending;
 use em_journal::SettingsRefusal;
 use em_options::{Options, OptionsRefused, options};
@@ -35,6 +35,9 @@ const PROMPT: &[u8] = b"(em) ";
 
 /// The status of a session that came to its end, and of help.
 const WELL: u8 = 0;
+
+/// The status of a session in which an answer was another than its line expects.
+const DIFFERED: u8 = 1;
 
 /// The status of a run that failed.
 const FAILED: u8 = 3;
@@ -122,10 +125,11 @@ fn with_options<R: Files + Input + Print + Eprint + AllocGlobal>(
                 disk: Host { rt },
             };
             let ended = with_session(rt, &mut served, options.script, words, prompt);
+            let score = served.debugger.score();
             // The system takes its memory back when the program ends, all at once.
             mem::forget(served);
             match ended {
-                Ok(()) => WELL,
+                Ok(()) => with_score(rt, score),
                 Err(error) => {
                     let _ = eprintln!(rt; "em_debug: {error}");
                     FAILED
@@ -140,6 +144,17 @@ fn with_options<R: Files + Input + Print + Eprint + AllocGlobal>(
             }
         }
     }
+}
+
+/// Prints how many answers were as their lines expect, if any expects one, and gives the status.
+fn with_score<R: Print>(rt: &R, score: Score) -> u8 {
+    if score.agreed == 0 && score.differed == 0 {
+        return WELL;
+    }
+    if println!(rt; "agreed {}, differed {}", score.agreed, score.differed).is_err() {
+        return FAILED;
+    }
+    if score.differed == 0 { WELL } else { DIFFERED }
 }
 
 /// Plays the script, opens where lines come from, and answers them.

@@ -1,10 +1,12 @@
 -- Lines that are added one after another, and lines as a script.
 use Rattle.std.proofs.Common.{◌≡◌, ◌∙◌, ℕ, zero, suc, ◌+◌, ◌<◌, List, [], ◌∷◌, ◌++◌, length, codes, append-nil, append_assoc}
-use Rattle.std.proofs.Common.{refl, sym, ap, subst, arith, take}
+use Rattle.std.proofs.Common.{refl, sym, ap, subst, arith, take, map}
 use Rattle.std.specs.Prelude.{Option, Some, slice_get, unwrap_or}
 use Rattle.std.specs.Io.KnownBytes.{Appends}
 use Rattle.std.proofs.lemmas.List.Concat.{flat_map-append}
-use Rattle.std.proofs.lemmas.List.{nil_from_length}
+use Rattle.std.proofs.lemmas.List.{map-append, nil_from_length}
+use Rattle.em_expect.specs.Expectation.{said_in}
+use Rattle.em_debugger.specs.Expected.{AllExpect, Expects, wanted_in}
 use Rattle.em_text.specs.Lines.{lines_of}
 use Rattle.em_text.proofs.WritingLemmas.{Appends-more}
 use Rattle.em_text.proofs.LinesLemmas.{lines_of-nil}
@@ -16,7 +18,7 @@ use Rattle.em_debugger.specs.Place.{text_of}
 -- the lines of a text were added as far as this rest of it
 pub record AddedSo (first now : Tape) (text rest : List ℕ) : Type 0 where
   pub lines : List (List ℕ)
-  pub tape : now ≡ record first { lines = first.lines ++ lines }
+  pub tape : now ≡ record first { lines = first.lines ++ map said_in lines }
   pub all : lines_of text ≡ lines ++ lines_of rest
 
 abbrev with_lines : Tape → List (List ℕ) → Tape
@@ -31,12 +33,13 @@ AddedSo-none first text = record {
 
 -- one line more
 pub AddedSo-more : (first now next : Tape) (text rest line behind : List ℕ) → AddedSo first now text rest
-    → lines_of rest ≡ line ∷ lines_of behind → next ≡ record now { lines = now.lines ++ line ∷ [] }
+    → lines_of rest ≡ line ∷ lines_of behind → next ≡ record now { lines = now.lines ++ said_in line ∷ [] }
     → AddedSo first next text behind
 AddedSo-more first now next text rest line behind h is added = record {
   lines = h.lines ++ line ∷ [];
-  tape = added ∙ ap (λ (t : Tape). with_lines t (t.lines ++ line ∷ [])) h.tape
-      ∙ ap (with_lines first) (append_assoc first.lines h.lines (line ∷ []));
+  tape = added ∙ ap (λ (t : Tape). with_lines t (t.lines ++ said_in line ∷ [])) h.tape
+      ∙ ap (with_lines first) (append_assoc first.lines (map said_in h.lines) (said_in line ∷ [])
+      ∙ ap (λ l. first.lines ++ l) (sym (map-append said_in h.lines (line ∷ []))));
   all = h.all ∙ ap (λ l. h.lines ++ l) is ∙ sym (append_assoc h.lines (line ∷ []) (lines_of behind));
 }
 
@@ -45,10 +48,28 @@ none_left rest none = ap lines_of (nil_from_length rest none) ∙ lines_of-nil
 
 -- all lines were added, where nothing is left
 pub AddedSo-all : (first now : Tape) (text rest : List ℕ) → AddedSo first now text rest → length rest ≡ 0
-    → now ≡ record first { lines = first.lines ++ lines_of text }
+    → now ≡ record first { lines = first.lines ++ map said_in (lines_of text) }
 AddedSo-all first now text rest h none =
     let all : lines_of text ≡ h.lines = h.all ∙ ap (λ l. h.lines ++ l) (none_left rest none) ∙ append-nil h.lines in
-    h.tape ∙ ap (λ l. with_lines first (first.lines ++ l)) (sym all)
+    h.tape ∙ ap (λ l. with_lines first (first.lines ++ map said_in l)) (sym all)
+
+-- which answers the lines of a text expect, as far as this rest of it
+abbrev pub ExpectedSo : ℕ → ℕ → List (List ℕ) → List (List ℕ) → List ℕ → List ℕ → Type 0
+ExpectedSo first number old now text rest =
+    (last : List (List ℕ)) → AllExpect number (lines_of rest) now last → AllExpect first (lines_of text) old last
+
+-- one line more
+pub ExpectedSo-more : (first number next : ℕ) (old now new : List (List ℕ)) (text rest line behind : List ℕ)
+    → ExpectedSo first number old now text rest → lines_of rest ≡ line ∷ lines_of behind
+    → Expects number (wanted_in line) now new → next ≡ number + 1 → ExpectedSo first next old new text behind
+ExpectedSo-more first number next old now new text rest line behind h is expects one = λ last all.
+    h last (subst (λ l. AllExpect number l now last) (sym is)
+    (new, expects, subst (λ n. AllExpect n (lines_of behind) new last) one all))
+
+pub ExpectedSo-all : (first number : ℕ) (old now : List (List ℕ)) (text rest : List ℕ)
+    → ExpectedSo first number old now text rest → length rest ≡ 0 → AllExpect first (lines_of text) old now
+ExpectedSo-all first number old now text rest h none =
+    h now (subst (λ l. AllExpect number l now now) (sym (none_left rest none)) refl)
 
 -- ---- a script
 

@@ -1,6 +1,7 @@
 pub mod AddingLaws
 pub mod AnsweringLaws
 pub mod EffectLaws
+pub mod ExpectingLaws
 pub mod FilesLaws
 pub mod HistoryLaws
 pub mod ListingLaws

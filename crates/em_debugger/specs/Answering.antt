@@ -5,6 +5,8 @@ use Rattle.em_console.specs.declared.session.Flow.{Flow}
 use Rattle.em_console.specs.declared.session.Flow.TheVariants.{Goes, Ends}
 use Rattle.em_looks.specs.Frames.{waiting_text, sent_text}
 use Rattle.em_looks.specs.Views.{register_text, ring_text, memory_text}
+use Rattle.em_expect.specs.Expectation.{expected_in, said_in}
+use Rattle.em_prompt.specs.BenchLine.{BenchLine}
 use Rattle.em_prompt.specs.Help.{line_of, help_text}
 use Rattle.em_prompt.specs.Prompt.{Wrong, prompted}
 use Rattle.em_prompt.specs.Typed.{Typed, line, look, who, who_again, back, back_to, forward, forward_to, goto}
@@ -13,6 +15,7 @@ use Rattle.em_prompt.specs.Typed.{why, warnings, help, quit}
 use Rattle.em_prompt.specs.WrongText.{wrong_text}
 use Rattle.em_debugger.specs.declared.debugger.Debugger.{Debugger}
 use Rattle.em_debugger.specs.Effect.{AnswersEffect, asked_event}
+use Rattle.em_debugger.specs.Expected.{wanted_in}
 use Rattle.em_debugger.specs.Files.{Loads, Saves}
 use Rattle.em_debugger.specs.History.{history_text}
 use Rattle.em_debugger.specs.Moves.{GoesBack, GoesBeforeLine, GoesToEvent, forward_by}
@@ -44,7 +47,7 @@ Shows d _ text = text ≡ []
 
 -- By what was typed, what it made of the debugger, and what is said. A command that only looks changes nothing.
 abbrev pub Obeys : Debugger → Debugger → Typed → List ℕ → Type 0
-Obeys old new (line typed) text = AnswersTyped old new typed text
+Obeys old new (line typed) text = AnswersTyped old new typed [] text
 Obeys old new (next count) text = TellsNext count old new text
 Obeys old new run text = RunsAll old new text
 Obeys old new (run_until until) text = AnswersRun old new until text
@@ -76,8 +79,27 @@ abbrev pub AnswersPrompted : Debugger → Debugger → Result Typed Wrong → Fl
 AnswersPrompted old new (Ok typed) flow text = (flow ≡ flow_of typed) × Obeys old new typed text
 AnswersPrompted old new (Err wrong) flow text = (flow ≡ Goes) × ((new ≡ old) × TellsWrong wrong text)
 
+-- a line of em_bench's, where one stands there
+abbrev pub bench_in : Result Typed Wrong → Option BenchLine
+bench_in (Ok (line bench)) = Some bench
+bench_in _ = None
+
+abbrev pub asking_with : Option (List ℕ) → List ℕ → Option BenchLine
+asking_with None said = None
+asking_with (Some answer) said = bench_in (prompted said)
+
+-- the line of em_bench's that expects an answer, where one was typed
+abbrev pub asking : List ℕ → Option BenchLine
+asking typed = asking_with (expected_in typed) (said_in typed)
+
+-- such a line is performed; what else is typed is obeyed, or it is said what is wrong with it
+abbrev pub AnswersAsked : Debugger → Debugger → List ℕ → Option BenchLine → Flow → List ℕ → Type 0
+AnswersAsked old new typed None flow text = AnswersPrompted old new (prompted typed) flow text
+AnswersAsked old new typed (Some bench) flow text =
+    (flow ≡ Goes) × AnswersTyped old new bench (wanted_in typed) text
+
 -- a line was typed: one that is too long is none
 pub data Answers (old new : Debugger) (typed : List ℕ) (flow : Flow) (text : List ℕ) : Type 0 where
   too_long : 0xFFFF_FFFF ≤ length typed → flow ≡ Goes → new ≡ old → text ≡ codes "the line is too long\n"
       → Answers old new typed flow text
-  said : AnswersPrompted old new (prompted typed) flow text → Answers old new typed flow text
+  said : AnswersAsked old new typed (asking typed) flow text → Answers old new typed flow text

@@ -19,10 +19,18 @@ pub record Begins (given : Settings) (d : Debugger) : Type 0 where
   pub told : lists d.told.answers.items ≡ []
   pub asked : d.asked ≡ None
   pub warns : d.warns ≡ true
+  pub wanted : lists d.wanted.answers.items ≡ []
+  pub score : d.score ≡ record { agreed = 0; differed = 0 }
 
--- all but the place on the tape is as it was
-pub record KeepsRest (old new : Debugger) : Type 0 where
+-- all but the tape and the answers that lines expect is as it was
+pub record KeepsSome (old new : Debugger) : Type 0 where
   pub settings : new.settings ≡ old.settings
   pub told : new.told ≡ old.told
   pub asked : new.asked ≡ old.asked
   pub warns : new.warns ≡ old.warns
+  pub score : new.score ≡ old.score
+
+-- all but the place on the tape is as it was
+pub record KeepsRest (old new : Debugger) : Type 0 where
+  pub some : KeepsSome old new
+  pub wanted : new.wanted ≡ old.wanted

@@ -1,5 +1,5 @@
 -- Loading and saving lines.
-use Rattle.std.specs.Prelude.{◌≡◌, ℕ, Bool, true, false, List, [], ◌++◌, codes, length}
+use Rattle.std.specs.Prelude.{◌≡◌, ℕ, ◌+◌, Bool, true, false, List, [], ◌++◌, codes, length, map}
 use Rattle.std.specs.List.{flat_map}
 use Rattle.em_text.specs.Lines.{lines_of}
 use Rattle.em_script.specs.declared.runner.BenchFault.{BenchFault}
@@ -7,15 +7,20 @@ use Rattle.em_looks.specs.Numbers.{count_text}
 use Rattle.em_debugger.specs.declared.debugger.Debugger.{Debugger}
 use Rattle.em_debugger.specs.declared.disk.DiskFault.{DiskFault}
 use Rattle.em_debugger.specs.declared.disk.DiskFault.TheVariants.{Missing, Exists, Name, TooLarge, Memory, Failed}
-use Rattle.em_debugger.specs.Debugger.{KeepsRest}
+use Rattle.em_turn.specs.Planned.{lists}
+use Rattle.em_expect.specs.Expectation.{said_in}
+use Rattle.em_debugger.specs.Debugger.{KeepsSome}
+use Rattle.em_debugger.specs.Expected.{AllExpect}
 use Rattle.em_debugger.specs.Place.{line_here}
 use Rattle.em_debugger.specs.Played.{RunsAll}
 use Rattle.em_debugger.specs.Performing.{Cuts, dropped_text, fault_text}
 
--- lines were put behind the last one; none of them is performed
+-- what these lines say was put behind the last one, and which answers they expect; none of them is performed
 pub record AddsLines (old new : Debugger) (lines : List (List ℕ)) : Type 0 where
-  pub tape : new.tape ≡ record old.tape { lines = old.tape.lines ++ lines }
-  pub rest : KeepsRest old new
+  pub tape : new.tape ≡ record old.tape { lines = old.tape.lines ++ map said_in lines }
+  pub expect : AllExpect (length old.tape.lines + 1) lines (lists old.wanted.answers.items)
+      (lists new.wanted.answers.items)
+  pub rest : KeepsSome old new
 
 -- ---- texts
 

@@ -3,6 +3,7 @@ pub mod BenchLooks
 pub mod Debugger
 pub mod Deeper
 pub mod Effect
+pub mod Expected
 pub mod Files
 pub mod History
 pub mod Listing

@@ -14,7 +14,8 @@ use Rattle.em_warnings.specs.Warnings.{warnings_text}
 use Rattle.em_debugger.specs.declared.debugger.Debugger.{Debugger}
 use Rattle.em_debugger.specs.declared.performing.Performed.{Performed}
 use Rattle.em_debugger.specs.BenchLooks.{is_look, look_text}
-use Rattle.em_debugger.specs.Debugger.{KeepsRest}
+use Rattle.em_debugger.specs.Debugger.{KeepsSome}
+use Rattle.em_debugger.specs.Expected.{Expects, compared_text, scored}
 use Rattle.em_debugger.specs.Place.{line_here, text_of}
 use Rattle.em_debugger.specs.Told.{Notes}
 
@@ -33,6 +34,8 @@ pub record Performs (old new : Debugger) (performed : Performed) : Type 0 where
   pub settings : new.settings ≡ old.settings
   pub asked : new.asked ≡ old.asked
   pub warns : new.warns ≡ old.warns
+  pub wanted : new.wanted ≡ old.wanted
+  pub score : new.score ≡ scored (record new { score = old.score }) performed.line
 
 -- no line lies ahead of the place
 abbrev pub IsLast : Debugger → Type 0
@@ -76,13 +79,17 @@ pub record Cuts (old new : Debugger) (dropped : ℕ) : Type 0 where
   pub asked : new.asked ≡ None
   pub settings : new.settings ≡ old.settings
   pub warns : new.warns ≡ old.warns
+  pub wanted : lists new.wanted.answers.items ≡ take (length new.tape.lines) (lists old.wanted.answers.items)
+  pub score : new.score ≡ old.score
 
--- they were dropped, and a line was put behind the place
-pub record AddsLine (old new : Debugger) (line : List ℕ) (dropped : ℕ) : Type 0 where
+-- they were dropped, and a line was put behind the place, which expects this answer
+pub record AddsLine (old new : Debugger) (line asked : List ℕ) (dropped : ℕ) : Type 0 where
   pub between : Debugger
   pub cut : Cuts old between dropped
   pub tape : new.tape ≡ record between.tape { lines = between.tape.lines ++ line ∷ [] }
-  pub rest : KeepsRest between new
+  pub expects : Expects (length new.tape.lines) asked (lists between.wanted.answers.items)
+      (lists new.wanted.answers.items)
+  pub rest : KeepsSome between new
 
 -- what drivers get wrong, if that is to be said
 abbrev pub warned_text : Debugger → ℕ → List ℕ
@@ -90,11 +97,11 @@ warned_text d line =
     if d.warns then warnings_text d.tape.session.machine.present (text_of line d.tape) d.answer.items else []
 
 -- a line that was performed is answered as em_bench answers it, where its event did nothing with the reason, and its
--- warnings stand behind that
+-- warnings stand behind that, and how it differs from what the line expects
 pub record AnswersPerformed (d : Debugger) (p : Performed) (text : List ℕ) : Type 0 where
   pub explained : List ℕ
   pub because : Explains d.tape.session.machine.present (text_of p.line d.tape) d.answer.items explained
-  pub told : text ≡ explained ++ warned_text d p.line
+  pub told : text ≡ explained ++ (warned_text d p.line ++ compared_text d p.line)
 
 -- the line, and then its answer
 pub record ShowsPerformed (d : Debugger) (p : Performed) (text : List ℕ) : Type 0 where
@@ -114,20 +121,20 @@ pub record AnswersAdded (old new : Debugger) (dropped : ℕ) (text : List ℕ) :
   pub said : text ≡ dropped_text dropped ++ answer
 
 -- a line was put behind the place and performed; or it is said why it was not
-pub data AnswersNew (old new : Debugger) (line text : List ℕ) : Type 0 where
-  added : (between : Debugger) (dropped : ℕ) → AddsLine old between line dropped → AnswersAdded between new dropped text
-      → AnswersNew old new line text
-  refused : (fault : BenchFault) → text ≡ fault_text fault → AnswersNew old new line text
+pub data AnswersNew (old new : Debugger) (line asked text : List ℕ) : Type 0 where
+  added : (between : Debugger) (dropped : ℕ) → AddsLine old between line asked dropped
+      → AnswersAdded between new dropped text → AnswersNew old new line asked text
+  refused : (fault : BenchFault) → text ≡ fault_text fault → AnswersNew old new line asked text
 
 -- a line that only looks, where lines or events lie ahead
 abbrev pub looks_back : Tape → BenchLine → Bool
 looks_back tape line = is_look line.command && is_among_lines tape
 
-abbrev pub AnswersLine : Bool → Debugger → Debugger → BenchLine → List ℕ → Type 0
-AnswersLine true old new line text = (new ≡ old) × (text ≡ look_text old.tape.session.machine (text_of_line line))
-AnswersLine false old new line text = AnswersNew old new (text_of_line line) text
+abbrev pub AnswersLine : Bool → Debugger → Debugger → BenchLine → List ℕ → List ℕ → Type 0
+AnswersLine true old new line asked text = (new ≡ old) × (text ≡ look_text old.tape.session.machine (text_of_line line))
+AnswersLine false old new line asked text = AnswersNew old new (text_of_line line) asked text
 
--- A line of em_bench's was typed. A look among lines gets no place among them, and changes nothing; any other line is
+-- A line of em_bench's was typed, which expects this answer, if any. A look among lines gets no place among them, and changes nothing; any other line is
 -- put behind the place, and performed.
-abbrev pub AnswersTyped : Debugger → Debugger → BenchLine → List ℕ → Type 0
-AnswersTyped old new line text = AnswersLine (looks_back old.tape line) old new line text
+abbrev pub AnswersTyped : Debugger → Debugger → BenchLine → List ℕ → List ℕ → Type 0
+AnswersTyped old new line asked text = AnswersLine (looks_back old.tape line) old new line asked text

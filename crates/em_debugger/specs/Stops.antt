@@ -16,6 +16,7 @@ use Rattle.em_debugger.specs.declared.stops.Stop.{Stop}
 use Rattle.em_debugger.specs.declared.stops.Stop.TheVariants as stop
 use Rattle.em_debugger.specs.declared.stops.Ran.{Ran}
 use Rattle.em_debugger.specs.declared.stops.Ran.TheVariants as ran
+use Rattle.em_debugger.specs.Expected.{answers_otherwise}
 use Rattle.em_debugger.specs.Place.{line_here, text_of}
 use Rattle.em_debugger.specs.Performing.{Performs, IsLast, ShowsPerformed, fault_text}
 use Rattle.em_debugger.specs.Who.{TellsNewest}
@@ -43,6 +44,7 @@ pub record ChangedSince (watch : Watch) (events : ℕ) (d : Debugger) : Type 0 w
 abbrev pub EndsSince : Stop → ℕ → Debugger → Performed → Type 0
 EndsSince stop.Refused events d performed = performed.outcome ≡ Refused
 EndsSince stop.Dropped events d performed = says_dropped d.answer.items ≡ true
+EndsSince stop.Differs events d performed = answers_otherwise d performed.line ≡ true
 EndsSince (stop.Line n) events d performed = ⊥
 EndsSince (stop.Changes watch) events d performed = ChangedSince watch events d
 
@@ -72,6 +74,7 @@ unchanged_text watch = codes "none changed " ++ (watch_text watch ++ codes "\n")
 abbrev pub missed_text : Stop → List ℕ
 missed_text stop.Refused = codes "none was refused\n"
 missed_text stop.Dropped = codes "none was dropped\n"
+missed_text stop.Differs = codes "no answer differs\n"
 missed_text (stop.Line n) = number_text (codes "no line ") n (codes " lies ahead\n")
 missed_text (stop.Changes watch) = unchanged_text watch
 
@@ -126,6 +129,7 @@ pub record RunsUntil (s : Stop) (old new : Debugger) (text : List ℕ) : Type 0 
 abbrev pub IsStop : Until → Stop → Type 0
 IsStop until.Refused s = s ≡ stop.Refused
 IsStop until.Dropped s = s ≡ stop.Dropped
+IsStop until.Differs s = s ≡ stop.Differs
 IsStop (until.Line line) s = s ≡ stop.Line line
 IsStop (until.Changes typed) s = (watch : Watch) × IsWatch typed watch × (s ≡ stop.Changes watch)
 

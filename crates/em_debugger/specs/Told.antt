@@ -11,7 +11,11 @@ kept_of text = take 64 (get_or (lines_of text) 0 [])
 abbrev pub told_of : ℕ → List (List ℕ) → List ℕ
 told_of n answers = unwrap_or (line_at n answers) []
 
--- the answer to one line was kept, and those to the others stay
-pub record Notes (number : ℕ) (text : List ℕ) (old new : List (List ℕ)) : Type 0 where
-  pub this : told_of number new ≡ kept_of text
+-- this text stands beside one line, and those beside the others stay
+pub record Puts (number : ℕ) (text : List ℕ) (old new : List (List ℕ)) : Type 0 where
+  pub this : told_of number new ≡ text
   pub others : (n : ℕ) → n ≢ number → told_of n new ≡ told_of n old
+
+-- the answer to one line was kept, and those to the others stay
+abbrev pub Notes : ℕ → List ℕ → List (List ℕ) → List (List ℕ) → Type 0
+Notes number text old new = Puts number (kept_of text) old new

@@ -1,17 +1,23 @@
 //! Answering what is typed.
-ghost use Rattle.std.specs.Prelude.{◌≡◌, ℕ, List, IfOk, OnOk};
+ghost use Rattle.std.specs.Prelude.{◌≡◌, ◌<◌, ℕ, List, IfOk, IfSome, OnOk, length};
+ghost use Rattle.std.specs.Option.{option_map};
+ghost use Rattle.em_debugger.specs.Expected.{wanted_in};
+ghost use Rattle.em_prompt.specs.BenchLine.{plain as plain_line};
 ghost use Rattle.std.specs.Io.KnownBytes.{Appends};
-ghost use Rattle.em_prompt.specs.Prompt.{plain_wrong};
+ghost use Rattle.em_prompt.specs.Prompt.{plain_wrong, prompted};
 ghost use Rattle.em_prompt.specs.Typed.{plain};
 ghost use Rattle.em_text.specs.Writer.{Writes};
-ghost use Rattle.em_debugger.specs.Answering.{Answers, Obeys, Shows, TellsWrong, flow_of, warnings_are};
+ghost use Rattle.em_debugger.specs.Answering.{Answers, AnswersPrompted, Obeys, Shows, TellsWrong, asking, flow_of, warnings_are};
 
 use crate::debugger::Debugger;
 use crate::disk::Disk;
 use em_console::Flow;
+use em_expect::expectation;
 use em_looks::{show_memory, show_register, show_ring, show_sent, show_waiting};
 use em_names::nearest;
-use em_prompt::{Fault, Typed, Wrong, prompted, write_help, write_whole_help, write_wrong};
+use em_prompt::{
+    BenchLine, Fault, Typed, Wrong, prompted, write_help, write_whole_help, write_wrong,
+};
 use em_regs::Reg;
 use em_text::{WriteFailed, write_whole};
 use std::alloc::Global;
@@ -35,6 +41,26 @@ impl Debugger {
             write_whole(writer, b"the line is too long\n")?;
             return Ok(Flow::Goes);
         }
+        match asking(line) {
+            Some((bench, answer)) => {
+                self.perform_typed(writer, bench, answer)?;
+                Ok(Flow::Goes)
+            }
+            None => self.answer_prompted(writer, disk, line),
+        }
+    }
+
+    /// Does what a line says, or says what is wrong with it.
+    fn answer_prompted<W: Write, D: Disk>(
+        &mut self,
+        writer: &mut W,
+        disk: &mut D,
+        line: &[u8],
+    ) -> Result<Flow, WriteFailed>
+        requires { length line.now < 0xFFFF_FFFF }
+        ensures ok { IfOk result (λ flow. (text : List ℕ) × Appends (W.contents writer.old) (W.contents writer.new) text
+            × AnswersPrompted self.old self.new (prompted line.now) flow text) }
+    {
         match prompted(line) {
             Ok(typed) => {
                 self.obey(writer, disk, typed)?;
@@ -58,7 +84,7 @@ impl Debugger {
             × Obeys self.old self.new (plain typed.entry) text) }
     {
         match typed {
-            Typed::Line(line) => self.perform_typed(writer, line),
+            Typed::Line(line) => self.perform_typed(writer, line, b""),
             Typed::Next(count) => self.next(writer, count),
             Typed::Run => self.run_all(writer),
             Typed::RunUntil(until) => self.run_until(writer, until),
@@ -133,6 +159,20 @@ impl Debugger {
         } else {
             write_whole(writer, b"warnings are off\n")
         }
+    }
+}
+
+/// A line of em_bench's that expects an answer, with that answer, where one was typed.
+fn asking(line: &[u8]) -> Option<(BenchLine<'_>, &[u8])>
+    requires { length line.now < 0xFFFF_FFFF }
+    ensures line { option_map (λ asked. plain_line asked.0) result ≡ asking line.now }
+    ensures answer { IfSome result (λ asked. asked.1.now ≡ wanted_in line.now) }
+{
+    let asked = expectation(line);
+    let answer = asked.answer?;
+    match prompted(asked.line) {
+        Ok(Typed::Line(bench)) => Some((bench, answer)),
+        _ => None,
     }
 }
 

@@ -6,6 +6,7 @@ ghost use Rattle.em_script.specs.Session.{bare};
 ghost use Rattle.em_tape.specs.Tape.{empty_tape};
 ghost use Rattle.em_debugger.specs.Debugger.{Begins};
 
+use crate::expected::Score;
 use crate::told::Told;
 use crate::who::Asked;
 use em_journal::{Settings, SettingsRefusal};
@@ -26,6 +27,10 @@ pub struct Debugger {
     pub(crate) asked: Option<Asked>,
     // whether it is said what drivers get wrong
     pub(crate) warns: bool,
+    // the answers that lines expect
+    pub(crate) wanted: Told,
+    // how many were given so
+    pub(crate) score: Score,
 }
 
 impl Debugger {
@@ -43,6 +48,8 @@ impl Debugger {
                 answer: Vec::new(alloc),
                 asked: None,
                 warns: true,
+                wanted: Told::new(alloc),
+                score: Score::none(),
             }),
             Err(refusal) => Err(refusal),
         }

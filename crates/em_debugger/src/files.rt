@@ -1,5 +1,8 @@
 //! Loading and saving lines.
-ghost use Rattle.std.specs.Prelude.{◌≡◌, ◌++◌, ℕ, List, IfOk, OnOk, codes, length};
+ghost use Rattle.std.specs.Prelude.{◌≡◌, ◌+◌, ◌++◌, ◌∷◌, [], ℕ, List, IfOk, OnOk, codes, length, map};
+ghost use Rattle.em_turn.specs.Planned.{lists};
+ghost use Rattle.em_expect.specs.Expectation.{said_in};
+ghost use Rattle.em_debugger.specs.Expected.{AllExpect, Expects, wanted_in};
 ghost use Rattle.std.specs.Io.KnownBytes.{Appends};
 ghost use Rattle.em_text.specs.Lines.{lines_of};
 ghost use Rattle.em_text.specs.Writer.{Writes};
@@ -10,8 +13,11 @@ ghost use Rattle.em_debugger.specs.Files.{LoadsText, PlaysText, Saves, disk_text
 
 use crate::debugger::Debugger;
 use crate::disk::{Disk, DiskFault};
+use crate::expected::expect;
 use crate::performing::{write_dropped, write_fault};
 use crate::place::{line_here, text_of};
+use crate::told::Told;
+use em_expect::expectation;
 use em_looks::write_count;
 use em_script::BenchFault;
 use em_tape::Tape;
@@ -24,7 +30,7 @@ impl Debugger {
         ensures ok { OnOk result (AddsLines self.old self.new (lines_of text.now)) }
         ensures count { IfOk result (λ count. count ≡ length (lines_of text.now)) }
     {
-        add_all(&mut self.tape, text)
+        add_all(&mut self.tape, &mut self.wanted, text)
     }
 
     /// Begins with a script: loads it, and plays it to its end unless it is to be stepped through. False where it
@@ -171,18 +177,36 @@ impl Debugger {
 }
 
 /// Puts the lines of a text behind the last line of a tape, and gives how many they are.
-fn add_all(tape: &mut Tape, text: &[u8]) -> Result<usize, BenchFault>
-    ensures ok { OnOk result (tape.new ≡ record tape.old { lines = tape.old.lines ++ lines_of text.now }) }
+fn add_all(tape: &mut Tape, wanted: &mut Told, text: &[u8]) -> Result<usize, BenchFault>
+    ensures ok { OnOk result (tape.new ≡ record tape.old {
+      lines = tape.old.lines ++ map said_in (lines_of text.now);
+    }) }
+    ensures expect { OnOk result (AllExpect (length tape.old.lines + 1) (lines_of text.now)
+        (lists wanted.old.answers.items) (lists wanted.new.answers.items)) }
     ensures count { IfOk result (λ count. count ≡ length (lines_of text.now)) }
 {
     let before = tape.len();
     let mut rest = text;
     while !rest.is_empty() {
         let (line, behind) = next_line(rest);
-        tape.add(line)?;
+        add_line(tape, wanted, line)?;
         rest = behind;
     }
     Ok(tape.len().saturating_sub(before))
+}
+
+/// Puts what a line says behind the last line of a tape, and keeps which answer it expects.
+fn add_line(tape: &mut Tape, wanted: &mut Told, line: &[u8]) -> Result<(), BenchFault>
+    ensures ok { OnOk result (tape.new ≡ record tape.old { lines = tape.old.lines ++ said_in line.now ∷ [] }) }
+    ensures expect { OnOk result (Expects (length tape.new.lines) (wanted_in line.now)
+        (lists wanted.old.answers.items) (lists wanted.new.answers.items)) }
+{
+    let asked = expectation(line);
+    tape.add(asked.line)?;
+    match expect(wanted, tape.len(), asked.answer.unwrap_or_default()) {
+        Ok(()) => Ok(()),
+        Err(_) => Err(BenchFault::Memory),
+    }
 }
 
 fn write_loaded<W: Write>(writer: &mut W, count: usize) -> Result<(), WriteFailed>

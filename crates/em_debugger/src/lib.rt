@@ -10,6 +10,7 @@ mod debugger;
 mod deeper;
 mod disk;
 mod effect;
+mod expected;
 mod files;
 mod history;
 mod listing;
@@ -26,3 +27,4 @@ mod why;
 
 pub use debugger::Debugger;
 pub use disk::{Disk, DiskFault};
+pub use expected::Score;

@@ -46,7 +46,7 @@ impl Debugger {
             × ListsPerformed self.now performed text) }
     {
         let mut answer = Vec::new(self.alloc);
-        self.write_explained(&mut answer, performed)?;
+        self.write_answered(&mut answer, performed)?;
         let line = text_of(&self.tape, performed.line);
         write_listed(writer, performed.line, line, answer.as_slice())
     }

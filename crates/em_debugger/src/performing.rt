@@ -12,6 +12,7 @@ ghost use Rattle.em_debugger.specs.Performing.{fault_text, warned_text};
 
 use crate::bench_looks::{answer_look, is_look};
 use crate::debugger::Debugger;
+use crate::expected::expect;
 use crate::place::{line_here, text_of};
 use em_explain::write_explained;
 use em_looks::{write_count, write_number, write_short};
@@ -35,9 +36,10 @@ impl Debugger {
         &mut self,
         writer: &mut W,
         line: BenchLine<'_>,
+        asked: &[u8],
     ) -> Result<(), WriteFailed>
         ensures ok { OnOk result ((text : List ℕ) × Appends (W.contents writer.old) (W.contents writer.new) text
-            × AnswersTyped self.old self.new (plain_line line.entry) text) }
+            × AnswersTyped self.old self.new (plain_line line.entry) asked.now text) }
     {
         let mut text = Vec::new(self.alloc);
         line.write(&mut text)?;
@@ -45,16 +47,21 @@ impl Debugger {
         if self.looks_back(line) {
             answer_look(writer, self.tape.machine(), text)
         } else {
-            self.perform_new(writer, text)
+            self.perform_new(writer, text, asked)
         }
     }
 
     /// Puts a line behind the place, performs it, and answers it.
-    fn perform_new<W: Write>(&mut self, writer: &mut W, text: &[u8]) -> Result<(), WriteFailed>
+    fn perform_new<W: Write>(
+        &mut self,
+        writer: &mut W,
+        text: &[u8],
+        asked: &[u8],
+    ) -> Result<(), WriteFailed>
         ensures ok { OnOk result ((said : List ℕ) × Appends (W.contents writer.old) (W.contents writer.new) said
-            × AnswersNew self.old self.new text.now said) }
+            × AnswersNew self.old self.new text.now asked.now said) }
     {
-        match self.add_typed(text) {
+        match self.add_typed(text, asked) {
             Ok(dropped) => self.perform_added(writer, dropped),
             Err(fault) => write_fault(writer, fault),
         }
@@ -85,14 +92,17 @@ impl Debugger {
         line < self.tape.len() || self.tape.event() != self.tape.end_of(line)
     }
 
-    /// Puts a line behind the place, and gives how many lines it dropped there.
-    fn add_typed(&mut self, text: &[u8]) -> Result<usize, BenchFault>
-        ensures ok { IfOk result (AddsLine self.old self.new text.now) }
+    /// Puts a line behind the place, which expects an answer or none, and gives how many lines it dropped there.
+    fn add_typed(&mut self, text: &[u8], asked: &[u8]) -> Result<usize, BenchFault>
+        ensures ok { IfOk result (AddsLine self.old self.new text.now asked.now) }
         ensures ahead { OnOk result (line_here self.new.tape < length self.new.tape.lines) }
     {
         let dropped = self.cut()?;
         self.tape.add(text)?;
-        Ok(dropped)
+        match expect(&mut self.wanted, self.tape.len(), asked) {
+            Ok(()) => Ok(dropped),
+            Err(_) => Err(BenchFault::Memory),
+        }
     }
 
     /// Drops the lines ahead of the place.
@@ -102,6 +112,7 @@ impl Debugger {
     {
         let dropped = self.tape.cut()?;
         self.told.keep(self.tape.len());
+        self.wanted.keep(self.tape.len());
         self.asked = None;
         Ok(dropped)
     }
@@ -119,7 +130,8 @@ impl Debugger {
         }
     }
 
-    /// Writes the answer of a line that was performed, why it did nothing, if it did, and its warnings.
+    /// Writes the answer of a line that was performed, why it did nothing, if it did, its warnings, and how
+    /// it differs from what the line expects.
     pub(crate) fn write_answered<W: Write>(
         &self,
         writer: &mut W,
@@ -131,7 +143,8 @@ impl Debugger {
         let machine = self.tape.machine();
         let line = text_of(&self.tape, performed.line);
         write_explained(self.alloc, writer, machine, line, self.answer.as_slice())?;
-        self.write_warned(writer, performed.line)
+        self.write_warned(writer, performed.line)?;
+        self.write_compared(writer, performed.line)
     }
 
     /// Writes the warnings of a line, if they are to be said.
@@ -142,7 +155,12 @@ impl Debugger {
             return Ok(());
         }
         let machine = self.tape.machine();
-        write_warnings(writer, machine, text_of(&self.tape, line), self.answer.as_slice())
+        write_warnings(
+            writer,
+            machine,
+            text_of(&self.tape, line),
+            self.answer.as_slice(),
+        )
     }
 
     /// Performs the line behind the place, and keeps its answer; none where no line lies ahead.
@@ -165,6 +183,7 @@ impl Debugger {
             Err(_) => return Err(BenchFault::Memory),
         };
         let line = line + 1;
+        self.count_answer(line);
         match self.told.note(line, self.answer.as_slice()) {
             Ok(()) => Ok(Some(Performed { line, outcome })),
             Err(_) => Err(BenchFault::Memory),

@@ -24,6 +24,7 @@ const DROPPED: &[u8; 7] = b"dropped";
 enum Stop {
     Refused,
     Dropped,
+    Differs,
     Line(usize),
     Changes(Watch),
 }
@@ -133,6 +134,7 @@ impl Debugger {
         match stop {
             Stop::Refused => matches!(performed.outcome, Outcome::Refused),
             Stop::Dropped => says_dropped(self.answer.as_slice()),
+            Stop::Differs => self.answers_otherwise(performed.line),
             Stop::Line(_) => false,
             Stop::Changes(watch) => self.is_changed(watch, before),
         }
@@ -190,6 +192,7 @@ fn stop_of(until: Until) -> Option<Stop>
     match until {
         Until::Refused => Some(Stop::Refused),
         Until::Dropped => Some(Stop::Dropped),
+        Until::Differs => Some(Stop::Differs),
         Until::Line(line) => Some(Stop::Line(line as usize)),
         Until::Changes(watch) => match watch_of(watch) {
             Some(watch) => Some(Stop::Changes(watch)),
@@ -205,6 +208,7 @@ fn write_missed<W: Write>(writer: &mut W, stop: Stop) -> Result<(), WriteFailed>
     match stop {
         Stop::Refused => write_whole(writer, b"none was refused\n"),
         Stop::Dropped => write_whole(writer, b"none was dropped\n"),
+        Stop::Differs => write_whole(writer, b"no answer differs\n"),
         Stop::Line(line) => write_number(writer, b"no line ", line as u64, b" lies ahead\n"),
         Stop::Changes(watch) => write_unchanged(writer, watch),
     }

@@ -1,9 +1,9 @@
-//! What the lines were answered.
+//! What the lines were answered, and other texts beside lines.
 ghost use Rattle.std.specs.Prelude.{◌≡◌, ◌<◌, OnOk, [], take, slice_get};
 ghost use Rattle.std.specs.Option.{option_map};
 ghost use Rattle.em_turn.specs.Planned.{lists};
 ghost use Rattle.em_tape.specs.Tape.{line_at};
-ghost use Rattle.em_debugger.specs.Told.{kept_of, told_of, Notes};
+ghost use Rattle.em_debugger.specs.Told.{kept_of, told_of, Notes, Puts};
 
 use em_text::next_line;
 use std::alloc::{AllocError, Global};
@@ -11,7 +11,7 @@ use std::alloc::{AllocError, Global};
 /// The most octets that are kept of an answer.
 const MOST_KEPT: usize = 64;
 
-/// By line, what is kept of its answer.
+/// By line, what is kept of its answer, or another text.
 #[derive(Drop)]
 pub(crate) struct Told {
     alloc: Global,
@@ -34,7 +34,15 @@ impl Told {
         requires { 0 < number }
         ensures ok { OnOk result (Notes number text.now (lists self.old.answers.items) (lists self.new.answers.items)) }
     {
-        let kept = kept_of(text).to_vec(self.alloc)?;
+        self.put(number, kept_of(text))
+    }
+
+    /// Puts a text beside the line of this number, from 1.
+    pub(crate) fn put(&mut self, number: usize, text: &[u8]) -> Result<(), AllocError>
+        requires { 0 < number }
+        ensures ok { OnOk result (Puts number text.now (lists self.old.answers.items) (lists self.new.answers.items)) }
+    {
+        let kept = text.to_vec(self.alloc)?;
         while self.answers.len() < number {
             self.answers.push(Vec::new(self.alloc))?;
         }

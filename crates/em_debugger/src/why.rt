@@ -29,7 +29,10 @@ impl Debugger {
             × TellsWhy self.now text) }
     {
         match self.newest_undone(line_here(&self.tape)) {
-            0 => write_whole(writer, b"no step was idle, no frame dropped, nothing refused\n"),
+            0 => write_whole(
+                writer,
+                b"no step was idle, no frame dropped, nothing refused\n",
+            ),
             line => self.why_of(writer, line),
         }
     }
@@ -74,12 +77,7 @@ impl Debugger {
     }
 
     /// Tells of a line, over a tape that stands behind it.
-    fn why_at<W: Write>(
-        &self,
-        writer: &mut W,
-        tape: &Tape,
-        line: usize,
-    ) -> Result<(), WriteFailed>
+    fn why_at<W: Write>(&self, writer: &mut W, tape: &Tape, line: usize) -> Result<(), WriteFailed>
         ensures ok { OnOk result ((text : List ℕ) × Appends (W.contents writer.old) (W.contents writer.new) text
             × TellsWhyAt self.now tape.now line text) }
     {

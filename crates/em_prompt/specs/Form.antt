@@ -105,6 +105,5 @@ form_of command.Frame behind = of_kinds 0 (Number Index ∷ [])
 form_of command.Memory behind = of_kinds 2 (Address ∷ Number Peeked ∷ [])
 form_of command.Why behind = of_kinds 0 []
 form_of command.Warnings behind = of_kinds 1 (Choice Switch ∷ [])
-form_of command.Auto behind = of_kinds 1 (Choice Switch ∷ [])
 form_of command.Help behind = of_kinds 0 (Name ∷ [])
 form_of command.Quit behind = of_kinds 0 []

@@ -40,7 +40,6 @@ help_of command.Frame = codes "frame [I]: shows the frames in the adapter, or fr
 help_of command.Memory = codes "memory ADDR LEN: shows guest memory in lines"
 help_of command.Why = codes "why: the rule by which the newest event did nothing, and who set what it looked at"
 help_of command.Warnings = codes "warnings on|off: says what drivers get wrong, or does not"
-help_of command.Auto = codes "auto on|off: receives and transmits by itself behind each line, or does not"
 help_of command.Help = codes "help [COMMAND]: shows this"
 help_of command.Quit = codes "quit: ends the session"
 

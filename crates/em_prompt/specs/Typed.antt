@@ -54,7 +54,6 @@ pub data Typed : Type 0 where
   memory : ℕ → ℕ → Typed
   why : Typed
   warnings : Bool → Typed
-  auto : Bool → Typed
   help : Option Command → Typed
   quit : Typed
 
@@ -83,7 +82,6 @@ plain (lent.Frame n) = frame n
 plain (lent.Memory addr len) = memory addr len
 plain lent.Why = why
 plain (lent.Warnings on) = warnings on
-plain (lent.Auto on) = auto on
 plain (lent.Help command) = help command
 plain lent.Quit = quit
 
@@ -153,7 +151,6 @@ says command.Memory behind rest =
     memory (value_or 0 (hex_address_in behind.first)) (number_or 0 behind.second)
 says command.Why behind rest = why
 says command.Warnings behind rest = warnings (bytes_eq behind.first (codes "on"))
-says command.Auto behind rest = auto (bytes_eq behind.first (codes "on"))
 says command.Help behind rest = help (command_of behind.first)
 says command.Quit behind rest = quit
 says command behind rest = line (record { command = command; rest = rest })

@@ -42,21 +42,20 @@ pub enum Command {
     Memory,
     Why,
     Warnings,
-    Auto,
     Help,
     Quit,
 }
 
 /// All of them, as the help shows them.
 #[rattlefmt::skip]
-pub(crate) static COMMANDS: [Command; 37] = [
+pub(crate) static COMMANDS: [Command; 36] = [
     Command::Read, Command::Write, Command::Poke, Command::Peek, Command::Arrive, Command::Rx,
     Command::Tx, Command::Link, Command::Line, Command::Regs, Command::Wire, Command::Init,
     Command::Send, Command::Recv, Command::Stats, Command::Mac, Command::Turns, Command::Look,
     Command::Who, Command::Back, Command::Forward, Command::Goto, Command::Next, Command::Run,
     Command::Load, Command::Save, Command::SaveOver, Command::History, Command::Effect,
     Command::Ring, Command::Frame, Command::Memory, Command::Why, Command::Warnings,
-    Command::Auto, Command::Help, Command::Quit,
+    Command::Help, Command::Quit,
 ];
 
 impl Command {
@@ -99,7 +98,6 @@ impl Command {
             Command::Memory => "memory",
             Command::Why => "why",
             Command::Warnings => "warnings",
-            Command::Auto => "auto",
             Command::Help => "help",
             Command::Quit => "quit",
         }

@@ -57,7 +57,7 @@ impl Command {
             Command::Effect => Form::Words(0, &[Kind::Number(Number::Event)]),
             Command::Ring => Form::Words(1, &[Kind::Choice(Choice::Side)]),
             Command::Frame => Form::Words(0, &[Kind::Number(Number::Index)]),
-            Command::Warnings | Command::Auto => Form::Words(1, &[Kind::Choice(Choice::Switch)]),
+            Command::Warnings => Form::Words(1, &[Kind::Choice(Choice::Switch)]),
             Command::Help => Form::Words(0, &[Kind::Name]),
         }
     }

@@ -82,8 +82,6 @@ impl Command {
             Command::Why =>
                 "why: the rule by which the newest event did nothing, and who set what it looked at",
             Command::Warnings => "warnings on|off: says what drivers get wrong, or does not",
-            Command::Auto =>
-                "auto on|off: receives and transmits by itself behind each line, or does not",
             Command::Help => "help [COMMAND]: shows this",
             Command::Quit => "quit: ends the session",
         }

@@ -88,8 +88,6 @@ pub enum Typed<'a> {
     Why,
     /// Say what drivers get wrong, or do not.
     Warnings(bool),
-    /// Let the engines step by themselves, or do not.
-    Auto(bool),
     /// The help, whole or for one command.
     Help(Option<Command>),
     Quit,
@@ -120,7 +118,6 @@ pub(crate) fn says<'a>(command: Command, behind: &Behind<'_>, words: Words<'a>) 
         ),
         Command::Why => Typed::Why,
         Command::Warnings => Typed::Warnings(is_name(behind.first, b"on")),
-        Command::Auto => Typed::Auto(is_name(behind.first, b"on")),
         Command::Help => Typed::Help(Command::of(behind.first)),
         Command::Quit => Typed::Quit,
         _ => Typed::Line(BenchLine { command, words }),

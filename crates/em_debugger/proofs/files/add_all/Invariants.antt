@@ -1,10 +1,16 @@
-use Rattle.std.proofs.Common.{length}
-use Rattle.em_debugger.proofs.FilesLaws.{AddedSo}
+use Rattle.std.proofs.Common.{◌+◌, length}
+use Rattle.em_turn.specs.Planned.{lists}
+use Rattle.em_debugger.proofs.FilesLaws.{AddedSo, ExpectedSo}
 use Rattle.em_debugger.proofs.files.add_all.Given as goal
 
--- the lines of the text were added as far as the rest
+-- the lines of the text were added as far as the rest, with the answers that they expect
 abbrev pub invariant-loop-rest : goal.invariant-loop-rest
-invariant-loop-rest l = AddedSo l.fn.tape l.tape l.fn.text l.rest
+invariant-loop-rest l =
+    record {
+      added : AddedSo l.fn.tape l.tape l.fn.text l.rest;
+      expected : ExpectedSo (length l.fn.tape.lines + 1) (length l.tape.lines + 1)
+          (lists l.fn.wanted.answers.items) (lists l.wanted.answers.items) l.fn.text l.rest;
+    }
 
 abbrev pub decreases-loop-rest : goal.decreases-loop-rest
 decreases-loop-rest l = length l.rest

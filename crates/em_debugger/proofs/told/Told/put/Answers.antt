@@ -2,7 +2,7 @@ use Rattle.std.proofs.Common.{◌∙◌, ◌-◌, ap, arith}
 use Rattle.em_turn.specs.Planned.{lists}
 use Rattle.em_debugger.specs.Told.{told_of}
 use Rattle.em_debugger.proofs.ToldLaws.{told-pushed, told-set, told-others}
-use Rattle.em_debugger.proofs.told.Told.note.Goals as goal
+use Rattle.em_debugger.proofs.told.Told.put.Goals as goal
 
 pub returns : goal.returns
 returns c = record {
