@@ -15,7 +15,8 @@ use Rattle.em_debugger.specs.declared.performing.Performed.{Performed}
 use Rattle.em_debugger.specs.declared.played.Played.{Played}
 use Rattle.em_debugger.specs.Performing.{Performs}
 use Rattle.em_debugger.specs.Place.{line_of, line_here}
-use Rattle.em_debugger.specs.Played.{is_wrong, wrong_ones, counted, CountsUp, PlayedTo, PlaysAll}
+use Rattle.em_debugger.specs.Counted.{counted}
+use Rattle.em_debugger.specs.Played.{is_wrong, wrong_ones, CountsUp, PlayedTo, PlaysAll}
 
 -- ---- counting
 

@@ -7,7 +7,7 @@ use Rattle.em_expect.specs.Expectation.{expected_in}
 use Rattle.em_debugger.specs.declared.debugger.Debugger.{Debugger}
 use Rattle.em_debugger.specs.declared.expected.Score.{Score}
 use Rattle.em_debugger.specs.Place.{text_of}
-use Rattle.em_debugger.specs.Played.{counted}
+use Rattle.em_debugger.specs.Counted.{counted}
 use Rattle.em_debugger.specs.Told.{Puts, told_of}
 
 -- the answer that a line expects, by its number; where it expects none, no octet

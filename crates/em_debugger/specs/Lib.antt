@@ -1,5 +1,6 @@
 pub mod Answering
 pub mod BenchLooks
+pub mod Counted
 pub mod Debugger
 pub mod Deeper
 pub mod Effect

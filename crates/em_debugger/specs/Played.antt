@@ -1,5 +1,5 @@
 -- Lines that are played without their answers, and what is said of them all.
-use Rattle.std.specs.Prelude.{◌≡◌, ℕ, ◌-◌, min, nat_lt, Bool, true, false, if◌then◌else◌}
+use Rattle.std.specs.Prelude.{◌≡◌, ℕ, ◌-◌, nat_lt, Bool, true, false, if◌then◌else◌}
 use Rattle.std.specs.Prelude.{slice_get}
 use Rattle.std.specs.Prelude.{List, [], ◌++◌, codes, length, filter, Option, Some, None}
 use Rattle.em_console.specs.Turns.{Leads}
@@ -10,6 +10,7 @@ use Rattle.em_looks.specs.Numbers.{number_text, count_text}
 use Rattle.em_debugger.specs.declared.debugger.Debugger.{Debugger}
 use Rattle.em_debugger.specs.declared.performing.Performed.{Performed}
 use Rattle.em_debugger.specs.declared.played.Played.{Played}
+use Rattle.em_debugger.specs.Counted.{counted}
 use Rattle.em_debugger.specs.Debugger.{told}
 use Rattle.em_debugger.specs.Performing.{Performs, IsLast, fault_text}
 
@@ -25,10 +26,6 @@ is_wrong performed = is_wrong_outcome performed.outcome
 -- those of some lines
 abbrev pub wrong_ones : List Performed → List Performed
 wrong_ones lines = filter is_wrong lines
-
--- a number as it is counted in 64 bits
-abbrev pub counted : ℕ → ℕ
-counted n = min n 0xFFFF_FFFF_FFFF_FFFF
 
 -- how many these lines are, the first of them that is wrong, and how many more are
 pub record CountsUp (lines : List Performed) (played : Played) : Type 0 where
