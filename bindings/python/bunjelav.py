@@ -385,12 +385,13 @@ class Machine:
         _must(_library.em_poke(self._at, address, bytes(octets), len(octets)))
 
     def sync_out(self, ram: bytearray) -> None:
-        """Makes a bytearray what guest memory is; it has to be as large."""
+        """Makes a bytearray what guest memory is; it has to be as large. Octets that are the same are not written."""
         _must(_library.em_sync_out(self._at, (ctypes.c_uint8 * len(ram)).from_buffer(ram), len(ram)))
 
     def sync_in(self, ram: bytearray) -> int:
-        """Makes guest memory what a bytearray is, which has to be as large, by memory writes of what differs: at most
-        one in each page of 4,096 octets. Gives how many. Where the host refuses memory, the writes before stay."""
+        """Makes guest memory what a bytearray is, which has to be as large, by a memory write in each page of 4,096
+        octets that differs: from its first octet that differs to its last. Gives how many. Where the host refuses memory,
+        the writes before stay."""
         writes = SIZE_T()
         octets = (ctypes.c_uint8 * len(ram)).from_buffer(ram)
         _must(_library.em_sync_in(self._at, octets, len(ram), ctypes.byref(writes)))

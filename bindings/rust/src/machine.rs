@@ -78,13 +78,14 @@ impl Machine {
         Ok(count)
     }
 
-    /// Makes `ram` what guest memory is; it has to be as large.
+    /// Makes `ram` what guest memory is; it has to be as large. Octets that are the same already are not written.
     pub fn sync_out(&mut self, ram: &mut [u8]) -> Result<(), Refusal> {
         told(unsafe { raw::em_sync_out(&mut self.handle, ram.as_mut_ptr(), ram.len()) }, ())
     }
 
-    /// Makes guest memory what `ram` is, which has to be as large, by memory writes of what differs: at most one in
-    /// each page of 4,096 octets. Gives how many. Where the host refuses memory, the writes before stay.
+    /// Makes guest memory what `ram` is, which has to be as large, by a memory write in each page of 4,096 octets that
+    /// differs: from its first octet that differs to its last. Gives how many. Where the host refuses memory, the writes
+    /// before stay.
     pub fn sync_in(&mut self, ram: &[u8]) -> Result<usize, Refusal> {
         let mut writes = 0;
         told(unsafe { raw::em_sync_in(&mut self.handle, ram.as_ptr(), ram.len(), &mut writes) }, ())?;
