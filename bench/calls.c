@@ -1,5 +1,5 @@
-/* Measures calls of the C library, in nanoseconds of processor time each, over ten million of them (of those that go over
-   all memory, over a hundred thousand).
+/* Measures calls of the C library, in nanoseconds of processor time each, over ten million of them (of those that go
+   over all memory, over a hundred thousand).
 
        cc -O2 -Idist/x86_64-linux bench/calls.c dist/x86_64-linux/libbunjelav.a -o calls && ./calls
 

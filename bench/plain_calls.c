@@ -1,6 +1,6 @@
-/* A plain, unproved stand-in for the calls that bench/calls.c measures, to be linked in the place of the library. It keeps
-   what a step back needs, as the library promises it: of each event what it changed and a note with the caller's tag, as
-   many as the budget holds. It knows the registers that only store, ICR, IMS and memory; no frames, and no engines.
+/* A plain, unproved stand-in for the calls that bench/calls.c measures, to be linked in the place of the library. It
+   keeps what a step back needs, as the library promises it: of each event what it changed and a note with the caller's
+   tag, as many as the budget holds. It knows registers that only store, ICR, IMS and memory; no frames, and no engines.
 
        cc -O2 -Idist/x86_64-linux bench/calls.c bench/plain_calls.c -o plain && ./plain */
 #include "bunjelav.h"
@@ -95,7 +95,8 @@ uint32_t em_poke(em_machine *machine, uint64_t address, const uint8_t *octets, s
   if (kept == NULL) return EM_MEMORY;
   memcpy(kept, p->memory + address, length);
   memcpy(p->memory + address, octets, length);
-  *next(p) = (struct record){(uint32_t)address, (uint32_t)length, kept, {p->tag, address, (uint32_t)length, 0, EM_POKE}};
+  const em_note note = {p->tag, address, (uint32_t)length, 0, EM_POKE};
+  *next(p) = (struct record){(uint32_t)address, (uint32_t)length, kept, note};
   return EM_OK;
 }
 

@@ -390,8 +390,8 @@ class Machine:
 
     def sync_in(self, ram: bytearray) -> int:
         """Makes guest memory what a bytearray is, which has to be as large, by a memory write in each page of 4,096
-        octets that differs: from its first octet that differs to its last. Gives how many. Where the host refuses memory,
-        the writes before stay.
+        octets that differs: from its first octet that differs to its last. Gives how many. Where the host refuses
+        memory, the writes before stay.
 
         Around each access of a driver that keeps its rings in memory of its own:
 

@@ -167,8 +167,8 @@ static void syncs(void) {
   em_free(&machine);
 }
 
-/* What is the same already is not written: pages of the host that hold nothing else are locked. Memory begins in the middle
-   of such a page, so that each page of guest memory lies in two of them. */
+/* What is the same already is not written: pages of the host that hold nothing else are locked. Memory begins in the
+   middle of such a page, so that each page of guest memory lies in two of them. */
 static void syncs_out_what_differs(void) {
   em_machine machine = made();
   enum { PAGE = 4096, HALF = PAGE / 2, FIRST = 5 * PAGE, LAST = 9 * PAGE - 1 };

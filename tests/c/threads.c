@@ -1,6 +1,6 @@
-/* Machines and threads: one machine that goes from thread to thread, one machine for each of several threads, and several
-   machines that several threads take under locks, all at the same time. What they give was worked out from the manual's
-   tables. The last line is `N passed, M failed`; a second word is the number of rounds (1,000). */
+/* Machines and threads: one machine that goes from thread to thread, one machine for each of several threads, and
+   several machines that several threads take under locks, all at the same time. What they give was worked out from the
+   manual's tables. The last line is `N passed, M failed`; a second word is the number of rounds (1,000). */
 #define _POSIX_C_SOURCE 200809L
 #include "bunjelav.h"
 

@@ -84,15 +84,15 @@ impl Machine {
     }
 
     /// Makes guest memory what `ram` is, which has to be as large, by a memory write in each page of 4,096 octets that
-    /// differs: from its first octet that differs to its last. Gives how many. Where the host refuses memory, the writes
-    /// before stay.
+    /// differs: from its first octet that differs to its last. Gives how many. Where the host refuses memory, the
+    /// writes before stay.
     ///
     /// Around each access of a driver that keeps its rings in memory of its own:
     ///
     /// ```
     /// # use bunjelav::{offset_of, Kind, Machine, Refusal, Watch};
-    /// /// Writes a register; before it the adapter sees what the driver wrote, behind it the driver sees what the adapter
-    /// /// wrote. What the driver wrote since its last access gets the line of this one as its tag.
+    /// /// Writes a register; before it the adapter sees what the driver wrote, behind it the driver sees what the
+    /// /// adapter wrote. What the driver wrote since its last access gets the line of this one as its tag.
     /// fn write(m: &mut Machine, ram: &mut [u8], line: u32, register: &str, value: u32) -> Result<(), Refusal> {
     ///     m.tag(u64::from(line));
     ///     m.sync_in(ram)?;
