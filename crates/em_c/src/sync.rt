@@ -157,6 +157,7 @@ fn sync_page(machine: &mut Tagged, at: usize, new: &[u8]) -> Result<usize, Refus
     ensures performs { OnOk result (PerformsAll (rewrites machine.old at new.now) machine.old machine.new) }
     ensures memory { OnOk result (memory_of machine.new ≡ put (memory_of machine.old) at new.now) }
     ensures wanting { OnErr result (IsWanting machine.old (rewrites machine.old at new.now)) }
+    ensures only { IfErr result (λ refused. refused ≡ Refused.Memory) }
     ensures same { OnErr result (machine.new ≡ machine.old) }
 {
     let mut page = [0u8; PAGE];
@@ -180,6 +181,7 @@ fn write(machine: &mut Tagged, at: usize, octets: &[u8]) -> Result<(), Refused>
     ensures performs { OnOk result (PerformsOne (pokes at octets.now) machine.old machine.new) }
     ensures memory { OnOk result (memory_of machine.new ≡ put (memory_of machine.old) at octets.now) }
     ensures wanting { OnErr result (Refuses (present_of machine.old) (pokes at octets.now) event.Memory) }
+    ensures only { IfErr result (λ refused. refused ≡ Refused.Memory) }
     ensures same { OnErr result (machine.new ≡ machine.old) }
 {
     match machine.perform(Event::Poke(at as u64, octets)) {
