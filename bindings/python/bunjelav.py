@@ -385,12 +385,34 @@ class Machine:
         _must(_library.em_poke(self._at, address, bytes(octets), len(octets)))
 
     def sync_out(self, ram: bytearray) -> None:
-        """Makes a bytearray what guest memory is; it has to be as large."""
+        """Makes a bytearray what guest memory is; it has to be as large. Octets that are the same are not written."""
         _must(_library.em_sync_out(self._at, (ctypes.c_uint8 * len(ram)).from_buffer(ram), len(ram)))
 
     def sync_in(self, ram: bytearray) -> int:
-        """Makes guest memory what a bytearray is, which has to be as large, by memory writes of what differs: at most
-        one in each page of 4,096 octets. Gives how many. Where the host refuses memory, the writes before stay."""
+        """Makes guest memory what a bytearray is, which has to be as large, by a memory write in each page of 4,096
+        octets that differs: from its first octet that differs to its last. Gives how many. Where the host refuses
+        memory, the writes before stay.
+
+        Around each access of a driver that keeps its rings in memory of its own:
+
+        >>> m, ram = Machine(), bytearray(65536)
+        >>> m.link = True
+        >>> def write(register, value):
+        ...     m.sync_in(ram)                    # the adapter sees what the driver wrote
+        ...     m.write(register, value)
+        ...     m.run()
+        ...     m.sync_out(ram)                   # the driver sees what the adapter wrote
+        >>> ram[0x1000:0x1008] = (0x4000).to_bytes(8, "little")   # descriptor 0 gets its buffer
+        >>> for register, value in ("RDBAL", 0x1000), ("RDLEN", 128), ("RDT", 1), ("RCTL", 0x8002):
+        ...     write(register, value)
+        >>> m.arrive(bytes([0xFF] * 6) + bytes(54)).kind
+        'stored'
+        >>> write("RDT", 1)
+        >>> ram[0x100C] & 1                       # DD: the adapter is done with it
+        1
+        >>> m.last_change(slice(0x1008, 0x1010)).event.kind
+        'wrote'
+        """
         writes = SIZE_T()
         octets = (ctypes.c_uint8 * len(ram)).from_buffer(ram)
         _must(_library.em_sync_in(self._at, octets, len(ram), ctypes.byref(writes)))

@@ -1,5 +1,6 @@
 """Each call of the Python binding once, and each refusal: what they give was worked out from the manual's tables."""
 import copy
+import doctest
 import unittest
 
 import bunjelav
@@ -130,6 +131,12 @@ class MemoryAndFrames(unittest.TestCase):
         for _ in range(3):
             m.arrive(FRAME)
         self.assertEqual((m.run(), m.run(), m.RDH), (3, 0, 3))
+
+
+class Docs(unittest.TestCase):
+    def test_the_examples(self):
+        tried = doctest.testmod(bunjelav)
+        self.assertEqual((tried.failed, tried.attempted > 5), (0, True))
 
 
 class Back(unittest.TestCase):

@@ -78,13 +78,52 @@ impl Machine {
         Ok(count)
     }
 
-    /// Makes `ram` what guest memory is; it has to be as large.
+    /// Makes `ram` what guest memory is; it has to be as large. Octets that are the same already are not written.
     pub fn sync_out(&mut self, ram: &mut [u8]) -> Result<(), Refusal> {
         told(unsafe { raw::em_sync_out(&mut self.handle, ram.as_mut_ptr(), ram.len()) }, ())
     }
 
-    /// Makes guest memory what `ram` is, which has to be as large, by memory writes of what differs: at most one in
-    /// each page of 4,096 octets. Gives how many. Where the host refuses memory, the writes before stay.
+    /// Makes guest memory what `ram` is, which has to be as large, by a memory write in each page of 4,096 octets that
+    /// differs: from its first octet that differs to its last. Gives how many. Where the host refuses memory, the
+    /// writes before stay.
+    ///
+    /// Around each access of a driver that keeps its rings in memory of its own:
+    ///
+    /// ```
+    /// # use bunjelav::{offset_of, Kind, Machine, Refusal, Watch};
+    /// /// Writes a register; before it the adapter sees what the driver wrote, behind it the driver sees what the
+    /// /// adapter wrote. What the driver wrote since its last access gets the line of this one as its tag.
+    /// fn write(m: &mut Machine, ram: &mut [u8], line: u32, register: &str, value: u32) -> Result<(), Refusal> {
+    ///     m.tag(u64::from(line));
+    ///     m.sync_in(ram)?;
+    ///     m.write(offset_of(register)?, value)?;
+    ///     m.run_rx(usize::MAX)?;
+    ///     m.sync_out(ram)
+    /// }
+    ///
+    /// # fn main() -> Result<(), Refusal> {
+    /// let mut m = Machine::new(65_536, 1 << 20, [0x52, 0x54, 0x00, 0x12, 0x34, 0x56])?;
+    /// m.set_link(true)?;
+    /// let mut ram = vec![0; 65_536];
+    /// ram[0x1000..0x1008].copy_from_slice(&0x4000u64.to_le_bytes()); // descriptor 0 gets its buffer
+    /// for (register, value) in [("RDBAL", 0x1000), ("RDLEN", 128), ("RDT", 1), ("RCTL", 0x8002)] {
+    ///     write(&mut m, &mut ram, line!(), register, value)?;
+    /// }
+    /// let mut frame = [7; 60];
+    /// frame[..6].fill(0xFF);
+    /// m.arrive(&frame)?;
+    /// write(&mut m, &mut ram, line!(), "RDT", 1)?;
+    /// assert_eq!(ram[0x100C] & 1, 1); // DD: the adapter is done with it
+    /// assert_eq!(ram[0x4000..0x403C], frame);
+    ///
+    /// // what descriptor 0 held before the adapter wrote its status, and who had written that
+    /// let change = m.last_change(Watch::Octets(0x1008, 8))?.expect("the adapter wrote it");
+    /// m.back(change.back);
+    /// let change = m.last_change(Watch::Octets(0x1000, 8))?.expect("the driver wrote it");
+    /// assert_eq!(m.event(change.back - 1)?.kind, Kind::Poke);
+    /// # Ok(())
+    /// # }
+    /// ```
     pub fn sync_in(&mut self, ram: &[u8]) -> Result<usize, Refusal> {
         let mut writes = 0;
         told(unsafe { raw::em_sync_in(&mut self.handle, ram.as_ptr(), ram.len(), &mut writes) }, ())?;

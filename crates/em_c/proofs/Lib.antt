@@ -2,4 +2,5 @@ pub mod BoxForm
 pub mod TrailBack
 pub mod RunLaws
 pub mod RegisterLaws
+pub mod DifferenceLaws
 pub mod SyncLaws

@@ -1,114 +1,193 @@
 -- Memory writes of what differs in a page, page by page.
-use Rattle.std.proofs.Common.{◌≡◌, ℕ, ◌+◌, ◌-◌, ◌≤◌, ◌++◌, zero, suc, List, length, take, drop, sym, ap, ◌∙◌, subst}
-use Rattle.std.proofs.Common.{arith, length-take, take-add}
-use Rattle.std.specs.Prelude.{Result, Ok, Err, OnOk, min}
-use Rattle.std.proofs.lemmas.List.{take_at, take-take, take_min, drop-drop, drop-take, length-take-le, take-append-drop}
-use Rattle.em_mem.specs.Memory.{IsHeld, part, put}
-use Rattle.em_mem.proofs.PutLaws.{length-part, part-put, part_past-put}
-use Rattle.em_c.specs.Sync.{RewritesBy}
+use Rattle.std.proofs.Common.{◌≡◌, ℕ, ◌+◌, ◌-◌, ◌≤◌, ◌<◌, ◌++◌, suc, List, [], ◌∷◌, length, take, drop, sym, ap, ◌∙◌, subst, refl}
+use Rattle.std.proofs.Common.{arith, rules, length-take, length-append, length-drop, take-add}
+use Rattle.std.proofs.lemmas.List.{take_at, drop_at, take-take, drop-drop, length-take-le, take-append-drop, drop-append-le, append_assoc}
+use Rattle.em_mem.specs.Memory.{part, put}
+use Rattle.std.proofs.Common.{min, inl, inr}
+use Rattle.std.proofs.lemmas.Bool.{lt-ltb, le-ltb, cases_lt}
+use Rattle.std.proofs.lemmas.List.{take_min}
+use Rattle.em_mem.proofs.PutLaws.{length-part, length-put, drop_past-put}
+use Rattle.em_step.specs.Event.{Event, pokes}
+use Rattle.em_c.specs.Difference.{same_at_head, up_to_last}
+use Rattle.em_c.specs.Sync.{IsWanting, PerformsAll, run_writes, page_writes, writes_from, pages}
 use Rattle.em_c.specs.declared.tagged.Tagged.{Tagged}
+use Rattle.em_c.proofs.DifferenceLaws.{last_none}
 
--- what follows where nothing was refused
-pub on_ok : {X E P Q : Type 0} (r : Result X E) → (P → Q) → OnOk r P → OnOk r Q
-on_ok (Ok x) f p = f p
-on_ok (Err e) f p = tt
+-- what lies up to the end of a write
+pub take_end-put : (m : List ℕ) (a : ℕ) (d : List ℕ) → a ≤ length m → take (a + length d) (put m a d) ≡ take a m ++ d
+take_end-put m a d within =
+    let front : length (take a m) ≡ a = length-take-le a m within in
+    let size : length (take a m ++ d) ≡ a + length d = length-append (take a m) d ∙ ap (λ k. k + length d) front in
+    ap (take (a + length d)) (sym (append_assoc (take a m) d (drop (a + length d) m)))
+    ∙ take_at (take a m ++ d) (drop (a + length d) m) (a + length d) size
 
--- some writes, and others after them
-pub rewrites_more : (k l : ℕ) (ram : List ℕ) (t u w : Tagged) → RewritesBy k ram t u → RewritesBy l ram u w
-    → RewritesBy (k + l) ram t w
-rewrites_more zero l ram t u w same rest =
-    let none : l ≡ 0 + l = omega arith in
-    subst (λ n. RewritesBy n ram t w) none (subst (λ x. RewritesBy l ram x w) same rest)
-rewrites_more (suc k) l ram t u w (m, first, more) rest =
-    let one : suc (k + l) ≡ suc k + l = omega arith in
-    subst (λ n. RewritesBy n ram t w) one (m, first, rewrites_more k l ram m u w more rest)
+-- octets that are there already
+pub put_same : (m : List ℕ) (a : ℕ) (d : List ℕ) → part m a (length d) ≡ d → put m a d ≡ m
+put_same m a d same =
+    ap (λ x. take a m ++ x)
+    ((λ i. sym same i ++ sym (drop-drop (length d) a m) i) ∙ take-append-drop (length d) (drop a m))
+    ∙ take-append-drop a m
 
--- ---- a page
+-- head, what is between them, and tail
+pub three_pieces : (xs : List ℕ) (f e : ℕ) → f ≤ e → take f xs ++ (part xs f (e - f) ++ drop e xs) ≡ xs
+three_pieces xs f e le =
+    let whole : f + (e - f) ≡ e = omega arith in
+    let rest : drop (e - f) (drop f xs) ≡ drop e xs = drop-drop (e - f) f xs ∙ ap (λ k. drop k xs) whole in
+    ap (λ y. take f xs ++ (part xs f (e - f) ++ y)) (sym rest)
+    ∙ ap (λ y. take f xs ++ y) (take-append-drop (e - f) (drop f xs)) ∙ take-append-drop f xs
 
--- what was read has as many octets as were asked for, where there are so many
+-- the end of a part, and what lies behind it
+drop_in : (m : List ℕ) (a n e : ℕ) → e ≤ n → a + n ≤ length m → drop (a + e) m ≡ drop e (part m a n) ++ drop (a + n) m
+drop_in m a n e le held =
+    let size : length (part m a n) ≡ n = length-part m a n held in
+    sym (drop-drop e a m) ∙ ap (drop e) (sym (take-append-drop n (drop a m)))
+    ∙ drop-append-le e (part m a n) (drop n (drop a m)) (omega (arith, size))
+    ∙ ap (λ y. drop e (part m a n) ++ y) (drop-drop n a m)
+
+-- of octets whose head and tail are there already, what lies between is enough
+pub put_between : (m d : List ℕ) (a f e : ℕ) → a + length d ≤ length m → f ≤ e → e ≤ length d
+    → take f (part m a (length d)) ≡ take f d → drop e (part m a (length d)) ≡ drop e d
+    → put m (a + f) (part d f (e - f)) ≡ put m a d
+put_between m d a f e held le most head tail =
+    let rest : List ℕ = drop (a + length d) m in
+    let mid : List ℕ = part d f (e - f) in
+    let long : length mid ≡ e - f = length-part d f (e - f) (omega arith) in
+    let place : a + f + length mid ≡ a + e = omega (arith, long) in
+    let front : take (a + f) m ≡ take a m ++ take f d
+    = take-add a f m ∙ ap (λ y. take a m ++ y) (sym (take-take f (length d) (drop a m) (omega arith)) ∙ head) in
+    let back : drop (a + f + length mid) m ≡ drop e d ++ rest
+    = ap (λ k. drop k m) place ∙ drop_in m a (length d) e most held ∙ ap (λ y. y ++ rest) tail in
+    (λ i. front i ++ (mid ++ back i))
+    ∙ append_assoc (take a m) (take f d) (mid ++ (drop e d ++ rest))
+    ∙ ap (λ y. take a m ++ (take f d ++ y)) (sym (append_assoc mid (drop e d) rest))
+    ∙ ap (λ y. take a m ++ y) (sym (append_assoc (take f d) (mid ++ drop e d) rest)
+    ∙ ap (λ y. y ++ rest) (three_pieces d f e le))
+
+-- ---- lists that are done from their head on
+
+pub take_next : {X : Type 0} (all p r : List X) (c : ℕ) → c ≤ length all → drop c all ≡ p ++ r
+    → take (c + length p) all ≡ take c all ++ p
+take_next all p r c within is =
+    take-add c (length p) all ∙ ap (λ y. take c all ++ take (length p) y) is
+    ∙ ap (λ y. take c all ++ y) (take_at p r (length p) refl)
+
+pub drop_next : {X : Type 0} (all p r : List X) (c : ℕ) → drop c all ≡ p ++ r → drop (c + length p) all ≡ r
+drop_next all p r c is =
+    sym (drop-drop (length p) c all) ∙ ap (drop (length p)) is ∙ drop_at p r (length p) refl
+
+-- ---- the writes of a page
+
+-- none, where nothing differs
+pub no_writes : (at : ℕ) (old new : List ℕ) → old ≡ new → page_writes at old new ≡ []
+no_writes at old new same =
+    let none : up_to_last old new ≡ 0 = ap (λ x. up_to_last x new) same ∙ last_none new in
+    ap (run_writes at new (same_at_head old new)) none ∙ rw (le-ltb (same_at_head old new) 0 (omega arith)) refl
+
+-- one, where the first that differs lies before the end of the last
+pub one_write : (at : ℕ) (old new : List ℕ) (f e : ℕ) → f ≡ same_at_head old new → e ≡ up_to_last old new → f < e
+    → page_writes at old new ≡ pokes (at + f) (part new f (e - f)) ∷ []
+one_write at old new f e first last lt =
+    (λ i. run_writes at new (sym first i) (sym last i)) ∙ rw (lt-ltb f e lt) refl
+
+-- ---- page by page
+
+pages_step : (n : ℕ) → 0 < n → pages n ≡ suc (pages (n - 4096))
+pages_step n some = omega arith
+
+-- those behind a page
+from_rest : (m w : List ℕ) (at k : ℕ) → at < length w → k ≡ min 4096 (length w - at)
+    → writes_from (pages (length w - at - 4096)) (at + 4096) (drop 4096 (drop at m)) (drop 4096 (drop at w))
+    ≡ writes_from (pages (length w - (at + k))) (at + k) (drop (at + k) m) (drop (at + k) w)
+unfolding writes_from
+from_rest m w at k inside is = elim (cases_lt (length w - at) 4096) [
+  | inl short ↦
+      let no_more : pages (length w - at - 4096) ≡ 0 = omega (arith, short) in
+      let at_end : pages (length w - (at + k)) ≡ 0 = omega (arith, short, is) in
+      ap (λ j. writes_from j (at + 4096) (drop 4096 (drop at m)) (drop 4096 (drop at w))) no_more
+      ∙ sym (ap (λ j. writes_from j (at + k) (drop (at + k) m) (drop (at + k) w)) at_end)
+  | inr long ↦
+      let whole : 4096 ≡ k = omega (arith, long, is) in
+      let left : length w - at - 4096 ≡ length w - (at + k) = omega (arith, whole) in
+      let behind_m : drop 4096 (drop at m) ≡ drop (at + k) m
+      = drop-drop 4096 at m ∙ ap (λ j. drop (at + j) m) whole in
+      let behind_w : drop 4096 (drop at w) ≡ drop (at + k) w
+      = drop-drop 4096 at w ∙ ap (λ j. drop (at + j) w) whole in
+      λ i. writes_from (pages (left i)) (at + whole i) (behind_m i) (behind_w i)
+]
+
+-- the page at an address, and those behind it
+pub from_next : (m w : List ℕ) (at k : ℕ) → length m ≡ length w → at < length w → k ≡ min 4096 (length w - at)
+    → writes_from (pages (length w - at)) at (drop at m) (drop at w)
+    ≡ page_writes at (part m at k) (part w at k)
+    ++ writes_from (pages (length w - (at + k))) (at + k) (drop (at + k) m) (drop (at + k) w)
+unfolding writes_from
+from_next m w at k size inside is =
+    let page_of : (x : List ℕ) → length x ≡ length w → take 4096 (drop at x) ≡ part x at k
+    = λ x long. sym (take_min 4096 (drop at x))
+    ∙ ap (λ j. take (min 4096 j) (drop at x)) (length-drop at x ∙ ap (λ j. j - at) long)
+    ∙ ap (λ j. take j (drop at x)) (sym is) in
+    ap (λ j. writes_from j at (drop at m) (drop at w)) (pages_step (length w - at) (omega arith))
+    ∙ (λ i. page_writes at (page_of m size i) (page_of w refl i)
+    ++ from_rest m w at k inside is i)
+
+-- what is left to be written: the page of the caller's memory at an address, and those behind it
+pub left_next : (all : List Event) (m w : List ℕ) (c at k : ℕ) → length m ≡ length w → at < length w
+    → k ≡ min 4096 (length w - at)
+    → drop c all ≡ writes_from (pages (length w - at)) at (drop at m) (drop at w)
+    → drop c all ≡ page_writes at (part m at (length (part w at (at + k - at)))) (part w at (at + k - at))
+    ++ writes_from (pages (length w - (at + k))) (at + k) (drop (at + k) m) (drop (at + k) w)
+left_next all m w c at k size inside is left =
+    let page : part w at (at + k - at) ≡ part w at k = ap (part w at) (omega arith) in
+    let long : length (part w at (at + k - at)) ≡ k = ap length page ∙ length-part w at k (omega (arith, is, inside)) in
+    left ∙ from_next m w at k size inside is
+    ∙ (λ i. page_writes at (part m at (sym long i)) (sym page i)
+    ++ writes_from (pages (length w - (at + k))) (at + k) (drop (at + k) m) (drop (at + k) w))
+
+-- behind the last page
+pub no_pages : (n at : ℕ) (m w : List ℕ) → n ≡ 0 → writes_from n at m w ≡ []
+unfolding writes_from
+no_pages n at m w is = ap (λ j. writes_from j at m w) is
+
+-- ---- events one after another
+
+pub performs_more : (xs ys : List Event) (t u w : Tagged) → PerformsAll xs t u → PerformsAll ys u w
+    → PerformsAll (xs ++ ys) t w
+performs_more [] ys t u w same rest = subst (λ x. PerformsAll ys x w) same rest
+performs_more (x ∷ xs) ys t u w (m, first, more) rest = (m, first, performs_more xs ys m u w more rest)
+
+-- where the host has no memory for the first of some events, it has none for the first of more
+pub wanting_more : (t : Tagged) (xs ys : List Event) → IsWanting t xs → IsWanting t (xs ++ ys)
+wanting_more t [] ys w = absurd (search (rules, w.is_first))
+wanting_more t (x ∷ xs) ys w = record { first = w.first; is_first = w.is_first; refuses = w.refuses }
+
+-- ---- what was read
+
+-- it has as many octets as were asked for, where there are so many
 pub read_is : (m old : List ℕ) (a k n : ℕ) → old ≡ part m a k → length old ≡ n → old ≡ part m a n
 read_is m old a k n is long =
     let rest : List ℕ = drop a m in
     let least : min k (length rest) ≡ n = sym (length-take k rest) ∙ ap length (sym is) ∙ long in
     is ∙ sym (take_min k rest) ∙ ap (λ j. take j rest) least
 
--- head and tail make a list
-pub same_list : (xs ys : List ℕ) (f e : ℕ) → take f xs ≡ take f ys → drop e xs ≡ drop e ys → f ≡ e → xs ≡ ys
-same_list xs ys f e head tail here =
-    let tail_f : drop f xs ≡ drop f ys = subst (λ k. drop k xs ≡ drop k ys) (sym here) tail in
-    sym (take-append-drop f xs) ∙ (λ i. head i ++ tail_f i) ∙ take-append-drop f ys
+-- ---- a page that was made the caller's
 
--- a read of a read
-part-part : (m : List ℕ) (a n f k : ℕ) → f + k ≤ n → take k (drop f (part m a n)) ≡ part m (a + f) k
-part-part m a n f k within =
-    let split : f + (n - f) ≡ n = omega arith in
-    ap (λ j. take k (drop f (take j (drop a m)))) (sym split)
-    ∙ ap (take k) (drop-take f (n - f) (drop a m) ∙ ap (take (n - f)) (drop-drop f a m))
-    ∙ take-take k (n - f) (drop (a + f) m) (omega arith)
+pub synced_page : (m w n : List ℕ) (at k : ℕ) → length m ≡ length w → at + k ≤ length w → take at m ≡ take at w
+    → n ≡ put m at (part w at k) → take (at + k) n ≡ take (at + k) w
+synced_page m w n at k size within same is =
+    let long : length (part w at k) ≡ k = length-part w at k within in
+    ap (take (at + k)) is ∙ ap (λ j. take (at + j) (put m at (part w at k))) (sym long)
+    ∙ take_end-put m at (part w at k) (omega (arith, size)) ∙ ap (λ x. x ++ part w at k) same ∙ sym (take-add at k w)
 
--- head, what is between them, and tail
-three_pieces : (xs ys : List ℕ) (f e : ℕ) → f ≤ e → take f xs ≡ take f ys
-    → take (e - f) (drop f xs) ≡ take (e - f) (drop f ys) → drop e xs ≡ drop e ys → xs ≡ ys
-three_pieces xs ys f e l head mid tail =
-    let whole : f + (e - f) ≡ e = omega arith in
-    let so_far : take (f + (e - f)) xs ≡ take (f + (e - f)) ys
-    = take-add f (e - f) xs ∙ (λ i. head i ++ mid i) ∙ sym (take-add f (e - f) ys) in
-    same_list xs ys (f + (e - f)) e so_far tail whole
+pub behind_page : (m w n : List ℕ) (at k : ℕ) → length m ≡ length w → at + k ≤ length w
+    → n ≡ put m at (part w at k) → drop (at + k) n ≡ drop (at + k) m
+behind_page m w n at k size within is =
+    let long : length (part w at k) ≡ k = length-part w at k within in
+    ap (drop (at + k)) is
+    ∙ subst (λ j. drop (at + j) (put m at (part w at k)) ≡ drop (at + j) m) long
+    (drop_past-put m at (part w at k) (omega (arith, size, long)))
 
--- a page is the same where its run is, between head and tail that are
-pub run_differs : (m w old : List ℕ) (a n f e : ℕ) → old ≡ part m a n → f ≤ e → e ≤ n
-    → take f old ≡ take f (part w a n) → drop e old ≡ drop e (part w a n)
-    → part m (a + f) ((a + e) - (a + f)) ≡ part w (a + f) ((a + e) - (a + f)) → old ≡ part w a n
-run_differs m w old a n f e is l r head tail same =
-    let run : (a + e) - (a + f) ≡ e - f = omega arith in
-    let run_same : part m (a + f) (e - f) ≡ part w (a + f) (e - f)
-    = subst (λ k. part m (a + f) k ≡ part w (a + f) k) run same in
-    let mid : take (e - f) (drop f old) ≡ take (e - f) (drop f (part w a n))
-    = ap (λ o. take (e - f) (drop f o)) is ∙ part-part m a n f (e - f) (omega arith) ∙ run_same
-    ∙ sym (part-part w a n f (e - f) (omega arith)) in
-    three_pieces old (part w a n) f e l head mid tail
-
--- the end of a part
-drop-part : (m : List ℕ) (a n e : ℕ) → e ≤ n → drop e (part m a n) ≡ part m (a + e) (n - e)
-drop-part m a n e r =
-    let split : e + (n - e) ≡ n = omega arith in
-    ap (λ k. drop e (take k (drop a m))) (sym split) ∙ drop-take e (n - e) (drop a m)
-    ∙ ap (take (n - e)) (drop-drop e a m)
-
--- what lies before a place is known in two pieces
-take_two : (m : List ℕ) (a k : ℕ) → take (a + k) m ≡ take a m ++ part m a k
-take_two m a k = take-add a k m
-
--- a page that is the same
-pub same_page : (m w : List ℕ) (a n : ℕ) → take a m ≡ take a w → part m a n ≡ part w a n
-    → take (a + n) m ≡ take (a + n) w
-same_page m w a n front page = take_two m a n ∙ (λ i. front i ++ page i) ∙ sym (take_two w a n)
-
--- a page of which the run that differs was written
-pub wrote_page : (m w d : List ℕ) (a n f e : ℕ) → length m ≡ length w → a + n ≤ length w → take a m ≡ take a w
-    → take f (part m a n) ≡ take f (part w a n) → drop e (part m a n) ≡ drop e (part w a n) → f ≤ e → e ≤ n
-    → d ≡ part w (a + f) (e - f) → take (a + n) (put m (a + f) d) ≡ take (a + n) w
-wrote_page m w d a n f e size held front head tail l r is =
-    let long : length d ≡ e - f = ap length is ∙ length-part w (a + f) (e - f) (omega arith) in
-    let inside : IsHeld m (a + f) (length d) = omega (arith, long, size) in
-    let new : List ℕ = put m (a + f) d in
-    let before : take (a + f) new ≡ take (a + f) m
-    = take_at (take (a + f) m) (d ++ drop (a + f + length d) m) (a + f)
-    (length-take-le (a + f) m (omega (arith, size))) in
-    let head_m : take f (part m a n) ≡ part m a f = take-take f n (drop a m) (omega arith) in
-    let head_w : take f (part w a n) ≡ part w a f = take-take f n (drop a w) (omega arith) in
-    let to_first : take (a + f) new ≡ take (a + f) w
-    = before ∙ same_page m w a f front (sym head_m ∙ head ∙ head_w) in
-    let written : part new (a + f) (e - f) ≡ part w (a + f) (e - f)
-    = ap (part new (a + f)) (sym long) ∙ part-put m (a + f) d inside ∙ is in
-    let to_end : take (a + f + (e - f)) new ≡ take (a + f + (e - f)) w
-    = same_page new w (a + f) (e - f) to_first written in
-    let place : a + f + length d ≡ a + e = omega (arith, long) in
-    let behind : part new (a + e) (n - e) ≡ part w (a + e) (n - e)
-    = ap (λ k. part new k (n - e)) (sym place) ∙ part_past-put m (a + f) d (n - e) inside
-    ∙ ap (λ k. part m k (n - e)) place ∙ sym (drop-part m a n e r) ∙ tail ∙ drop-part w a n e r in
-    let mid : a + f + (e - f) ≡ a + e = omega arith in
-    let all : a + e + (n - e) ≡ a + n = omega arith in
-    let so_far : take (a + e) new ≡ take (a + e) w
-    = subst (λ k. take k new ≡ take k w) mid to_end in
-    subst (λ k. take k new ≡ take k w) all (same_page new w (a + e) (n - e) so_far behind)
+pub size_page : (m w n : List ℕ) (at k : ℕ) → length m ≡ length w → at + k ≤ length w
+    → n ≡ put m at (part w at k) → length n ≡ length w
+size_page m w n at k size within is =
+    let long : length (part w at k) ≡ k = length-part w at k within in
+    ap length is ∙ length-put m at (part w at k) (omega (arith, size, long)) ∙ size

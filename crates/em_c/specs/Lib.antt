@@ -11,4 +11,5 @@ pub mod Run
 pub mod Watch
 pub mod RefusalText
 pub mod AllRegisters
+pub mod Difference
 pub mod Sync

@@ -1,10 +1,12 @@
 -- Guest memory is made what the caller's memory is, by memory writes.
-use Rattle.std.specs.Prelude.{◌≡◌, ℕ, zero, suc, List, length, Option, Some, None, Result, Ok, Err}
-use Rattle.em_mem.specs.Memory.{part}
-use Rattle.em_step.specs.Event.{pokes}
+use Rattle.std.specs.Prelude.{◌≡◌, ℕ, ◌+◌, ◌-◌, ◌/◌, nat_lt, zero, suc, List, [], ◌∷◌, ◌++◌, length, take, drop}
+use Rattle.std.specs.Prelude.{Option, Some, None, Result, Ok, Err, slice_get, if◌then◌else◌}
+use Rattle.em_mem.specs.Memory.{page_size, part}
+use Rattle.em_step.specs.Event.{Event, pokes}
 use Rattle.em_step.specs.Step.{Refuses}
 use Rattle.em_step.specs.declared.event.Answer.{Answer}
 use Rattle.em_step.specs.declared.refusal.Refusal.TheVariants as event
+use Rattle.em_c.specs.Difference.{same_at_head, up_to_last}
 use Rattle.em_c.specs.Refused.{number, number_of}
 use Rattle.em_c.specs.declared.refused.Refused.{Refused}
 use Rattle.em_c.specs.declared.refused.Refused.TheVariants.{Length, Memory, NoMachine}
@@ -14,31 +16,62 @@ use Rattle.em_c.specs.Tagged.{Performs, present_of}
 abbrev pub memory_of : Tagged → List ℕ
 memory_of t = (present_of t).memory
 
--- n octets of the caller's memory are written where they lie in it, and are not what was there
-pub record Rewrites (ram : List ℕ) (t u : Tagged) : Type 0 where
-  pub at : ℕ
-  pub n : ℕ
-  pub answer : Answer
-  pub differs : part (memory_of t) at n ≡ part ram at n → ⊥
-  pub performs : Performs t (pokes at (part ram at n)) answer u
+-- ---- the writes
 
--- it is done k times
-abbrev pub RewritesBy : ℕ → List ℕ → Tagged → Tagged → Type 0
-RewritesBy zero ram t u = u ≡ t
-RewritesBy (suc k) ram t u = (m : Tagged) × Rewrites ram t m × RewritesBy k ram m u
+-- the new octets from the first that differs to the last, where they lie; none where none differs
+abbrev pub run_writes : ℕ → List ℕ → ℕ → ℕ → List Event
+run_writes at new first last =
+    if nat_lt first last then pokes (at + first) (part new first (last - first)) ∷ [] else []
 
--- the host has no memory for the next one
-pub record IsWanting (ram : List ℕ) (t : Tagged) : Type 0 where
-  pub at : ℕ
-  pub n : ℕ
-  pub refuses : Refuses (present_of t) (pokes at (part ram at n)) event.Memory
+-- what makes octets at an address new ones: one write, or none
+abbrev pub page_writes : ℕ → List ℕ → List ℕ → List Event
+page_writes at old new = run_writes at new (same_at_head old new) (up_to_last old new)
 
--- memory is the caller's after so many writes, or so many were made until one was refused, or sizes differ and none was
--- made
+-- page by page, so many of them, the first one at an address
+unfoldable pub writes_from : ℕ → ℕ → List ℕ → List ℕ → List Event
+writes_from zero at memory ram = []
+writes_from (suc k) at memory ram =
+    page_writes at (take page_size memory) (take page_size ram)
+    ++ writes_from k (at + page_size) (drop page_size memory) (drop page_size ram)
+
+-- how many pages so many octets take
+abbrev pub pages : ℕ → ℕ
+pages n = (n + (page_size - 1)) / page_size
+
+-- what makes memory the caller's
+abbrev pub writes_of : List ℕ → List ℕ → List Event
+writes_of memory ram = writes_from (pages (length ram)) 0 memory ram
+
+-- what makes memory the caller's from an address on, within a page
+abbrev pub rewrites : Tagged → ℕ → List ℕ → List Event
+rewrites t at new = page_writes at (part (memory_of t) at (length new)) new
+
+-- ---- what becomes of the machine
+
+-- an event is performed, whatever it answers
+abbrev pub PerformsOne : Event → Tagged → Tagged → Type 0
+PerformsOne event t u = (answer : Answer) × Performs t event answer u
+
+-- events are performed, one after another
+abbrev pub PerformsAll : List Event → Tagged → Tagged → Type 0
+PerformsAll [] t u = u ≡ t
+PerformsAll (event ∷ events) t u = (m : Tagged) × PerformsOne event t m × PerformsAll events m u
+
+-- the host has no memory for the first of them
+pub record IsWanting (t : Tagged) (events : List Event) : Type 0 where
+  pub first : Event
+  pub is_first : slice_get events 0 ≡ Some first
+  pub refuses : Refuses (present_of t) first event.Memory
+
+-- all writes were made, and memory is the caller's; or so many were made until one was refused; or sizes differ and none
+-- was made
 abbrev pub Syncs : {X : Type 0} → Tagged → List ℕ → ℕ → Result X Refused → ℕ → Tagged → Type 0
-Syncs t ram old (Ok x) new u = RewritesBy new ram t u × (memory_of u ≡ ram)
+Syncs t ram old (Ok x) new u =
+    let writes = writes_of (memory_of t) ram in
+    (new ≡ length writes) × PerformsAll writes t u × (memory_of u ≡ ram)
 Syncs t ram old (Err Memory) new u =
-    (length (memory_of t) ≡ length ram) × RewritesBy new ram t u × IsWanting ram u
+    let writes = writes_of (memory_of t) ram in
+    (length (memory_of t) ≡ length ram) × PerformsAll (take new writes) t u × IsWanting u (drop new writes)
 Syncs t ram old (Err Length) new u = (length (memory_of t) ≡ length ram → ⊥) × (new ≡ old) × (u ≡ t)
 Syncs t ram old (Err other) new u = ⊥
 

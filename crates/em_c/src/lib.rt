@@ -7,6 +7,7 @@
 
 mod all_registers;
 mod back;
+mod difference;
 mod handle;
 mod making;
 mod memory;

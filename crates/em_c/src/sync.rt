@@ -1,10 +1,15 @@
 //! Guest memory and the caller's own memory are made the same.
-ghost use Rattle.std.specs.Prelude.{◌≡◌, ◌+◌, ◌-◌, ◌≤◌, ◌<◌, length, take, drop, IfOk, IfErr, OnOk, OnErr};
-ghost use Rattle.em_mem.specs.Memory.{part, put};
+ghost use Rattle.std.specs.Prelude.{◌≡◌, ◌+◌, ◌^◌, ◌≤◌, ◌<◌, length, IfOk, IfErr, OnOk, OnErr};
+ghost use Rattle.em_mem.specs.Memory.{IsHeld, part, put};
+ghost use Rattle.em_step.specs.Event.{pokes};
+ghost use Rattle.em_step.specs.Step.{Refuses};
+ghost use Rattle.em_step.specs.declared.refusal.Refusal.TheVariants as event;
 ghost use Rattle.em_c.specs.Refused.{number, told, Shows};
 ghost use Rattle.em_c.specs.Looks.{asked, whole_memory};
-ghost use Rattle.em_c.specs.Sync.{memory_of, RewritesBy, IsWanting, Syncs, SyncsIn};
+ghost use Rattle.em_c.specs.Tagged.{present_of};
+ghost use Rattle.em_c.specs.Sync.{memory_of, rewrites, PerformsAll, PerformsOne, IsWanting, Syncs, SyncsIn};
 
+use crate::difference::{copy_changed, same_at_head, up_to_last};
 use crate::handle::EmMachine;
 use crate::refused::{Refused, number};
 use crate::tagged::Tagged;
@@ -15,7 +20,8 @@ use std::alloc::Global;
 /// How many octets are compared at once: those of a page of guest memory.
 const PAGE: usize = 4096;
 
-/// Makes the caller's memory what guest memory is, whatever led there: events, or steps back.
+/// Makes the caller's memory what guest memory is, whatever led there: events, or steps back. Octets that are the same
+/// already are not written.
 #[unsafe(no_mangle)]
 pub extern "C" fn em_sync_out(alloc: Global, machine: &mut EmMachine, ram: &mut [u8]) -> u32
     ensures octets { Shows (asked machine.old.sealed.held (whole_memory (length ram.old))) ram.old result ram.new }
@@ -36,7 +42,7 @@ fn sync_out(alloc: Global, machine: &mut EmMachine, ram: &mut [u8]) -> Result<()
     outcome
 }
 
-/// Copies the whole of guest memory out.
+/// Copies out what differs.
 fn copy_whole(machine: &Machine, ram: &mut [u8]) -> Result<(), Refused>
     ensures outcome { number result ≡ number (whole_memory (length ram.old) machine.now) }
     ensures octets { ram.new ≡ told ram.old (whole_memory (length ram.old) machine.now) }
@@ -44,9 +50,46 @@ fn copy_whole(machine: &Machine, ram: &mut [u8]) -> Result<(), Refused>
     if machine.memory_size() != ram.len() as u64 {
         return Err(Refused::Length);
     }
-    match machine.peek(0, ram) {
-        Ok(()) => Ok(()),
-        Err(_) => Err(Refused::Length),
+    copy_pages(machine, ram);
+    Ok(())
+}
+
+/// Copies out what differs, page by page.
+fn copy_pages(machine: &Machine, ram: &mut [u8])
+    requires { length machine.now.present.memory ≡ length ram.old }
+    ensures { ram.new ≡ machine.now.present.memory }
+{
+    let mut at = 0usize;
+    while at < ram.len() {
+        let end = at + PAGE.min(ram.len() - at);
+        copy_page(machine, at, &mut ram[at..end]);
+        at = end;
+    }
+}
+
+/// Copies out what differs in a page.
+fn copy_page(machine: &Machine, at: usize, ram: &mut [u8])
+    requires held { IsHeld machine.now.present.memory at (length ram.old) }
+    requires most { length ram.old ≤ PAGE }
+    ensures { ram.new ≡ part machine.now.present.memory at (length ram.old) }
+{
+    let mut page = [0u8; PAGE];
+    let octets = &mut page[..ram.len()];
+    read(machine, at, octets);
+    // (the whole page at first, which is quick: most are the same)
+    if *octets != *ram {
+        copy_changed(octets, ram);
+    }
+}
+
+/// Copies octets of guest memory out.
+fn read(machine: &Machine, at: usize, out: &mut [u8])
+    requires { IsHeld machine.now.present.memory at (length out.old) }
+    ensures { out.new ≡ part machine.now.present.memory at (length out.old) }
+{
+    match machine.peek(at as u64, out) {
+        Ok(()) => {}
+        Err(_) => unreachable!(),
     }
 }
 
@@ -89,7 +132,7 @@ fn sync_pages(machine: &mut Tagged, ram: &[u8], writes: &mut usize) -> Result<()
     let mut at = 0usize;
     while at < ram.len() {
         let end = at + PAGE.min(ram.len() - at);
-        match sync_page(machine, ram, at, end) {
+        match sync_page(machine, at, &ram[at..end]) {
             Ok(more) => {
                 count += more;
                 at = end;
@@ -105,78 +148,44 @@ fn sync_pages(machine: &mut Tagged, ram: &[u8], writes: &mut usize) -> Result<()
 }
 
 /// Makes a page of guest memory what it is in the caller's memory; gives how many writes that took: one, or none.
-fn sync_page(machine: &mut Tagged, ram: &[u8], at: usize, end: usize) -> Result<usize, Refused>
-    requires size { length (memory_of machine.old) ≡ length ram.now }
-    requires ordered { at < end }
-    requires within { end ≤ length ram.now }
-    requires page { end ≤ at + PAGE }
-    requires so_far { take at (memory_of machine.old) ≡ take at ram.now }
-    ensures writes { IfOk result (λ count. RewritesBy count ram.now machine.old machine.new) }
-    ensures most { IfOk result (λ count. count ≤ 1) }
-    ensures done { OnOk result (take end (memory_of machine.new) ≡ take end ram.now) }
-    ensures long { OnOk result (length (memory_of machine.new) ≡ length ram.now) }
-    ensures wanting { OnErr result (IsWanting ram.now machine.old) }
+fn sync_page(machine: &mut Tagged, at: usize, new: &[u8]) -> Result<usize, Refused>
+    requires held { IsHeld (memory_of machine.old) at (length new.now) }
+    requires fits { at + length new.now < 2 ^ 64 }
+    requires most { length new.now ≤ PAGE }
+    ensures count { IfOk result (λ count. count ≡ length (rewrites machine.old at new.now)) }
+    ensures few { IfOk result (λ count. count ≤ 1) }
+    ensures performs { OnOk result (PerformsAll (rewrites machine.old at new.now) machine.old machine.new) }
+    ensures memory { OnOk result (memory_of machine.new ≡ put (memory_of machine.old) at new.now) }
+    ensures wanting { OnErr result (IsWanting machine.old (rewrites machine.old at new.now)) }
+    ensures only { IfErr result (λ refused. refused ≡ Refused.Memory) }
     ensures same { OnErr result (machine.new ≡ machine.old) }
 {
     let mut page = [0u8; PAGE];
-    let old = &mut page[..end - at];
-    let new = &ram[at..end];
-    match machine.traced.machine().peek(at as u64, old) {
-        Ok(()) => {}
-        Err(_) => unreachable!(),
-    }
+    let old = &mut page[..new.len()];
+    read(machine.traced.machine(), at, old);
     if *old == *new {
         return Ok(0);
     }
-    let first = same_head(old, new);
-    let last = same_tail(old, new, first);
-    sync_run(machine, ram, at + first, at + last)
+    let first = same_at_head(old, new);
+    let last = up_to_last(old, new);
+    let run = &new[first..last];
+    write(machine, at + first, run)?;
+    Ok(1)
 }
 
-/// Writes a run of the caller's memory where it lies in it: one write.
-fn sync_run(machine: &mut Tagged, ram: &[u8], from: usize, to: usize) -> Result<usize, Refused>
-    requires size { length (memory_of machine.old) ≡ length ram.now }
-    requires ordered { from < to }
-    requires within { to ≤ length ram.now }
-    requires page { to ≤ from + PAGE }
-    requires differs { part (memory_of machine.old) from (to - from) ≡ part ram.now from (to - from) → ⊥ }
-    ensures writes { IfOk result (λ count. RewritesBy count ram.now machine.old machine.new) }
-    ensures one { IfOk result (λ count. count ≡ 1) }
-    ensures memory { OnOk result (memory_of machine.new
-        ≡ put (memory_of machine.old) from (part ram.now from (to - from))) }
-    ensures wanting { OnErr result (IsWanting ram.now machine.old) }
+/// Writes octets to guest memory.
+fn write(machine: &mut Tagged, at: usize, octets: &[u8]) -> Result<(), Refused>
+    requires held { IsHeld (memory_of machine.old) at (length octets.now) }
+    requires some { 0 < length octets.now }
+    requires most { length octets.now ≤ PAGE }
+    ensures performs { OnOk result (PerformsOne (pokes at octets.now) machine.old machine.new) }
+    ensures memory { OnOk result (memory_of machine.new ≡ put (memory_of machine.old) at octets.now) }
+    ensures wanting { OnErr result (Refuses (present_of machine.old) (pokes at octets.now) event.Memory) }
+    ensures only { IfErr result (λ refused. refused ≡ Refused.Memory) }
     ensures same { OnErr result (machine.new ≡ machine.old) }
 {
-    match machine.perform(Event::Poke(from as u64, &ram[from..to])) {
-        Ok(_) => Ok(1),
+    match machine.perform(Event::Poke(at as u64, octets)) {
+        Ok(_) => Ok(()),
         Err(_) => Err(Refused::Memory),
     }
-}
-
-/// How many octets at the head are the same.
-fn same_head(old: &[u8], new: &[u8]) -> usize
-    requires { length old.now ≡ length new.now }
-    ensures most { result ≤ length new.now }
-    ensures same { take result old.now ≡ take result new.now }
-{
-    let mut first = 0usize;
-    while first < new.len() && old[first] == new[first] {
-        first += 1;
-    }
-    first
-}
-
-/// Where the octets begin that are the same to the end, and not before a place.
-fn same_tail(old: &[u8], new: &[u8], first: usize) -> usize
-    requires size { length old.now ≡ length new.now }
-    requires within { first ≤ length new.now }
-    ensures least { first ≤ result }
-    ensures most { result ≤ length new.now }
-    ensures same { drop result old.now ≡ drop result new.now }
-{
-    let mut last = new.len();
-    while last > first && old[last - 1] == new[last - 1] {
-        last -= 1;
-    }
-    last
 }

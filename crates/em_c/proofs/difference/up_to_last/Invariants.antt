@@ -1,9 +1,8 @@
 use Rattle.std.proofs.Common.{◌≡◌, ◌≤◌, length, drop}
-use Rattle.em_c.proofs.sync.same_tail.Given as goal
+use Rattle.em_c.proofs.difference.up_to_last.Given as goal
 
 abbrev pub invariant-loop-last : goal.invariant-loop-last
 invariant-loop-last l = record {
-  least : l.first ≤ l.last;
   most : l.last ≤ length l.new;
   same : drop l.last l.old ≡ drop l.last l.new;
 }

@@ -1,0 +1,239 @@
+/* Each request for memory of each call is refused in turn, once alone and once with all after it: the call that was
+   refused has left the machine as it was, and the same call with memory does what it should. All other calls ask for no
+   memory. The last line is `N passed, M failed`. */
+#include "harness.h"
+
+#include <stdlib.h>
+
+enum { FRAMES = 4 };
+
+/* all that can be seen of a machine */
+struct seen {
+  em_register registers[EM_REGISTERS];
+  size_t count, reach, sent, lengths[FRAMES];
+  uint8_t memory[MEMORY], frames[FRAMES][2048];
+  em_note newest[64];
+  uint32_t line;
+};
+
+static struct seen *see(em_machine *machine) {
+  struct seen *seen = malloc(sizeof *seen);
+  if (seen == NULL) exit(1);
+  memset(seen, 0, sizeof *seen);
+  MUST(em_registers(machine, seen->registers, EM_REGISTERS, &seen->count) == EM_OK);
+  MUST(em_peek(machine, 0, seen->memory, MEMORY) == EM_OK);
+  MUST(em_line(machine, &seen->line) == EM_OK);
+  MUST(em_can_go_back(machine, &seen->reach) == EM_OK);
+  for (size_t k = 0; k < seen->reach && k < 64; k++) {
+    em_note note;
+    MUST(em_event(machine, k, &note) == EM_OK);
+    memcpy(&seen->newest[k], &note, offsetof(em_note, kind) + sizeof note.kind);
+  }
+  MUST(em_wire_count(machine, &seen->sent) == EM_OK);
+  MUST(seen->sent <= FRAMES);
+  for (size_t i = 0; i < seen->sent; i++) {
+    MUST(em_wire_frame(machine, i, seen->frames[i], 2048, &seen->lengths[i]) == EM_OK);
+  }
+  return seen;
+}
+
+static bool is_as(em_machine *machine, const struct seen *wanted) {
+  struct seen *now = see(machine);
+  bool same = memcmp(now, wanted, sizeof *now) == 0;
+  free(now);
+  return same;
+}
+
+/* ---- the calls: each tells how many events of it went well */
+
+static uint8_t frame[1500], ram[MEMORY];
+static em_note event;
+
+static uint32_t pokes(em_machine *m, size_t *done) { return (void)done, em_poke(m, 0x8000, frame, 60); }
+static uint32_t pokes_over_pages(em_machine *m, size_t *done) { return (void)done, em_poke(m, 0x7FFF, frame, 1500); }
+static uint32_t resets(em_machine *m, size_t *done) { return (void)done, em_write(m, CTRL, RST); }
+static uint32_t arrives(em_machine *m, size_t *done) { return (void)done, em_arrive(m, frame, 1500, &event); }
+static uint32_t receives(em_machine *m, size_t *done) { return (void)done, em_rx_step(m, &event); }
+static uint32_t sends(em_machine *m, size_t *done) { return (void)done, em_tx_step(m, &event); }
+static uint32_t syncs_in(em_machine *m, size_t *done) { return em_sync_in(m, ram, MEMORY, done); }
+static uint32_t runs_rx(em_machine *m, size_t *done) { return em_run_rx(m, SIZE_MAX, done); }
+static uint32_t runs_tx(em_machine *m, size_t *done) { return em_run_tx(m, SIZE_MAX, done); }
+
+/* ---- where they begin */
+
+static void as_made(em_machine *machine) { OK(em_write(machine, IMS, RXT0)); }
+
+static void with_frames(em_machine *machine) {
+  set_receiving(machine);
+  for (int i = 0; i < 3; i++) OK(em_arrive(machine, frame, 700, &event));
+}
+
+static void with_packets(em_machine *machine) {
+  OK(em_poke(machine, BUFFER, frame, 1500));
+  put_descriptor(machine, TX_RING, BUFFER, 500, 0);
+  for (unsigned i = 1; i < FRAMES; i++) put_descriptor(machine, TX_RING + 16 * i, BUFFER, 500, EOP | RS);
+  OK(em_write(machine, TDBAL, TX_RING));
+  OK(em_write(machine, TDLEN, 16 * DESCRIPTORS));
+  OK(em_write(machine, TCTL, TCTL_EN));
+  OK(em_write(machine, TDT, FRAMES));
+}
+
+static const struct {
+  const char *name;
+  void (*prepare)(em_machine *);
+  uint32_t (*call)(em_machine *, size_t *);
+} calls[] = {
+  {"em_poke", as_made, pokes},
+  {"em_poke over pages", as_made, pokes_over_pages},
+  {"em_write that resets", with_frames, resets},
+  {"em_arrive", with_frames, arrives},
+  {"em_rx_step", with_frames, receives},
+  {"em_tx_step", with_packets, sends},
+  {"em_sync_in", as_made, syncs_in},
+  {"em_run_rx", with_frames, runs_rx},
+  {"em_run_tx", with_packets, runs_tx},
+};
+
+/* Both engines, so that what cannot be seen takes part: frames in the FIFO, and octets that are gathered. */
+static void go_on(em_machine *machine) {
+  size_t steps;
+  OK(em_run_rx(machine, SIZE_MAX, &steps));
+  OK(em_run_tx(machine, SIZE_MAX, &steps));
+}
+
+/* What a call leads to where memory is there, right after it, and after the engines. */
+static void leads_to(size_t i, struct seen **after, struct seen **later) {
+  em_machine machine = made();
+  size_t done = 0;
+  calls[i].prepare(&machine);
+  OK(calls[i].call(&machine, &done));
+  *after = see(&machine);
+  go_on(&machine);
+  *later = see(&machine);
+  em_free(&machine);
+}
+
+/* The call with its n-th request refused; whether it made so many. */
+static bool is_refused_at(size_t i, long n, const struct seen *after, const struct seen *later) {
+  em_machine machine = made();
+  size_t done = 0, back = 0;
+  calls[i].prepare(&machine);
+  struct seen *before = see(&machine);
+  requests = 0;
+  granted = n;
+  uint32_t code = calls[i].call(&machine, &done);
+  granted = -1;
+  bool enough = requests <= (unsigned long)n;
+  CHECK(code == (enough ? EM_OK : EM_MEMORY));
+  if (!enough) {
+    /* (of calls that are several events, those before the refused one stay, and are taken back here) */
+    CHECK(reach(&machine) == before->reach + done);
+    OK(em_back(&machine, done, &back));
+    CHECK(is_as(&machine, before));
+    OK(calls[i].call(&machine, &done));
+  }
+  CHECK(is_as(&machine, after));
+  go_on(&machine);
+  CHECK(is_as(&machine, later));
+  em_free(&machine);
+  free(before);
+  return !enough;
+}
+
+static void is_refused_memory(void) {
+  for (size_t i = 0; i < sizeof calls / sizeof *calls; i++) {
+    struct seen *after, *later;
+    leads_to(i, &after, &later);
+    for (int mode = 0; mode < 2; mode++) {
+      long n = 0;
+      once = mode == 1;
+      while (n < 100 && is_refused_at(i, n, after, later)) n++;
+      if (n == 0 || n == 100) printf("starved.c: %s made %ld requests\n", calls[i].name, n);
+      CHECK(n > 0 && n < 100);
+    }
+    free(after);
+    free(later);
+    CHECK(blocks == 0);
+  }
+}
+
+/* a handle for which memory is refused holds no machine, and may be made again */
+static void is_not_made(void) {
+  uint16_t words[64] = {0};
+  for (int mode = 0; mode < 4; mode++) {
+    uint32_t code = EM_MEMORY;
+    long n = 0;
+    em_machine machine = EM_NO_MACHINE;
+    once = mode % 2 == 1;
+    for (; n < 100 && code == EM_MEMORY; n++) {
+      granted = n;
+      code = mode < 2 ? em_make(&machine, MEMORY, BUDGET, MAC) : em_make_with_eeprom(&machine, MEMORY, BUDGET, words);
+      granted = -1;
+      CHECK(code == EM_OK || (code == EM_MEMORY && !machine.made && blocks == 0));
+    }
+    CHECK(code == EM_OK && machine.made && n > 3);
+    em_free(&machine);
+    CHECK(blocks == 0);
+  }
+}
+
+/* these ask for no memory */
+static void asks_for_none(void) {
+  em_machine machine = made();
+  struct seen *all = malloc(sizeof *all);
+  em_watch watch = {EM_WATCH_OCTETS, 0, BUFFER, 16};
+  em_change change;
+  uint64_t size;
+  uint32_t value, code;
+  size_t count;
+  CHECK(all != NULL);
+  with_frames(&machine);
+  with_packets(&machine);
+  go_on(&machine);
+  once = false;
+  granted = 0;
+  requests = 0;
+  for (uint32_t offset = 0; offset < 0x6000; offset += 4) {
+    code = em_read(&machine, offset, &value);
+    MUST(code == EM_OK || code == EM_NO_REGISTER);
+    MUST(em_write(&machine, offset, offset == CTRL ? ~(uint32_t)RST : UINT32_MAX) == code);
+  }
+  CHECK(requests == 0);
+  OK(em_write(&machine, RCTL, 0));
+  OK(em_write(&machine, TCTL, 0));
+  OK(em_look(&machine, ICR, &value));
+  OK(em_registers(&machine, all->registers, EM_REGISTERS, &count));
+  OK(em_peek(&machine, 0, all->memory, MEMORY));
+  OK(em_sync_out(&machine, all->memory, MEMORY));
+  OK(em_sync_in(&machine, all->memory, MEMORY, &count));
+  OK(em_memory_size(&machine, &size));
+  OK(em_set_link(&machine, true));
+  OK(em_rx_step(&machine, &event)); /* idle */
+  OK(em_tx_step(&machine, &event));
+  OK(em_line(&machine, &value));
+  OK(em_wire_count(&machine, &count));
+  OK(em_wire_frame(&machine, 0, all->frames[0], 2048, &count));
+  OK(em_tag(&machine, 5));
+  OK(em_event(&machine, 0, &event));
+  OK(em_last_change(&machine, &watch, &change));
+  OK(em_back(&machine, SIZE_MAX, &count));
+  OK(em_can_go_back(&machine, &count));
+  OK(em_name(ICR, all->memory, MEMORY, &count));
+  OK(em_find((const uint8_t *)"ICR", 3, &value));
+  OK(em_refusal(EM_RANGE, all->memory, MEMORY, &count));
+  REFUSED(em_make(&machine, MEMORY, BUDGET, MAC), EM_MADE_ALREADY);
+  em_free(&machine);
+  granted = -1;
+  CHECK(requests == 0);
+  free(all);
+  CHECK(blocks == 0);
+}
+
+int main(void) {
+  fill(frame, sizeof frame);
+  memset(ram, 9, sizeof ram);
+  is_not_made();
+  is_refused_memory();
+  asks_for_none();
+  return tell_counts();
+}
