@@ -1,0 +1,3 @@
+pub mod OptionLaws
+pub mod ReadingLaws
+pub mod CaptureLaws
