@@ -20,7 +20,7 @@ left_here s interfaces step same e h =
     let rest = take_rest s.file.now s.offset in
     stands_there s.form s.interfaces.items s.offset (drop s.offset s.file.now) step
     (e ∙ ap (λ (r : List ℕ). step_of s.form interfaces r) rest
-        ∙ ap (λ (i : List Interface). step_of s.form i (drop s.offset s.file.now)) same)
+    ∙ ap (λ (i : List Interface). step_of s.form i (drop s.offset s.file.now)) same)
     (subst (λ (r : List ℕ). IsWithin (length r) step) rest h)
 
 -- so much further on

@@ -64,7 +64,7 @@ stands form interfaces offset (octet ∷ octets) Ends e h = rw e refl
 stands form interfaces offset (octet ∷ octets) (Stops kind) e h = rw e refl
 stands form interfaces offset (octet ∷ octets) (Gives found) e h =
     rw e (ap (and_then (found_in found (octet ∷ octets)))
-        (behind form interfaces offset octet octets found.len h.0.0 h.0.1))
+    (behind form interfaces offset octet octets found.len h.0.0 h.0.1))
 stands form interfaces offset (octet ∷ octets) (Opens len form') e h =
     rw e (behind form' [] offset octet octets len h.0 h.1)
 stands form interfaces offset (octet ∷ octets) (Adds len interface) e h =

@@ -6,3 +6,4 @@ pub mod Options
 pub mod Blocks
 pub mod Reading
 pub mod Capture
+pub mod Writing

@@ -28,7 +28,7 @@ returns-in-Gives c =
     let octets = packet_in found.at found.captured s.offset s.file.now in
     sym c.loop-self.invariant ∙ here
     ∙ ap (λ (o : List ℕ). and_then (record { octets = o; original = found.original; time = found.time })
-        (reading_from s.form s.interfaces.items 0 (s.offset + found.len) (drop found.len (drop s.offset s.file.now))))
+    (reading_from s.form s.interfaces.items 0 (s.offset + found.len) (drop found.len (drop s.offset s.file.now))))
     (sym octets)
     ∙ ap (and_then _) (sym rest)
 
