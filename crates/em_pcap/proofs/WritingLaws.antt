@@ -40,7 +40,7 @@ records_are (frame ∷ frames) = ap (λ (t : List ℕ). record_text (timed frame
 pub cut_at : (front : List ℕ) (frames : List TimedFrame) (i : ℕ) (d : TimedFrame) → i < length frames
     → front ++ flat_map record_text (map timed frames)
     ≡ (front ++ flat_map (λ frame. record_text (timed frame)) (take i frames))
-        ++ (record_text (timed (get_or frames i d)) ++ flat_map (λ frame. record_text (timed frame)) (drop (i + 1) frames))
+    ++ (record_text (timed (get_or frames i d)) ++ flat_map (λ frame. record_text (timed frame)) (drop (i + 1) frames))
 cut_at front frames i d lt =
     let text : TimedFrame → List ℕ = λ frame. record_text (timed frame) in
     let parts : flat_map text frames
@@ -153,7 +153,7 @@ one_read frame offset rest fits =
     sym (drop-drop n 16 all) ∙ ap (λ (t : List ℕ). drop n t) head ∙ drop_at frame.octets rest n refl in
     here
     ∙ ap (λ (o : List ℕ). and_then (record { octets = o; original = n; time = Some frame.time })
-        (reading_from (Classic written) [] 0 (offset + (16 + n)) (drop (16 + n) all))) octets
+    (reading_from (Classic written) [] 0 (offset + (16 + n)) (drop (16 + n) all))) octets
     ∙ ap (λ (t : List ℕ). and_then (as_read frame) (reading_from (Classic written) [] 0 (offset + (16 + n)) t)) after
 
 -- all records

@@ -1,5 +1,5 @@
 //! Reading a capture, packet by packet.
-ghost use Rattle.std.specs.Prelude.{◌≡◌, ◌≤◌, length};
+ghost use Rattle.std.specs.Prelude.{◌≡◌, ◌<◌, ◌≤◌, length, IsSome};
 ghost use Rattle.em_pcap.specs.Step.{IsWithin};
 ghost use Rattle.em_pcap.specs.Reading.{step_of, start_step};
 
@@ -27,7 +27,7 @@ pub struct Capture<'a> {
 
 impl<'a> Capture<'a> {
     ghost use Rattle.em_pcap.specs.Reading.{reading_of, IsNext};
-    ghost use Rattle.em_pcap.specs.Capture.{left_of};
+    ghost use Rattle.em_pcap.specs.Capture.{left_of, IsRefusedThere, calls_left};
 
     /// A capture of which nothing is read yet.
     pub fn new(alloc: Global, file: &'a [u8]) -> Capture<'a>
@@ -43,7 +43,9 @@ impl<'a> Capture<'a> {
 
     /// The next packet, or why there is none; nothing at the end, and behind a fault.
     pub fn next_packet(&mut self) -> Option<Result<Packet<'a>, CaptureError>>
-        ensures { IsNext (left_of self.old) result (left_of self.new) }
+        ensures next { IsNext (left_of self.old) result (left_of self.new) }
+        ensures memory { IsRefusedThere self.old result }
+        ensures fewer { IsSome result → calls_left self.new < calls_left self.old }
     {
         loop {
             let rest = &self.file[self.offset..];
@@ -80,6 +82,21 @@ impl<'a> Capture<'a> {
                 Step::Skips(len) => self.offset += len,
             }
         }
+    }
+}
+
+impl<'a> Iterator for Capture<'a> {
+    type Item = Result<Packet<'a>, CaptureError>;
+
+    ghost use Rattle.em_pcap.specs.Capture.{GivesNext, packets_left};
+
+    ghost next_gives = { GivesNext };
+
+    ghost remaining = { packets_left };
+
+    /// The next packet, or why there is none; nothing at the end, and behind a fault.
+    fn next(&mut self) -> Option<Result<Packet<'a>, CaptureError>> {
+        self.next_packet()
     }
 }
 
