@@ -1,8 +1,9 @@
-//! Tells what captures give. A test program: `tests/captures` compares what it tells with what other programs say of the
-//! same captures, and with a second reading of the formats.
+//! Tells what captures give. A test program: `tests/captures` compares what it tells with what other programs say of
+//! the same captures, and with a second reading of the formats.
 //!
-//! On standard input stand captures, each behind its length as four octets, the lowest first. Of each packet it tells how
-//! many octets the frame had, `cut` or `whole`, its time or `-`, and its octets; at last the fault, or `end`.
+//! On standard input stand captures, each behind its length as four octets, the lowest first. Of each packet it tells
+//! how many octets the frame had, `cut` or `whole`, its time or `-`, and its octets; then the fault, if there is one;
+//! and at last `end`.
 //!
 //! With the word `speed`, one capture stands on standard input, and it tells how fast that is read.
 #![tactic(auto)]

@@ -1,17 +1,16 @@
 -- Going on in a capture as far as it is read.
-use Rattle.std.proofs.Common.{Bool, true, false, zero, suc, [], ◌∷◌, ◌++◌, ◌<◌}
+use Rattle.std.proofs.Common.{Bool, true, false, zero, suc, [], ◌∷◌, ◌<◌}
 use Rattle.std.proofs.Common.{◌≡◌, ℕ, ◌+◌, ◌-◌, ◌≤◌, List, length, take, drop, refl, sym, ap, subst, ◌∙◌, arith}
 use Rattle.std.proofs.lemmas.List.{drop-drop, take_rest, length-drop}
 use Rattle.em_pcap.specs.declared.capture.Capture.{Capture}
 use Rattle.em_pcap.specs.declared.form.Form.{Form}
 use Rattle.em_pcap.specs.declared.form.Form.TheVariants.{Start, Classic, Section, Done}
 use Rattle.em_pcap.specs.declared.form.Interface.{Interface}
-use Rattle.em_pcap.specs.declared.form.Found.{Found}
 use Rattle.em_pcap.specs.declared.form.Step.{Step}
 use Rattle.em_pcap.specs.declared.form.Step.TheVariants.{Ends, Stops, Gives, Opens, Adds, Skips}
 use Rattle.em_pcap.specs.Step.{IsWithin, IsPart}
-use Rattle.em_pcap.specs.Reading.{Reading, found_in, step_of, reading_from}
-use Rattle.em_pcap.specs.Capture.{left_of, adds_in, adds_from, adds_next, calls_in}
+use Rattle.em_pcap.specs.Reading.{step_of, reading_from}
+use Rattle.em_pcap.specs.Capture.{left_of, adds_from, adds_next, calls_in}
 use Rattle.em_pcap.proofs.ReadingLaws.{after, stands_there}
 
 -- what is left is what stands there, and what is left behind it
@@ -100,7 +99,8 @@ adds_here s interfaces step same e h =
     (subst (λ (r : List ℕ). IsWithin (length r) step) rest h)
 
 -- so much further on
-pub adds_moved : (form : Form) (before interfaces : List Interface) (offset len : ℕ) (file : List ℕ) → before ≡ interfaces
+pub adds_moved : (form : Form) (before interfaces : List Interface) (offset len : ℕ) (file : List ℕ)
+    → before ≡ interfaces
     → adds_from form before 0 (drop (offset + len) file) ≡ adds_from form interfaces 0 (drop len (drop offset file))
 adds_moved form before interfaces offset len file e =
     ap (λ (i : List Interface). adds_from form i 0 (drop (offset + len) file)) e

@@ -1,9 +1,10 @@
 -- Going over options, one after another.
-use Rattle.std.proofs.Common.{◌≡◌, ℕ, zero, suc, ◌+◌, ◌<◌, ◌≤◌, Bool, true, false, eqb, ltb, ◌||◌, cond, List, [], ◌∷◌, length}
-use Rattle.std.proofs.Common.{take, drop, Option, Some, None, refl, sym, ap, ◌∙◌, arith}
-use Rattle.std.proofs.lemmas.Bool.{lt-ltb, le-ltb, or_from, or_left, or_right, cond-true, cond-false}
+use Rattle.std.proofs.Common.{◌≡◌, ℕ, zero, suc, ◌+◌, ◌<◌, ◌≤◌, Bool, true, false, eqb, ltb, ◌||◌, List, [], ◌∷◌}
+use Rattle.std.proofs.Common.{length}
+use Rattle.std.proofs.Common.{take, drop, Some, None, refl, sym, ap, ◌∙◌, arith}
+use Rattle.std.proofs.lemmas.Bool.{lt-ltb, or_left}
 use Rattle.em_pcap.specs.declared.order.Order.{Order}
-use Rattle.em_pcap.specs.Options.{option_code, option_length, option_or, option_value, padded}
+use Rattle.em_pcap.specs.Options.{option_code, option_length, option_value, padded}
 
 -- the octets of an option before are passed
 pub passes : (order : Order) (code inside : ℕ) (octets : List ℕ)

@@ -1,12 +1,13 @@
 -- Going on in a capture.
-use Rattle.std.proofs.Common.{◌≡◌, ℕ, zero, suc, ◌+◌, ◌-◌, ◌<◌, ◌≤◌, List, [], ◌∷◌, ◌++◌, length, drop, refl, sym, ap, ◌∙◌, arith}
+use Rattle.std.proofs.Common.{◌≡◌, ℕ, zero, suc, ◌+◌, ◌-◌, ◌<◌, ◌≤◌, List, [], ◌∷◌, ◌++◌, length, drop, refl, sym, ap}
+use Rattle.std.proofs.Common.{◌∙◌, arith}
 use Rattle.em_pcap.specs.declared.form.Form.{Form}
 use Rattle.em_pcap.specs.declared.form.Interface.{Interface}
 use Rattle.em_pcap.specs.declared.form.Step.{Step}
 use Rattle.em_pcap.specs.declared.form.Step.TheVariants.{Ends, Stops, Gives, Opens, Adds, Skips}
 use Rattle.em_pcap.specs.declared.form.Form.TheVariants.{Done}
 use Rattle.em_pcap.specs.Step.{IsWithin}
-use Rattle.em_pcap.specs.Reading.{Reading, nothing, stopped, and_then, found_in, with_rest, step_of, reading_from}
+use Rattle.em_pcap.specs.Reading.{Reading, nothing, stopped, and_then, found_in, step_of, reading_from}
 
 -- nothing is read any more
 pub done : (interfaces : List Interface) (inside offset : ℕ) (octets : List ℕ)

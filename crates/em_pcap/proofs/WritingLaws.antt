@@ -1,6 +1,6 @@
 -- A capture that is written, and read again.
-use Rattle.std.proofs.Common.{◌≡◌, ℕ, zero, suc, ◌+◌, ◌-◌, ◌*◌, ◌/◌, ◌%◌, ◌^◌, ◌<◌, ◌≤◌, List, [], ◌∷◌, ◌++◌, length, take, drop, map, All}
-use Rattle.std.proofs.Common.{true, false, eqb, ltb, Option, Some, None, refl, sym, ap, subst, ◌∙◌, arith, append-nil, length-append}
+use Rattle.std.proofs.Common.{◌≡◌, ℕ, ◌+◌, ◌*◌, ◌/◌, ◌%◌, ◌<◌, ◌≤◌, List, [], ◌∷◌, ◌++◌, length, take, drop, map, All}
+use Rattle.std.proofs.Common.{false, eqb, ltb, Some, refl, sym, ap, ◌∙◌, arith, append-nil, length-append}
 use Rattle.std.proofs.Common.{get_or, append_assoc, take-append-drop}
 use Rattle.std.proofs.lemmas.List.{drop_more, take_all}
 use Rattle.std.proofs.lemmas.List.Concat.{flat_map-append}
@@ -8,7 +8,7 @@ use Rattle.std.proofs.lemmas.Bool.{ne_eqb, le-ltb}
 use Rattle.std.proofs.lemmas.List.{take_at, drop_at, drop-drop}
 use Rattle.std.proofs.lemmas.List.Elements.{recursion_from_All}
 use Rattle.std.specs.List.{flat_map, AllByRecursion}
-use Rattle.std.specs.Int.{w16, w32, to_le_bytes}
+use Rattle.std.specs.Int.{w32, to_le_bytes}
 use Rattle.byteorder.specs.Numbers.{little_number-reads_back}
 use Rattle.em_pcap.specs.declared.order.Order.TheVariants.{Little}
 use Rattle.em_pcap.specs.declared.form.Unit.TheVariants.{Nanoseconds}
@@ -19,12 +19,13 @@ use Rattle.em_pcap.specs.declared.form.Step.TheVariants.{Gives, Opens}
 use Rattle.em_pcap.specs.declared.writer.TimedFrame.{TimedFrame}
 use Rattle.em_pcap.specs.Fields.{number}
 use Rattle.em_pcap.specs.Classic.{record_step}
-use Rattle.em_pcap.specs.Reading.{Reading, and_then, found_in, step_of, reading_from, reading_of}
+use Rattle.em_pcap.specs.Reading.{and_then, step_of, reading_from, reading_of}
 use Rattle.em_pcap.specs.Writing.{Timed, timed, Fits, header_text, record_text, capture_text, as_read, all_read}
 use Rattle.em_pcap.proofs.ReadingLaws.{stands_there}
 
 -- the pieces of a record, one after another
-pub record_pieces : (seconds nanoseconds len : List ℕ) (frame : Timed) → seconds ≡ to_le_bytes w32 (frame.time / 1000000000)
+pub record_pieces : (seconds nanoseconds len : List ℕ) (frame : Timed)
+    → seconds ≡ to_le_bytes w32 (frame.time / 1000000000)
     → nanoseconds ≡ to_le_bytes w32 (frame.time % 1000000000) → len ≡ to_le_bytes w32 (length frame.octets)
     → seconds ++ (nanoseconds ++ (len ++ (len ++ (frame.octets ++ [])))) ≡ record_text frame
 unfolding record_text

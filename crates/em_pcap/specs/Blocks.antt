@@ -1,5 +1,6 @@
 -- Blocks of pcapng files.
-use Rattle.std.specs.Prelude.{ℕ, ◌+◌, ◌*◌, ◌-◌, ◌^◌, ◌%◌, ◌==◌, ◌||◌, nat_lt, min, if◌then◌else◌, slice_get, slice_range}
+use Rattle.std.specs.Prelude.{ℕ, ◌+◌, ◌*◌, ◌-◌, ◌^◌, ◌%◌, ◌==◌, ◌||◌, nat_lt, min, if◌then◌else◌, slice_get}
+use Rattle.std.specs.Prelude.{slice_range}
 use Rattle.std.specs.Prelude.{List, length, Option, Some, None}
 use Rattle.em_pcap.specs.declared.order.Order.{Order}
 use Rattle.em_pcap.specs.declared.order.Order.TheVariants.{Little, Big}

@@ -1,5 +1,5 @@
 -- A capture that is read, as far as it is read.
-use Rattle.std.specs.Prelude.{◌≡◌, ℕ, zero, suc, ◌+◌, ◌-◌, ◌++◌, Bool, true, false, List, [], ◌∷◌, drop, length}
+use Rattle.std.specs.Prelude.{◌≡◌, ℕ, zero, suc, ◌+◌, ◌-◌, Bool, true, false, List, [], ◌∷◌, drop, length}
 use Rattle.std.specs.Prelude.{Option, Some, Result, Err}
 use Rattle.std.specs.Iterator.{Count, at_most}
 use Rattle.em_pcap.specs.declared.form.Form.{Form}

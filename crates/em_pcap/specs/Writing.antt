@@ -1,10 +1,10 @@
 -- The capture that is written: a classic file with the lowest octet of a number first, and times in nanoseconds.
-use Rattle.std.specs.Prelude.{◌≡◌, ℕ, ◌+◌, ◌*◌, ◌/◌, ◌%◌, ◌<◌, ◌≤◌, List, [], ◌∷◌, ◌++◌, length, map, All, Option, Some, None}
+use Rattle.std.specs.Prelude.{ℕ, ◌/◌, ◌%◌, ◌<◌, ◌≤◌, List, ◌++◌, length, map, Some, None}
 use Rattle.std.specs.List.{flat_map}
 use Rattle.std.specs.Int.{w16, w32, to_le_bytes}
 use Rattle.em_pcap.specs.declared.writer.TimedFrame.{TimedFrame}
 use Rattle.em_pcap.specs.Frame.{Frame}
-use Rattle.em_pcap.specs.Reading.{Reading, reading_of}
+use Rattle.em_pcap.specs.Reading.{Reading}
 
 -- a frame with its time in nanoseconds
 pub record Timed : Type 0 where

@@ -1,7 +1,8 @@
 //! Blocks of pcapng files.
 ghost use Rattle.std.specs.Prelude.{◌≡◌, ◌≤◌, length, IsNone};
 ghost use Rattle.em_pcap.specs.Step.{IsWithin};
-ghost use Rattle.em_pcap.specs.Blocks.{block_type, block_total_length, least_length, length_fault, section_order, order_of};
+ghost use Rattle.em_pcap.specs.Blocks.{block_type, block_total_length, least_length, length_fault, section_order};
+ghost use Rattle.em_pcap.specs.Blocks.{order_of};
 ghost use Rattle.em_pcap.specs.Blocks.{section_step, body_step, block_step};
 
 use crate::fault::FaultKind;
@@ -28,8 +29,18 @@ const VERSION: u16 = 1;
 /// The octets of the shortest block.
 const LEAST: usize = 12;
 
-/// The octets of a block's length.
-const LENGTH: usize = 4;
+/// The octets of a block behind all else: its length again.
+pub(crate) const LENGTH_AGAIN: usize = 4;
+
+/// Where the fields lie that every block has.
+pub(crate) const BLOCK_TYPE: usize = 0;
+
+const BLOCK_TOTAL_LENGTH: usize = 4;
+
+/// Where those of a section header lie.
+const BYTE_ORDER_MAGIC: usize = 8;
+
+const MAJOR_VERSION: usize = 12;
 
 /// What stands at the front of these octets, in a section of this order with these interfaces.
 #[inline(always)]
@@ -58,7 +69,7 @@ fn order_of(order: Order, block: &[u8]) -> Option<Order>
     requires { 12 ≤ length block.now }
     ensures { result ≡ order_of order block.now }
 {
-    if Order::Little.u32_at(block, 0) == SECTION_HEADER {
+    if Order::Little.u32_at(block, BLOCK_TYPE) == SECTION_HEADER {
         section_order(block)
     } else {
         Some(order)
@@ -70,9 +81,9 @@ fn section_order(block: &[u8]) -> Option<Order>
     requires { 12 ≤ length block.now }
     ensures { result ≡ section_order block.now }
 {
-    if Order::Little.u32_at(block, 8) == BYTE_ORDER {
+    if Order::Little.u32_at(block, BYTE_ORDER_MAGIC) == BYTE_ORDER {
         Some(Order::Little)
-    } else if Order::Big.u32_at(block, 8) == BYTE_ORDER {
+    } else if Order::Big.u32_at(block, BYTE_ORDER_MAGIC) == BYTE_ORDER {
         Some(Order::Big)
     } else {
         None
@@ -87,15 +98,15 @@ fn length_fault(order: Order, octets: &[u8]) -> Option<FaultKind>
     ensures fields { IsNone result → least_length (block_type order octets.now) ≤ block_total_length order octets.now }
     ensures whole { IsNone result → block_total_length order octets.now ≤ length octets.now }
 {
-    let kind = order.u32_at(octets, 0);
-    let len = order.u32_at(octets, 4) as usize;
+    let kind = order.u32_at(octets, BLOCK_TYPE);
+    let len = order.u32_at(octets, BLOCK_TOTAL_LENGTH) as usize;
     if len < least_length(kind) || len % 4 != 0 {
         return Some(FaultKind::BlockLength);
     }
     if octets.len() < len {
         return Some(FaultKind::CutShort);
     }
-    if order.u32_at(octets, len - LENGTH) as usize != len {
+    if order.u32_at(octets, len - LENGTH_AGAIN) as usize != len {
         return Some(FaultKind::BlockLength);
     }
     None
@@ -126,8 +137,8 @@ fn body_step(order: Order, interfaces: &[Interface], block: &[u8]) -> Step
     ensures step { result ≡ body_step order interfaces.now block.now }
     ensures within { IsWithin (length block.now) result }
 {
-    let kind = order.u32_at(block, 0);
-    let len = order.u32_at(block, 4) as usize;
+    let kind = order.u32_at(block, BLOCK_TYPE);
+    let len = order.u32_at(block, BLOCK_TOTAL_LENGTH) as usize;
     if kind == SECTION_HEADER {
         section_step(order, block, len)
     } else if kind == INTERFACE_DESCRIPTION {
@@ -149,7 +160,7 @@ fn section_step(order: Order, block: &[u8], len: usize) -> Step
     ensures step { result ≡ section_step order block.now }
     ensures within { IsWithin (length block.now) result }
 {
-    if order.u16_at(block, 12) != VERSION {
+    if order.u16_at(block, MAJOR_VERSION) != VERSION {
         return Step::Stops(FaultKind::Version);
     }
     Step::Opens(len, Form::Section(order))

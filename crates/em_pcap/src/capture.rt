@@ -3,7 +3,7 @@ ghost use Rattle.std.specs.Prelude.{◌≡◌, ◌<◌, ◌≤◌, length, IsSom
 ghost use Rattle.em_pcap.specs.Step.{IsWithin};
 ghost use Rattle.em_pcap.specs.Reading.{step_of, start_step};
 
-use crate::block::{SECTION_HEADER, block_step};
+use crate::block::{BLOCK_TYPE, SECTION_HEADER, block_step};
 use crate::classic::{header_step, magic_of, record_step};
 use crate::fault::{CaptureError, CaptureFault, FaultKind};
 use crate::form::{Form, Interface, Step};
@@ -124,7 +124,7 @@ fn start_step(file: &[u8]) -> Step
     if file.len() < MAGIC {
         return Step::Stops(FaultKind::CutShort);
     }
-    if Order::Little.u32_at(file, 0) == SECTION_HEADER {
+    if Order::Little.u32_at(file, BLOCK_TYPE) == SECTION_HEADER {
         return block_step(Order::Little, &[], file);
     }
     match magic_of(file) {

@@ -19,6 +19,24 @@ const FILE_HEADER: usize = 24;
 /// The octets of a record's header.
 const RECORD_HEADER: usize = 16;
 
+/// Where the fields of a file's header lie that are read.
+const MAGIC_NUMBER: usize = 0;
+
+const VERSION_MAJOR: usize = 4;
+
+const SNAPLEN: usize = 16;
+
+const NETWORK: usize = 20;
+
+/// Where the fields of a record's header lie.
+const TS_SEC: usize = 0;
+
+const TS_FRACTION: usize = 4;
+
+const INCL_LEN: usize = 8;
+
+const ORIG_LEN: usize = 12;
+
 /// The major version that is known.
 const VERSION: u16 = 2;
 
@@ -33,8 +51,8 @@ pub(crate) fn magic_of(octets: &[u8]) -> Option<(Order, Unit)>
     requires { 4 ≤ length octets.now }
     ensures { result ≡ magic_of octets.now }
 {
-    let little = Order::Little.u32_at(octets, 0);
-    let big = Order::Big.u32_at(octets, 0);
+    let little = Order::Little.u32_at(octets, MAGIC_NUMBER);
+    let big = Order::Big.u32_at(octets, MAGIC_NUMBER);
     if little == MICROSECONDS {
         Some((Order::Little, Unit::Microseconds))
     } else if little == NANOSECONDS {
@@ -56,11 +74,11 @@ pub(crate) fn header_step(order: Order, unit: Unit, octets: &[u8]) -> Step
     if octets.len() < FILE_HEADER {
         return Step::Stops(FaultKind::CutShort);
     }
-    if order.u16_at(octets, 4) != VERSION {
+    if order.u16_at(octets, VERSION_MAJOR) != VERSION {
         return Step::Stops(FaultKind::Version);
     }
-    let snap = order.u32_at(octets, 16);
-    if order.u32_at(octets, 20) != u32::from(ETHERNET) {
+    let snap = order.u32_at(octets, SNAPLEN);
+    if order.u32_at(octets, NETWORK) != u32::from(ETHERNET) {
         return Step::Stops(FaultKind::LinkType);
     }
     Step::Opens(FILE_HEADER, Form::Classic(Header { order, unit, snap }))
@@ -79,10 +97,10 @@ pub(crate) fn record_step(header: Header, octets: &[u8]) -> Step
         return Step::Stops(FaultKind::CutShort);
     }
     let Header { order, unit, snap } = header;
-    let seconds = u64::from(order.u32_at(octets, 0));
-    let within = u64::from(order.u32_at(octets, 4));
-    let included = order.u32_at(octets, 8);
-    let original = order.u32_at(octets, 12);
+    let seconds = u64::from(order.u32_at(octets, TS_SEC));
+    let within = u64::from(order.u32_at(octets, TS_FRACTION));
+    let included = order.u32_at(octets, INCL_LEN);
+    let original = order.u32_at(octets, ORIG_LEN);
     if is_beyond(snap, included) {
         return Step::Stops(FaultKind::CapturedLength);
     }

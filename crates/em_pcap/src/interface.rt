@@ -4,19 +4,29 @@ ghost use Rattle.em_pcap.specs.Step.{IsWithin};
 ghost use Rattle.em_pcap.specs.Options.{option_value, padded, tick_in, tick_or_usual, tick_of};
 ghost use Rattle.em_pcap.specs.Blocks.{block_total_length, interface_step};
 
+use crate::block::LENGTH_AGAIN;
 use crate::classic::ETHERNET;
 use crate::fault::FaultKind;
 use crate::form::{Interface, Step};
 use crate::order::Order;
 
-/// The octets of a description's fields before its options.
-const FIELDS: usize = 16;
+/// Where the fields of a description lie that are read.
+const LINK_TYPE: usize = 8;
 
-/// The octets of a block behind all else: its length again.
-const LENGTH_AGAIN: usize = 4;
+const SNAP_LEN: usize = 12;
+
+const OPTIONS: usize = 16;
+
+/// The octets of a word, to which options are padded.
+const WORD: usize = 4;
 
 /// The octets of an option's code and length.
 const OPTION_HEAD: usize = 4;
+
+/// Where these lie.
+const OPTION_CODE: usize = 0;
+
+const OPTION_LENGTH: usize = 2;
 
 /// The code of the end of options.
 const END_OF_OPTIONS: u16 = 0;
@@ -52,11 +62,11 @@ pub(crate) fn interface_step(order: Order, block: &[u8], len: usize) -> Step
     ensures step { result ≡ interface_step order block.now }
     ensures within { IsWithin (length block.now) result }
 {
-    if order.u16_at(block, 8) != ETHERNET {
+    if order.u16_at(block, LINK_TYPE) != ETHERNET {
         return Step::Stops(FaultKind::LinkType);
     }
-    let snap = order.u32_at(block, 12);
-    let tick = tick_of(order, &block[FIELDS..len - LENGTH_AGAIN]);
+    let snap = order.u32_at(block, SNAP_LEN);
+    let tick = tick_of(order, &block[OPTIONS..len - LENGTH_AGAIN]);
     Step::Adds(len, Interface { snap, tick })
 }
 
@@ -97,9 +107,12 @@ fn option_value(order: Order, code: u16, options: &[u8]) -> Option<&[u8]>
 {
     let mut rest = options;
     while rest.len() >= OPTION_HEAD {
-        let found = order.u16_at(rest, 0);
-        let len = usize::from(order.u16_at(rest, 2));
-        if found == END_OF_OPTIONS || rest.len() < OPTION_HEAD + len {
+        let found = order.u16_at(rest, OPTION_CODE);
+        let len = usize::from(order.u16_at(rest, OPTION_LENGTH));
+        if found == END_OF_OPTIONS {
+            return None;
+        }
+        if rest.len() < OPTION_HEAD + len {
             return None;
         }
         if found == code {
@@ -111,10 +124,10 @@ fn option_value(order: Order, code: u16, options: &[u8]) -> Option<&[u8]>
     None
 }
 
-/// So many octets and their padding to a multiple of 4.
+/// So many octets and their padding to whole words.
 fn padded(len: usize) -> usize
     requires { len ≤ 0xFFFF }
     ensures { result ≡ padded len }
 {
-    len.next_multiple_of(4)
+    len.next_multiple_of(WORD)
 }

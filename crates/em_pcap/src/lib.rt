@@ -1,4 +1,10 @@
-//! Captures.
+//! Captures of Ethernet frames, read from octets in memory and written to a writer.
+//!
+//! [`Capture`] reads classic pcap and pcapng files, and gives the packets up to the end or to the first fault. Nothing
+//! is copied: a packet's octets are a slice of the file. [`write_capture`], or [`write_header`] and then
+//! [`write_record`], writes a classic file whose times are in nanoseconds.
+//!
+//! Nothing takes memory but the descriptions of a pcapng file's interfaces.
 #![tactic(auto)]
 
 mod block;

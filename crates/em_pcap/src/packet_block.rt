@@ -3,18 +3,28 @@ ghost use Rattle.std.specs.Prelude.{◌≡◌, ◌+◌, ◌≤◌, length};
 ghost use Rattle.em_pcap.specs.Step.{IsWithin};
 ghost use Rattle.em_pcap.specs.Blocks.{block_total_length, enhanced_step, simple_step, packet_step, snapped, time_of};
 
+use crate::block::LENGTH_AGAIN;
 use crate::fault::FaultKind;
 use crate::form::{Found, Interface, Step};
 use crate::order::Order;
 
-/// Where the packet begins in an enhanced packet block.
+/// Where the fields of an enhanced packet block lie, and its packet.
+const INTERFACE_ID: usize = 8;
+
+const TIMESTAMP_HIGH: usize = 12;
+
+const TIMESTAMP_LOW: usize = 16;
+
+const CAPTURED_PACKET_LENGTH: usize = 20;
+
+const ORIGINAL_PACKET_LENGTH: usize = 24;
+
 const ENHANCED_AT: usize = 28;
 
-/// Where the packet begins in a simple packet block.
-const SIMPLE_AT: usize = 12;
+/// Where the field of a simple packet block lies, and its packet.
+const SIMPLE_ORIGINAL_LENGTH: usize = 8;
 
-/// The octets of a block behind all else: its length again.
-const LENGTH_AGAIN: usize = 4;
+const SIMPLE_AT: usize = 12;
 
 /// What the upper half of a number of 64 bits counts.
 const UPPER_HALF: u64 = 0x1_0000_0000;
@@ -33,11 +43,11 @@ pub(crate) fn enhanced_step(
     ensures step { result ≡ enhanced_step order interfaces.now block.now }
     ensures within { IsWithin (length block.now) result }
 {
-    let id = order.u32_at(block, 8);
-    let high = u64::from(order.u32_at(block, 12));
-    let low = u64::from(order.u32_at(block, 16));
-    let captured = order.u32_at(block, 20);
-    let original = order.u32_at(block, 24);
+    let id = order.u32_at(block, INTERFACE_ID);
+    let high = u64::from(order.u32_at(block, TIMESTAMP_HIGH));
+    let low = u64::from(order.u32_at(block, TIMESTAMP_LOW));
+    let captured = order.u32_at(block, CAPTURED_PACKET_LENGTH);
+    let original = order.u32_at(block, ORIGINAL_PACKET_LENGTH);
     let Some(interface) = interfaces.get(id as usize).copied() else {
         return Step::Stops(FaultKind::NoInterface);
     };
@@ -61,7 +71,7 @@ pub(crate) fn simple_step(order: Order, interfaces: &[Interface], block: &[u8], 
     ensures step { result ≡ simple_step order interfaces.now block.now }
     ensures within { IsWithin (length block.now) result }
 {
-    let original = order.u32_at(block, 8);
+    let original = order.u32_at(block, SIMPLE_ORIGINAL_LENGTH);
     let Some(interface) = interfaces.get(0).copied() else {
         return Step::Stops(FaultKind::NoInterface);
     };

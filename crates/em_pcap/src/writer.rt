@@ -3,6 +3,7 @@ ghost use Rattle.std.specs.Prelude.{All, map};
 ghost use Rattle.em_text.specs.Writer.{Writes};
 ghost use Rattle.em_pcap.specs.Writing.{header_text, record_text, capture_text, Fits, timed};
 
+use crate::classic::SECOND;
 use em_text::{WriteFailed, write_pieces, write_whole};
 use std::io::Write;
 
@@ -11,9 +12,6 @@ pub const MOST_OCTETS: usize = 65_535;
 
 /// The latest time that is written, in nanoseconds since 1970 began: within a second of 2^32.
 pub const MOST_TIME: u64 = 4_294_967_295_999_999_999;
-
-/// The nanoseconds of a second.
-const SECOND: u64 = 1_000_000_000;
 
 /// The header of a file whose numbers have the lowest octet first, and whose times are in nanoseconds: magic_number,
 /// version 2.4, thiszone, sigfigs, snaplen 65,535, network 1.
@@ -53,7 +51,8 @@ pub fn write_record<W: Write>(writer: &mut W, frame: TimedFrame<'_>) -> Result<(
 /// Writes a capture of these frames, each of at most [`MOST_OCTETS`], with a time of at most [`MOST_TIME`].
 pub fn write_capture<W: Write>(writer: &mut W, frames: &[TimedFrame<'_>]) -> Result<(), WriteFailed>
     requires { All (λ frame. Fits (timed frame)) frames.now }
-    ensures writes { Writes (W.contents writer.old) (W.contents writer.new) result (capture_text (map timed frames.now)) }
+    ensures writes { Writes (W.contents writer.old) (W.contents writer.new) result
+        (capture_text (map timed frames.now)) }
 {
     write_header(writer)?;
     for frame in frames {

@@ -1,24 +1,22 @@
-use Rattle.std.proofs.Common.{◌≡◌, ◌+◌, ◌-◌, true, false, length, take, drop, min, sym, ap, ◌∙◌, arith}
+use Rattle.std.proofs.Common.{◌≡◌, ◌+◌, ◌-◌, false, length, take, drop, min, sym, ap, ◌∙◌, arith}
 use Rattle.std.proofs.lemmas.Bool.{eq-eqb, ne_eqb, lt-ltb, le-ltb, or_left, or_right, or_from}
 use Rattle.std.proofs.lemmas.List.{take_rest, drop_min}
 use Rattle.em_pcap.specs.Options.{option_length, option_value, padded}
-use Rattle.em_pcap.proofs.OptionLaws.{is_end, none_at_end, none_in_few, some_here, goes_on}
+use Rattle.em_pcap.proofs.OptionLaws.{is_end, none_at_end, none_in_few, goes_on}
 use Rattle.em_pcap.proofs.interface.option_value.Goals as goal
-use Rattle.em_pcap.proofs.interface.option_value.Goals.{then-found-eq-END_OF_OPTIONS-via-then-found-eq-END_OF_OPTIONS, then-found-eq-END_OF_OPTIONS-via-else-found-eq-END_OF_OPTIONS+then-rest-len}
 
 pub returns-then-found-eq-END_OF_OPTIONS : goal.returns-then-found-eq-END_OF_OPTIONS
 returns-then-found-eq-END_OF_OPTIONS c =
+    let end = or_left _ _ (or_right _ _ (eq-eqb _ _ (sym c.u16_at-found.ensures ∙ c.if-found-eq-END_OF_OPTIONS.true))) in
+    sym (none_at_end c.args.order c.args.code c.loop-rest.rest.now end) ∙ c.loop-rest.invariant
+
+pub returns-then-rest-len : goal.returns-then-rest-len
+returns-then-rest-len c =
     let order = c.args.order in
     let rest = c.loop-rest.rest.now in
-    let end : is_end order rest ≡ true =
-    elim c.then-found-eq-END_OF_OPTIONS.branch [
-      | then-found-eq-END_OF_OPTIONS-via-then-found-eq-END_OF_OPTIONS w ↦
-          or_left _ _ (or_right _ _ (eq-eqb _ _ (sym c.u16_at-found.ensures ∙ w.if-found-eq-END_OF_OPTIONS.true)))
-      | then-found-eq-END_OF_OPTIONS-via-else-found-eq-END_OF_OPTIONS+then-rest-len w ↦
-          or_right _ _ (lt-ltb (length rest) (4 + option_length order rest)
-          (omega (arith, w.if-rest-len.true, c.u16_at.ensures, c.from-len.ensures)))
-    ] in
-    sym (none_at_end order c.args.code rest end) ∙ c.loop-rest.invariant
+    let short = lt-ltb (length rest) (4 + option_length order rest)
+    (omega (arith, c.if-rest-len.true, c.u16_at.ensures, c.from-len.ensures)) in
+    sym (none_at_end order c.args.code rest (or_right _ _ short)) ∙ c.loop-rest.invariant
 
 pub loop-rest-preserved : goal.loop-rest-preserved
 loop-rest-preserved c =
@@ -41,4 +39,6 @@ loop-rest-preserved c =
     ∙ c.loop-rest.invariant
 
 pub returns : goal.returns
-returns c = sym (none_in_few c.args.order c.args.code c.loop-rest.rest.now c.loop-rest-test.false) ∙ c.loop-rest.invariant
+returns c =
+    let rest = c.loop-rest.rest.now in
+    sym (none_in_few c.args.order c.args.code rest c.loop-rest-test.false) ∙ c.loop-rest.invariant
