@@ -21,7 +21,11 @@ pub fn tell_speed<W: Write>(
         let (packets, error) = count(rt.alloc(), file);
         let spent = start.elapsed(rt)?.as_micros();
         let len = file.len();
-        let end = if error.is_some() { "with a fault" } else { "whole" };
+        let end = if error.is_some() {
+            "with a fault"
+        } else {
+            "whole"
+        };
         writeln!(out, "{packets} packets in {len} octets, {end}: {spent} us")?;
     }
     Ok(())
