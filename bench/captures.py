@@ -17,7 +17,8 @@ TOP = Path(__file__).resolve().parent.parent
 OCTETS = 100_000_000
 # of eleven frames, as they come in traffic of all kinds
 SIZES = [60] * 6 + [590] * 3 + [1514] * 2
-FRAME = bytes(1514)
+# zeros, with room for the padding of a block
+FRAME = bytes(1516)
 
 
 def classic(sizes: list[int], r: random.Random) -> bytes:
