@@ -1,0 +1,4 @@
+pub mod OptionLaws
+pub mod ReadingLaws
+pub mod CaptureLaws
+pub mod WritingLaws

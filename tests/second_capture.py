@@ -1,0 +1,153 @@
+"""The formats of captures once more, as docs/pcap.md has them: a plain program, written apart from the code."""
+import struct
+
+MAGIC, VERSION, CUT = "the magic number is not known", "the version is not known", "the file is cut short"
+LENGTH, LINK = "the block's length is wrong", "the link type is not Ethernet"
+CAPTURED, INTERFACE = "the captured length is too large", "the interface is not described"
+
+# by the first four octets: the order, and how many nanoseconds the smaller part of a time counts
+CLASSIC = {
+    b"\xd4\xc3\xb2\xa1": ("<", 1000), b"\xa1\xb2\xc3\xd4": (">", 1000),
+    b"\x4d\x3c\xb2\xa1": ("<", 1), b"\xa1\xb2\x3c\x4d": (">", 1),
+}
+SECTION = b"\x0a\x0d\x0d\x0a"
+ORDERS = {b"\x4d\x3c\x2b\x1a": "<", b"\x1a\x2b\x3c\x4d": ">"}
+DESCRIPTION, SIMPLE, ENHANCED = 1, 3, 6
+LEAST = {DESCRIPTION: 20, SIMPLE: 16, ENHANCED: 32}
+RESOLUTION, OFFSET = 9, 14
+UNLIMITED = 1 << 32
+
+
+class Fault(Exception):
+    """What is wrong, at the place where the reading stands."""
+
+
+class Reader:
+    """Reads one capture; `packets` are tuples of the original length, the octets and the time."""
+
+    def __init__(self, file: bytes) -> None:
+        self.file, self.at, self.packets, self.fault = file, 0, [], None
+        try:
+            self.read()
+        except Fault as fault:
+            self.fault = f"octet {self.at}: {fault}"
+
+    def read(self) -> None:
+        front = self.file[:4]
+        if len(front) < 4:
+            raise Fault(CUT)
+        if front == SECTION:
+            self.blocks()
+        elif front in CLASSIC:
+            self.records(*CLASSIC[front])
+        else:
+            raise Fault(MAGIC)
+
+    # ---- classic files
+
+    def records(self, order: str, unit: int) -> None:
+        if len(self.file) < 24:
+            raise Fault(CUT)
+        major, snap, network = struct.unpack_from(order + "H10xII", self.file, 4)
+        if major != 2:
+            raise Fault(VERSION)
+        if network != 1:
+            raise Fault(LINK)
+        self.at, snap = 24, snap or UNLIMITED
+        while self.at < len(self.file):
+            if len(self.file) - self.at < 16:
+                raise Fault(CUT)
+            seconds, part, captured, original = struct.unpack_from(order + "IIII", self.file, self.at)
+            if captured > snap:
+                raise Fault(CAPTURED)
+            octets = self.file[self.at + 16 : self.at + 16 + captured]
+            if len(octets) < captured:
+                raise Fault(CUT)
+            self.packets.append((original, octets, seconds * 10**9 + part * unit))
+            self.at += 16 + captured
+
+    # ---- pcapng
+
+    def blocks(self) -> None:
+        order, interfaces = "", []
+        while left := len(self.file) - self.at:
+            if left < 12:
+                raise Fault(CUT)
+            kind_octets, magic = (self.file[self.at + at : self.at + at + 4] for at in (0, 8))
+            if begins := kind_octets == SECTION:
+                if magic not in ORDERS:
+                    raise Fault(MAGIC)
+                order = ORDERS[magic]
+            kind, size = struct.unpack_from(order + "II", self.file, self.at)
+            if size < (28 if begins else LEAST.get(kind, 12)) or size & 3:
+                raise Fault(LENGTH)
+            if size > left:
+                raise Fault(CUT)
+            block = self.file[self.at : self.at + size]
+            if block[-4:] != block[4:8]:
+                raise Fault(LENGTH)
+            if begins:
+                if struct.unpack_from(order + "H", block, 12) != (1,):
+                    raise Fault(VERSION)
+                interfaces = []
+            elif kind == DESCRIPTION:
+                interfaces.append(described(order, block))
+            elif kind in (SIMPLE, ENHANCED):
+                self.packets.append(packet(order, block, kind, interfaces))
+            self.at += size
+
+
+def described(order: str, block: bytes) -> tuple[int, int | None]:
+    """The snap length and the clock of an interface: how many nanoseconds it counts as one, if that is known."""
+    link, snap = struct.unpack_from(order + "H2xI", block, 8)
+    if link != 1:
+        raise Fault(LINK)
+    said = options(order, block[16:-4])
+    if OFFSET in said:
+        return snap or UNLIMITED, None
+    power = said.get(RESOLUTION, b"\x06")
+    return snap or UNLIMITED, 10 ** (9 - power[0]) if len(power) == 1 and power[0] <= 9 else None
+
+
+def options(order: str, octets: bytes) -> dict[int, bytes]:
+    """The first option of each code."""
+    said = {}
+    while len(octets) >= 4:
+        code, size = struct.unpack_from(order + "HH", octets)
+        if code == 0 or len(octets) < 4 + size:
+            break
+        said.setdefault(code, octets[4 : 4 + size])
+        octets = octets[4 + size + -size % 4 :]
+    return said
+
+
+def packet(order: str, block: bytes, kind: int, interfaces: list) -> tuple[int, bytes, int | None]:
+    if kind == ENHANCED:
+        which, high, low, captured, original = struct.unpack_from(order + "IIIII", block, 8)
+        octets = block[28:-4]
+    else:
+        (original,), which = struct.unpack_from(order + "I", block, 8), 0
+        octets = block[12:-4]
+    if which >= len(interfaces):
+        raise Fault(INTERFACE)
+    snap, clock = interfaces[which]
+    if kind == SIMPLE:
+        captured = min(original, snap)
+    if captured > snap or captured > len(octets):
+        raise Fault(CAPTURED)
+    time = None
+    if kind == ENHANCED and clock is not None and ((high << 32) + low) * clock < 1 << 64:
+        time = ((high << 32) + low) * clock
+    return original, octets[:captured], time
+
+
+def told(file: bytes) -> str:
+    """What em_captures tells of a capture."""
+    reader = Reader(file)
+    lines = []
+    for original, octets, time in reader.packets:
+        is_cut = "cut" if len(octets) < original else "whole"
+        lines.append(f"{original} {is_cut} {'-' if time is None else time} {octets.hex().upper()}\n")
+    if reader.fault:
+        lines.append(reader.fault + "\n")
+    return "".join(lines) + "end\n"
