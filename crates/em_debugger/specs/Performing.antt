@@ -43,11 +43,10 @@ IsLast d = length d.tape.lines ≤ line_here d.tape
 
 -- ---- texts
 
--- a line that was performed, with its number
-abbrev pub heading_text : Debugger → Performed → List ℕ
-heading_text d performed =
-    number_text (codes "line ") performed.line (codes ": ")
-    ++ (short_text (text_of performed.line d.tape) ++ codes "\n")
+-- a line with its number
+abbrev pub heading_text : Debugger → ℕ → List ℕ
+heading_text d line =
+    number_text (codes "line ") line (codes ": ") ++ (short_text (text_of line d.tape) ++ codes "\n")
 
 -- no line lies ahead, behind so many that did
 abbrev pub no_line_text : ℕ → List ℕ
@@ -96,18 +95,22 @@ abbrev pub warned_text : Debugger → ℕ → List ℕ
 warned_text d line =
     if d.warns then warnings_text d.tape.session.machine.present (text_of line d.tape) d.answer.items else []
 
+-- what stands behind the answer to a line: its warnings, and how it differs from what the line expects
+abbrev pub behind_text : Debugger → ℕ → List ℕ
+behind_text d line = warned_text d line ++ compared_text d line
+
 -- a line that was performed is answered as em_bench answers it, where its event did nothing with the reason, and its
 -- warnings stand behind that, and how it differs from what the line expects
 pub record AnswersPerformed (d : Debugger) (p : Performed) (text : List ℕ) : Type 0 where
   pub explained : List ℕ
   pub because : Explains d.tape.session.machine.present (text_of p.line d.tape) d.answer.items explained
-  pub told : text ≡ explained ++ (warned_text d p.line ++ compared_text d p.line)
+  pub told : text ≡ explained ++ behind_text d p.line
 
 -- the line, and then its answer
 pub record ShowsPerformed (d : Debugger) (p : Performed) (text : List ℕ) : Type 0 where
   pub answer : List ℕ
   pub answers : AnswersPerformed d p answer
-  pub told : text ≡ heading_text d p ++ answer
+  pub told : text ≡ heading_text d p.line ++ answer
 
 -- a line that lay ahead is answered so; or it is said why it was not performed, and the lines stay
 pub data AnswersNext (old new : Debugger) (text : List ℕ) : Type 0 where

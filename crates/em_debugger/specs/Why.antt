@@ -6,7 +6,6 @@ use Rattle.em_explain.specs.Explain.{Explains}
 use Rattle.em_explain.specs.Looked.{LookedAt}
 use Rattle.em_explain.specs.LookText.{look_text}
 use Rattle.em_explain.specs.Watched.{IsWatchOf}
-use Rattle.em_looks.specs.Numbers.{number_text, short_text}
 use Rattle.em_reasons.specs.declared.look.Look.{Look}
 use Rattle.em_tape.specs.Ends.{end_of}
 use Rattle.em_tape.specs.Tape.{Tape, event_of}
@@ -17,6 +16,7 @@ use Rattle.em_debugger.specs.declared.search.Sought.TheVariants as sought
 use Rattle.em_debugger.specs.Debugger.{told}
 use Rattle.em_debugger.specs.Deeper.{IsAgain, lines_here}
 use Rattle.em_debugger.specs.Moves.{IsBehind}
+use Rattle.em_debugger.specs.Performing.{heading_text}
 use Rattle.em_debugger.specs.Place.{line_here, text_of}
 use Rattle.em_debugger.specs.Search.{Seeks}
 use Rattle.em_debugger.specs.Who.{event_text}
@@ -38,18 +38,14 @@ newest_undone d (suc k) = if is_undone (told (suc k) d) then suc k else newest_u
 
 -- ---- texts
 
-abbrev pub heading_text : Debugger → ℕ → List ℕ
-heading_text d line =
-    number_text (codes "line ") line (codes ": ") ++ (short_text (text_of line d.tape) ++ codes "\n")
-
-abbrev pub sought_setter : Tape → Sought → List ℕ
-sought_setter tape (sought.Found found) = event_text tape found.event ++ codes "\n"
-sought_setter tape sought.Never = codes "no event changed it\n"
-sought_setter tape sought.Unreached = codes "no memory to see what changed it\n"
+abbrev pub found_setter : Tape → ℕ → List ℕ
+found_setter tape event = codes "    " ++ (event_text tape event ++ codes "\n")
 
 -- the event that set it
 abbrev pub setter_text : Tape → Sought → List ℕ
-setter_text tape s = codes "    " ++ sought_setter tape s
+setter_text tape (sought.Found found) = found_setter tape found.event
+setter_text tape sought.Never = codes "    no event changed it\n"
+setter_text tape sought.Unreached = codes "    no memory to see what changed it\n"
 
 -- ---- what is told
 

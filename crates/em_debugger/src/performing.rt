@@ -8,7 +8,7 @@ ghost use Rattle.em_debugger.specs.Performing.{Performs, IsLast, Cuts, AddsLine,
 ghost use Rattle.em_debugger.specs.Performing.{AnswersNew, AnswersAdded, AnswersPerformed, ShowsPerformed};
 ghost use Rattle.em_debugger.specs.Performing.{heading_text, looks_back};
 ghost use Rattle.em_debugger.specs.Performing.{is_among_lines, dropped_text, dropped_lines_text};
-ghost use Rattle.em_debugger.specs.Performing.{fault_text, warned_text};
+ghost use Rattle.em_debugger.specs.Performing.{behind_text, fault_text, warned_text};
 
 use crate::bench_looks::{answer_look, is_look};
 use crate::debugger::Debugger;
@@ -143,8 +143,15 @@ impl Debugger {
         let machine = self.tape.machine();
         let line = text_of(&self.tape, performed.line);
         write_explained(self.alloc, writer, machine, line, self.answer.as_slice())?;
-        self.write_warned(writer, performed.line)?;
-        self.write_compared(writer, performed.line)
+        self.write_behind(writer, performed.line)
+    }
+
+    /// Writes what stands behind the answer to a line.
+    fn write_behind<W: Write>(&self, writer: &mut W, line: usize) -> Result<(), WriteFailed>
+        ensures writes { Writes (W.contents writer.old) (W.contents writer.new) result (behind_text self.now line) }
+    {
+        self.write_warned(writer, line)?;
+        self.write_compared(writer, line)
     }
 
     /// Writes the warnings of a line, if they are to be said.
@@ -199,21 +206,20 @@ impl Debugger {
         ensures ok { OnOk result ((said : List ℕ) × Appends (W.contents writer.old) (W.contents writer.new) said
             × ShowsPerformed self.now performed said) }
     {
-        self.write_heading(writer, performed)?;
+        self.write_heading(writer, performed.line)?;
         self.write_answered(writer, performed)
     }
 
     /// Writes a line and its number.
-    fn write_heading<W: Write>(
+    pub(crate) fn write_heading<W: Write>(
         &self,
         writer: &mut W,
-        performed: Performed,
+        line: usize,
     ) -> Result<(), WriteFailed>
-        ensures writes { Writes (W.contents writer.old) (W.contents writer.new) result
-            (heading_text self.now performed) }
+        ensures writes { Writes (W.contents writer.old) (W.contents writer.new) result (heading_text self.now line) }
     {
-        write_number(writer, b"line ", performed.line as u64, b": ")?;
-        write_short(writer, text_of(&self.tape, performed.line))?;
+        write_number(writer, b"line ", line as u64, b": ")?;
+        write_short(writer, text_of(&self.tape, line))?;
         write_whole(writer, b"\n")
     }
 }

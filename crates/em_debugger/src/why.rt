@@ -5,8 +5,9 @@ ghost use Rattle.em_text.specs.Writer.{Writes};
 ghost use Rattle.em_debugger.specs.Deeper.{IsAgain};
 ghost use Rattle.em_debugger.specs.Moves.{IsBehind};
 ghost use Rattle.em_debugger.specs.Place.{line_here};
-ghost use Rattle.em_debugger.specs.Why.{TellsLook, TellsLooks, TellsSetter, TellsWhy, TellsWhyAt, TellsWhyOf, heading_text};
-ghost use Rattle.em_debugger.specs.Why.{begins_with, is_undone, newest_undone, setter_text};
+ghost use Rattle.em_debugger.specs.Why.{TellsLook, TellsLooks, TellsSetter, TellsWhy, TellsWhyAt, TellsWhyOf};
+ghost use Rattle.em_debugger.specs.Performing.{heading_text};
+ghost use Rattle.em_debugger.specs.Why.{begins_with, found_setter, is_undone, newest_undone, setter_text};
 
 use crate::debugger::Debugger;
 use crate::deeper::behind;
@@ -14,7 +15,6 @@ use crate::place::{line_here, text_of};
 use crate::search::{Sought, search};
 use crate::who::write_event;
 use em_explain::{looked_at, watch_of, write_explained, write_look};
-use em_looks::{write_number, write_short};
 use em_reasons::Look;
 use em_tape::Tape;
 use em_text::{WriteFailed, is_name, write_whole};
@@ -72,7 +72,7 @@ impl Debugger {
         ensures writes { Writes (W.contents writer.old) (W.contents writer.new) result
             (heading_text self.now line ++ codes "  no memory to play it again\n") }
     {
-        self.write_heading_of(writer, line)?;
+        self.write_heading(writer, line)?;
         write_whole(writer, b"  no memory to play it again\n")
     }
 
@@ -86,22 +86,13 @@ impl Debugger {
         write_whole(&mut answer, b"\n")?;
         let answer = answer.as_slice();
         let text = text_of(&self.tape, line);
-        self.write_heading_of(writer, line)?;
+        self.write_heading(writer, line)?;
         write_whole(writer, b"  ")?;
         write_explained(self.alloc, writer, tape.machine(), text, answer)?;
         match looked_at(self.alloc, tape.machine(), text, answer) {
             Ok(looks) => self.write_looks(writer, tape, looks.as_slice()),
             Err(_) => Err(WriteFailed),
         }
-    }
-
-    /// Writes the number and the text of a line.
-    fn write_heading_of<W: Write>(&self, writer: &mut W, line: usize) -> Result<(), WriteFailed>
-        ensures writes { Writes (W.contents writer.old) (W.contents writer.new) result (heading_text self.now line) }
-    {
-        write_number(writer, b"line ", line as u64, b": ")?;
-        write_short(writer, text_of(&self.tape, line))?;
-        write_whole(writer, b"\n")
     }
 
     /// Writes what was looked at, each with the event that set it.
@@ -162,15 +153,20 @@ fn write_sought_setter<W: Write>(
 ) -> Result<(), WriteFailed>
     ensures writes { Writes (W.contents writer.old) (W.contents writer.new) result (setter_text tape.now sought) }
 {
-    write_whole(writer, b"    ")?;
     match sought {
-        Sought::Found(found) => {
-            write_event(writer, tape, found.event)?;
-            write_whole(writer, b"\n")
-        }
-        Sought::Never => write_whole(writer, b"no event changed it\n"),
-        Sought::Unreached => write_whole(writer, b"no memory to see what changed it\n"),
+        Sought::Found(found) => write_found_setter(writer, tape, found.event),
+        Sought::Never => write_whole(writer, b"    no event changed it\n"),
+        Sought::Unreached => write_whole(writer, b"    no memory to see what changed it\n"),
     }
+}
+
+/// Writes the event that set it.
+fn write_found_setter<W: Write>(writer: &mut W, tape: &Tape, event: u64) -> Result<(), WriteFailed>
+    ensures writes { Writes (W.contents writer.old) (W.contents writer.new) result (found_setter tape.now event) }
+{
+    write_whole(writer, b"    ")?;
+    write_event(writer, tape, event)?;
+    write_whole(writer, b"\n")
 }
 
 /// Whether an answer says that an event did nothing.

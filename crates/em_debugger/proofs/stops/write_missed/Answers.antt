@@ -5,3 +5,6 @@ returns-in-Dropped g c = record { writes = rw c.in-Dropped.is c.write_whole-in-D
 
 pub returns-in-Line : goal.returns-in-Line
 returns-in-Line g c = record { writes = rw c.in-Line.is c.write_number.ensures.writes }
+
+pub returns-in-Differs : goal.returns-in-Differs
+returns-in-Differs g c = record { writes = rw c.in-Differs.is c.write_whole-in-Differs.ensures.writes }

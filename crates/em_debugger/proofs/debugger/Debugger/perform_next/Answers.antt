@@ -1,5 +1,6 @@
 use Rattle.std.proofs.Common.{◌≡◌, ◌+◌, ◌∙◌, ap, length, refl, arith}
 use Rattle.std.specs.Prelude.{min}
+use Rattle.em_debugger.specs.declared.debugger.Debugger.{Debugger}
 use Rattle.em_debugger.specs.Place.{line_here}
 use Rattle.em_debugger.proofs.AddingLaws.{line_here-whole}
 use Rattle.em_debugger.proofs.debugger.Debugger.perform_next.Goals as goal
@@ -23,4 +24,7 @@ returns-in-Ok-clause-some c =
       noted = rw c.as_slice.ensures.value at c.in-Ok.ensures.ok;
       settings = refl;
       asked = refl;
+      warns = refl;
+      wanted = refl;
+      score = ap (λ (d : Debugger). d.score) c.count_answer.ensures;
     }

@@ -8,7 +8,7 @@ returns g c =
     let d = c.args.self.now in
     let p = c.args.performed in
     record {
-      ok = OnOk-behind _ _ _ c.write_explained.result (heading_text d p) (AnswersPerformed d p) (ShowsPerformed d p)
+      ok = OnOk-behind _ _ _ c.write_answered.result (heading_text d p.line) (AnswersPerformed d p) (ShowsPerformed d p)
           c.in_ok-write_heading.ensures.writes (λ t h. record { answer = t; answers = h; told = refl })
-          c.write_explained.ensures.ok;
+          c.write_answered.ensures.ok;
     }
