@@ -14,3 +14,4 @@ pub mod StopsLaws
 pub mod TextLaws
 pub mod ToldLaws
 pub mod WhoLaws
+pub mod WhyLaws

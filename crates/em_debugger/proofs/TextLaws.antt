@@ -3,6 +3,7 @@ use Rattle.std.proofs.Common.{◌≡◌, ◌≢◌, ℕ, ◌<◌, ◌≤◌, con
 use Rattle.std.proofs.lemmas.Bool.{lt-ltb, le-ltb, ne_eqb}
 use Rattle.std.specs.Prelude.{OnOk, IsTrue}
 use Rattle.std.specs.Io.KnownBytes.{Appends}
+use Rattle.em_looks.specs.Effects.{WritesSuch}
 use Rattle.em_text.specs.Writer.{Writes}
 use Rattle.em_text.proofs.WritingLemmas.{Appends-more}
 
@@ -56,3 +57,11 @@ pub OnOk-behind-written : {T E : Type 0} (old between new : Option (List ℕ)) (
 OnOk-behind-written old between new (Ok x) front text P first then p =
     (front ++ text, Appends-more old between new front text _ first then refl, p)
 OnOk-behind-written old between new (Err x) front text P first then p = tt
+
+-- the same of a text of which something is told, as em_looks says it
+pub OnOk-such-behind : {T E : Type 0} (old between new : Option (List ℕ)) (result : Result T E) (front : List ℕ)
+    (P Q : List ℕ → Type 0) → Appends old between front → ((t : List ℕ) → P t → Q (front ++ t))
+    → OnOk result (WritesSuch P between new) → OnOk result ((t : List ℕ) × Appends old new t × Q t)
+OnOk-such-behind old between new (Ok x) front P Q written so h =
+    (front ++ h.text, Appends-more old between new front h.text _ written h.written refl, so h.text h.such)
+OnOk-such-behind old between new (Err x) front P Q written so h = tt

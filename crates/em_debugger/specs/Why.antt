@@ -47,6 +47,14 @@ setter_text tape (sought.Found found) = found_setter tape found.event
 setter_text tape sought.Never = codes "    no event changed it\n"
 setter_text tape sought.Unreached = codes "    no memory to see what changed it\n"
 
+-- what was looked at, and its value
+abbrev pub look_line : Tape → Look → List ℕ
+look_line tape look = codes "  " ++ (look_text tape.session.machine.present look ++ codes "\n")
+
+-- the line, and the blanks before its answer
+abbrev pub front_text : Debugger → ℕ → List ℕ
+front_text d line = heading_text d line ++ codes "  "
+
 -- ---- what is told
 
 -- the newest change up to the place of a tape
@@ -65,7 +73,7 @@ pub record TellsLook (d : Debugger) (tape : Tape) (look : Look) (text : List ℕ
   pub watched : IsWatchOf look watch
   pub setter : List ℕ
   pub sets : TellsWatch d tape watch setter
-  pub told : text ≡ (codes "  " ++ (look_text tape.session.machine.present look ++ codes "\n")) ++ setter
+  pub told : text ≡ look_line tape look ++ setter
 
 -- one after another
 pub data TellsLooks (d : Debugger) (tape : Tape) : List Look → List ℕ → Type 0 where
@@ -73,15 +81,21 @@ pub data TellsLooks (d : Debugger) (tape : Tape) : List Look → List ℕ → Ty
   next : (look : Look) (looks : List Look) (first rest : List ℕ) → TellsLook d tape look first
       → TellsLooks d tape looks rest → TellsLooks d tape (look ∷ looks) (first ++ rest)
 
--- by what is kept of the answer, over a tape that stands behind the line
-pub record TellsWhyAt (d : Debugger) (tape : Tape) (line : ℕ) (text : List ℕ) : Type 0 where
+-- the line, and its answer with the reason, over a tape that stands behind the line
+pub record TellsReason (d : Debugger) (tape : Tape) (line : ℕ) (answer text : List ℕ) : Type 0 where
   pub explained : List ℕ
-  pub because : Explains tape.session.machine.present (text_of line d.tape) (told line d ++ codes "\n") explained
+  pub because : Explains tape.session.machine.present (text_of line d.tape) answer explained
+  pub said : text ≡ front_text d line ++ explained
+
+-- by what is kept of the answer, the reason, and what was looked at
+pub record TellsWhyAt (d : Debugger) (tape : Tape) (line : ℕ) (text : List ℕ) : Type 0 where
+  pub reason : List ℕ
+  pub because : TellsReason d tape line (told line d ++ codes "\n") reason
   pub looks : List Look
   pub looked : LookedAt tape.session.machine.present (text_of line d.tape) (told line d ++ codes "\n") looks
   pub rest : List ℕ
   pub tells : TellsLooks d tape looks rest
-  pub said : text ≡ heading_text d line ++ (codes "  " ++ (explained ++ rest))
+  pub said : text ≡ reason ++ rest
 
 -- over the session's own tape, where it stands behind the line; or over a second one of the first lines, which does;
 -- or there was no memory for that

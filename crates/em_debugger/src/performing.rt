@@ -190,9 +190,11 @@ impl Debugger {
             Err(_) => return Err(BenchFault::Memory),
         };
         let line = line + 1;
-        self.count_answer(line);
         match self.told.note(line, self.answer.as_slice()) {
-            Ok(()) => Ok(Some(Performed { line, outcome })),
+            Ok(()) => {
+                self.count_answer(line);
+                Ok(Some(Performed { line, outcome }))
+            }
             Err(_) => Err(BenchFault::Memory),
         }
     }

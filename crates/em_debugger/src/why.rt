@@ -5,9 +5,10 @@ ghost use Rattle.em_text.specs.Writer.{Writes};
 ghost use Rattle.em_debugger.specs.Deeper.{IsAgain};
 ghost use Rattle.em_debugger.specs.Moves.{IsBehind};
 ghost use Rattle.em_debugger.specs.Place.{line_here};
-ghost use Rattle.em_debugger.specs.Why.{TellsLook, TellsLooks, TellsSetter, TellsWhy, TellsWhyAt, TellsWhyOf};
 ghost use Rattle.em_debugger.specs.Performing.{heading_text};
-ghost use Rattle.em_debugger.specs.Why.{begins_with, found_setter, is_undone, newest_undone, setter_text};
+ghost use Rattle.em_debugger.specs.Why.{TellsLook, TellsLooks, TellsReason, TellsSetter, TellsWatch, TellsWhy};
+ghost use Rattle.em_debugger.specs.Why.{TellsWhyAt, TellsWhyOf, begins_with, found_setter, front_text, is_undone};
+ghost use Rattle.em_debugger.specs.Why.{look_line, newest_undone, setter_text};
 
 use crate::debugger::Debugger;
 use crate::deeper::behind;
@@ -17,7 +18,7 @@ use crate::who::write_event;
 use em_explain::{looked_at, watch_of, write_explained, write_look};
 use em_reasons::Look;
 use em_tape::Tape;
-use em_text::{WriteFailed, is_name, write_whole};
+use em_text::{WriteFailed, is_name, write_pieces, write_whole};
 use em_watch::Watch;
 use std::io::Write;
 
@@ -28,13 +29,14 @@ impl Debugger {
         ensures ok { OnOk result ((text : List ℕ) × Appends (W.contents writer.old) (W.contents writer.new) text
             × TellsWhy self.now text) }
     {
-        match self.newest_undone(line_here(&self.tape)) {
-            0 => write_whole(
+        let line = self.newest_undone(line_here(&self.tape));
+        if line == 0 {
+            return write_whole(
                 writer,
                 b"no step was idle, no frame dropped, nothing refused\n",
-            ),
-            line => self.why_of(writer, line),
+            );
         }
+        self.why_of(writer, line)
     }
 
     /// Of the first so many lines the newest whose answer says that it did nothing; 0 where none does.
@@ -82,17 +84,42 @@ impl Debugger {
             × TellsWhyAt self.now tape.now line text) }
     {
         let mut answer = Vec::new(self.alloc);
-        write_whole(&mut answer, self.told.of(line))?;
-        write_whole(&mut answer, b"\n")?;
+        write_pieces(&mut answer, &[self.told.of(line), b"\n"])?;
         let answer = answer.as_slice();
-        let text = text_of(&self.tape, line);
-        self.write_heading(writer, line)?;
-        write_whole(writer, b"  ")?;
-        write_explained(self.alloc, writer, tape.machine(), text, answer)?;
-        match looked_at(self.alloc, tape.machine(), text, answer) {
+        self.write_reason(writer, tape, line, answer)?;
+        match looked_at(
+            self.alloc,
+            tape.machine(),
+            text_of(&self.tape, line),
+            answer,
+        ) {
             Ok(looks) => self.write_looks(writer, tape, looks.as_slice()),
             Err(_) => Err(WriteFailed),
         }
+    }
+
+    /// Writes a line, and its answer with the reason.
+    fn write_reason<W: Write>(
+        &self,
+        writer: &mut W,
+        tape: &Tape,
+        line: usize,
+        answer: &[u8],
+    ) -> Result<(), WriteFailed>
+        ensures ok { OnOk result ((text : List ℕ) × Appends (W.contents writer.old) (W.contents writer.new) text
+            × TellsReason self.now tape.now line answer.now text) }
+    {
+        self.write_front(writer, line)?;
+        let text = text_of(&self.tape, line);
+        write_explained(self.alloc, writer, tape.machine(), text, answer)
+    }
+
+    /// Writes a line, and the blanks before its answer.
+    fn write_front<W: Write>(&self, writer: &mut W, line: usize) -> Result<(), WriteFailed>
+        ensures writes { Writes (W.contents writer.old) (W.contents writer.new) result (front_text self.now line) }
+    {
+        self.write_heading(writer, line)?;
+        write_whole(writer, b"  ")
     }
 
     /// Writes what was looked at, each with the event that set it.
@@ -121,10 +148,21 @@ impl Debugger {
         ensures ok { OnOk result ((text : List ℕ) × Appends (W.contents writer.old) (W.contents writer.new) text
             × TellsLook self.now tape.now look text) }
     {
-        write_whole(writer, b"  ")?;
-        write_look(writer, tape.machine(), look)?;
-        write_whole(writer, b"\n")?;
-        match watch_of(look) {
+        write_look_line(writer, tape, look)?;
+        self.write_watch_setter(writer, tape, watch_of(look))
+    }
+
+    /// Writes which event set it, if it can be watched.
+    fn write_watch_setter<W: Write>(
+        &self,
+        writer: &mut W,
+        tape: &Tape,
+        watch: Option<Watch>,
+    ) -> Result<(), WriteFailed>
+        ensures ok { OnOk result ((text : List ℕ) × Appends (W.contents writer.old) (W.contents writer.new) text
+            × TellsWatch self.now tape.now watch text) }
+    {
+        match watch {
             Some(watch) => self.write_setter(writer, tape, watch),
             None => Ok(()),
         }
@@ -143,6 +181,15 @@ impl Debugger {
         let sought = search(self.alloc, self.settings, tape, watch, tape.event());
         write_sought_setter(writer, tape, sought)
     }
+}
+
+/// Writes what was looked at, and its value.
+fn write_look_line<W: Write>(writer: &mut W, tape: &Tape, look: Look) -> Result<(), WriteFailed>
+    ensures writes { Writes (W.contents writer.old) (W.contents writer.new) result (look_line tape.now look) }
+{
+    write_whole(writer, b"  ")?;
+    write_look(writer, tape.machine(), look)?;
+    write_whole(writer, b"\n")
 }
 
 /// Writes the event that a search gave.

@@ -9,8 +9,8 @@ returns-in-Ok-Some g c =
     let new = c.perform_next.new.self in
     let p = c.in-Ok-Some.performed in
     record {
-      ok = OnOk-told _ _ c.write_explained.result (AnswersPerformed new p) (AnswersNext old new)
-          (λ t h. performed p (rw c.in-Ok-Some.field-0-is at c.in-Ok-Some.ensures.some) h) c.write_explained.ensures.ok;
+      ok = OnOk-told _ _ c.write_answered.result (AnswersPerformed new p) (AnswersNext old new)
+          (λ t h. performed p (rw c.in-Ok-Some.field-0-is at c.in-Ok-Some.ensures.some) h) c.write_answered.ensures.ok;
     }
 
 pub returns-in-Err : goal.returns-in-Err

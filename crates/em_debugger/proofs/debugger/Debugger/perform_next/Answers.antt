@@ -1,6 +1,5 @@
 use Rattle.std.proofs.Common.{◌≡◌, ◌+◌, ◌∙◌, ap, length, refl, arith}
 use Rattle.std.specs.Prelude.{min}
-use Rattle.em_debugger.specs.declared.debugger.Debugger.{Debugger}
 use Rattle.em_debugger.specs.Place.{line_here}
 use Rattle.em_debugger.proofs.AddingLaws.{line_here-whole}
 use Rattle.em_debugger.proofs.debugger.Debugger.perform_next.Goals as goal
@@ -12,7 +11,7 @@ returns-in-Ok-clause-some c =
     let all : min line (length old.ends) ≡ line = omega (arith, c.line_here-line.ensures.performed) in
     let there : min line (length old.ends) ≡ line_here old = all ∙ c.line_here-line.ensures.line in
     let before = c.to_line.new.self in
-    record {
+    rw c.count_answer.ensures (record {
       number = ap (λ n. n + 1) c.line_here-line.ensures.line;
       before = before;
       whole = record {
@@ -26,5 +25,5 @@ returns-in-Ok-clause-some c =
       asked = refl;
       warns = refl;
       wanted = refl;
-      score = ap (λ (d : Debugger). d.score) c.count_answer.ensures;
-    }
+      score = refl;
+    })

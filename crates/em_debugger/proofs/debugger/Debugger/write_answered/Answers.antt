@@ -7,8 +7,10 @@ pub returns : goal.returns
 returns g c =
     let d = c.args.self.now in
     let p = c.args.performed in
-    let said = c.in_ok-write_explained.ensures.ok in
+    let said =
+    rw (c.machine-machine.ensures.value, c.text_of-line.ensures, c.as_slice.ensures.value) at
+    c.in_ok-write_explained.ensures.ok in
     record {
-      ok = OnOk-behind-written _ _ _ c.write_behind.result said.0 (behind_text d p.line) (AnswersPerformed d p) said.1
-          c.write_behind.ensures.writes (record { explained = said.0; because = said.2; told = refl });
+      ok = OnOk-behind-written _ _ _ c.write_behind.result said.text (behind_text d p.line) (AnswersPerformed d p) said.written
+          c.write_behind.ensures.writes (record { explained = said.text; because = said.such; told = refl });
     }
