@@ -157,14 +157,17 @@ uint32_t em_poke(em_machine *machine, uint64_t address, const uint8_t *octets, s
 /* Copies octets out; any number of them. It is no event. */
 uint32_t em_peek(em_machine *machine, uint64_t address, uint8_t *out, size_t length);
 
-/* Makes `ram` what guest memory is, after events and after steps back. Refused as EM_LENGTH where `size` is not the size
-   of guest memory. The cost is that of copying it. */
+/* Makes `ram` what guest memory is, after events and after steps back, whatever `ram` held. An octet that is the same
+   already is not written. Refused as EM_LENGTH where `size` is not the size of guest memory. The cost is that of
+   copying and comparing all pages, and in each page of 4,096 octets that differs of comparing its octets one by one. */
 uint32_t em_sync_out(em_machine *machine, uint8_t *ram, size_t size);
 
-/* Makes guest memory what `ram` is, by at most one memory write in each page of 4,096 octets: from the first octet that
-   differs to the last. Each write is an event. `writes` tells how many were made. Refused as EM_LENGTH where `size` is
-   not the size of guest memory: nothing is done, nor told. Refused as EM_MEMORY where the host has no memory for a
-   write: those before it stay, and are told. The cost is that of copying and comparing all pages, and of the writes. */
+/* Makes guest memory what `ram` is, by one memory write in each page of 4,096 octets that differs, the lowest address
+   first: from the page's first octet that differs to its last, and so also what is the same between them. Each write is
+   an event. What the adapter wrote and em_sync_out has not copied since is written over. `writes` tells how many were
+   made. Refused as EM_LENGTH where `size` is not the size of guest memory: nothing is done, nor told. Refused as
+   EM_MEMORY where the host has no memory for a write: those before it stay, and are told. The cost is that of copying
+   and comparing all pages, and of the writes. */
 uint32_t em_sync_in(em_machine *machine, const uint8_t *ram, size_t size, size_t *writes);
 
 /* How many octets guest memory has. Constant. */
