@@ -21,6 +21,15 @@ MANY = {"Vec", "VecDeque", "HeapCircularBuffer"}
 CLOSURES = {"Fn", "FnMut", "FnOnce"}
 
 
+# words that end no value: a closure may begin behind them
+NO_VALUE = ("move", "return", "in", "else", "match", "if", "while")
+
+
+def ends_value(text: str) -> bool:
+    """Whether a `|` behind this word stands between two values or patterns."""
+    return text not in NO_VALUE and (text[-1].isalnum() or text[-1] in "_)]")
+
+
 class Graph:
     """The functions of all crates, by name and by type, and what each calls."""
 
@@ -198,6 +207,9 @@ class Body:
         if text == "|" and tokens[at + 1 : at + 2] and tokens[at + 1].text == "=":
             # `a |= b` begins no closure
             return at + 2
+        if text == "|" and at > 0 and ends_value(tokens[at - 1].text):
+            # `a | b`, of patterns or numbers, or `a || b`
+            return at + (2 if tokens[at + 1].text == "|" else 1)
         if text == "|":
             return self.closure(tokens, at, [])
         return self.chain(tokens, at)[0]
