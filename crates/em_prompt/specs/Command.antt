@@ -39,6 +39,9 @@ name_of command.Frame = codes "frame"
 name_of command.Memory = codes "memory"
 name_of command.Why = codes "why"
 name_of command.Warnings = codes "warnings"
+name_of command.Auto = codes "auto"
+name_of command.Pcap = codes "pcap"
+name_of command.PcapOver = codes "pcap!"
 name_of command.Help = codes "help"
 name_of command.Quit = codes "quit"
 
@@ -49,7 +52,7 @@ commands = command.Read ∷ command.Write ∷ command.Poke ∷ command.Peek ∷ 
     command.Stats ∷ command.Mac ∷ command.Turns ∷ command.Look ∷ command.Who ∷ command.Back ∷ command.Forward ∷
     command.Goto ∷ command.Next ∷ command.Run ∷ command.Load ∷ command.Save ∷ command.SaveOver ∷ command.History ∷
     command.Effect ∷ command.Ring ∷ command.Frame ∷ command.Memory ∷ command.Why ∷ command.Warnings ∷
-    command.Help ∷ command.Quit ∷ []
+    command.Auto ∷ command.Pcap ∷ command.PcapOver ∷ command.Help ∷ command.Quit ∷ []
 
 -- the command that a word names
 abbrev pub command_of : List ℕ → Option Command

@@ -5,7 +5,7 @@ use Rattle.em_text.specs.Numbers.{decimal_number}
 use Rattle.em_prompt.specs.declared.command.Command.{Command}
 use Rattle.em_prompt.specs.declared.command.Command.TheVariants as command
 use Rattle.em_prompt.specs.declared.number.Number.TheVariants.{Peeked, Watched, Packets, Count, Line, Event, Index}
-use Rattle.em_prompt.specs.declared.kind.Choice.TheVariants.{Way, Side, More, To, Until, Stop, Changes, Switch}
+use Rattle.em_prompt.specs.declared.kind.Choice.TheVariants.{Way, Side, More, To, Until, Stop, Changes, Switch, Offer}
 use Rattle.em_prompt.specs.declared.kind.Kind.{Kind}
 use Rattle.em_prompt.specs.declared.kind.Kind.TheVariants.{Register, Known, Value, Address, Data, Ethernet, FrameLen}
 use Rattle.em_prompt.specs.declared.kind.Kind.TheVariants.{Watch, Name, Number, Choice}
@@ -37,6 +37,11 @@ is_some (Some value) = true
 abbrev pub is_there : List ℕ → Bool
 is_there [] = false
 is_there (octet ∷ octets) = true
+
+-- arrive DATA, arrive DATA LEN, arrive next, arrive all
+abbrev pub arrive_form : Behind → Form
+arrive_form behind =
+    if is_choice Offer behind.first then of_kinds 1 (Choice Offer ∷ []) else of_kinds 1 (Data ∷ FrameLen ∷ [])
 
 -- who again, who WATCH, who WATCH again, who WATCH all, where WATCH is ADDR LEN or one word
 abbrev pub who_form : Behind → Form
@@ -75,7 +80,7 @@ form_of command.Read behind = of_kinds 1 (Register ∷ [])
 form_of command.Write behind = of_kinds 2 (Register ∷ Value ∷ [])
 form_of command.Poke behind = of_kinds 2 (Address ∷ Data ∷ [])
 form_of command.Peek behind = of_kinds 2 (Address ∷ Number Peeked ∷ [])
-form_of command.Arrive behind = of_kinds 1 (Data ∷ FrameLen ∷ [])
+form_of command.Arrive behind = arrive_form behind
 form_of command.Rx behind = of_kinds 0 []
 form_of command.Tx behind = of_kinds 0 []
 form_of command.Link behind = of_kinds 1 (Choice Way ∷ [])
@@ -98,6 +103,8 @@ form_of command.Run behind = run_form behind
 form_of command.Load behind = file
 form_of command.Save behind = file
 form_of command.SaveOver behind = file
+form_of command.Pcap behind = file
+form_of command.PcapOver behind = file
 form_of command.History behind = of_kinds 0 (Number Count ∷ [])
 form_of command.Effect behind = of_kinds 0 (Number Event ∷ [])
 form_of command.Ring behind = of_kinds 1 (Choice Side ∷ [])
@@ -105,5 +112,6 @@ form_of command.Frame behind = of_kinds 0 (Number Index ∷ [])
 form_of command.Memory behind = of_kinds 2 (Address ∷ Number Peeked ∷ [])
 form_of command.Why behind = of_kinds 0 []
 form_of command.Warnings behind = of_kinds 1 (Choice Switch ∷ [])
+form_of command.Auto behind = of_kinds 1 (Choice Switch ∷ [])
 form_of command.Help behind = of_kinds 0 (Name ∷ [])
 form_of command.Quit behind = of_kinds 0 []

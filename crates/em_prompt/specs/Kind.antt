@@ -3,7 +3,7 @@ use Rattle.std.specs.Prelude.{ℕ, Bool, ◌||◌, List, codes}
 use Rattle.std.specs.Str.{bytes_eq}
 use Rattle.em_prompt.specs.declared.number.Number.TheVariants as number
 use Rattle.em_prompt.specs.declared.kind.Choice.{Choice}
-use Rattle.em_prompt.specs.declared.kind.Choice.TheVariants.{Way, Side, More, To, Until, Stop, Changes, Switch}
+use Rattle.em_prompt.specs.declared.kind.Choice.TheVariants.{Way, Side, More, To, Until, Stop, Changes, Switch, Offer}
 use Rattle.em_prompt.specs.declared.kind.Kind.{Kind}
 use Rattle.em_prompt.specs.declared.kind.Kind.TheVariants as kind
 
@@ -18,6 +18,7 @@ is_choice Stop word =
     bytes_eq word (codes "refused") || bytes_eq word (codes "dropped") || bytes_eq word (codes "differs")
 is_choice Changes word = bytes_eq word (codes "changes")
 is_choice Switch word = bytes_eq word (codes "on") || bytes_eq word (codes "off")
+is_choice Offer word = bytes_eq word (codes "next") || bytes_eq word (codes "all")
 
 -- ---- their texts
 
@@ -49,6 +50,7 @@ called (kind.Choice Until) = codes "until"
 called (kind.Choice Stop) = codes "refused, dropped or differs"
 called (kind.Choice Changes) = codes "changes"
 called (kind.Choice Switch) = codes "on or off"
+called (kind.Choice Offer) = codes "next or all"
 
 -- what is said of it, behind that, where a word is none
 abbrev pub rule : Kind → List ℕ

@@ -54,6 +54,11 @@ pub data Typed : Type 0 where
   memory : ℕ → ℕ → Typed
   why : Typed
   warnings : Bool → Typed
+  auto : Bool → Typed
+  arrive_next : Typed
+  arrive_all : Typed
+  pcap : List ℕ → Typed
+  pcap_over : List ℕ → Typed
   help : Option Command → Typed
   quit : Typed
 
@@ -82,6 +87,11 @@ plain (lent.Frame n) = frame n
 plain (lent.Memory addr len) = memory addr len
 plain lent.Why = why
 plain (lent.Warnings on) = warnings on
+plain (lent.Auto on) = auto on
+plain lent.ArriveNext = arrive_next
+plain lent.ArriveAll = arrive_all
+plain (lent.Pcap file) = pcap file.now
+plain (lent.PcapOver file) = pcap_over file.now
 plain (lent.Help command) = help command
 plain lent.Quit = quit
 
@@ -98,6 +108,13 @@ which_of word =
     if bytes_eq word (codes "again") then Again else
     if bytes_eq word (codes "all") then All else
     Newest
+
+-- arrive next, arrive all, or a frame's octets
+abbrev pub arrive_of : Behind → List ℕ → Typed
+arrive_of behind rest =
+    if bytes_eq behind.first (codes "next") then arrive_next else
+    if bytes_eq behind.first (codes "all") then arrive_all else
+    line (record { command = command.Arrive; rest = rest })
 
 -- who again, or who WATCH, with again or all
 abbrev pub who_of : Behind → Typed
@@ -133,6 +150,7 @@ run_of behind = if is_there behind.first then run_until (until_of behind) else r
 
 -- what a command says, with the first words behind its name, and all that stands behind it
 abbrev pub says : Command → Behind → List ℕ → Typed
+says command.Arrive behind rest = arrive_of behind rest
 says command.Look behind rest = look (value_or Ctrl (known behind.first))
 says command.Who behind rest = who_of behind
 says command.Back behind rest = back_of behind
@@ -151,6 +169,9 @@ says command.Memory behind rest =
     memory (value_or 0 (hex_address_in behind.first)) (number_or 0 behind.second)
 says command.Why behind rest = why
 says command.Warnings behind rest = warnings (bytes_eq behind.first (codes "on"))
+says command.Auto behind rest = auto (bytes_eq behind.first (codes "on"))
+says command.Pcap behind rest = pcap (without_blanks rest)
+says command.PcapOver behind rest = pcap_over (without_blanks rest)
 says command.Help behind rest = help (command_of behind.first)
 says command.Quit behind rest = quit
 says command behind rest = line (record { command = command; rest = rest })

@@ -42,20 +42,23 @@ pub enum Command {
     Memory,
     Why,
     Warnings,
+    Auto,
+    Pcap,
+    PcapOver,
     Help,
     Quit,
 }
 
 /// All of them, as the help shows them.
 #[rattlefmt::skip]
-pub(crate) static COMMANDS: [Command; 36] = [
+pub(crate) static COMMANDS: [Command; 39] = [
     Command::Read, Command::Write, Command::Poke, Command::Peek, Command::Arrive, Command::Rx,
     Command::Tx, Command::Link, Command::Line, Command::Regs, Command::Wire, Command::Init,
     Command::Send, Command::Recv, Command::Stats, Command::Mac, Command::Turns, Command::Look,
     Command::Who, Command::Back, Command::Forward, Command::Goto, Command::Next, Command::Run,
     Command::Load, Command::Save, Command::SaveOver, Command::History, Command::Effect,
     Command::Ring, Command::Frame, Command::Memory, Command::Why, Command::Warnings,
-    Command::Help, Command::Quit,
+    Command::Auto, Command::Pcap, Command::PcapOver, Command::Help, Command::Quit,
 ];
 
 impl Command {
@@ -98,6 +101,9 @@ impl Command {
             Command::Memory => "memory",
             Command::Why => "why",
             Command::Warnings => "warnings",
+            Command::Auto => "auto",
+            Command::Pcap => "pcap",
+            Command::PcapOver => "pcap!",
             Command::Help => "help",
             Command::Quit => "quit",
         }

@@ -1,7 +1,7 @@
 //! The words that each command has behind its name.
 ghost use Rattle.std.specs.Prelude.{◌≡◌};
 ghost use Rattle.em_prompt.specs.Behind.{plain as plain_behind};
-ghost use Rattle.em_prompt.specs.Form.{plain, form_of, who_form, move_form, until_form, changes_form, run_form};
+ghost use Rattle.em_prompt.specs.Form.{plain, form_of, arrive_form, who_form, move_form, until_form, changes_form, run_form};
 
 use crate::behind::Behind;
 use crate::command::Command;
@@ -33,7 +33,8 @@ impl Command {
             Command::Peek | Command::Memory => {
                 Form::Words(2, &[Kind::Address, Kind::Number(Number::Peeked)])
             }
-            Command::Arrive | Command::Send => Form::Words(1, &[Kind::Data, Kind::FrameLen]),
+            Command::Arrive => arrive_form(behind),
+            Command::Send => Form::Words(1, &[Kind::Data, Kind::FrameLen]),
             Command::Rx
             | Command::Tx
             | Command::Line
@@ -53,13 +54,28 @@ impl Command {
             Command::Goto => Form::Words(1, &[Kind::Number(Number::Event)]),
             Command::Next | Command::History => Form::Words(0, &[Kind::Number(Number::Count)]),
             Command::Run => run_form(behind),
-            Command::Load | Command::Save | Command::SaveOver => Form::File,
+            Command::Load
+            | Command::Save
+            | Command::SaveOver
+            | Command::Pcap
+            | Command::PcapOver => Form::File,
             Command::Effect => Form::Words(0, &[Kind::Number(Number::Event)]),
             Command::Ring => Form::Words(1, &[Kind::Choice(Choice::Side)]),
             Command::Frame => Form::Words(0, &[Kind::Number(Number::Index)]),
-            Command::Warnings => Form::Words(1, &[Kind::Choice(Choice::Switch)]),
+            Command::Warnings | Command::Auto => Form::Words(1, &[Kind::Choice(Choice::Switch)]),
             Command::Help => Form::Words(0, &[Kind::Name]),
         }
+    }
+}
+
+/// arrive DATA, arrive DATA LEN, arrive next, arrive all
+fn arrive_form(behind: &Behind<'_>) -> Form
+    ensures { plain result ≡ arrive_form (plain_behind behind.now) }
+{
+    if Choice::Offer.is(behind.first) {
+        Form::Words(1, &[Kind::Choice(Choice::Offer)])
+    } else {
+        Form::Words(1, &[Kind::Data, Kind::FrameLen])
     }
 }
 

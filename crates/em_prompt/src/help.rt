@@ -46,7 +46,9 @@ impl Command {
             Command::Write => "w NAME|OFF VAL: writes a register; VAL may be bits, as EN|BAM",
             Command::Poke => "poke ADDR DATA: writes octets to guest memory",
             Command::Peek => "peek ADDR LEN: shows octets of guest memory",
-            Command::Arrive => "arrive DATA [LEN]: a frame arrives, with zeros up to LEN octets",
+            Command::Arrive => {
+                "arrive DATA [LEN]: a frame arrives, with zeros up to LEN octets; arrive next|all: of a capture"
+            }
             Command::Rx => "rx: the receive engine handles a descriptor",
             Command::Tx => "tx: the transmit engine handles a descriptor",
             Command::Link => "link up|down: takes the link up or down",
@@ -71,7 +73,9 @@ impl Command {
             Command::Next => "next [N]: performs N lines",
             Command::Run =>
                 "run [until refused|dropped|differs|LINE|WATCH changes]: performs lines",
-            Command::Load => "load FILE: puts the lines of a file behind the others",
+            Command::Load => {
+                "load FILE: puts the lines of a file behind the others, or offers the frames of a capture"
+            }
             Command::Save => "save FILE: writes the lines to a new file",
             Command::SaveOver => "save! FILE: the same, over a file that is there",
             Command::History => "history [N]: shows the newest N events",
@@ -82,6 +86,9 @@ impl Command {
             Command::Why =>
                 "why: the rule by which the newest event did nothing, and who set what it looked at",
             Command::Warnings => "warnings on|off: says what drivers get wrong, or does not",
+            Command::Auto => "auto on|off: lets the engines run by themselves, or not",
+            Command::Pcap => "pcap FILE: writes the frames that were sent to a new capture",
+            Command::PcapOver => "pcap! FILE: the same, over a file that is there",
             Command::Help => "help [COMMAND]: shows this",
             Command::Quit => "quit: ends the session",
         }

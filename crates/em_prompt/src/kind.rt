@@ -24,6 +24,8 @@ pub enum Choice {
     Changes,
     /// `on` or `off`.
     Switch,
+    /// `next` or `all`.
+    Offer,
 }
 
 /// What a word of a line is.
@@ -73,6 +75,7 @@ impl Choice {
             }
             Choice::Changes => is_name(word, b"changes"),
             Choice::Switch => is_name(word, b"on") || is_name(word, b"off"),
+            Choice::Offer => is_name(word, b"next") || is_name(word, b"all"),
         }
     }
 }
@@ -107,6 +110,7 @@ impl Kind {
             Kind::Choice(Choice::Stop) => "refused, dropped or differs",
             Kind::Choice(Choice::Changes) => "changes",
             Kind::Choice(Choice::Switch) => "on or off",
+            Kind::Choice(Choice::Offer) => "next or all",
         }
     }
 

@@ -1,7 +1,7 @@
 //! What a line says.
 ghost use Rattle.std.specs.Prelude.{◌≡◌};
 ghost use Rattle.em_prompt.specs.Behind.{plain as plain_behind};
-ghost use Rattle.em_prompt.specs.Typed.{plain, number_or, which_of, who_of, until_of, side_of, back_of, forward_of};
+ghost use Rattle.em_prompt.specs.Typed.{plain, arrive_of, number_or, which_of, who_of, until_of, side_of, back_of, forward_of};
 ghost use Rattle.em_prompt.specs.Typed.{run_of, says};
 
 use crate::behind::Behind;
@@ -88,6 +88,16 @@ pub enum Typed<'a> {
     Why,
     /// Say what drivers get wrong, or do not.
     Warnings(bool),
+    /// Let the engines run by themselves, or not.
+    Auto(bool),
+    /// Bring the next frame of a capture that was loaded.
+    ArriveNext,
+    /// Bring those that are left.
+    ArriveAll,
+    /// Write the frames that were sent as a capture.
+    Pcap(&'a [u8]),
+    /// The same, over a file that is there.
+    PcapOver(&'a [u8]),
     /// The help, whole or for one command.
     Help(Option<Command>),
     Quit,
@@ -98,6 +108,7 @@ pub(crate) fn says<'a>(command: Command, behind: &Behind<'_>, words: Words<'a>) 
     ensures { plain result ≡ says command (plain_behind behind.now) words.entry.0.now }
 {
     match command {
+        Command::Arrive => arrive_of(behind, words),
         Command::Look => Typed::Look(known(behind.first).unwrap_or(Reg::Ctrl)),
         Command::Who => who_of(behind),
         Command::Back => back_of(behind),
@@ -118,10 +129,29 @@ pub(crate) fn says<'a>(command: Command, behind: &Behind<'_>, words: Words<'a>) 
         ),
         Command::Why => Typed::Why,
         Command::Warnings => Typed::Warnings(is_name(behind.first, b"on")),
+        Command::Auto => Typed::Auto(is_name(behind.first, b"on")),
+        Command::Pcap => Typed::Pcap(without_blanks(words.0)),
+        Command::PcapOver => Typed::PcapOver(without_blanks(words.0)),
         Command::Help => Typed::Help(Command::of(behind.first)),
         Command::Quit => Typed::Quit,
         _ => Typed::Line(BenchLine { command, words }),
     }
+}
+
+/// arrive DATA, arrive DATA LEN, arrive next, arrive all
+fn arrive_of<'a>(behind: &Behind<'_>, words: Words<'a>) -> Typed<'a>
+    ensures { plain result ≡ arrive_of (plain_behind behind.now) words.entry.0.now }
+{
+    if is_name(behind.first, b"next") {
+        return Typed::ArriveNext;
+    }
+    if is_name(behind.first, b"all") {
+        return Typed::ArriveAll;
+    }
+    Typed::Line(BenchLine {
+        command: Command::Arrive,
+        words,
+    })
 }
 
 /// who again, who WATCH, who WATCH again, who WATCH all

@@ -1,9 +1,10 @@
 -- What holds of a tape after each change of it.
-use Rattle.std.proofs.Common.{◌≡◌, ◌⊎◌, ℕ, ◌+◌, ◌<◌, ◌≤◌, ◌^◌, List, [], ◌∷◌, ◌++◌, length, take, Some, Option, Result}
+use Rattle.std.proofs.Common.{◌≡◌, ◌⊎◌, ℕ, ◌+◌, ◌<◌, ◌≤◌, ◌^◌, List, [], ◌∷◌, ◌++◌, length, take, drop, Some, Option, Result}
 use Rattle.std.proofs.Common.{refl, sym, ap, ◌∙◌, subst, arith, inl, inr}
-use Rattle.std.specs.Prelude.{slice_get, min}
+use Rattle.std.specs.Prelude.{slice_get, min, insert}
 use Rattle.std.proofs.lemmas.List.{take-append-le, take-take, length-append, length-take-le}
-use Rattle.std.proofs.lemmas.List.Elements.{All-take, All-push}
+use Rattle.std.proofs.lemmas.List.Edits.{length-insert}
+use Rattle.std.proofs.lemmas.List.Elements.{All-append, All-cons, All-drop, All-take, All-push}
 use Rattle.em_line.specs.Grammar.{parsed_line}
 use Rattle.em_text.specs.declared.writer.WriteFailed.{WriteFailed}
 use Rattle.em_output.specs.declared.outcome.Outcome.{Outcome}
@@ -65,6 +66,51 @@ holds_add {first = first} {session = session} {lines = lines} {ends = ends} {did
 holds_add {first = first} {session = session} {ends = ends} {did = did} {whole = whole} {back = back} line holds short
     few (inr same) =
     subst (λ ls. Holds first ls ends did whole back session) (sym same) holds
+
+-- a line is put behind those that stand whole, or none; no line ahead was performed
+pub holds_put : {first session : Session} {lines new : List (List ℕ)} {ends : List ℕ} {did : List Did}
+    {whole back : ℕ} (line : List ℕ) → Holds first lines ends did whole back session → length ends ≤ whole
+    → IsShort line → length lines < 0xFFFF_FFFF → (new ≡ insert lines whole line) ⊎ (new ≡ lines)
+    → Holds first new ends (take whole did) whole back session
+holds_put {first = first} {session = session} {lines = lines} {ends = ends} {did = did} {whole = whole} {back = back}
+    line holds last short few (inl more) =
+    let tape = holds.tape in
+    let within : whole ≤ length lines = omega (arith, tape.known, tape.performed) in
+    let some = length-take-le whole did holds.known.within in
+    let long = length-insert lines whole line within in
+    let front = length-take-le whole lines within in
+    let same : take (length (take whole did)) (insert lines whole line) ≡ take (length (take whole did)) lines =
+    take-append-le (length (take whole did)) (take whole lines) (line ∷ drop whole lines) (omega (arith, some, front))
+    ∙ take-take (length (take whole did)) whole lines (omega (arith, some)) in
+    let known : IsKnown first (insert lines whole line) (take whole did) whole back session =
+    known_lines (known_cut holds.known) same (omega (arith, some, long, within)) in
+    subst (λ ls. Holds first ls ends (take whole did) whole back session) (sym more) (record {
+      tape = record {
+        place = place_of known;
+        known = tape.known;
+        performed = omega (arith, long, tape.performed);
+        short = All-append IsShort (take whole lines) (line ∷ drop whole lines) (All-take IsShort whole lines tape.short)
+            (All-cons IsShort line (drop whole lines) short (All-drop IsShort whole lines tape.short));
+        few = omega (arith, long);
+        room = tape.room;
+      };
+      known = known;
+    })
+holds_put {first = first} {session = session} {lines = lines} {ends = ends} {did = did} {whole = whole} {back = back}
+    line holds last short few (inr same) =
+    let tape = holds.tape in
+    let known = known_cut holds.known in
+    subst (λ ls. Holds first ls ends (take whole did) whole back session) (sym same) (record {
+      tape = record {
+        place = place_of known;
+        known = tape.known;
+        performed = tape.performed;
+        short = tape.short;
+        few = tape.few;
+        room = tape.room;
+      };
+      known = known;
+    })
 
 -- the lines ahead are dropped
 pub holds_cut : {first session : Session} {lines : List (List ℕ)} {ends : List ℕ} {did : List Did} {whole back : ℕ}

@@ -1,5 +1,5 @@
 //! The lines, each its octets.
-ghost use Rattle.std.specs.Prelude.{◌≡◌, ◌∷◌, ◌++◌, [], OnOk, OnErr, slice_get};
+ghost use Rattle.std.specs.Prelude.{◌≡◌, ◌≤◌, ◌∷◌, ◌++◌, [], OnOk, OnErr, insert, length, slice_get};
 ghost use Rattle.std.specs.Option.{option_map};
 ghost use Rattle.em_turn.specs.Planned.{lists};
 
@@ -17,6 +17,22 @@ pub(crate) fn push_line(
 {
     let octets = line.to_vec(alloc)?;
     lines.push(octets)?;
+    Ok(())
+}
+
+/// Puts a line behind the first so many.
+pub(crate) fn put_line(
+    alloc: Global,
+    lines: &mut Vec<Vec<u8>>,
+    before: usize,
+    line: &[u8],
+) -> Result<(), AllocError>
+    requires { before ≤ length lines.old.items }
+    ensures ok { OnOk result (lists lines.new.items ≡ insert (lists lines.old.items) before line.now) }
+    ensures err { OnErr result (lists lines.new.items ≡ lists lines.old.items) }
+{
+    let octets = line.to_vec(alloc)?;
+    lines.insert(before, octets)?;
     Ok(())
 }
 

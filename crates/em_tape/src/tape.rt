@@ -1,5 +1,5 @@
 //! A debugging session with a place in it.
-ghost use Rattle.std.specs.Prelude.{◌≡◌, ◌⊎◌, ℕ, ◌+◌, ◌-◌, ◌<◌, ◌≤◌, ◌↔◌, ◌∷◌, ◌++◌, [], List, length, take, drop, min};
+ghost use Rattle.std.specs.Prelude.{◌≡◌, ◌⊎◌, ℕ, ◌+◌, ◌-◌, ◌<◌, ◌≤◌, ◌↔◌, ◌∷◌, ◌++◌, [], List, insert, length, take, drop, min};
 ghost use Rattle.std.specs.Prelude.{IfOk, IfErr, OnOk, OnErr, IfSome, IsErrOf, IsTrue, Ok, None, Some, false};
 ghost use Rattle.std.specs.Option.{option_map};
 ghost use Rattle.em_journal.specs.Settings.{new_machine, IsRefusedAs};
@@ -12,7 +12,7 @@ use crate::again::go_along;
 use crate::count::Count;
 use crate::did::{Did, keep};
 use crate::ends::{end_of, line_of, note};
-use crate::lines::{back_line, push_line, text_at};
+use crate::lines::{back_line, push_line, put_line, text_at};
 use crate::playing::{Left, opening, play, put, replayed};
 use em_journal::{Machine, Settings, SettingsRefusal};
 use em_script::{BenchFault, Outcome, Player, Session};
@@ -114,6 +114,30 @@ impl Tape {
             return Err(BenchFault::TooLarge);
         }
         match push_line(self.alloc, &mut self.lines, line) {
+            Ok(()) => Ok(()),
+            Err(_) => Err(BenchFault::Memory),
+        }
+    }
+
+    /// Puts a line right behind those that stand whole, before those that lie ahead, none of which was performed yet. It
+    /// is not performed either.
+    ///
+    /// Refused as [`add`](Tape::add) is.
+    pub fn put_next(&mut self, line: &[u8]) -> Result<(), BenchFault>
+        requires { length self.old.ends ≤ self.old.whole }
+        ensures ok { OnOk result (self.new ≡ record self.old {
+          lines = insert self.old.lines self.old.whole line.now;
+        }) }
+        ensures large { IsErrOf result BenchFault.TooLarge
+            ↔ ((MOST_OCTETS ≤ length line.now) ⊎ (MOST_LINES ≤ length self.old.lines)) }
+        ensures only { IfErr result (λ fault. (fault ≡ BenchFault.TooLarge) ⊎ (fault ≡ BenchFault.Memory)) }
+        ensures err { OnErr result (self.new ≡ self.old) }
+    {
+        if line.len() >= MOST_OCTETS || self.lines.len() >= MOST_LINES {
+            return Err(BenchFault::TooLarge);
+        }
+        self.did.truncate(self.whole);
+        match put_line(self.alloc, &mut self.lines, self.whole, line) {
             Ok(()) => Ok(()),
             Err(_) => Err(BenchFault::Memory),
         }
@@ -461,7 +485,8 @@ impl Tape {
 
     /// How many lines there are.
     pub fn len(&self) -> usize
-        ensures { result ≡ length self.now.lines }
+        ensures len { result ≡ length self.now.lines }
+        ensures few { result ≤ MOST_LINES }
     {
         self.lines.len()
     }
