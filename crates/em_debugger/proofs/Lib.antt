@@ -10,6 +10,7 @@ pub mod NextLaws
 pub mod PerformingLaws
 pub mod PlaceLaws
 pub mod PlayedLaws
+pub mod StepsLaws
 pub mod StopsLaws
 pub mod TextLaws
 pub mod ToldLaws

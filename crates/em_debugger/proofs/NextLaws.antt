@@ -11,7 +11,7 @@ use Rattle.em_text.specs.Writer.{Writes}
 use Rattle.em_text.proofs.WritingLemmas.{Appends-more, Appends-same}
 use Rattle.em_debugger.specs.declared.debugger.Debugger.{Debugger}
 use Rattle.em_debugger.specs.declared.performing.Performed.{Performed}
-use Rattle.em_debugger.specs.Performing.{Performs, ShowsPerformed}
+use Rattle.em_debugger.specs.Performing.{PerformsNext, ShowsPerformed, ShowsSteps}
 use Rattle.em_debugger.specs.Next.{Shown, Shows, EndsBy, TellsNext, shown_text}
 
 -- lines were performed and told, each by such a step
@@ -47,16 +47,26 @@ unfolding ToldBy-none
 ShowsSo-none d old = record { told = ToldBy-none Shows d old; long = refl }
 
 -- one line more
-pub ShowsSo-more : (first now next : Debugger) (old new later : Option (List ℕ)) (count : ℕ) (p : Performed)
-    (text : List ℕ) → ShowsSo first now old new count → Performs now next p → ShowsPerformed next p text
-    → Appends new later text → ShowsSo first next old later (count + 1)
+pub ShowsSo-more : (first now between next : Debugger) (old new middle later : Option (List ℕ)) (count : ℕ)
+    (p : Performed) (one rest : List ℕ) → ShowsSo first now old new count → PerformsNext now between p
+    → ShowsPerformed between p one → Appends new middle one → ShowsSteps (length now.tape.lines) between next rest
+    → Appends middle later rest → ShowsSo first next old later (count + 1)
 unfolding ToldBy-more
-ShowsSo-more first now next old new later count p text h performs shows written =
-    let one : Shown = record { performed = p; text = text } in
+ShowsSo-more first now between next old new middle later count p one rest h performs shows written steps then =
+    let all : Shown = record { performed = p; text = one ++ rest } in
+    let step : Shows now all next = record {
+      between = between;
+      performs = performs;
+      first = one;
+      text = shows;
+      rest = rest;
+      steps = steps;
+      both = refl;
+    } in
     record {
-      told = ToldBy-more Shows first now next old new later one h.told (record { performs = performs; text = shows })
-          written;
-      long = length_push h.told.shown one ∙ ap (λ n. n + 1) h.long;
+      told = ToldBy-more Shows first now next old new later all h.told step
+          (Appends-more new middle later one rest _ written then refl);
+      long = length_push h.told.shown all ∙ ap (λ n. n + 1) h.long;
     }
 
 -- what came then

@@ -4,6 +4,7 @@ use Rattle.std.proofs.Common.{length}
 use Rattle.std.proofs.Common.{Option, Some, None, refl, sym, ap, ◌∙◌, arith, append-nil}
 use Rattle.std.specs.Prelude.{slice_get}
 use Rattle.std.proofs.lemmas.List.{length_push}
+use Rattle.std.proofs.lemmas.List.Edits.{length-insert}
 use Rattle.std.proofs.lemmas.List.Elements.{filter-append}
 use Rattle.std.proofs.lemmas.Option.{slice_get_within}
 use Rattle.em_console.specs.Turns.{Leads}
@@ -13,7 +14,9 @@ use Rattle.em_tape.specs.Tape.{Tape, event_of}
 use Rattle.em_debugger.specs.declared.debugger.Debugger.{Debugger}
 use Rattle.em_debugger.specs.declared.performing.Performed.{Performed}
 use Rattle.em_debugger.specs.declared.played.Played.{Played}
-use Rattle.em_debugger.specs.Performing.{Performs}
+use Rattle.em_prompt.specs.declared.typed.Side.{Side}
+use Rattle.em_debugger.specs.Engines.{EngagesBy, engine_behind, step_line}
+use Rattle.em_debugger.specs.Performing.{Performs, PerformsNext}
 use Rattle.em_debugger.specs.Place.{line_of, line_here}
 use Rattle.em_debugger.specs.Counted.{counted}
 use Rattle.em_debugger.specs.Played.{is_wrong, wrong_ones, CountsUp, PlayedTo, PlaysAll}
@@ -95,6 +98,7 @@ pub record Goes (old new : Debugger) : Type 0 where
   pub here : line_here new.tape ≡ line_here old.tape + 1
   pub lines : length new.tape.lines ≡ length old.tape.lines
   pub ahead : line_here old.tape < length old.tape.lines
+  pub whole : new.tape.whole ≤ length new.tape.lines
 
 pub performs_next : (old new : Debugger) (p : Performed) → Performs old new p → Goes old new
 performs_next old new p h =
@@ -107,15 +111,46 @@ performs_next old new p h =
     let whole : before.whole ≡ line_here old.tape = ap (λ (t : Tape). t.whole) h.whole.tape in
     let within : before.whole < length before.lines =
     slice_get_within before.lines before.whole h.plays.line h.plays.next in
-    record { here = omega arith; lines = new_lines ∙ lines; ahead = omega arith }
+    record { here = omega arith; lines = new_lines ∙ lines; ahead = omega arith; whole = omega arith }
 
-pub ahead_falls : (old new : Debugger) (p : Performed) → Performs old new p
-    → length new.tape.lines - line_here new.tape < length old.tape.lines - line_here old.tape
-ahead_falls old new p h =
-    let goes = performs_next old new p h in omega (arith, goes.here, goes.lines, goes.ahead)
+-- how much there is to do: lines that lie ahead, and steps that engines may make
+abbrev pub to_do : Debugger → ℕ
+to_do d = length d.tape.lines - line_here d.tape + d.engines
+
+-- a line that is performed is the next one, and there is one less to do
+pub record GoesOn (old new : Debugger) : Type 0 where
+  pub here : line_here new.tape ≡ line_here old.tape + 1
+  pub left : to_do new + 1 ≡ to_do old
+
+engages_on : (old between new : Debugger) (side : Option Side) → Goes old between → between.engines ≡ old.engines
+    → EngagesBy side between new → GoesOn old new
+engages_on old between new None goes engines same = record {
+  here = ap (λ (d : Debugger). line_here d.tape) same ∙ goes.here;
+  left = ap (λ d. to_do d + 1) same ∙ (let e : to_do between + 1 ≡ to_do old = omega (arith, goes.here, goes.lines, goes.ahead, engines) in e);
+}
+engages_on old between new (Some side) goes engines puts =
+    let here : line_here new.tape ≡ line_here between.tape = ap line_here puts.tape in
+    let within : between.tape.whole ≤ length between.tape.lines = goes.whole in
+    let long = length-insert between.tape.lines between.tape.whole (step_line side) within in
+    let lines : length new.tape.lines ≡ length between.tape.lines + 1 =
+    ap (λ (t : Tape). length t.lines) puts.tape ∙ long in
+    record {
+      here = here ∙ goes.here;
+      left = omega (arith, here, lines, puts.engines, goes.here, goes.lines, goes.ahead, engines);
+    }
+
+pub goes_on : (old new : Debugger) (p : Performed) → PerformsNext old new p → GoesOn old new
+unfolding performs_next
+goes_on old new p h =
+    engages_on old h.between new (engine_behind (event_of old.tape) p h.between)
+    (performs_next old h.between p h.performs) h.performs.engines h.engages
+
+-- so the lines come to an end
+pub ahead_falls : (old new : Debugger) (p : Performed) → PerformsNext old new p → to_do new < to_do old
+ahead_falls old new p h = let on = goes_on old new p h in omega (arith, on.left)
 
 abbrev Step : Debugger → Performed → Debugger → Type 0
-Step before line after = Performs before after line
+Step before line after = PerformsNext before after line
 
 -- so many lines were played
 pub record PlaysSo (first now : Debugger) (played : Played) : Type 0 where
@@ -124,7 +159,7 @@ pub record PlaysSo (first now : Debugger) (played : Played) : Type 0 where
   pub counts : CountsUp lines played
 
 pub PlaysSo-more : (first now next : Debugger) (played more : Played) (p : Performed) → PlaysSo first now played
-    → Performs now next p → ((lines : List Performed) → CountsUp lines played → CountsUp (lines ++ p ∷ []) more)
+    → PerformsNext now next p → ((lines : List Performed) → CountsUp lines played → CountsUp (lines ++ p ∷ []) more)
     → PlaysSo first next more
 PlaysSo-more first now next played more p h performs counts = record {
   lines = h.lines ++ p ∷ [];

@@ -21,6 +21,8 @@ pub record Begins (given : Settings) (d : Debugger) : Type 0 where
   pub warns : d.warns ≡ true
   pub wanted : lists d.wanted.answers.items ≡ []
   pub score : d.score ≡ record { agreed = 0; differed = 0 }
+  pub engines : d.engines ≡ 0
+  pub offered : lists d.offered.items ≡ []
 
 -- all but the tape and the answers that lines expect is as it was
 pub record KeepsSome (old new : Debugger) : Type 0 where
@@ -29,6 +31,8 @@ pub record KeepsSome (old new : Debugger) : Type 0 where
   pub asked : new.asked ≡ old.asked
   pub warns : new.warns ≡ old.warns
   pub score : new.score ≡ old.score
+  pub engines : new.engines ≡ old.engines
+  pub offered : new.offered ≡ old.offered
 
 -- all but the place on the tape is as it was
 pub record KeepsRest (old new : Debugger) : Type 0 where

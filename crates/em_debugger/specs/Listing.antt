@@ -8,7 +8,7 @@ use Rattle.em_looks.specs.Numbers.{short_text}
 use Rattle.em_debugger.specs.declared.debugger.Debugger.{Debugger}
 use Rattle.em_debugger.specs.declared.performing.Performed.{Performed}
 use Rattle.em_debugger.specs.Next.{Shown, shown_text}
-use Rattle.em_debugger.specs.Performing.{Performs, IsLast, AnswersPerformed, fault_text}
+use Rattle.em_debugger.specs.Performing.{PerformsNext, IsLast, AnswersPerformed, fault_text}
 use Rattle.em_debugger.specs.Place.{text_of}
 
 -- ---- texts
@@ -53,7 +53,7 @@ pub record ListsPerformed (d : Debugger) (p : Performed) (text : List ℕ) : Typ
 
 -- the line behind the place was performed, and listed
 pub record ListsNext (old : Debugger) (shown : Shown) (new : Debugger) : Type 0 where
-  pub performs : Performs old new shown.performed
+  pub performs : PerformsNext old new shown.performed
   pub text : ListsPerformed new shown.performed shown.text
 
 -- no line lies ahead any more; or it is said why the next was not performed, and the lines stay

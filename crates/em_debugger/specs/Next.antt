@@ -5,17 +5,22 @@ use Rattle.em_console.specs.Turns.{Leads}
 use Rattle.em_script.specs.declared.runner.BenchFault.{BenchFault}
 use Rattle.em_debugger.specs.declared.debugger.Debugger.{Debugger}
 use Rattle.em_debugger.specs.declared.performing.Performed.{Performed}
-use Rattle.em_debugger.specs.Performing.{Performs, IsLast, ShowsPerformed, no_line_text, fault_text}
+use Rattle.em_debugger.specs.Performing.{PerformsNext, IsLast, ShowsPerformed, ShowsSteps, no_line_text, fault_text}
 
 -- a line that was performed, and what was shown of it
 pub record Shown : Type 0 where
   pub performed : Performed
   pub text : List ℕ
 
--- the line behind the place was performed, and shown with its answer
+-- the line behind the place was performed, and shown with its answer, and then the steps that engines make behind it
 pub record Shows (old : Debugger) (shown : Shown) (new : Debugger) : Type 0 where
-  pub performs : Performs old new shown.performed
-  pub text : ShowsPerformed new shown.performed shown.text
+  pub between : Debugger
+  pub performs : PerformsNext old between shown.performed
+  pub first : List ℕ
+  pub text : ShowsPerformed between shown.performed first
+  pub rest : List ℕ
+  pub steps : ShowsSteps (length old.tape.lines) between new rest
+  pub both : shown.text ≡ first ++ rest
 
 -- the text of each, one behind the other
 abbrev pub shown_text : List Shown → List ℕ

@@ -1,5 +1,5 @@
 -- Performing the line behind the place.
-use Rattle.std.specs.Prelude.{◌≡◌, ℕ, ◌+◌, ◌==◌, ◌≤◌, nat_lt, Bool, true, false, not, ◌&&◌, ◌||◌, if◌then◌else◌}
+use Rattle.std.specs.Prelude.{◌≡◌, ℕ, ◌+◌, ◌==◌, ◌<◌, ◌≤◌, nat_lt, Bool, true, false, not, ◌&&◌, ◌||◌, if◌then◌else◌}
 use Rattle.std.specs.Prelude.{List, [], ◌∷◌, ◌++◌, codes, length, take, Some, None, Ok}
 use Rattle.em_turn.specs.Planned.{lists}
 use Rattle.em_script.specs.Runner.{name_of}
@@ -15,6 +15,7 @@ use Rattle.em_debugger.specs.declared.debugger.Debugger.{Debugger}
 use Rattle.em_debugger.specs.declared.performing.Performed.{Performed}
 use Rattle.em_debugger.specs.BenchLooks.{is_look, look_text}
 use Rattle.em_debugger.specs.Debugger.{KeepsSome}
+use Rattle.em_debugger.specs.Engines.{Engages}
 use Rattle.em_debugger.specs.Expected.{Expects, compared_text, scored}
 use Rattle.em_debugger.specs.Place.{line_here, text_of}
 use Rattle.em_debugger.specs.Told.{Notes}
@@ -36,6 +37,14 @@ pub record Performs (old new : Debugger) (performed : Performed) : Type 0 where
   pub warns : new.warns ≡ old.warns
   pub wanted : new.wanted ≡ old.wanted
   pub score : new.score ≡ scored (record new { score = old.score }) performed.line
+  pub engines : new.engines ≡ old.engines
+  pub offered : new.offered ≡ old.offered
+
+-- and then an engine's step was put behind it, if an engine makes one by itself
+pub record PerformsNext (old new : Debugger) (performed : Performed) : Type 0 where
+  pub between : Debugger
+  pub performs : Performs old between performed
+  pub engages : Engages (event_of old.tape) performed between new
 
 -- no line lies ahead of the place
 abbrev pub IsLast : Debugger → Type 0
@@ -80,6 +89,8 @@ pub record Cuts (old new : Debugger) (dropped : ℕ) : Type 0 where
   pub warns : new.warns ≡ old.warns
   pub wanted : lists new.wanted.answers.items ≡ take (length new.tape.lines) (lists old.wanted.answers.items)
   pub score : new.score ≡ old.score
+  pub engines : new.engines ≡ old.engines
+  pub offered : new.offered ≡ old.offered
 
 -- they were dropped, and a line was put behind the place, which expects this answer
 pub record AddsLine (old new : Debugger) (line asked : List ℕ) (dropped : ℕ) : Type 0 where
@@ -112,9 +123,23 @@ pub record ShowsPerformed (d : Debugger) (p : Performed) (text : List ℕ) : Typ
   pub answers : AnswersPerformed d p answer
   pub told : text ≡ heading_text d p.line ++ answer
 
--- a line that lay ahead is answered so; or it is said why it was not performed, and the lines stay
+-- the steps that engines make by themselves, as long as each puts the next: each is performed and shown. Before the line
+-- behind which they stand there were so many lines.
+pub data ShowsSteps (lines : ℕ) (old new : Debugger) (text : List ℕ) : Type 0 where
+  none : length old.tape.lines ≤ lines → new ≡ old → text ≡ [] → ShowsSteps lines old new text
+  step : lines < length old.tape.lines → (between : Debugger) (p : Performed) (one rest : List ℕ)
+      → PerformsNext old between p → ShowsPerformed between p one → ShowsSteps (length old.tape.lines) between new rest
+      → text ≡ one ++ rest → ShowsSteps lines old new text
+  over : IsLast old → new ≡ old → text ≡ [] → ShowsSteps lines old new text
+  stopped : (fault : BenchFault) → text ≡ fault_text fault → new.tape.lines ≡ old.tape.lines
+      → ShowsSteps lines old new text
+
+-- a line that lay ahead is answered so, and then come the steps of engines; or it is said why it was not performed, and the
+-- lines stay
 pub data AnswersNext (old new : Debugger) (text : List ℕ) : Type 0 where
-  performed : (p : Performed) → Performs old new p → AnswersPerformed new p text → AnswersNext old new text
+  performed : (between : Debugger) (p : Performed) (answer rest : List ℕ) → PerformsNext old between p
+      → AnswersPerformed between p answer → ShowsSteps (length old.tape.lines) between new rest
+      → text ≡ answer ++ rest → AnswersNext old new text
   stopped : (fault : BenchFault) → text ≡ fault_text fault → new.tape.lines ≡ old.tape.lines → AnswersNext old new text
 
 -- what was dropped is said, and then the line is answered

@@ -12,7 +12,7 @@ use Rattle.em_debugger.specs.declared.performing.Performed.{Performed}
 use Rattle.em_debugger.specs.declared.played.Played.{Played}
 use Rattle.em_debugger.specs.Counted.{counted}
 use Rattle.em_debugger.specs.Debugger.{told}
-use Rattle.em_debugger.specs.Performing.{Performs, IsLast, fault_text}
+use Rattle.em_debugger.specs.Performing.{PerformsNext, IsLast, fault_text}
 
 -- a line that was refused, or is none
 abbrev pub is_wrong_outcome : Outcome → Bool
@@ -42,7 +42,7 @@ PlayedTo (Some fault) before after = after.tape.lines ≡ before.tape.lines
 pub record PlaysAll (old new : Debugger) (played : Played) (fault : Option BenchFault) : Type 0 where
   pub lines : List Performed
   pub between : Debugger
-  pub leads : Leads (λ before line after. Performs before after line) lines old between
+  pub leads : Leads (λ before line after. PerformsNext before after line) lines old between
   pub counts : CountsUp lines played
   pub ended : PlayedTo fault between new
 

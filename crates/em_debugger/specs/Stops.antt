@@ -18,7 +18,7 @@ use Rattle.em_debugger.specs.declared.stops.Ran.{Ran}
 use Rattle.em_debugger.specs.declared.stops.Ran.TheVariants as ran
 use Rattle.em_debugger.specs.Expected.{answers_otherwise}
 use Rattle.em_debugger.specs.Place.{line_here, text_of}
-use Rattle.em_debugger.specs.Performing.{Performs, IsLast, ShowsPerformed, fault_text}
+use Rattle.em_debugger.specs.Performing.{PerformsNext, IsLast, ShowsPerformed, fault_text}
 use Rattle.em_debugger.specs.Who.{TellsNewest}
 
 -- the run ends before the line of this number
@@ -54,7 +54,7 @@ EndsBehind s before after performed = EndsSince s (event_of before.tape) after p
 -- so many lines were performed, and none of them ended the run
 pub data Runs (s : Stop) (first : Debugger) : ℕ → Debugger → Type 0 where
   none : Runs s first 0 first
-  more : (n : ℕ) (d after : Debugger) (p : Performed) → Runs s first n d → (EndsBefore s d → ⊥) → Performs d after p
+  more : (n : ℕ) (d after : Debugger) (p : Performed) → Runs s first n d → (EndsBefore s d → ⊥) → PerformsNext d after p
       → (EndsBehind s d after p → ⊥) → Runs s first (suc n) after
 
 -- ---- texts
@@ -87,7 +87,7 @@ pub record RanTo (s : Stop) (first new : Debugger) (n : ℕ) (performed : Perfor
   pub count : n ≡ suc others
   pub runs : Runs s first others before
   pub goes_on : EndsBefore s before → ⊥
-  pub performs : Performs before new performed
+  pub performs : PerformsNext before new performed
   pub ends : EndsBehind s before new performed
 
 -- lines were performed, and then memory was refused: the lines stay

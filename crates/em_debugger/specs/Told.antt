@@ -1,5 +1,5 @@
 -- What the lines were answered, as it is kept.
-use Rattle.std.specs.Prelude.{◌≡◌, ◌≢◌, ℕ, List, [], take, get_or, unwrap_or}
+use Rattle.std.specs.Prelude.{◌≡◌, ◌≢◌, ℕ, List, [], insert, length, nat_lt, if◌then◌else◌, take, get_or, unwrap_or}
 use Rattle.em_text.specs.Lines.{lines_of}
 use Rattle.em_tape.specs.Tape.{line_at}
 
@@ -19,3 +19,7 @@ pub record Puts (number : ℕ) (text : List ℕ) (old new : List (List ℕ)) : T
 -- the answer to one line was kept, and those to the others stay
 abbrev pub Notes : ℕ → List ℕ → List (List ℕ) → List (List ℕ) → Type 0
 Notes number text old new = Puts number (kept_of text) old new
+
+-- the texts beside the lines behind the first so many stand beside the next ones
+abbrev pub moved : ℕ → List (List ℕ) → List (List ℕ)
+moved lines texts = if nat_lt lines (length texts) then insert texts lines [] else texts

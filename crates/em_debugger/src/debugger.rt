@@ -12,6 +12,7 @@ use crate::who::Asked;
 use em_journal::{Settings, SettingsRefusal};
 use em_tape::Tape;
 use std::alloc::Global;
+use std::collections::VecDeque;
 
 /// A session that one types into.
 #[derive(Drop)]
@@ -31,6 +32,10 @@ pub struct Debugger {
     pub(crate) wanted: Told,
     // how many were given so
     pub(crate) score: Score,
+    // how many steps the engines may still make by themselves; none where they stand still
+    pub(crate) engines: u32,
+    // the frames of a capture that was loaded, each as a line that brings it
+    pub(crate) offered: VecDeque<Vec<u8>>,
 }
 
 impl Debugger {
@@ -50,6 +55,8 @@ impl Debugger {
                 warns: true,
                 wanted: Told::new(alloc),
                 score: Score::none(),
+                engines: 0,
+                offered: VecDeque::new(alloc),
             }),
             Err(refusal) => Err(refusal),
         }

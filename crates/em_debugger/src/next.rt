@@ -11,14 +11,18 @@ use em_text::{WriteFailed, write_whole};
 use std::io::Write;
 
 impl Debugger {
-    /// Performs so many lines, and shows each with its answer.
+    /// Performs so many lines, each with the steps that engines make behind it, and shows each with its answer.
     pub(crate) fn next<W: Write>(&mut self, writer: &mut W, count: u32) -> Result<(), WriteFailed>
         ensures ok { OnOk result ((text : List ℕ) × Appends (W.contents writer.old) (W.contents writer.new) text
             × TellsNext count self.old self.new text) }
     {
         for index in 0..count {
+            let lines = self.tape.len();
             match self.perform_next() {
-                Ok(Some(performed)) => self.write_performed(writer, performed)?,
+                Ok(Some(performed)) => {
+                    self.write_performed(writer, performed)?;
+                    self.show_steps(writer, lines)?;
+                }
                 Ok(None) => return write_no_line(writer, index),
                 Err(fault) => return write_fault(writer, fault),
             }

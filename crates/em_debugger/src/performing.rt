@@ -4,7 +4,7 @@ ghost use Rattle.std.specs.Io.KnownBytes.{Appends};
 ghost use Rattle.em_text.specs.Writer.{Writes};
 ghost use Rattle.em_prompt.specs.BenchLine.{plain as plain_line};
 ghost use Rattle.em_debugger.specs.Place.{line_here};
-ghost use Rattle.em_debugger.specs.Performing.{Performs, IsLast, Cuts, AddsLine, AnswersNext, AnswersTyped};
+ghost use Rattle.em_debugger.specs.Performing.{Performs, PerformsNext, IsLast, Cuts, AddsLine, AnswersNext, AnswersTyped, ShowsSteps};
 ghost use Rattle.em_debugger.specs.Performing.{AnswersNew, AnswersAdded, AnswersPerformed, ShowsPerformed};
 ghost use Rattle.em_debugger.specs.Performing.{heading_text, looks_back};
 ghost use Rattle.em_debugger.specs.Performing.{is_among_lines, dropped_text, dropped_lines_text};
@@ -117,14 +117,18 @@ impl Debugger {
         Ok(dropped)
     }
 
-    /// Performs the next line, and writes its answer.
+    /// Performs the next line, and writes its answer, and the steps that engines make behind it.
     fn perform_answered<W: Write>(&mut self, writer: &mut W) -> Result<(), WriteFailed>
         requires { line_here self.old.tape < length self.old.tape.lines }
         ensures ok { OnOk result ((said : List ℕ) × Appends (W.contents writer.old) (W.contents writer.new) said
             × AnswersNext self.old self.new said) }
     {
+        let lines = self.tape.len();
         match self.perform_next() {
-            Ok(Some(performed)) => self.write_answered(writer, performed),
+            Ok(Some(performed)) => {
+                self.write_answered(writer, performed)?;
+                self.show_steps(writer, lines)
+            }
             Ok(None) => unreachable!(),
             Err(fault) => write_fault(writer, fault),
         }
@@ -170,8 +174,48 @@ impl Debugger {
         )
     }
 
-    /// Performs the line behind the place, and keeps its answer; none where no line lies ahead.
+    /// Performs the line behind the place, keeps its answer, and puts the step behind it that an engine makes by itself;
+    /// none where no line lies ahead.
     pub(crate) fn perform_next(&mut self) -> Result<Option<Performed>, BenchFault>
+        ensures some { IfOk result (λ performed. IfSome performed (PerformsNext self.old self.new)) }
+        ensures none { result ≡ Ok None → (self.new ≡ self.old) × IsLast self.old }
+        ensures err { OnErr result (self.new.tape.lines ≡ self.old.tape.lines) }
+        ensures settings { self.new.settings ≡ self.old.settings }
+    {
+        let before = self.tape.event();
+        match self.perform_ahead()? {
+            Some(performed) => {
+                self.engage(performed, before)?;
+                Ok(Some(performed))
+            }
+            None => Ok(None),
+        }
+    }
+
+    /// Performs the steps that engines make by themselves behind a line, before which there were so many lines, and shows
+    /// each with its answer.
+    pub(crate) fn show_steps<W: Write>(
+        &mut self,
+        writer: &mut W,
+        lines: usize,
+    ) -> Result<(), WriteFailed>
+        ensures ok { OnOk result ((text : List ℕ) × Appends (W.contents writer.old) (W.contents writer.new) text
+            × ShowsSteps lines self.old self.new text) }
+    {
+        let mut lines = lines;
+        'steps: while self.tape.len() > lines {
+            lines = self.tape.len();
+            match self.perform_next() {
+                Ok(Some(performed)) => self.write_performed(writer, performed)?,
+                Ok(None) => return Ok(()),
+                Err(fault) => return write_fault(writer, fault),
+            }
+        }
+        Ok(())
+    }
+
+    /// Performs the line behind the place, and keeps its answer; none where no line lies ahead.
+    fn perform_ahead(&mut self) -> Result<Option<Performed>, BenchFault>
         ensures some { IfOk result (λ performed. IfSome performed (Performs self.old self.new)) }
         ensures none { result ≡ Ok None → (self.new ≡ self.old) × IsLast self.old }
         ensures err { OnErr result (self.new.tape.lines ≡ self.old.tape.lines) }

@@ -108,7 +108,8 @@ impl Debugger {
         ensures { RanSo stop self.old self.new result.0 result.1 }
     {
         let ahead = self.tape.len().saturating_sub(line_here(&self.tape));
-        for lines in 0..ahead {
+        let most = ahead.saturating_add(self.engines as usize);
+        for lines in 0..most {
             let next = line_here(&self.tape).saturating_add(1);
             if stop.is_before(next) {
                 return (lines, Ran::Before(next));
@@ -124,7 +125,7 @@ impl Debugger {
                 Err(fault) => return (lines, Ran::Fault(fault)),
             }
         }
-        (ahead, Ran::End)
+        (most, Ran::End)
     }
 
     /// Whether a run ends behind a line, before which so many events stood.

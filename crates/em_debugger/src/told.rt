@@ -3,7 +3,7 @@ ghost use Rattle.std.specs.Prelude.{◌≡◌, ◌<◌, OnOk, [], take, slice_ge
 ghost use Rattle.std.specs.Option.{option_map};
 ghost use Rattle.em_turn.specs.Planned.{lists};
 ghost use Rattle.em_tape.specs.Tape.{line_at};
-ghost use Rattle.em_debugger.specs.Told.{kept_of, told_of, Notes, Puts};
+ghost use Rattle.em_debugger.specs.Told.{kept_of, moved, told_of, Notes, Puts};
 
 use em_text::next_line;
 use std::alloc::{AllocError, Global};
@@ -64,6 +64,23 @@ impl Told {
             return None;
         }
         answer_at(self.answers.as_slice(), number - 1)
+    }
+
+    /// Makes way for a line behind so many: what stands beside the lines behind those then stands beside the next ones.
+    pub(crate) fn make_way(&mut self, lines: usize) -> Result<(), AllocError>
+        ensures ok { OnOk result (lists self.new.answers.items ≡ moved lines (lists self.old.answers.items)) }
+    {
+        if lines < self.answers.len() {
+            self.answers.insert(lines, Vec::new(self.alloc))?;
+        }
+        Ok(())
+    }
+
+    /// Takes the way back that was made for a line behind so many.
+    pub(crate) fn close_up(&mut self, lines: usize) {
+        if lines < self.answers.len() {
+            let _none = self.answers.remove(lines);
+        }
     }
 
     /// Forgets the answers to the lines behind so many.

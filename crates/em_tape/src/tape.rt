@@ -1,5 +1,5 @@
 //! A debugging session with a place in it.
-ghost use Rattle.std.specs.Prelude.{◌≡◌, ◌⊎◌, ℕ, ◌+◌, ◌-◌, ◌<◌, ◌≤◌, ◌↔◌, ◌∷◌, ◌++◌, [], List, insert, length, take, drop, min};
+ghost use Rattle.std.specs.Prelude.{◌≡◌, ◌⊎◌, ℕ, ◌+◌, ◌-◌, ◌<◌, ◌≤◌, ◌↔◌, ◌∷◌, ◌++◌, [], List, insert, nat_lt, length, take, drop, min};
 ghost use Rattle.std.specs.Prelude.{IfOk, IfErr, OnOk, OnErr, IfSome, IsErrOf, IsTrue, Ok, None, Some, false};
 ghost use Rattle.std.specs.Option.{option_map};
 ghost use Rattle.em_journal.specs.Settings.{new_machine, IsRefusedAs};
@@ -481,6 +481,20 @@ impl Tape {
         ensures { result ≡ end_of line self.now.ends }
     {
         end_of(self.ends.as_slice(), line)
+    }
+
+    /// How many lines stand performed at the place.
+    pub fn whole(&self) -> usize
+        ensures { result ≡ self.now.whole }
+    {
+        self.whole
+    }
+
+    /// Whether lines that lie ahead were performed already.
+    pub fn was_performed_ahead(&self) -> bool
+        ensures { result ≡ nat_lt self.now.whole (length self.now.ends) }
+    {
+        self.whole < self.ends.len()
     }
 
     /// How many lines there are.

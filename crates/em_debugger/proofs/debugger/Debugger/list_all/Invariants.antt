@@ -1,7 +1,6 @@
-use Rattle.std.proofs.Common.{◌-◌, length}
 use Rattle.em_debugger.specs.Listing.{ListsNext}
-use Rattle.em_debugger.specs.Place.{line_here}
 use Rattle.em_debugger.proofs.NextLaws.{ToldBy}
+use Rattle.em_debugger.proofs.PlayedLaws.{to_do}
 use Rattle.em_debugger.proofs.debugger.Debugger.list_all.Given as goal
 
 -- lines were performed and listed
@@ -11,4 +10,4 @@ invariant-ahead g l =
     ToldBy ListsNext l.fn.self l.self (contents l.fn.writer) (contents l.writer)
 
 abbrev pub decreases-ahead : goal.decreases-ahead
-decreases-ahead g l = length l.self.tape.lines - line_here l.self.tape
+decreases-ahead g l = to_do l.self

@@ -1,16 +1,21 @@
-use Rattle.std.proofs.Common.{refl}
-use Rattle.em_debugger.specs.Performing.{AnswersNext, AnswersPerformed, fault_text, performed, stopped}
-use Rattle.em_debugger.proofs.TextLaws.{OnOk-told, OnOk-written}
+use Rattle.std.proofs.Common.{length, refl}
+use Rattle.em_debugger.specs.Performing.{AnswersNext, ShowsSteps, fault_text, performed, stopped}
+use Rattle.em_debugger.proofs.TextLaws.{OnOk-behind, OnOk-written}
 use Rattle.em_debugger.proofs.debugger.Debugger.perform_answered.Goals as goal
 
 pub returns-in-Ok-Some : goal.returns-in-Ok-Some
 returns-in-Ok-Some g c =
     let old = c.args.self.now in
-    let new = c.perform_next.new.self in
+    let between = c.perform_next.new.self in
+    let new = c.show_steps.new.self in
     let p = c.in-Ok-Some.performed in
+    let answered = c.in_ok-write_answered.ensures.ok in
+    let lines = length old.tape.lines in
     record {
-      ok = OnOk-told _ _ c.write_answered.result (AnswersPerformed new p) (AnswersNext old new)
-          (λ t h. performed p (rw c.in-Ok-Some.field-0-is at c.in-Ok-Some.ensures.some) h) c.write_answered.ensures.ok;
+      ok = OnOk-behind _ _ _ c.show_steps.result answered.0 (ShowsSteps lines between new) (AnswersNext old new)
+          answered.1
+          (λ t h. performed between p answered.0 t (rw c.in-Ok-Some.field-0-is at c.in-Ok-Some.ensures.some) answered.2 h
+          refl) (rw c.len-lines.ensures.len at c.show_steps.ensures.ok);
     }
 
 pub returns-in-Err : goal.returns-in-Err

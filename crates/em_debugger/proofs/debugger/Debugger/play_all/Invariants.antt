@@ -1,6 +1,4 @@
-use Rattle.std.proofs.Common.{◌-◌, length}
-use Rattle.em_debugger.specs.Place.{line_here}
-use Rattle.em_debugger.proofs.PlayedLaws.{PlaysSo}
+use Rattle.em_debugger.proofs.PlayedLaws.{PlaysSo, to_do}
 use Rattle.em_debugger.proofs.debugger.Debugger.play_all.Given as goal
 
 -- so many lines were played
@@ -8,4 +6,4 @@ abbrev pub invariant-ahead : goal.invariant-ahead
 invariant-ahead l = PlaysSo l.fn.self l.self l.played
 
 abbrev pub decreases-ahead : goal.decreases-ahead
-decreases-ahead l = length l.self.tape.lines - line_here l.self.tape
+decreases-ahead l = to_do l.self

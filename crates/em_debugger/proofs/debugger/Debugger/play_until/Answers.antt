@@ -13,7 +13,7 @@ returns-then-stops_here c =
     let h = c.loop-lines.invariant in
     let now = c.loop-lines.self in
     let next : c.saturating_add-next.result ≡ line_here now.tape + 1 =
-    omega (arith, c.line_here-in-loop-lines.ensures.line, c.line_here.ensures.line, h.here, h.all) in
+    omega (arith, c.line_here-in-loop-lines.ensures.line, c.line_here-in-loop-lines.ensures.there, c.line_here.ensures.line, c.len.ensures.few, c.len.ensures.len, h.here) in
     RanTo-here c.args.stop c.args.self.now now c.perform_next.new.self c.loop-lines.lines c.in-Ok-Some.performed h
     (not_before c.args.stop now c.saturating_add-next.result (sym c.is_before.ensures ∙ c.if-is_before.false) next)
     (rw c.in-Ok-Some.field-0-is at c.in-Ok-Some.ensures.some)
@@ -25,7 +25,7 @@ loop-lines-preserved c =
     let h = c.loop-lines.invariant in
     let now = c.loop-lines.self in
     let next : c.saturating_add-next.result ≡ line_here now.tape + 1 =
-    omega (arith, c.line_here-in-loop-lines.ensures.line, c.line_here.ensures.line, h.here, h.all) in
+    omega (arith, c.line_here-in-loop-lines.ensures.line, c.line_here-in-loop-lines.ensures.there, c.line_here.ensures.line, c.len.ensures.few, c.len.ensures.len, h.here) in
     RunsSo-more c.args.stop c.args.self.now now c.perform_next.new.self c.loop-lines.lines c.in-Ok-Some.performed h
     (not_before c.args.stop now c.saturating_add-next.result (sym c.is_before.ensures ∙ c.if-is_before.false) next)
     (rw c.in-Ok-Some.field-0-is at c.in-Ok-Some.ensures.some)

@@ -2,7 +2,7 @@ use Rattle.std.proofs.Common.{◌≡◌, ◌+◌, ◌∙◌, ap, length, refl, a
 use Rattle.std.specs.Prelude.{min}
 use Rattle.em_debugger.specs.Place.{line_here}
 use Rattle.em_debugger.proofs.AddingLaws.{line_here-whole}
-use Rattle.em_debugger.proofs.debugger.Debugger.perform_next.Goals as goal
+use Rattle.em_debugger.proofs.debugger.Debugger.perform_ahead.Goals as goal
 
 pub returns-in-Ok-clause-some : goal.returns-in-Ok-clause-some
 returns-in-Ok-clause-some c =
@@ -26,4 +26,6 @@ returns-in-Ok-clause-some c =
       warns = refl;
       wanted = refl;
       score = refl;
+      engines = refl;
+      offered = refl;
     })

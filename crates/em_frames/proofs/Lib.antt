@@ -1,0 +1,2 @@
+pub mod ArrivalLaws
+pub mod SentLaws

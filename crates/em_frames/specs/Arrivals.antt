@@ -1,0 +1,55 @@
+-- The frames of a capture as lines of a script that bring them.
+use Rattle.std.specs.Prelude.{◌≡◌, ℕ, ◌+◌, min, Bool, true, false, if◌then◌else◌, List, [], ◌∷◌, ◌++◌, codes, filter, length, map}
+use Rattle.std.specs.Prelude.{Option, Some, None}
+use Rattle.em_text.specs.Writer.{hex_text}
+use Rattle.em_turn.specs.Planned.{lists}
+use Rattle.em_pcap.specs.declared.fault.CaptureError.{CaptureError}
+use Rattle.em_pcap.specs.declared.fault.CaptureError.TheVariants.{Fault, Memory}
+use Rattle.em_pcap.specs.Frame.{Frame, cut_of}
+use Rattle.em_pcap.specs.Reading.{Reading, nothing}
+use Rattle.em_frames.specs.declared.arrivals.Arrivals.{Arrivals}
+
+-- the line that brings a frame of these octets
+abbrev pub arrival_text : List ℕ → List ℕ
+arrival_text octets = codes "arrive " ++ hex_text octets
+
+abbrev pub arrival_of : Frame → List ℕ
+arrival_of frame = arrival_text frame.octets
+
+-- fewer octets were captured than the frame had
+abbrev pub is_some : {T : Type 0} → Option T → Bool
+is_some None = false
+is_some (Some value) = true
+
+abbrev pub is_cut : Frame → Bool
+is_cut frame = is_some (cut_of frame)
+
+-- a number as it is counted in 64 bits
+abbrev pub counted : ℕ → ℕ
+counted n = min n 0xFFFF_FFFF_FFFF_FFFF
+
+-- how many are cut, with one frame more
+abbrev pub with_frame : ℕ → Frame → ℕ
+with_frame cut frame = if is_cut frame then counted (cut + 1) else cut
+
+-- one frame more; or memory was refused, and there is none more
+abbrev pub Adds : Frame → Arrivals → Arrivals → Bool → Type 0
+Adds frame old new true =
+    (lists new.lines.items ≡ lists old.lines.items ++ arrival_of frame ∷ []) × ((new.error ≡ old.error)
+    × (new.cut ≡ with_frame old.cut frame))
+Adds frame old new false = (new.lines.items ≡ old.lines.items) × (new.cut ≡ old.cut)
+
+-- why there are no more: the capture's end, its fault, or that memory was refused
+abbrev pub EndsBy : Option CaptureError → Reading → Type 0
+EndsBy None rest = rest ≡ nothing
+EndsBy (Some (Fault fault)) rest = rest ≡ record { packets = []; fault = Some fault }
+EndsBy (Some Memory) rest = Unit {0}
+
+-- the frames that a capture gives, each as a line, how many of them are cut, and what came behind them
+pub record AreArrivals (reading : Reading) (a : Arrivals) : Type 0 where
+  pub given : List Frame
+  pub rest : Reading
+  pub all : reading ≡ record { packets = given ++ rest.packets; fault = rest.fault }
+  pub lines : lists a.lines.items ≡ map arrival_of given
+  pub cut : a.cut ≡ counted (length (filter is_cut given))
+  pub ended : EndsBy a.error rest
