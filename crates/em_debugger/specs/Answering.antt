@@ -11,12 +11,14 @@ use Rattle.em_prompt.specs.Help.{line_of, help_text}
 use Rattle.em_prompt.specs.Prompt.{Wrong, prompted}
 use Rattle.em_prompt.specs.Typed.{Typed, line, look, who, who_again, back, back_to, forward, forward_to, goto}
 use Rattle.em_prompt.specs.Typed.{next, run, run_until, load, save, save_over, history, effect, ring, frame, memory}
-use Rattle.em_prompt.specs.Typed.{why, warnings, help, quit}
+use Rattle.em_prompt.specs.Typed.{why, warnings, auto, arrive_next, arrive_all, pcap, pcap_over, help, quit}
 use Rattle.em_prompt.specs.WrongText.{wrong_text}
 use Rattle.em_debugger.specs.declared.debugger.Debugger.{Debugger}
 use Rattle.em_debugger.specs.Effect.{AnswersEffect, asked_event}
 use Rattle.em_debugger.specs.Expected.{wanted_in}
-use Rattle.em_debugger.specs.Files.{Loads, Saves}
+use Rattle.em_debugger.specs.Engines.{engines_are, steps_of}
+use Rattle.em_debugger.specs.Files.{Saves}
+use Rattle.em_debugger.specs.Offers.{ArrivesAll, ArrivesNext, Loads, SavesFrames}
 use Rattle.em_debugger.specs.History.{history_text}
 use Rattle.em_debugger.specs.Moves.{GoesBack, GoesBeforeLine, GoesToEvent, forward_by}
 use Rattle.em_debugger.specs.Next.{TellsNext}
@@ -62,6 +64,11 @@ Obeys old new (load name) text = Loads old new name text
 Obeys old new (save name) text = (new ≡ old) × Saves old name text
 Obeys old new (save_over name) text = (new ≡ old) × Saves old name text
 Obeys old new (warnings on) text = (new ≡ record old { warns = on }) × (text ≡ warnings_are on)
+Obeys old new (auto on) text = (new ≡ record old { engines = steps_of on }) × (text ≡ engines_are on)
+Obeys old new arrive_next text = ArrivesNext old new text
+Obeys old new arrive_all text = ArrivesAll old new text
+Obeys old new (pcap name) text = (new ≡ old) × SavesFrames old name text
+Obeys old new (pcap_over name) text = (new ≡ old) × SavesFrames old name text
 Obeys old new typed text = (new ≡ old) × Shows old typed text
 
 -- what is wrong is said; where a word names no register, with those that may be meant

@@ -33,7 +33,7 @@ saved_text n = codes "saved " ++ count_text n (codes "1 line\n") (codes " lines\
 -- what is said of a fault, behind the name of the file
 abbrev pub disk_text : DiskFault → List ℕ
 disk_text Missing = codes ": there is no such file\n"
-disk_text Exists = codes ": the file is there already; save! replaces it\n"
+disk_text Exists = codes ": the file is there already; save! and pcap! replace it\n"
 disk_text Name = codes ": this is no name of a file\n"
 disk_text TooLarge = codes ": it has more than 4194304 octets\n"
 disk_text Memory = codes ": no memory for it\n"
@@ -63,16 +63,23 @@ pub data LoadsInstead (old new : Debugger) (script text : List ℕ) : Type 0 whe
       → LoadsInstead old new script text
   uncut : (fault : BenchFault) → text ≡ fault_text fault → LoadsInstead old new script text
 
--- the file was not read; or what it holds was put in the place of what lay ahead
-pub data Loads (old new : Debugger) (name text : List ℕ) : Type 0 where
-  unread : (fault : DiskFault) → text ≡ name ++ disk_text fault → new ≡ old → Loads old new name text
-  reads : (script : List ℕ) → LoadsInstead old new script text → Loads old new name text
-
 -- the script's lines were put behind the last one, and played; or memory was refused
 pub data PlaysText (old new : Debugger) (script text : List ℕ) : Type 0 where
   plays : (between : Debugger) → AddsLines old between (lines_of script) → RunsAll between new text
       → PlaysText old new script text
   unplayed : (fault : BenchFault) → text ≡ fault_text fault → PlaysText old new script text
+
+-- and before that it is said how many lines were dropped
+pub record PlaysBehind (dropped : ℕ) (old new : Debugger) (script text : List ℕ) : Type 0 where
+  pub rest : List ℕ
+  pub plays : PlaysText old new script rest
+  pub said : text ≡ dropped_text dropped ++ rest
+
+-- what lay ahead was dropped, and the script's lines were put there and played; or memory was refused
+pub data PlaysInstead (old new : Debugger) (script text : List ℕ) : Type 0 where
+  cuts_first : (between : Debugger) (dropped : ℕ) → Cuts old between dropped → PlaysBehind dropped between new script text
+      → PlaysInstead old new script text
+  stays : (fault : BenchFault) → text ≡ fault_text fault → PlaysInstead old new script text
 
 -- the script is stepped through, or played to its end
 abbrev pub BeginsText : Bool → Debugger → Debugger → List ℕ → List ℕ → Type 0

@@ -98,6 +98,11 @@ impl Debugger {
             Typed::Save(name) => self.save(writer, disk, name, false),
             Typed::SaveOver(name) => self.save(writer, disk, name, true),
             Typed::Warnings(on) => self.warn(writer, on),
+            Typed::Auto(on) => self.switch_engines(writer, on),
+            Typed::ArriveNext => self.arrive_next(writer),
+            Typed::ArriveAll => self.arrive_all(writer),
+            Typed::Pcap(name) => self.write_capture(writer, disk, name, false),
+            Typed::PcapOver(name) => self.write_capture(writer, disk, name, true),
             Typed::Silent => self.show(writer, typed),
             Typed::Look(_) => self.show(writer, typed),
             Typed::History(_) => self.show(writer, typed),
@@ -144,6 +149,11 @@ impl Debugger {
             | Typed::Save(_)
             | Typed::SaveOver(_)
             | Typed::Warnings(_)
+            | Typed::Auto(_)
+            | Typed::ArriveNext
+            | Typed::ArriveAll
+            | Typed::Pcap(_)
+            | Typed::PcapOver(_)
             | Typed::Quit => Ok(()),
         }
     }

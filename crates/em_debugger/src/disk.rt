@@ -26,7 +26,7 @@ impl DiskFault {
     {
         match self {
             DiskFault::Missing => b": there is no such file\n",
-            DiskFault::Exists => b": the file is there already; save! replaces it\n",
+            DiskFault::Exists => b": the file is there already; save! and pcap! replace it\n",
             DiskFault::Name => b": this is no name of a file\n",
             DiskFault::TooLarge => b": it has more than 4194304 octets\n",
             DiskFault::Memory => b": no memory for it\n",

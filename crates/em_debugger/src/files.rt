@@ -8,12 +8,14 @@ ghost use Rattle.em_text.specs.Lines.{lines_of};
 ghost use Rattle.em_text.specs.Writer.{Writes};
 ghost use Rattle.em_debugger.specs.Deeper.{lines_here};
 ghost use Rattle.em_debugger.specs.Place.{text_of};
-ghost use Rattle.em_debugger.specs.Files.{AddsLines, BeginsText, BeginsWith, Loads, LoadsBehind, LoadsInstead};
+ghost use Rattle.em_debugger.specs.Files.{AddsLines, BeginsText, BeginsWith, LoadsBehind, LoadsInstead};
+ghost use Rattle.em_debugger.specs.Offers.{Loads, LoadsAs, is_capture};
 ghost use Rattle.em_debugger.specs.Files.{LoadsText, PlaysText, Saves, disk_text, loaded_text, saved_text, script_of};
 
 use crate::debugger::Debugger;
 use crate::disk::{Disk, DiskFault};
 use crate::expected::expect;
+use crate::offers::is_capture;
 use crate::performing::{write_dropped, write_fault};
 use crate::place::{line_here, text_of};
 use crate::told::Told;
@@ -70,7 +72,7 @@ impl Debugger {
     }
 
     /// Loads the lines of a text, and plays them.
-    fn play_text<W: Write>(&mut self, writer: &mut W, script: &[u8]) -> Result<(), WriteFailed>
+    pub(crate) fn play_text<W: Write>(&mut self, writer: &mut W, script: &[u8]) -> Result<(), WriteFailed>
         ensures ok { OnOk result ((text : List ℕ) × Appends (W.contents writer.old) (W.contents writer.new) text
             × PlaysText self.old self.new script.now text) }
     {
@@ -92,8 +94,25 @@ impl Debugger {
     {
         let mut text = Vec::new(self.alloc);
         match disk.read(name, &mut text) {
-            Ok(()) => self.load_instead(writer, text.as_slice()),
+            Ok(()) => self.load_read(writer, name, text.as_slice()),
             Err(fault) => write_disk_fault(writer, name, fault),
+        }
+    }
+
+    /// Loads what a file of this name holds: the frames of a capture, or the lines of a script.
+    fn load_read<W: Write>(
+        &mut self,
+        writer: &mut W,
+        name: &[u8],
+        text: &[u8],
+    ) -> Result<(), WriteFailed>
+        ensures ok { OnOk result ((said : List ℕ) × Appends (W.contents writer.old) (W.contents writer.new) said
+            × LoadsAs (is_capture name.now) self.old self.new text.now said) }
+    {
+        if is_capture(name) {
+            self.offer(writer, text)
+        } else {
+            self.load_instead(writer, text)
         }
     }
 
@@ -146,12 +165,7 @@ impl Debugger {
     {
         let mut text = Vec::new(self.alloc);
         self.write_lines(&mut text)?;
-        let saved = if over {
-            disk.replace(name, text.as_slice())
-        } else {
-            disk.create(name, text.as_slice())
-        };
-        match saved {
+        match write_file(disk, name, text.as_slice(), over) {
             Ok(()) => write_saved(writer, line_here(&self.tape)),
             Err(fault) => write_disk_fault(writer, name, fault),
         }
@@ -223,7 +237,21 @@ fn write_saved<W: Write>(writer: &mut W, count: usize) -> Result<(), WriteFailed
     write_count(writer, count as u64, b"1 line\n", b" lines\n")
 }
 
-fn write_disk_fault<W: Write>(
+/// Makes a file with this text; one that is there already is refused, or replaced.
+pub(crate) fn write_file<D: Disk>(
+    disk: &mut D,
+    name: &[u8],
+    text: &[u8],
+    over: bool,
+) -> Result<(), DiskFault> {
+    if over {
+        disk.replace(name, text)
+    } else {
+        disk.create(name, text)
+    }
+}
+
+pub(crate) fn write_disk_fault<W: Write>(
     writer: &mut W,
     name: &[u8],
     fault: DiskFault,

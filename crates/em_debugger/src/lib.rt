@@ -6,8 +6,10 @@
 
 mod answering;
 mod bench_looks;
+mod compare;
 mod debugger;
 mod deeper;
+mod departures;
 mod disk;
 mod effect;
 mod engines;
@@ -27,6 +29,7 @@ mod told;
 mod who;
 mod why;
 
+pub use compare::Compared;
 pub use debugger::Debugger;
 pub use disk::{Disk, DiskFault};
 pub use expected::Score;

@@ -52,7 +52,7 @@ impl Debugger {
     }
 
     /// Puts a line behind the place, performs it, and answers it.
-    fn perform_new<W: Write>(
+    pub(crate) fn perform_new<W: Write>(
         &mut self,
         writer: &mut W,
         text: &[u8],

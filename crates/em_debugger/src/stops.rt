@@ -21,7 +21,7 @@ const DROPPED: &[u8; 7] = b"dropped";
 
 /// Where a run ends.
 #[derive(Clone, Copy, PartialEq, Eq, Debug)]
-enum Stop {
+pub(crate) enum Stop {
     Refused,
     Dropped,
     Differs,
@@ -31,7 +31,7 @@ enum Stop {
 
 /// How a run ended.
 #[derive(Clone, Copy, PartialEq, Eq, Debug)]
-enum Ran {
+pub(crate) enum Ran {
     /// Behind this line.
     Behind(Performed),
     /// Before the line of this number.
@@ -104,7 +104,7 @@ impl Debugger {
     }
 
     /// Performs lines, and gives how many and how the run ended.
-    fn play_until(&mut self, stop: Stop) -> (usize, Ran)
+    pub(crate) fn play_until(&mut self, stop: Stop) -> (usize, Ran)
         ensures { RanSo stop self.old self.new result.0 result.1 }
     {
         let ahead = self.tape.len().saturating_sub(line_here(&self.tape));

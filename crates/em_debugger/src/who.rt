@@ -101,7 +101,7 @@ impl Debugger {
     }
 
     /// Tells the newest change among the first so many events.
-    fn who_before<W: Write>(
+    pub(crate) fn who_before<W: Write>(
         &mut self,
         writer: &mut W,
         watch: Watch,

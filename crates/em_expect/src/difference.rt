@@ -62,8 +62,8 @@ fn write_told<W: Write>(
     write_fields(writer, fields(reg), wanted, value)
 }
 
-/// The register that a line reads, if it reads one.
-fn register_read(line: &[u8]) -> Option<Reg>
+/// The register that a line reads: of `r OFF` with no word behind it, where a register lies at the offset; else none.
+pub fn register_read(line: &[u8]) -> Option<Reg>
     ensures { result ≡ register_read (words_of line.now) }
 {
     let mut words = Words(line);

@@ -11,5 +11,5 @@ mod parts;
 
 pub use agreement::agrees;
 pub use asking::expectation;
-pub use difference::write_differs;
+pub use difference::{register_read, write_differs};
 pub use parts::Expectation;

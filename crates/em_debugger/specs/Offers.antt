@@ -1,0 +1,96 @@
+-- Frames of captures: those of one that is loaded are offered to `arrive`, and those that were sent are written as one.
+use Rattle.std.specs.Prelude.{◌≡◌, ℕ, ◌-◌, ◌||◌, nat_lt, Bool, true, false, if◌then◌else◌}
+use Rattle.std.specs.Prelude.{List, [], ◌∷◌, ◌++◌, codes, drop, length, Option, Some, None}
+use Rattle.std.specs.List.{flat_map}
+use Rattle.std.specs.Str.{bytes_eq}
+use Rattle.em_turn.specs.Planned.{lists}
+use Rattle.em_pcap.specs.declared.fault.CaptureError.{CaptureError}
+use Rattle.em_pcap.specs.Reading.{reading_of}
+use Rattle.em_frames.specs.declared.arrivals.Arrivals.{Arrivals}
+use Rattle.em_frames.specs.Arrivals.{AreArrivals}
+use Rattle.em_looks.specs.Numbers.{count_text, number_text}
+use Rattle.em_debugger.specs.declared.debugger.Debugger.{Debugger}
+use Rattle.em_debugger.specs.declared.disk.DiskFault.{DiskFault}
+use Rattle.em_debugger.specs.Files.{LoadsInstead, PlaysInstead, disk_text}
+use Rattle.em_debugger.specs.Performing.{AnswersNew}
+
+-- a name that ends so
+abbrev pub ends_with : List ℕ → List ℕ → Bool
+ends_with name end = bytes_eq (drop (length name - length end) name) end
+
+-- a file's name says that it is a capture
+abbrev pub is_capture : List ℕ → Bool
+is_capture name = ends_with name (codes ".pcap") || ends_with name (codes ".pcapng")
+
+-- the frames that are left of a capture that was loaded, each as a line that brings it
+abbrev pub offered : Debugger → List (List ℕ)
+offered d = lists d.offered.items
+
+-- ---- texts
+
+abbrev pub none_left_text : List ℕ
+none_left_text = codes "no frame of a capture is left\n"
+
+abbrev pub cut_text : ℕ → List ℕ
+cut_text cut = if nat_lt 0 cut then number_text (codes ", ") cut (codes " of them cut short") else []
+
+abbrev pub offered_text : ℕ → ℕ → List ℕ
+offered_text count cut =
+    codes "loaded " ++ (count_text count (codes "1 frame") (codes " frames") ++ cut_text cut)
+
+-- why there are no more, if not for the capture's end; no contract says in which words
+abbrev pub EndsOffer : Option CaptureError → List ℕ → Type 0
+EndsOffer None text = text ≡ codes "\n"
+EndsOffer (Some error) text = (why : List ℕ) × (text ≡ codes ", and then " ++ (why ++ codes "\n"))
+
+pub record TellsOffer (count cut : ℕ) (error : Option CaptureError) (text : List ℕ) : Type 0 where
+  pub end : List ℕ
+  pub ends : EndsOffer error end
+  pub told : text ≡ offered_text count cut ++ end
+
+abbrev pub wrote_text : ℕ → List ℕ
+wrote_text count = codes "wrote " ++ count_text count (codes "1 frame\n") (codes " frames\n")
+
+-- ---- what is answered
+
+-- the capture's frames are offered
+pub record OffersFrames (old new : Debugger) (file text : List ℕ) : Type 0 where
+  pub arrivals : Arrivals
+  pub are : AreArrivals (reading_of file) arrivals
+  pub new : new ≡ record old { offered = arrivals.lines }
+  pub told : TellsOffer (length (lists arrivals.lines.items)) arrivals.cut arrivals.error text
+
+-- by its name a file is a capture, or a script
+abbrev pub LoadsAs : Bool → Debugger → Debugger → List ℕ → List ℕ → Type 0
+LoadsAs true old new file text = OffersFrames old new file text
+LoadsAs false old new file text = LoadsInstead old new file text
+
+-- the file was not read; or what it holds was loaded
+pub data Loads (old new : Debugger) (name text : List ℕ) : Type 0 where
+  unread : (fault : DiskFault) → text ≡ name ++ disk_text fault → new ≡ old → Loads old new name text
+  reads : (file : List ℕ) → LoadsAs (is_capture name) old new file text → Loads old new name text
+
+-- the next of them is a line that is typed, if there is one
+pub data ArrivesNext (old new : Debugger) (text : List ℕ) : Type 0 where
+  none_left : offered old ≡ [] → new ≡ old → text ≡ none_left_text → ArrivesNext old new text
+  arrives : (line : List ℕ) (between : Debugger) → offered old ≡ line ∷ offered between
+      → between ≡ record old { offered = between.offered } → AnswersNew between new line [] text
+      → ArrivesNext old new text
+
+-- a frame's line, and the receive engine's step behind it unless engines run by themselves
+abbrev pub offered_line : Bool → List ℕ → List ℕ
+offered_line has_engines line = if has_engines then line ++ codes "\n" else line ++ (codes "\n" ++ codes "rx\n")
+
+abbrev pub offered_script : Bool → List (List ℕ) → List ℕ
+offered_script has_engines lines = flat_map (offered_line has_engines) lines
+
+-- all of them are lines that are loaded and played
+pub data ArrivesAll (old new : Debugger) (text : List ℕ) : Type 0 where
+  none_left : offered old ≡ [] → new ≡ old → text ≡ none_left_text → ArrivesAll old new text
+  arrive : (between : Debugger) → offered between ≡ [] → between ≡ record old { offered = between.offered }
+      → PlaysInstead between new (offered_script (nat_lt 0 old.engines) (offered old)) text → ArrivesAll old new text
+
+-- the frames that were sent were written to a file, or they were not
+pub data SavesFrames (d : Debugger) (name text : List ℕ) : Type 0 where
+  unsaved : (fault : DiskFault) → text ≡ name ++ disk_text fault → SavesFrames d name text
+  saves : text ≡ wrote_text (length d.tape.session.machine.present.wire) → SavesFrames d name text
