@@ -13,6 +13,9 @@ Arguments:
 Options:
       --step         Load the script, and perform none of its lines
       --batch        Print each line of the script with its number and its answer beside it, and end
+      --compare      Show the first line whose answer is another than it expects, and end; SCRIPT may be - here
+      --all          With --compare: show the first of each register, count them all, and end
+      --pcap <FILE>  Write the frames that were sent to this file at the end, as a capture
   -x <COMMANDS>      Take what is typed from this file
       --memory <N>   Octets of guest memory: a multiple of 4096 up to 16777216 [default: 65536]
       --budget <N>   Octets that the journal's records may cost together: from 65536 to 16777216 [default: 1048576]

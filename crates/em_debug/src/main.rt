@@ -3,16 +3,19 @@
 //!
 //!     em_debug [OPTIONS] [--step] [-x COMMANDS] [SCRIPT]
 //!     em_debug [OPTIONS] --batch SCRIPT
+//!     em_debug [OPTIONS] --compare [--all] SCRIPT
 //!
-//! The options are those of em_bench. The script is played to its end first; `--step` stops before its first line, and
-//! `--batch` lists the lines with their answers, and ends.
+//! The options are those of em_bench. The script is played to its end first; `--step` stops before its first line.
+//! `--batch` lists the lines with their answers, and ends; `--compare` compares the answers with those that lines expect.
 #![tactic(auto)]
 
+mod compare;
 mod disk;
 mod help;
 mod session;
 mod words;
 
+use crate::compare::{compare_all, compare_first};
 use crate::disk::Host;
 use crate::help::{HELP, VERSION};
 use crate::session::Served;
@@ -24,6 +27,7 @@ use em_ending::Ending;
 use em_journal::SettingsRefusal;
 use em_options::{Options, OptionsRefused, options};
 use em_script::BenchFault;
+use em_text::read_script;
 use std::fs::File;
 use std::io::{self, BufRead, BufReader, BufWriter, Write};
 use std::mem;
@@ -32,6 +36,9 @@ use std::rt::{Env, Files};
 
 /// What a line is asked for with at a terminal.
 const PROMPT: &[u8] = b"(em) ";
+
+/// The name of standard input as a script.
+const STANDARD_INPUT: &str = "-";
 
 /// The status of a session that came to its end, and of help.
 const WELL: u8 = 0;
@@ -58,10 +65,8 @@ fn debug<R: Env + Files + Input + Print + Eprint + AllocGlobal>(rt: &R, prompt: 
             Ending::without_words(&error).status()
         }
         Err(WordsRefused::Memory) => failed(rt, BenchFault::Memory.name()),
-        Err(WordsRefused::NoCommands) => {
-            let _ = eprintln!(rt; "em_debug: -x wants a file");
-            REFUSED
-        }
+        Err(WordsRefused::NoCommands) => refused(rt, "-x wants a file"),
+        Err(WordsRefused::NoCapture) => refused(rt, "--pcap wants a file"),
     }
 }
 
@@ -94,6 +99,12 @@ fn failed<R: Eprint>(rt: &R, why: &str) -> u8 {
     FAILED
 }
 
+/// Says what is wrong with the words, and gives the status.
+fn refused<R: Eprint>(rt: &R, why: &str) -> u8 {
+    let _ = eprintln!(rt; "em_debug: {why}");
+    REFUSED
+}
+
 /// Says why the options are refused, and gives the status, which is em_bench's.
 fn without_options<R: Print + Eprint>(rt: &R, refused: &OptionsRefused) -> u8 {
     let ending = Ending::without_options(refused);
@@ -115,8 +126,10 @@ fn with_options<R: Files + Input + Print + Eprint + AllocGlobal>(
     prompt: &[u8],
 ) -> u8 {
     if words.batch && options.script.is_none() {
-        let _ = eprintln!(rt; "em_debug: --batch wants a script");
-        return REFUSED;
+        return refused(rt, "--batch wants a script");
+    }
+    if words.compare && options.script.is_none() {
+        return refused(rt, "--compare wants a script");
     }
     match Debugger::new(rt.alloc(), options.settings()) {
         Ok(debugger) => {
@@ -124,7 +137,7 @@ fn with_options<R: Files + Input + Print + Eprint + AllocGlobal>(
                 debugger,
                 disk: Host { rt },
             };
-            let ended = with_session(rt, &mut served, options.script, words, prompt);
+            let ended = with_capture(rt, &mut served, options.script, words, prompt);
             let score = served.debugger.score();
             // The system takes its memory back when the program ends, all at once.
             mem::forget(served);
@@ -157,6 +170,26 @@ fn with_score<R: Print>(rt: &R, score: Score) -> u8 {
     if score.differed == 0 { WELL } else { DIFFERED }
 }
 
+/// Does what is wanted with the script, and then writes the frames that were sent, if they are wanted.
+fn with_capture<R: Files + Input + Print + AllocGlobal>(
+    rt: &R,
+    served: &mut Served<Host<'_, R>>,
+    script: Option<&str>,
+    words: &Words,
+    prompt: &[u8],
+) -> Result<()> {
+    with_session(rt, served, script, words, prompt)?;
+    if let Some(name) = &words.capture {
+        let saved = served
+            .debugger
+            .save_capture(&mut served.disk, name.as_str().as_bytes(), true);
+        if saved.is_err() {
+            bail!("{name}: the capture cannot be written");
+        }
+    }
+    Ok(())
+}
+
 /// Plays the script, opens where lines come from, and answers them.
 fn with_session<R: Files + Input + Print + AllocGlobal>(
     rt: &R,
@@ -167,8 +200,13 @@ fn with_session<R: Files + Input + Print + AllocGlobal>(
 ) -> Result<()> {
     let mut text = Vec::new(rt.alloc());
     if let Some(name) = script {
-        if words.batch {
-            return list(rt, served, name);
+        if words.batch || words.compare {
+            load(rt, served, name)?;
+            return match (words.batch, words.all) {
+                (true, _) => list(rt, served),
+                (false, true) => compare_all(rt, served),
+                (false, false) => compare_first(rt, served),
+            };
         }
         begin(served, &mut text, name, words.step)?;
     }
@@ -185,19 +223,29 @@ fn with_session<R: Files + Input + Print + AllocGlobal>(
     }
 }
 
-/// Prints each line of the script with its answer beside it.
-fn list<R: Print + AllocGlobal, D: Disk + Drop>(
+/// Loads the script, which is not played: that of standard input, where its name is `-`.
+fn load<R: Input + AllocGlobal, D: Disk + Drop>(
     rt: &R,
     served: &mut Served<D>,
     name: &str,
 ) -> Result<()> {
     let mut text = Vec::new(rt.alloc());
-    if served.disk.read(name.as_bytes(), &mut text).is_err() {
+    if name == STANDARD_INPUT {
+        match read_script(rt.alloc(), &mut rt.reader()) {
+            Ok(script) => text = script,
+            Err(_) => bail!("{name}: the script cannot be read"),
+        }
+    } else if served.disk.read(name.as_bytes(), &mut text).is_err() {
         bail!("{name}: the script cannot be read");
     }
     if let Err(fault) = served.debugger.add_lines(text.as_slice()) {
         bail!("{}", fault.name());
     }
+    Ok(())
+}
+
+/// Prints each line of the script with its answer beside it.
+fn list<R: Print + AllocGlobal, D: Disk + Drop>(rt: &R, served: &mut Served<D>) -> Result<()> {
     let mut writer = BufWriter::new(rt.alloc(), io::writer(rt))?;
     if served.debugger.list_all(&mut writer).is_err() || writer.flush().is_err() {
         bail!("{}", BenchFault::Write.name());

@@ -24,8 +24,14 @@ pub struct Words {
     pub step: bool,
     /// Whether the script is listed, and nothing is asked for.
     pub batch: bool,
+    /// Whether the script's answers are compared with those that its lines expect, and nothing is asked for.
+    pub compare: bool,
+    /// Whether that goes on behind the first that differs.
+    pub all: bool,
     /// The file that commands come from.
     pub commands: Option<String>,
+    /// The file that the sent frames go to at the end.
+    pub capture: Option<String>,
     pub asked: Asked,
 }
 
@@ -38,6 +44,8 @@ pub enum WordsRefused {
     Memory,
     /// No file stands behind `-x`.
     NoCommands,
+    /// No file stands behind `--pcap`.
+    NoCapture,
 }
 
 impl Words {
@@ -47,7 +55,10 @@ impl Words {
             options: Vec::new(rt.alloc()),
             step: false,
             batch: false,
+            compare: false,
+            all: false,
             commands: None,
+            capture: None,
             asked: Asked::Session,
         };
         let given = match env::args(rt) {
@@ -63,6 +74,7 @@ impl Words {
         }
         match before {
             Before::Commands => Err(WordsRefused::NoCommands),
+            Before::Capture => Err(WordsRefused::NoCapture),
             _ => Ok(words),
         }
     }
@@ -74,6 +86,10 @@ impl Words {
                 self.commands = Some(word);
                 return Ok(Before::Other);
             }
+            Before::Capture => {
+                self.capture = Some(word);
+                return Ok(Before::Other);
+            }
             Before::Mac => {
                 self.options.push(without_colons(alloc, &word)?)?;
                 return Ok(Before::Other);
@@ -82,8 +98,11 @@ impl Words {
         }
         match word.as_str() {
             "-x" => return Ok(Before::Commands),
+            "--pcap" => return Ok(Before::Capture),
             "--step" => self.step = true,
             "--batch" => self.batch = true,
+            "--compare" => self.compare = true,
+            "--all" => self.all = true,
             "-h" | "--help" => self.asked = Asked::Help,
             "-V" | "--version" => self.asked = Asked::Version,
             "--mac" => {
@@ -101,6 +120,8 @@ impl Words {
 enum Before {
     /// `-x`, which a file follows.
     Commands,
+    /// `--pcap`, which a file follows.
+    Capture,
     /// `--mac`, which an address follows.
     Mac,
     Other,
