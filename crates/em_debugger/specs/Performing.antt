@@ -104,7 +104,7 @@ pub record AddsLine (old new : Debugger) (line asked : List ℕ) (dropped : ℕ)
 -- what drivers get wrong, if that is to be said
 abbrev pub warned_text : Debugger → ℕ → List ℕ
 warned_text d line =
-    if d.warns then warnings_text d.tape.session.machine.present (text_of line d.tape) d.answer.items else []
+    if d.warns then warnings_text d.tape.session.machine (text_of line d.tape) d.answer.items else []
 
 -- what stands behind the answer to a line: its warnings, and how it differs from what the line expects
 abbrev pub behind_text : Debugger → ℕ → List ℕ

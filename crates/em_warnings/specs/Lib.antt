@@ -7,3 +7,4 @@ pub mod Piece
 pub mod Said
 pub mod WriteLine
 pub mod Warnings
+pub mod Reads

@@ -8,6 +8,7 @@ use Rattle.em_warnings.specs.declared.warning.Warning.TheVariants.{
   DescriptorUnwritten,
   StatusLeft,
   InterruptsBeforeRings,
+  ReadAgain,
 }
 
 abbrev pub name_of : Warning → List ℕ
@@ -17,3 +18,4 @@ name_of (EnabledBeforeRing control length) = codes "enabled-before-ring"
 name_of (DescriptorUnwritten tail index at) = codes "descriptor-unwritten"
 name_of (StatusLeft tail index at) = codes "status-left"
 name_of (InterruptsBeforeRings causes length) = codes "interrupts-before-rings"
+name_of (ReadAgain causes) = codes "read-again"

@@ -13,6 +13,7 @@ use Rattle.em_warnings.specs.declared.warning.Warning.TheVariants.{
   DescriptorUnwritten,
   StatusLeft,
   InterruptsBeforeRings,
+  ReadAgain,
 }
 use Rattle.em_warnings.specs.Names.{name_of}
 
@@ -46,6 +47,10 @@ early_text causes length =
     ++ (value_digits causes
     ++ (codes " through while " ++ (reg_name length ++ codes " is 0, set up the ring first")))
 
+abbrev pub again_text : ℕ → List ℕ
+again_text causes =
+    codes "ICR is 0, the event before cleared " ++ (value_digits causes ++ codes " there, read it once and keep it")
+
 -- what its rule says, with numbers, and what to do
 abbrev pub said : Warning → List ℕ
 said (BitsDropped reg kept written) = dropped_text reg kept written
@@ -54,6 +59,7 @@ said (EnabledBeforeRing control length) = enabled_text control length
 said (DescriptorUnwritten tail index at) = given_text tail index at (codes ", all zeros, write it first")
 said (StatusLeft tail index at) = given_text tail index at (codes " with DD set, clear its status first")
 said (InterruptsBeforeRings causes length) = early_text causes length
+said (ReadAgain causes) = again_text causes
 
 -- the front of its line
 abbrev pub head_text : Warning → List ℕ

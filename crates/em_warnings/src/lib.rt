@@ -1,4 +1,4 @@
-//! What real drivers get wrong: rules with names, by which a write of a register has warnings.
+//! What real drivers get wrong: rules with names, by which an access of a register has warnings.
 #![tactic(auto)]
 
 mod descriptors;
@@ -6,6 +6,7 @@ mod flaw;
 pub mod laws;
 mod lines;
 mod piece;
+mod reads;
 mod rings;
 mod rules;
 mod said;
@@ -13,6 +14,7 @@ mod warning;
 mod write_line;
 
 pub use lines::write_warnings;
+pub use reads::read_again;
 pub use rules::warnings_of;
 pub use said::write_warning;
 pub use warning::{RULES, Warning};

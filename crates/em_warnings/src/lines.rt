@@ -1,17 +1,20 @@
 //! The warnings of a line.
 ghost use Rattle.em_text.specs.Writer.{Writes};
-ghost use Rattle.em_warnings.specs.Warnings.{line_of, lines_of, warnings_text};
+ghost use Rattle.em_warnings.specs.Warnings.{line_of, lines_of, lines_of_read, lines_of_write, warnings_text};
 
+use crate::reads::read_again;
 use crate::rules::warnings_of;
 use crate::said::write_warning;
 use crate::warning::Warning;
 use crate::write_line::written;
+use em_expect::register_read;
 use em_journal::Machine;
+use em_regs::Reg;
 use em_text::{WriteFailed, is_name};
 use std::io::Write;
 
 /// Writes the warnings of a line, one in a line each, if it has any: only a line `w OFF VALUE` that was answered `ok`
-/// has some. The machine is as the line left it.
+/// has some, and a line that read 0 from ICR one. The machine is as the line left it.
 pub fn write_warnings<W: Write>(
     writer: &mut W,
     machine: &Machine,
@@ -19,14 +22,43 @@ pub fn write_warnings<W: Write>(
     answer: &[u8],
 ) -> Result<(), WriteFailed>
     ensures writes { Writes (W.contents writer.old) (W.contents writer.new) result
-        (warnings_text machine.now.present line.now answer.now) }
+        (warnings_text machine.now line.now answer.now) }
 {
-    if !is_name(answer, b"ok\n") {
-        return Ok(());
+    if is_name(answer, b"ok\n") {
+        return write_of_write(writer, machine, written(line));
     }
-    match written(line) {
+    if is_name(answer, b"00000000\n") {
+        return write_of_read(writer, machine, register_read(line));
+    }
+    Ok(())
+}
+
+/// Writes the warnings of a write of a value to a register.
+fn write_of_write<W: Write>(
+    writer: &mut W,
+    machine: &Machine,
+    write: Option<(Reg, u32)>,
+) -> Result<(), WriteFailed>
+    ensures writes { Writes (W.contents writer.old) (W.contents writer.new) result
+        (lines_of_write machine.now.present write) }
+{
+    match write {
         Some((reg, value)) => write_each(writer, &warnings_of(machine, reg, value)),
         None => Ok(()),
+    }
+}
+
+/// Writes the warning of a read of a register that gave 0.
+fn write_of_read<W: Write>(
+    writer: &mut W,
+    machine: &Machine,
+    read: Option<Reg>,
+) -> Result<(), WriteFailed>
+    ensures writes { Writes (W.contents writer.old) (W.contents writer.new) result (lines_of_read machine.now read) }
+{
+    match read {
+        Some(Reg::Icr) => write_line(writer, read_again(machine)),
+        _ => Ok(()),
     }
 }
 

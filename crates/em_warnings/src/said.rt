@@ -1,6 +1,6 @@
 //! What is said of a warning.
 ghost use Rattle.em_text.specs.Writer.{Writes};
-ghost use Rattle.em_warnings.specs.Said.{dropped_text, early_text, enabled_text, given_text, head_text};
+ghost use Rattle.em_warnings.specs.Said.{again_text, dropped_text, early_text, enabled_text, given_text, head_text};
 ghost use Rattle.em_warnings.specs.Said.{past_text, said, warning_text};
 
 use crate::piece::{Piece, write_text};
@@ -53,6 +53,7 @@ fn write_said<W: Write>(writer: &mut W, warning: Warning) -> Result<(), WriteFai
             )
         }
         Warning::InterruptsBeforeRings { causes, length } => write_early(writer, causes, length),
+        Warning::ReadAgain { causes } => write_again(writer, causes),
     }
 }
 
@@ -149,6 +150,19 @@ fn write_early<W: Write>(writer: &mut W, causes: u32, length: Reg) -> Result<(),
             Piece::Text(b" through while "),
             Piece::Name(length),
             Piece::Text(b" is 0, set up the ring first"),
+        ],
+    )
+}
+
+fn write_again<W: Write>(writer: &mut W, causes: u32) -> Result<(), WriteFailed>
+    ensures writes { Writes (W.contents writer.old) (W.contents writer.new) result (again_text causes) }
+{
+    write_text(
+        writer,
+        &[
+            Piece::Text(b"ICR is 0, the event before cleared "),
+            Piece::Value(causes),
+            Piece::Text(b" there, read it once and keep it"),
         ],
     )
 }

@@ -4,10 +4,10 @@ ghost use Rattle.em_warnings.specs.Names.{name_of};
 
 use em_regs::Reg;
 
-/// How many rules there are.
+/// How many rules a write is asked.
 pub const RULES: usize = 6;
 
-/// What a driver seems to get wrong by a write of a register, with the numbers of the rule that says so.
+/// What a driver seems to get wrong by an access of a register, with the numbers of the rule that says so.
 #[derive(Clone, Copy, Debug, PartialEq, Eq)]
 pub enum Warning {
     /// `bits-dropped`: the register keeps only these bits of what was written.
@@ -22,6 +22,8 @@ pub enum Warning {
     StatusLeft { tail: Reg, index: u32, at: u128 },
     /// `interrupts-before-rings`: these causes of a ring are let through while the ring's length is 0.
     InterruptsBeforeRings { causes: u32, length: Reg },
+    /// `read-again`: a read of ICR gave 0, since the event before it cleared these causes there.
+    ReadAgain { causes: u32 },
 }
 
 impl Warning {
@@ -36,6 +38,7 @@ impl Warning {
             Warning::DescriptorUnwritten { .. } => "descriptor-unwritten",
             Warning::StatusLeft { .. } => "status-left",
             Warning::InterruptsBeforeRings { .. } => "interrupts-before-rings",
+            Warning::ReadAgain { .. } => "read-again",
         }
     }
 }
