@@ -1,11 +1,11 @@
 -- A place that moves, and the lines behind it.
-use Rattle.std.proofs.Common.{◌≡◌, ℕ, ◌+◌, ◌-◌, ◌<◌, ◌≤◌, zero, suc, List, [], ◌∷◌, ◌++◌, length, take, Some, Option, Result}
+use Rattle.std.proofs.Common.{◌≡◌, ℕ, ◌+◌, ◌-◌, ◌<◌, ◌≤◌, zero, suc, List, [], ◌∷◌, ◌++◌, length, take, drop, Some, Option, Result}
 use Rattle.std.proofs.Common.{refl, sym, ap, ◌∙◌, subst, arith, inl, inr}
-use Rattle.std.specs.Prelude.{slice_get, get_or, All, Vec, min}
+use Rattle.std.specs.Prelude.{slice_get, get_or, All, Vec, insert, min}
 use Rattle.std.specs.Global.{Global}
 use Rattle.std.specs.Option.{option_map}
 use Rattle.std.proofs.lemmas.Bool.{cases_lt}
-use Rattle.std.proofs.lemmas.List.{map-append, nil_from_length}
+use Rattle.std.proofs.lemmas.List.{drop-map, map-append, nil_from_length, take-map}
 use Rattle.std.proofs.lemmas.Option.{slice_get-map, slice_get-get_or, get_or_from_slice_get, slice_get_within}
 use Rattle.em_turn.specs.Planned.{lists}
 use Rattle.em_journal.specs.View.{View, after_back, after_backs}
@@ -135,3 +135,13 @@ at_back {back = back} n place = record {
   played = place.played;
   session = ap (taken_back n) place.session ∙ taken-plus back n (after_all place.all _);
 }
+
+-- ---- a line among others
+
+-- the octets of vectors, one of which is put among the others
+pub lists-insert : (lines : List (Vec ℕ Global)) (before : ℕ) (line : Vec ℕ Global)
+    → lists (insert lines before line) ≡ insert (lists lines) before line.items
+lists-insert lines before line =
+    map-append (λ (v : Vec ℕ Global). v.items) (take before lines) (line ∷ drop before lines)
+    ∙ ap (λ l. l ++ line.items ∷ lists (drop before lines)) (sym (take-map (λ (v : Vec ℕ Global). v.items) before lines))
+    ∙ ap (λ l. take before (lists lines) ++ line.items ∷ l) (sym (drop-map (λ (v : Vec ℕ Global). v.items) before lines))

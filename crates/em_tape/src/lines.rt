@@ -32,6 +32,18 @@ pub(crate) fn put_line(
     ensures err { OnErr result (lists lines.new.items ≡ lists lines.old.items) }
 {
     let octets = line.to_vec(alloc)?;
+    put_octets(lines, before, octets)
+}
+
+fn put_octets(
+    lines: &mut Vec<Vec<u8>>,
+    before: usize,
+    octets: Vec<u8>,
+) -> Result<(), AllocError>
+    requires { before ≤ length lines.old.items }
+    ensures ok { OnOk result (lists lines.new.items ≡ insert (lists lines.old.items) before octets.items) }
+    ensures err { OnErr result (lists lines.new.items ≡ lists lines.old.items) }
+{
     lines.insert(before, octets)?;
     Ok(())
 }

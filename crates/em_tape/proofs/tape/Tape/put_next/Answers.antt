@@ -10,6 +10,6 @@ invariant_of-self c =
     let lines = lists c.self.inside.lines.items in
     let few : length lines < 0xFFFF_FFFF =
     omega (arith, length-map c.self.inside.lines.items (λ v. v.items), c.len.ensures, c.if-len-ge-MOST_LINES.false) in
-    rw c.truncate.ensures.items (holds_put c.args.line.now c.self.invariant c.requires
+    rw c.truncate.ensures.items (holds_put c.args.line.now c.self.invariant (rw (← c.self.view_is) at c.requires)
     c.if-line-ge-MOST_OCTETS.false few
     (elim c.match-put_line.branch [ in-Ok w ↦ inl w.in-Ok.ensures.ok | in-Err w ↦ inr w.in-Err.ensures.err ]))
