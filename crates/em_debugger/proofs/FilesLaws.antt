@@ -73,7 +73,7 @@ ExpectedSo-all first number old now text rest h none =
 
 -- ---- a script
 
-text_there : (lines : List (List ℕ)) (k : ℕ) → k < length lines
+pub text_there : (lines : List (List ℕ)) (k : ℕ) → k < length lines
     → slice_get lines k ≡ Some (unwrap_or (slice_get lines k) [])
 text_there [] k lt = absurd (omega (arith, lt))
 text_there (line ∷ lines) zero lt = refl

@@ -7,6 +7,7 @@ pub mod HistoryLaws
 pub mod ListingLaws
 pub mod MovesLaws
 pub mod NextLaws
+pub mod OffersLaws
 pub mod PerformingLaws
 pub mod PlaceLaws
 pub mod PlayedLaws

@@ -28,7 +28,7 @@ ShowedSo-more first lines old now next before after later p one h more performs 
   text = h.text ++ one;
   written = Appends-more before after later h.text one _ h.written written refl;
   behind = λ new rest steps. subst (λ l. ShowsSteps first old new l) (sym (append_assoc h.text one rest))
-      (h.behind new (one ++ rest) (step more next p one rest performs shows steps refl));
+      (h.behind new (one ++ rest) (step lines now next new p one rest more performs shows steps));
 }
 
 -- and then comes the last

@@ -1,5 +1,5 @@
 -- What the model knowingly does otherwise than a real adapter or QEMU's, by the register that shows it.
-use Rattle.std.specs.Prelude.{ℕ, List, [], ◌∷◌, ◌++◌, codes}
+use Rattle.std.specs.Prelude.{ℕ, ◌==◌, if◌then◌else◌, List, [], ◌++◌, codes, length}
 use Rattle.em_regs.specs.declared.reg.Reg.{Reg}
 use Rattle.em_regs.specs.declared.reg.Reg.TheVariants as reg
 
@@ -59,8 +59,7 @@ departure_of reg.Bptc = by_steps
 departure_of _ = []
 
 abbrev pub known_text : List ℕ → List ℕ
-known_text [] = []
-known_text (octet ∷ octets) = codes "known: " ++ ((octet ∷ octets) ++ codes "\n")
+known_text known = if length known == 0 then [] else codes "known: " ++ (known ++ codes "\n")
 
 -- what is known of it, if anything is
 abbrev pub departure_text : Reg → List ℕ

@@ -57,8 +57,8 @@ wrote_text count = codes "wrote " ++ count_text count (codes "1 frame\n") (codes
 pub record OffersFrames (old new : Debugger) (file text : List ℕ) : Type 0 where
   pub arrivals : Arrivals
   pub are : AreArrivals (reading_of file) arrivals
-  pub new : new ≡ record old { offered = arrivals.lines }
-  pub told : TellsOffer (length (lists arrivals.lines.items)) arrivals.cut arrivals.error text
+  pub offers : new ≡ record old { offered = arrivals.lines }
+  pub told : TellsOffer (length arrivals.lines.items) arrivals.cut arrivals.error text
 
 -- by its name a file is a capture, or a script
 abbrev pub LoadsAs : Bool → Debugger → Debugger → List ℕ → List ℕ → Type 0

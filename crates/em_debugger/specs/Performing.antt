@@ -125,14 +125,14 @@ pub record ShowsPerformed (d : Debugger) (p : Performed) (text : List ℕ) : Typ
 
 -- the steps that engines make by themselves, as long as each puts the next: each is performed and shown. Before the line
 -- behind which they stand there were so many lines.
-pub data ShowsSteps (lines : ℕ) (old new : Debugger) (text : List ℕ) : Type 0 where
-  none : length old.tape.lines ≤ lines → new ≡ old → text ≡ [] → ShowsSteps lines old new text
-  step : lines < length old.tape.lines → (between : Debugger) (p : Performed) (one rest : List ℕ)
+pub data ShowsSteps : ℕ → Debugger → Debugger → List ℕ → Type 0 where
+  none : (lines : ℕ) (d : Debugger) → length d.tape.lines ≤ lines → ShowsSteps lines d d []
+  step : (lines : ℕ) (old between new : Debugger) (p : Performed) (one rest : List ℕ) → lines < length old.tape.lines
       → PerformsNext old between p → ShowsPerformed between p one → ShowsSteps (length old.tape.lines) between new rest
-      → text ≡ one ++ rest → ShowsSteps lines old new text
-  over : IsLast old → new ≡ old → text ≡ [] → ShowsSteps lines old new text
-  stopped : (fault : BenchFault) → text ≡ fault_text fault → new.tape.lines ≡ old.tape.lines
-      → ShowsSteps lines old new text
+      → ShowsSteps lines old new (one ++ rest)
+  over : (lines : ℕ) (d : Debugger) → IsLast d → ShowsSteps lines d d []
+  stopped : (lines : ℕ) (old new : Debugger) (fault : BenchFault) → new.tape.lines ≡ old.tape.lines
+      → ShowsSteps lines old new (fault_text fault)
 
 -- a line that lay ahead is answered so, and then come the steps of engines; or it is said why it was not performed, and the
 -- lines stay
@@ -140,7 +140,7 @@ pub data AnswersNext (old new : Debugger) (text : List ℕ) : Type 0 where
   performed : (between : Debugger) (p : Performed) (answer rest : List ℕ) → PerformsNext old between p
       → AnswersPerformed between p answer → ShowsSteps (length old.tape.lines) between new rest
       → text ≡ answer ++ rest → AnswersNext old new text
-  stopped : (fault : BenchFault) → text ≡ fault_text fault → new.tape.lines ≡ old.tape.lines → AnswersNext old new text
+  unperformed : (fault : BenchFault) → text ≡ fault_text fault → new.tape.lines ≡ old.tape.lines → AnswersNext old new text
 
 -- what was dropped is said, and then the line is answered
 pub record AnswersAdded (old new : Debugger) (dropped : ℕ) (text : List ℕ) : Type 0 where

@@ -133,28 +133,30 @@ impl Debugger {
             Typed::Why => self.why(writer),
             Typed::Help(Some(command)) => write_help(writer, command),
             Typed::Help(None) => write_whole_help(writer),
-            Typed::Silent
-            | Typed::Line(_)
-            | Typed::Who(..)
-            | Typed::WhoAgain
-            | Typed::Back(_)
+            Typed::Silent | Typed::Quit => Ok(()),
+            // lines that are performed
+            Typed::Line(_)
+            | Typed::Next(_)
+            | Typed::Run
+            | Typed::RunUntil(_)
+            | Typed::ArriveNext
+            | Typed::ArriveAll => Ok(()),
+            // another place, and who changed what
+            Typed::Back(_)
             | Typed::BackTo(_)
             | Typed::Forward(_)
             | Typed::ForwardTo(_)
             | Typed::Goto(_)
-            | Typed::Next(_)
-            | Typed::Run
-            | Typed::RunUntil(_)
-            | Typed::Load(_)
+            | Typed::Who(..)
+            | Typed::WhoAgain => Ok(()),
+            // files, and switches
+            Typed::Load(_)
             | Typed::Save(_)
             | Typed::SaveOver(_)
-            | Typed::Warnings(_)
-            | Typed::Auto(_)
-            | Typed::ArriveNext
-            | Typed::ArriveAll
             | Typed::Pcap(_)
             | Typed::PcapOver(_)
-            | Typed::Quit => Ok(()),
+            | Typed::Warnings(_)
+            | Typed::Auto(_) => Ok(()),
         }
     }
 

@@ -21,7 +21,13 @@ use std::collections::VecDeque;
 use std::io::Write;
 
 /// What stands behind each frame's line where the engines stand still: the receive engine's step.
-const STEP: &[u8; 3] = b"rx\n";
+const STEP: &[u8] = b"rx\n";
+
+/// How the name of a classic capture ends.
+const CLASSIC: &[u8; 5] = b".pcap";
+
+/// How that of a pcapng capture ends.
+const NEXT: &[u8; 7] = b".pcapng";
 
 impl Debugger {
     /// Offers the frames of a capture to `arrive`, in the place of those that are offered so far.
@@ -122,14 +128,14 @@ impl Debugger {
 pub(crate) fn is_capture(name: &[u8]) -> bool
     ensures { result ≡ is_capture name.now }
 {
-    ends_with(name, b".pcap") || ends_with(name, b".pcapng")
+    ends_with(name, CLASSIC) || ends_with(name, NEXT)
 }
 
 /// Whether a name ends so.
-fn ends_with(name: &[u8], end: &[u8]) -> bool
+fn ends_with<const N: usize>(name: &[u8], end: &[u8; N]) -> bool
     ensures { result ≡ ends_with name.now end.now }
 {
-    is_name(&name[name.len().saturating_sub(end.len())..], end)
+    is_name(&name[name.len().saturating_sub(N)..], end)
 }
 
 fn write_none_left<W: Write>(writer: &mut W) -> Result<(), WriteFailed>

@@ -12,6 +12,6 @@ returns-in-Ok-clause-ok c =
       between = between;
       cut = c.in_ok-dropped.ensures.ok;
       tape = c.in_ok-add.ensures.ok;
-      expects = subst (λ n. Expects n c.args.asked.now held holds) c.len.ensures c.in-Ok.ensures.ok;
-      rest = record { settings = refl; told = refl; asked = refl; warns = refl; score = refl };
+      expects = subst (λ n. Expects n c.args.asked.now held holds) c.len.ensures.len c.in-Ok.ensures.ok;
+      rest = record { settings = refl; told = refl; asked = refl; warns = refl; score = refl; engines = refl; offered = refl };
     }

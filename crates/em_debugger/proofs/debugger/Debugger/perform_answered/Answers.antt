@@ -1,5 +1,5 @@
 use Rattle.std.proofs.Common.{length, refl}
-use Rattle.em_debugger.specs.Performing.{AnswersNext, ShowsSteps, fault_text, performed, stopped}
+use Rattle.em_debugger.specs.Performing.{AnswersNext, ShowsSteps, fault_text, performed, unperformed}
 use Rattle.em_debugger.proofs.TextLaws.{OnOk-behind, OnOk-written}
 use Rattle.em_debugger.proofs.debugger.Debugger.perform_answered.Goals as goal
 
@@ -21,5 +21,5 @@ returns-in-Ok-Some g c =
 pub returns-in-Err : goal.returns-in-Err
 returns-in-Err g c = record {
   ok = OnOk-written _ _ _ (fault_text c.in-Err.fault) (AnswersNext c.args.self.now c.perform_next.new.self)
-      c.write_fault.ensures.writes (stopped c.in-Err.fault refl c.in-Err.ensures.err);
+      c.write_fault.ensures.writes (unperformed c.in-Err.fault refl c.in-Err.ensures.err);
 }
