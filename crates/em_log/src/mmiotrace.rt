@@ -13,6 +13,7 @@ use em_text::{Words, is_name};
 const BEFORE_PHYSICAL: usize = 2;
 
 /// What a line of mmiotrace tells.
+#[tactic(auto, unfolding(crate::specs::Mmiotrace::mmiotrace_told))]
 pub(crate) fn mmiotrace_told(line: &[u8]) -> Told
     ensures { result ≡ mmiotrace_told line.now }
 {

@@ -13,6 +13,7 @@ use em_text::Words;
 const OCTETS: u64 = 4;
 
 /// What a line tells that a driver printed.
+#[tactic(auto, unfolding(crate::specs::Plain::plain_told))]
 pub(crate) fn plain_told(line: &[u8]) -> Told
     ensures { result ≡ plain_told line.now }
 {

@@ -17,6 +17,7 @@ const QUOTE: u8 = b'\'';
 const WORDS_BEFORE: usize = 4;
 
 /// What a line of QEMU's trace tells. The accesses of this region are those of the adapter's registers.
+#[tactic(auto, unfolding(crate::specs::Qemu::qemu_told))]
 pub(crate) fn qemu_told(region: &[u8], line: &[u8]) -> Told
     ensures { result ≡ qemu_told region.now line.now }
 {
