@@ -1,0 +1,102 @@
+//! The script's lines.
+
+use anyhow::{Result, bail};
+use em_log::{RegisterAccess, Way};
+use em_text::{octet_digits, write_octets, write_pieces, write_whole};
+use std::io::Write;
+
+/// How many digits of 32 bits an offset, which has 5, leaves out.
+const HIGH_DIGITS: usize = 3;
+
+/// How many digits a value has.
+const VALUE_DIGITS: usize = 8;
+
+/// Writes a text whole.
+pub fn write_text<W: Write>(out: &mut W, text: &[u8]) -> Result<()> {
+    match write_whole(out, text) {
+        Ok(()) => Ok(()),
+        Err(_) => bail!("the script cannot be written"),
+    }
+}
+
+/// Writes the line of an access of four octets: `w 000D0 0000009D`, `r 000C0 = 00000004`, or `r 000C0` where the value
+/// is not known.
+#[inline]
+pub fn write_access<W: Write>(
+    out: &mut W,
+    way: Way,
+    offset: u32,
+    value: Option<u32>,
+) -> Result<()> {
+    let digits = digits_of(offset);
+    let offset = &digits[HIGH_DIGITS..];
+    match value {
+        Some(value) => {
+            let value = digits_of(value);
+            match way {
+                Way::Write => write_parts(out, &[b"w ", offset, b" ", &value, b"\n"]),
+                Way::Read => write_parts(out, &[b"r ", offset, b" = ", &value, b"\n"]),
+            }
+        }
+        None => write_parts(out, &[b"r ", offset, b"\n"]),
+    }
+}
+
+/// Writes pieces of a text.
+fn write_parts<W: Write>(out: &mut W, pieces: &[&[u8]]) -> Result<()> {
+    match write_pieces(out, pieces) {
+        Ok(()) => Ok(()),
+        Err(_) => bail!("the script cannot be written"),
+    }
+}
+
+/// The 8 digits of a value.
+fn digits_of(value: u32) -> [u8; VALUE_DIGITS] {
+    let mut digits = [0; VALUE_DIGITS];
+    let mut at = 0;
+    for octet in value.to_be_bytes() {
+        let [high, low] = octet_digits(octet);
+        digits[at] = high;
+        digits[at + 1] = low;
+        at += 2;
+    }
+    digits
+}
+
+/// Writes an access as a comment, with the line of the log and what is to be said of it:
+/// `# line 17: r 00010 = 00000000 (EECD)`.
+pub fn write_comment<W: Write>(
+    out: &mut W,
+    line: u64,
+    access: RegisterAccess,
+    what: &str,
+) -> Result<()> {
+    let offset = access.offset;
+    write!(out, "# line {line}: ")?;
+    match (access.way, access.value) {
+        (Way::Read, Some(value)) => write!(out, "r {offset:05X} = {value:08X}")?,
+        (Way::Read, None) => write!(out, "r {offset:05X}")?,
+        (Way::Write, Some(value)) => write!(out, "w {offset:05X} {value:08X}")?,
+        (Way::Write, None) => write!(out, "w {offset:05X}")?,
+    }
+    writeln!(out, " ({what})")?;
+    Ok(())
+}
+
+/// Writes a line of the log as a comment.
+pub fn write_kept<W: Write>(out: &mut W, line: u64, text: &[u8]) -> Result<()> {
+    write!(out, "# line {line}: ")?;
+    write_parts(out, &[text, b"\n"])
+}
+
+/// Writes the line of a frame that arrives: its octets, and where they are fewer than those of the frame, its length.
+pub fn write_arrival<W: Write>(out: &mut W, octets: &[u8], len: u32) -> Result<()> {
+    write_text(out, b"arrive ")?;
+    if write_octets(out, octets).is_err() {
+        bail!("the script cannot be written");
+    }
+    if octets.len() < len as usize {
+        write!(out, " {len}")?;
+    }
+    write_text(out, b"\n")
+}

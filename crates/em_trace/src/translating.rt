@@ -1,0 +1,140 @@
+//! A log becomes a script, line by line.
+
+use crate::done::Done;
+use crate::frames::Frames;
+use crate::lines::read_line;
+use crate::missing::missing_name;
+use crate::text::{write_access, write_comment, write_kept, write_text};
+use anyhow::{Context, Result};
+use em_log::{Entry, Form, Log, RegisterAccess, Way, Width};
+use em_regs::Reg;
+use std::io::{BufRead, Write};
+
+/// ICR's bit RXT0: a frame has arrived.
+const RXT0: u32 = 0x0000_0080;
+
+/// What a link that is up from the start leaves: it is up, and no cause is raised by it.
+const LINK_UP: &[u8] = b"link up\nw 000C0 00000004\n";
+
+/// Whether the link is up where the log begins.
+#[derive(Clone, Copy, PartialEq, Eq, Debug)]
+pub enum Link {
+    Up,
+    Down,
+}
+
+/// What the command line asks for.
+#[derive(Clone, Copy, Debug)]
+pub struct Wanted<'a> {
+    /// What the log looks like; without it the log says so.
+    pub form: Option<Form>,
+    /// What QEMU calls the adapter's registers.
+    pub region: &'a str,
+    /// Where the first register lies; without it the log says so.
+    pub base: Option<u64>,
+    /// The line before which all frames arrive.
+    pub at: Option<u64>,
+    pub link: Link,
+}
+
+/// Writes the script of a log, and says on standard error which lines cannot be read.
+pub fn translate<E: Eprint + AllocGlobal, R: BufRead, W: Write>(
+    rt: &E,
+    wanted: &Wanted<'_>,
+    capture: &[u8],
+    reader: &mut R,
+    out: &mut W,
+) -> Result<Done> {
+    let mut log = Log::new(wanted.form, wanted.region.as_bytes(), wanted.base);
+    let mut frames = Frames::new(rt.alloc(), capture);
+    let mut done = Done::new(rt.alloc())?;
+    let mut line = Vec::new(rt.alloc());
+    for number in 1..u64::MAX {
+        if !read_line(reader, &mut line).context("the log cannot be read")? {
+            break;
+        }
+        if wanted.at == Some(number) {
+            write_all_frames(&mut frames, out)?;
+        }
+        let text = line.as_slice();
+        match log.read(text) {
+            Entry::Access(access) => {
+                if done.accesses == 0 && wanted.link == Link::Up {
+                    write_text(out, LINK_UP)?;
+                }
+                done.accesses = done.accesses.saturating_add(1);
+                if wanted.at.is_none() && has_frame(access) {
+                    frames.write_next(out)?;
+                }
+                take(&mut done, &mut frames, out, number, access)?;
+            }
+            Entry::Elsewhere => done.elsewhere = done.elsewhere.saturating_add(1),
+            Entry::Nothing => {}
+            Entry::Fault => {
+                done.faults = done.faults.saturating_add(1);
+                let _ = eprintln!(rt; "line {number} cannot be read");
+                write_kept(out, number, text)?;
+            }
+        }
+    }
+    done.late_frames = write_all_frames(&mut frames, out)?;
+    Ok(done)
+}
+
+/// Writes the lines of all frames that are left, and gives how many they were.
+fn write_all_frames<W: Write>(frames: &mut Frames<'_>, out: &mut W) -> Result<u64> {
+    for count in 0..u64::MAX {
+        if !frames.write_next(out)? {
+            return Ok(count);
+        }
+    }
+    Ok(u64::MAX)
+}
+
+/// Whether this is a read of ICR that tells of a frame.
+fn has_frame(access: RegisterAccess) -> bool {
+    access.way == Way::Read
+        && access.offset == Reg::Icr.offset()
+        && access.width == Width::Four
+        && access
+            .value
+            .is_some_and(|value| value & u64::from(RXT0) != 0)
+}
+
+/// Writes the line of an access, or a comment where the model can't have it.
+fn take<W: Write>(
+    done: &mut Done,
+    frames: &mut Frames<'_>,
+    out: &mut W,
+    number: u64,
+    access: RegisterAccess,
+) -> Result<()> {
+    if access.width != Width::Four {
+        done.other_sizes = done.other_sizes.saturating_add(1);
+        return write_width(out, number, access);
+    }
+    let Some(reg) = Reg::of_offset(access.offset) else {
+        done.missing.add(access.offset);
+        let name = missing_name(access.offset).unwrap_or("no register");
+        return write_comment(out, number, access, name);
+    };
+    let value = match access.value {
+        Some(value) => u32::try_from(value).ok(),
+        None => None,
+    };
+    if let (Reg::Rctl, Way::Write, Some(rctl)) = (reg, access.way, value) {
+        frames.set_rctl(rctl);
+    }
+    write_access(out, access.way, access.offset, value)
+}
+
+/// Writes an access of another size than four octets as a comment.
+fn write_width<W: Write>(out: &mut W, number: u64, access: RegisterAccess) -> Result<()> {
+    let what = match access.width {
+        Width::One => "1 octet",
+        Width::Two => "2 octets",
+        Width::Four => "4 octets",
+        Width::Eight => "8 octets",
+    };
+    write_comment(out, number, access, what)
+}
