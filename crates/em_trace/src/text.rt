@@ -52,15 +52,12 @@ fn write_parts<W: Write>(out: &mut W, pieces: &[&[u8]]) -> Result<()> {
 
 /// The 8 digits of a value.
 fn digits_of(value: u32) -> [u8; VALUE_DIGITS] {
-    let mut digits = [0; VALUE_DIGITS];
-    let mut at = 0;
-    for octet in value.to_be_bytes() {
-        let [high, low] = octet_digits(octet);
-        digits[at] = high;
-        digits[at + 1] = low;
-        at += 2;
-    }
-    digits
+    let [first, second, third, last] = value.to_be_bytes();
+    let [a, b] = octet_digits(first);
+    let [c, d] = octet_digits(second);
+    let [e, f] = octet_digits(third);
+    let [g, h] = octet_digits(last);
+    [a, b, c, d, e, f, g, h]
 }
 
 /// Writes an access as a comment, with the line of the log and what is to be said of it:
