@@ -66,13 +66,6 @@ impl<'a> Log<'a> {
         Log { form, region, base }
     }
 
-    /// What the log looks like, once that is known.
-    pub fn form(&self) -> Option<Form>
-        ensures { result ≡ self.now.form }
-    {
-        self.form
-    }
-
     /// What the next line is.
     pub fn read(&mut self, line: &[u8]) -> Entry
         ensures entry { result ≡ entry_of self.new.base (told_in self.new.form self.old.region.now line.now) }

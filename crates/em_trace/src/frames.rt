@@ -1,4 +1,5 @@
 //! The frames of a capture, as they arrive.
+ghost use Rattle.std.specs.Prelude.{◌<◌};
 
 use crate::text::{write_arrival, write_text};
 use anyhow::{Result, bail};
@@ -62,7 +63,9 @@ impl<'a> Frames<'a> {
     }
 
     /// How many octets a receive buffer has.
-    fn buffer_len(&self) -> u32 {
+    fn buffer_len(&self) -> u32
+        ensures { 0 < result }
+    {
         let size = (self.rctl & BSIZE) >> BSIZE_AT;
         match (size, self.rctl & BSEX != 0) {
             (1, true) => 16_384,

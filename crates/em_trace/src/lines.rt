@@ -1,13 +1,10 @@
 //! A log's lines, one at a time, however long they are.
 
-use memchr::memchr_iter;
+use em_text::next_line;
 use std::io::{BufRead, Result};
 
 /// How many octets of a line are kept: an access takes far fewer.
 const MOST_KEPT: usize = 4_096;
-
-/// What ends a line.
-const NEWLINE: u8 = b'\n';
 
 /// Reads a line in place of what `line` held, and nothing behind it: false where the reader is at its end.
 ///
@@ -23,10 +20,7 @@ pub fn read_line<R: BufRead>(reader: &mut R, line: &mut Vec<u8>) -> Result<bool>
         }
         begun = true;
         let len = octets.len();
-        let end = match memchr_iter(NEWLINE, octets).next() {
-            Some(end) => end,
-            None => len,
-        };
+        let end = next_line(octets).0.len();
         let room = MOST_KEPT - line.len().min(MOST_KEPT);
         line.extend_from_slice(&octets[..end.min(room)])?;
         if end < len {
