@@ -1,16 +1,16 @@
 """Drives QEMU's e1000 at random, within what the manual, the model and QEMU have in common.
 
-Outside of that lie, by docs/device.md and docs/traces.md: bits of STATUS, values that no write has set yet, registers that
-QEMU does not keep, a write of CTRL with RST, reads of ICS, upper halves of registers of 16 bits, and transmitting. A
-receive ring keeps more descriptors than the threshold of RXDMT0, and a frame is accepted by the filters and followed by
-a read of ICR.
+Outside of that lie, by docs/device.md and docs/traces.md: bits of STATUS, values that no write has set yet, registers
+that QEMU does not keep, a write of CTRL with RST, reads of ICS, upper halves of registers of 16 bits, and transmitting.
+A receive ring keeps more descriptors than the threshold of RXDMT0, and a frame is accepted by the filters and followed
+by a read of ICR.
 """
 import struct
 
 from qemu_adapter import Adapter, is_there
-from record_traces import (BROADCAST, BUFFER, BUFFERS, CTRL, DONE, EERD, GROUP, ICR, IMC, IMS, ITR, LEDCTL, MTA, OURS, PBA,
-                           RAH, RAL, RCTL, RDBAH, RDBAL, RDH, RDLEN, RDT, RDTR, RX_RING, TDBAH, TDBAL, TDH, TDLEN, TDT,
-                           VFTA, frame, pcap)
+from record_traces import BROADCAST, BUFFER, BUFFERS, DONE, OURS, RX_RING, frame, pcap
+from record_traces import CTRL, EERD, ICR, IMC, IMS, ITR, LEDCTL, MTA, PBA, RAH, RAL, RCTL, VFTA
+from record_traces import RDBAH, RDBAL, RDH, RDLEN, RDT, RDTR, TDBAH, TDBAL, TDH, TDLEN, TDT
 
 __all__ = ["is_there", "record"]
 
@@ -40,11 +40,11 @@ class Driven:
     def __init__(self, adapter, r):
         self.adapter, self.r, self.frames = adapter, r, []
         self.tail, self.head = RING - 1, 0
-        self.written = set()
 
     def start(self):
         adapter = self.adapter
-        for register, value in ((IMC, WHOLE), (RDBAL, RX_RING), (RDBAH, 0), (RDLEN, 16 * RING), (RDH, 0), (RDT, self.tail)):
+        adapter.write(IMC, WHOLE)
+        for register, value in ((RDBAL, RX_RING), (RDBAH, 0), (RDLEN, 16 * RING), (RDH, 0), (RDT, self.tail)):
             adapter.write(register, value)
         for offset in [MTA + 4 * k for k in range(128)]:
             adapter.write(offset, 0)

@@ -46,9 +46,11 @@ class Adapter:
         self.wire.bind(ours)
         net = f"dgram,id=n,local.type=unix,local.path={theirs},remote.type=unix,remote.path={ours}"
         words = [QEMU, "-machine", "pc", "-m", "16", "-display", "none", "-vga", "none", "-nodefaults", "-bios", bios]
-        words += ["-qtest", "stdio", "-qtest-log", "none", "-netdev", net, "-device", f"e1000,addr=2,netdev=n,mac={MAC}"]
+        words += ["-netdev", net, "-device", f"e1000,addr=2,netdev=n,mac={MAC}"]
+        words += ["-qtest", "stdio", "-qtest-log", "none"]
         words += ["-trace", "memory_region_ops_read", "-trace", "memory_region_ops_write", "-D", log]
-        self.process = subprocess.Popen(words, stdin=subprocess.PIPE, stdout=subprocess.PIPE, stderr=subprocess.DEVNULL, text=True)
+        pipe = subprocess.PIPE
+        self.process = subprocess.Popen(words, stdin=pipe, stdout=pipe, stderr=subprocess.DEVNULL, text=True)
         self.theirs = theirs
         self.configure(BAR0_REGISTER, region)
         self.configure(COMMAND, MEMORY_AND_MASTER)

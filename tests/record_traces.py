@@ -2,8 +2,8 @@
 
     python3 tests/record_traces.py FOLDER
 
-Those of tests/data/traces were made so, with QEMU 7.2.22 of Debian 12. The driver sets the adapter up, takes five frames,
-sends two, and reads its counters.
+Those of tests/data/traces were made so, with QEMU 7.2.22 of Debian 12. The driver sets the adapter up, takes five
+frames, sends two, and reads its counters.
 """
 import struct
 import sys

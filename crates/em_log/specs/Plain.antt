@@ -1,6 +1,7 @@
--- Lines that a driver prints itself: `read 0xOFFSET 0xVALUE` or `write 0xOFFSET 0xVALUE`, with anything before and behind.
-use Rattle.std.specs.Prelude.{ℕ, ◌-◌, Bool, false, not, ◌==◌, ◌&&◌, ◌||◌, nat_le, if◌then◌else◌, List, [], ◌∷◌, length, codes}
-use Rattle.std.specs.Prelude.{drop, slice_index, Option, Some, None}
+-- Lines that a driver prints itself: `read 0xOFFSET 0xVALUE` or `write 0xOFFSET 0xVALUE`, with anything before and
+-- behind.
+use Rattle.std.specs.Prelude.{ℕ, ◌-◌, Bool, false, not, ◌==◌, ◌&&◌, ◌||◌, nat_le, if◌then◌else◌, List, [], ◌∷◌}
+use Rattle.std.specs.Prelude.{length, codes, drop, slice_index, Option, Some, None}
 use Rattle.std.specs.Char.{is_ascii_alphabetic}
 use Rattle.std.specs.Str.{str_eq_ignore_ascii_case}
 use Rattle.em_text.specs.Words.{words_of}

@@ -1,7 +1,7 @@
 //! A log, line by line.
 ghost use Rattle.std.specs.Prelude.{◌≡◌};
-ghost use Rattle.em_log.specs.Log.{told_by, fits, form_of, form_after, told_in, base_told, base_after, placed, entry_of};
-ghost use Rattle.em_log.specs.Log.{IsWithin};
+ghost use Rattle.em_log.specs.Log.{told_by, fits, form_of, form_after, told_in, base_told, base_after, placed};
+ghost use Rattle.em_log.specs.Log.{entry_of, IsWithin};
 
 use crate::mmiotrace::mmiotrace_told;
 use crate::plain::plain_told;
@@ -56,8 +56,8 @@ pub struct Log<'a> {
 impl<'a> Log<'a> {
     /// A log of which nothing is read yet.
     ///
-    /// Without a form, the first line decides that is an access in one of them. `region` is what QEMU calls the adapter's
-    /// registers. They lie from the address `base` on; without that, the log says where.
+    /// Without a form, the first line decides that is an access in one of them. `region` is what QEMU calls the
+    /// adapter's registers. They lie from the address `base` on; without that, the log says where.
     pub fn new(form: Option<Form>, region: &'a [u8], base: Option<u64>) -> Log<'a>
         ensures form { result.form ≡ form }
         ensures region { result.region ≡ region.entry }

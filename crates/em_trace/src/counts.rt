@@ -39,7 +39,8 @@ impl Counts {
         }
     }
 
-    /// Writes how often each was accessed, if any was: `41 accesses of 2 registers that the model lacks: EECD 20, MDIC 21`.
+    /// Writes how often each was accessed, if any was:
+    /// `41 accesses of 2 registers that the model lacks: EECD 20, MDIC 21`.
     pub fn write<W: Write>(&self, alloc: Global, out: &mut W) -> Result<()> {
         let named = self.named(alloc)?;
         if named.is_empty() {

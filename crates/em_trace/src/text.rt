@@ -60,14 +60,31 @@ fn digits_of(value: u32) -> [u8; VALUE_DIGITS] {
     [a, b, c, d, e, f, g, h]
 }
 
-/// Writes an access as a comment, with the line of the log and what is to be said of it:
+/// Writes an access of a register that the model lacks as a comment, with its line of the log and the register's name:
 /// `# line 17: r 00010 = 00000000 (EECD)`.
-pub fn write_comment<W: Write>(
+pub fn write_missing<W: Write>(
     out: &mut W,
     line: u64,
     access: RegisterAccess,
-    what: &str,
+    name: &str,
 ) -> Result<()> {
+    write_said(out, line, access)?;
+    writeln!(out, " ({name})")?;
+    Ok(())
+}
+
+/// Writes an access of another size than four octets as a comment, with its line of the log and its size:
+/// `# line 17: r 00008 = 00000083 (1 octet)`.
+pub fn write_other_size<W: Write>(out: &mut W, line: u64, access: RegisterAccess) -> Result<()> {
+    write_said(out, line, access)?;
+    let octets = access.width.octets();
+    let plural = if octets == 1 { "" } else { "s" };
+    writeln!(out, " ({octets} octet{plural})")?;
+    Ok(())
+}
+
+/// Writes the begin of a comment: the line of the log, and what it says.
+fn write_said<W: Write>(out: &mut W, line: u64, access: RegisterAccess) -> Result<()> {
     let offset = access.offset;
     write!(out, "# line {line}: ")?;
     match (access.way, access.value) {
@@ -76,7 +93,6 @@ pub fn write_comment<W: Write>(
         (Way::Write, Some(value)) => write!(out, "w {offset:05X} {value:08X}")?,
         (Way::Write, None) => write!(out, "w {offset:05X}")?,
     }
-    writeln!(out, " ({what})")?;
     Ok(())
 }
 

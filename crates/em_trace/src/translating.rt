@@ -4,7 +4,7 @@ use crate::done::Done;
 use crate::frames::Frames;
 use crate::lines::read_line;
 use crate::missing::missing_name;
-use crate::text::{write_access, write_comment, write_kept, write_text};
+use crate::text::{write_access, write_kept, write_missing, write_other_size, write_text};
 use anyhow::{Context, Result};
 use em_log::{Entry, Form, Log, RegisterAccess, Way, Width};
 use em_regs::Reg;
@@ -111,12 +111,12 @@ fn take<W: Write>(
 ) -> Result<()> {
     if access.width != Width::Four {
         done.other_sizes = done.other_sizes.saturating_add(1);
-        return write_width(out, number, access);
+        return write_other_size(out, number, access);
     }
     let Some(reg) = Reg::of_offset(access.offset) else {
         done.missing.add(access.offset);
         let name = missing_name(access.offset).unwrap_or("no register");
-        return write_comment(out, number, access, name);
+        return write_missing(out, number, access, name);
     };
     let value = match access.value {
         Some(value) => u32::try_from(value).ok(),
@@ -126,15 +126,4 @@ fn take<W: Write>(
         frames.set_rctl(rctl);
     }
     write_access(out, access.way, access.offset, value)
-}
-
-/// Writes an access of another size than four octets as a comment.
-fn write_width<W: Write>(out: &mut W, number: u64, access: RegisterAccess) -> Result<()> {
-    let what = match access.width {
-        Width::One => "1 octet",
-        Width::Two => "2 octets",
-        Width::Four => "4 octets",
-        Width::Eight => "8 octets",
-    };
-    write_comment(out, number, access, what)
 }
