@@ -165,20 +165,20 @@ def lines_of(log):
 
 def script_of(log, reader, missing, frames=(), at=None, link=True):
     """The script of a log, as octets. `missing` has the names of registers that the model lacks."""
-    script, frames, rctl, begun = [], [*frames], 0, False
+    script, frames, rctl, head = [], [*frames], 0, ["link up", "w 000C0 00000004"] if link else []
+    accesses = 0
     for count, line in enumerate(lines_of(log), 1):
         if count == at:
-            script += [text for frame in frames for text in arrival(frame, rctl)]
-            frames = []
+            script += head + [text for frame in frames for text in arrival(frame, rctl)]
+            frames, head = [], []
         said = reader.read(line)
         if said == FAULT:
             script.append(f"# line {count}: ".encode() + line)
         if isinstance(said, str):
             continue
         way, offset, value, size = said
-        if not begun and link:
-            script += ["link up", "w 000C0 00000004"]
-        begun = True
+        script += head
+        head, accesses = [], accesses + 1
         is_read = way == "read" and size == 4
         if at is None and is_read and offset == 0xC0 and value is not None and value & 0x80 and frames:
             script += arrival(frames.pop(0), rctl)
@@ -191,5 +191,5 @@ def script_of(log, reader, missing, frames=(), at=None, link=True):
             script.append(text)
             if REGISTERS[offset] == "RCTL" and way == "write":
                 rctl = value
-    script += [text for frame in frames for text in arrival(frame, rctl)]
+    script += [text for frame in frames for text in arrival(frame, rctl)] if accesses else []
     return b"".join((text if isinstance(text, bytes) else text.encode()) + b"\n" for text in script)

@@ -62,7 +62,7 @@ impl Done {
         write_count(
             out,
             self.late_frames,
-            "frames at the end, since no read of ICR was left that has RXT0",
+            "frames at the end: the log has no place for them",
         )
     }
 }

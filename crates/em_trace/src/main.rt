@@ -19,7 +19,8 @@ mod words;
 use crate::done::Done;
 use crate::translating::{Wanted, translate};
 use crate::words::{WordsRefused, parse, wanted};
-use anyhow::{Context, Result};
+use anyhow::{Context, Result, bail};
+use clap::error::ErrorKind;
 use clap::{ArgMatches, Error};
 use std::env;
 use std::fs::File;
@@ -67,6 +68,9 @@ fn run<R: Env + Files + Input + Print + Eprint + AllocGlobal>(rt: &R) -> Result<
 
 /// Prints what the parser says, and gives the status.
 fn told<R: Print + Eprint>(rt: &R, error: &Error) -> Result<u8> {
+    if let ErrorKind::OutOfMemory = error.kind() {
+        bail!("memory was refused");
+    }
     error.print(rt)?;
     Ok(if error.exit_code() == 0 {
         WELL

@@ -37,6 +37,17 @@ pub struct Wanted<'a> {
     pub link: Link,
 }
 
+/// A script that is being written.
+#[derive(Drop)]
+struct Script<'a> {
+    frames: Frames<'a>,
+    done: Done,
+    /// How the script begins, if it has not begun.
+    begins: Option<Link>,
+    /// Whether frames arrive where reads of ICR tell of them.
+    by_icr: bool,
+}
+
 /// Writes the script of a log, and says on standard error which lines cannot be read.
 pub fn translate<E: Eprint + AllocGlobal, R: BufRead, W: Write>(
     rt: &E,
@@ -46,49 +57,98 @@ pub fn translate<E: Eprint + AllocGlobal, R: BufRead, W: Write>(
     out: &mut W,
 ) -> Result<Done> {
     let mut log = Log::new(wanted.form, wanted.region.as_bytes(), wanted.base);
-    let mut frames = Frames::new(rt.alloc(), capture);
-    let mut done = Done::new(rt.alloc())?;
+    let mut script = Script {
+        frames: Frames::new(rt.alloc(), capture),
+        done: Done::new(rt.alloc())?,
+        begins: Some(wanted.link),
+        by_icr: wanted.at.is_none(),
+    };
     let mut line = Vec::new(rt.alloc());
     for number in 1..u64::MAX {
         if !read_line(reader, &mut line).context("the log cannot be read")? {
             break;
         }
         if wanted.at == Some(number) {
-            write_all_frames(&mut frames, out)?;
+            script.write_frames(out)?;
         }
         let text = line.as_slice();
-        match log.read(text) {
+        let entry = log.read(text);
+        if entry == Entry::Fault {
+            let _ = eprintln!(rt; "line {number} cannot be read");
+            write_kept(out, number, text)?;
+        }
+        script.take(out, number, entry)?;
+    }
+    if script.done.accesses > 0 {
+        script.done.late_frames = script.write_frames(out)?;
+    }
+    Ok(script.done)
+}
+
+impl Script<'_> {
+    /// Counts a line of the log, and writes what it gives, but for one that can't be read.
+    fn take<W: Write>(&mut self, out: &mut W, number: u64, entry: Entry) -> Result<()> {
+        let done = &mut self.done;
+        match entry {
             Entry::Access(access) => {
-                if done.accesses == 0 && wanted.link == Link::Up {
-                    write_text(out, LINK_UP)?;
-                }
                 done.accesses = done.accesses.saturating_add(1);
-                if wanted.at.is_none() && has_frame(access) {
-                    frames.write_next(out)?;
-                }
-                take(&mut done, &mut frames, out, number, access)?;
+                return self.take_access(out, number, access);
             }
             Entry::Elsewhere => done.elsewhere = done.elsewhere.saturating_add(1),
             Entry::Nothing => {}
-            Entry::Fault => {
-                done.faults = done.faults.saturating_add(1);
-                let _ = eprintln!(rt; "line {number} cannot be read");
-                write_kept(out, number, text)?;
+            Entry::Fault => done.faults = done.faults.saturating_add(1),
+        }
+        Ok(())
+    }
+
+    /// Writes the line of an access, or a comment where the model can't have it.
+    fn take_access<W: Write>(
+        &mut self,
+        out: &mut W,
+        number: u64,
+        access: RegisterAccess,
+    ) -> Result<()> {
+        self.begin(out)?;
+        if self.by_icr && has_frame(access) {
+            self.frames.write_next(out)?;
+        }
+        if access.width != Width::Four {
+            self.done.other_sizes = self.done.other_sizes.saturating_add(1);
+            return write_other_size(out, number, access);
+        }
+        let Some(reg) = Reg::of_offset(access.offset) else {
+            self.done.missing.add(access.offset);
+            let name = missing_name(access.offset).unwrap_or("no register");
+            return write_missing(out, number, access, name);
+        };
+        let value = match access.value {
+            Some(value) => u32::try_from(value).ok(),
+            None => None,
+        };
+        if let (Reg::Rctl, Way::Write, Some(rctl)) = (reg, access.way, value) {
+            self.frames.set_rctl(rctl);
+        }
+        write_access(out, access.way, access.offset, value)
+    }
+
+    /// Writes the lines of all frames that are left, and gives how many they were.
+    fn write_frames<W: Write>(&mut self, out: &mut W) -> Result<u64> {
+        self.begin(out)?;
+        for count in 0..u64::MAX {
+            if !self.frames.write_next(out)? {
+                return Ok(count);
             }
         }
+        Ok(u64::MAX)
     }
-    done.late_frames = write_all_frames(&mut frames, out)?;
-    Ok(done)
-}
 
-/// Writes the lines of all frames that are left, and gives how many they were.
-fn write_all_frames<W: Write>(frames: &mut Frames<'_>, out: &mut W) -> Result<u64> {
-    for count in 0..u64::MAX {
-        if !frames.write_next(out)? {
-            return Ok(count);
+    /// Writes how the script begins, if it has not begun.
+    fn begin<W: Write>(&mut self, out: &mut W) -> Result<()> {
+        if self.begins.take() == Some(Link::Up) {
+            write_text(out, LINK_UP)?;
         }
+        Ok(())
     }
-    Ok(u64::MAX)
 }
 
 /// Whether this is a read of ICR that tells of a frame.
@@ -99,31 +159,4 @@ fn has_frame(access: RegisterAccess) -> bool {
         && access
             .value
             .is_some_and(|value| value & u64::from(RXT0) != 0)
-}
-
-/// Writes the line of an access, or a comment where the model can't have it.
-fn take<W: Write>(
-    done: &mut Done,
-    frames: &mut Frames<'_>,
-    out: &mut W,
-    number: u64,
-    access: RegisterAccess,
-) -> Result<()> {
-    if access.width != Width::Four {
-        done.other_sizes = done.other_sizes.saturating_add(1);
-        return write_other_size(out, number, access);
-    }
-    let Some(reg) = Reg::of_offset(access.offset) else {
-        done.missing.add(access.offset);
-        let name = missing_name(access.offset).unwrap_or("no register");
-        return write_missing(out, number, access, name);
-    };
-    let value = match access.value {
-        Some(value) => u32::try_from(value).ok(),
-        None => None,
-    };
-    if let (Reg::Rctl, Way::Write, Some(rctl)) = (reg, access.way, value) {
-        frames.set_rctl(rctl);
-    }
-    write_access(out, access.way, access.offset, value)
 }
