@@ -24,18 +24,19 @@ const BSEX: u32 = 0x0200_0000;
 /// The frames of a capture that have not arrived yet.
 #[derive(Drop)]
 pub struct Frames<'a> {
-    capture: Capture<'a>,
+    capture: Option<Capture<'a>>,
     /// What RCTL holds.
     rctl: u32,
 }
 
 impl<'a> Frames<'a> {
-    /// The frames of this capture; none of no octets.
-    pub fn new(alloc: Global, capture: &'a [u8]) -> Frames<'a> {
-        Frames {
-            capture: Capture::new(alloc, capture),
-            rctl: 0,
-        }
+    /// The frames of this capture, if there is one.
+    pub fn new(alloc: Global, octets: Option<&'a [u8]>) -> Frames<'a> {
+        let capture = match octets {
+            Some(octets) => Some(Capture::new(alloc, octets)),
+            None => None,
+        };
+        Frames { capture, rctl: 0 }
     }
 
     /// RCTL was written: receive buffers may have another size.
@@ -46,7 +47,10 @@ impl<'a> Frames<'a> {
     /// Writes the lines of the next frame: it arrives, and the receive engine handles as many descriptors as it takes.
     /// False where there is none.
     pub fn write_next<W: Write>(&mut self, out: &mut W) -> Result<bool> {
-        let packet = match self.capture.next_packet() {
+        let Some(capture) = &mut self.capture else {
+            return Ok(false);
+        };
+        let packet = match capture.next_packet() {
             None => return Ok(false),
             Some(Ok(packet)) => packet,
             Some(Err(error)) => bail!("the capture: {error}"),

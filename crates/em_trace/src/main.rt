@@ -98,20 +98,24 @@ fn with_capture<R: Files + Input + Print + Eprint + AllocGlobal>(
     wanted: &Wanted<'_>,
     matches: &ArgMatches<'_>,
 ) -> Result<u8> {
-    let mut capture = Vec::new(rt.alloc());
-    if let Some(name) = matches.get_str("frames") {
-        let mut file = File::open(rt, name).context("the capture cannot be opened")?;
-        file.read_to_end(&mut capture)
-            .context("the capture cannot be read")?;
-    }
+    let mut octets = Vec::new(rt.alloc());
+    let capture = match matches.get_str("frames") {
+        Some(name) => {
+            let mut file = File::open(rt, name).context("the capture cannot be opened")?;
+            file.read_to_end(&mut octets)
+                .context("the capture cannot be read")?;
+            Some(octets.as_slice())
+        }
+        None => None,
+    };
     let log = matches.get_str("log").unwrap_or("-");
     if log == "-" {
         let reader = BufReader::with_capacity(rt.alloc(), BUFFER, rt.reader())?;
-        with_reader(rt, wanted, capture.as_slice(), reader)
+        with_reader(rt, wanted, capture, reader)
     } else {
         let file = File::open(rt, log).context("the log cannot be opened")?;
         let reader = BufReader::with_capacity(rt.alloc(), BUFFER, file)?;
-        with_reader(rt, wanted, capture.as_slice(), reader)
+        with_reader(rt, wanted, capture, reader)
     }
 }
 
@@ -119,7 +123,7 @@ fn with_capture<R: Files + Input + Print + Eprint + AllocGlobal>(
 fn with_reader<R: Print + Eprint + AllocGlobal, B: BufRead + Drop>(
     rt: &R,
     wanted: &Wanted<'_>,
-    capture: &[u8],
+    capture: Option<&[u8]>,
     reader: B,
 ) -> Result<u8> {
     let mut lines = reader;

@@ -52,7 +52,7 @@ struct Script<'a> {
 pub fn translate<E: Eprint + AllocGlobal, R: BufRead, W: Write>(
     rt: &E,
     wanted: &Wanted<'_>,
-    capture: &[u8],
+    capture: Option<&[u8]>,
     reader: &mut R,
     out: &mut W,
 ) -> Result<Done> {
