@@ -1,0 +1,17 @@
+//! Logs of register accesses, line by line: QEMU's trace of memory regions, Linux's mmiotrace, and lines that a driver
+//! prints itself.
+//!
+//! [`Log`] reads such lines, whatever octets they have, and says of each whether it is an access of the adapter's
+//! registers. Lines have no newline at their end. Nothing here takes memory.
+#![tactic(auto)]
+
+mod field;
+mod log;
+mod mmiotrace;
+mod number;
+mod plain;
+mod qemu;
+mod told;
+
+pub use log::{Entry, Form, Log, RegisterAccess};
+pub use told::{Way, Width};

@@ -1,0 +1,145 @@
+//! Turns a log of register accesses, of QEMU, of Linux's mmiotrace or of a driver, into a script on standard output.
+//!
+//!     em_trace [OPTIONS] LOG
+//!
+//! Each access of four octets becomes a line: a write as it is, and a read with the value that the log's adapter gave,
+//! as the answer that the line expects. What the model has no register for stays as a comment, and is counted on
+//! standard error.
+#![tactic(auto)]
+
+mod counts;
+mod done;
+mod frames;
+mod lines;
+mod missing;
+mod text;
+mod translating;
+mod words;
+
+use crate::done::Done;
+use crate::translating::{Wanted, translate};
+use crate::words::{WordsRefused, parse, wanted};
+use anyhow::{Context, Result, bail};
+use clap::error::ErrorKind;
+use clap::{ArgMatches, Error};
+use std::env;
+use std::fs::File;
+use std::io::{self, BufRead, BufReader, BufWriter, Read, Write};
+use std::process::ExitCode;
+use std::rt::{Env, Files};
+
+/// The status where every line was read.
+const WELL: u8 = 0;
+
+/// The status where a line could not be read, or none was an access.
+const UNREAD: u8 = 1;
+
+/// The status where the command line is refused.
+const REFUSED: u8 = 2;
+
+/// The status of a run that failed.
+const FAILED: u8 = 3;
+
+/// How many octets are read or written at once: each may be a call of the system.
+const BUFFER: usize = 65_536;
+
+fn main(rt: HostRuntime) -> ExitCode {
+    ExitCode::from(status(&rt))
+}
+
+/// Does what the words of the command line ask for, and gives the status.
+fn status<R: Env + Files + Input + Print + Eprint + AllocGlobal>(rt: &R) -> u8 {
+    match run(rt) {
+        Ok(status) => status,
+        Err(error) => {
+            let _ = eprintln!(rt; "em_trace: {error:#}");
+            FAILED
+        }
+    }
+}
+
+fn run<R: Env + Files + Input + Print + Eprint + AllocGlobal>(rt: &R) -> Result<u8> {
+    let words: Vec<String> = env::args(rt)?.collect(rt.alloc())?;
+    match parse(rt.alloc(), words.as_slice()) {
+        Ok(matches) => with_matches(rt, &matches),
+        Err(error) => told(rt, &error),
+    }
+}
+
+/// Prints what the parser says, and gives the status.
+fn told<R: Print + Eprint>(rt: &R, error: &Error) -> Result<u8> {
+    if let ErrorKind::OutOfMemory = error.kind() {
+        bail!("memory was refused");
+    }
+    error.print(rt)?;
+    Ok(if error.exit_code() == 0 {
+        WELL
+    } else {
+        REFUSED
+    })
+}
+
+fn with_matches<R: Files + Input + Print + Eprint + AllocGlobal>(
+    rt: &R,
+    matches: &ArgMatches<'_>,
+) -> Result<u8> {
+    match wanted(matches) {
+        Ok(wanted) => with_capture(rt, &wanted, matches),
+        Err(WordsRefused::Base) => {
+            let _ = eprintln!(rt; "em_trace: --base wants 1 to 16 hexadecimal digits");
+            Ok(REFUSED)
+        }
+    }
+}
+
+/// Reads the capture, if there is one, opens the log, and turns it into a script.
+fn with_capture<R: Files + Input + Print + Eprint + AllocGlobal>(
+    rt: &R,
+    wanted: &Wanted<'_>,
+    matches: &ArgMatches<'_>,
+) -> Result<u8> {
+    let mut octets = Vec::new(rt.alloc());
+    let capture = match matches.get_str("frames") {
+        Some(name) => {
+            let mut file = File::open(rt, name).context("the capture cannot be opened")?;
+            file.read_to_end(&mut octets)
+                .context("the capture cannot be read")?;
+            Some(octets.as_slice())
+        }
+        None => None,
+    };
+    let log = matches.get_str("log").unwrap_or("-");
+    if log == "-" {
+        let reader = BufReader::with_capacity(rt.alloc(), BUFFER, rt.reader())?;
+        with_reader(rt, wanted, capture, reader)
+    } else {
+        let file = File::open(rt, log).context("the log cannot be opened")?;
+        let reader = BufReader::with_capacity(rt.alloc(), BUFFER, file)?;
+        with_reader(rt, wanted, capture, reader)
+    }
+}
+
+/// Turns the log into a script, says what was left out, and gives the status.
+fn with_reader<R: Print + Eprint + AllocGlobal, B: BufRead + Drop>(
+    rt: &R,
+    wanted: &Wanted<'_>,
+    capture: Option<&[u8]>,
+    reader: B,
+) -> Result<u8> {
+    let mut lines = reader;
+    let mut out = BufWriter::with_capacity(rt.alloc(), BUFFER, io::writer(rt))?;
+    let done = translate(rt, wanted, capture, &mut lines, &mut out)?;
+    out.flush().context("the script cannot be written")?;
+    told_of(rt, &done)?;
+    Ok(if done.is_well() { WELL } else { UNREAD })
+}
+
+/// Says on standard error what was left out.
+fn told_of<R: Eprint + AllocGlobal>(rt: &R, done: &Done) -> Result<()> {
+    let mut text = Vec::new(rt.alloc());
+    done.write(&mut text)?;
+    if let Ok(text) = str::from_utf8(text.as_slice()) {
+        let _ = eprint!(rt; "{text}");
+    }
+    Ok(())
+}

@@ -1,0 +1,162 @@
+//! A log becomes a script, line by line.
+
+use crate::done::Done;
+use crate::frames::Frames;
+use crate::lines::read_line;
+use crate::missing::missing_name;
+use crate::text::{write_access, write_kept, write_missing, write_other_size, write_text};
+use anyhow::{Context, Result};
+use em_log::{Entry, Form, Log, RegisterAccess, Way, Width};
+use em_regs::Reg;
+use std::io::{BufRead, Write};
+
+/// ICR's bit RXT0: a frame has arrived.
+const RXT0: u32 = 0x0000_0080;
+
+/// What a link that is up from the start leaves: it is up, and no cause is raised by it.
+const LINK_UP: &[u8] = b"link up\nw 000C0 00000004\n";
+
+/// Whether the link is up where the log begins.
+#[derive(Clone, Copy, PartialEq, Eq, Debug)]
+pub enum Link {
+    Up,
+    Down,
+}
+
+/// What the command line asks for.
+#[derive(Clone, Copy, Debug)]
+pub struct Wanted<'a> {
+    /// What the log looks like; without it the log says so.
+    pub form: Option<Form>,
+    /// What QEMU calls the adapter's registers.
+    pub region: &'a str,
+    /// Where the first register lies; without it the log says so.
+    pub base: Option<u64>,
+    /// The line before which all frames arrive.
+    pub at: Option<u64>,
+    pub link: Link,
+}
+
+/// A script that is being written.
+#[derive(Drop)]
+struct Script<'a> {
+    frames: Frames<'a>,
+    done: Done,
+    /// How the script begins, if it has not begun.
+    begins: Option<Link>,
+    /// Whether frames arrive where reads of ICR tell of them.
+    by_icr: bool,
+}
+
+/// Writes the script of a log, and says on standard error which lines cannot be read.
+pub fn translate<E: Eprint + AllocGlobal, R: BufRead, W: Write>(
+    rt: &E,
+    wanted: &Wanted<'_>,
+    capture: Option<&[u8]>,
+    reader: &mut R,
+    out: &mut W,
+) -> Result<Done> {
+    let mut log = Log::new(wanted.form, wanted.region.as_bytes(), wanted.base);
+    let mut script = Script {
+        frames: Frames::new(rt.alloc(), capture),
+        done: Done::new(rt.alloc())?,
+        begins: Some(wanted.link),
+        by_icr: wanted.at.is_none(),
+    };
+    let mut line = Vec::new(rt.alloc());
+    for number in 1..u64::MAX {
+        if !read_line(reader, &mut line).context("the log cannot be read")? {
+            break;
+        }
+        if wanted.at == Some(number) {
+            script.write_frames(out)?;
+        }
+        let text = line.as_slice();
+        let entry = log.read(text);
+        if entry == Entry::Fault {
+            let _ = eprintln!(rt; "line {number} cannot be read");
+            write_kept(out, number, text)?;
+        }
+        script.take(out, number, entry)?;
+    }
+    if script.done.accesses > 0 {
+        script.done.late_frames = script.write_frames(out)?;
+    }
+    Ok(script.done)
+}
+
+impl Script<'_> {
+    /// Counts a line of the log, and writes what it gives, but for one that can't be read.
+    fn take<W: Write>(&mut self, out: &mut W, number: u64, entry: Entry) -> Result<()> {
+        let done = &mut self.done;
+        match entry {
+            Entry::Access(access) => {
+                done.accesses = done.accesses.saturating_add(1);
+                return self.take_access(out, number, access);
+            }
+            Entry::Elsewhere => done.elsewhere = done.elsewhere.saturating_add(1),
+            Entry::Nothing => {}
+            Entry::Fault => done.faults = done.faults.saturating_add(1),
+        }
+        Ok(())
+    }
+
+    /// Writes the line of an access, or a comment where the model can't have it.
+    fn take_access<W: Write>(
+        &mut self,
+        out: &mut W,
+        number: u64,
+        access: RegisterAccess,
+    ) -> Result<()> {
+        self.begin(out)?;
+        if self.by_icr && has_frame(access) {
+            self.frames.write_next(out)?;
+        }
+        if access.width != Width::Four {
+            self.done.other_sizes = self.done.other_sizes.saturating_add(1);
+            return write_other_size(out, number, access);
+        }
+        let Some(reg) = Reg::of_offset(access.offset) else {
+            self.done.missing.add(access.offset);
+            let name = missing_name(access.offset).unwrap_or("no register");
+            return write_missing(out, number, access, name);
+        };
+        let value = match access.value {
+            Some(value) => u32::try_from(value).ok(),
+            None => None,
+        };
+        if let (Reg::Rctl, Way::Write, Some(rctl)) = (reg, access.way, value) {
+            self.frames.set_rctl(rctl);
+        }
+        write_access(out, access.way, access.offset, value)
+    }
+
+    /// Writes the lines of all frames that are left, and gives how many they were.
+    fn write_frames<W: Write>(&mut self, out: &mut W) -> Result<u64> {
+        self.begin(out)?;
+        for count in 0..u64::MAX {
+            if !self.frames.write_next(out)? {
+                return Ok(count);
+            }
+        }
+        Ok(u64::MAX)
+    }
+
+    /// Writes how the script begins, if it has not begun.
+    fn begin<W: Write>(&mut self, out: &mut W) -> Result<()> {
+        if self.begins.take() == Some(Link::Up) {
+            write_text(out, LINK_UP)?;
+        }
+        Ok(())
+    }
+}
+
+/// Whether this is a read of ICR that tells of a frame.
+fn has_frame(access: RegisterAccess) -> bool {
+    access.way == Way::Read
+        && access.offset == Reg::Icr.offset()
+        && access.width == Width::Four
+        && access
+            .value
+            .is_some_and(|value| value & u64::from(RXT0) != 0)
+}

@@ -1,0 +1,9 @@
+link up
+w 000C0 00000004
+r 00008 = 80080783
+w 000D8 FFFFFFFF
+r 000C0 = 00000004
+# line 10: r 00008 = 00000083 (1 octet)
+# line 11: w 00020 08210000 (MDIC)
+# line 12: r 00020 = 1821794D (MDIC)
+# line 13: r 00034 = 00000000 (no register)
