@@ -1,0 +1,194 @@
+//! Playing a script, and writing its record as it goes.
+
+use crate::effects::recorded;
+use crate::event_text::write_event;
+use crate::fault::{MOST_EVENTS, RecordFault};
+use crate::lines::{frame_of, refusal_in, takes_back};
+use crate::numbers::write_number;
+use crate::start::{write_settings, write_start};
+use crate::strings::write_string;
+use em_journal::{Settings, SettingsRefusal};
+use em_output::Outcome;
+use em_tape::Tape;
+use em_text::{WriteFailed, next_line, write_pieces, write_whole};
+use std::alloc::Global;
+use std::io::Write;
+
+/// What a record begins with: its format and the version of that.
+const FORMAT: &[u8] = b"{\"format\":\"bunjelav recording\",\"version\":1,\n";
+
+/// A machine on which a script is to be played.
+#[derive(Drop)]
+pub struct Recorder {
+    alloc: Global,
+    settings: Settings,
+    tape: Tape,
+    /// The answer of the line that was played last.
+    answer: Vec<u8>,
+    /// The octets of the frame that it brought.
+    frame: Vec<u8>,
+    /// How many events were recorded.
+    events: u64,
+    /// Whether a line was bad.
+    is_bad: bool,
+}
+
+/// Writes each line's text.
+fn write_script<W: Write>(writer: &mut W, script: &[u8]) -> Result<(), WriteFailed> {
+    write_whole(writer, b"\"script\":")?;
+    write_strings(writer, script)?;
+    write_whole(writer, b",\n")
+}
+
+/// Writes the lines of a text as a list of strings.
+fn write_strings<W: Write>(writer: &mut W, text: &[u8]) -> Result<(), WriteFailed> {
+    let mut before: &[u8] = b"[";
+    let mut rest = text;
+    while !rest.is_empty() {
+        let (line, behind) = next_line(rest);
+        write_whole(writer, before)?;
+        write_string(writer, line)?;
+        before = b",";
+        rest = behind;
+    }
+    if text.is_empty() {
+        write_whole(writer, b"[")?;
+    }
+    write_whole(writer, b"]")
+}
+
+impl Recorder {
+    /// A recorder over a new machine.
+    pub fn new(alloc: Global, settings: Settings) -> Result<Recorder, SettingsRefusal> {
+        match Tape::new(alloc, settings) {
+            Ok(tape) => Ok(Recorder {
+                alloc,
+                settings,
+                tape,
+                answer: Vec::new(alloc),
+                frame: Vec::new(alloc),
+                events: 0,
+                is_bad: false,
+            }),
+            Err(refusal) => Err(refusal),
+        }
+    }
+
+    /// Plays a script, and writes the record of the run. Tells whether a line was bad.
+    pub fn record<W: Write>(&mut self, writer: &mut W, script: &[u8]) -> Result<bool, RecordFault> {
+        write_whole(writer, FORMAT)?;
+        write_settings(writer, &self.settings)?;
+        write_script(writer, script)?;
+        write_start(writer, self.tape.machine())?;
+        self.write_lines(writer, script)?;
+        self.write_end(writer)?;
+        Ok(self.is_bad)
+    }
+
+    /// Plays each line, and writes what it did.
+    fn write_lines<W: Write>(&mut self, writer: &mut W, script: &[u8]) -> Result<(), RecordFault> {
+        write_whole(writer, b"\"lines\":[")?;
+        let mut rest = script;
+        let mut before: &[u8] = b"\n";
+        while !rest.is_empty() {
+            let (line, behind) = next_line(rest);
+            write_whole(writer, before)?;
+            self.write_line(writer, line)?;
+            before = b",\n";
+            rest = behind;
+        }
+        write_whole(writer, b"\n],\n")?;
+        Ok(())
+    }
+
+    /// Plays a line, and writes what it did.
+    fn write_line<W: Write>(&mut self, writer: &mut W, line: &[u8]) -> Result<(), RecordFault> {
+        let before = self.tape.event();
+        self.tape.add(line)?;
+        self.answer.clear();
+        let outcome = self.tape.perform_next(&mut self.answer)?.unwrap_or(Outcome::Silent);
+        let number = self.tape.len() as u64;
+        write_number(writer, b"{\"line\":", number)?;
+        write_whole(writer, b",\"answer\":")?;
+        write_strings(writer, self.answer.as_slice())?;
+        self.write_outcome(writer, outcome)?;
+        let after = self.tape.event();
+        if outcome != Outcome::Bad && takes_back(line) {
+            write_number(writer, b",\"back\":", before.saturating_sub(after))?;
+        }
+        self.write_events(writer, line, before, after)?;
+        write_whole(writer, b"}")?;
+        Ok(())
+    }
+
+    /// Writes how a line came out that was refused or bad.
+    fn write_outcome<W: Write>(
+        &mut self,
+        writer: &mut W,
+        outcome: Outcome,
+    ) -> Result<(), WriteFailed> {
+        match outcome {
+            Outcome::Silent | Outcome::Done => Ok(()),
+            Outcome::Refused => {
+                write_whole(writer, b",\"refused\":")?;
+                write_string(writer, refusal_in(self.answer.as_slice()))
+            }
+            Outcome::Bad => {
+                self.is_bad = true;
+                write_whole(writer, b",\"bad\":true")
+            }
+        }
+    }
+
+    /// Writes the events that a line performed.
+    fn write_events<W: Write>(
+        &mut self,
+        writer: &mut W,
+        line: &[u8],
+        before: u64,
+        after: u64,
+    ) -> Result<(), RecordFault> {
+        let count = after.saturating_sub(before);
+        let number = self.tape.len() as u32;
+        if count > MOST_EVENTS - self.events {
+            return Err(RecordFault::TooManyEvents(number));
+        }
+        if count > self.tape.machine().can_go_back() as u64 {
+            return Err(RecordFault::JournalTooSmall(number));
+        }
+        self.events += count;
+        write_whole(writer, b",\"events\":[")?;
+        for done in 0..count {
+            if done > 0 {
+                write_whole(writer, b",")?;
+            }
+            self.write_one(writer, line, before + 1 + done, (count - done) as usize)?;
+        }
+        write_whole(writer, b"]")?;
+        Ok(())
+    }
+
+    /// Writes the event of a number, before which so many steps back lead.
+    fn write_one<W: Write>(
+        &mut self,
+        writer: &mut W,
+        line: &[u8],
+        number: u64,
+        back: usize,
+    ) -> Result<(), RecordFault> {
+        let one = recorded(self.alloc, self.tape.machine(), back)?;
+        let stored = match one.frames {
+            Some(step) if step.after > step.before => frame_of(line, &mut self.frame)?,
+            _ => None,
+        };
+        write_event(writer, number, &one, stored)?;
+        Ok(())
+    }
+
+    /// Writes how many events stand, and how many lines were played.
+    fn write_end<W: Write>(&self, writer: &mut W) -> Result<(), WriteFailed> {
+        write_number(writer, b"\"end\":{\"events\":", self.tape.event())?;
+        write_number(writer, b",\"lines\":", self.tape.len() as u64)?;
+        write_pieces(writer, &[b"}}\n"])
+    }
+}

@@ -1,0 +1,49 @@
+//! Strings of JSON, of octets that may be any.
+
+use em_text::{WriteFailed, octet_digits, write_pieces, write_whole};
+use std::io::Write;
+
+/// Octets below this one are written by their number.
+const FIRST_PLAIN: u8 = 0x20;
+
+/// Writes octets as a string of JSON. Octets that are no UTF-8 are written as U+FFFD, one for each piece that
+/// `String::from_utf8_lossy` takes as one.
+///
+/// `<` is always written by its number, so that the text can stand within a page's script.
+pub fn write_string<W: Write>(writer: &mut W, octets: &[u8]) -> Result<(), WriteFailed> {
+    write_whole(writer, b"\"")?;
+    for chunk in octets.utf8_chunks() {
+        write_escaped(writer, chunk.valid().as_bytes())?;
+        if !chunk.invalid().is_empty() {
+            write_whole(writer, b"\\ufffd")?;
+        }
+    }
+    write_whole(writer, b"\"")
+}
+
+/// Writes octets of a text, with those escaped that a string can't hold.
+fn write_escaped<W: Write>(writer: &mut W, text: &[u8]) -> Result<(), WriteFailed> {
+    let mut from = 0;
+    for at in 0..text.len() {
+        if !is_plain(text[at]) {
+            write_whole(writer, &text[from..at])?;
+            write_escape(writer, text[at])?;
+            from = at + 1;
+        }
+    }
+    write_whole(writer, &text[from..])
+}
+
+/// Whether an octet stands in a string as it is.
+fn is_plain(octet: u8) -> bool {
+    octet >= FIRST_PLAIN && !matches!(octet, b'"' | b'\\' | b'<')
+}
+
+/// Writes an octet that doesn't.
+fn write_escape<W: Write>(writer: &mut W, octet: u8) -> Result<(), WriteFailed> {
+    match octet {
+        b'"' => write_whole(writer, b"\\\""),
+        b'\\' => write_whole(writer, b"\\\\"),
+        _ => write_pieces(writer, &[b"\\u00", &octet_digits(octet)]),
+    }
+}
