@@ -5,13 +5,17 @@
 //! The options are those of em_bench.
 #![tactic(auto)]
 
+mod fault;
 mod help;
+mod lines;
+mod recorder;
 
+use crate::fault::{MOST_EVENTS, RecordFault};
 use crate::help::{HELP, VERSION};
+use crate::recorder::Recorder;
 use em_ending::Ending;
 use em_journal::SettingsRefusal;
 use em_options::{Options, OptionsRefused, options};
-use em_recording::{MOST_EVENTS, RecordFault, Recorder};
 use em_script::BenchFault;
 use em_text::{ReadFault, read_script};
 use std::fs::File;
@@ -175,11 +179,15 @@ fn with_record<R: Eprint>(rt: &R, ran: Result<bool, RecordFault>) -> u8 {
         Ok(true) => UNRECORDED,
         Err(RecordFault::Bench(fault)) => stopped(rt, fault.name()),
         Err(RecordFault::TooManyEvents(line)) => {
-            let _ = eprintln!(rt; "em_record: line {line}: the run has more than {MOST_EVENTS} events");
+            let _ = eprintln!(rt;
+                "em_record: line {line}: the run has more than {MOST_EVENTS} events"
+            );
             UNRECORDED
         }
         Err(RecordFault::JournalTooSmall(line)) => {
-            let _ = eprintln!(rt; "em_record: line {line}: it performed more events than the journal holds");
+            let _ = eprintln!(rt;
+                "em_record: line {line}: it performed more events than the journal holds"
+            );
             UNRECORDED
         }
     }

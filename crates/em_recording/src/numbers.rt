@@ -5,7 +5,7 @@ use itoa::Buffer;
 use std::io::Write;
 
 /// Writes a number in decimal digits behind a text.
-pub(crate) fn write_number<W: Write>(
+pub fn write_number<W: Write>(
     writer: &mut W,
     before: &[u8],
     number: u64,

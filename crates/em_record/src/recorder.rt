@@ -1,21 +1,22 @@
 //! Playing a script, and writing its record as it goes.
 
-use crate::effects::recorded;
-use crate::event_text::write_event;
 use crate::fault::{MOST_EVENTS, RecordFault};
 use crate::lines::{frame_of, refusal_in, takes_back};
-use crate::numbers::write_number;
-use crate::start::{write_settings, write_start};
-use crate::strings::write_string;
 use em_journal::{Settings, SettingsRefusal};
 use em_output::Outcome;
+use em_recording::{
+    Recorded, recorded, write_event, write_number, write_settings, write_start, write_string,
+};
 use em_tape::Tape;
 use em_text::{WriteFailed, next_line, write_pieces, write_whole};
-use std::alloc::Global;
+use std::alloc::{AllocError, Global};
 use std::io::Write;
 
 /// What a record begins with: its format and the version of that.
 const FORMAT: &[u8] = b"{\"format\":\"bunjelav recording\",\"version\":1,\n";
+
+/// A line with more events than these is taken back and performed again.
+const FEW: u64 = 64;
 
 /// A machine on which a script is to be played.
 #[derive(Drop)]
@@ -106,7 +107,10 @@ impl Recorder {
         let before = self.tape.event();
         self.tape.add(line)?;
         self.answer.clear();
-        let outcome = self.tape.perform_next(&mut self.answer)?.unwrap_or(Outcome::Silent);
+        let outcome = self
+            .tape
+            .perform_next(&mut self.answer)?
+            .unwrap_or(Outcome::Silent);
         let number = self.tape.len() as u64;
         write_number(writer, b"{\"line\":", number)?;
         write_whole(writer, b",\"answer\":")?;
@@ -158,30 +162,74 @@ impl Recorder {
         }
         self.events += count;
         write_whole(writer, b",\"events\":[")?;
-        for done in 0..count {
-            if done > 0 {
-                write_whole(writer, b",")?;
-            }
-            self.write_one(writer, line, before + 1 + done, (count - done) as usize)?;
+        if count <= FEW {
+            self.write_few(writer, line, before, count as usize)?;
+        } else {
+            self.write_many(writer, line, before, count as usize)?;
         }
         write_whole(writer, b"]")?;
         Ok(())
     }
 
-    /// Writes the event of a number, before which so many steps back lead.
+    /// Writes the newest events, from where the machine is.
+    fn write_few<W: Write>(
+        &mut self,
+        writer: &mut W,
+        line: &[u8],
+        before: u64,
+        count: usize,
+    ) -> Result<(), RecordFault> {
+        for done in 0..count {
+            let one = recorded(self.alloc, self.tape.machine(), count - done)?;
+            self.write_one(writer, line, before, done, &one)?;
+        }
+        Ok(())
+    }
+
+    /// Writes the newest events, which are taken back one by one, since what a record of the journal tells has to be
+    /// followed back over all newer ones. The line is then performed again.
+    fn write_many<W: Write>(
+        &mut self,
+        writer: &mut W,
+        line: &[u8],
+        before: u64,
+        count: usize,
+    ) -> Result<(), RecordFault> {
+        let mut all = Vec::new(self.alloc);
+        for _ in 0..count {
+            let one = recorded(self.alloc, self.tape.machine(), 1)?;
+            all.push(one).map_err(AllocError::from)?;
+            self.tape.back(1);
+        }
+        self.tape.to_line(self.tape.len())?;
+        for (done, one) in all.as_slice().iter().rev().enumerate() {
+            self.write_one(writer, line, before, done, one)?;
+        }
+        Ok(())
+    }
+
+    /// Writes the record of an event behind `done` others of its line.
     fn write_one<W: Write>(
         &mut self,
         writer: &mut W,
         line: &[u8],
-        number: u64,
-        back: usize,
+        before: u64,
+        done: usize,
+        one: &Recorded,
     ) -> Result<(), RecordFault> {
-        let one = recorded(self.alloc, self.tape.machine(), back)?;
         let stored = match one.frames {
             Some(step) if step.after > step.before => frame_of(line, &mut self.frame)?,
             _ => None,
         };
-        write_event(writer, number, &one, stored)?;
+        if done > 0 {
+            write_whole(writer, b",")?;
+        }
+        write_event(
+            writer,
+            before.saturating_add(1).saturating_add(done as u64),
+            one,
+            stored,
+        )?;
         Ok(())
     }
 

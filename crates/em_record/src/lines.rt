@@ -6,7 +6,7 @@ use em_text::{Words, is_name, next_line};
 use std::alloc::AllocError;
 
 /// Whether a line takes events back, by its name.
-pub(crate) fn takes_back(line: &[u8]) -> bool {
+pub fn takes_back(line: &[u8]) -> bool {
     match Words(line).next_short() {
         Some(name) => is_name(name, b"back"),
         None => false,
@@ -14,10 +14,7 @@ pub(crate) fn takes_back(line: &[u8]) -> bool {
 }
 
 /// The octets of the frame that a line brings from the wire, if that is what it says.
-pub(crate) fn frame_of<'a>(
-    line: &[u8],
-    buffer: &'a mut Vec<u8>,
-) -> Result<Option<&'a [u8]>, AllocError> {
+pub fn frame_of<'a>(line: &[u8], buffer: &'a mut Vec<u8>) -> Result<Option<&'a [u8]>, AllocError> {
     let mut words = Words(line);
     match words.next_short() {
         Some(name) if is_name(name, b"arrive") => match arrive_form(words, buffer)? {
@@ -29,7 +26,7 @@ pub(crate) fn frame_of<'a>(
 }
 
 /// The name of the refusal in an answer: the last word of its first line.
-pub(crate) fn refusal_in(answer: &[u8]) -> &[u8] {
+pub fn refusal_in(answer: &[u8]) -> &[u8] {
     if answer.is_empty() {
         return answer;
     }
