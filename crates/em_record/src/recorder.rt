@@ -5,7 +5,7 @@ use crate::lines::{frame_of, refusal_in, takes_back};
 use em_journal::{Settings, SettingsRefusal};
 use em_output::Outcome;
 use em_recording::{
-    Recorded, recorded, write_event, write_number, write_settings, write_start, write_string,
+    Recorded, record_of, write_event, write_number, write_settings, write_start, write_string,
 };
 use em_tape::Tape;
 use em_text::{WriteFailed, next_line, write_pieces, write_whole};
@@ -180,7 +180,7 @@ impl Recorder {
         count: usize,
     ) -> Result<(), RecordFault> {
         for done in 0..count {
-            let one = recorded(self.alloc, self.tape.machine(), count - done)?;
+            let one = record_of(self.alloc, self.tape.machine(), count - done)?;
             self.write_one(writer, line, before, done, &one)?;
         }
         Ok(())
@@ -197,7 +197,7 @@ impl Recorder {
     ) -> Result<(), RecordFault> {
         let mut all = Vec::new(self.alloc);
         for _ in 0..count {
-            let one = recorded(self.alloc, self.tape.machine(), 1)?;
+            let one = record_of(self.alloc, self.tape.machine(), 1)?;
             all.push(one).map_err(AllocError::from)?;
             self.tape.back(1);
         }

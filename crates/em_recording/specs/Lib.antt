@@ -1,0 +1,6 @@
+pub mod Shown
+pub mod Steps
+pub mod Rebuild
+pub mod Effects
+pub mod Text
+pub mod Strings

@@ -1,4 +1,7 @@
 //! What an event of a machine's journal changed.
+ghost use Rattle.std.specs.Prelude.{◌≡◌, ◌<◌, ◌≤◌, length, IfOk};
+ghost use Rattle.em_recording.specs.Effects.{AreOctetSteps, AreRegisterSteps, bit_in, count_in, step_of, value_in};
+ghost use Rattle.em_recording.specs.Rebuild.{IsRecordOf};
 
 use crate::recorded::{OctetStep, Recorded, RegisterStep, Step};
 use em_journal::Machine;
@@ -6,39 +9,48 @@ use em_watch::{Difference, Effect, Sight, what};
 use std::alloc::{AllocError, Global};
 
 /// What the event changed before which so many steps back lead: the newest is 1.
-pub fn recorded(alloc: Global, machine: &Machine, back: usize) -> Result<Recorded, AllocError> {
+pub fn record_of(alloc: Global, machine: &Machine, back: usize) -> Result<Recorded, AllocError>
+    requires some { 0 < back }
+    requires there { back ≤ length machine.now.past }
+    ensures ok { IfOk result (IsRecordOf machine.now back) }
+{
     let effect = what(machine, back);
+    let frames = counts_of(effect.frames());
+    let sent = counts_of(effect.sent());
+    let link = bits_of(effect.link());
+    let line = bits_of(effect.line());
+    let registers = registers_of(alloc, &effect)?;
+    let octets = octets_of(alloc, &effect)?;
+    let sent = frame_of(alloc, machine, sent)?;
     Ok(Recorded {
-        registers: registers_of(alloc, &effect)?,
-        octets: octets_of(alloc, &effect)?,
-        frames: count_of(effect.frames()),
-        sent: sent_of(alloc, machine, effect.sent())?,
-        link: link_of(effect.link()),
-        line: line_of(effect.line()),
+        registers,
+        octets,
+        frames,
+        sent,
+        link,
+        line,
     })
 }
 
-fn registers_of(alloc: Global, effect: &Effect<'_>) -> Result<Vec<RegisterStep>, AllocError> {
+/// The steps of the registers that an event changed.
+fn registers_of(alloc: Global, effect: &Effect<'_>) -> Result<Vec<RegisterStep>, AllocError>
+    ensures ok { IfOk result (λ steps. AreRegisterSteps effect.now.view effect.now.back steps.items) }
+{
     let mut steps = Vec::new(alloc);
     for change in effect.registers() {
         steps.push(RegisterStep {
             reg: change.reg,
-            before: value_of(change.difference.before),
-            after: value_of(change.difference.after),
+            before: value_in(change.difference.before),
+            after: value_in(change.difference.after),
         })?;
     }
     Ok(steps)
 }
 
-/// What a register holds; 0 of anything else that is seen.
-fn value_of(sight: Sight) -> u32 {
-    match sight {
-        Sight::Value(value) => value,
-        _ => 0,
-    }
-}
-
-fn octets_of(alloc: Global, effect: &Effect<'_>) -> Result<Vec<OctetStep>, AllocError> {
+/// The octets that an event changed.
+fn octets_of(alloc: Global, effect: &Effect<'_>) -> Result<Vec<OctetStep>, AllocError>
+    ensures ok { IfOk result (λ steps. AreOctetSteps effect.now.view effect.now.back steps.items) }
+{
     let mut steps = Vec::new(alloc);
     for change in effect.octets() {
         steps.push(change)?;
@@ -46,49 +58,68 @@ fn octets_of(alloc: Global, effect: &Effect<'_>) -> Result<Vec<OctetStep>, Alloc
     Ok(steps)
 }
 
-fn count_of(did: Option<Difference>) -> Option<Step<usize>> {
-    match did {
-        Some(
-            Difference {
-                before: Sight::Count(before),
-                after: Sight::Count(after),
-            },
-        ) => Some(Step { before, after }),
-        _ => None,
+/// What a register holds; 0 of anything else that is seen.
+fn value_in(sight: Sight) -> u32
+    ensures { result ≡ value_in sight }
+{
+    match sight {
+        Sight::Value(value) => value,
+        _ => 0,
     }
 }
 
-fn link_of(did: Option<Difference>) -> Option<Step<bool>> {
-    match did {
-        Some(
-            Difference {
-                before: Sight::Link(before),
-                after: Sight::Link(after),
-            },
-        ) => Some(Step { before, after }),
-        _ => None,
+/// How many frames there are; 0 of anything else that is seen.
+fn count_in(sight: Sight) -> usize
+    ensures { result ≡ count_in sight }
+{
+    match sight {
+        Sight::Count(count) => count,
+        _ => 0,
     }
 }
 
-fn line_of(did: Option<Difference>) -> Option<Step<bool>> {
+/// Whether the link is up, or the interrupt line asserted; false of anything else that is seen.
+fn bit_in(sight: Sight) -> bool
+    ensures { result ≡ bit_in sight }
+{
+    match sight {
+        Sight::Link(up) => up,
+        Sight::Line(asserted) => asserted,
+        _ => false,
+    }
+}
+
+fn counts_of(did: Option<Difference>) -> Option<Step<usize>>
+    ensures { result ≡ step_of count_in did }
+{
     match did {
-        Some(
-            Difference {
-                before: Sight::Line(before),
-                after: Sight::Line(after),
-            },
-        ) => Some(Step { before, after }),
-        _ => None,
+        Some(did) => Some(Step {
+            before: count_in(did.before),
+            after: count_in(did.after),
+        }),
+        None => None,
+    }
+}
+
+fn bits_of(did: Option<Difference>) -> Option<Step<bool>>
+    ensures { result ≡ step_of bit_in did }
+{
+    match did {
+        Some(did) => Some(Step {
+            before: bit_in(did.before),
+            after: bit_in(did.after),
+        }),
+        None => None,
     }
 }
 
 /// The frame that was sent: the one behind those that were sent before.
-fn sent_of(
+fn frame_of(
     alloc: Global,
     machine: &Machine,
-    did: Option<Difference>,
+    sent: Option<Step<usize>>,
 ) -> Result<Option<Vec<u8>>, AllocError> {
-    let Some(step) = count_of(did) else {
+    let Some(step) = sent else {
         return Ok(None);
     };
     match machine.wire_frame(step.before) {
@@ -97,7 +128,9 @@ fn sent_of(
     }
 }
 
-fn copied(alloc: Global, octets: &[u8]) -> Result<Vec<u8>, AllocError> {
+fn copied(alloc: Global, octets: &[u8]) -> Result<Vec<u8>, AllocError>
+    ensures { IfOk result (λ copy. copy.items ≡ octets.now) }
+{
     let mut copy = Vec::new(alloc);
     copy.extend_from_slice(octets)?;
     Ok(copy)

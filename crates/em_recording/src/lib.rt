@@ -12,7 +12,7 @@ mod recorded;
 mod start;
 mod strings;
 
-pub use effects::recorded;
+pub use effects::record_of;
 pub use event_text::write_event;
 pub use numbers::write_number;
 pub use recorded::{OctetStep, Recorded, RegisterStep, Step};

@@ -44,6 +44,7 @@ fn write_escape<W: Write>(writer: &mut W, octet: u8) -> Result<(), WriteFailed> 
     match octet {
         b'"' => write_whole(writer, b"\\\""),
         b'\\' => write_whole(writer, b"\\\\"),
+        b'<' => write_whole(writer, b"\\u003c"),
         _ => write_pieces(writer, &[b"\\u00", &octet_digits(octet)]),
     }
 }
