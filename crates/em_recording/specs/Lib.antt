@@ -1,5 +1,6 @@
 pub mod Shown
 pub mod Steps
+pub mod Wire
 pub mod Rebuild
 pub mod Effects
 pub mod Text

@@ -4,18 +4,9 @@ use Rattle.std.specs.Option.{option_map}
 use Rattle.em_step.specs.State.{State}
 use Rattle.em_journal.specs.View.{View, states}
 use Rattle.em_recording.specs.Shown.{Shown, shown_in}
-use Rattle.em_recording.specs.Steps.{octet_after, octet_before, register_after, register_before, step_after, step_before}
+use Rattle.em_recording.specs.Wire.{wire_after, wire_before}
+use Rattle.em_recording.specs.Steps.{octet_at, step_after, step_before, value_at}
 use Rattle.em_recording.specs.declared.recorded.Recorded.{Recorded}
-
--- a frame that was sent goes last
-abbrev pub wire_after : Option (List ℕ) → List (List ℕ) → List (List ℕ)
-wire_after None wire = wire
-wire_after (Some frame) wire = wire ++ frame ∷ []
-
--- and comes off again
-abbrev pub wire_before : Option (List ℕ) → List (List ℕ) → List (List ℕ)
-wire_before None wire = wire
-wire_before (Some frame) wire = take (length wire - 1) wire
 
 -- the octets of the frame that a record has
 abbrev pub sent_of : Recorded → Option (List ℕ)
@@ -24,8 +15,8 @@ sent_of r = option_map (λ frame. frame.items) r.sent
 -- what is shown after the event, from what was shown before it
 abbrev pub put_on : Recorded → Shown → Shown
 put_on r before = record {
-  register = λ o. register_after r.registers.items o (before.register o);
-  octet = λ a. octet_after r.octets.items a (before.octet a);
+  register = λ o. value_at (λ step. step.after) r.registers.items o (before.register o);
+  octet = λ a. octet_at (λ step. step.after) r.octets.items a (before.octet a);
   frames = step_after r.frames before.frames;
   wire = wire_after (sent_of r) before.wire;
   link = step_after r.link before.link;
@@ -35,8 +26,8 @@ put_on r before = record {
 -- what was shown before the event, from what is shown after it
 abbrev pub take_off : Recorded → Shown → Shown
 take_off r after = record {
-  register = λ o. register_before r.registers.items o (after.register o);
-  octet = λ a. octet_before r.octets.items a (after.octet a);
+  register = λ o. value_at (λ step. step.before) r.registers.items o (after.register o);
+  octet = λ a. octet_at (λ step. step.before) r.octets.items a (after.octet a);
   frames = step_before r.frames after.frames;
   wire = wire_before (sent_of r) after.wire;
   link = step_before r.link after.link;

@@ -1,7 +1,9 @@
 //! What an event of a machine's journal changed.
 ghost use Rattle.std.specs.Prelude.{◌≡◌, ◌<◌, ◌≤◌, length, IfOk};
+ghost use Rattle.std.specs.Option.{option_map};
 ghost use Rattle.em_recording.specs.Effects.{AreOctetSteps, AreRegisterSteps, bit_in, count_in, step_of, value_in};
 ghost use Rattle.em_recording.specs.Rebuild.{IsRecordOf};
+ghost use Rattle.em_recording.specs.Wire.{HasSent, IsFrameOf, SentAt};
 
 use crate::recorded::{OctetStep, Recorded, RegisterStep, Step};
 use em_journal::Machine;
@@ -16,12 +18,11 @@ pub fn record_of(alloc: Global, machine: &Machine, back: usize) -> Result<Record
 {
     let effect = what(machine, back);
     let frames = counts_of(effect.frames());
-    let sent = counts_of(effect.sent());
     let link = bits_of(effect.link());
     let line = bits_of(effect.line());
     let registers = registers_of(alloc, &effect)?;
     let octets = octets_of(alloc, &effect)?;
-    let sent = frame_of(alloc, machine, sent)?;
+    let sent = frame_of(alloc, machine, back)?;
     Ok(Recorded {
         registers,
         octets,
@@ -113,18 +114,44 @@ fn bits_of(did: Option<Difference>) -> Option<Step<bool>>
     }
 }
 
-/// The frame that was sent: the one behind those that were sent before.
-fn frame_of(
-    alloc: Global,
-    machine: &Machine,
-    sent: Option<Step<usize>>,
-) -> Result<Option<Vec<u8>>, AllocError> {
-    let Some(step) = sent else {
+/// The frame that an event sent, if it sent one.
+fn frame_of(alloc: Global, machine: &Machine, back: usize) -> Result<Option<Vec<u8>>, AllocError>
+    requires some { 0 < back }
+    requires there { back ≤ length machine.now.past }
+    ensures ok { IfOk result (λ sent. IsFrameOf machine.now back (option_map (λ frame. frame.items) sent)) }
+{
+    let after = sent_until(machine, back - 1);
+    if !has_sent(machine, back - 1) {
         return Ok(None);
-    };
-    match machine.wire_frame(step.before) {
+    }
+    match machine.wire_frame(after - 1) {
         Some(frame) => Ok(Some(copied(alloc, frame)?)),
-        None => Ok(None),
+        None => unreachable!(),
+    }
+}
+
+/// How many frames were sent, so many steps back.
+fn sent_until(machine: &Machine, back: usize) -> usize
+    requires there { back < length machine.now.past }
+    ensures sent { HasSent machine.now back result }
+{
+    let mut count = machine.wire_len();
+    for k in 0..back {
+        if has_sent(machine, k) {
+            count -= 1;
+        }
+    }
+    count
+}
+
+/// Whether the event sent a frame that k steps back lead to.
+fn has_sent(machine: &Machine, k: usize) -> bool
+    requires there { k < length machine.now.past }
+    ensures { SentAt machine.now k result }
+{
+    match machine.record(k) {
+        Some(record) => record.takes_off_wire(),
+        None => unreachable!(),
     }
 }
 

@@ -23,28 +23,19 @@ pub fn write_string<W: Write>(writer: &mut W, octets: &[u8]) -> Result<(), Write
 
 /// Writes octets of a text, with those escaped that a string can't hold.
 fn write_escaped<W: Write>(writer: &mut W, text: &[u8]) -> Result<(), WriteFailed> {
-    let mut from = 0;
-    for at in 0..text.len() {
-        if !is_plain(text[at]) {
-            write_whole(writer, &text[from..at])?;
-            write_escape(writer, text[at])?;
-            from = at + 1;
-        }
+    for octet in text {
+        write_octet(writer, *octet)?;
     }
-    write_whole(writer, &text[from..])
+    Ok(())
 }
 
-/// Whether an octet stands in a string as it is.
-fn is_plain(octet: u8) -> bool {
-    octet >= FIRST_PLAIN && !matches!(octet, b'"' | b'\\' | b'<')
-}
-
-/// Writes an octet that doesn't.
-fn write_escape<W: Write>(writer: &mut W, octet: u8) -> Result<(), WriteFailed> {
+/// Writes an octet of a text.
+fn write_octet<W: Write>(writer: &mut W, octet: u8) -> Result<(), WriteFailed> {
     match octet {
         b'"' => write_whole(writer, b"\\\""),
         b'\\' => write_whole(writer, b"\\\\"),
         b'<' => write_whole(writer, b"\\u003c"),
-        _ => write_pieces(writer, &[b"\\u00", &octet_digits(octet)]),
+        0..FIRST_PLAIN => write_pieces(writer, &[b"\\u00", &octet_digits(octet)]),
+        _ => write_whole(writer, &[octet]),
     }
 }

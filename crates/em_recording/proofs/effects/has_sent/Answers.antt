@@ -1,0 +1,5 @@
+use Rattle.em_recording.proofs.WireLaws.{sent_at}
+use Rattle.em_recording.proofs.effects.has_sent.Goals as goal
+
+pub returns : goal.returns
+returns c = sent_at _ _ _ _ c.in-Some.ensures.found c.takes_off_wire.ensures.before
