@@ -3,3 +3,4 @@ pub mod RegisterLaws
 pub mod OctetLaws
 pub mod WireLaws
 pub mod RecordLaws
+pub mod RunLaws

@@ -84,7 +84,7 @@ all_sent v count e s there =
     subst (λ (t : State). (count ≡ length t.wire) × (t.wire ≡ take count v.present.wire)) same
     (e, sym (take_all count v.present.wire (omega (arith, e))))
 
-there_is : {A : Type 0} (xs : List A) (k : ℕ) → k < length xs → (x : A) × (slice_get xs k ≡ Some x)
+pub there_is : {A : Type 0} (xs : List A) (k : ℕ) → k < length xs → (x : A) × (slice_get xs k ≡ Some x)
 there_is xs k l = elim (slice_get_cases xs k).1 [
   | inl here ↦ (here.0, here.2)
   | inr none ↦ absurd (omega (arith, none.0, l))

@@ -7,6 +7,7 @@
 
 mod effects;
 mod event_text;
+mod laws;
 mod numbers;
 mod recorded;
 mod start;
@@ -14,6 +15,7 @@ mod strings;
 
 pub use effects::record_of;
 pub use event_text::write_event;
+pub use laws::{newest_records_rebuild, records_rebuild};
 pub use numbers::write_number;
 pub use recorded::{OctetStep, Recorded, RegisterStep, Step};
 pub use start::{write_settings, write_start};
