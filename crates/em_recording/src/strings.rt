@@ -1,4 +1,6 @@
 //! Strings of JSON, of octets that may be any.
+ghost use Rattle.em_text.specs.Writer.{Writes};
+ghost use Rattle.em_recording.specs.Strings.{escaped, octet_text};
 
 use em_text::{WriteFailed, octet_digits, write_pieces, write_whole};
 use std::io::Write;
@@ -22,7 +24,9 @@ pub fn write_string<W: Write>(writer: &mut W, octets: &[u8]) -> Result<(), Write
 }
 
 /// Writes octets of a text, with those escaped that a string can't hold.
-fn write_escaped<W: Write>(writer: &mut W, text: &[u8]) -> Result<(), WriteFailed> {
+fn write_escaped<W: Write>(writer: &mut W, text: &[u8]) -> Result<(), WriteFailed>
+    ensures writes { Writes (W.contents writer.old) (W.contents writer.new) result (escaped text.now) }
+{
     for octet in text {
         write_octet(writer, *octet)?;
     }
@@ -30,7 +34,9 @@ fn write_escaped<W: Write>(writer: &mut W, text: &[u8]) -> Result<(), WriteFaile
 }
 
 /// Writes an octet of a text.
-fn write_octet<W: Write>(writer: &mut W, octet: u8) -> Result<(), WriteFailed> {
+fn write_octet<W: Write>(writer: &mut W, octet: u8) -> Result<(), WriteFailed>
+    ensures writes { Writes (W.contents writer.old) (W.contents writer.new) result (octet_text octet) }
+{
     match octet {
         b'"' => write_whole(writer, b"\\\""),
         b'\\' => write_whole(writer, b"\\\\"),
