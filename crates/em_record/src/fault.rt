@@ -13,9 +13,9 @@ pub enum RecordFault {
     /// The record could not be written, a line is too long, or memory was refused.
     Bench(BenchFault),
     /// With this line's events there would be more than [`MOST_EVENTS`].
-    TooManyEvents(u32),
+    TooManyEvents(usize),
     /// This line performed more events than the journal then holds.
-    JournalTooSmall(u32),
+    JournalTooSmall(usize),
 }
 
 impl From<BenchFault> for RecordFault {

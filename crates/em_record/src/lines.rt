@@ -1,7 +1,6 @@
 //! What a line's text and its answer say beside its events.
 
-use em_line::{Command, arrive_form};
-use em_step::Event;
+use em_line::arrive_form;
 use em_text::{Words, is_name, next_line};
 use std::alloc::AllocError;
 
@@ -13,15 +12,12 @@ pub fn takes_back(line: &[u8]) -> bool {
     }
 }
 
-/// The octets of the frame that a line brings from the wire, if that is what it says.
-pub fn frame_of<'a>(line: &[u8], buffer: &'a mut Vec<u8>) -> Result<Option<&'a [u8]>, AllocError> {
+/// Whether a line brings a frame from the wire, by its form. Its octets are then in the buffer.
+pub fn reads_frame(line: &[u8], buffer: &mut Vec<u8>) -> Result<bool, AllocError> {
     let mut words = Words(line);
     match words.next_short() {
-        Some(name) if is_name(name, b"arrive") => match arrive_form(words, buffer)? {
-            Some(Command::Event(Event::Arrive(frame))) => Ok(Some(frame)),
-            _ => Ok(None),
-        },
-        _ => Ok(None),
+        Some(name) if is_name(name, b"arrive") => Ok(arrive_form(words, buffer)?.is_some()),
+        _ => Ok(false),
     }
 }
 

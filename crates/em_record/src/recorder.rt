@@ -1,7 +1,7 @@
 //! Playing a script, and writing its record as it goes.
 
 use crate::fault::{MOST_EVENTS, RecordFault};
-use crate::lines::{frame_of, refusal_in, takes_back};
+use crate::lines::{reads_frame, refusal_in, takes_back};
 use em_journal::{Settings, SettingsRefusal};
 use em_output::Outcome;
 use em_recording::{
@@ -153,14 +153,13 @@ impl Recorder {
         after: u64,
     ) -> Result<(), RecordFault> {
         let count = after.saturating_sub(before);
-        let number = self.tape.len() as u32;
-        if count > MOST_EVENTS - self.events {
-            return Err(RecordFault::TooManyEvents(number));
+        if count > MOST_EVENTS.saturating_sub(self.events) {
+            return Err(RecordFault::TooManyEvents(self.tape.len()));
         }
         if count > self.tape.machine().can_go_back() as u64 {
-            return Err(RecordFault::JournalTooSmall(number));
+            return Err(RecordFault::JournalTooSmall(self.tape.len()));
         }
-        self.events += count;
+        self.events = self.events.saturating_add(count);
         write_whole(writer, b",\"events\":[")?;
         if count <= FEW {
             self.write_few(writer, line, before, count as usize)?;
@@ -180,7 +179,7 @@ impl Recorder {
         count: usize,
     ) -> Result<(), RecordFault> {
         for done in 0..count {
-            let one = record_of(self.alloc, self.tape.machine(), count - done)?;
+            let one = self.newest(count - done)?;
             self.write_one(writer, line, before, done, &one)?;
         }
         Ok(())
@@ -197,7 +196,7 @@ impl Recorder {
     ) -> Result<(), RecordFault> {
         let mut all = Vec::new(self.alloc);
         for _ in 0..count {
-            let one = record_of(self.alloc, self.tape.machine(), 1)?;
+            let one = self.newest(1)?;
             all.push(one).map_err(AllocError::from)?;
             self.tape.back(1);
         }
@@ -206,6 +205,15 @@ impl Recorder {
             self.write_one(writer, line, before, done, one)?;
         }
         Ok(())
+    }
+
+    /// What the event changed before which so many steps back lead.
+    fn newest(&self, back: usize) -> Result<Recorded, RecordFault> {
+        let machine = self.tape.machine();
+        if back == 0 || back > machine.can_go_back() {
+            return Err(RecordFault::JournalTooSmall(self.tape.len()));
+        }
+        Ok(record_of(self.alloc, machine, back)?)
     }
 
     /// Writes the record of an event behind `done` others of its line.
@@ -217,19 +225,20 @@ impl Recorder {
         done: usize,
         one: &Recorded,
     ) -> Result<(), RecordFault> {
-        let stored = match one.frames {
-            Some(step) if step.after > step.before => frame_of(line, &mut self.frame)?,
-            _ => None,
+        let is_stored = match one.frames {
+            Some(step) => step.after > step.before && reads_frame(line, &mut self.frame)?,
+            None => false,
         };
         if done > 0 {
             write_whole(writer, b",")?;
         }
-        write_event(
-            writer,
-            before.saturating_add(1).saturating_add(done as u64),
-            one,
-            stored,
-        )?;
+        let number = before.saturating_add(1).saturating_add(done as u64);
+        let stored = if is_stored {
+            Some(self.frame.as_slice())
+        } else {
+            None
+        };
+        write_event(writer, number, one, stored)?;
         Ok(())
     }
 
