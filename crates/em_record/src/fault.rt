@@ -1,0 +1,37 @@
+//! Why a record ends before its script does.
+
+use em_script::BenchFault;
+use em_text::WriteFailed;
+use std::alloc::AllocError;
+
+/// How many events a record has at most.
+pub const MOST_EVENTS: u64 = 100_000;
+
+/// Why a record ends before its script does.
+#[derive(Clone, Copy, PartialEq, Eq, Debug)]
+pub enum RecordFault {
+    /// The record could not be written, a line is too long, or memory was refused.
+    Bench(BenchFault),
+    /// With this line's events there would be more than [`MOST_EVENTS`].
+    TooManyEvents(usize),
+    /// This line performed more events than the journal then holds.
+    JournalTooSmall(usize),
+}
+
+impl From<BenchFault> for RecordFault {
+    fn from(fault: BenchFault) -> RecordFault {
+        RecordFault::Bench(fault)
+    }
+}
+
+impl From<WriteFailed> for RecordFault {
+    fn from(_: WriteFailed) -> RecordFault {
+        RecordFault::Bench(BenchFault::Write)
+    }
+}
+
+impl From<AllocError> for RecordFault {
+    fn from(_: AllocError) -> RecordFault {
+        RecordFault::Bench(BenchFault::Memory)
+    }
+}

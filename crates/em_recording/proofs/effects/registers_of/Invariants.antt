@@ -1,0 +1,10 @@
+use Rattle.std.proofs.Common.{◌≡◌}
+use Rattle.std.specs.Prelude.{map}
+use Rattle.em_recording.specs.Effects.{register_step}
+use Rattle.em_recording.proofs.effects.registers_of.Given as goal
+
+-- the steps so far
+abbrev pub invariant-loop-change : goal.invariant-loop-change
+invariant-loop-change l =
+    goal.iterator-loop-change.can_next l.change-iterator × goal.iterator-loop-change.is_finite l.change-iterator
+    × (l.steps.items ≡ map register_step l.yielded)

@@ -1,0 +1,164 @@
+//! What an event of a machine's journal changed.
+ghost use Rattle.std.specs.Prelude.{◌≡◌, ◌<◌, ◌≤◌, length, IfOk};
+ghost use Rattle.std.specs.Option.{option_map};
+ghost use Rattle.em_recording.specs.Effects.{AreOctetSteps, AreRegisterSteps, bit_in, count_in, step_of, value_in};
+ghost use Rattle.em_recording.specs.Rebuild.{IsRecordOf};
+ghost use Rattle.em_recording.specs.Wire.{HasSent, IsFrameOf, SentAt};
+
+use crate::recorded::{OctetStep, Recorded, RegisterStep, Step};
+use em_journal::Machine;
+use em_watch::{Difference, Effect, Sight, what};
+use std::alloc::{AllocError, Global};
+
+/// What the event changed before which so many steps back lead: the newest is 1.
+pub fn record_of(alloc: Global, machine: &Machine, back: usize) -> Result<Recorded, AllocError>
+    requires some { 0 < back }
+    requires there { back ≤ length machine.now.past }
+    ensures ok { IfOk result (IsRecordOf machine.now back) }
+{
+    let effect = what(machine, back);
+    let frames = counts_of(effect.frames());
+    let link = bits_of(effect.link());
+    let line = bits_of(effect.line());
+    let registers = registers_of(alloc, &effect)?;
+    let octets = octets_of(alloc, &effect)?;
+    let sent = frame_of(alloc, machine, back)?;
+    Ok(Recorded {
+        registers,
+        octets,
+        frames,
+        sent,
+        link,
+        line,
+    })
+}
+
+/// The steps of the registers that an event changed.
+fn registers_of(alloc: Global, effect: &Effect<'_>) -> Result<Vec<RegisterStep>, AllocError>
+    ensures ok { IfOk result (λ steps. AreRegisterSteps effect.now.view effect.now.back steps.items) }
+{
+    let mut steps = Vec::new(alloc);
+    for change in effect.registers() {
+        steps.push(RegisterStep {
+            reg: change.reg,
+            before: value_in(change.difference.before),
+            after: value_in(change.difference.after),
+        })?;
+    }
+    Ok(steps)
+}
+
+/// The octets that an event changed.
+fn octets_of(alloc: Global, effect: &Effect<'_>) -> Result<Vec<OctetStep>, AllocError>
+    ensures ok { IfOk result (λ steps. AreOctetSteps effect.now.view effect.now.back steps.items) }
+{
+    let mut steps = Vec::new(alloc);
+    for change in effect.octets() {
+        steps.push(change)?;
+    }
+    Ok(steps)
+}
+
+/// What a register holds; 0 of anything else that is seen.
+fn value_in(sight: Sight) -> u32
+    ensures { result ≡ value_in sight }
+{
+    match sight {
+        Sight::Value(value) => value,
+        _ => 0,
+    }
+}
+
+/// How many frames there are; 0 of anything else that is seen.
+fn count_in(sight: Sight) -> usize
+    ensures { result ≡ count_in sight }
+{
+    match sight {
+        Sight::Count(count) => count,
+        _ => 0,
+    }
+}
+
+/// Whether the link is up, or the interrupt line asserted; false of anything else that is seen.
+fn bit_in(sight: Sight) -> bool
+    ensures { result ≡ bit_in sight }
+{
+    match sight {
+        Sight::Link(up) => up,
+        Sight::Line(asserted) => asserted,
+        _ => false,
+    }
+}
+
+fn counts_of(did: Option<Difference>) -> Option<Step<usize>>
+    ensures { result ≡ step_of count_in did }
+{
+    match did {
+        Some(did) => Some(Step {
+            before: count_in(did.before),
+            after: count_in(did.after),
+        }),
+        None => None,
+    }
+}
+
+fn bits_of(did: Option<Difference>) -> Option<Step<bool>>
+    ensures { result ≡ step_of bit_in did }
+{
+    match did {
+        Some(did) => Some(Step {
+            before: bit_in(did.before),
+            after: bit_in(did.after),
+        }),
+        None => None,
+    }
+}
+
+/// The frame that an event sent, if it sent one.
+fn frame_of(alloc: Global, machine: &Machine, back: usize) -> Result<Option<Vec<u8>>, AllocError>
+    requires some { 0 < back }
+    requires there { back ≤ length machine.now.past }
+    ensures ok { IfOk result (λ sent. IsFrameOf machine.now back (option_map (λ frame. frame.items) sent)) }
+{
+    let after = sent_until(machine, back - 1);
+    if !has_sent(machine, back - 1) {
+        return Ok(None);
+    }
+    match machine.wire_frame(after - 1) {
+        Some(frame) => Ok(Some(copied(alloc, frame)?)),
+        None => unreachable!(),
+    }
+}
+
+/// How many frames were sent, so many steps back.
+fn sent_until(machine: &Machine, back: usize) -> usize
+    requires there { back < length machine.now.past }
+    ensures sent { HasSent machine.now back result }
+{
+    let mut count = machine.wire_len();
+    for k in 0..back {
+        if has_sent(machine, k) {
+            count -= 1;
+        }
+    }
+    count
+}
+
+/// Whether the event sent a frame that k steps back lead to.
+fn has_sent(machine: &Machine, k: usize) -> bool
+    requires there { k < length machine.now.past }
+    ensures { SentAt machine.now k result }
+{
+    match machine.record(k) {
+        Some(record) => record.takes_off_wire(),
+        None => unreachable!(),
+    }
+}
+
+fn copied(alloc: Global, octets: &[u8]) -> Result<Vec<u8>, AllocError>
+    ensures { IfOk result (λ copy. copy.items ≡ octets.now) }
+{
+    let mut copy = Vec::new(alloc);
+    copy.extend_from_slice(octets)?;
+    Ok(copy)
+}

@@ -1,0 +1,22 @@
+//! What the events of a machine changed, as data, and as the JSON of a recording.
+//! [docs/recording.md](../../../docs/recording.md) has the format.
+//!
+//! From what a machine showed at the start and what its events changed, what it showed after each event can be rebuilt,
+//! forwards and backwards.
+#![tactic(auto)]
+
+mod effects;
+mod event_text;
+mod laws;
+mod numbers;
+mod recorded;
+mod start;
+mod strings;
+
+pub use effects::record_of;
+pub use event_text::write_event;
+pub use laws::{newest_records_rebuild, records_rebuild};
+pub use numbers::write_number;
+pub use recorded::{OctetStep, Recorded, RegisterStep, Step};
+pub use start::{write_settings, write_start};
+pub use strings::write_string;

@@ -1,0 +1,39 @@
+//! Numbers and words of JSON.
+ghost use Rattle.em_text.specs.Writer.{Writes};
+ghost use Rattle.em_recording.specs.Text.{flag_text, number_text};
+
+use em_text::{WriteFailed, write_octets, write_pieces, write_whole};
+use itoa::Buffer;
+use std::io::Write;
+
+/// Writes a number in decimal digits behind a text.
+pub fn write_number<W: Write>(writer: &mut W, before: &[u8], number: u64) -> Result<(), WriteFailed>
+    ensures writes { Writes (W.contents writer.old) (W.contents writer.new) result (number_text before.now number) }
+{
+    let mut digits = Buffer::new();
+    write_pieces(writer, &[before, digits.format(number).as_bytes()])
+}
+
+/// Writes `true` or `false` behind a text.
+pub(crate) fn write_flag<W: Write>(
+    writer: &mut W,
+    before: &[u8],
+    flag: bool,
+) -> Result<(), WriteFailed>
+    ensures writes { Writes (W.contents writer.old) (W.contents writer.new) result (flag_text before.now flag) }
+{
+    let word: &[u8] = if flag { b"true" } else { b"false" };
+    write_pieces(writer, &[before, word])
+}
+
+/// Writes octets as a string of hexadecimal digits behind a text.
+pub(crate) fn write_hex<W: Write>(
+    writer: &mut W,
+    before: &[u8],
+    octets: &[u8],
+) -> Result<(), WriteFailed> {
+    write_whole(writer, before)?;
+    write_whole(writer, b"\"")?;
+    write_octets(writer, octets)?;
+    write_whole(writer, b"\"")
+}
