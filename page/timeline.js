@@ -1,0 +1,216 @@
+// The timeline: each step a tick, the steps that were taken back on a branch of their own.
+
+/** By kind of step: its letter in the timeline, and its words in the legend. */
+const KINDS = {
+  read: ["r", "read"], write: ["w", "write"], poke: ["m", "write to memory"], arrive: ["a", "frame arrives"],
+  rx: ["R", "receive step"], tx: ["T", "transmit step"], link: ["L", "link"], driver: ["d", "driver’s access"],
+  look: ["·", "look"], back: ["↶", "events taken back"], start: ["|", "start"],
+};
+const MARKS = { refused: ["×", "refused"], dropped: ["▾", "dropped"], bad: ["!", "bad line"] };
+const CELLS = [3, 5, 8, 12, 18, 28];
+const LANE = 20;
+const MARK_ROOM = 12;
+const ARC_ROOM = 16;
+
+/** The colours of the page's style, by name; read again when the scheme changes. */
+const palette = {};
+const COLOURS = ["ink", "dim", "line", "panel", "accent", "bad", "warn", "back", "shade", "adapter", "driver", "touched", "rx",
+  "tx", ...Object.keys(KINDS).map((kind) => `kind-${kind}`)];
+
+function readPalette() {
+  const style = getComputedStyle(document.documentElement);
+  for (const name of COLOURS) palette[name] = style.getPropertyValue(`--${name}`).trim();
+}
+
+/** Makes a canvas as large as it is shown, and gives its context in points. */
+function sized(canvas, height) {
+  const ratio = window.devicePixelRatio || 1;
+  const width = canvas.clientWidth;
+  const [across, down] = [Math.round(width * ratio), Math.round(height * ratio)];
+  if (canvas.width !== across || canvas.height !== down) {
+    canvas.width = across;
+    canvas.height = down;
+    canvas.style.setProperty("height", `${height}px`);
+  }
+  const context = canvas.getContext("2d");
+  context.setTransform(ratio, 0, 0, ratio, 0, 0);
+  context.clearRect(0, 0, width, height);
+  return { context, width };
+}
+
+class Timeline {
+  constructor(app) {
+    this.app = app;
+    this.zoom = 3;
+    this.hasBranches = app.run.steps.some((step) => step.kind === "back");
+    this.overview = byId("overview");
+    this.analyser = byId("analyser");
+    this.slider = byId("slider");
+    this.slider.max = String(app.run.steps.length - 1);
+    this.slider.addEventListener("input", () => app.goTo(Number(this.slider.value)));
+    for (const [id, go] of Object.entries({
+      "to-start": () => app.goTo(0), "one-back": () => app.goTo(app.step - 1), "one-on": () => app.goTo(app.step + 1),
+      "to-end": () => app.goTo(Infinity), play: () => this.play(!this.timer),
+      narrower: () => this.zoomBy(-1), wider: () => this.zoomBy(1),
+    })) byId(id).addEventListener("click", go);
+    this.follows(this.overview, (x, width) => Math.floor((x / width) * app.run.steps.length));
+    this.follows(this.analyser, (x) => this.view.first + Math.floor(x / this.view.cell));
+    this.legend();
+  }
+
+  /** A pointer on a canvas goes where it points, and on as it is drawn. @private */
+  follows(canvas, stepAt) {
+    const go = (event) => {
+      const box = canvas.getBoundingClientRect();
+      this.app.goTo(stepAt(event.clientX - box.left, box.width));
+    };
+    canvas.addEventListener("pointerdown", (event) => {
+      canvas.setPointerCapture(event.pointerId);
+      go(event);
+    });
+    canvas.addEventListener("pointermove", (event) => event.buttons === 1 && canvas === this.overview && go(event));
+  }
+
+  /** @private */
+  legend() {
+    const there = new Set(this.app.run.steps.map((step) => step.kind));
+    const marks = new Set(this.app.run.steps.map((step) => step.mark));
+    byId("kinds").replaceChildren(
+      ...Object.entries(KINDS).filter(([kind]) => there.has(kind) && kind !== "start").map(([kind, [letter, words]]) =>
+        make("li", {}, make("span", { class: `tick kind-${kind}` }, letter), words)),
+      ...Object.entries(MARKS).filter(([mark]) => marks.has(mark)).map(([mark, [sign, words]]) =>
+        make("li", {}, make("span", { class: `tick mark-${mark}` }, sign), words)));
+  }
+
+  zoomBy(by) {
+    this.zoom = Math.max(0, Math.min(CELLS.length - 1, this.zoom + by));
+    this.app.paint();
+  }
+
+  play(on) {
+    clearTimeout(this.timer);
+    this.timer = on ? setTimeout(() => this.playOn(), 0) : null;
+    const button = byId("play");
+    setAttribute(button, "aria-pressed", on);
+    setText(button, on ? "⏸\uFE0E pause" : "▶\uFE0E play");
+    setAttribute(button, "aria-label", on ? "Pause" : "Play");
+  }
+
+  /** @private */
+  playOn() {
+    if (this.app.step >= this.app.run.steps.length - 1) {
+      this.play(false);
+      return;
+    }
+    this.app.goTo(this.app.step + 1, true);
+    this.timer = setTimeout(() => this.playOn(), 1000 / Number(byId("speed").value));
+  }
+
+  /** Which steps the analyser shows: the first one, how many, and how wide each is. */
+  look(width) {
+    const { step, run } = this.app;
+    const most = Math.max(CELLS[this.zoom], Math.min(CELLS[CELLS.length - 1], this.zoom >= 3 ? width / run.steps.length : 0));
+    const count = Math.max(1, Math.min(run.steps.length, Math.floor(width / most)));
+    const first = Math.max(0, Math.min(run.steps.length - count, step - Math.floor(count / 2)));
+    this.view = { first, count, cell: most };
+  }
+
+  paint() {
+    const { app } = this;
+    this.look(this.analyser.clientWidth);
+    this.slider.value = String(app.step);
+    setAttribute(this.slider, "aria-valuetext", app.stepText());
+    setText(byId("where"), `step ${app.step} of ${app.run.steps.length - 1}`);
+    this.paintOverview();
+  }
+
+  /** How tall the steps are above the signals. */
+  height() {
+    return MARK_ROOM + LANE + (this.hasBranches ? LANE + ARC_ROOM : 4);
+  }
+
+  /** @private */
+  paintOverview() {
+    const { run, step } = this.app;
+    const { context, width } = sized(this.overview, 30);
+    const apart = width / run.steps.length;
+    const wide = Math.max(1, apart - (apart > 3 ? 1 : 0));
+    // the marks last, so that none is hidden where steps stand close together
+    run.steps.forEach(({ kind, place, performs }, index) => {
+      const isBranch = performs ? place.takenBack !== Infinity : kind === "back";
+      context.fillStyle = palette[`kind-${kind}`];
+      context.fillRect(index * apart, isBranch ? 19 : 8, wide, 9);
+    });
+    run.steps.forEach(({ mark }, index) => {
+      if (!mark) return;
+      context.fillStyle = palette[mark === "dropped" ? "warn" : "bad"];
+      context.fillRect(index * apart, 1, Math.max(2, wide), 5);
+    });
+    const { first, count } = this.view;
+    context.strokeStyle = palette.dim;
+    context.strokeRect(first * apart + 0.5, 0.5, Math.max(2, count * apart - 1), 29);
+    context.fillStyle = palette.accent;
+    context.fillRect(Math.min(width - 2, (step + 0.5) * apart - 1), 0, 2, 30);
+  }
+
+  /** Draws the steps at the top of the analyser. */
+  paintSteps(context) {
+    const { first, count, cell } = this.view;
+    for (let index = first; index < first + count; index++) this.paintStep(context, index, (index - first) * cell);
+    if (!this.hasBranches) return;
+    const { steps } = this.app.run;
+    steps.forEach((step, index) => {
+      const to = step.place.step;
+      if (step.kind === "back" && step.back > 0 && to < first + count && index >= first) this.paintArc(context, index, to);
+    });
+  }
+
+  /** @private */
+  paintStep(context, index, x) {
+    const { run, step: present } = this.app;
+    const { cell } = this.view;
+    const { kind, mark, performs, place } = run.steps[index];
+    const isBranch = performs ? place.takenBack !== Infinity : kind === "back";
+    const y = MARK_ROOM + (isBranch ? LANE : 0);
+    const gap = cell >= 8 ? 1 : 0.5;
+    context.globalAlpha = index <= present ? 1 : 0.45;
+    context.fillStyle = palette[`kind-${kind}`];
+    if (kind === "look" || kind === "start") context.fillRect(x + cell / 2 - 1, y + 5, 2, LANE - 10);
+    else context.fillRect(x + gap, y + 1, cell - 2 * gap, LANE - 2);
+    context.textAlign = "center";
+    context.textBaseline = "middle";
+    if (cell >= 11 && kind !== "look" && kind !== "start") {
+      context.font = "bold 11px ui-monospace, monospace";
+      context.fillStyle = palette.panel;
+      context.fillText(KINDS[kind][0], x + cell / 2, y + LANE / 2 + 0.5);
+    }
+    context.globalAlpha = 1;
+    if (mark) {
+      context.font = "bold 13px ui-monospace, monospace";
+      context.fillStyle = palette[mark === "dropped" ? "warn" : "bad"];
+      context.fillText(MARKS[mark][0], x + cell / 2, MARK_ROOM / 2 + 1);
+    }
+  }
+
+  /** From a reverse step to the event behind which it led. @private */
+  paintArc(context, from, to) {
+    const { first, cell } = this.view;
+    const [start, end] = [from, to].map((index) => (index - first + 0.5) * cell);
+    const [top, bottom] = [MARK_ROOM + 2 * LANE, MARK_ROOM + 2 * LANE + ARC_ROOM - 3];
+    context.globalAlpha = from <= this.app.step ? 1 : 0.45;
+    context.strokeStyle = palette.back;
+    context.fillStyle = palette.back;
+    context.lineWidth = 1.5;
+    context.beginPath();
+    context.moveTo(start, top);
+    context.bezierCurveTo(start, bottom + 4, end, bottom + 4, end, MARK_ROOM + LANE + 7);
+    context.stroke();
+    context.beginPath();
+    context.moveTo(end, MARK_ROOM + LANE + 1);
+    context.lineTo(end - 4, MARK_ROOM + LANE + 8);
+    context.lineTo(end + 4, MARK_ROOM + LANE + 8);
+    context.fill();
+    context.lineWidth = 1;
+    context.globalAlpha = 1;
+  }
+}
