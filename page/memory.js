@@ -1,0 +1,265 @@
+// Guest memory: a map of all of it, and its octets about a place.
+
+const MAP_CELLS = 1024;
+const ROWS_SHOWN = 16;
+
+/** What the map shows, the later ones over the earlier ones: name, sign in the legend, words. */
+const MAP_KINDS = [
+  ["zero", "", "zeros"], ["filled", "", "not zero"], ["buffer", "", "buffer in use"], ["ring", "", "ring"],
+  ["touched", "", "changed by this step"],
+];
+
+class MemoryPanel {
+  constructor(app) {
+    this.app = app;
+    this.size = app.state.memory.size;
+    this.address = 0;
+    this.focus = 0;
+    this.map = byId("map");
+    this.grid = byId("octets");
+    this.narrow = matchMedia("(max-width: 560px)");
+    this.narrow.addEventListener("change", () => app.paint());
+    byId("memory-form").addEventListener("submit", (event) => {
+      event.preventDefault();
+      this.showTyped();
+    });
+    this.map.addEventListener("click", (event) => this.clicked(event));
+    this.grid.addEventListener("keydown", (event) => this.keyed(event));
+    byId("map-legend").replaceChildren(...MAP_KINDS.slice(1).map(([name, , words]) =>
+      make("li", {}, make("span", { class: `swatch map-${name}` }), words)),
+    make("li", {}, make("span", { class: "swatch map-shown" }), "shown below"));
+    this.makeRows();
+  }
+
+  /** @private */
+  showTyped() {
+    const box = byId("address");
+    const address = parseInt(box.value, 16);
+    const is = /^(0x)?[0-9a-f]+$/i.test(box.value.trim()) && address < this.size;
+    setAttribute(box, "aria-invalid", is ? null : "true");
+    if (is) this.show(address, true);
+  }
+
+  /** Shows the octets about an address. */
+  show(address, exact = false) {
+    const across = this.across();
+    this.focus = Math.max(0, Math.min(this.size - 1, address));
+    const row = Math.floor(this.focus / across) - (exact ? 0 : 2);
+    const last = Math.floor(this.size / across) - ROWS_SHOWN;
+    this.address = Math.max(0, Math.min(row, last)) * across;
+    this.paint();
+  }
+
+  across() {
+    return this.narrow.matches ? 8 : 16;
+  }
+
+  /** @private */
+  makeRows() {
+    const across = this.across();
+    this.made = across;
+    this.rows = Array.from({ length: ROWS_SHOWN }, () => {
+      const address = make("span", { class: "address", role: "rowheader" });
+      const cells = Array.from({ length: across }, () => {
+        const now = make("span", { class: "now" });
+        const old = make("span", { class: "old" });
+        return { now, old, element: make("button", { type: "button", class: "octet", role: "gridcell", tabindex: "-1" }, old, now) };
+      });
+      const letters = make("span", { class: "letters", "aria-hidden": "true" });
+      const element = make("div", { class: "octets-row", role: "row" }, address, ...cells.map((cell) => cell.element), letters);
+      return { element, address, cells, letters };
+    });
+    this.grid.replaceChildren(...this.rows.map((row) => row.element));
+  }
+
+  /** Follows what the present step changed. */
+  follow() {
+    const { place, changes } = this.app;
+    if (!changes || !place.memory.length || !byId("follow").checked) return;
+    const [address, before] = place.memory[0];
+    const end = this.address + ROWS_SHOWN * this.across();
+    if (address >= this.address && address + before.length / 2 <= end) return;
+    this.show(address);
+  }
+
+  paint() {
+    if (this.made !== this.across()) {
+      this.makeRows();
+      this.address -= this.address % this.across();
+    }
+    const across = this.across();
+    const count = ROWS_SHOWN * across;
+    this.address = Math.max(0, Math.min(this.address, this.size - count));
+    if (this.focus < this.address || this.focus >= this.address + count) this.focus = this.address;
+    const octets = this.app.state.memory.octets(this.address, count);
+    const before = this.app.changes ? octetsBefore(this.app.place, this.address, octets) : octets;
+    this.rows.forEach((row, index) => this.paintRow(row, this.address + index * across,
+      octets.subarray(index * across, (index + 1) * across), before.subarray(index * across, (index + 1) * across)));
+    setAttribute(this.grid, "data-address", this.address);
+    setAttribute(this.grid, "data-octets", digitsOf(octets));
+    const box = byId("address");
+    if (document.activeElement !== box) {
+      box.value = addressText(this.address);
+      setAttribute(box, "aria-invalid", null);
+    }
+    this.regions();
+    this.paintMap();
+  }
+
+  /** @private */
+  paintRow(row, address, octets, before) {
+    setText(row.address, addressText(address));
+    let letters = "";
+    let changedInRow = false;
+    row.cells.forEach((cell, index) => {
+      const [octet, old] = [octets[index], before[index]];
+      const at = address + index;
+      const lit = octet !== old;
+      changedInRow ||= lit;
+      setText(cell.now, PAIRS[octet]);
+      setText(cell.old, lit ? PAIRS[old] : "");
+      const { element } = cell;
+      setAttribute(element, "data-watch", `octets ${at} 1`);
+      setAttribute(element, "data-changed", lit ? "" : null);
+      setAttribute(element, "data-zero", octet === 0 ? "" : null);
+      setAttribute(element, "tabindex", at === this.focus ? 0 : -1);
+      setAttribute(element, "data-selected", this.isSelected(at) ? "" : null);
+      setAttribute(element, "aria-label", `${addressText(at)}: ${PAIRS[octet]}${lit ? `, was ${PAIRS[old]}` : ""}`);
+      letters += octet >= 0x20 && octet < 0x7F ? String.fromCharCode(octet) : ".";
+    });
+    setAttribute(row.element, "data-changed", changedInRow ? "" : null);
+    setText(row.letters, letters);
+  }
+
+  /** @private */
+  isSelected(address) {
+    const { asked } = this.app;
+    return asked !== null && asked.watch.kind === "octets" && address >= asked.watch.address
+      && address < asked.watch.address + asked.watch.count;
+  }
+
+  /** @private */
+  keyed(event) {
+    const across = this.across();
+    const by = { ArrowLeft: -1, ArrowRight: 1, ArrowUp: -across, ArrowDown: across, PageUp: -ROWS_SHOWN * across,
+      PageDown: ROWS_SHOWN * across }[event.key];
+    if (by === undefined || event.ctrlKey || event.altKey || event.metaKey) return;
+    event.preventDefault();
+    event.stopPropagation();
+    const focus = Math.max(0, Math.min(this.size - 1, this.focus + by));
+    const count = ROWS_SHOWN * across;
+    while (focus < this.address) this.address -= Math.abs(by) >= count ? count : across;
+    while (focus >= this.address + count) this.address += Math.abs(by) >= count ? count : across;
+    this.focus = focus;
+    this.paint();
+    const at = this.focus - this.address;
+    this.rows[Math.floor(at / across)].cells[at % across].element.focus({ preventScroll: true });
+  }
+
+  /** @private */
+  clicked(event) {
+    const box = this.map.getBoundingClientRect();
+    const { columns, rows } = this.shape(box.width);
+    const column = Math.floor(((event.clientX - box.left) / box.width) * columns);
+    const row = Math.floor(((event.clientY - box.top) / box.height) * rows);
+    this.show(Math.min(this.size - 1, (row * columns + column) * (this.size / MAP_CELLS)), true);
+  }
+
+  /** @private */
+  shape(width) {
+    const columns = width < 420 ? 32 : 64;
+    return { columns, rows: MAP_CELLS / columns };
+  }
+
+  /** The parts of memory that mean something here: rings, buffers in use, what this step changed. */
+  parts() {
+    const { app } = this;
+    const parts = [];
+    for (const { side, view } of app.rings) {
+      const { ring, shown } = view;
+      if (ring.count === 0) continue;
+      parts.push({ kind: "ring", words: `${side} ring`, at: ring.base, size: DESCRIPTOR_OCTETS * ring.count });
+      for (const one of shown) {
+        if (one.live && one.octets && !one.isExtended && one.size) {
+          parts.push({ kind: "buffer", words: `${side} buffer ${one.index}`, at: one.at, size: one.size });
+        }
+      }
+    }
+    if (app.changes) parts.push(...this.touched());
+    return parts.filter(({ at }) => at < BigInt(this.size));
+  }
+
+  /** What the present step changed, pieces that touch each other as one. @private */
+  touched() {
+    const runs = [];
+    for (const [address, before] of this.app.place.memory) {
+      const last = runs[runs.length - 1];
+      if (last && address - (last.at + last.size) <= 16) last.size = address + before.length / 2 - last.at;
+      else runs.push({ at: address, size: before.length / 2 });
+    }
+    return runs.map(({ at, size }) => ({ kind: "touched", words: "changed", at: BigInt(at), size }));
+  }
+
+  /** @private */
+  regions() {
+    const parts = this.parts();
+    this.shownParts = parts;
+    const most = 14;
+    const order = [...parts.filter(({ kind }) => kind === "touched"), ...parts.filter(({ kind }) => kind !== "touched")];
+    const key = order.map(({ words, at, size }) => `${words} ${at} ${size}`).join();
+    if (key === this.regionsKey) return;
+    this.regionsKey = key;
+    byId("regions").replaceChildren(...order.slice(0, most).map(({ kind, words, at, size }) =>
+      make("button", { type: "button", class: `region map-${kind}`, "data-show": at }, make("span", {}, words),
+        ` ${addressText(at)}–${addressText(at + BigInt(size) - 1n)}`)),
+    ...(order.length > most ? [make("span", { class: "quiet" }, `and ${order.length - most} more`)] : []));
+  }
+
+  /** @private */
+  paintMap() {
+    const { columns, rows } = this.shape(this.map.clientWidth);
+    const side = Math.max(5, Math.min(9, Math.floor(this.map.clientWidth / columns)));
+    const { context, width } = sized(this.map, rows * side);
+    const across = width / columns;
+    const cell = this.size / MAP_CELLS;
+    const fill = (kind, from, end) => {
+      context.fillStyle = palette[`map-${kind}`];
+      for (let index = Math.floor(from / cell); index < Math.ceil(end / cell); index++) {
+        const [x, y] = [(index % columns) * across, Math.floor(index / columns) * side];
+        context.fillRect(x + 0.5, y + 0.5, across - 1, side - 1);
+      }
+    };
+    fill("zero", 0, this.size);
+    this.filledCells(cell).forEach((index) => fill("filled", index * cell, (index + 1) * cell));
+    for (const wanted of ["buffer", "ring", "touched"]) {
+      for (const { kind, at, size } of this.shownParts) {
+        if (kind === wanted) fill(kind, Number(at), Math.min(this.size, Number(at) + size));
+      }
+    }
+    const shown = ROWS_SHOWN * this.across();
+    const [first, last] = [Math.floor(this.address / cell), Math.floor((this.address + shown - 1) / cell)];
+    context.strokeStyle = palette.ink;
+    for (let index = first; index <= last; index++) {
+      context.strokeRect((index % columns) * across + 0.5, Math.floor(index / columns) * side + 0.5, across - 1, side - 1);
+    }
+  }
+
+  /** The cells of the map in which an octet is not zero. @private */
+  filledCells(cell) {
+    const found = [];
+    const { pages } = this.app.state.memory;
+    for (let index = 0; index < MAP_CELLS; index++) {
+      const [from, end] = [index * cell, (index + 1) * cell];
+      for (let page = Math.floor(from / PAGE_OCTETS); page * PAGE_OCTETS < end; page++) {
+        const octets = pages[page];
+        if (!octets) continue;
+        const part = octets.subarray(Math.max(0, from - page * PAGE_OCTETS), end - page * PAGE_OCTETS);
+        if (part.some((octet) => octet !== 0)) {
+          found.push(index);
+          break;
+        }
+      }
+    }
+    return found;
+  }
+}

@@ -1,0 +1,233 @@
+// The descriptor rings: whose each descriptor is, what it says, where its buffer lies, and what is wrong with it.
+
+const MOST_SHOWN = 64;
+const DESCRIPTOR_OCTETS = 16;
+const MOST_LENGTH = 16_380;
+/** The most buffers that the drawing has room for. */
+const MOST_BUFFERS = 10;
+const BIT_NAMES = {
+  rxStatus: ["DD", "EOP", "IXSM", "VP", "bit4", "TCPCS", "IPCS", "PIF"],
+  rxErrors: ["CE", "SE", "SEQ", "bit3", "CXE", "TCPE", "IPE", "RXE"],
+  txCommand: ["EOP", "IFCS", "IC", "RS", "RPS", "DEXT", "VLE", "IDE"],
+  txStatus: ["DD", "EC", "LC", "TU", "bit4", "bit5", "bit6", "bit7"],
+};
+/** By side: name, first octet, number of octets of each field of a descriptor. */
+const DESCRIPTOR_FIELDS = {
+  rx: [["buffer", 0, 8], ["length", 8, 2], ["checksum", 10, 2], ["status", 12, 1], ["errors", 13, 1], ["special", 14, 2]],
+  tx: [["buffer", 0, 8], ["length", 8, 2], ["CSO", 10, 1], ["command", 11, 1], ["status", 12, 1], ["CSS", 13, 1],
+    ["special", 14, 2]],
+};
+
+/**
+ * @typedef {Object} Ring
+ * @property {"rx"|"tx"} side
+ * @property {boolean} enabled
+ * @property {bigint} base
+ * @property {number} count
+ * @property {number} head
+ * @property {number} tail
+ * @property {number} buffer octets of a receive buffer
+ *
+ * @typedef {Object} Descriptor
+ * @property {number} index
+ * @property {bigint} address
+ * @property {"adapter"|"driver"} owner
+ * @property {Uint8Array|null} octets null where it lies outside memory
+ * @property {bigint} at where its buffer lies
+ * @property {number} size of its buffer
+ * @property {boolean} live its buffer counts
+ * @property {string} trouble what is wrong with it first; empty where nothing is
+ */
+
+/** A ring as the registers set it up. @param {State} state @returns {Ring} */
+function ringOf(state, side) {
+  const [letter, control] = side === "rx" ? ["R", "RCTL"] : ["T", "TCTL"];
+  const at = (name) => state.at(`${letter}D${name}`);
+  return {
+    side, enabled: ((state.at(control) >>> 1) & 1) === 1, base: (BigInt(at("BAH")) << 32n) | BigInt(at("BAL")),
+    count: Math.floor(at("LEN") / DESCRIPTOR_OCTETS), head: at("H"), tail: at("T"), buffer: bufferSize(state.at("RCTL")),
+  };
+}
+
+/** Whose a descriptor is: the adapter's are those from the head up to but not the tail, going round. */
+function ownerOf({ count, head, tail }, index) {
+  if (head >= count || tail >= count || index >= count) return "driver";
+  const within = head <= tail ? head <= index && index < tail : head <= index || index < tail;
+  return within ? "adapter" : "driver";
+}
+
+/** A descriptor as memory holds it, without what is wrong with it. @returns {Descriptor} */
+function descriptorOf(state, ring, index) {
+  const address = ring.base + BigInt(DESCRIPTOR_OCTETS * index);
+  const owner = ownerOf(ring, index);
+  const none = { index, address, owner, octets: null, at: 0n, size: 0, live: false, trouble: "it lies outside memory" };
+  if (address + BigInt(DESCRIPTOR_OCTETS) > BigInt(state.memory.size)) return none;
+  const octets = state.memory.octets(Number(address), DESCRIPTOR_OCTETS);
+  const isExtended = ring.side === "tx" && (octets[11] & 0x20) !== 0;
+  const live = owner === "adapter" || (ring.side === "rx" && (octets[12] & 1) !== 0);
+  return {
+    index, address, owner, octets, at: littleEndian(octets, 0, 8), live, isExtended, trouble: "",
+    size: ring.side === "rx" ? ring.buffer : Number(littleEndian(octets, 8, 2)),
+  };
+}
+
+/** A field of octets, the low one first. @returns {bigint} */
+function littleEndian(octets, first, count) {
+  let value = 0n;
+  for (let i = count - 1; i >= 0; i--) value = (value << 8n) | BigInt(octets[first + i]);
+  return value;
+}
+
+const overlap = (one, size, other, otherSize) =>
+  size > 0 && otherSize > 0 && one < other + BigInt(otherSize) && other < one + BigInt(size);
+
+/** What is wrong with a live descriptor first, in the order of docs/inspect.md. @param {Descriptor[]} all of the ring */
+function troubleOf(state, ring, descriptor, all) {
+  const { at, size, live, index } = descriptor;
+  if (!live) return "";
+  if (ring.side === "tx") {
+    if (descriptor.isExtended) return "its format is the extended one";
+    if (size === 0) return "its length is 0";
+    if (size > MOST_LENGTH) return `its length is above ${MOST_LENGTH}`;
+  }
+  if (at + BigInt(size) > BigInt(state.memory.size)) return "its buffer lies outside memory";
+  if (overlap(at, size, ring.base, DESCRIPTOR_OCTETS * ring.count)) return "its buffer lies over the ring";
+  const other = all.find((one) =>
+    one.index !== index && one.live && !one.isExtended && overlap(at, size, one.at, one.size));
+  return other ? `its buffer lies over that of ${other.index}` : "";
+}
+
+/** The first descriptor that is shown: all of a short ring, else those about the head. */
+function shownFrom({ count, head }) {
+  return count <= MOST_SHOWN ? 0 : Math.max(0, Math.min(head - 8, count - MOST_SHOWN));
+}
+
+/** The bits of a descriptor that are set, by their names. */
+function bitsOf(side, octets) {
+  const named = (names, octet) => names.filter((_, bit) => (octet >>> bit) & 1);
+  return side === "rx" ? [...named(BIT_NAMES.rxStatus, octets[12]), ...named(BIT_NAMES.rxErrors, octets[13])]
+    : [...named(BIT_NAMES.txCommand, octets[11]), ...named(BIT_NAMES.txStatus, octets[12])];
+}
+
+/** The names of a field's bits, where it has such. */
+function bitNamesOf(side, field) {
+  if (side === "rx") return { status: BIT_NAMES.rxStatus, errors: BIT_NAMES.rxErrors }[field];
+  return { command: BIT_NAMES.txCommand, status: BIT_NAMES.txStatus }[field];
+}
+
+/** All that is shown of a ring. */
+function ringView(state, side) {
+  const ring = ringOf(state, side);
+  const all = Array.from({ length: ring.count }, (_, index) => descriptorOf(state, ring, index));
+  const first = shownFrom(ring);
+  const shown = all.slice(first, first + MOST_SHOWN);
+  for (const one of shown) if (one.octets) one.trouble = troubleOf(state, ring, one, all);
+  return { ring, shown, first };
+}
+
+class RingPanel {
+  constructor(app, side) {
+    this.app = app;
+    this.side = side;
+    this.element = byId(side);
+    this.chosen = 0;
+  }
+
+  paint() {
+    const view = ringView(this.app.state, this.side);
+    const { ring } = view;
+    this.view = view;
+    setText(byId(`${this.side}-head`), this.headText(view));
+    setAttribute(this.element, "data-head", ring.head);
+    setAttribute(this.element, "data-tail", ring.tail);
+    setAttribute(this.element, "data-count", ring.count);
+    if (ring.count === 0) {
+      this.element.replaceChildren();
+      return;
+    }
+    const held = this.element.contains(document.activeElement) ? document.activeElement.dataset.place : null;
+    this.element.replaceChildren(ringDrawing(this.app, view), this.table(view));
+    if (held) this.element.querySelector(`[data-place="${held}"]`)?.focus({ preventScroll: true });
+  }
+
+  /** @private */
+  headText({ ring, shown, first }) {
+    if (ring.count === 0) return "no descriptors";
+    const index = (name, value) => `${name} ${value}${value >= ring.count ? " (past the last)" : ""}`;
+    const part = shown.length < ring.count ? `, here ${first} to ${first + shown.length - 1}` : "";
+    return `${counted(ring.count, "descriptor")} at ${addressText(ring.base)}${part} · ${index("head", ring.head)} · `
+      + `${index("tail", ring.tail)} · ${ring.side === "rx" ? `buffers of ${ring.buffer} octets · ` : ""}`
+      + (ring.enabled ? "enabled" : "disabled");
+  }
+
+  /** @private */
+  table({ ring, shown }) {
+    const names = ["#", "whose", "buffer", "length", "bits"];
+    const head = make("tr", {}, ...names.map((name) => make("th", { scope: "col" }, name)));
+    return make("div", { class: "scroll" }, make("table", { class: "descriptors" }, make("thead", {}, head),
+      make("tbody", {}, ...shown.map((one) => this.row(ring, one)))));
+  }
+
+  /** @private */
+  row(ring, one) {
+    const { index } = one;
+    const hands = [index === ring.head ? "head ▸" : "", index === ring.tail ? "tail ◂" : ""].filter(Boolean);
+    const cells = [
+      make("th", { scope: "row" }, String(index), ...hands.map((hand) => make("span", { class: "hand" }, hand))),
+      make("td", {}, make("span", { class: `owner ${one.owner}` }, one.owner)),
+    ];
+    const trouble = one.trouble
+      ? [make("div", { class: "trouble" }, make("span", { "aria-hidden": "true" }, "⚠\uFE0E "), one.trouble)] : [];
+    if (one.octets) {
+      cells.push(make("td", {}, this.field(one, "buffer")), make("td", {}, this.field(one, "length")),
+        make("td", {}, ...this.bitFields(one), ...trouble));
+    } else {
+      cells.push(make("td", { colspan: 3 }, ...trouble));
+    }
+    return make("tr", {
+      "data-descriptor": index, "data-owner": one.owner, "data-trouble": one.trouble, "data-live": one.live ? "" : null,
+    }, ...cells);
+  }
+
+  /** A field as a button that asks who changed it; its tip has all fields. @private */
+  field(one, name) {
+    const [, first, count] = DESCRIPTOR_FIELDS[this.side].find(([field]) => field === name);
+    const address = Number(one.address) + first;
+    const value = littleEndian(one.octets, first, count);
+    const text = name === "length" ? String(value) : name === "buffer" ? addressText(value) : hex(value, 2 * count);
+    return this.ask(one, name, address, count, text);
+  }
+
+  /** @private */
+  ask(one, name, address, count, text) {
+    const lit = this.app.changes && this.app.place.memory.some((piece) => changedWithin(piece, address, count));
+    return askButton(`octets ${address} ${count}`, {
+      class: "field", "data-field": name, "data-place": `${one.index}-${name}`, "data-changed": lit ? "" : null,
+      title: `${this.fieldsText(one)}`,
+      "aria-label": `descriptor ${one.index}, ${name} ${text}${lit ? ", changed by this step" : ""}: who changed it last?`,
+    }, text);
+  }
+
+  /** The fields besides buffer and length: status and command by their bits, the others where they are not 0. @private */
+  bitFields(one) {
+    return DESCRIPTOR_FIELDS[this.side].slice(2).flatMap(([name, first, count]) => {
+      const names = bitNamesOf(this.side, name);
+      const value = Number(littleEndian(one.octets, first, count));
+      const lit = this.app.changes
+        && this.app.place.memory.some((piece) => changedWithin(piece, Number(one.address) + first, count));
+      if (value === 0 && !lit && name !== "status") return [];
+      const set = names ? names.filter((_, bit) => (value >>> bit) & 1).join(" ") : hex(value, 2 * count);
+      return [this.ask(one, name, Number(one.address) + first, count, `${name} ${set || "–"}`)];
+    });
+  }
+
+  /** All fields of a descriptor, as its tip says them. @private */
+  fieldsText(one) {
+    const fields = DESCRIPTOR_FIELDS[this.side].map(([name, first, count]) => {
+      const value = littleEndian(one.octets, first, count);
+      return `${name} ${name === "length" ? value : hex(value, 2 * count)}`;
+    });
+    return `descriptor ${one.index} at ${addressText(one.address)}, the ${one.owner}’s: ${fields.join(", ")}; `
+      + `${bitsOf(this.side, one.octets).join(" ") || "no bit is set"}${one.trouble ? `; ${one.trouble}` : ""}`;
+  }
+}
