@@ -112,7 +112,7 @@ class App {
     this.signalButtons = [["link", "link"], ["interrupt", "interrupt line"], ["frames", "FIFO"], ["sent", "sent"]].map(
       ([watch, words]) => {
         const value = make("b", {});
-        return { watch, words, value, button: askButton(watch, { class: `signal ${watch}` }, `${words} `, value) };
+        return { watch, words, value, button: askButton(watch, { class: "signal" }, `${words} `, value) };
       });
     byId("signals").replaceChildren(...this.signalButtons.map(({ button }) => button));
   }
@@ -186,7 +186,9 @@ function begin() {
     ...(isNumber(budget, Infinity) ? [`a journal of ${counted(budget, "octet")}`] : []),
   ].join(" · "));
   byId("run").hidden = false;
-  new App(run).goTo(Infinity);
+  const app = new App(run);
+  app.goTo(Infinity);
+  app.memory.showNewest();
 }
 
 try {

@@ -1,6 +1,7 @@
 // Guest memory: a map of all of it, and its octets about a place.
 
 const MAP_CELLS = 1024;
+const MAP_COLUMNS = 64;
 const ROWS_SHOWN = 16;
 
 /** What the map shows, the later ones over the earlier ones: name, sign in the legend, words. */
@@ -70,6 +71,13 @@ class MemoryPanel {
       return { element, address, cells, letters };
     });
     this.grid.replaceChildren(...this.rows.map((row) => row.element));
+  }
+
+  /** Shows what the newest event that changed memory did there. */
+  showNewest() {
+    let { place } = this.app;
+    while (place.before && !place.memory.length) place = place.before;
+    if (place.memory.length) this.show(place.memory[0][0]);
   }
 
   /** Follows what the present step changed. */
@@ -167,8 +175,8 @@ class MemoryPanel {
 
   /** @private */
   shape(width) {
-    const columns = width < 420 ? 32 : 64;
-    return { columns, rows: MAP_CELLS / columns };
+    const columns = MAP_COLUMNS;
+    return { columns, rows: MAP_CELLS / columns, side: Math.max(5, Math.min(9, Math.floor(width / columns))) };
   }
 
   /** The parts of memory that mean something here: rings, buffers in use, what this step changed. */
@@ -217,8 +225,7 @@ class MemoryPanel {
 
   /** @private */
   paintMap() {
-    const { columns, rows } = this.shape(this.map.clientWidth);
-    const side = Math.max(5, Math.min(9, Math.floor(this.map.clientWidth / columns)));
+    const { columns, rows, side } = this.shape(this.map.clientWidth);
     const { context, width } = sized(this.map, rows * side);
     const across = width / columns;
     const cell = this.size / MAP_CELLS;

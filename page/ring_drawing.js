@@ -1,6 +1,6 @@
 // A ring as a drawing: a circle of cells, head and tail as its hands, and arrows from live descriptors to their buffers.
 
-const DRAWING = { width: 480, height: 236, middle: 118, outer: 92, inner: 60 };
+const DRAWING = { width: 480, height: 240, middle: 120, outer: 88, inner: 56, track: 94, apart: 4 };
 
 /** A point on the circle; cell 0 begins at the top, and they go clockwise. */
 function onCircle(turn, radius) {
@@ -20,10 +20,13 @@ function ringDrawing(app, { ring, shown, first }) {
   const drawing = draw("svg", { viewBox: `0 0 ${DRAWING.width} ${DRAWING.height}`, role: "img", "aria-label": title, class: "drawing" });
   drawing.append(arrowTip(ring.side, "tip"), arrowTip(ring.side, "bad-tip"));
   for (const one of shown) drawing.append(cell(app, ring, one, (one.index - first) / parts, (one.index - first + 1) / parts));
-  buffers.forEach((buffer, row) => drawing.append(...bufferParts(app, ring, buffer, row, buffers.length, turnOf)));
+  const tracks = tracksOf(buffers.flatMap(({ of }) => of), turnOf);
+  buffers.forEach((buffer, row) => drawing.append(
+    ...bufferParts(app, ring, buffer, row, buffers.length, turnOf, (one) => tracks.get(one.index) ?? 0)));
   const within = (index) => index >= first && index < first + parts;
-  if (within(ring.tail)) drawing.append(...hand("tail", turnOf(ring.tail), ring.head === ring.tail));
-  if (within(ring.head)) drawing.append(...hand("head", turnOf(ring.head), false));
+  const isOne = ring.head === ring.tail;
+  if (within(ring.tail) && !isOne) drawing.append(...hand("tail", "tail", turnOf(ring.tail)));
+  if (within(ring.head)) drawing.append(...hand("head", isOne ? "head = tail" : "head", turnOf(ring.head)));
   return drawing;
 }
 
@@ -56,14 +59,13 @@ function cell(app, ring, one, from, to) {
 }
 
 /** A hand of the circle, from its middle to a cell. */
-function hand(name, turn, isShort) {
-  const length = DRAWING.inner - (isShort ? 16 : 4);
-  const [x, y] = onCircle(turn, length);
-  const [labelX, labelY] = onCircle(turn, length - (isShort ? 16 : 18));
+function hand(name, words, turn) {
+  const [x, y] = onCircle(turn, DRAWING.inner - 3);
+  const [labelX, labelY] = onCircle(turn, DRAWING.inner - 24);
   return [
     draw("line", { x1: DRAWING.middle, y1: DRAWING.middle, x2: x.toFixed(1), y2: y.toFixed(1), class: `hand-line ${name}` }),
     draw("circle", { cx: DRAWING.middle, cy: DRAWING.middle, r: 3, class: "hub" }),
-    draw("text", { x: labelX.toFixed(1), y: (labelY + 3).toFixed(1), class: `hand-name ${name}` }, name),
+    draw("text", { x: labelX.toFixed(1), y: (labelY + 3).toFixed(1), class: `hand-name ${name}` }, words),
   ];
 }
 
@@ -83,28 +85,52 @@ function buffersOf(shown) {
 }
 
 /** A buffer's box, and the arrows that lead to it. */
-function bufferParts(app, ring, { at, size, of }, row, rows, turnOf) {
+function bufferParts(app, ring, { at, size, of }, row, rows, turnOf, trackOf) {
   const step = Math.min(34, (DRAWING.height - 8) / rows);
   const height = Math.min(26, step - 3);
   const [left, top] = [292, (DRAWING.height - step * rows) / 2 + row * step];
   const wrong = of.find(({ trouble }) => trouble.includes("buffer"));
   const touched = app.changes && at + BigInt(size) <= BigInt(app.state.memory.size)
     && app.place.memory.some((piece) => changedWithin(piece, Number(at), size));
-  const parts = of.map((one) => {
-    const [x, y] = onCircle(turnOf(one.index), DRAWING.outer + 1);
-    const [outX, outY] = onCircle(turnOf(one.index), DRAWING.outer + 26);
-    const end = top + height / 2;
-    return draw("path", {
-      d: `M${x.toFixed(1)} ${y.toFixed(1)}C${outX.toFixed(1)} ${outY.toFixed(1)} ${left - 40} ${end} ${left - 1} ${end}`,
-      class: wrong ? "arrow wrong" : "arrow", "marker-end": `url(#${ring.side}-${wrong ? "bad-tip" : "tip"})`,
-    });
-  });
+  const parts = of.map((one) => draw("path", {
+    d: arrowPath(turnOf(one.index), trackOf(one), left - 1, top + height / 2), class: wrong ? "arrow wrong" : "arrow",
+    "marker-end": `url(#${ring.side}-${wrong ? "bad-tip" : "tip"})`,
+  }));
   const box = draw("g", { class: `buffer${wrong ? " wrong" : ""}${touched ? " changed" : ""}` },
     draw("rect", { x: left, y: top.toFixed(1), width: 184, height: height.toFixed(1), rx: 2 }),
     draw("text", { x: left + 6, y: (top + height / 2 + 4).toFixed(1) }, bufferText(at, size, wrong)),
     draw("title", {}, `buffer of ${of.map(({ index }) => index).join(", ")}: ${size} octets at ${addressText(at)}`
       + (wrong ? `; ${wrong.trouble}` : "")));
   return [...parts, box];
+}
+
+/**
+ * By index, the track on which an arrow from the left half goes around the circle: the nearer to the top or the bottom a
+ * cell is, the nearer to the circle, so that no two cross there.
+ */
+function tracksOf(descriptors, turnOf) {
+  const tracks = new Map();
+  const left = descriptors.filter(({ index }) => turnOf(index) > 0.5);
+  for (const isUpper of [true, false]) {
+    left.filter(({ index }) => turnOf(index) >= 0.75 === isUpper)
+      .sort((one, other) => (isUpper ? turnOf(other.index) - turnOf(one.index) : turnOf(one.index) - turnOf(other.index)))
+      .forEach(({ index }, order) => tracks.set(index, Math.min(order, 5)));
+  }
+  return tracks;
+}
+
+/** From a cell to a buffer's box, around the circle where the cell is in the left half. */
+function arrowPath(turn, track, endX, endY) {
+  const start = `M${pointText(onCircle(turn, DRAWING.outer + 1))}`;
+  if (turn <= 0.5) {
+    const [x, y] = onCircle(turn, DRAWING.outer + 30);
+    return `${start}C${pointText([x, y])} ${endX - 44} ${endY.toFixed(1)} ${endX} ${endY.toFixed(1)}`;
+  }
+  const radius = DRAWING.track + track * DRAWING.apart;
+  const isUpper = turn >= 0.75;
+  const [x, y] = onCircle(isUpper ? 0 : 0.5, radius);
+  return `${start}L${pointText(onCircle(turn, radius))}A${radius} ${radius} 0 0 ${isUpper ? 1 : 0} ${pointText([x, y])}`
+    + `C${pointText([x + 90, y])} ${endX - 60} ${endY.toFixed(1)} ${endX} ${endY.toFixed(1)}`;
 }
 
 function bufferText(at, size, wrong) {

@@ -92,7 +92,7 @@ class ScriptPanel {
     const line = run.lines[number - 1];
     const ahead = line ? line.first > step : number > present;
     const place = line ? run.steps[line.last].place : null;
-    const isGone = line && run.steps[line.last].performs && place.takenBack <= step;
+    const isGone = line && run.steps[line.last].performs && run.steps[line.last].line === number && place.takenBack <= step;
     setAttribute(option, "aria-selected", number === present);
     setAttribute(option, "data-ahead", ahead ? "" : null);
     setAttribute(option, "data-gone", isGone ? "" : null);

@@ -8,14 +8,18 @@ const KINDS = {
 };
 const MARKS = { refused: ["×", "refused"], dropped: ["▾", "dropped"], bad: ["!", "bad line"] };
 const CELLS = [3, 5, 8, 12, 18, 28];
+const WIDEST_CELL = 48;
 const LANE = 20;
 const MARK_ROOM = 12;
-const ARC_ROOM = 16;
+const ARC_ROOM = 18;
+/** How many reverse steps next to each other have lines of their own. */
+const TRACKS = 3;
 
 /** The colours of the page's style, by name; read again when the scheme changes. */
 const palette = {};
 const COLOURS = ["ink", "dim", "line", "panel", "accent", "bad", "warn", "back", "shade", "adapter", "driver", "touched", "rx",
-  "tx", ...Object.keys(KINDS).map((kind) => `kind-${kind}`)];
+  "tx", ...Object.keys(KINDS).map((kind) => `kind-${kind}`),
+  ...["zero", "filled", "buffer", "ring", "touched"].map((kind) => `map-${kind}`)];
 
 function readPalette() {
   const style = getComputedStyle(document.documentElement);
@@ -42,6 +46,8 @@ class Timeline {
   constructor(app) {
     this.app = app;
     this.zoom = 3;
+    /** the reverse steps that took something back */
+    this.backs = app.run.steps.flatMap((step, index) => (step.kind === "back" && step.back > 0 ? [index] : []));
     this.hasBranches = app.run.steps.some((step) => step.kind === "back");
     this.overview = byId("overview");
     this.analyser = byId("analyser");
@@ -109,7 +115,8 @@ class Timeline {
   /** Which steps the analyser shows: the first one, how many, and how wide each is. */
   look(width) {
     const { step, run } = this.app;
-    const most = Math.max(CELLS[this.zoom], Math.min(CELLS[CELLS.length - 1], this.zoom >= 3 ? width / run.steps.length : 0));
+    // a short run is spread over the whole width
+    const most = Math.max(CELLS[this.zoom], Math.min(WIDEST_CELL, width / run.steps.length));
     const count = Math.max(1, Math.min(run.steps.length, Math.floor(width / most)));
     const first = Math.max(0, Math.min(run.steps.length - count, step - Math.floor(count / 2)));
     this.view = { first, count, cell: most };
@@ -120,7 +127,7 @@ class Timeline {
     this.look(this.analyser.clientWidth);
     this.slider.value = String(app.step);
     setAttribute(this.slider, "aria-valuetext", app.stepText());
-    setText(byId("where"), `step ${app.step} of ${app.run.steps.length - 1}`);
+    setText(byId("where"), `event ${app.place.number} · step ${app.step} of ${app.run.steps.length - 1}`);
     this.paintOverview();
   }
 
@@ -158,10 +165,9 @@ class Timeline {
     const { first, count, cell } = this.view;
     for (let index = first; index < first + count; index++) this.paintStep(context, index, (index - first) * cell);
     if (!this.hasBranches) return;
-    const { steps } = this.app.run;
-    steps.forEach((step, index) => {
-      const to = step.place.step;
-      if (step.kind === "back" && step.back > 0 && to < first + count && index >= first) this.paintArc(context, index, to);
+    this.backs.forEach((index, order) => {
+      const to = this.app.run.steps[index].place.step;
+      if (to < first + count && index >= first) this.paintWay(context, index, to, order % TRACKS);
     });
   }
 
@@ -192,23 +198,29 @@ class Timeline {
     }
   }
 
-  /** From a reverse step to the event behind which it led. @private */
-  paintArc(context, from, to) {
+  /** The way from a reverse step to the event behind which it led. @private */
+  paintWay(context, from, to, track) {
     const { first, cell } = this.view;
+    const target = this.app.run.steps[to];
+    const isBranch = target.performs && target.place.takenBack !== Infinity;
     const [start, end] = [from, to].map((index) => (index - first + 0.5) * cell);
-    const [top, bottom] = [MARK_ROOM + 2 * LANE, MARK_ROOM + 2 * LANE + ARC_ROOM - 3];
+    const tip = MARK_ROOM + LANE * (isBranch ? 2 : 1);
+    const low = MARK_ROOM + 2 * LANE + 5 + (track * (ARC_ROOM - 8)) / (TRACKS - 1);
+    const turn = Math.min(4, Math.abs(start - end) / 2);
     context.globalAlpha = from <= this.app.step ? 1 : 0.45;
     context.strokeStyle = palette.back;
     context.fillStyle = palette.back;
-    context.lineWidth = 1.5;
+    context.lineWidth = 1.4;
     context.beginPath();
-    context.moveTo(start, top);
-    context.bezierCurveTo(start, bottom + 4, end, bottom + 4, end, MARK_ROOM + LANE + 7);
+    context.moveTo(start, MARK_ROOM + 2 * LANE);
+    context.arcTo(start, low, end, low, turn);
+    context.arcTo(end, low, end, tip, turn);
+    context.lineTo(end, tip + 5);
     context.stroke();
     context.beginPath();
-    context.moveTo(end, MARK_ROOM + LANE + 1);
-    context.lineTo(end - 4, MARK_ROOM + LANE + 8);
-    context.lineTo(end + 4, MARK_ROOM + LANE + 8);
+    context.moveTo(end, tip);
+    context.lineTo(end - 4, tip + 6);
+    context.lineTo(end + 4, tip + 6);
     context.fill();
     context.lineWidth = 1;
     context.globalAlpha = 1;
