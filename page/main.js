@@ -11,6 +11,7 @@ class App {
     this.start = run.root.snapshot.registers;
     /** @type {number} the place in the run: a step */
     this.step = run.steps.length - 1;
+    this.state.goTo(this.place);
     this.line = run.steps[this.step].line;
     /** @type {{text: string, watch: Watch, place: Place|null}|null} what was asked last, and the event that was told */
     this.asked = null;
@@ -19,8 +20,8 @@ class App {
     this.rings = [new RingPanel(this, "rx"), new RingPanel(this, "tx")];
     this.timeline = new Timeline(this);
     this.memory = new MemoryPanel(this);
-    this.panels = [this.timeline, new Wave(this, this.timeline), ...this.rings, new Present(this), new Registers(this),
-      this.memory, new Frames(this), new ScriptPanel(this)];
+    this.panels = [new ScriptPanel(this), this.timeline, new Wave(this, this.timeline), ...this.rings, new Present(this),
+      new Registers(this), this.memory, new Frames(this)];
     this.signals();
     this.listen();
   }
@@ -135,7 +136,7 @@ class App {
       const button = event.target.closest("[data-watch], button[data-step], [data-show]");
       if (!button || button.id === "who") return;
       if (button.dataset.watch) this.ask(button.dataset.watch);
-      else if (button.dataset.show) this.memory.show(Number(button.dataset.show), true);
+      else if (button.dataset.show) this.memory.showAt(Number(button.dataset.show));
       else this.goTo(Number(button.dataset.step));
     });
     document.addEventListener("keydown", (event) => this.keyed(event));
@@ -144,7 +145,11 @@ class App {
       readPalette();
       this.paint();
     });
-    new ResizeObserver(() => this.paint()).observe(byId("run"));
+    const observer = new ResizeObserver(() => {
+      widths.clear();
+      this.paint();
+    });
+    for (const id of ["overview", "analyser", "map"]) observer.observe(byId(id));
   }
 
   /** @private */
@@ -187,8 +192,8 @@ function begin() {
   ].join(" · "));
   byId("run").hidden = false;
   const app = new App(run);
-  app.goTo(Infinity);
   app.memory.showNewest();
+  app.paint();
 }
 
 try {

@@ -10,6 +10,15 @@ const MAP_KINDS = [
   ["touched", "", "changed by this step"],
 ];
 
+/** Whether an octet is not zero, by fours: the map's cells begin and end at multiples of four. @param {Uint8Array} octets */
+function hasOctets(octets) {
+  const words = new Uint32Array(octets.buffer, octets.byteOffset, octets.length >> 2);
+  for (let i = 0; i < words.length; i++) {
+    if (words[i] !== 0) return true;
+  }
+  return false;
+}
+
 class MemoryPanel {
   constructor(app) {
     this.app = app;
@@ -38,17 +47,23 @@ class MemoryPanel {
     const address = parseInt(box.value, 16);
     const is = /^(0x)?[0-9a-f]+$/i.test(box.value.trim()) && address < this.size;
     setAttribute(box, "aria-invalid", is ? null : "true");
-    if (is) this.show(address, true);
+    if (is) this.showAt(address);
   }
 
-  /** Shows the octets about an address. */
+  /** Shows the octets from an address on. */
+  showAt(address) {
+    this.show(address, true);
+    this.paint();
+  }
+
+  /** Sets what is shown: the octets about an address, which stay where they are if it is among them. */
   show(address, exact = false) {
     const across = this.across();
     this.focus = Math.max(0, Math.min(this.size - 1, address));
+    if (!exact && this.focus >= this.address && this.focus < this.address + ROWS_SHOWN * across) return;
     const row = Math.floor(this.focus / across) - (exact ? 0 : 2);
     const last = Math.floor(this.size / across) - ROWS_SHOWN;
     this.address = Math.max(0, Math.min(row, last)) * across;
-    this.paint();
   }
 
   across() {
@@ -84,10 +99,7 @@ class MemoryPanel {
   follow() {
     const { place, changes } = this.app;
     if (!changes || !place.memory.length || !byId("follow").checked) return;
-    const [address, before] = place.memory[0];
-    const end = this.address + ROWS_SHOWN * this.across();
-    if (address >= this.address && address + before.length / 2 <= end) return;
-    this.show(address);
+    this.show(place.memory[0][0]);
   }
 
   paint() {
@@ -124,6 +136,10 @@ class MemoryPanel {
       const at = address + index;
       const lit = octet !== old;
       changedInRow ||= lit;
+      letters += octet >= 0x20 && octet < 0x7F ? String.fromCharCode(octet) : ".";
+      const key = `${octet} ${old} ${at} ${at === this.focus} ${this.isSelected(at)}`;
+      if (key === cell.key) return;
+      cell.key = key;
       setText(cell.now, PAIRS[octet]);
       setText(cell.old, lit ? PAIRS[old] : "");
       const { element } = cell;
@@ -133,7 +149,6 @@ class MemoryPanel {
       setAttribute(element, "tabindex", at === this.focus ? 0 : -1);
       setAttribute(element, "data-selected", this.isSelected(at) ? "" : null);
       setAttribute(element, "aria-label", `${addressText(at)}: ${PAIRS[octet]}${lit ? `, was ${PAIRS[old]}` : ""}`);
-      letters += octet >= 0x20 && octet < 0x7F ? String.fromCharCode(octet) : ".";
     });
     setAttribute(row.element, "data-changed", changedInRow ? "" : null);
     setText(row.letters, letters);
@@ -170,7 +185,7 @@ class MemoryPanel {
     const { columns, rows } = this.shape(box.width);
     const column = Math.floor(((event.clientX - box.left) / box.width) * columns);
     const row = Math.floor(((event.clientY - box.top) / box.height) * rows);
-    this.show(Math.min(this.size - 1, (row * columns + column) * (this.size / MAP_CELLS)), true);
+    this.showAt(Math.min(this.size - 1, (row * columns + column) * (this.size / MAP_CELLS)));
   }
 
   /** @private */
@@ -225,7 +240,7 @@ class MemoryPanel {
 
   /** @private */
   paintMap() {
-    const { columns, rows, side } = this.shape(this.map.clientWidth);
+    const { columns, rows, side } = this.shape(widthOf(this.map));
     const { context, width } = sized(this.map, rows * side);
     const across = width / columns;
     const cell = this.size / MAP_CELLS;
@@ -236,7 +251,11 @@ class MemoryPanel {
         context.fillRect(x + 0.5, y + 0.5, across - 1, side - 1);
       }
     };
-    fill("zero", 0, this.size);
+    context.fillStyle = palette["map-zero"];
+    context.fillRect(0, 0, width, rows * side);
+    context.fillStyle = palette.panel;
+    for (let column = 0; column <= columns; column++) context.fillRect(column * across - 0.5, 0, 1, rows * side);
+    for (let row = 0; row <= rows; row++) context.fillRect(0, row * side - 0.5, width, 1);
     this.filledCells(cell).forEach((index) => fill("filled", index * cell, (index + 1) * cell));
     for (const wanted of ["buffer", "ring", "touched"]) {
       for (const { kind, at, size } of this.shownParts) {
@@ -261,7 +280,7 @@ class MemoryPanel {
         const octets = pages[page];
         if (!octets) continue;
         const part = octets.subarray(Math.max(0, from - page * PAGE_OCTETS), end - page * PAGE_OCTETS);
-        if (part.some((octet) => octet !== 0)) {
+        if (hasOctets(part)) {
           found.push(index);
           break;
         }

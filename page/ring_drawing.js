@@ -24,6 +24,7 @@ function ringDrawing(app, { ring, shown, first }) {
   buffers.forEach((buffer, row) => drawing.append(
     ...bufferParts(app, ring, buffer, row, buffers.length, turnOf, (one) => tracks.get(one.index) ?? 0)));
   const within = (index) => index >= first && index < first + parts;
+  if (!buffers.length) drawing.append(draw("text", { x: 300, y: DRAWING.middle + 4, class: "none" }, "no buffer is in use"));
   const isOne = ring.head === ring.tail;
   if (within(ring.tail) && !isOne) drawing.append(...hand("tail", "tail", turnOf(ring.tail)));
   if (within(ring.head)) drawing.append(...hand("head", isOne ? "head = tail" : "head", turnOf(ring.head)));
@@ -43,7 +44,7 @@ function cell(app, ring, one, from, to) {
   const path = `M${pointText(onCircle(start, DRAWING.outer))}A${DRAWING.outer} ${DRAWING.outer} 0 ${big} 1 `
     + `${pointText(onCircle(end, DRAWING.outer))}L${pointText(onCircle(end, DRAWING.inner))}A${DRAWING.inner} `
     + `${DRAWING.inner} 0 ${big} 0 ${pointText(onCircle(start, DRAWING.inner))}Z`;
-  const isDone = ring.side === "rx" ? one.octets && one.octets[12] & 1 : one.octets && one.octets[12] & 1;
+  const isDone = one.octets && one.octets[12] & 1;
   const group = draw("g", { class: `cell ${one.owner}${one.trouble ? " wrong" : ""}` }, draw("path", { d: path }));
   const [x, y] = onCircle((from + to) / 2, (DRAWING.inner + DRAWING.outer) / 2);
   const changes = app.changes && one.octets

@@ -130,7 +130,6 @@ class RingPanel {
     this.app = app;
     this.side = side;
     this.element = byId(side);
-    this.chosen = 0;
   }
 
   paint() {
@@ -141,6 +140,9 @@ class RingPanel {
     setAttribute(this.element, "data-head", ring.head);
     setAttribute(this.element, "data-tail", ring.tail);
     setAttribute(this.element, "data-count", ring.count);
+    const key = this.key(view);
+    if (key === this.shownKey) return;
+    this.shownKey = key;
     if (ring.count === 0) {
       this.element.replaceChildren();
       return;
@@ -148,6 +150,14 @@ class RingPanel {
     const held = this.element.contains(document.activeElement) ? document.activeElement.dataset.place : null;
     this.element.replaceChildren(ringDrawing(this.app, view), this.table(view));
     if (held) this.element.querySelector(`[data-place="${held}"]`)?.focus({ preventScroll: true });
+  }
+
+  /** All that the drawing and the table go by. @private */
+  key({ ring, shown }) {
+    const { app } = this;
+    const octets = shown.map((one) => `${one.octets ? digitsOf(one.octets) : "-"} ${one.trouble}`);
+    const touched = app.changes ? app.place.memory.map(([address, before]) => `${address} ${before.length}`) : [];
+    return [ring.base, ring.count, ring.head, ring.tail, ring.buffer, ring.enabled, ...octets, ...touched].join();
   }
 
   /** @private */

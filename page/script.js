@@ -11,13 +11,22 @@ class ScriptPanel {
     this.room = byId("script-room");
     this.room.style.setProperty("height", `${LINE_HEIGHT * app.run.script.length}px`);
     this.made = new Map();
-    this.element.addEventListener("scroll", () => this.fill());
+    // where it is scrolled to and how tall it is: to ask for it at each step would lay the page out again
+    this.top = 0;
+    this.height = this.element.clientHeight;
+    this.element.addEventListener("scroll", () => {
+      this.top = this.element.scrollTop;
+      this.fill();
+    });
     this.element.addEventListener("click", (event) => {
       const line = event.target.closest("[data-line]");
       if (line) this.choose(Number(line.dataset.line));
     });
     this.element.addEventListener("keydown", (event) => this.keyed(event));
-    new ResizeObserver(() => this.fill()).observe(this.element);
+    new ResizeObserver(() => {
+      this.height = this.element.clientHeight;
+      this.fill();
+    }).observe(this.element);
   }
 
   /** Goes to the state behind a line. A comment's is that of the line before it. */
@@ -40,9 +49,13 @@ class ScriptPanel {
   paint() {
     const { line } = this.app;
     const top = (line - 1) * LINE_HEIGHT;
-    const { scrollTop, clientHeight } = this.element;
-    if (line > 0 && (top < scrollTop + LINE_HEIGHT || top > scrollTop + clientHeight - 3 * LINE_HEIGHT)) {
-      this.element.scrollTop = Math.max(0, top - clientHeight / 2);
+    if (line > 0 && (top < this.top + LINE_HEIGHT || top > this.top + this.height - 3 * LINE_HEIGHT)) {
+      const most = LINE_HEIGHT * this.app.run.script.length - this.height;
+      const wanted = Math.round(Math.max(0, Math.min(most, top - this.height / 2)));
+      if (wanted !== this.top) {
+        this.top = wanted;
+        this.element.scrollTop = wanted;
+      }
     }
     this.fill();
     for (const [number, option] of this.made) this.paintLine(number, option);
@@ -51,9 +64,8 @@ class ScriptPanel {
 
   /** Makes the lines that can be seen, and drops the others. @private */
   fill() {
-    const { scrollTop, clientHeight } = this.element;
-    const first = Math.max(1, Math.floor(scrollTop / LINE_HEIGHT) + 1 - SPARE_LINES);
-    const last = Math.min(this.app.run.script.length, Math.ceil((scrollTop + clientHeight) / LINE_HEIGHT) + SPARE_LINES);
+    const first = Math.max(1, Math.floor(this.top / LINE_HEIGHT) + 1 - SPARE_LINES);
+    const last = Math.min(this.app.run.script.length, Math.ceil((this.top + this.height) / LINE_HEIGHT) + SPARE_LINES);
     for (const [number, option] of this.made) {
       if (number < first || number > last) {
         option.remove();

@@ -11,6 +11,7 @@ const CELLS = [3, 5, 8, 12, 18, 28];
 const WIDEST_CELL = 48;
 const LANE = 20;
 const MARK_ROOM = 12;
+const OVERVIEW_HEIGHT = 30;
 const ARC_ROOM = 18;
 /** How many reverse steps next to each other have lines of their own. */
 const TRACKS = 3;
@@ -23,18 +24,27 @@ const COLOURS = ["ink", "dim", "line", "panel", "accent", "bad", "warn", "back",
 
 function readPalette() {
   const style = getComputedStyle(document.documentElement);
+  palette.version = (palette.version ?? 0) + 1;
   for (const name of COLOURS) palette[name] = style.getPropertyValue(`--${name}`).trim();
 }
 
+/** By canvas, how wide it is shown. To ask for it at each step would lay the page out several times. */
+const widths = new Map();
+
+/** How wide a canvas is shown, in points. */
+function widthOf(canvas) {
+  if (!widths.has(canvas)) widths.set(canvas, canvas.clientWidth);
+  return widths.get(canvas);
+}
+
 /** Makes a canvas as large as it is shown, and gives its context in points. */
-function sized(canvas, height) {
+function sized(canvas, height, width = widthOf(canvas)) {
   const ratio = window.devicePixelRatio || 1;
-  const width = canvas.clientWidth;
   const [across, down] = [Math.round(width * ratio), Math.round(height * ratio)];
   if (canvas.width !== across || canvas.height !== down) {
     canvas.width = across;
     canvas.height = down;
-    canvas.style.setProperty("height", `${height}px`);
+    if (canvas.style) canvas.style.setProperty("height", `${height}px`);
   }
   const context = canvas.getContext("2d");
   context.setTransform(ratio, 0, 0, ratio, 0, 0);
@@ -85,7 +95,8 @@ class Timeline {
       ...Object.entries(KINDS).filter(([kind]) => there.has(kind) && kind !== "start").map(([kind, [letter, words]]) =>
         make("li", {}, make("span", { class: `tick kind-${kind}` }, letter), words)),
       ...Object.entries(MARKS).filter(([mark]) => marks.has(mark)).map(([mark, [sign, words]]) =>
-        make("li", {}, make("span", { class: `tick mark-${mark}` }, sign), words)));
+        make("li", {}, make("span", { class: `tick mark-${mark}` }, sign), words)),
+      make("li", {}, make("span", { class: "masked", "aria-hidden": "true" }), "under a cause: IMS lets it through"));
   }
 
   zoomBy(by) {
@@ -124,7 +135,7 @@ class Timeline {
 
   paint() {
     const { app } = this;
-    this.look(this.analyser.clientWidth);
+    this.look(widthOf(this.analyser));
     this.slider.value = String(app.step);
     setAttribute(this.slider, "aria-valuetext", app.stepText());
     setText(byId("where"), `event ${app.place.number} · step ${app.step} of ${app.run.steps.length - 1}`);
@@ -139,8 +150,25 @@ class Timeline {
   /** @private */
   paintOverview() {
     const { run, step } = this.app;
-    const { context, width } = sized(this.overview, 30);
+    const { context, width } = sized(this.overview, OVERVIEW_HEIGHT);
     const apart = width / run.steps.length;
+    context.drawImage(this.wholeRun(width), 0, 0, width, OVERVIEW_HEIGHT);
+    const { first, count } = this.view;
+    context.strokeStyle = palette.dim;
+    context.strokeRect(first * apart + 0.5, 0.5, Math.max(2, count * apart - 1), OVERVIEW_HEIGHT - 1);
+    context.fillStyle = palette.accent;
+    context.fillRect(Math.min(width - 2, (step + 0.5) * apart - 1), 0, 2, OVERVIEW_HEIGHT);
+  }
+
+  /** The whole run as a picture, which is drawn once for each width and scheme. @private */
+  wholeRun(width) {
+    const key = `${width} ${palette.version} ${window.devicePixelRatio}`;
+    if (this.pictureKey === key) return this.picture;
+    const { run } = this.app;
+    const apart = width / run.steps.length;
+    this.pictureKey = key;
+    this.picture = new OffscreenCanvas(1, 1);
+    const { context } = sized(this.picture, OVERVIEW_HEIGHT, width);
     const wide = Math.max(1, apart - (apart > 3 ? 1 : 0));
     // the marks last, so that none is hidden where steps stand close together
     run.steps.forEach(({ kind, place, performs }, index) => {
@@ -153,11 +181,7 @@ class Timeline {
       context.fillStyle = palette[mark === "dropped" ? "warn" : "bad"];
       context.fillRect(index * apart, 1, Math.max(2, wide), 5);
     });
-    const { first, count } = this.view;
-    context.strokeStyle = palette.dim;
-    context.strokeRect(first * apart + 0.5, 0.5, Math.max(2, count * apart - 1), 29);
-    context.fillStyle = palette.accent;
-    context.fillRect(Math.min(width - 2, (step + 0.5) * apart - 1), 0, 2, 30);
+    return this.picture;
   }
 
   /** Draws the steps at the top of the analyser. */
