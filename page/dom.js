@@ -41,6 +41,33 @@ function setAttribute(element, name, value) {
 }
 
 /**
+ * Makes an element's children like those of another list, and changes only what differs: what stays is not laid out again,
+ * and keeps the focus.
+ * @param {Element} element @param {Node[]} children
+ */
+function become(element, children) {
+  const there = [...element.childNodes];
+  children.forEach((child, index) => {
+    if (index < there.length) morph(there[index], child);
+    else element.append(child);
+  });
+  for (const child of there.slice(children.length)) child.remove();
+}
+
+/** @param {Node} old in the page @param {Node} fresh outside it */
+function morph(old, fresh) {
+  if (old.nodeName !== fresh.nodeName) {
+    old.replaceWith(fresh);
+  } else if (old.nodeType === Node.TEXT_NODE) {
+    if (old.data !== fresh.data) old.data = fresh.data;
+  } else {
+    for (const { name } of [...old.attributes]) if (!fresh.hasAttribute(name)) old.removeAttribute(name);
+    for (const { name, value } of fresh.attributes) if (old.getAttribute(name) !== value) old.setAttribute(name, value);
+    become(old, [...fresh.childNodes]);
+  }
+}
+
+/**
  * A button that asks who changed something. What it asks about stands in `data-watch`; main.js listens for its click.
  * @param {string} watch
  * @param {Object<string, string|number|boolean|null>} attributes

@@ -77,9 +77,8 @@ class MemoryPanel {
     this.rows = Array.from({ length: ROWS_SHOWN }, () => {
       const address = make("span", { class: "address", role: "rowheader" });
       const cells = Array.from({ length: across }, () => {
-        const now = make("span", { class: "now" });
-        const old = make("span", { class: "old" });
-        return { now, old, element: make("button", { type: "button", class: "octet", role: "gridcell", tabindex: "-1" }, old, now) };
+        const text = document.createTextNode("");
+        return { text, element: make("span", { class: "octet", role: "gridcell", tabindex: "-1" }, text), key: "" };
       });
       const letters = make("span", { class: "letters", "aria-hidden": "true" });
       const element = make("div", { class: "octets-row", role: "row" }, address, ...cells.map((cell) => cell.element), letters);
@@ -140,11 +139,11 @@ class MemoryPanel {
       const key = `${octet} ${old} ${at} ${at === this.focus} ${this.isSelected(at)}`;
       if (key === cell.key) return;
       cell.key = key;
-      setText(cell.now, PAIRS[octet]);
-      setText(cell.old, lit ? PAIRS[old] : "");
+      cell.text.nodeValue = PAIRS[octet];
       const { element } = cell;
       setAttribute(element, "data-watch", `octets ${at} 1`);
       setAttribute(element, "data-changed", lit ? "" : null);
+      setAttribute(element, "data-old", lit ? PAIRS[old] : null);
       setAttribute(element, "data-zero", octet === 0 ? "" : null);
       setAttribute(element, "tabindex", at === this.focus ? 0 : -1);
       setAttribute(element, "data-selected", this.isSelected(at) ? "" : null);
@@ -163,6 +162,7 @@ class MemoryPanel {
 
   /** @private */
   keyed(event) {
+    if (event.key === "Enter" && event.target.dataset.watch) this.app.ask(event.target.dataset.watch);
     const across = this.across();
     const by = { ArrowLeft: -1, ArrowRight: 1, ArrowUp: -across, ArrowDown: across, PageUp: -ROWS_SHOWN * across,
       PageDown: ROWS_SHOWN * across }[event.key];
@@ -232,10 +232,10 @@ class MemoryPanel {
     const key = order.map(({ words, at, size }) => `${words} ${at} ${size}`).join();
     if (key === this.regionsKey) return;
     this.regionsKey = key;
-    byId("regions").replaceChildren(...order.slice(0, most).map(({ kind, words, at, size }) =>
+    become(byId("regions"), [...order.slice(0, most).map(({ kind, words, at, size }) =>
       make("button", { type: "button", class: `region map-${kind}`, "data-show": at }, make("span", {}, words),
         ` ${addressText(at)}–${addressText(at + BigInt(size) - 1n)}`)),
-    ...(order.length > most ? [make("span", { class: "quiet" }, `and ${order.length - most} more`)] : []));
+    ...(order.length > most ? [make("span", { class: "quiet" }, `and ${order.length - most} more`)] : [])]);
   }
 
   /** @private */

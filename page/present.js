@@ -28,7 +28,7 @@ class Present {
       parts.push(make("p", { class: "note" }, `↶ back behind ${place.number ? `event ${place.number}` : "the start"}`));
     }
     parts.push(this.changes(now));
-    this.element.replaceChildren(...parts);
+    become(this.element, parts);
   }
 
   /** @private */

@@ -147,9 +147,10 @@ class RingPanel {
       this.element.replaceChildren();
       return;
     }
-    const held = this.element.contains(document.activeElement) ? document.activeElement.dataset.place : null;
-    this.element.replaceChildren(ringDrawing(this.app, view), this.table(view));
-    if (held) this.element.querySelector(`[data-place="${held}"]`)?.focus({ preventScroll: true });
+    const drawing = ringDrawing(this.app, view);
+    if (this.element.firstChild) morph(this.element.firstChild, drawing);
+    else this.element.replaceChildren(drawing, this.table());
+    this.paintRows(view);
   }
 
   /** All that the drawing and the table go by. @private */
@@ -171,11 +172,34 @@ class RingPanel {
   }
 
   /** @private */
-  table({ ring, shown }) {
+  table() {
     const names = ["#", "whose", "buffer", "length", "bits"];
     const head = make("tr", {}, ...names.map((name) => make("th", { scope: "col" }, name)));
-    return make("div", { class: "scroll" }, make("table", { class: "descriptors" }, make("thead", {}, head),
-      make("tbody", {}, ...shown.map((one) => this.row(ring, one)))));
+    this.body = make("tbody", {});
+    this.rowKeys = [];
+    return make("div", { class: "scroll" }, make("table", { class: "descriptors" }, make("thead", {}, head), this.body));
+  }
+
+  /** Makes the rows that differ from those that stand there. @private */
+  paintRows({ ring, shown }) {
+    shown.forEach((one, row) => {
+      const { index, owner, octets, trouble } = one;
+      const touched = this.touches(one, 0, DESCRIPTOR_OCTETS) ? this.app.step : "";
+      const key = [ring.base, index, owner, octets && digitsOf(octets), trouble, index === ring.head, index === ring.tail, touched].join();
+      if (key === this.rowKeys[row]) return;
+      this.rowKeys[row] = key;
+      const fresh = this.row(ring, one);
+      if (this.body.children[row]) morph(this.body.children[row], fresh);
+      else this.body.append(fresh);
+    });
+    while (this.body.children.length > shown.length) this.body.lastChild.remove();
+    this.rowKeys.length = shown.length;
+  }
+
+  /** Whether the present step changed octets of a descriptor. @private */
+  touches(one, first, count) {
+    return this.app.changes && one.octets !== null
+      && this.app.place.memory.some((piece) => changedWithin(piece, Number(one.address) + first, count));
   }
 
   /** @private */
@@ -205,14 +229,13 @@ class RingPanel {
     const address = Number(one.address) + first;
     const value = littleEndian(one.octets, first, count);
     const text = name === "length" ? String(value) : name === "buffer" ? addressText(value) : hex(value, 2 * count);
-    return this.ask(one, name, address, count, text);
+    return this.ask(one, name, address, count, text, this.touches(one, first, count));
   }
 
   /** @private */
-  ask(one, name, address, count, text) {
-    const lit = this.app.changes && this.app.place.memory.some((piece) => changedWithin(piece, address, count));
+  ask(one, name, address, count, text, lit) {
     return askButton(`octets ${address} ${count}`, {
-      class: "field", "data-field": name, "data-place": `${one.index}-${name}`, "data-changed": lit ? "" : null,
+      class: "field", "data-field": name, "data-changed": lit ? "" : null,
       title: `${this.fieldsText(one)}`,
       "aria-label": `descriptor ${one.index}, ${name} ${text}${lit ? ", changed by this step" : ""}: who changed it last?`,
     }, text);
@@ -223,11 +246,10 @@ class RingPanel {
     return DESCRIPTOR_FIELDS[this.side].slice(2).flatMap(([name, first, count]) => {
       const names = bitNamesOf(this.side, name);
       const value = Number(littleEndian(one.octets, first, count));
-      const lit = this.app.changes
-        && this.app.place.memory.some((piece) => changedWithin(piece, Number(one.address) + first, count));
+      const lit = this.touches(one, first, count);
       if (value === 0 && !lit && name !== "status") return [];
       const set = names ? names.filter((_, bit) => (value >>> bit) & 1).join(" ") : hex(value, 2 * count);
-      return [this.ask(one, name, Number(one.address) + first, count, `${name} ${set || "–"}`)];
+      return [this.ask(one, name, Number(one.address) + first, count, `${name} ${set || "–"}`, lit)];
     });
   }
 

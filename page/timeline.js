@@ -33,7 +33,8 @@ const widths = new Map();
 
 /** How wide a canvas is shown, in points. */
 function widthOf(canvas) {
-  if (!widths.has(canvas)) widths.set(canvas, canvas.clientWidth);
+  // (in a window without room it has none, and a picture needs some)
+  if (!widths.has(canvas)) widths.set(canvas, Math.max(1, canvas.clientWidth));
   return widths.get(canvas);
 }
 
