@@ -65,7 +65,7 @@ class App {
   /** @private */
   answer(watch, found, isAgain) {
     const element = byId("who");
-    setAttribute(element, "data-watch", this.asked.text);
+    setAttribute(element, "data-asked", this.asked.text);
     setAttribute(element, "data-event", found ? found.number : "none");
     setAttribute(element, "data-line", found ? found.line : null);
     if (!found) {
@@ -134,7 +134,7 @@ class App {
   listen() {
     document.addEventListener("click", (event) => {
       const button = event.target.closest("[data-watch], button[data-step], [data-show]");
-      if (!button || button.id === "who") return;
+      if (!button) return;
       if (button.dataset.watch) this.ask(button.dataset.watch);
       else if (button.dataset.show) this.memory.showAt(Number(button.dataset.show));
       else this.goTo(Number(button.dataset.step));

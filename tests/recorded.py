@@ -1,5 +1,5 @@
 """Makes the record of a run, as em_record writes it, by the second reading: each event's effect is the difference of the
-copies of the states before and after it."""
+copies of the states before and after it. `walk` gives the states themselves."""
 import json
 import re
 
@@ -62,45 +62,74 @@ def effect(number: int, before: State, after: State, stored: bool) -> dict:
     return made
 
 
-def record(script: str, memory: int = 65536, budget: int = 1_048_576, mac: str = "525400123456") -> dict:
-    """The record of a script, by one character for each octet."""
-    session, standing, played = Session(memory, budget, mac), 0, []
-    start = shown(session.now)
-    lines = script.split("\n")
-    lines = lines if lines[-1] else lines[:-1]
-    for number, line in enumerate(lines, 1):
-        words, made = [word for word in re.split("[ \t\r]+", line) if word], {"line": number, "answer": [], "events": []}
-        if words and not words[0].startswith("#"):
+class Event:
+    """An event that was performed: the state behind it, and the event before it; the root, number 0, is the start."""
+
+    def __init__(self, state: State, before: "Event | None", line: int) -> None:
+        self.state, self.before, self.line = state, before, line
+        self.number = before.number + 1 if before else 0
+
+
+class Played:
+    """A line that was played: what it said (None for a bad line), its events, and how many it took back."""
+
+    def __init__(self, number: int, words: list[str]) -> None:
+        self.number, self.words, self.said, self.events, self.back = number, words, [], [], None
+        # the newest event that stands behind it
+        self.newest = None
+
+
+def walk(script: str, **settings) -> tuple[Event, list[Played]]:
+    """Plays a script by the second reading: the start, and each line."""
+    session, lines, played = Session(**settings), script.split("\n"), []
+    root = newest = Event(session.now, None, 0)
+    for number, text in enumerate(lines if lines[-1] else lines[:-1], 1):
+        line = Played(number, [word for word in re.split("[ \t\r]+", text) if word])
+        if line.words and not line.words[0].startswith("#"):
             session.begins(number)
             performed, held = session.performed, len(session.past)
-            said = session.line(words)
-            made["answer"] = [f"bad line {number}"] if said is None else said
-            if said is None:
-                made["bad"] = True
-            elif said[0].startswith(("refused", "stopped")):
-                made["refused"] = said[0].split()[-1]
-            elif words[0] == "back":
-                made["back"] = held - len(session.past)
-                standing -= made["back"]
+            line.said = session.line(line.words)
+            if line.said is not None and line.words[0] == "back" and not line.said[0].startswith("refused"):
+                line.back = held - len(session.past)
+                for _ in range(line.back):
+                    newest = newest.before
             count = session.performed - performed
-            states = [state for state, _ in session.past[len(session.past) - count:]] + [session.now]
-            assert len(states) == count + 1, "the journal dropped an event of this line"
-            is_stored = words[0] == "arrive" and made["answer"] == ["stored"]
-            made["events"] = [effect(standing + k + 1, states[k], states[k + 1], is_stored) for k in range(count)]
-            standing += count
-        played.append({key: made[key] for key in ("line", "answer", "refused", "bad", "back", "events") if key in made})
+            assert count <= len(session.past), "the journal dropped an event of this line"
+            states = [state for state, _ in session.past[len(session.past) - count :]] + [session.now]
+            for state in states[1:]:
+                newest = Event(state, newest, number)
+                line.events.append(newest)
+        line.newest = newest
+        played.append(line)
+    return root, played
+
+
+def told(line: Played) -> dict:
+    """A line as the record has it."""
+    made = {"line": line.number, "answer": [f"bad line {line.number}"] if line.said is None else line.said}
+    if line.said is None:
+        made["bad"] = True
+    elif line.said and line.said[0].startswith(("refused", "stopped")):
+        made["refused"] = line.said[0].split()[-1]
+    if line.back is not None:
+        made["back"] = line.back
+    is_stored = line.words[:1] == ["arrive"] and line.said == ["stored"]
+    return made | {"events": [effect(one.number, one.before.state, one.state, is_stored) for one in line.events]}
+
+
+def record(script: str, memory: int = 65536, budget: int = 1_048_576, mac: str = "525400123456") -> dict:
+    """The record of a script, by one character for each octet."""
+    settings = {"memory": memory, "budget": budget, "mac": mac}
+    root, played = walk(script, **settings)
+    lines = script.split("\n")
+    texts = [line.encode("latin-1").decode(errors="replace") for line in (lines if lines[-1] else lines[:-1])]
     return {
-        "format": "bunjelav recording", "version": 1, "settings": {"memory": memory, "budget": budget, "mac": mac},
-        "script": [line.encode("latin-1").decode(errors="replace") for line in lines], "start": {"registers": start},
-        "lines": played, "end": {"events": standing, "lines": len(played)},
+        "format": "bunjelav recording", "version": 1, "settings": settings, "script": texts,
+        "start": {"registers": shown(root.state)}, "lines": [told(line) for line in played],
+        "end": {"events": played[-1].newest.number if played else 0, "lines": len(played)},
     }
 
 
 def recording(script: bytes, **settings) -> bytes:
     """The same as JSON."""
     return json.dumps(record(script.decode("latin-1"), **settings), ensure_ascii=False, separators=(",", ":")).encode()
-
-
-if __name__ == "__main__":
-    import sys
-    sys.stdout.buffer.write(recording(open(sys.argv[1], "rb").read()))
