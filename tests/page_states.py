@@ -10,6 +10,8 @@ from recorded import Event, interrupts, walk
 from tally import Tally, run
 
 STEPS, QUESTIONS, RINGS = 50, 14, 8
+LARGER = {"acknowledged-first.em", "broken-ring.em", "driver.em", "reset.em", "ring.em", "tail-too-early.em", "transmit.em",
+          "why-dropped.em"}
 SHOWN_OCTETS = 256
 NAMES = dict(registers())
 OFFSETS = {name: offset for offset, name in NAMES.items()}
@@ -133,14 +135,33 @@ def descriptors_told(lines: list[str]) -> list[str]:
     return found
 
 
+def rings_told(script: str, numbers: list[int], room) -> dict[tuple[int, str], list[str]]:
+    """By event and side, what em_debug tells of a ring's descriptors."""
+    commands = [f"{word} {one}" for number in numbers for word, one in (("goto", number), ("ring", "rx"), ("ring", "tx"))]
+    told, key = {}, None
+    for line in by_debugger(script, commands, room):
+        at = re.match(r"at .*event (\d+)$", line)
+        ring = re.match(r"(rx|tx) ring at", line)
+        if at:
+            number = int(at[1])
+        elif ring:
+            key = number, ring[1]
+            told[key] = []
+        elif key:
+            told[key].append(line)
+    return {key: descriptors_told(lines) for key, lines in told.items()}
+
+
 def rings(tally: Tally, browser, name: str, script: str, steps: list, r: random.Random, room) -> None:
     """Each descriptor's owner, and what is wrong with it, as em_debug says at events that stand at the end."""
     at_event = standing(steps)
-    for number in r.sample(sorted(at_event), min(RINGS, len(at_event))):
+    numbers = r.sample(sorted(at_event), min(RINGS, len(at_event)))
+    told = rings_told(script, numbers, room)
+    for number in numbers:
         page = browser.run(LOOK, at_event[number], [])
         for side in ("rx", "tx"):
-            told = descriptors_told(by_debugger(script, [f"goto {number}", f"ring {side}"], room))
-            faults = [] if told == page[side] else [f"{set(page[side]) ^ set(told)} is not told alike"]
+            shown = told[number, side]
+            faults = [] if shown == page[side] else [f"{set(page[side]) ^ set(shown)} is not told alike"]
             tally.check(f"{name}, event {number}, ring {side}", faults)
 
 
@@ -218,8 +239,13 @@ def who_of_debugger(tally: Tally, browser, name: str, script: str, steps: list, 
                     [] if shown == named else [f"the page names {shown}, and em_debug {named}"])
 
 
-def check_states(tally: Tally, browser, room) -> None:
-    scripts = [(path.name, path.read_bytes().decode("latin-1")) for path in EXAMPLES] + scripts_at_random(82540)
+def scripts_of() -> list[tuple[str, str]]:
+    """The larger examples, and two made at random."""
+    examples = [path for path in EXAMPLES if path.name in LARGER]
+    return [(path.name, path.read_bytes().decode("latin-1")) for path in examples] + scripts_at_random(82540)
+
+
+def check_states(tally: Tally, browser, room, scripts: list[tuple[str, str]]) -> None:
     for name, script in scripts:
         r = random.Random(name)
         page = room / "states.html"

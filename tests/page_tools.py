@@ -46,12 +46,9 @@ class Frame:
 
 
 def scripts_at_random(seed: int) -> list[tuple[str, str]]:
-    """Two over rings and two with a driver, with a name for each."""
-    made = []
-    for number in range(seed, seed + 2):
-        for name, make in (("rings", over_rings), ("driver", driven)):
-            made.append((f"{name} {number}", "".join(f"{line}\n" for line in make(random.Random(number)))))
-    return made
+    """One over rings and one with a driver, with a name for each."""
+    return [(f"{name} {seed}", "".join(f"{line}\n" for line in make(random.Random(seed))))
+            for name, make in (("rings", over_rings), ("driver", driven))]
 
 
 class Step:
