@@ -56,6 +56,7 @@ class App {
     if (!isAgain) this.origin = this.step;
     const found = lastChange(isAgain ? this.place.before : this.place, watch);
     this.asked = { text, watch, place: found ?? (isAgain ? this.place : null) };
+    byId("who-help").hidden = true;
     if (found) this.goTo(found.step);
     if (watch.kind === "octets") this.memory.show(watch.address);
     this.answer(watch, found, isAgain);
@@ -68,23 +69,33 @@ class App {
     setAttribute(element, "data-asked", this.asked.text);
     setAttribute(element, "data-event", found ? found.number : "none");
     setAttribute(element, "data-line", found ? found.line : null);
+    const name = watchText(watch);
     if (!found) {
       setAttribute(element, "data-before", null);
       setAttribute(element, "data-after", null);
-      element.replaceChildren(make("b", {}, watchText(watch)), isAgain ? ": no earlier event changed it" : ": no event up to here changed it");
+      const none = isAgain ? "no earlier event changed it" : "no event up to here changed it";
+      element.replaceChildren(make("b", {}, name), `: ${none}`);
+      setText(byId("told"), `${name}: ${none}`);
       return;
     }
     const [before, after] = sights(this.state, watch);
     setAttribute(element, "data-before", before);
     setAttribute(element, "data-after", after);
+    const by = `event ${found.number}, line ${found.line}`;
     const text = visible(shortened(this.run.script[found.line - 1] ?? "", 60));
-    element.replaceChildren(make("b", {}, watchText(watch)), ` ${isAgain ? "before that " : ""}changed by event ${found.number}, line ${found.line}: `,
-      make("code", {}, text), " ", make("span", { class: "change" }, make("s", {}, shortened(before, 64)), " → ",
-        make("b", {}, shortened(after, 64))));
-    this.trail.unshift({ step: found.step, text: `${watchText(watch)} · event ${found.number}, line ${found.line}` });
-    this.trail.length = Math.min(this.trail.length, MOST_TRAIL);
+    element.replaceChildren(make("b", {}, name), `${isAgain ? " before that" : ""} changed by `,
+      make("button", { type: "button", "data-step": found.step }, by), ": ", make("code", {}, text), " ",
+      make("span", { class: "change" }, make("s", {}, shortened(before, 64)), " → ", make("b", {}, shortened(after, 64))));
+    setText(byId("told"), `${name}: ${by}: ${shortened(before, 16)} → ${shortened(after, 16)}`);
+    this.tell(name, by, found.step);
+  }
+
+  /** Keeps the answers before the last one, the newest first. @private */
+  tell(name, by, step) {
     byId("trail").replaceChildren(...this.trail.map((told) =>
       make("li", {}, make("button", { type: "button", "data-step": told.step }, told.text))));
+    this.trail.unshift({ step, text: `${name} · ${by}` });
+    this.trail.length = Math.min(this.trail.length, MOST_TRAIL);
   }
 
   /** What a step is, in words. */

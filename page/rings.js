@@ -81,8 +81,36 @@ function littleEndian(octets, first, count) {
 const overlap = (one, size, other, otherSize) =>
   size > 0 && otherSize > 0 && one < other + BigInt(otherSize) && other < one + BigInt(size);
 
-/** What is wrong with a live descriptor first, in the order of docs/inspect.md. @param {Descriptor[]} all of the ring */
-function troubleOf(state, ring, descriptor, all) {
+/**
+ * The buffers of live descriptors that lie within memory, if only in part, as index, address, size: of a long ring this is
+ * asked at each step.
+ * @returns {[number, number, number][]}
+ */
+function claimsOf(state, ring) {
+  const { memory } = state;
+  if (ring.base > BigInt(memory.size)) return [];
+  const base = Number(ring.base);
+  const inside = Math.min(ring.count, Math.floor((memory.size - base) / DESCRIPTOR_OCTETS));
+  const claims = [];
+  const isRx = ring.side === "rx";
+  for (let index = 0; index < inside; index++) {
+    const address = base + DESCRIPTOR_OCTETS * index;
+    // a ring lies at a multiple of 16, so no descriptor lies in two pages
+    const page = memory.pages[address >>> PAGE_BITS] ?? ZEROS;
+    const from = address & (PAGE_OCTETS - 1);
+    const isDone = isRx && (page[from + 12] & 1) !== 0;
+    if (!isDone && ownerOf(ring, index) === "driver") continue;
+    if (!isRx && (page[from + 11] & 0x20) !== 0) continue;
+    // (one that lies at 2^24 or past it lies outside memory)
+    if (page[from + 3] || page[from + 4] || page[from + 5] || page[from + 6] || page[from + 7]) continue;
+    const at = page[from] | (page[from + 1] << 8) | (page[from + 2] << 16);
+    claims.push([index, at, isRx ? ring.buffer : page[from + 8] | (page[from + 9] << 8)]);
+  }
+  return claims;
+}
+
+/** What is wrong with a live descriptor first, in the order of docs/inspect.md. @param {[number, number, number][]} claims */
+function troubleOf(state, ring, descriptor, claims) {
   const { at, size, live, index } = descriptor;
   if (!live) return "";
   if (ring.side === "tx") {
@@ -92,9 +120,9 @@ function troubleOf(state, ring, descriptor, all) {
   }
   if (at + BigInt(size) > BigInt(state.memory.size)) return "its buffer lies outside memory";
   if (overlap(at, size, ring.base, DESCRIPTOR_OCTETS * ring.count)) return "its buffer lies over the ring";
-  const other = all.find((one) =>
-    one.index !== index && one.live && !one.isExtended && overlap(at, size, one.at, one.size));
-  return other ? `its buffer lies over that of ${other.index}` : "";
+  const [from, end] = [Number(at), Number(at) + size];
+  const other = claims.find(([one, first, count]) => one !== index && count > 0 && first < end && from < first + count);
+  return other ? `its buffer lies over that of ${other[0]}` : "";
 }
 
 /** The first descriptor that is shown: all of a short ring, else those about the head. */
@@ -118,10 +146,11 @@ function bitNamesOf(side, field) {
 /** All that is shown of a ring. */
 function ringView(state, side) {
   const ring = ringOf(state, side);
-  const all = Array.from({ length: ring.count }, (_, index) => descriptorOf(state, ring, index));
   const first = shownFrom(ring);
-  const shown = all.slice(first, first + MOST_SHOWN);
-  for (const one of shown) if (one.octets) one.trouble = troubleOf(state, ring, one, all);
+  const count = Math.min(MOST_SHOWN, ring.count - first);
+  const shown = Array.from({ length: count }, (_, row) => descriptorOf(state, ring, first + row));
+  const claims = shown.some(({ live }) => live) ? claimsOf(state, ring) : [];
+  for (const one of shown) if (one.octets) one.trouble = troubleOf(state, ring, one, claims);
   return { ring, shown, first };
 }
 

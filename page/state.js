@@ -1,6 +1,9 @@
 // The adapter's state at a place of the run: it goes forward and back by what each event changed.
 
-const PAGE_OCTETS = 4096;
+const PAGE_BITS = 12;
+const PAGE_OCTETS = 1 << PAGE_BITS;
+/** A page that was never written. */
+const ZEROS = new Uint8Array(PAGE_OCTETS);
 /** Every so many events a snapshot is kept, from which a far place is reached. */
 const SNAPSHOT_EVERY = 256;
 
@@ -40,8 +43,8 @@ class Memory {
   }
 
   octet(address) {
-    const page = this.pages[Math.floor(address / PAGE_OCTETS)];
-    return page ? page[address % PAGE_OCTETS] : 0;
+    const page = this.pages[address >>> PAGE_BITS];
+    return page ? page[address & (PAGE_OCTETS - 1)] : 0;
   }
 
   /** @returns {Uint8Array} a copy; the range lies within memory */

@@ -66,9 +66,10 @@ class Wave {
   paint() {
     const top = this.timeline.height();
     const { context, width } = sized(byId("analyser"), top + ROW * this.rows.length);
-    this.paintPresent(context, top);
+    this.paintPresent(context, top, palette.shade, 0);
     this.timeline.paintSteps(context);
     this.rows.forEach((row, index) => this.paintRow(context, row, top + ROW * index, width));
+    this.paintPresent(context, top, palette.accent, this.timeline.view.cell - 1.5);
     this.rows.forEach((row) => this.paintName(row));
   }
 
@@ -86,14 +87,11 @@ class Wave {
     }
   }
 
-  /** The place where one is, from the steps down over every signal. @private */
-  paintPresent(context, top) {
+  /** The place where one is, from the steps down over every signal: its ground, or the line behind it. @private */
+  paintPresent(context, top, colour, from) {
     const { first, cell } = this.timeline.view;
-    const x = (this.app.step - first) * cell;
-    context.fillStyle = palette.shade;
-    context.fillRect(x, 0, cell, top + ROW * this.rows.length);
-    context.fillStyle = palette.accent;
-    context.fillRect(x + cell - 1, 0, 1.5, top + ROW * this.rows.length);
+    context.fillStyle = colour;
+    context.fillRect((this.app.step - first) * cell + from, 0, cell - from, top + ROW * this.rows.length);
   }
 
   /** @private */
