@@ -1,5 +1,7 @@
 // A ring as a drawing: a circle of cells, head and tail as its hands, and arrows from live descriptors to their buffers.
 
+/** The most arrows that lead to one buffer: more would hide it. */
+const MOST_ARROWS = 6;
 const DRAWING = { width: 480, height: 240, middle: 120, outer: 88, inner: 56, track: 94, apart: 4 };
 
 /** A point on the circle; cell 0 begins at the top, and they go clockwise. */
@@ -20,7 +22,7 @@ function ringDrawing(app, { ring, shown, first }) {
   const drawing = draw("svg", { viewBox: `0 0 ${DRAWING.width} ${DRAWING.height}`, role: "img", "aria-label": title, class: "drawing" });
   drawing.append(arrowTip(ring.side, "tip"), arrowTip(ring.side, "bad-tip"));
   for (const one of shown) drawing.append(cell(app, ring, one, (one.index - first) / parts, (one.index - first + 1) / parts));
-  const tracks = tracksOf(buffers.flatMap(({ of }) => of), turnOf);
+  const tracks = tracksOf(buffers.flatMap(({ of }) => of.slice(0, MOST_ARROWS)), turnOf);
   buffers.forEach((buffer, row) => drawing.append(
     ...bufferParts(app, ring, buffer, row, buffers.length, turnOf, (one) => tracks.get(one.index) ?? 0)));
   const within = (index) => index >= first && index < first + parts;
@@ -93,7 +95,7 @@ function bufferParts(app, ring, { at, size, of }, row, rows, turnOf, trackOf) {
   const wrong = of.find(({ trouble }) => trouble.includes("buffer"));
   const touched = app.changes && at + BigInt(size) <= BigInt(app.state.memory.size)
     && app.place.memory.some((piece) => changedWithin(piece, Number(at), size));
-  const parts = of.map((one) => draw("path", {
+  const parts = of.slice(0, MOST_ARROWS).map((one) => draw("path", {
     d: arrowPath(turnOf(one.index), trackOf(one), left - 1, top + height / 2), class: wrong ? "arrow wrong" : "arrow",
     "marker-end": `url(#${ring.side}-${wrong ? "bad-tip" : "tip"})`,
   }));

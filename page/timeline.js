@@ -188,7 +188,17 @@ class Timeline {
   /** Draws the steps at the top of the analyser. */
   paintSteps(context) {
     const { first, count, cell } = this.view;
+    context.textAlign = "center";
+    context.textBaseline = "middle";
+    context.font = "bold 11px ui-monospace, monospace";
     for (let index = first; index < first + count; index++) this.paintStep(context, index, (index - first) * cell);
+    context.font = "bold 13px ui-monospace, monospace";
+    for (let index = first; index < first + count; index++) {
+      const { mark } = this.app.run.steps[index];
+      if (!mark) continue;
+      context.fillStyle = palette[mark === "dropped" ? "warn" : "bad"];
+      context.fillText(MARKS[mark][0], (index - first + 0.5) * cell, MARK_ROOM / 2 + 1);
+    }
     if (!this.hasBranches) return;
     this.backs.forEach((index, order) => {
       const to = this.app.run.steps[index].place.step;
@@ -200,7 +210,7 @@ class Timeline {
   paintStep(context, index, x) {
     const { run, step: present } = this.app;
     const { cell } = this.view;
-    const { kind, mark, performs, place } = run.steps[index];
+    const { kind, performs, place } = run.steps[index];
     const isBranch = performs ? place.takenBack !== Infinity : kind === "back";
     const y = MARK_ROOM + (isBranch ? LANE : 0);
     const gap = cell >= 8 ? 1 : 0.5;
@@ -208,19 +218,11 @@ class Timeline {
     context.fillStyle = palette[`kind-${kind}`];
     if (kind === "look" || kind === "start") context.fillRect(x + cell / 2 - 1, y + 5, 2, LANE - 10);
     else context.fillRect(x + gap, y + 1, cell - 2 * gap, LANE - 2);
-    context.textAlign = "center";
-    context.textBaseline = "middle";
     if (cell >= 11 && kind !== "look" && kind !== "start") {
-      context.font = "bold 11px ui-monospace, monospace";
       context.fillStyle = palette.panel;
       context.fillText(KINDS[kind][0], x + cell / 2, y + LANE / 2 + 0.5);
     }
     context.globalAlpha = 1;
-    if (mark) {
-      context.font = "bold 13px ui-monospace, monospace";
-      context.fillStyle = palette[mark === "dropped" ? "warn" : "bad"];
-      context.fillText(MARKS[mark][0], x + cell / 2, MARK_ROOM / 2 + 1);
-    }
   }
 
   /** The way from a reverse step to the event behind which it led. @private */
