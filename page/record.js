@@ -3,6 +3,8 @@
 const FORMAT = "bunjelav recording";
 const VERSION = 1;
 const MOST_MEMORY = 16_777_216;
+/** The bit of STATUS that says that the link is up. */
+const LINK_UP = 1;
 /** The first words of the lines by which a driver is called: each makes several events. */
 const DRIVER_WORDS = new Set(["init", "send", "recv", "stats", "mac"]);
 const LOOK_WORDS = new Set(["peek", "line", "regs", "wire", "turns"]);
@@ -47,9 +49,10 @@ class Broken extends Error {}
 function readRecord(text) {
   let reader = null;
   try {
-    const record = parsed(text);
+    const { record, fault } = parsed(text);
     reader = new Reader(record);
     reader.lines(record.lines);
+    want(!fault, fault);
     reader.end(record.end);
     return { run: reader.run, fault: null };
   } catch (fault) {
@@ -62,15 +65,49 @@ function want(holds, words) {
   if (!holds) throw new Broken(words);
 }
 
+/** The record that a text is, or the front of one that was cut off, with what is wrong then. */
 function parsed(text) {
-  let record;
   want(text.trim() !== "", "it is empty");
+  const whole = text.replace(/^\uFEFF/, "");
   try {
-    record = JSON.parse(text.replace(/^\uFEFF/, ""));
+    return { record: isRecord(JSON.parse(whole)), fault: "" };
   } catch (fault) {
-    const whole = /[}\]]\s*$/.test(text) && /"end"/.test(text.slice(-200));
-    throw new Broken(whole ? `it is not JSON (${fault.message})` : `it is cut off, or not JSON (${fault.message})`);
+    if (fault instanceof Broken) throw fault;
+    const front = frontOf(whole);
+    want(front !== null, `it is cut off, or is not JSON (${shortened(visible(fault.message), 200)})`);
+    const line = front.lines.length ? `behind line ${front.lines[front.lines.length - 1].line}` : "before its first line";
+    return { record: isRecord(front), fault: `it is cut off, or is not JSON, ${line} of its script` };
   }
+}
+
+/** The front of a record that was cut off: up to the last whole line. Null where there is none. */
+function frontOf(text) {
+  const open = [];
+  let end = -1;
+  let inText = false;
+  for (let i = 0; i < text.length; i++) {
+    const mark = text[i];
+    if (inText) {
+      if (mark === "\\") i += 1;
+      else if (mark === '"') inText = false;
+    } else if (mark === '"') {
+      inText = true;
+    } else if (mark === "{" || mark === "[") {
+      open.push(mark);
+    } else if (mark === "}" || mark === "]") {
+      open.pop();
+      if (mark === "}" && open.join("") === "{[") end = i + 1;
+    }
+  }
+  try {
+    const front = JSON.parse(`${text.slice(0, end)}]}`);
+    return isObject(front) && Array.isArray(front.lines) ? front : null;
+  } catch {
+    return null;
+  }
+}
+
+function isRecord(record) {
   want(isObject(record), "it is no JSON object");
   want(record.format === FORMAT, `its format is not “${FORMAT}”`);
   want(record.version === VERSION, `its version is ${shortened(JSON.stringify(record.version) ?? "missing", 40)}, and this `
@@ -185,8 +222,17 @@ class Reader {
       place.sending = { place, octets: place.sent, count: (before.sending?.count ?? 0) + 1, before: before.sending };
     }
     run.state.forward(place);
+    this.agrees(place, name);
     if (place.number % SNAPSHOT_EVERY === 0) run.state.keep();
     this.add({ kind: kindOf(word, place), mark: markOf(line), line: line.line, performs: true, back: 0 });
+  }
+
+  /** The link and the interrupt line stand in registers too. @private */
+  agrees(place, name) {
+    const { state } = this.run;
+    want(((state.at("STATUS") >>> LINK_UP) & 1) === Number(place.link), `${name} leaves a link that STATUS contradicts`);
+    want(((state.at("ICR") & state.at("IMS")) !== 0) === place.interrupt,
+      `${name} leaves an interrupt line that ICR and IMS contradict`);
   }
 
   /** @private */

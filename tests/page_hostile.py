@@ -37,6 +37,21 @@ return { broken: broken.hidden ? '' : broken.textContent, run: !run.hidden, step
 """
 
 
+def steps_before(cut: bytes) -> int:
+    """How many steps the whole lines make that stand in a record that was cut."""
+    text, count = cut.decode(errors="replace"), 0
+    script = json.loads(f"{text.partition(chr(34) + 'start' + chr(34))[0].rstrip().rstrip(',')}}}")["script"]
+    at, decoder = text.index("[", text.index('"lines"')) + 1, json.JSONDecoder()
+    while True:
+        try:
+            line, at = decoder.raw_decode(text, at + len(text[at:]) - len(text[at:].lstrip(", \n")))
+        except json.JSONDecodeError:
+            return count
+        words = script[line["line"] - 1].split()
+        count += ("back" in line) + len(line["events"])
+        count += "back" not in line and not line["events"] and bool(words) and not words[0].startswith("#")
+
+
 def faults_of(shown: dict, console: list[str], must_be_broken: bool) -> list[str]:
     faults = [f"on the console: {message}" for message in console]
     if shown["ran"] is not None or shown["scripts"] != 2:
@@ -101,7 +116,11 @@ def try_records(tally: Tally, browser, room: Path, named: list[tuple[str, bytes,
         page.write_bytes(frame.around(record))
         browser.open(page)
         shown = browser.run(SHOWS)
-        tally.check(name, faults_of(shown, browser.told(), must_be_broken))
+        faults = faults_of(shown, browser.told(), must_be_broken)
+        if "cut after" in name and b'"lines"' in record and b'{"line"' in record:
+            steps = steps_before(record)
+            faults += [] if shown["steps"] == steps else [f"it shows {shown['steps']} steps, and not {steps}"]
+        tally.check(name, faults)
 
 
 def hostile_records(seed: int = 82540) -> list[tuple[str, bytes, bool]]:
