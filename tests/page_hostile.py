@@ -2,6 +2,7 @@
 import json
 import random
 import re
+import shutil
 import subprocess
 from pathlib import Path
 
@@ -180,6 +181,28 @@ def hostile_scripts(tally: Tally, browser, room: Path) -> None:
     tally.check("the policy is told", [] if any("Content Security Policy" in one for one in browser.told()) else ["it is not"])
 
 
+def played(tally: Tally, room: Path, record: Path, whole: bytes) -> None:
+    """em_page with an em_record beside it, that writes this record or nothing, and ends with a status."""
+    top = room / "top"
+    top.mkdir()
+    shutil.copytree(TOP / "page", top / "page")
+    shutil.copy(TOP / "em_page", top)
+    (room / "link").symlink_to(top / "em_page")
+    for name, command, written, status, out in (
+        ("a script", top / "em_page", f'cat "{record}"; [ "$*" = "--memory 4096 script.em" ]', 0, whole),
+        ("by a link", room / "link", f'cat "{record}"', 0, whole), ("a bad line", top / "em_page", f'cat "{record}"; exit 1', 1, whole),
+        ("no record", top / "em_page", "exit 3", 3, b""), ("no em_record", top / "em_page", None, 69, b""),
+    ):
+        program = top / "em_record"
+        program.unlink(missing_ok=True)
+        if written:
+            program.write_text(f"#!/bin/sh\n{written}\n")
+            program.chmod(0o755)
+        ran = subprocess.run([command, "--memory", "4096", "script.em"], stdout=subprocess.PIPE, stderr=subprocess.PIPE, check=False)
+        faults = [] if ran.returncode == status else [f"its status is {ran.returncode}: {ran.stderr.decode()}"]
+        tally.check(f"em_page, {name}", faults + ([] if ran.stdout == out else ["it writes something else"]))
+
+
 def command_line(tally: Tally, room: Path) -> None:
     """em_page itself: its statuses, and that it takes no more than it says."""
     record = room / "record.json"
@@ -198,4 +221,5 @@ def command_line(tally: Tally, room: Path) -> None:
         faults = [] if ran.returncode == status else [f"its status is {ran.returncode}: {ran.stderr.decode()}"]
         faults += [] if ran.stdout == out else ["it writes something else"]
         tally.check(f"em_page, {name}", faults)
+    played(tally, room, record, whole)
     tally.check("one file", [] if not re.search(rb"(?:src|href)\s*=|@import|https?://(?!www\.w3\.org)", whole) else ["it names others"])
