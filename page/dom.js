@@ -41,7 +41,8 @@ function setAttribute(element, name, value) {
 }
 
 /**
- * Makes an element's children like those of another list, and changes only what differs: what stays is not laid out again,
+ * Makes an element's children like those of another list, and changes only what differs: what stays is not laid out
+ * again,
  * and keeps the focus.
  * @param {Element} element @param {Node[]} children
  */
@@ -76,7 +77,11 @@ function askButton(watch, attributes, ...children) {
   return make("button", { type: "button", "data-watch": watch, ...attributes }, ...children);
 }
 
-/** A number as hexadecimal digits in upper case. @param {number|bigint} value @param {number} digits the least number */
+/**
+ * A number as hexadecimal digits in upper case.
+ * @param {number|bigint} value
+ * @param {number} digits the least number
+ */
 function hex(value, digits) {
   return value.toString(16).toUpperCase().padStart(digits, "0");
 }

@@ -4,7 +4,8 @@ const MOST_FRAMES = 8;
 const LEAST_FRAME = 14;
 const MOST_LENGTH_FIELD = 1500;
 const VLAN_TYPE = 0x8100;
-const TYPES = new Map([[0x0800, "IPv4"], [0x0806, "ARP"], [0x86DD, "IPv6"], [0x8100, "VLAN"], [0x88CC, "LLDP"], [0x88A8, "S-VLAN"]]);
+const TYPES = new Map([[0x0800, "IPv4"], [0x0806, "ARP"], [0x86DD, "IPv6"], [0x8100, "VLAN"], [0x88CC, "LLDP"],
+  [0x88A8, "S-VLAN"]]);
 
 /** An Ethernet address. @param {Uint8Array} octets six of them */
 function macText(octets) {
@@ -22,7 +23,8 @@ function frameParts(octets) {
   if (octets.length < LEAST_FRAME) return [["octets", counted(octets.length, "octet")]];
   const word = (at) => (octets[at] << 8) | octets[at + 1];
   const kind = kindOfAddress(octets.subarray(0, 6));
-  const parts = [["to", macText(octets.subarray(0, 6)) + (kind ? ` (${kind})` : "")], ["from", macText(octets.subarray(6, 12))]];
+  const parts = [["to", macText(octets.subarray(0, 6)) + (kind ? ` (${kind})` : "")],
+    ["from", macText(octets.subarray(6, 12))]];
   let at = 12;
   if (word(at) === VLAN_TYPE && octets.length >= LEAST_FRAME + 4) {
     const tag = word(14);
@@ -41,7 +43,8 @@ function octetLines(octets, across) {
   const lines = [];
   for (let at = 0; at < octets.length; at += across) {
     const part = octets.subarray(at, at + across);
-    const letters = [...part].map((octet) => (octet >= 0x20 && octet < 0x7F ? String.fromCharCode(octet) : ".")).join("");
+    const letters = [...part].map((octet) => (octet >= 0x20 && octet < 0x7F ? String.fromCharCode(octet)
+      : ".")).join("");
     lines.push(`${hex(at, 4)}  ${[...part].map((octet) => PAIRS[octet]).join(" ").padEnd(3 * across)} ${letters}`);
   }
   return lines.join("\n");
@@ -75,7 +78,8 @@ class Frames {
       return item;
     });
     if (more > 0) items.push(make("li", { class: "quiet" }, `and ${counted(more, "frame")} more`));
-    const same = items.length === element.children.length && items.every((item, index) => element.children[index] === item);
+    const same = items.length === element.children.length && items.every((item, index) =>
+      element.children[index] === item);
     if (!same) element.replaceChildren(...items);
   }
 
@@ -94,6 +98,7 @@ class Frames {
     details.addEventListener("toggle", () => {
       body.textContent = octetLines(octets, matchMedia("(max-width: 560px)").matches ? 8 : 12);
     }, { once: true });
-    return make("li", { class: "frame", "data-octets": frame.octets.toUpperCase() }, make("p", {}, ...parts), source, details);
+    return make("li", { class: "frame", "data-octets": frame.octets.toUpperCase() }, make("p", {}, ...parts), source,
+      details);
   }
 }

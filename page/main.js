@@ -20,7 +20,8 @@ class App {
     this.rings = [new RingPanel(this, "rx"), new RingPanel(this, "tx")];
     this.timeline = new Timeline(this);
     this.memory = new MemoryPanel(this);
-    this.panels = [new ScriptPanel(this), this.timeline, new Wave(this, this.timeline), ...this.rings, new Present(this),
+    this.panels = [new ScriptPanel(this), this.timeline, new Wave(this, this.timeline), ...this.rings,
+      new Present(this),
       new Registers(this), this.memory, new Frames(this)];
     this.signals();
     this.listen();
@@ -85,7 +86,8 @@ class App {
     const text = visible(shortened(this.run.script[found.line - 1] ?? "", 60));
     element.replaceChildren(make("b", {}, name), `${isAgain ? " before that" : ""} changed by `,
       make("button", { type: "button", "data-step": found.step }, by), ": ", make("code", {}, text), " ",
-      make("span", { class: "change" }, make("s", {}, shortened(before, 64)), " → ", make("b", {}, shortened(after, 64))));
+      make("span", { class: "change" }, make("s", {}, shortened(before, 64)), " → ",
+        make("b", {}, shortened(after, 64))));
     setText(byId("told"), `${name}: ${by}: ${shortened(before, 16)} → ${shortened(after, 16)}`);
     this.tell(name, by, found.step);
   }
@@ -101,7 +103,8 @@ class App {
   /** What a step is, in words. */
   stepText(step = this.step) {
     const { kind, mark, line, place, performs } = this.run.steps[step];
-    return [KINDS[kind][1], performs ? `event ${place.number}` : "", line ? `line ${line}` : "", mark ? MARKS[mark][1] : ""]
+    return [KINDS[kind][1], performs ? `event ${place.number}` : "", line ? `line ${line}` : "", mark ? MARKS[mark][1]
+      : ""]
       .filter(Boolean).join(", ");
   }
 
@@ -132,7 +135,8 @@ class App {
   /** @private */
   paintSignals() {
     const { place } = this;
-    const values = { link: place.link ? "up" : "down", interrupt: place.interrupt ? "1" : "0", frames: String(place.frames),
+    const values = { link: place.link ? "up" : "down", interrupt: place.interrupt ? "1" : "0",
+      frames: String(place.frames),
       sent: String(place.sending?.count ?? 0) };
     for (const { watch, words, value, button } of this.signalButtons) {
       setText(value, values[watch]);
@@ -173,7 +177,8 @@ class App {
       PageUp: () => this.goTo(this.step - PAGE_STEPS), PageDown: () => this.goTo(this.step + PAGE_STEPS),
       Home: () => this.goTo(0), End: () => this.goTo(Infinity),
       Escape: () => this.asked !== null && this.goTo(this.origin),
-      " ": target.closest("button, summary, input, [role=gridcell]") ? undefined : () => this.timeline.play(!this.timeline.timer),
+      " ": target.closest("button, summary, input, [role=gridcell]") ? undefined : () =>
+        this.timeline.play(!this.timeline.timer),
     }[event.key];
     if (!go) return;
     event.preventDefault();

@@ -10,7 +10,10 @@ const MAP_KINDS = [
   ["touched", "", "changed by this step"],
 ];
 
-/** Whether an octet is not zero, by fours: the map's cells begin and end at multiples of four. @param {Uint8Array} octets */
+/**
+ * Whether an octet is not zero, by fours: the map's cells begin and end at multiples of four.
+ * @param {Uint8Array} octets
+ */
 function hasOctets(octets) {
   const words = new Uint32Array(octets.buffer, octets.byteOffset, octets.length >> 2);
   for (let i = 0; i < words.length; i++) {
@@ -81,7 +84,8 @@ class MemoryPanel {
         return { text, element: make("span", { class: "octet", role: "gridcell", tabindex: "-1" }, text), key: "" };
       });
       const letters = make("span", { class: "letters", "aria-hidden": "true" });
-      const element = make("div", { class: "octets-row", role: "row" }, address, ...cells.map((cell) => cell.element), letters);
+      const element = make("div", { class: "octets-row", role: "row" }, address, ...cells.map((cell) => cell.element),
+        letters);
       return { element, address, cells, letters };
     });
     this.grid.replaceChildren(...this.rows.map((row) => row.element));
@@ -228,7 +232,8 @@ class MemoryPanel {
     const parts = this.parts();
     this.shownParts = parts;
     const most = 14;
-    const order = [...parts.filter(({ kind }) => kind === "touched"), ...parts.filter(({ kind }) => kind !== "touched")];
+    const order = [...parts.filter(({ kind }) => kind === "touched"),
+      ...parts.filter(({ kind }) => kind !== "touched")];
     const key = order.map(({ words, at, size }) => `${words} ${at} ${size}`).join();
     if (key === this.regionsKey) return;
     this.regionsKey = key;
@@ -266,7 +271,8 @@ class MemoryPanel {
     const [first, last] = [Math.floor(this.address / cell), Math.floor((this.address + shown - 1) / cell)];
     context.strokeStyle = palette.ink;
     for (let index = first; index <= last; index++) {
-      context.strokeRect((index % columns) * across + 0.5, Math.floor(index / columns) * side + 0.5, across - 1, side - 1);
+      context.strokeRect((index % columns) * across + 0.5, Math.floor(index / columns) * side + 0.5, across - 1,
+        side - 1);
     }
   }
 

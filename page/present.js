@@ -22,7 +22,8 @@ class Present {
     if (line && line.answer.length) parts.push(this.answer(now, line));
     if (now.performs && place.takenBack !== Infinity) {
       const by = run.steps[place.takenBack].line;
-      parts.push(make("p", { class: "note" }, `↶ line ${by} takes this event back${place.takenBack <= step ? "" : " later"}`));
+      parts.push(make("p", { class: "note" },
+        `↶ line ${by} takes this event back${place.takenBack <= step ? "" : " later"}`));
     }
     if (now.kind === "back" && now.back > 0) {
       parts.push(make("p", { class: "note" }, `↶ back behind ${place.number ? `event ${place.number}` : "the start"}`));
@@ -43,14 +44,16 @@ class Present {
   /** @private */
   changes(now) {
     const { place, state } = this.app;
-    if (!now.performs) return make("p", { class: "quiet" }, now.kind === "start" ? "the state at the start" : "no event");
+    if (!now.performs) return make("p", { class: "quiet" }, now.kind === "start" ? "the state at the start"
+      : "no event");
     const items = [];
     const item = (watch, name, before, after) => items.push(make("li", {}, askButton(watch, { class: "name" }, name),
       make("span", { class: "change" }, make("s", {}, before), " → ", make("b", {}, after))));
     for (const [index, before, after] of place.registers) {
       item(`register ${REGISTERS[index][1]}`, REGISTERS[index][1], hex(before, 8), hex(after, 8));
     }
-    if (place.interruptChange) item("interrupt", "interrupt line", ...place.interruptChange.map((on) => (on ? "1" : "0")));
+    if (place.interruptChange) item("interrupt", "interrupt line",
+      ...place.interruptChange.map((on) => (on ? "1" : "0")));
     if (place.linkChange) item("link", "link", ...place.linkChange.map((up) => (up ? "up" : "down")));
     if (place.framesChange) item("frames", "frames in the FIFO", ...place.framesChange.map(String));
     if (place.sent !== null) item("sent", "frames sent", String(place.sending.count - 1), String(place.sending.count));

@@ -75,7 +75,8 @@ function parsed(text) {
     if (fault instanceof Broken) throw fault;
     const front = frontOf(whole);
     want(front !== null, `it is cut off, or is not JSON (${shortened(visible(fault.message), 200)})`);
-    const line = front.lines.length ? `behind line ${front.lines[front.lines.length - 1].line}` : "before its first line";
+    const line = front.lines.length ? `behind line ${front.lines[front.lines.length - 1].line}`
+      : "before its first line";
     return { record: isRecord(front), fault: `it is cut off, or is not JSON, ${line} of its script` };
   }
 }
@@ -110,7 +111,8 @@ function frontOf(text) {
 function isRecord(record) {
   want(isObject(record), "it is no JSON object");
   want(record.format === FORMAT, `its format is not “${FORMAT}”`);
-  want(record.version === VERSION, `its version is ${shortened(JSON.stringify(record.version) ?? "missing", 40)}, and this `
+  want(record.version === VERSION,
+    `its version is ${shortened(JSON.stringify(record.version) ?? "missing", 40)}, and this `
     + `page reads version ${VERSION}`);
   return record;
 }
@@ -230,7 +232,8 @@ class Reader {
   /** The link and the interrupt line stand in registers too. @private */
   agrees(place, name) {
     const { state } = this.run;
-    want(((state.at("STATUS") >>> LINK_UP) & 1) === Number(place.link), `${name} leaves a link that STATUS contradicts`);
+    want(((state.at("STATUS") >>> LINK_UP) & 1) === Number(place.link),
+      `${name} leaves a link that STATUS contradicts`);
     want(((state.at("ICR") & state.at("IMS")) !== 0) === place.interrupt,
       `${name} leaves an interrupt line that ICR and IMS contradict`);
   }
@@ -249,7 +252,8 @@ class Reader {
       want(Array.isArray(change) && change.length === 3 && isWord(change[1]) && isWord(change[2]),
         `${name} has a register that can’t be read`);
       const index = INDEX_OF.get(change[0]);
-      want(index !== undefined, `${name} names a register ${shortened(JSON.stringify(change[0]), 40)}, which there is not`);
+      want(index !== undefined,
+        `${name} names a register ${shortened(JSON.stringify(change[0]), 40)}, which there is not`);
       want(index > last, `${name} does not have its registers in their order`);
       want(this.run.state.registers[index] === change[1],
         `${name} says that ${change[0]} was ${hex(change[1], 8)} before it, and it was `

@@ -48,7 +48,8 @@ class Registers {
     const bits = (FIELDS[stemOf(name)] ?? []).map(([bit, high, low, form]) => this.bit(name, bit, high, low, form));
     const button = askButton(`register ${name}`, { class: "name" }, name);
     const element = make("div", { class: "register", "data-register": name, "data-offset": hex(offset, 5) },
-      button, make("span", { class: "values" }, value, old), make("span", { class: "bits" }, ...bits.map((bit) => bit.element)));
+      button, make("span", { class: "values" }, value, old),
+      make("span", { class: "bits" }, ...bits.map((bit) => bit.element)));
     return { offset, name, index, element, button, value, old, bits, shown: -1, lit: false };
   }
 
@@ -84,7 +85,8 @@ class Registers {
     setText(row.value, hex(value, 8));
     setText(row.old, lit ? `was ${hex(before, 8)}` : "");
     setAttribute(row.button, "aria-label",
-      `${row.name} ${hex(value, 8)}${lit ? `, changed by this step, was ${hex(before, 8)}` : ""}: who changed it last?`);
+      `${row.name} ${hex(value, 8)}${lit ? `, changed by this step, was ${hex(before, 8)}` : ""}: `
+      + "who changed it last?");
     for (const bit of row.bits) this.paintBit(row, bit, value, before);
   }
 

@@ -1,4 +1,5 @@
-// A ring as a drawing: a circle of cells, head and tail as its hands, and arrows from live descriptors to their buffers.
+// A ring as a drawing: a circle of cells, head and tail as its hands, and arrows from live descriptors to their
+// buffers.
 
 /** The most arrows that lead to one buffer: more would hide it. */
 const MOST_ARROWS = 6;
@@ -19,14 +20,17 @@ function ringDrawing(app, { ring, shown, first }) {
   const buffers = buffersOf(shown);
   const title = `${ring.side === "rx" ? "Receive" : "Transmit"} ring with head ${ring.head} and tail ${ring.tail}; `
     + "the table below has the same in words";
-  const drawing = draw("svg", { viewBox: `0 0 ${DRAWING.width} ${DRAWING.height}`, role: "img", "aria-label": title, class: "drawing" });
+  const drawing = draw("svg", { viewBox: `0 0 ${DRAWING.width} ${DRAWING.height}`, role: "img", "aria-label": title,
+    class: "drawing" });
   drawing.append(arrowTip(ring.side, "tip"), arrowTip(ring.side, "bad-tip"));
-  for (const one of shown) drawing.append(cell(app, ring, one, (one.index - first) / parts, (one.index - first + 1) / parts));
+  for (const one of shown) drawing.append(cell(app, ring, one, (one.index - first) / parts,
+    (one.index - first + 1) / parts));
   const tracks = tracksOf(buffers.flatMap(({ of }) => of.slice(0, MOST_ARROWS)), turnOf);
   buffers.forEach((buffer, row) => drawing.append(
     ...bufferParts(app, ring, buffer, row, buffers.length, turnOf, (one) => tracks.get(one.index) ?? 0)));
   const within = (index) => index >= first && index < first + parts;
-  if (!buffers.length) drawing.append(draw("text", { x: 300, y: DRAWING.middle + 4, class: "none" }, "no buffer is in use"));
+  if (!buffers.length) drawing.append(draw("text", { x: 300, y: DRAWING.middle + 4, class: "none" },
+    "no buffer is in use"));
   const isOne = ring.head === ring.tail;
   if (within(ring.tail) && !isOne) drawing.append(...hand("tail", "tail", turnOf(ring.tail)));
   if (within(ring.head)) drawing.append(...hand("head", isOne ? "head = tail" : "head", turnOf(ring.head)));
@@ -35,7 +39,8 @@ function ringDrawing(app, { ring, shown, first }) {
 
 function arrowTip(side, name) {
   const path = draw("path", { d: "M0 0L7 3.5L0 7Z", class: name });
-  return draw("marker", { id: `${side}-${name}`, markerWidth: 7, markerHeight: 7, refX: 6, refY: 3.5, orient: "auto" }, path);
+  return draw("marker", { id: `${side}-${name}`, markerWidth: 7, markerHeight: 7, refX: 6, refY: 3.5, orient: "auto" },
+    path);
 }
 
 /** A descriptor as a part of the circle. */
@@ -57,7 +62,8 @@ function cell(app, ring, one, from, to) {
     group.append(draw("text", { x: x.toFixed(1), y: (y - 3).toFixed(1), class: "index" }, String(one.index)),
       draw("text", { x: x.toFixed(1), y: (y + 9).toFixed(1), class: "sign" }, sign));
   }
-  group.append(draw("title", {}, `descriptor ${one.index}, the ${one.owner}’s${one.trouble ? `: ${one.trouble}` : ""}`));
+  group.append(draw("title", {},
+    `descriptor ${one.index}, the ${one.owner}’s${one.trouble ? `: ${one.trouble}` : ""}`));
   return group;
 }
 
@@ -66,7 +72,8 @@ function hand(name, words, turn) {
   const [x, y] = onCircle(turn, DRAWING.inner - 3);
   const [labelX, labelY] = onCircle(turn, DRAWING.inner - 24);
   return [
-    draw("line", { x1: DRAWING.middle, y1: DRAWING.middle, x2: x.toFixed(1), y2: y.toFixed(1), class: `hand-line ${name}` }),
+    draw("line", { x1: DRAWING.middle, y1: DRAWING.middle, x2: x.toFixed(1), y2: y.toFixed(1),
+      class: `hand-line ${name}` }),
     draw("circle", { cx: DRAWING.middle, cy: DRAWING.middle, r: 3, class: "hub" }),
     draw("text", { x: labelX.toFixed(1), y: (labelY + 3).toFixed(1), class: `hand-name ${name}` }, words),
   ];
@@ -108,7 +115,8 @@ function bufferParts(app, ring, { at, size, of }, row, rows, turnOf, trackOf) {
 }
 
 /**
- * By index, the track on which an arrow from the left half goes around the circle: the nearer to the top or the bottom a
+ * By index, the track on which an arrow from the left half goes around the circle: the nearer to the top or the bottom
+ * a
  * cell is, the nearer to the circle, so that no two cross there.
  */
 function tracksOf(descriptors, turnOf) {
@@ -116,7 +124,8 @@ function tracksOf(descriptors, turnOf) {
   const left = descriptors.filter(({ index }) => turnOf(index) > 0.5);
   for (const isUpper of [true, false]) {
     left.filter(({ index }) => turnOf(index) >= 0.75 === isUpper)
-      .sort((one, other) => (isUpper ? turnOf(other.index) - turnOf(one.index) : turnOf(one.index) - turnOf(other.index)))
+      .sort((one, other) => (isUpper ? turnOf(other.index) - turnOf(one.index)
+        : turnOf(one.index) - turnOf(other.index)))
       .forEach(({ index }, order) => tracks.set(index, Math.min(order, 5)));
   }
   return tracks;

@@ -13,7 +13,8 @@ const BIT_NAMES = {
 };
 /** By side: name, first octet, number of octets of each field of a descriptor. */
 const DESCRIPTOR_FIELDS = {
-  rx: [["buffer", 0, 8], ["length", 8, 2], ["checksum", 10, 2], ["status", 12, 1], ["errors", 13, 1], ["special", 14, 2]],
+  rx: [["buffer", 0, 8], ["length", 8, 2], ["checksum", 10, 2], ["status", 12, 1], ["errors", 13, 1],
+    ["special", 14, 2]],
   tx: [["buffer", 0, 8], ["length", 8, 2], ["CSO", 10, 1], ["command", 11, 1], ["status", 12, 1], ["CSS", 13, 1],
     ["special", 14, 2]],
 };
@@ -45,7 +46,8 @@ function ringOf(state, side) {
   const at = (name) => state.at(`${letter}D${name}`);
   return {
     side, enabled: ((state.at(control) >>> 1) & 1) === 1, base: (BigInt(at("BAH")) << 32n) | BigInt(at("BAL")),
-    count: Math.floor(at("LEN") / DESCRIPTOR_OCTETS), head: at("H"), tail: at("T"), buffer: bufferSize(state.at("RCTL")),
+    count: Math.floor(at("LEN") / DESCRIPTOR_OCTETS), head: at("H"), tail: at("T"),
+    buffer: bufferSize(state.at("RCTL")),
   };
 }
 
@@ -82,7 +84,8 @@ const overlap = (one, size, other, otherSize) =>
   size > 0 && otherSize > 0 && one < other + BigInt(otherSize) && other < one + BigInt(size);
 
 /**
- * The buffers of live descriptors that lie within memory, if only in part, as index, address, size: of a long ring this is
+ * The buffers of live descriptors that lie within memory, if only in part, as index, address, size: of a long ring
+ * this is
  * asked at each step.
  * @returns {[number, number, number][]}
  */
@@ -109,7 +112,10 @@ function claimsOf(state, ring) {
   return claims;
 }
 
-/** What is wrong with a live descriptor first, in the order of docs/inspect.md. @param {[number, number, number][]} claims */
+/**
+ * What is wrong with a live descriptor first, in the order of docs/inspect.md.
+ * @param {[number, number, number][]} claims
+ */
 function troubleOf(state, ring, descriptor, claims) {
   const { at, size, live, index } = descriptor;
   if (!live) return "";
@@ -206,7 +212,8 @@ class RingPanel {
     const head = make("tr", {}, ...names.map((name) => make("th", { scope: "col" }, name)));
     this.body = make("tbody", {});
     this.rowKeys = [];
-    return make("div", { class: "scroll" }, make("table", { class: "descriptors" }, make("thead", {}, head), this.body));
+    return make("div", { class: "scroll" }, make("table", { class: "descriptors" }, make("thead", {}, head),
+      this.body));
   }
 
   /** Makes the rows that differ from those that stand there. @private */
@@ -214,7 +221,8 @@ class RingPanel {
     shown.forEach((one, row) => {
       const { index, owner, octets, trouble } = one;
       const touched = this.touches(one, 0, DESCRIPTOR_OCTETS) ? this.app.step : "";
-      const key = [ring.base, index, owner, octets && digitsOf(octets), trouble, index === ring.head, index === ring.tail, touched].join();
+      const key = [ring.base, index, owner, octets && digitsOf(octets), trouble, index === ring.head,
+        index === ring.tail, touched].join();
       if (key === this.rowKeys[row]) return;
       this.rowKeys[row] = key;
       const fresh = this.row(ring, one);
@@ -266,11 +274,15 @@ class RingPanel {
     return askButton(`octets ${address} ${count}`, {
       class: "field", "data-field": name, "data-changed": lit ? "" : null,
       title: `${this.fieldsText(one)}`,
-      "aria-label": `descriptor ${one.index}, ${name} ${text}${lit ? ", changed by this step" : ""}: who changed it last?`,
+      "aria-label": `descriptor ${one.index}, ${name} ${text}${lit ? ", changed by this step" : ""}: `
+        + "who changed it last?",
     }, text);
   }
 
-  /** The fields besides buffer and length: status and command by their bits, the others where they are not 0. @private */
+  /**
+   * The fields besides buffer and length: status and command by their bits, the others where they are not 0.
+   * @private
+   */
   bitFields(one) {
     return DESCRIPTOR_FIELDS[this.side].slice(2).flatMap(([name, first, count]) => {
       const names = bitNamesOf(this.side, name);

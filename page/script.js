@@ -91,7 +91,8 @@ class ScriptPanel {
     const sign = mark && line.answer.length ? `${MARKS[mark][0]} ` : "";
     const option = make("div", {
       role: "option", id: `line-${number}`, "data-line": number, "aria-setsize": this.app.run.script.length,
-      "aria-posinset": number, class: text.trimStart().startsWith("#") ? "script-line comment" : "script-line", title: text,
+      "aria-posinset": number, class: text.trimStart().startsWith("#") ? "script-line comment" : "script-line",
+      title: text,
     }, make("span", { class: "number" }, String(number)), make("span", { class: "text" }, text),
     make("span", { class: `answer${sign ? ` mark-${mark}` : ""}` }, sign + answer));
     option.style.setProperty("top", `${(number - 1) * LINE_HEIGHT}px`);
@@ -104,7 +105,8 @@ class ScriptPanel {
     const line = run.lines[number - 1];
     const ahead = line ? line.first > step : number > present;
     const place = line ? run.steps[line.last].place : null;
-    const isGone = line && run.steps[line.last].performs && run.steps[line.last].line === number && place.takenBack <= step;
+    const isGone = line && run.steps[line.last].performs && run.steps[line.last].line === number
+      && place.takenBack <= step;
     setAttribute(option, "aria-selected", number === present);
     setAttribute(option, "data-ahead", ahead ? "" : null);
     setAttribute(option, "data-gone", isGone ? "" : null);

@@ -18,7 +18,8 @@ const TRACKS = 3;
 
 /** The colours of the page's style, by name; read again when the scheme changes. */
 const palette = {};
-const COLOURS = ["ink", "dim", "line", "panel", "accent", "bad", "warn", "back", "shade", "adapter", "driver", "touched", "rx",
+const COLOURS = ["ink", "dim", "line", "panel", "accent", "bad", "warn", "back", "shade", "adapter", "driver",
+  "touched", "rx",
   "tx", ...Object.keys(KINDS).map((kind) => `kind-${kind}`),
   ...["zero", "filled", "buffer", "ring", "touched"].map((kind) => `map-${kind}`)];
 

@@ -1,4 +1,5 @@
-"""Records and scripts that are made to break a page: it shows them, or says what is wrong, and no script in them runs."""
+"""Records and scripts that are made to break a page: it shows them, or says what is wrong, and no script in them
+runs."""
 import json
 import random
 import re
@@ -13,12 +14,17 @@ CUTS, MUTATIONS = 200, 500
 MOST_LETTERS = 300
 RUNS = "window.ran = 1"
 HOSTILE_LINES = [
-    f"</script><script>{RUNS}</script>", f"<!--<script>{RUNS}", f'<img src=x onerror="{RUNS}">', '"\\" \' ` ${1} \\u003c',
-    "]]> &lt;b&gt; &quot;", f"# javascript:{RUNS}", "</style><style>*{display:none}</style>", "@SCRIPT@ @RECORD@ @STYLE@",
+    f"</script><script>{RUNS}</script>", f"<!--<script>{RUNS}",
+    f'<img src=x onerror="{RUNS}">', '"\\" \' ` ${1} \\u003c',
+    "]]> &lt;b&gt; &quot;", f"# javascript:{RUNS}", "</style><style>*{display:none}</style>",
+    "@SCRIPT@ @RECORD@ @STYLE@",
     "w 0 " + "".join(map(chr, [*range(1, 9), *range(11, 32), 127])), "\0 nul", "# " + "x" * 1_000_000,
     "# \u202e right to left, \u2028 a separator, \ufeff a mark, \U0001f600".encode().decode("latin-1"),
-    "# no UTF-8: \xff\xfe\xc0\x80 \xed\xa0\x80", "link up", "w D0 4", "&", "", " ", "back 3", "__proto__", "r constructor",
+    "# no UTF-8: \xff\xfe\xc0\x80 \xed\xa0\x80",
+    "link up", "w D0 4", "&", "", " ", "back 3", "__proto__", "r constructor",
 ]
+ODD_PARTS = [None, True, False, -1, 0, 1, 2, 4096, 65536, 2**32, 2**53, 0.5, "", "0", "<b>", "00FF", [], {}, [0, 1],
+             [[0, 0, 1]], [["RDH", 0, 1]], [[0, "00", "01"]], "RDH", "__proto__", [False, True]]
 # what stands on the page, having gone to some of its steps and asked something there
 SHOWS = """
 const run = document.getElementById('run'), broken = document.getElementById('broken');
@@ -100,8 +106,7 @@ def changed_parts(r: random.Random, record: bytes) -> bytes:
         holder = holder[key]
     kind = r.random()
     if kind < 0.6:
-        holder[last] = r.choice([None, True, False, -1, 0, 1, 2, 4096, 65536, 2**32, 2**53, 0.5, "", "0", "<b>", "00FF", [], {},
-                                 [0, 1], [[0, 0, 1]], [["RDH", 0, 1]], [[0, "00", "01"]], "RDH", "__proto__", [False, True]])
+        holder[last] = r.choice(ODD_PARTS)
     elif kind < 0.8:
         del holder[last]
     elif isinstance(holder, list):
@@ -145,7 +150,8 @@ def hostile_records(seed: int = 82540) -> list[tuple[str, bytes, bool]]:
         ("another format", record.replace(b"bunjelav recording", b"a recording"), True),
         ("no record", b"", True), ("no object", b"[]", True), ("null", b"null", True), ("text", b"not JSON", True),
         ("no end", re.sub(rb',\s*"end":\{[^}]*\}', b"", record), True),
-        ("HTML", b"</script><script>window.ran = 1</script>", True), ("a mark in front", b"\xef\xbb\xbf" + record, False),
+        ("HTML", b"</script><script>window.ran = 1</script>", True), ("a mark in front", b"\xef\xbb\xbf" + record,
+            False),
     ]
     return made
 
@@ -168,17 +174,20 @@ def hostile_scripts(tally: Tally, browser, room: Path) -> None:
       const script = document.getElementById('script');
       script.style.setProperty('height', '4000px');
       return new Promise((done) => setTimeout(() => done(
-        [...script.querySelectorAll('[role=option] .text')].map((one) => [one.closest('[data-line]').dataset.line, one.textContent])), 300));
+        [...script.querySelectorAll('[role=option] .text')].map((one) => [one.closest('[data-line]').dataset.line,
+            one.textContent])), 300));
     """)
     wanted = {str(number): visible(text) for number, text in enumerate(json.loads(record)["script"], 1)}
     faults = [f"line {number} is shown as {text[:80]!r}, and not {wanted[number][:80]!r}"
               for number, text in texts if text != wanted[number]]
-    tally.check("the texts of a hostile script", faults + ([] if len(texts) == len(wanted) else [f"{len(texts)} lines are shown"]))
+    tally.check("the texts of a hostile script", faults + ([] if len(texts) == len(wanted)
+        else [f"{len(texts)} lines are shown"]))
     browser.told()
     page.write_bytes(page_of(record).replace(b"</body>", b"<script>window.ran = 1</script></body>"))
     browser.open(page)
     tally.check("the policy", [] if browser.run("return window.ran ?? null") is None else ["another script ran"])
-    tally.check("the policy is told", [] if any("Content Security Policy" in one for one in browser.told()) else ["it is not"])
+    tally.check("the policy is told", [] if any("Content Security Policy" in one for one in browser.told())
+        else ["it is not"])
 
 
 def played(tally: Tally, room: Path, record: Path, whole: bytes) -> None:
@@ -190,7 +199,8 @@ def played(tally: Tally, room: Path, record: Path, whole: bytes) -> None:
     (room / "link").symlink_to(top / "em_page")
     for name, command, written, status, out in (
         ("a script", top / "em_page", f'cat "{record}"; [ "$*" = "--memory 4096 script.em" ]', 0, whole),
-        ("by a link", room / "link", f'cat "{record}"', 0, whole), ("a bad line", top / "em_page", f'cat "{record}"; exit 1', 1, whole),
+        ("by a link", room / "link", f'cat "{record}"', 0, whole), ("a bad line", top / "em_page",
+            f'cat "{record}"; exit 1', 1, whole),
         ("no record", top / "em_page", "exit 3", 3, b""), ("no em_record", top / "em_page", None, 69, b""),
     ):
         program = top / "em_record"
@@ -198,7 +208,8 @@ def played(tally: Tally, room: Path, record: Path, whole: bytes) -> None:
         if written:
             program.write_text(f"#!/bin/sh\n{written}\n")
             program.chmod(0o755)
-        ran = subprocess.run([command, "--memory", "4096", "script.em"], stdout=subprocess.PIPE, stderr=subprocess.PIPE, check=False)
+        ran = subprocess.run([command, "--memory", "4096", "script.em"], stdout=subprocess.PIPE,
+            stderr=subprocess.PIPE, check=False)
         faults = [] if ran.returncode == status else [f"its status is {ran.returncode}: {ran.stderr.decode()}"]
         tally.check(f"em_page, {name}", faults + ([] if ran.stdout == out else ["it writes something else"]))
 
@@ -210,16 +221,20 @@ def command_line(tally: Tally, room: Path) -> None:
     tools = room / "tools"
     tools.mkdir()
     for tool in "bash sed cat head base64 sha256sum mktemp rm readlink".split():
-        (tools / tool).symlink_to(subprocess.run(["which", tool], stdout=subprocess.PIPE, check=True).stdout.decode().strip())
+        (tools / tool).symlink_to(subprocess.run(["which", tool], stdout=subprocess.PIPE,
+            check=True).stdout.decode().strip())
     whole = page_of(record.read_bytes())
     for name, words, env, status, out in (
-        ("bare", ["--record", record], {"PATH": str(tools)}, 0, whole), ("a file", ["--record", record], None, 0, whole),
+        ("bare", ["--record", record], {"PATH": str(tools)}, 0, whole), ("a file", ["--record", record], None, 0,
+            whole),
         ("no file", ["--record", room / "none"], None, 3, b""), ("a folder", ["--record", room], None, 3, b""),
         ("no word behind it", ["--record"], None, 2, b""),
     ):
-        ran = subprocess.run([TOP / "em_page", *words], stdout=subprocess.PIPE, stderr=subprocess.PIPE, env=env, check=False)
+        ran = subprocess.run([TOP / "em_page", *words], stdout=subprocess.PIPE, stderr=subprocess.PIPE, env=env,
+            check=False)
         faults = [] if ran.returncode == status else [f"its status is {ran.returncode}: {ran.stderr.decode()}"]
         faults += [] if ran.stdout == out else ["it writes something else"]
         tally.check(f"em_page, {name}", faults)
     played(tally, room, record, whole)
-    tally.check("one file", [] if not re.search(rb"(?:src|href)\s*=|@import|https?://(?!www\.w3\.org)", whole) else ["it names others"])
+    tally.check("one file", [] if not re.search(rb"(?:src|href)\s*=|@import|https?://(?!www\.w3\.org)", whole)
+        else ["it names others"])

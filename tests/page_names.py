@@ -50,7 +50,8 @@ def registers() -> list[tuple[int, str]]:
 
 
 def text() -> str:
-    lines = ["// The registers by offset, and the bits and fields of those that have them. Written by tests/page_names.py.", "",
+    lines = ["// The registers by offset, and the bits and fields of those that have them. Written by "
+             "tests/page_names.py.", "",
              "/** @type {[number, string][]} offset and name of each register */", "const REGISTERS = ["]
     line = " "
     for offset, name in registers():
@@ -59,7 +60,8 @@ def text() -> str:
             lines.append(line)
             line = " "
         line += item
-    lines += [line, "];", "", "/** @type {Object<string, [string, number, number, string][]>} name, high bit, low bit, form; by name",
+    lines += [line, "];", "",
+        "/** @type {Object<string, [string, number, number, string][]>} name, high bit, low bit, form; by name",
               " *  without index */", "const FIELDS = {"]
     for name, rows in of_code().items():
         line = f"  {name}: ["

@@ -10,7 +10,8 @@ from recorded import Event, interrupts, walk
 from tally import Tally, run
 
 STEPS, QUESTIONS, RINGS = 50, 14, 8
-LARGER = {"acknowledged-first.em", "broken-ring.em", "driver.em", "reset.em", "ring.em", "tail-too-early.em", "transmit.em",
+LARGER = {"acknowledged-first.em", "broken-ring.em", "driver.em", "reset.em", "ring.em", "tail-too-early.em",
+    "transmit.em",
           "why-dropped.em"}
 SHOWN_OCTETS = 256
 NAMES = dict(registers())
@@ -50,7 +51,8 @@ def by_bench(script: list[str], line: int, later: int, places: list[int]) -> dic
     """The state that em_bench shows behind a line, with so many of its events taken back."""
     looks = (["back"] if later == 1 else [f"back {later}"] if later else []) + ["!"]
     looks += [f"peek {place:X} {SHOWN_OCTETS}" for place in places] + ["line", "regs", "wire"]
-    ran = run([program("em_bench"), "--budget", BUDGET], "".join(f"{one}\n" for one in script[:line] + looks).encode("latin-1"))
+    ran = run([program("em_bench"), "--budget", BUDGET], "".join(f"{one}\n" for one in script[:line]
+        + looks).encode("latin-1"))
     said = ran.stdout.decode().splitlines()
     mark = f"bad line {line + len(looks) - len(places) - 3}"
     said = said[len(said) - said[::-1].index(mark) :]
@@ -71,7 +73,8 @@ def places_of(r: random.Random, event: Event) -> list[int]:
         pages = [at for at, (one, other) in enumerate(zip(event.before.state.pages, state.pages)) if one is not other]
         if pages:
             one, other = (s.pages[pages[0]] for s in (event.before.state, state))
-            places.append(second_reading.PAGE * pages[0] + next((at for at in range(len(one)) if one[at] != other[at]), 0))
+            places.append(second_reading.PAGE * pages[0] + next((at for at in range(len(one)) if one[at] != other[at]),
+                0))
     return [min(place & ~15, size - SHOWN_OCTETS) for place in places]
 
 
@@ -137,7 +140,8 @@ def descriptors_told(lines: list[str]) -> list[str]:
 
 def rings_told(script: str, numbers: list[int], room) -> dict[tuple[int, str], list[str]]:
     """By event and side, what em_debug tells of a ring's descriptors."""
-    commands = [f"{word} {one}" for number in numbers for word, one in (("goto", number), ("ring", "rx"), ("ring", "tx"))]
+    commands = [f"{word} {one}" for number in numbers for word,
+        one in (("goto", number), ("ring", "rx"), ("ring", "tx"))]
     told, key = {}, None
     for line in by_debugger(script, commands, room):
         at = re.match(r"at .*event (\d+)$", line)
@@ -192,7 +196,8 @@ def who_faults(asked: dict | None, watch: str, wanted: Event | None) -> list[str
     if wanted is None:
         should = [watch, "none", None, None, None]
     else:
-        should = [watch, str(wanted.number), str(wanted.line), sight(wanted.before.state, watch), sight(wanted.state, watch)]
+        should = [watch, str(wanted.number), str(wanted.line), sight(wanted.before.state, watch),
+            sight(wanted.state, watch)]
     faults = [] if told == should else [f"{watch}: told {told}, and not {should}"]
     if wanted and asked["at"] != str(wanted.number):
         faults.append(f"{watch}: the page is at event {asked['at']}, and not {wanted.number}")

@@ -29,7 +29,8 @@ def record_of(script: bytes, budget: int = BUDGET) -> bytes:
 
 
 def page_of(record: bytes) -> bytes:
-    ran = subprocess.run([TOP / "em_page", "--record", "-"], input=record, stdout=subprocess.PIPE, check=True, timeout=60)
+    ran = subprocess.run([TOP / "em_page", "--record", "-"], input=record, stdout=subprocess.PIPE, check=True,
+        timeout=60)
     return ran.stdout
 
 

@@ -27,7 +27,8 @@ const rgba = (colour) => {
 };
 const over = (top, ground, a) => top.slice(0, 3).map((part, i) => part * a + ground[i] * (1 - a));
 const light = (rgb) => {
-  const [r, g, b] = rgb.slice(0, 3).map((part) => (part /= 255) <= 0.03928 ? part / 12.92 : ((part + 0.055) / 1.055) ** 2.4);
+  const [r, g, b] = rgb.slice(0, 3).map((part) => (part /= 255) <= 0.03928 ? part / 12.92
+      : ((part + 0.055) / 1.055) ** 2.4);
   return 0.2126 * r + 0.7152 * g + 0.0722 * b;
 };
 const ratio = (one, other) => (Math.max(light(one), light(other)) + 0.05) / (Math.min(light(one), light(other)) + 0.05);
@@ -43,12 +44,14 @@ for (const element of document.querySelectorAll('body *')) {
   }
   const text = over(rgba(getComputedStyle(element).color), ground ?? rgba('white'), opacity);
   const found = ratio(text, ground ?? rgba('white'));
-  if (found < arguments[0]) faults.push(`${element.tagName}.${element.className} ${element.textContent.slice(0, 20)}: ${found.toFixed(1)}`);
+  if (found < arguments[0]) faults.push(`${element.tagName}.${element.className} ${element.textContent.slice(0,
+      20)}: ${found.toFixed(1)}`);
 }
 const style = getComputedStyle(document.documentElement), named = (name) => rgba(style.getPropertyValue(name).trim());
 for (const [ink, ground] of [['--adapter-ink', '--adapter'], ['--driver-ink', '--driver'], ['--accent-ink', '--accent'],
   ['--bad', '--bad-shade'], ['--dim', '--panel'], ['--dim', '--page'], ['--ink', '--lit'],
-  ...['read', 'write', 'poke', 'arrive', 'rx', 'tx', 'link', 'driver', 'back'].map((kind) => ['--panel', `--kind-${kind}`])]) {
+  ...['read', 'write', 'poke', 'arrive', 'rx', 'tx', 'link', 'driver',
+      'back'].map((kind) => ['--panel', `--kind-${kind}`])]) {
   const found = ratio(named(ink), named(ground));
   if (found < arguments[0]) faults.push(`${ink} on ${ground}: ${found.toFixed(1)}`);
 }
@@ -86,19 +89,22 @@ def keyboard(tally: Tally, browser, room: Path) -> None:
                        (["End"], 15), (["ArrowRight"], 15)):
         browser.press(*keys)
         at = browser.run(AT)
-        tally.check(f"the keys {' '.join(keys)}", [] if at[0] == step else [f"they lead to step {at[0]}, and not {step}"])
+        tally.check(f"the keys {' '.join(keys)}", [] if at[0] == step
+            else [f"they lead to step {at[0]}, and not {step}"])
     browser.press("Home", "Space")
     after = browser.run(f"return new Promise((done) => setTimeout(() => done((() => {{ {AT} }})()), 900))")
     browser.press("Space")
     stopped = browser.run(AT)
     later = browser.run(f"return new Promise((done) => setTimeout(() => done((() => {{ {AT} }})()), 400))")
-    tally.check("space plays and stops", [] if 0 < after[0] <= stopped[0] == later[0] else [f"{after} {stopped} {later}"])
+    tally.check("space plays and stops", [] if 0 < after[0] <= stopped[0] == later[0]
+        else [f"{after} {stopped} {later}"])
     browser.press("End")
     by_tab(tally, browser)
 
 
 def by_tab(tally: Tally, browser) -> None:
-    """Every control is reached by Tab, and can be seen to be; a register, an octet and a line are asked about by keys."""
+    """Every control is reached by Tab, and can be seen to be; a register, an octet and a line are asked about by
+    keys."""
     browser.run("document.activeElement.blur(); window.scrollTo(0, 0)")
     seen, faults = [], []
     for _ in range(400):
@@ -138,11 +144,13 @@ def labels(tally: Tally, browser, room: Path) -> None:
     for example in ("driver.em", "broken/ring.em"):
         opened(browser, room, example)
         tree = browser.command("Accessibility.getFullAXTree")["nodes"]
-        roles = {"button", "slider", "checkbox", "textbox", "combobox", "listbox", "option", "gridcell", "grid", "img", "group"}
+        roles = {"button", "slider", "checkbox", "textbox", "combobox", "listbox", "option", "gridcell", "grid", "img",
+            "group"}
         unnamed = [node["role"]["value"] for node in tree if not node.get("ignored")
                    and node.get("role", {}).get("value") in roles and not node.get("name", {}).get("value")
                    and node["role"]["value"] != "group"]
-        tally.check(f"{example}, names for a screen reader", [f"{len(unnamed)} without: {unnamed[:5]}"] if unnamed else [])
+        tally.check(f"{example}, names for a screen reader", [f"{len(unnamed)} without: {unnamed[:5]}"] if unnamed
+            else [])
         ids = browser.run("return [...document.querySelectorAll('[id]')].map((one) => one.id)")
         tally.check(f"{example}, ids", sorted({f"{one} stands twice" for one in ids if ids.count(one) > 1}))
 
@@ -174,7 +182,8 @@ def schemes(tally: Tally, browser, room: Path) -> None:
             browser.press("ArrowLeft")
             name = f"{example}, {'dark' if dark else 'light'}"
             tally.check(f"{name}, contrast", browser.run(CONTRAST, LEAST_CONTRAST))
-            light = browser.run("return getComputedStyle(document.documentElement).backgroundColor.match(/\\d+/g).map(Number)[0] > 127")
+            light = browser.run("""
+              return Number(getComputedStyle(document.documentElement).backgroundColor.match(/\\d+/)[0]) > 127""")
             tally.check(name, [] if light != dark else ["the page has the other scheme"])
     browser.scheme(False)
 
@@ -184,12 +193,14 @@ def many_events(rounds: int) -> str:
     ring = [f"poke {0x1000 + 16 * i:X} {(0x2000 + 0x800 * i).to_bytes(16, 'little').hex()}" for i in range(8)]
     lines = ["w 02800 1000", "w 02808 80", "w 00100 8002", "w 000D0 80", "link up", *ring, "w 02818 7"]
     for i in range(rounds):
-        lines += [f"arrive FFFFFFFFFFFF02AABBCCDDEE0800{i:04X} {60 + i % 1400}", "rx", "r C0", ring[i % 8], f"w 02818 {i % 8:X}"]
+        lines += [f"arrive FFFFFFFFFFFF02AABBCCDDEE0800{i:04X} {60 + i % 1400}", "rx", "r C0", ring[i % 8],
+            f"w 02818 {i % 8:X}"]
     return "".join(f"{line}\n" for line in lines)
 
 
 def timing(tally: Tally, browser, room: Path) -> None:
-    """10,000 events open within a second, and a step is painted within 16 ms: the best of some tries, since others run too."""
+    """10,000 events open within a second, and a step is painted within 16 ms: the best of some tries, since others run
+    too."""
     page = room / "many.html"
     page.write_bytes(page_of(record_of(many_events(MANY_ROUNDS).encode())))
     opening, step = [], []

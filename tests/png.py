@@ -1,4 +1,5 @@
-"""Writes a picture (PNG, of 8 bits for each colour) again with a palette of 256 colours, which takes a third of the octets."""
+"""Writes a picture (PNG, of 8 bits for each colour) again with a palette of 256 colours, which takes a third of the
+octets."""
 import collections
 import struct
 import zlib
@@ -58,4 +59,5 @@ def with_palette(data: bytes) -> bytes:
         return struct.pack(">I", len(what)) + kind + what + struct.pack(">I", zlib.crc32(kind + what))
 
     head = struct.pack(">IIBBBBB", width, height, 8, PALETTE, 0, 0, 0)
-    return SIGNATURE + chunk(b"IHDR", head) + chunk(b"PLTE", b"".join(palette)) + chunk(b"IDAT", packed) + chunk(b"IEND", b"")
+    return SIGNATURE + chunk(b"IHDR", head) + chunk(b"PLTE", b"".join(palette)) + chunk(b"IDAT",
+        packed) + chunk(b"IEND", b"")

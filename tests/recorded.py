@@ -1,4 +1,5 @@
-"""Makes the record of a run, as em_record writes it, by the second reading: each event's effect is the difference of the
+"""Makes the record of a run, as em_record writes it, by the second reading: each event's effect is the difference of
+the
 copies of the states before and after it. `walk` gives the states themselves."""
 import json
 import re

@@ -11,8 +11,8 @@ import time
 
 ELEMENT = "element-6066-11e4-a52e-4f735466cecf"
 KEYS = {"ArrowLeft": "\uE012", "ArrowUp": "\uE013", "ArrowRight": "\uE014", "ArrowDown": "\uE015", "Home": "\uE011",
-        "End": "\uE010", "PageUp": "\uE00E", "PageDown": "\uE00F", "Enter": "\uE007", "Tab": "\uE004", "Escape": "\uE00C",
-        "Space": " "}
+        "End": "\uE010", "PageUp": "\uE00E", "PageDown": "\uE00F", "Enter": "\uE007", "Tab": "\uE004",
+        "Escape": "\uE00C", "Space": " "}
 
 
 def install() -> bool:
@@ -25,7 +25,8 @@ def install() -> bool:
     env = {**os.environ, "DEBIAN_FRONTEND": "noninteractive"}
     lock = ["-o", "DPkg::Lock::Timeout=120"]
     subprocess.run(["apt-get", "update"], env=env, **quiet)
-    subprocess.run(["apt-get", *lock, "install", "-y", "--no-install-recommends", "chromium", "chromium-driver"], env=env, **quiet)
+    subprocess.run(["apt-get", *lock, "install", "-y", "--no-install-recommends", "chromium", "chromium-driver"],
+        env=env, **quiet)
     return bool(shutil.which("chromium") and shutil.which("chromedriver"))
 
 
@@ -81,7 +82,8 @@ class Browser:
         self.command("Emulation.setEmulatedMedia", features=features)
 
     def size(self, width: int, height: int) -> None:
-        self.command("Emulation.setDeviceMetricsOverride", width=width, height=height, deviceScaleFactor=1, mobile=False)
+        self.command("Emulation.setDeviceMetricsOverride", width=width, height=height, deviceScaleFactor=1,
+            mobile=False)
 
     def open(self, file) -> None:
         self.call("POST", "/url", {"url": f"file://{file}"})
