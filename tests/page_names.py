@@ -2,8 +2,8 @@
 
     tests/page_names.py > page/names.js
 
-`of_code()` reads crates/em_names/src/bits.rt, and `of_docs()` the table of docs/names.md. tests/page compares the two with
-the file.
+`of_code()` reads crates/em_names/src/bits.rt, and `of_docs()` the table of docs/names.md.
+tests/page compares the two with the file.
 """
 import json
 import re
