@@ -1,0 +1,137 @@
+// Elements and texts. Data of a record comes into the page as text nodes and attributes alone.
+
+/**
+ * Makes an element of HTML.
+ * @param {string} tag
+ * @param {Object<string, string|number|boolean|null>} [attributes] those that are null or false are left out
+ * @param {...(Node|string)} children
+ * @returns {HTMLElement}
+ */
+function make(tag, attributes = {}, ...children) {
+  return filled(document.createElement(tag), attributes, children);
+}
+
+/** Makes an element of a drawing (SVG). @returns {SVGElement} */
+function draw(tag, attributes = {}, ...children) {
+  return filled(document.createElementNS("http://www.w3.org/2000/svg", tag), attributes, children);
+}
+
+function filled(element, attributes, children) {
+  for (const [name, value] of Object.entries(attributes)) {
+    if (value !== null && value !== false) element.setAttribute(name, value === true ? "" : String(value));
+  }
+  element.append(...children);
+  return element;
+}
+
+/** The element of an id, which the page has. @returns {HTMLElement} */
+function byId(id) {
+  return document.getElementById(id);
+}
+
+/** Sets an element's text, where it is another one. */
+function setText(element, text) {
+  if (element.textContent !== text) element.textContent = text;
+}
+
+/** Sets an attribute, where its value is another one; null takes it away. */
+function setAttribute(element, name, value) {
+  if (value === null) element.removeAttribute(name);
+  else if (element.getAttribute(name) !== String(value)) element.setAttribute(name, String(value));
+}
+
+/**
+ * Makes an element's children like those of another list, and changes only what differs: what stays is not laid out
+ * again,
+ * and keeps the focus.
+ * @param {Element} element @param {Node[]} children
+ */
+function become(element, children) {
+  const there = [...element.childNodes];
+  children.forEach((child, index) => {
+    if (index < there.length) morph(there[index], child);
+    else element.append(child);
+  });
+  for (const child of there.slice(children.length)) child.remove();
+}
+
+/** @param {Node} old in the page @param {Node} fresh outside it */
+function morph(old, fresh) {
+  if (old.nodeName !== fresh.nodeName) {
+    old.replaceWith(fresh);
+  } else if (old.nodeType === Node.TEXT_NODE) {
+    if (old.data !== fresh.data) old.data = fresh.data;
+  } else {
+    for (const { name } of [...old.attributes]) if (!fresh.hasAttribute(name)) old.removeAttribute(name);
+    for (const { name, value } of fresh.attributes) if (old.getAttribute(name) !== value) old.setAttribute(name, value);
+    become(old, [...fresh.childNodes]);
+  }
+}
+
+/**
+ * A button that asks who changed something. What it asks about stands in `data-watch`; main.js listens for its click.
+ * @param {string} watch
+ * @param {Object<string, string|number|boolean|null>} attributes
+ */
+function askButton(watch, attributes, ...children) {
+  return make("button", { type: "button", "data-watch": watch, ...attributes }, ...children);
+}
+
+/**
+ * A number as hexadecimal digits in upper case.
+ * @param {number|bigint} value
+ * @param {number} digits the least number
+ */
+function hex(value, digits) {
+  return value.toString(16).toUpperCase().padStart(digits, "0");
+}
+
+/** An address of guest memory, as texts of the project write it. */
+function addressText(address) {
+  return hex(address, 6);
+}
+
+/** The octets from an address on, as a range. */
+function rangeText(address, count) {
+  return count === 1 ? addressText(address) : `${addressText(address)}–${addressText(address + count - 1)}`;
+}
+
+const DIGITS = new Map([..."0123456789ABCDEFabcdef"].map((digit) => [digit.charCodeAt(0), parseInt(digit, 16)]));
+const DIGIT_OF = new Uint8Array(128);
+for (const [code, value] of DIGITS) DIGIT_OF[code] = value;
+
+/** Decodes hexadecimal digits, an even number of them. @param {string} digits @returns {Uint8Array} */
+function octetsOf(digits) {
+  const octets = new Uint8Array(digits.length >> 1);
+  for (let i = 0; i < octets.length; i++) {
+    octets[i] = (DIGIT_OF[digits.charCodeAt(2 * i)] << 4) | DIGIT_OF[digits.charCodeAt(2 * i + 1)];
+  }
+  return octets;
+}
+
+const PAIRS = Array.from({ length: 256 }, (_, octet) => hex(octet, 2));
+
+/** Octets as hexadecimal digits. @param {Uint8Array} octets */
+function digitsOf(octets) {
+  let text = "";
+  for (const octet of octets) text += PAIRS[octet];
+  return text;
+}
+
+/** A number with its thing: `1 event`, `12,000 events`. */
+function counted(count, thing) {
+  return `${count.toLocaleString("en")} ${thing}${count === 1 ? "" : "s"}`;
+}
+
+/** A text of at most so many characters, with what is left out told. */
+function shortened(text, most) {
+  if (text.length <= most) return text;
+  return `${text.slice(0, most)}… (${text.length.toLocaleString("en")} characters)`;
+}
+
+/** A text whose control characters can be seen. */
+function visible(text) {
+  // eslint-disable-next-line no-control-regex
+  return text.replace(/[\u0000-\u001F\u007F]/g, (mark) =>
+    mark === "\u007F" ? "\u2421" : String.fromCharCode(0x2400 + mark.charCodeAt(0)));
+}

@@ -1,0 +1,104 @@
+// Frames that wait in the FIFO, and those that were sent.
+
+const MOST_FRAMES = 8;
+const LEAST_FRAME = 14;
+const MOST_LENGTH_FIELD = 1500;
+const VLAN_TYPE = 0x8100;
+const TYPES = new Map([[0x0800, "IPv4"], [0x0806, "ARP"], [0x86DD, "IPv6"], [0x8100, "VLAN"], [0x88CC, "LLDP"],
+  [0x88A8, "S-VLAN"]]);
+
+/** An Ethernet address. @param {Uint8Array} octets six of them */
+function macText(octets) {
+  return [...octets].map((octet) => PAIRS[octet]).join(":");
+}
+
+/** What kind of address a destination is. */
+function kindOfAddress(octets) {
+  if (octets.every((octet) => octet === 0xFF)) return "broadcast";
+  return octets[0] & 1 ? "group" : "";
+}
+
+/** The parts of a frame: name, text. @param {Uint8Array} octets */
+function frameParts(octets) {
+  if (octets.length < LEAST_FRAME) return [["octets", counted(octets.length, "octet")]];
+  const word = (at) => (octets[at] << 8) | octets[at + 1];
+  const kind = kindOfAddress(octets.subarray(0, 6));
+  const parts = [["to", macText(octets.subarray(0, 6)) + (kind ? ` (${kind})` : "")],
+    ["from", macText(octets.subarray(6, 12))]];
+  let at = 12;
+  if (word(at) === VLAN_TYPE && octets.length >= LEAST_FRAME + 4) {
+    const tag = word(14);
+    parts.push(["tag", `VLAN ${tag & 0xFFF} priority ${tag >>> 13}${(tag >>> 12) & 1 ? " CFI" : ""}`]);
+    at = 16;
+  }
+  const type = word(at);
+  parts.push(type <= MOST_LENGTH_FIELD ? ["length", String(type)]
+    : ["type", hex(type, 4) + (TYPES.has(type) ? ` ${TYPES.get(type)}` : "")]);
+  parts.push(["", counted(octets.length, "octet")]);
+  return parts;
+}
+
+/** Octets in lines of so many, with their letters. */
+function octetLines(octets, across) {
+  const lines = [];
+  for (let at = 0; at < octets.length; at += across) {
+    const part = octets.subarray(at, at + across);
+    const letters = [...part].map((octet) => (octet >= 0x20 && octet < 0x7F ? String.fromCharCode(octet)
+      : ".")).join("");
+    lines.push(`${hex(at, 4)}  ${[...part].map((octet) => PAIRS[octet]).join(" ").padEnd(3 * across)} ${letters}`);
+  }
+  return lines.join("\n");
+}
+
+class Frames {
+  constructor(app) {
+    this.app = app;
+    this.items = new WeakMap();
+  }
+
+  paint() {
+    const { place } = this.app;
+    const fifo = waiting(place);
+    setText(byId("fifo-head"), fifo.length ? `${counted(fifo.length, "frame")}, the first one first` : "empty");
+    this.list(byId("fifo"), fifo.slice(0, MOST_FRAMES), fifo.length - MOST_FRAMES);
+    const count = place.sending?.count ?? 0;
+    setText(byId("wire-head"), count ? `${counted(count, "frame")} sent, the newest first` : "nothing was sent");
+    this.list(byId("wire"), sentFrames(place, MOST_FRAMES), count - MOST_FRAMES);
+    setAttribute(byId("wire"), "data-count", count);
+    setAttribute(byId("fifo"), "data-count", fifo.length);
+  }
+
+  /** @private */
+  list(element, frames, more) {
+    const isNew = (frame) => this.app.changes && frame.place === this.app.place;
+    const items = frames.map((frame) => {
+      if (!this.items.has(frame)) this.items.set(frame, this.item(frame));
+      const item = this.items.get(frame);
+      setAttribute(item, "data-changed", isNew(frame) ? "" : null);
+      return item;
+    });
+    if (more > 0) items.push(make("li", { class: "quiet" }, `and ${counted(more, "frame")} more`));
+    const same = items.length === element.children.length && items.every((item, index) =>
+      element.children[index] === item);
+    if (!same) element.replaceChildren(...items);
+  }
+
+  /** @private */
+  item(frame) {
+    const source = make("button", { type: "button", class: "from", "data-step": frame.place.step },
+      `event ${frame.place.number}, line ${frame.place.line}`);
+    if (frame.octets === null) {
+      return make("li", { class: "frame" }, make("p", {}, "a frame whose octets are not in the record "), source);
+    }
+    const octets = octetsOf(frame.octets);
+    const parts = frameParts(octets).map(([name, text]) =>
+      make("span", { class: `part part-${name || "size"}` }, name ? make("i", {}, `${name} `) : "", text));
+    const body = make("pre", {});
+    const details = make("details", {}, make("summary", {}, "octets"), body);
+    details.addEventListener("toggle", () => {
+      body.textContent = octetLines(octets, matchMedia("(max-width: 560px)").matches ? 8 : 12);
+    }, { once: true });
+    return make("li", { class: "frame", "data-octets": frame.octets.toUpperCase() }, make("p", {}, ...parts), source,
+      details);
+  }
+}

@@ -1,0 +1,219 @@
+// Puts the page together: where one is in the run, what was asked, and which keys do what.
+
+const PAGE_STEPS = 10;
+const MOST_TRAIL = 6;
+
+class App {
+  /** @param {Run} run */
+  constructor(run) {
+    this.run = run;
+    this.state = run.state;
+    this.start = run.root.snapshot.registers;
+    /** @type {number} the place in the run: a step */
+    this.step = run.steps.length - 1;
+    this.state.goTo(this.place);
+    this.line = run.steps[this.step].line;
+    /** @type {{text: string, watch: Watch, place: Place|null}|null} what was asked last, and the event that was told */
+    this.asked = null;
+    this.origin = 0;
+    this.trail = [];
+    this.rings = [new RingPanel(this, "rx"), new RingPanel(this, "tx")];
+    this.timeline = new Timeline(this);
+    this.memory = new MemoryPanel(this);
+    this.panels = [new ScriptPanel(this), this.timeline, new Wave(this, this.timeline), ...this.rings,
+      new Present(this),
+      new Registers(this), this.memory, new Frames(this)];
+    this.signals();
+    this.listen();
+  }
+
+  get place() {
+    return this.run.steps[this.step].place;
+  }
+
+  /** Whether the present step performed the event of its place, so that what it changed is lit. */
+  get changes() {
+    return this.run.steps[this.step].performs;
+  }
+
+  startValue(name) {
+    return this.start[INDEX_OF.get(name)];
+  }
+
+  /** Goes to a step, which is brought within the run. @param {number} line the line to light, if not the step's own */
+  goTo(step, playing = false, line = 0) {
+    if (!playing) this.timeline.play(false);
+    this.step = Math.max(0, Math.min(this.run.steps.length - 1, step));
+    this.line = line || this.run.steps[this.step].line;
+    this.state.goTo(this.place);
+    this.memory.follow();
+    this.paint();
+  }
+
+  /** Asks who changed something last; of the event that was told last, who did before. @param {string} text */
+  ask(text) {
+    const watch = watchOf(text);
+    const isAgain = this.asked !== null && this.asked.text === text && this.asked.place === this.place;
+    if (!isAgain) this.origin = this.step;
+    const found = lastChange(isAgain ? this.place.before : this.place, watch);
+    this.asked = { text, watch, place: found ?? (isAgain ? this.place : null) };
+    byId("who-help").hidden = true;
+    if (found) this.goTo(found.step);
+    if (watch.kind === "octets") this.memory.show(watch.address);
+    this.answer(watch, found, isAgain);
+    this.paint();
+  }
+
+  /** @private */
+  answer(watch, found, isAgain) {
+    const element = byId("who");
+    setAttribute(element, "data-asked", this.asked.text);
+    setAttribute(element, "data-event", found ? found.number : "none");
+    setAttribute(element, "data-line", found ? found.line : null);
+    const name = watchText(watch);
+    if (!found) {
+      setAttribute(element, "data-before", null);
+      setAttribute(element, "data-after", null);
+      const none = isAgain ? "no earlier event changed it" : "no event up to here changed it";
+      element.replaceChildren(make("b", {}, name), `: ${none}`);
+      setText(byId("told"), `${name}: ${none}`);
+      return;
+    }
+    const [before, after] = sights(this.state, watch);
+    setAttribute(element, "data-before", before);
+    setAttribute(element, "data-after", after);
+    const by = `event ${found.number}, line ${found.line}`;
+    const text = visible(shortened(this.run.script[found.line - 1] ?? "", 60));
+    element.replaceChildren(make("b", {}, name), `${isAgain ? " before that" : ""} changed by `,
+      make("button", { type: "button", "data-step": found.step }, by), ": ", make("code", {}, text), " ",
+      make("span", { class: "change" }, make("s", {}, shortened(before, 64)), " → ",
+        make("b", {}, shortened(after, 64))));
+    setText(byId("told"), `${name}: ${by}: ${shortened(before, 16)} → ${shortened(after, 16)}`);
+    this.tell(name, by, found.step);
+  }
+
+  /** Keeps the answers before the last one, the newest first. @private */
+  tell(name, by, step) {
+    byId("trail").replaceChildren(...this.trail.map((told) =>
+      make("li", {}, make("button", { type: "button", "data-step": told.step }, told.text))));
+    this.trail.unshift({ step, text: `${name} · ${by}` });
+    this.trail.length = Math.min(this.trail.length, MOST_TRAIL);
+  }
+
+  /** What a step is, in words. */
+  stepText(step = this.step) {
+    const { kind, mark, line, place, performs } = this.run.steps[step];
+    return [KINDS[kind][1], performs ? `event ${place.number}` : "", line ? `line ${line}` : "", mark ? MARKS[mark][1]
+      : ""]
+      .filter(Boolean).join(", ");
+  }
+
+  paint() {
+    const { place, run, step } = this;
+    for (const panel of this.panels) panel.paint();
+    this.paintSignals();
+    const main = byId("run");
+    for (const [name, value] of Object.entries({
+      step, event: place.number, line: run.steps[step].line, link: place.link ? "up" : "down",
+      interrupt: place.interrupt ? 1 : 0, frames: place.frames, sent: place.sending?.count ?? 0,
+    })) setAttribute(main, `data-${name}`, value);
+    const back = byId("return");
+    back.hidden = this.asked === null || this.origin === step;
+    setText(back, `return to step ${this.origin}`);
+  }
+
+  /** @private */
+  signals() {
+    this.signalButtons = [["link", "link"], ["interrupt", "interrupt line"], ["frames", "FIFO"], ["sent", "sent"]].map(
+      ([watch, words]) => {
+        const value = make("b", {});
+        return { watch, words, value, button: askButton(watch, { class: "signal" }, `${words} `, value) };
+      });
+    byId("signals").replaceChildren(...this.signalButtons.map(({ button }) => button));
+  }
+
+  /** @private */
+  paintSignals() {
+    const { place } = this;
+    const values = { link: place.link ? "up" : "down", interrupt: place.interrupt ? "1" : "0",
+      frames: String(place.frames),
+      sent: String(place.sending?.count ?? 0) };
+    for (const { watch, words, value, button } of this.signalButtons) {
+      setText(value, values[watch]);
+      setAttribute(button, "data-changed", this.changes && changed(place, watchOf(watch)) ? "" : null);
+      setAttribute(button, "aria-label", `${words} ${values[watch]}: who changed it last?`);
+    }
+  }
+
+  /** @private */
+  listen() {
+    document.addEventListener("click", (event) => {
+      const button = event.target.closest("[data-watch], button[data-step], [data-show]");
+      if (!button) return;
+      if (button.dataset.watch) this.ask(button.dataset.watch);
+      else if (button.dataset.show) this.memory.showAt(Number(button.dataset.show));
+      else this.goTo(Number(button.dataset.step));
+    });
+    document.addEventListener("keydown", (event) => this.keyed(event));
+    byId("return").addEventListener("click", () => this.goTo(this.origin));
+    matchMedia("(prefers-color-scheme: dark)").addEventListener("change", () => {
+      readPalette();
+      this.paint();
+    });
+    const observer = new ResizeObserver(() => {
+      widths.clear();
+      this.paint();
+    });
+    for (const id of ["overview", "analyser", "map"]) observer.observe(byId(id));
+  }
+
+  /** @private */
+  keyed(event) {
+    const { target } = event;
+    if (event.defaultPrevented || event.ctrlKey || event.altKey || event.metaKey || target.closest("select")
+      || (target.matches("input") && !["range", "checkbox"].includes(target.type))) return;
+    const go = {
+      ArrowLeft: () => this.goTo(this.step - 1), ArrowRight: () => this.goTo(this.step + 1),
+      PageUp: () => this.goTo(this.step - PAGE_STEPS), PageDown: () => this.goTo(this.step + PAGE_STEPS),
+      Home: () => this.goTo(0), End: () => this.goTo(Infinity),
+      Escape: () => this.asked !== null && this.goTo(this.origin),
+      " ": target.closest("button, summary, input, [role=gridcell]") ? undefined : () =>
+        this.timeline.play(!this.timeline.timer),
+    }[event.key];
+    if (!go) return;
+    event.preventDefault();
+    go();
+  }
+}
+
+/** Says above the page what is wrong with the record, and what is shown of it. */
+function tellBroken(fault, run) {
+  const element = byId("broken");
+  element.hidden = false;
+  const rest = run ? ` What stands before that is shown: ${counted(run.steps.length - 1, "step")}.` : "";
+  element.replaceChildren(make("b", {}, "⚠\uFE0E This record is broken: "), `${fault}.${rest}`);
+}
+
+function begin() {
+  readPalette();
+  const { run, fault } = readRecord(byId("record").textContent);
+  if (fault) tellBroken(fault, run);
+  if (!run) return;
+  const { memory, budget, mac } = run.settings;
+  const events = run.steps.filter((step) => step.performs).length;
+  setText(byId("settings"), [
+    `${counted(run.script.length, "line")}, ${counted(events, "event")}`, `${counted(memory, "octet")} of memory`,
+    ...(typeof mac === "string" && isDigits(mac) && mac.length === 12 ? [`address ${macText(octetsOf(mac))}`] : []),
+    ...(isNumber(budget, Infinity) ? [`a journal of ${counted(budget, "octet")}`] : []),
+  ].join(" · "));
+  byId("run").hidden = false;
+  const app = new App(run);
+  app.memory.showNewest();
+  app.paint();
+}
+
+try {
+  begin();
+} catch (fault) {
+  tellBroken(`this page can’t show it (${fault instanceof Error ? fault.message : fault})`, null);
+}

@@ -1,0 +1,343 @@
+// Reads a record of a run. A record is data, whoever made it: what contradicts the format or itself is named.
+
+const FORMAT = "bunjelav recording";
+const VERSION = 1;
+const MOST_MEMORY = 16_777_216;
+/** The bit of STATUS that says that the link is up. */
+const LINK_UP = 1;
+/** The first words of the lines by which a driver is called: each makes several events. */
+const DRIVER_WORDS = new Set(["init", "send", "recv", "stats", "mac"]);
+const LOOK_WORDS = new Set(["peek", "line", "regs", "wire", "turns"]);
+const KIND_OF_WORD = new Map([
+  ["r", "read"], ["w", "write"], ["poke", "poke"], ["arrive", "arrive"], ["rx", "rx"], ["tx", "tx"], ["link", "link"],
+]);
+
+/** What is wrong with a record, in words. */
+class Broken extends Error {}
+
+/**
+ * A step of the run: an event, a reverse step, or a line that did nothing.
+ * @typedef {Object} Step
+ * @property {"start"|"read"|"write"|"poke"|"arrive"|"rx"|"tx"|"link"|"driver"|"look"|"back"} kind
+ * @property {""|"refused"|"dropped"|"bad"} mark
+ * @property {number} line its number from 1; 0 for the start
+ * @property {Place} place behind it
+ * @property {boolean} performs whether it performed the event of its place
+ * @property {number} back how many events it took back
+ *
+ * @typedef {Object} Line
+ * @property {string[]} answer
+ * @property {string|null} refused
+ * @property {number} first the first of its steps, or the one at which it stands
+ * @property {number} last
+ *
+ * @typedef {Object} Run
+ * @property {{memory: number, budget: number, mac: string}} settings
+ * @property {string[]} script
+ * @property {Line[]} lines of the script, by number less 1; those that were not played are missing
+ * @property {Step[]} steps
+ * @property {Place} root
+ * @property {State} state at the last place that was read
+ * @property {boolean} ended
+ */
+
+/**
+ * Reads a record as far as it is whole.
+ * @param {string} text
+ * @returns {{run: Run|null, fault: string|null}} the run is null where not even its start can be read
+ */
+function readRecord(text) {
+  let reader = null;
+  try {
+    const { record, fault } = parsed(text);
+    reader = new Reader(record);
+    reader.lines(record.lines);
+    want(!fault, fault);
+    reader.end(record.end);
+    return { run: reader.run, fault: null };
+  } catch (fault) {
+    if (!(fault instanceof Broken)) throw fault;
+    return { run: reader && reader.run, fault: fault.message };
+  }
+}
+
+function want(holds, words) {
+  if (!holds) throw new Broken(words);
+}
+
+/** The record that a text is, or the front of one that was cut off, with what is wrong then. */
+function parsed(text) {
+  want(text.trim() !== "", "it is empty");
+  const whole = text.replace(/^\uFEFF/, "");
+  try {
+    return { record: isRecord(JSON.parse(whole)), fault: "" };
+  } catch (fault) {
+    if (fault instanceof Broken) throw fault;
+    const front = frontOf(whole);
+    want(front !== null, `it is cut off, or is not JSON (${shortened(visible(fault.message), 200)})`);
+    const line = front.lines.length ? `behind line ${front.lines[front.lines.length - 1].line}`
+      : "before its first line";
+    return { record: isRecord(front), fault: `it is cut off, or is not JSON, ${line} of its script` };
+  }
+}
+
+/** The front of a record that was cut off: up to the last whole line. Null where there is none. */
+function frontOf(text) {
+  const open = [];
+  let end = -1;
+  let inText = false;
+  for (let i = 0; i < text.length; i++) {
+    const mark = text[i];
+    if (inText) {
+      if (mark === "\\") i += 1;
+      else if (mark === '"') inText = false;
+    } else if (mark === '"') {
+      inText = true;
+    } else if (mark === "{" || mark === "[") {
+      open.push(mark);
+    } else if (mark === "}" || mark === "]") {
+      open.pop();
+      if (mark === "}" && open.join("") === "{[") end = i + 1;
+    }
+  }
+  try {
+    const front = JSON.parse(`${text.slice(0, end)}]}`);
+    return isObject(front) && Array.isArray(front.lines) ? front : null;
+  } catch {
+    return null;
+  }
+}
+
+function isRecord(record) {
+  want(isObject(record), "it is no JSON object");
+  want(record.format === FORMAT, `its format is not “${FORMAT}”`);
+  want(record.version === VERSION,
+    `its version is ${shortened(JSON.stringify(record.version) ?? "missing", 40)}, and this `
+    + `page reads version ${VERSION}`);
+  return record;
+}
+
+const isObject = (value) => typeof value === "object" && value !== null && !Array.isArray(value);
+const isNumber = (value, most) => Number.isInteger(value) && value >= 0 && value <= most;
+const isWord = (value) => isNumber(value, 0xFFFFFFFF);
+const isDigits = (value) => typeof value === "string" && value.length % 2 === 0 && /^[0-9A-Fa-f]*$/.test(value);
+const isTexts = (value) => Array.isArray(value) && value.every((text) => typeof text === "string");
+const isPair = (value, type) => Array.isArray(value) && value.length === 2 && value.every((one) => typeof one === type);
+
+/** Reads the parts of a record, in their order; `run` is what was read so far. */
+class Reader {
+  constructor(record) {
+    const { settings, script, start } = record;
+    want(isObject(settings) && isNumber(settings.memory, MOST_MEMORY) && settings.memory >= PAGE_OCTETS
+      && settings.memory % PAGE_OCTETS === 0, "its size of memory is none that an adapter can have");
+    want(isTexts(script), "its script is no list of texts");
+    const registers = startRegisters(start);
+    /** @type {Place} */
+    const root = {
+      number: 0, before: null, step: 0, line: 0, takenBack: Infinity, registers: [], memory: [], framesChange: null,
+      sent: null, linkChange: null, interruptChange: null, frames: 0, link: false, interrupt: false, arrival: null,
+      sending: null, snapshot: null,
+    };
+    /** @type {Run} */
+    this.run = {
+      settings, script, lines: [], root, state: new State(root, registers, settings.memory), ended: false,
+      steps: [{ kind: "start", mark: "", line: 0, place: root, performs: false, back: 0 }],
+    };
+  }
+
+  lines(lines) {
+    want(Array.isArray(lines), "it has no list of lines");
+    let number = 0;
+    for (const line of lines) {
+      want(isObject(line) && isNumber(line.line, this.run.script.length) && line.line > number,
+        `what follows line ${number} is not a later line of its script`);
+      number = line.line;
+      this.line(line, `line ${number}`);
+    }
+  }
+
+  end(end) {
+    want(end !== undefined, "it was cut off: it has no end");
+    const { state, lines } = this.run;
+    want(isObject(end) && isNumber(end.events, Infinity) && isNumber(end.lines, Infinity), "its end can’t be read");
+    want(end.events === state.place.number,
+      `its end says ${counted(end.events, "event")}, and ${state.place.number} stand there`);
+    const played = lines.reduce((count) => count + 1, 0);
+    want(end.lines === played, `its end says ${counted(end.lines, "line")}, and ${played} are there`);
+    this.run.ended = true;
+  }
+
+  /** @private */
+  line(line, name) {
+    const { run } = this;
+    want(isTexts(line.answer), `the answer of ${name} is no list of texts`);
+    want(line.refused === undefined || typeof line.refused === "string", `the refusal of ${name} is no text`);
+    want(Array.isArray(line.events), `${name} has no list of events`);
+    const word = (/[^ \t\r]+/.exec(run.script[line.line - 1]) ?? [""])[0];
+    const played = { answer: line.answer, refused: line.refused ?? null, first: run.steps.length, last: 0 };
+    if (line.back !== undefined) this.back(line, name);
+    for (const event of line.events) {
+      want(isObject(event), `an event of ${name} is no object`);
+      this.event(event, line, word, `event ${run.state.place.number + 1}, of ${name},`);
+    }
+    const has_step = run.steps.length > played.first;
+    if (!has_step && word !== "" && !word.startsWith("#")) {
+      this.add({ kind: LOOK_WORDS.has(word) ? "look" : KIND_OF_WORD.get(word) ?? (word === "back" ? "back" : "driver"),
+        mark: markOf(line), line: line.line, performs: false, back: 0 });
+    }
+    played.last = run.steps.length - 1;
+    played.first = Math.min(played.first, played.last);
+    run.lines[line.line - 1] = played;
+  }
+
+  /** @private */
+  back(line, name) {
+    const { state } = this.run;
+    want(isNumber(line.back, state.place.number), `${name} takes back more events than stand there`);
+    const step = this.run.steps.length;
+    for (let i = 0; i < line.back; i++) {
+      state.place.takenBack = step;
+      state.backward();
+    }
+    this.add({ kind: "back", mark: markOf(line), line: line.line, performs: false, back: line.back });
+  }
+
+  /** @private */
+  event(event, line, word, name) {
+    const { run } = this;
+    const before = run.state.place;
+    want(event.event === before.number + 1, `${name} has another number`);
+    /** @type {Place} */
+    const place = {
+      number: before.number + 1, before, step: run.steps.length, line: line.line, takenBack: Infinity,
+      registers: this.registers(event, name), memory: this.memory(event, name),
+      framesChange: this.frames(event, name), sent: sentOf(event, name),
+      linkChange: this.flag(event, "link", name), interruptChange: this.flag(event, "interrupt", name),
+      frames: before.frames, link: before.link, interrupt: before.interrupt, arrival: before.arrival,
+      sending: before.sending, snapshot: null,
+    };
+    if (place.framesChange) place.frames = place.framesChange[1];
+    if (place.linkChange) place.link = place.linkChange[1];
+    if (place.interruptChange) place.interrupt = place.interruptChange[1];
+    if (place.frames > before.frames) place.arrival = { place, octets: storedOf(event, name), before: before.arrival };
+    if (place.sent !== null) {
+      place.sending = { place, octets: place.sent, count: (before.sending?.count ?? 0) + 1, before: before.sending };
+    }
+    run.state.forward(place);
+    this.agrees(place, name);
+    if (place.number % SNAPSHOT_EVERY === 0) run.state.keep();
+    this.add({ kind: kindOf(word, place), mark: markOf(line), line: line.line, performs: true, back: 0 });
+  }
+
+  /** The link and the interrupt line stand in registers too. @private */
+  agrees(place, name) {
+    const { state } = this.run;
+    want(((state.at("STATUS") >>> LINK_UP) & 1) === Number(place.link),
+      `${name} leaves a link that STATUS contradicts`);
+    want(((state.at("ICR") & state.at("IMS")) !== 0) === place.interrupt,
+      `${name} leaves an interrupt line that ICR and IMS contradict`);
+  }
+
+  /** @private */
+  add(step) {
+    this.run.steps.push({ ...step, place: this.run.state.place });
+  }
+
+  /** @private */
+  registers(event, name) {
+    const changed = event.registers ?? [];
+    want(Array.isArray(changed), `${name} has no list of registers`);
+    let last = -1;
+    return changed.map((change) => {
+      want(Array.isArray(change) && change.length === 3 && isWord(change[1]) && isWord(change[2]),
+        `${name} has a register that can’t be read`);
+      const index = INDEX_OF.get(change[0]);
+      want(index !== undefined,
+        `${name} names a register ${shortened(JSON.stringify(change[0]), 40)}, which there is not`);
+      want(index > last, `${name} does not have its registers in their order`);
+      want(this.run.state.registers[index] === change[1],
+        `${name} says that ${change[0]} was ${hex(change[1], 8)} before it, and it was `
+        + hex(this.run.state.registers[index], 8));
+      last = index;
+      return [index, change[1], change[2]];
+    });
+  }
+
+  /** @private */
+  memory(event, name) {
+    const changed = event.memory ?? [];
+    want(Array.isArray(changed), `${name} has no list of octets`);
+    const { memory } = this.run.state;
+    let end = 0;
+    return changed.map((change) => {
+      want(Array.isArray(change) && change.length === 3 && isNumber(change[0], MOST_MEMORY) && isDigits(change[1])
+        && isDigits(change[2]) && change[1].length === change[2].length, `${name} has octets that can’t be read`);
+      const [address, before, after] = change;
+      want(address >= end, `${name} does not have its octets in their order`);
+      end = address + before.length / 2;
+      want(end <= memory.size, `${name} has octets outside memory`);
+      want(memory.holds(address, before), `${name} says what octets stood at ${addressText(address)} before it, and `
+        + "others did");
+      return [address, before, after];
+    });
+  }
+
+  /** @private */
+  frames(event, name) {
+    if (event.frames === undefined) return null;
+    const { frames } = this.run.state.place;
+    want(isPair(event.frames, "number") && isNumber(event.frames[1], frames + 1),
+      `${name} has a number of frames that can’t be`);
+    want(event.frames[0] === frames, `${name} says that ${event.frames[0]} frames waited before it, and ${frames} did`);
+    return event.frames;
+  }
+
+  /** @private */
+  flag(event, field, name) {
+    if (event[field] === undefined) return null;
+    want(isPair(event[field], "boolean"), `${name} has a change of the ${field} that can’t be read`);
+    want(event[field][0] === this.run.state.place[field], `${name} says that the ${field} was another before it`);
+    return event[field];
+  }
+}
+
+function startRegisters(start) {
+  want(isObject(start) && isObject(start.registers), "it does not say how the registers were at the start");
+  const values = new Uint32Array(REGISTERS.length);
+  for (const [name, value] of Object.entries(start.registers)) {
+    want(INDEX_OF.has(name), `it names a register ${shortened(JSON.stringify(name), 40)}, which there is not`);
+    want(isWord(value), `its ${name} at the start is no value of a register`);
+    values[INDEX_OF.get(name)] = value;
+  }
+  const missing = REGISTERS.find(([, name]) => !Object.hasOwn(start.registers, name));
+  want(!missing, `it does not say how ${missing?.[1]} was at the start`);
+  return values;
+}
+
+function sentOf(event, name) {
+  if (event.sent === undefined) return null;
+  want(isDigits(event.sent), `${name} has a sent frame that can’t be read`);
+  return event.sent;
+}
+
+function storedOf(event, name) {
+  if (event.stored === undefined) return null;
+  want(isDigits(event.stored), `${name} has a stored frame that can’t be read`);
+  return event.stored;
+}
+
+/** What a line's answer makes of its steps. */
+function markOf(line) {
+  if (line.bad) return "bad";
+  if (line.refused !== undefined) return "refused";
+  return line.answer.length && line.answer[0].startsWith("dropped") ? "dropped" : "";
+}
+
+/** What an event is: by its line, or, where a driver performed it, by what only an arrival or an engine's step does. */
+function kindOf(word, place) {
+  if (!DRIVER_WORDS.has(word)) return KIND_OF_WORD.get(word) ?? "driver";
+  if (place.framesChange && place.framesChange[1] > place.framesChange[0]) return "arrive";
+  const changes = (name) => place.registers.some(([index]) => index === INDEX_OF.get(name));
+  if (place.sent !== null || (changes("TDH") && !changes("TDLEN"))) return "tx";
+  return changes("RDH") && place.memory.length ? "rx" : "driver";
+}

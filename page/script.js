@@ -1,0 +1,115 @@
+// The script beside its answers, with the present line lit. Only the lines that can be seen are in the page.
+
+const LINE_HEIGHT = 22;
+const SPARE_LINES = 10;
+const MOST_LETTERS = 300;
+
+class ScriptPanel {
+  constructor(app) {
+    this.app = app;
+    this.element = byId("script");
+    this.room = byId("script-room");
+    this.room.style.setProperty("height", `${LINE_HEIGHT * app.run.script.length}px`);
+    this.made = new Map();
+    // where it is scrolled to and how tall it is: to ask for it at each step would lay the page out again
+    this.top = 0;
+    this.height = this.element.clientHeight;
+    this.element.addEventListener("scroll", () => {
+      this.top = this.element.scrollTop;
+      this.fill();
+    });
+    this.element.addEventListener("click", (event) => {
+      const line = event.target.closest("[data-line]");
+      if (line) this.choose(Number(line.dataset.line));
+    });
+    this.element.addEventListener("keydown", (event) => this.keyed(event));
+    new ResizeObserver(() => {
+      this.height = this.element.clientHeight;
+      this.fill();
+    }).observe(this.element);
+  }
+
+  /** Goes to the state behind a line. A comment's is that of the line before it. */
+  choose(number) {
+    const line = this.app.run.lines[number - 1];
+    if (line) this.app.goTo(line.last, false, number);
+    else this.app.goTo(Infinity, false, number);
+  }
+
+  /** @private */
+  keyed(event) {
+    const by = { ArrowUp: -1, ArrowDown: 1 }[event.key];
+    if (by === undefined || event.ctrlKey || event.altKey || event.metaKey) return;
+    event.preventDefault();
+    event.stopPropagation();
+    const number = Math.max(1, Math.min(this.app.run.script.length, this.app.line + by));
+    this.choose(number);
+  }
+
+  paint() {
+    const { line } = this.app;
+    const top = (line - 1) * LINE_HEIGHT;
+    if (line > 0 && (top < this.top + LINE_HEIGHT || top > this.top + this.height - 3 * LINE_HEIGHT)) {
+      const most = LINE_HEIGHT * this.app.run.script.length - this.height;
+      const wanted = Math.round(Math.max(0, Math.min(most, top - this.height / 2)));
+      if (wanted !== this.top) {
+        this.top = wanted;
+        this.element.scrollTop = wanted;
+      }
+    }
+    this.fill();
+    for (const [number, option] of this.made) this.paintLine(number, option);
+    setAttribute(this.element, "aria-activedescendant", line > 0 ? `line-${line}` : null);
+  }
+
+  /** Makes the lines that can be seen, and drops the others. @private */
+  fill() {
+    const first = Math.max(1, Math.floor(this.top / LINE_HEIGHT) + 1 - SPARE_LINES);
+    const last = Math.min(this.app.run.script.length, Math.ceil((this.top + this.height) / LINE_HEIGHT) + SPARE_LINES);
+    for (const [number, option] of this.made) {
+      if (number < first || number > last) {
+        option.remove();
+        this.made.delete(number);
+      }
+    }
+    for (let number = first; number <= last; number++) {
+      if (this.made.has(number)) continue;
+      const option = this.option(number);
+      this.made.set(number, option);
+      this.room.append(option);
+      this.paintLine(number, option);
+    }
+  }
+
+  /** @private */
+  option(number) {
+    const text = visible(shortened(this.app.run.script[number - 1], MOST_LETTERS));
+    const line = this.app.run.lines[number - 1];
+    const answer = line && line.answer.length
+      ? visible(shortened(line.answer[0], 60)) + (line.answer.length > 1 ? ` … ${line.answer.length} lines` : "") : "";
+    const mark = line ? this.app.run.steps[line.last].mark : "";
+    const sign = mark && line.answer.length ? `${MARKS[mark][0]} ` : "";
+    const option = make("div", {
+      role: "option", id: `line-${number}`, "data-line": number, "aria-setsize": this.app.run.script.length,
+      "aria-posinset": number, class: text.trimStart().startsWith("#") ? "script-line comment" : "script-line",
+      title: text,
+    }, make("span", { class: "number" }, String(number)), make("span", { class: "text" }, text),
+    make("span", { class: `answer${sign ? ` mark-${mark}` : ""}` }, sign + answer));
+    option.style.setProperty("top", `${(number - 1) * LINE_HEIGHT}px`);
+    return option;
+  }
+
+  /** @private */
+  paintLine(number, option) {
+    const { run, step, line: present } = this.app;
+    const line = run.lines[number - 1];
+    const ahead = line ? line.first > step : number > present;
+    const place = line ? run.steps[line.last].place : null;
+    const isGone = line && run.steps[line.last].performs && run.steps[line.last].line === number
+      && place.takenBack <= step;
+    setAttribute(option, "aria-selected", number === present);
+    setAttribute(option, "data-ahead", ahead ? "" : null);
+    setAttribute(option, "data-gone", isGone ? "" : null);
+    setAttribute(option, "aria-label", isGone ? `${option.textContent} (taken back)` : null);
+  }
+}

@@ -1,0 +1,194 @@
+// The adapter's state at a place of the run: it goes forward and back by what each event changed.
+
+const PAGE_BITS = 12;
+const PAGE_OCTETS = 1 << PAGE_BITS;
+/** A page that was never written. */
+const ZEROS = new Uint8Array(PAGE_OCTETS);
+/** Every so many events a snapshot is kept, from which a far place is reached. */
+const SNAPSHOT_EVERY = 256;
+
+/**
+ * An event that was performed, and so the state behind it. The root, number 0, is the state at the start.
+ * @typedef {Object} Place
+ * @property {number} number of the event among those that stand
+ * @property {Place|null} before the event before it
+ * @property {number} step the step of the run that performed it
+ * @property {number} line
+ * @property {number} takenBack the step that took it back; Infinity where it stands at the end
+ * @property {[number, number, number][]} registers index, before, after
+ * @property {[number, string, string][]} memory address, octets before and after
+ * @property {number[]|null} framesChange
+ * @property {string|null} sent the octets of the frame that was sent
+ * @property {boolean[]|null} linkChange
+ * @property {boolean[]|null} interruptChange
+ * @property {number} frames in the FIFO behind it
+ * @property {boolean} link
+ * @property {boolean} interrupt
+ * @property {Arrival|null} arrival the newest frame that came into the FIFO up to here
+ * @property {Sending|null} sending the newest frame that was sent up to here
+ * @property {Object|null} snapshot
+ *
+ * @typedef {{place: Place, octets: string|null, before: Arrival|null}} Arrival
+ * @typedef {{place: Place, octets: string, count: number, before: Sending|null}} Sending
+ */
+
+/** Guest memory in pages; one that was never written is null. Snapshots share pages, which are copied when written. */
+class Memory {
+  /** @param {number} size in octets, a multiple of 4,096 */
+  constructor(size) {
+    this.size = size;
+    /** @type {(Uint8Array|null)[]} */
+    this.pages = new Array(size / PAGE_OCTETS).fill(null);
+    this.own = new Uint8Array(size / PAGE_OCTETS);
+  }
+
+  octet(address) {
+    const page = this.pages[address >>> PAGE_BITS];
+    return page ? page[address & (PAGE_OCTETS - 1)] : 0;
+  }
+
+  /** @returns {Uint8Array} a copy; the range lies within memory */
+  octets(address, count) {
+    const octets = new Uint8Array(count);
+    for (let i = 0; i < count; i++) octets[i] = this.octet(address + i);
+    return octets;
+  }
+
+  /** Writes octets, which lie within memory. @param {string} digits */
+  write(address, digits) {
+    for (let at = address, i = 0; i < digits.length; ) {
+      const index = Math.floor(at / PAGE_OCTETS);
+      const page = this.writable(index);
+      const from = at % PAGE_OCTETS;
+      const end = Math.min(PAGE_OCTETS, from + (digits.length - i) / 2);
+      for (let j = from; j < end; j++, i += 2) {
+        page[j] = (DIGIT_OF[digits.charCodeAt(i)] << 4) | DIGIT_OF[digits.charCodeAt(i + 1)];
+      }
+      at += end - from;
+    }
+  }
+
+  /** Whether these octets stand there. @param {string} digits */
+  holds(address, digits) {
+    for (let i = 0; i < digits.length; i += 2) {
+      const octet = (DIGIT_OF[digits.charCodeAt(i)] << 4) | DIGIT_OF[digits.charCodeAt(i + 1)];
+      if (this.octet(address + i / 2) !== octet) return false;
+    }
+    return true;
+  }
+
+  /** @private */
+  writable(index) {
+    if (!this.own[index]) {
+      this.pages[index] = this.pages[index] ? this.pages[index].slice() : new Uint8Array(PAGE_OCTETS);
+      this.own[index] = 1;
+    }
+    return this.pages[index];
+  }
+
+  share() {
+    this.own.fill(0);
+    return this.pages.slice();
+  }
+
+  restore(pages) {
+    this.pages = pages.slice();
+    this.own.fill(0);
+  }
+}
+
+/** Registers and memory at a place. What else a place has stands in the place itself. */
+class State {
+  /** @param {Place} root @param {Uint32Array} registers @param {number} memory its size in octets */
+  constructor(root, registers, memory) {
+    this.place = root;
+    this.registers = registers;
+    this.memory = new Memory(memory);
+    this.keep();
+  }
+
+  /** A register's value by its name, without an array's. */
+  at(name) {
+    return this.registers[INDEX_OF.get(name)];
+  }
+
+  /** Keeps a snapshot at this place. */
+  keep() {
+    this.place.snapshot = { registers: this.registers.slice(), pages: this.memory.share() };
+  }
+
+  /** @param {Place} place one whose event before is this place */
+  forward(place) {
+    for (const [index, , after] of place.registers) this.registers[index] = after;
+    for (const [address, , after] of place.memory) this.memory.write(address, after);
+    this.place = place;
+  }
+
+  backward() {
+    const { registers, memory, before } = this.place;
+    for (let i = registers.length - 1; i >= 0; i--) this.registers[registers[i][0]] = registers[i][1];
+    for (let i = memory.length - 1; i >= 0; i--) this.memory.write(memory[i][0], memory[i][1]);
+    this.place = before;
+  }
+
+  /** Goes to any place: step by step where it is near, and else from the snapshot before it. @param {Place} target */
+  goTo(target) {
+    const common = lastCommon(this.place, target);
+    const far = this.place.number - common.number + target.number - common.number;
+    if (far > 2 * SNAPSHOT_EVERY) {
+      this.restoreBefore(target);
+    } else {
+      while (this.place !== common) this.backward();
+    }
+    for (const place of wayTo(this.place, target)) this.forward(place);
+  }
+
+  /** @private */
+  restoreBefore(target) {
+    let place = target;
+    while (!place.snapshot) place = place.before;
+    this.registers.set(place.snapshot.registers);
+    this.memory.restore(place.snapshot.pages);
+    this.place = place;
+  }
+}
+
+/** The newest place that both come from. @returns {Place} */
+function lastCommon(one, other) {
+  while (one !== other) {
+    if (one.number >= other.number) one = one.before;
+    else other = other.before;
+  }
+  return one;
+}
+
+/** The places from behind one to a later one, in their order. @returns {Place[]} */
+function wayTo(from, target) {
+  const way = [];
+  for (let place = target; place !== from; place = place.before) way.push(place);
+  return way.reverse();
+}
+
+/** The frames in the FIFO at a place, the first one first. @returns {Arrival[]} */
+function waiting(place) {
+  const frames = [];
+  for (let arrival = place.arrival; arrival && frames.length < place.frames; arrival = arrival.before) {
+    frames.push(arrival);
+  }
+  return frames.reverse();
+}
+
+/** The newest frames that were sent, the newest first. @returns {Sending[]} */
+function sentFrames(place, most) {
+  const frames = [];
+  for (let sending = place.sending; sending && frames.length < most; sending = sending.before) frames.push(sending);
+  return frames;
+}
+
+/** By name, the index of a register in the table. */
+const INDEX_OF = new Map(REGISTERS.map(([, name], index) => [name, index]));
+
+/** The array that a register is of, or its name where it is of none. */
+function stemOf(name) {
+  return name.replace(/\[\d+\]$/, "").replace(/^(RA[LH])\d+$/, "$1");
+}

@@ -1,0 +1,240 @@
+"""Records and scripts that are made to break a page: it shows them, or says what is wrong, and no script in them
+runs."""
+import json
+import random
+import re
+import shutil
+import subprocess
+from pathlib import Path
+
+from page_tools import EXAMPLES, Frame, page_of, record_of
+from tally import TOP, Tally
+
+CUTS, MUTATIONS = 200, 500
+MOST_LETTERS = 300
+RUNS = "window.ran = 1"
+HOSTILE_LINES = [
+    f"</script><script>{RUNS}</script>", f"<!--<script>{RUNS}",
+    f'<img src=x onerror="{RUNS}">', '"\\" \' ` ${1} \\u003c',
+    "]]> &lt;b&gt; &quot;", f"# javascript:{RUNS}", "</style><style>*{display:none}</style>",
+    "@SCRIPT@ @RECORD@ @STYLE@",
+    "w 0 " + "".join(map(chr, [*range(1, 9), *range(11, 32), 127])), "\0 nul", "# " + "x" * 1_000_000,
+    "# \u202e right to left, \u2028 a separator, \ufeff a mark, \U0001f600".encode().decode("latin-1"),
+    "# no UTF-8: \xff\xfe\xc0\x80 \xed\xa0\x80",
+    "link up", "w D0 4", "&", "", " ", "back 3", "__proto__", "r constructor",
+]
+ODD_PARTS = [None, True, False, -1, 0, 1, 2, 4096, 65536, 2**32, 2**53, 0.5, "", "0", "<b>", "00FF", [], {}, [0, 1],
+             [[0, 0, 1]], [["RDH", 0, 1]], [[0, "00", "01"]], "RDH", "__proto__", [False, True]]
+# what stands on the page, having gone to some of its steps and asked something there
+SHOWS = """
+const run = document.getElementById('run'), broken = document.getElementById('broken');
+let steps = 0;
+if (!run.hidden) {
+  const slider = document.getElementById('slider');
+  steps = Number(slider.max);
+  for (const part of [0, 0.3, 0.6, 0.9]) {
+    slider.value = String(Math.floor(part * steps));
+    slider.dispatchEvent(new Event('input'));
+    const asks = [...document.querySelectorAll('main [data-watch]')];
+    asks[Math.floor(part * asks.length)].click();
+  }
+}
+return { broken: broken.hidden ? '' : broken.textContent, run: !run.hidden, steps, ran: window.ran ?? null,
+  scripts: document.scripts.length, seen: document.body.innerText.trim().length };
+"""
+
+
+def steps_before(cut: bytes) -> int:
+    """How many steps the whole lines make that stand in a record that was cut."""
+    text, count = cut.decode(errors="replace"), 0
+    script = json.loads(f"{text.partition(chr(34) + 'start' + chr(34))[0].rstrip().rstrip(',')}}}")["script"]
+    at, decoder = text.index("[", text.index('"lines"')) + 1, json.JSONDecoder()
+    while True:
+        try:
+            line, at = decoder.raw_decode(text, at + len(text[at:]) - len(text[at:].lstrip(", \n")))
+        except json.JSONDecodeError:
+            return count
+        words = script[line["line"] - 1].split()
+        count += ("back" in line) + len(line["events"])
+        count += "back" not in line and not line["events"] and bool(words) and not words[0].startswith("#")
+
+
+def faults_of(shown: dict, console: list[str], must_be_broken: bool) -> list[str]:
+    faults = [f"on the console: {message}" for message in console]
+    if shown["ran"] is not None or shown["scripts"] != 2:
+        faults.append("a script of the record ran")
+    if not shown["broken"] and not shown["run"]:
+        faults.append("it shows nothing")
+    if "can’t show it" in shown["broken"]:
+        faults.append(f"it failed: {shown['broken']}")
+    if must_be_broken and not shown["broken"]:
+        faults.append("it does not say that the record is broken")
+    if shown["broken"] and not re.match(r".*This record is broken: \S.+\.", shown["broken"]):
+        faults.append(f"it says {shown['broken']}")
+    return faults
+
+
+def changed_octets(r: random.Random, record: bytes) -> bytes:
+    """One to three octets changed, put in or left out, mostly in the lines."""
+    made = bytearray(record)
+    begin = made.find(b'"lines"')
+    for _ in range(r.randint(1, 3)):
+        at = r.randrange(begin, len(made)) if r.random() < 0.8 else r.randrange(len(made))
+        kind = r.random()
+        if kind < 0.6:
+            made[at] = r.choice([r.randrange(256), ord(r.choice('0123456789ABCDEF",:[]{}<\\ tfn'))])
+        elif kind < 0.8:
+            del made[at : at + r.randint(1, 8)]
+        else:
+            made[at:at] = r.choice([b"0", b"-", b'"', b"}", b"<", b"null,", b"1e9", b"\\u0000", r.randbytes(4)])
+    return bytes(made)
+
+
+def parts_of(value, path=()) -> list[tuple]:
+    """The path of each part within a record."""
+    inner = value.items() if isinstance(value, dict) else enumerate(value) if isinstance(value, list) else ()
+    return [path] + [found for key, part in inner for found in parts_of(part, (*path, key))]
+
+
+def changed_parts(r: random.Random, record: bytes) -> bytes:
+    """One part of the record made something else, left out or doubled."""
+    made = json.loads(record)
+    paths = [path for path in parts_of(made) if path and path[:2] != ("start", "registers")] or [("version",)]
+    *way, last = r.choice(paths)
+    holder = made
+    for key in way:
+        holder = holder[key]
+    kind = r.random()
+    if kind < 0.6:
+        holder[last] = r.choice(ODD_PARTS)
+    elif kind < 0.8:
+        del holder[last]
+    elif isinstance(holder, list):
+        holder.insert(last, holder[last])
+    else:
+        holder[r.choice(["__proto__", "more", "line", "back", "frames"])] = holder[last]
+    return json.dumps(made).encode()
+
+
+def try_records(tally: Tally, browser, room: Path, named: list[tuple[str, bytes, bool]]) -> None:
+    frame, page = Frame(), room / f"hostile{id(browser)}.html"
+    for name, record, must_be_broken in named:
+        page.write_bytes(frame.around(record))
+        browser.open(page)
+        shown = browser.run(SHOWS)
+        faults = faults_of(shown, browser.told(), must_be_broken)
+        if "cut after" in name and b'"lines"' in record and b'{"line"' in record:
+            steps = steps_before(record)
+            faults += [] if shown["steps"] == steps else [f"it shows {shown['steps']} steps, and not {steps}"]
+        tally.check(name, faults)
+
+
+def hostile_records(seed: int = 82540) -> list[tuple[str, bytes, bool]]:
+    """Records that are cut and mutated, by name, and whether they must be called broken."""
+    r = random.Random(seed)
+    whole = {name: record_of(path.read_bytes()) for path in EXAMPLES for name in [path.name]
+             if name in ("ring.em", "transmit.em", "broken-ring.em", "reset.em")}
+    records = sorted(whole.items())
+    made = []
+    for number in range(CUTS):
+        name, record = r.choice(records)
+        at = r.randrange(len(record.rstrip()))
+        made.append((f"{name}, cut after {at} octets", record[:at], True))
+    for number in range(MUTATIONS):
+        name, record = r.choice(records)
+        change = r.choice([changed_octets, changed_parts])
+        made.append((f"{name}, mutation {number}", change(r, record), False))
+    name, record = records[0]
+    made += [
+        ("another version", record.replace(b'"version":1', b'"version":2'), True),
+        ("another format", record.replace(b"bunjelav recording", b"a recording"), True),
+        ("no record", b"", True), ("no object", b"[]", True), ("null", b"null", True), ("text", b"not JSON", True),
+        ("no end", re.sub(rb',\s*"end":\{[^}]*\}', b"", record), True),
+        ("HTML", b"</script><script>window.ran = 1</script>", True), ("a mark in front", b"\xef\xbb\xbf" + record,
+            False),
+    ]
+    return made
+
+
+def visible(text: str) -> str:
+    text = text if len(text) <= MOST_LETTERS else f"{text[:MOST_LETTERS]}… ({len(text):,} characters)"
+    return "".join(chr(0x2400 + ord(one)) if ord(one) < 32 else "\u2421" if ord(one) == 127 else one for one in text)
+
+
+def hostile_scripts(tally: Tally, browser, room: Path) -> None:
+    script = "\n".join(HOSTILE_LINES).encode("latin-1") + b"\n"
+    record = record_of(script)
+    page = room / "script.html"
+    page.write_bytes(page_of(record))
+    browser.open(page)
+    shown = browser.run(SHOWS)
+    tally.check("a hostile script", faults_of(shown, browser.told(), False)
+                + ([f"it is called broken: {shown['broken']}"] if shown["broken"] else []))
+    texts = browser.run("""
+      const script = document.getElementById('script');
+      script.style.setProperty('height', '4000px');
+      return new Promise((done) => setTimeout(() => done(
+        [...script.querySelectorAll('[role=option] .text')].map((one) => [one.closest('[data-line]').dataset.line,
+            one.textContent])), 300));
+    """)
+    wanted = {str(number): visible(text) for number, text in enumerate(json.loads(record)["script"], 1)}
+    faults = [f"line {number} is shown as {text[:80]!r}, and not {wanted[number][:80]!r}"
+              for number, text in texts if text != wanted[number]]
+    tally.check("the texts of a hostile script", faults + ([] if len(texts) == len(wanted)
+        else [f"{len(texts)} lines are shown"]))
+    browser.told()
+    page.write_bytes(page_of(record).replace(b"</body>", b"<script>window.ran = 1</script></body>"))
+    browser.open(page)
+    tally.check("the policy", [] if browser.run("return window.ran ?? null") is None else ["another script ran"])
+    tally.check("the policy is told", [] if any("Content Security Policy" in one for one in browser.told())
+        else ["it is not"])
+
+
+def played(tally: Tally, room: Path, record: Path, whole: bytes) -> None:
+    """em_page with an em_record beside it, that writes this record or nothing, and ends with a status."""
+    top = room / "top"
+    top.mkdir()
+    shutil.copytree(TOP / "page", top / "page")
+    shutil.copy(TOP / "em_page", top)
+    (room / "link").symlink_to(top / "em_page")
+    for name, command, written, status, out in (
+        ("a script", top / "em_page", f'cat "{record}"; [ "$*" = "--memory 4096 script.em" ]', 0, whole),
+        ("by a link", room / "link", f'cat "{record}"', 0, whole), ("a bad line", top / "em_page",
+            f'cat "{record}"; exit 1', 1, whole),
+        ("no record", top / "em_page", "exit 3", 3, b""), ("no em_record", top / "em_page", None, 69, b""),
+    ):
+        program = top / "em_record"
+        program.unlink(missing_ok=True)
+        if written:
+            program.write_text(f"#!/bin/sh\n{written}\n")
+            program.chmod(0o755)
+        ran = subprocess.run([command, "--memory", "4096", "script.em"], stdout=subprocess.PIPE,
+            stderr=subprocess.PIPE, check=False)
+        faults = [] if ran.returncode == status else [f"its status is {ran.returncode}: {ran.stderr.decode()}"]
+        tally.check(f"em_page, {name}", faults + ([] if ran.stdout == out else ["it writes something else"]))
+
+
+def command_line(tally: Tally, room: Path) -> None:
+    """em_page itself: its statuses, and that it takes no more than it says."""
+    record = room / "record.json"
+    record.write_bytes(record_of(EXAMPLES[0].read_bytes()))
+    tools = room / "tools"
+    tools.mkdir()
+    for tool in "bash sed cat head base64 sha256sum mktemp rm readlink".split():
+        (tools / tool).symlink_to(subprocess.run(["which", tool], stdout=subprocess.PIPE,
+            check=True).stdout.decode().strip())
+    whole = page_of(record.read_bytes())
+    for name, words, env, status, out in (
+        ("bare", ["--record", record], {"PATH": str(tools)}, 0, whole), ("a file", ["--record", record], None, 0,
+            whole),
+        ("no file", ["--record", room / "none"], None, 3, b""), ("a folder", ["--record", room], None, 3, b""),
+        ("no word behind it", ["--record"], None, 2, b""),
+    ):
+        ran = subprocess.run([TOP / "em_page", *words], stdout=subprocess.PIPE, stderr=subprocess.PIPE, env=env,
+            check=False)
+        faults = [] if ran.returncode == status else [f"its status is {ran.returncode}: {ran.stderr.decode()}"]
+        faults += [] if ran.stdout == out else ["it writes something else"]
+        tally.check(f"em_page, {name}", faults)
+    played(tally, room, record, whole)
+    tally.check("one file", [] if not re.search(rb"(?:src|href)\s*=|@import|https?://(?!www\.w3\.org)", whole)
+        else ["it names others"])

@@ -1,0 +1,233 @@
+"""A page by keyboard alone, with a screen reader's tree, at widths, in both schemes; and how long it takes."""
+from pathlib import Path
+
+import recorded
+from page_tools import BUDGET, TOP, page_of, record_of
+from page_names import text as names_text
+from page_names import of_code, of_docs
+from tally import Tally
+
+MANY_ROUNDS, OPEN_SECONDS, STEP_MILLISECONDS, TRIES = 2000, 1.0, 16.0, 6
+LEAST_CONTRAST = 4.5
+AT = "const { step, event } = document.getElementById('run').dataset; return [Number(step), Number(event)]"
+FOCUS = """
+const one = document.activeElement, style = getComputedStyle(one);
+return { tag: one.tagName, id: one.id, watch: one.dataset.watch ?? '', role: one.getAttribute('role') ?? '',
+  outline: style.outlineStyle };
+"""
+# texts that stand on a ground with too little contrast to it; a text's colour is mixed with what shows through it
+CONTRAST = """
+const canvas = document.createElement('canvas').getContext('2d', { willReadFrequently: true });
+const rgba = (colour) => {
+  canvas.clearRect(0, 0, 1, 1);
+  canvas.fillStyle = colour;
+  canvas.fillRect(0, 0, 1, 1);
+  const [r, g, b, a] = canvas.getImageData(0, 0, 1, 1).data;
+  return [r, g, b, a / 255];
+};
+const over = (top, ground, a) => top.slice(0, 3).map((part, i) => part * a + ground[i] * (1 - a));
+const light = (rgb) => {
+  const [r, g, b] = rgb.slice(0, 3).map((part) => (part /= 255) <= 0.03928 ? part / 12.92
+      : ((part + 0.055) / 1.055) ** 2.4);
+  return 0.2126 * r + 0.7152 * g + 0.0722 * b;
+};
+const ratio = (one, other) => (Math.max(light(one), light(other)) + 0.05) / (Math.min(light(one), light(other)) + 0.05);
+const faults = [];
+for (const element of document.querySelectorAll('body *')) {
+  const own = [...element.childNodes].some((node) => node.nodeType === 3 && node.data.trim());
+  if (!own || !element.getClientRects().length || element.closest('svg, option, script, style')) continue;
+  let opacity = 1, ground = null;
+  for (let one = element; one && !ground; one = one.parentElement) {
+    const style = getComputedStyle(one), back = rgba(style.backgroundColor);
+    if (back[3] === 1) ground = back;
+    else opacity *= Number(style.opacity);
+  }
+  const text = over(rgba(getComputedStyle(element).color), ground ?? rgba('white'), opacity);
+  const found = ratio(text, ground ?? rgba('white'));
+  if (found < arguments[0]) faults.push(`${element.tagName}.${element.className} ${element.textContent.slice(0,
+      20)}: ${found.toFixed(1)}`);
+}
+const style = getComputedStyle(document.documentElement), named = (name) => rgba(style.getPropertyValue(name).trim());
+for (const [ink, ground] of [['--adapter-ink', '--adapter'], ['--driver-ink', '--driver'], ['--accent-ink', '--accent'],
+  ['--bad', '--bad-shade'], ['--dim', '--panel'], ['--dim', '--page'], ['--ink', '--lit'],
+  ...['read', 'write', 'poke', 'arrive', 'rx', 'tx', 'link', 'driver',
+      'back'].map((kind) => ['--panel', `--kind-${kind}`])]) {
+  const found = ratio(named(ink), named(ground));
+  if (found < arguments[0]) faults.push(`${ink} on ${ground}: ${found.toFixed(1)}`);
+}
+return [...new Set(faults)].slice(0, 12);
+"""
+STEPS_TIMED = 40
+# each in a frame of its own
+STEPS_ON = """
+return new Promise((done) => {
+  let left = arguments[0];
+  const on = () => {
+    if (left-- === 0) done(true);
+    else { document.getElementById('one-back').click(); requestAnimationFrame(on); }
+  };
+  requestAnimationFrame(on);
+});
+"""
+
+
+def opened(browser, room: Path, example: str) -> None:
+    page = room / "use.html"
+    page.write_bytes(page_of(record_of((TOP / "examples" / example).read_bytes())))
+    browser.open(page)
+
+
+def names(tally: Tally) -> None:
+    tally.check("page/names.js", [] if (TOP / "page" / "names.js").read_text() == names_text()
+                else ["it is not what tests/page_names.py writes"])
+    code = {name: [row[:3] for row in rows] for name, rows in of_code().items()}
+    tally.check("docs/names.md", [] if code == of_docs() else ["crates/em_names has other bits than it"])
+
+
+def keyboard(tally: Tally, browser, room: Path) -> None:
+    opened(browser, room, "broken/ring.em")
+    browser.run("document.body.focus()")
+    for keys, step in ((["Home"], 0), (["ArrowRight"] * 3, 3), (["ArrowLeft"], 2), (["PageDown"], 12), (["PageUp"], 2),
+                       (["End"], 15), (["ArrowRight"], 15)):
+        browser.press(*keys)
+        at = browser.run(AT)
+        tally.check(f"the keys {' '.join(keys)}", [] if at[0] == step
+            else [f"they lead to step {at[0]}, and not {step}"])
+    browser.press("Home", "Space")
+    after = browser.run(f"return new Promise((done) => setTimeout(() => done((() => {{ {AT} }})()), 900))")
+    browser.press("Space")
+    stopped = browser.run(AT)
+    later = browser.run(f"return new Promise((done) => setTimeout(() => done((() => {{ {AT} }})()), 400))")
+    tally.check("space plays and stops", [] if 0 < after[0] <= stopped[0] == later[0]
+        else [f"{after} {stopped} {later}"])
+    browser.press("End")
+    by_tab(tally, browser)
+
+
+def by_tab(tally: Tally, browser) -> None:
+    """Every control is reached by Tab, and can be seen to be; a register, an octet and a line are asked about by
+    keys."""
+    browser.run("document.activeElement.blur(); window.scrollTo(0, 0)")
+    seen, faults = [], []
+    for _ in range(400):
+        browser.press("Tab")
+        focus = browser.run(FOCUS)
+        if focus["tag"] == "BODY":
+            break
+        seen.append(focus)
+        if focus["outline"] == "none":
+            faults.append(f"the focus can't be seen on {focus}")
+        if focus["watch"] == "register RDH" and not any(one.get("asked") for one in seen):
+            focus["asked"] = True
+            browser.press("Enter")
+            told = browser.run("return document.getElementById('who').dataset.event")
+            tally.check("Enter on RDH", [] if told == "14" else [f"it tells event {told}, and not 14"])
+            browser.press("Escape")
+            at = browser.run(AT)
+            tally.check("Escape", [] if at[0] == 15 else [f"it leads to step {at[0]}, and not 15"])
+        if focus["role"] == "listbox":
+            browser.press("ArrowUp")
+            line = browser.run("return document.querySelector('[role=option][aria-selected=true]').dataset.line")
+            tally.check("an arrow in the script", [] if line == "18" else [f"it leads to line {line}, and not 18"])
+            browser.press("ArrowDown")
+        if focus["role"] == "gridcell":
+            browser.press("ArrowDown", "ArrowRight")
+            moved = browser.run(FOCUS)["watch"]
+            from_, to = (int(word.split()[1]) for word in (focus["watch"], moved))
+            tally.check("arrows among octets", [] if to == from_ + 17 else [f"they lead from {from_} to {to}"])
+    tally.check("the focus is seen", sorted(set(faults)))
+    ids = {one["id"] for one in seen} | {one["role"] for one in seen} | {one["watch"] for one in seen}
+    wanted = {"slider", "play", "to-start", "speed", "script", "address", "zeros", "gridcell", "register RCTL", "link",
+              "interrupt", "bits RCTL 2"}
+    tally.check("Tab reaches all", [f"{name} is not reached" for name in sorted(wanted - ids)])
+
+
+def labels(tally: Tally, browser, room: Path) -> None:
+    for example in ("driver.em", "broken/ring.em"):
+        opened(browser, room, example)
+        tree = browser.command("Accessibility.getFullAXTree")["nodes"]
+        roles = {"button", "slider", "checkbox", "textbox", "combobox", "listbox", "option", "gridcell", "grid", "img",
+            "group"}
+        unnamed = [node["role"]["value"] for node in tree if not node.get("ignored")
+                   and node.get("role", {}).get("value") in roles and not node.get("name", {}).get("value")
+                   and node["role"]["value"] != "group"]
+        tally.check(f"{example}, names for a screen reader", [f"{len(unnamed)} without: {unnamed[:5]}"] if unnamed
+            else [])
+        ids = browser.run("return [...document.querySelectorAll('[id]')].map((one) => one.id)")
+        tally.check(f"{example}, ids", sorted({f"{one} stands twice" for one in ids if ids.count(one) > 1}))
+
+
+def widths(tally: Tally, browser, room: Path) -> None:
+    for example in ("driver.em", "broken-ring.em", "broken/ring.em"):
+        opened(browser, room, example)
+        for width in (1280, 1000, 700, 400, 360):
+            browser.size(width, 900)
+            wide = browser.run("""
+              document.getElementById('zeros').click();
+              for (const one of document.querySelectorAll('details')) one.open = true;
+              return new Promise((done) => requestAnimationFrame(() => setTimeout(() => done(
+                [0.2, 0.5, 1].map((part) => {
+                  const slider = document.getElementById('slider');
+                  slider.value = String(Math.floor(part * Number(slider.max)));
+                  slider.dispatchEvent(new Event('input'));
+                  return document.documentElement.scrollWidth;
+                })))));""")
+            tally.check(f"{example}, {width} points wide", [] if max(wide) <= width else [f"it takes {max(wide)}"])
+    browser.size(1280, 900)
+
+
+def schemes(tally: Tally, browser, room: Path) -> None:
+    for dark in (False, True):
+        browser.scheme(dark)
+        for example in ("driver.em", "broken/ring.em", "why-dropped.em"):
+            opened(browser, room, example)
+            browser.press("ArrowLeft")
+            name = f"{example}, {'dark' if dark else 'light'}"
+            tally.check(f"{name}, contrast", browser.run(CONTRAST, LEAST_CONTRAST))
+            light = browser.run("""
+              return Number(getComputedStyle(document.documentElement).backgroundColor.match(/\\d+/)[0]) > 127""")
+            tally.check(name, [] if light != dark else ["the page has the other scheme"])
+    browser.scheme(False)
+
+
+def many_events(rounds: int) -> str:
+    """A ring that goes round, five events for each frame."""
+    ring = [f"poke {0x1000 + 16 * i:X} {(0x2000 + 0x800 * i).to_bytes(16, 'little').hex()}" for i in range(8)]
+    lines = ["w 02800 1000", "w 02808 80", "w 00100 8002", "w 000D0 80", "link up", *ring, "w 02818 7"]
+    for i in range(rounds):
+        lines += [f"arrive FFFFFFFFFFFF02AABBCCDDEE0800{i:04X} {60 + i % 1400}", "rx", "r C0", ring[i % 8],
+            f"w 02818 {i % 8:X}"]
+    return "".join(f"{line}\n" for line in lines)
+
+
+def spent(browser, *names: str) -> float:
+    """How many seconds of a processor the page's own thread spent on these since it was opened."""
+    told = {one["name"]: one["value"] for one in browser.command("Performance.getMetrics")["metrics"]}
+    return sum(told[name] for name in names)
+
+
+def timing(tally: Tally, browser, room: Path) -> None:
+    """10,000 events open within a second, and a step takes at most 16 ms to its layout: seconds of a processor, since others
+    run too, and the best of some tries."""
+    page = room / "many.html"
+    page.write_bytes(page_of(record_of(many_events(MANY_ROUNDS).encode())))
+    browser.command("Performance.enable", timeDomain="threadTicks")
+    work = ("ScriptDuration", "RecalcStyleDuration", "LayoutDuration")
+    opening, step = [], []
+    for _ in range(TRIES):
+        browser.open(page)
+        opening.append(spent(browser, "TaskDuration"))
+        before = spent(browser, *work)
+        browser.run(STEPS_ON, STEPS_TIMED)
+        step.append(1000 * (spent(browser, *work) - before) / STEPS_TIMED)
+        if opening[-1] <= OPEN_SECONDS and step[-1] <= STEP_MILLISECONDS:
+            break
+    tally.check("10,000 events open", [] if min(opening) <= OPEN_SECONDS else [f"it takes {min(opening):.2f} s"])
+    tally.check("a step is painted", [] if min(step) <= STEP_MILLISECONDS else [f"it takes {min(step):.1f} ms"])
+    print(f"10,000 events open in {min(opening):.2f} s, and a step takes {min(step):.1f} ms")
+
+
+def check_use(tally: Tally, browser, room: Path) -> None:
+    for part in (keyboard, labels, widths, schemes):
+        part(tally, browser, room)
+    tally.check("the console", browser.told())

@@ -1,0 +1,136 @@
+"""Makes the record of a run, as em_record writes it, by the second reading: each event's effect is the difference of
+the
+copies of the states before and after it. `walk` gives the states themselves."""
+import json
+import re
+
+import second_reading
+from second_reading import IN_WORDS, IN_ORDER, PAGE, Session, State
+
+MOST_IN_A_PIECE = 16
+
+
+def shown(state: State) -> dict[str, int]:
+    """Every register by its name, as a look shows it."""
+    return {IN_WORDS[offset]: state.look(offset) for offset in IN_ORDER}
+
+
+def interrupts(state: State) -> bool:
+    return bool(state.at(second_reading.ICR) & state.at(second_reading.IMS))
+
+
+def memory_pieces(before: State, after: State) -> list[list]:
+    """The octets that differ, in pieces that begin and end with a changed one and have at most 16."""
+    pieces = []
+    for index, (one, other) in enumerate(zip(before.pages, after.pages)):
+        if one is other or one == other:
+            continue
+        at = 0
+        while at < PAGE:
+            if one[at] == other[at]:
+                at += 1
+                continue
+            end = min(at + MOST_IN_A_PIECE, PAGE)
+            while one[end - 1] == other[end - 1]:
+                end -= 1
+            pieces.append([PAGE * index + at, one[at:end].hex().upper(), other[at:end].hex().upper()])
+            at = end
+    return pieces
+
+
+def effect(number: int, before: State, after: State, stored: bool) -> dict:
+    """What the event did, in the order of the format's fields."""
+    made = {"event": number}
+    touched = {at for at in before.kept.keys() | after.kept.keys() if before.at(at) != after.at(at)}
+    touched |= {second_reading.STATUS} | {pair for pair in second_reading.PAIRS if pair & ~4 in touched}
+    registers = [[IN_WORDS[at], before.look(at), after.look(at)] for at in sorted(touched & set(IN_ORDER))
+                 if before.look(at) != after.look(at)]
+    memory = memory_pieces(before, after)
+    if registers:
+        made["registers"] = registers
+    if memory:
+        made["memory"] = memory
+    if len(before.fifo) != len(after.fifo):
+        made["frames"] = [len(before.fifo), len(after.fifo)]
+        if stored:
+            made["stored"] = after.fifo[-1][0].hex().upper()
+    if len(after.wire) > len(before.wire):
+        made["sent"] = after.wire[-1].hex().upper()
+    if before.link != after.link:
+        made["link"] = [before.link, after.link]
+    if interrupts(before) != interrupts(after):
+        made["interrupt"] = [interrupts(before), interrupts(after)]
+    return made
+
+
+class Event:
+    """An event that was performed: the state behind it, and the event before it; the root, number 0, is the start."""
+
+    def __init__(self, state: State, before: "Event | None", line: int) -> None:
+        self.state, self.before, self.line = state, before, line
+        self.number = before.number + 1 if before else 0
+
+
+class Played:
+    """A line that was played: what it said (None for a bad line), its events, and how many it took back."""
+
+    def __init__(self, number: int, words: list[str]) -> None:
+        self.number, self.words, self.said, self.events, self.back = number, words, [], [], None
+        # the newest event that stands behind it
+        self.newest = None
+
+
+def walk(script: str, **settings) -> tuple[Event, list[Played]]:
+    """Plays a script by the second reading: the start, and each line."""
+    session, lines, played = Session(**settings), script.split("\n"), []
+    root = newest = Event(session.now, None, 0)
+    for number, text in enumerate(lines if lines[-1] else lines[:-1], 1):
+        line = Played(number, [word for word in re.split("[ \t\r]+", text) if word])
+        if line.words and not line.words[0].startswith("#"):
+            session.begins(number)
+            performed, held = session.performed, len(session.past)
+            line.said = session.line(line.words)
+            if line.said is not None and line.words[0] == "back" and not line.said[0].startswith("refused"):
+                line.back = held - len(session.past)
+                for _ in range(line.back):
+                    newest = newest.before
+            count = session.performed - performed
+            assert count <= len(session.past), "the journal dropped an event of this line"
+            states = [state for state, _ in session.past[len(session.past) - count :]] + [session.now]
+            for state in states[1:]:
+                newest = Event(state, newest, number)
+                line.events.append(newest)
+        line.newest = newest
+        played.append(line)
+    return root, played
+
+
+def told(line: Played) -> dict:
+    """A line as the record has it."""
+    made = {"line": line.number, "answer": [f"bad line {line.number}"] if line.said is None else line.said}
+    if line.said is None:
+        made["bad"] = True
+    elif line.said and line.said[0].startswith(("refused", "stopped")):
+        made["refused"] = line.said[0].split()[-1]
+    if line.back is not None:
+        made["back"] = line.back
+    is_stored = line.words[:1] == ["arrive"] and line.said == ["stored"]
+    return made | {"events": [effect(one.number, one.before.state, one.state, is_stored) for one in line.events]}
+
+
+def record(script: str, memory: int = 65536, budget: int = 1_048_576, mac: str = "525400123456") -> dict:
+    """The record of a script, by one character for each octet."""
+    settings = {"memory": memory, "budget": budget, "mac": mac}
+    root, played = walk(script, **settings)
+    lines = script.split("\n")
+    texts = [line.encode("latin-1").decode(errors="replace") for line in (lines if lines[-1] else lines[:-1])]
+    return {
+        "format": "bunjelav recording", "version": 1, "settings": settings, "script": texts,
+        "start": {"registers": shown(root.state)}, "lines": [told(line) for line in played],
+        "end": {"events": played[-1].newest.number if played else 0, "lines": len(played)},
+    }
+
+
+def recording(script: bytes, **settings) -> bytes:
+    """The same as JSON."""
+    return json.dumps(record(script.decode("latin-1"), **settings), ensure_ascii=False, separators=(",", ":")).encode()
