@@ -1,6 +1,7 @@
 //! How often each register was accessed that the model lacks.
 
 use crate::missing::missing_name;
+use crate::text::plural;
 use anyhow::Result;
 use std::alloc::{AllocError, Global};
 use std::io::Write;
@@ -50,10 +51,12 @@ impl Counts {
         for one in named.iter() {
             total = total.saturating_add(one.count);
         }
-        let registers = named.len();
+        let registers = named.len() as u64;
+        let of = plural(total, "access", "accesses");
+        let that = plural(registers, "register", "registers");
         write!(
             out,
-            "{total} accesses of {registers} registers that the model lacks"
+            "{total} {of} of {registers} {that} that the model lacks"
         )?;
         let mut before = ": ";
         for one in named.iter() {

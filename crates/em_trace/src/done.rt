@@ -1,6 +1,7 @@
 //! What was done, and what was left out.
 
 use crate::counts::Counts;
+use crate::text::plural;
 use anyhow::Result;
 use std::alloc::{AllocError, Global};
 use std::io::Write;
@@ -48,29 +49,20 @@ impl Done {
             writeln!(out, "no line is an access of the adapter's registers")?;
         }
         self.missing.write(self.alloc, out)?;
-        write_count(
-            out,
-            self.other_sizes,
-            "accesses of other sizes than four octets",
-        )?;
-        write_count(
-            out,
-            self.elsewhere,
-            "accesses of something else than the adapter's registers",
-        )?;
-        write_count(out, self.faults, "lines that cannot be read")?;
-        write_count(
-            out,
-            self.late_frames,
-            "frames at the end: the log has no place for them",
-        )
+        let sizes = "of other sizes than four octets";
+        write_count(out, self.other_sizes, "access", "accesses", sizes)?;
+        let other = "of something else than the adapter's registers";
+        write_count(out, self.elsewhere, "access", "accesses", other)?;
+        write_count(out, self.faults, "line", "lines", "that cannot be read")?;
+        let late = "at the end, for want of a place in the log";
+        write_count(out, self.late_frames, "frame", "frames", late)
     }
 }
 
 /// Writes how many there were, if there was one.
-fn write_count<W: Write>(out: &mut W, count: u64, what: &str) -> Result<()> {
+fn write_count<W: Write>(out: &mut W, count: u64, one: &str, many: &str, what: &str) -> Result<()> {
     if count > 0 {
-        writeln!(out, "{count} {what}")?;
+        writeln!(out, "{count} {} {what}", plural(count, one, many))?;
     }
     Ok(())
 }

@@ -11,6 +11,11 @@ const HIGH_DIGITS: usize = 3;
 /// How many digits a value has.
 const VALUE_DIGITS: usize = 8;
 
+/// The word for so many of a thing.
+pub fn plural<'a>(count: u64, one: &'a str, many: &'a str) -> &'a str {
+    if count == 1 { one } else { many }
+}
+
 /// Writes a text whole.
 pub fn write_text<W: Write>(out: &mut W, text: &[u8]) -> Result<()> {
     match write_whole(out, text) {
@@ -78,8 +83,7 @@ pub fn write_missing<W: Write>(
 pub fn write_other_size<W: Write>(out: &mut W, line: u64, access: RegisterAccess) -> Result<()> {
     write_said(out, line, access)?;
     let octets = access.width.octets();
-    let plural = if octets == 1 { "" } else { "s" };
-    writeln!(out, " ({octets} octet{plural})")?;
+    writeln!(out, " ({octets} {})", plural(octets, "octet", "octets"))?;
     Ok(())
 }
 
