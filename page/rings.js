@@ -131,6 +131,14 @@ function troubleOf(state, ring, descriptor, claims) {
   return other ? `its buffer lies over that of ${other[0]}` : "";
 }
 
+/** Whether a live descriptor's buffer lies over the other ring, which docs/inspect.md does not ask. */
+function overOther(state, ring, { live, isExtended, at, size }) {
+  const [side, words] = ring.side === "rx" ? ["tx", "transmit"] : ["rx", "receive"];
+  const other = ringOf(state, side);
+  const is = live && !isExtended && overlap(at, size, other.base, DESCRIPTOR_OCTETS * other.count);
+  return is ? `its buffer lies over the ${words} ring` : "";
+}
+
 /** The first descriptor that is shown: all of a short ring, else those about the head. */
 function shownFrom({ count, head }) {
   return count <= MOST_SHOWN ? 0 : Math.max(0, Math.min(head - 8, count - MOST_SHOWN));
@@ -156,7 +164,9 @@ function ringView(state, side) {
   const count = Math.min(MOST_SHOWN, ring.count - first);
   const shown = Array.from({ length: count }, (_, row) => descriptorOf(state, ring, first + row));
   const claims = shown.some(({ live }) => live) ? claimsOf(state, ring) : [];
-  for (const one of shown) if (one.octets) one.trouble = troubleOf(state, ring, one, claims);
+  for (const one of shown) {
+    if (one.octets) one.trouble = troubleOf(state, ring, one, claims) || overOther(state, ring, one);
+  }
   return { ring, shown, first };
 }
 

@@ -165,8 +165,22 @@ def rings(tally: Tally, browser, name: str, script: str, steps: list, r: random.
         page = browser.run(LOOK, at_event[number], [])
         for side in ("rx", "tx"):
             shown = told[number, side]
-            faults = [] if shown == page[side] else [f"{set(page[side]) ^ set(shown)} is not told alike"]
+            # em_debug does not ask about the other ring
+            there = [re.sub(r"its buffer lies over the (receive|transmit) ring$", "", text) for text in page[side]]
+            faults = [] if shown == there else [f"{set(there) ^ set(shown)} is not told alike"]
             tally.check(f"{name}, event {number}, ring {side}", faults)
+
+
+def other_ring(tally: Tally, browser, room) -> None:
+    """Buffers over the ring of the other side: receive descriptor 0, at 1000h, names 2000h, and the other way round."""
+    lines = ["w 02800 1000", "w 02808 80", "w 03800 2000", "w 03808 80", "poke 1000 0020000000000000",
+             "poke 2000 00100000000000003C0000090000", "w 02818 1", "w 03818 1"]
+    (room / "other.html").write_bytes(page_of(record_of("".join(f"{line}\n" for line in lines).encode())))
+    browser.open(room / "other.html")
+    page = browser.run(LOOK, len(lines), [])
+    for side, words in (("rx", "transmit"), ("tx", "receive")):
+        wanted = f"0 adapter its buffer lies over the {words} ring"
+        tally.check(f"{side} over the other ring", [] if page[side][0] == wanted else [f"it says {page[side][0]}"])
 
 
 def sight(state, watch: str) -> str:
@@ -251,6 +265,7 @@ def scripts_of() -> list[tuple[str, str]]:
 
 
 def check_states(tally: Tally, browser, room, scripts: list[tuple[str, str]]) -> None:
+    other_ring(tally, browser, room)
     for name, script in scripts:
         r = random.Random(name)
         page = room / "states.html"
