@@ -20,11 +20,15 @@ pub returns-in-None : goal.returns-in-None
 returns-in-None g c =
     let shown = c.in_ok-write_performed.ensures.ok in
     record {
-      ok = (shown.0, shown.1, record {
-        line = shown.0;
-        shows = shown.2;
-        rest = [];
-        tells = rw c.in-None.is (refl, refl);
-        told = sym (append-nil shown.0);
-      });
+      ok = (
+        shown.0,
+        shown.1,
+        record {
+          line = shown.0;
+          shows = shown.2;
+          rest = [];
+          tells = rw c.in-None.is (refl, refl);
+          told = sym (append-nil shown.0);
+        },
+      );
     }
