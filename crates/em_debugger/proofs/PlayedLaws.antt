@@ -139,15 +139,15 @@ engages_on old between new (Some side) goes engines puts =
       left = omega (arith, here, lines, puts.engines, goes.here, goes.lines, goes.ahead, engines);
     }
 
-pub goes_on : (old new : Debugger) (p : Performed) → PerformsNext old new p → GoesOn old new
+pub performs_on : (old new : Debugger) (p : Performed) → PerformsNext old new p → GoesOn old new
 unfolding performs_next
-goes_on old new p h =
+performs_on old new p h =
     engages_on old h.between new (engine_behind (event_of old.tape) p h.between)
     (performs_next old h.between p h.performs) h.performs.engines h.engages
 
 -- so the lines come to an end
 pub ahead_falls : (old new : Debugger) (p : Performed) → PerformsNext old new p → to_do new < to_do old
-ahead_falls old new p h = let on = goes_on old new p h in omega (arith, on.left)
+ahead_falls old new p h = let on = performs_on old new p h in omega (arith, on.left)
 
 abbrev Step : Debugger → Performed → Debugger → Type 0
 Step before line after = PerformsNext before after line

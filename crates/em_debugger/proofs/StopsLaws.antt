@@ -6,7 +6,7 @@ use Rattle.em_debugger.specs.declared.stops.Stop.{Stop}
 use Rattle.em_debugger.specs.Performing.{PerformsNext, IsLast}
 use Rattle.em_debugger.specs.Place.{line_here}
 use Rattle.em_debugger.specs.Stops.{EndsBefore, EndsBehind, Runs, RanTo, is_before, none, more}
-use Rattle.em_debugger.proofs.PlayedLaws.{goes_on, to_do}
+use Rattle.em_debugger.proofs.PlayedLaws.{performs_on, to_do}
 use Rattle.em_debugger.proofs.TextLaws.{is_not}
 
 -- so many lines were performed, none of them ended the run, and so much is left to do
@@ -22,7 +22,7 @@ pub RunsSo-more : (s : Stop) (first now after : Debugger) (lines : ℕ) (p : Per
     → (EndsBefore s now → ⊥) → PerformsNext now after p → (EndsBehind s now after p → ⊥)
     → RunsSo s first after (lines + 1)
 RunsSo-more s first now after lines p h goes_on performs stays =
-    let goes = goes_on now after p performs in
+    let goes = performs_on now after p performs in
     let one : suc lines ≡ lines + 1 = omega arith in
     record {
       runs = subst (λ n. Runs s first n after) one (more lines now after p h.runs goes_on performs stays);

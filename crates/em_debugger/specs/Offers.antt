@@ -70,9 +70,15 @@ pub data Loads (old new : Debugger) (name text : List ℕ) : Type 0 where
   unread : (fault : DiskFault) → text ≡ name ++ disk_text fault → new ≡ old → Loads old new name text
   reads : (file : List ℕ) → LoadsAs (is_capture name) old new file text → Loads old new name text
 
+-- no frame is left, and all stays
+pub record HasNone (old new : Debugger) : Type 0 where
+  pub none : length old.offered.items ≡ 0
+  pub stays : new ≡ record old { offered = new.offered }
+  pub still : new.offered.items ≡ old.offered.items
+
 -- the next of them is a line that is typed, if there is one
 pub data ArrivesNext (old new : Debugger) (text : List ℕ) : Type 0 where
-  none_left : offered old ≡ [] → new ≡ old → text ≡ none_left_text → ArrivesNext old new text
+  none_left : HasNone old new → text ≡ none_left_text → ArrivesNext old new text
   arrives : (line : List ℕ) (between : Debugger) → offered old ≡ line ∷ offered between
       → between ≡ record old { offered = between.offered } → AnswersNew between new line [] text
       → ArrivesNext old new text
@@ -86,7 +92,7 @@ offered_script has_engines lines = flat_map (offered_line has_engines) lines
 
 -- all of them are lines that are loaded and played
 pub data ArrivesAll (old new : Debugger) (text : List ℕ) : Type 0 where
-  none_left : offered old ≡ [] → new ≡ old → text ≡ none_left_text → ArrivesAll old new text
+  none_left : HasNone old new → text ≡ none_left_text → ArrivesAll old new text
   arrive : (between : Debugger) → offered between ≡ [] → between ≡ record old { offered = between.offered }
       → PlaysInstead between new (offered_script (nat_lt 0 old.engines) (offered old)) text → ArrivesAll old new text
 

@@ -44,7 +44,9 @@ impl Debugger {
                 write_fault(writer, fault)?;
                 Ok(Compared::Stopped)
             }
-            Ran::Before(_) | Ran::End => Ok(Compared::Agrees),
+            Ran::End => Ok(Compared::Agrees),
+            // only a run up to a line ends before one
+            Ran::Before(_) => Ok(Compared::Agrees),
         }
     }
 

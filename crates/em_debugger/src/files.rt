@@ -72,7 +72,11 @@ impl Debugger {
     }
 
     /// Loads the lines of a text, and plays them.
-    pub(crate) fn play_text<W: Write>(&mut self, writer: &mut W, script: &[u8]) -> Result<(), WriteFailed>
+    pub(crate) fn play_text<W: Write>(
+        &mut self,
+        writer: &mut W,
+        script: &[u8],
+    ) -> Result<(), WriteFailed>
         ensures ok { OnOk result ((text : List ℕ) × Appends (W.contents writer.old) (W.contents writer.new) text
             × PlaysText self.old self.new script.now text) }
     {

@@ -110,7 +110,11 @@ impl Debugger {
         let ahead = self.tape.len().saturating_sub(line_here(&self.tape));
         let most = ahead.saturating_add(self.engines as usize);
         for lines in 0..most {
-            let next = line_here(&self.tape).saturating_add(1);
+            let here = line_here(&self.tape);
+            if here >= self.tape.len() {
+                return (lines, Ran::End);
+            }
+            let next = here + 1;
             if stop.is_before(next) {
                 return (lines, Ran::Before(next));
             }

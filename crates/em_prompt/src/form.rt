@@ -54,11 +54,8 @@ impl Command {
             Command::Goto => Form::Words(1, &[Kind::Number(Number::Event)]),
             Command::Next | Command::History => Form::Words(0, &[Kind::Number(Number::Count)]),
             Command::Run => run_form(behind),
-            Command::Load
-            | Command::Save
-            | Command::SaveOver
-            | Command::Pcap
-            | Command::PcapOver => Form::File,
+            Command::Load | Command::Save | Command::SaveOver | Command::Pcap | Command::PcapOver =>
+                Form::File,
             Command::Effect => Form::Words(0, &[Kind::Number(Number::Event)]),
             Command::Ring => Form::Words(1, &[Kind::Choice(Choice::Side)]),
             Command::Frame => Form::Words(0, &[Kind::Number(Number::Index)]),

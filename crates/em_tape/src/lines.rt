@@ -35,11 +35,7 @@ pub(crate) fn put_line(
     put_octets(lines, before, octets)
 }
 
-fn put_octets(
-    lines: &mut Vec<Vec<u8>>,
-    before: usize,
-    octets: Vec<u8>,
-) -> Result<(), AllocError>
+fn put_octets(lines: &mut Vec<Vec<u8>>, before: usize, octets: Vec<u8>) -> Result<(), AllocError>
     requires { before ≤ length lines.old.items }
     ensures ok { OnOk result (lists lines.new.items ≡ insert (lists lines.old.items) before octets.items) }
     ensures err { OnErr result (lists lines.new.items ≡ lists lines.old.items) }

@@ -11,7 +11,7 @@ loop-index-init g c = ShowsSo-none c.args.self.now (g.W.Write.contents c.args.wr
 pub loop-index-preserved : goal.loop-index-preserved
 loop-index-preserved g c =
     let wrote = c.in_ok-write_performed-in-Ok-Some.ensures.ok in
-    let then = c.in_ok-show_steps.ensures.ok in
+    let then = c.in_ok-show_steps-in-Ok-Some.ensures.ok in
     ShowsSo-more c.args.self.now c.loop-index.self c.perform_next.new.self c.show_steps.new.self _ _ _ _
     c.loop-index.index c.in-Ok-Some.performed wrote.0 then.0 c.loop-index.invariant
     (rw c.in-Ok-Some.field-0-is at c.in-Ok-Some.ensures.some) wrote.2 wrote.1 (rw c.len-lines.ensures.len at then.2) then.1

@@ -1,7 +1,8 @@
 use Rattle.std.proofs.Common.{refl}
-use Rattle.em_prompt.specs.Typed.{effect, frame, help, history, look, memory, quit, ring, save, save_over, silent}
+use Rattle.em_prompt.specs.Typed.{effect, frame, help, history, look, memory, pcap, pcap_over, quit, ring, save, save_over, silent}
 use Rattle.em_debugger.specs.Answering.{Obeys}
 use Rattle.em_debugger.specs.Files.{Saves}
+use Rattle.em_debugger.specs.Offers.{SavesFrames}
 use Rattle.em_debugger.proofs.AnsweringLaws.{shown}
 use Rattle.em_debugger.proofs.TextLaws.{OnOk-told}
 use Rattle.em_debugger.proofs.debugger.Debugger.obey.Goals as goal
@@ -31,6 +32,30 @@ returns-in-SaveOver g c =
     record {
       ok = rw c.in-SaveOver.is (OnOk-told _ _ c.save-in-SaveOver.result (Saves old name) (Obeys old old (save_over name))
           (λ t h. (refl, h)) c.save-in-SaveOver.ensures.ok);
+    }
+
+pub returns-in-ArriveNext : goal.returns-in-ArriveNext
+returns-in-ArriveNext g c = record { ok = rw c.in-ArriveNext.is c.arrive_next.ensures.ok }
+
+pub returns-in-ArriveAll : goal.returns-in-ArriveAll
+returns-in-ArriveAll g c = record { ok = rw c.in-ArriveAll.is c.arrive_all.ensures.ok }
+
+pub returns-in-Pcap : goal.returns-in-Pcap
+returns-in-Pcap g c =
+    let old = c.args.self.now in
+    let name = c.in-Pcap.name.now in
+    record {
+      ok = rw c.in-Pcap.is (OnOk-told _ _ c.write_capture.result (SavesFrames old name) (Obeys old old (pcap name))
+          (λ t h. (refl, h)) c.write_capture.ensures.ok);
+    }
+
+pub returns-in-PcapOver : goal.returns-in-PcapOver
+returns-in-PcapOver g c =
+    let old = c.args.self.now in
+    let name = c.in-PcapOver.name.now in
+    record {
+      ok = rw c.in-PcapOver.is (OnOk-told _ _ c.write_capture-in-PcapOver.result (SavesFrames old name)
+          (Obeys old old (pcap_over name)) (λ t h. (refl, h)) c.write_capture-in-PcapOver.ensures.ok);
     }
 
 pub returns-in-Silent : goal.returns-in-Silent

@@ -3,13 +3,13 @@ use Rattle.em_debugger.specs.Performing.{AnswersNext, ShowsSteps, fault_text, pe
 use Rattle.em_debugger.proofs.TextLaws.{OnOk-behind, OnOk-written}
 use Rattle.em_debugger.proofs.debugger.Debugger.perform_answered.Goals as goal
 
-pub returns-in-Ok-Some : goal.returns-in-Ok-Some
-returns-in-Ok-Some g c =
+pub returns-in_ok-write_answered-in-Ok-Some : goal.returns-in_ok-write_answered-in-Ok-Some
+returns-in_ok-write_answered-in-Ok-Some g c =
     let old = c.args.self.now in
     let between = c.perform_next.new.self in
     let new = c.show_steps.new.self in
     let p = c.in-Ok-Some.performed in
-    let answered = c.in_ok-write_answered.ensures.ok in
+    let answered = c.in_ok-write_answered-in-Ok-Some.ensures.ok in
     let lines = length old.tape.lines in
     record {
       ok = OnOk-behind _ _ _ c.show_steps.result answered.0 (ShowsSteps lines between new) (AnswersNext old new)

@@ -1,4 +1,4 @@
-use Rattle.std.proofs.Common.{◌≡◌, ◌∙◌, ◌+◌, sym, subst, arith}
+use Rattle.std.proofs.Common.{◌≡◌, ◌∙◌, ◌+◌, ap, sym, subst}
 use Rattle.em_debugger.specs.Place.{line_here}
 use Rattle.em_debugger.specs.Stops.{EndsSince}
 use Rattle.em_debugger.proofs.StopsLaws.{RanTo-here, RunsSo-more, RunsSo-none, not_before}
@@ -12,10 +12,9 @@ pub returns-then-stops_here : goal.returns-then-stops_here
 returns-then-stops_here c =
     let h = c.loop-lines.invariant in
     let now = c.loop-lines.self in
-    let next : c.saturating_add-next.result ≡ line_here now.tape + 1 =
-    omega (arith, c.line_here-in-loop-lines.ensures.line, c.line_here-in-loop-lines.ensures.there, c.line_here.ensures.line, c.len.ensures.few, c.len.ensures.len, h.here) in
+    let next : c.line_here-here.result + 1 ≡ line_here now.tape + 1 = ap (λ n. n + 1) c.line_here-here.ensures.line in
     RanTo-here c.args.stop c.args.self.now now c.perform_next.new.self c.loop-lines.lines c.in-Ok-Some.performed h
-    (not_before c.args.stop now c.saturating_add-next.result (sym c.is_before.ensures ∙ c.if-is_before.false) next)
+    (not_before c.args.stop now (c.line_here-here.result + 1) (sym c.is_before.ensures ∙ c.if-is_before.false) next)
     (rw c.in-Ok-Some.field-0-is at c.in-Ok-Some.ensures.some)
     (subst (λ e. EndsSince c.args.stop e c.perform_next.new.self c.in-Ok-Some.performed) c.event-before.ensures
     (c.stops_here.ensures.0 c.if-stops_here.true))
@@ -24,10 +23,9 @@ pub loop-lines-preserved : goal.loop-lines-preserved
 loop-lines-preserved c =
     let h = c.loop-lines.invariant in
     let now = c.loop-lines.self in
-    let next : c.saturating_add-next.result ≡ line_here now.tape + 1 =
-    omega (arith, c.line_here-in-loop-lines.ensures.line, c.line_here-in-loop-lines.ensures.there, c.line_here.ensures.line, c.len.ensures.few, c.len.ensures.len, h.here) in
+    let next : c.line_here-here.result + 1 ≡ line_here now.tape + 1 = ap (λ n. n + 1) c.line_here-here.ensures.line in
     RunsSo-more c.args.stop c.args.self.now now c.perform_next.new.self c.loop-lines.lines c.in-Ok-Some.performed h
-    (not_before c.args.stop now c.saturating_add-next.result (sym c.is_before.ensures ∙ c.if-is_before.false) next)
+    (not_before c.args.stop now (c.line_here-here.result + 1) (sym c.is_before.ensures ∙ c.if-is_before.false) next)
     (rw c.in-Ok-Some.field-0-is at c.in-Ok-Some.ensures.some)
     (λ ends. is_not c.if-stops_here.false (c.stops_here.ensures.1
     (subst (λ e. EndsSince c.args.stop e c.perform_next.new.self c.in-Ok-Some.performed) (sym c.event-before.ensures)
