@@ -1,5 +1,5 @@
 -- The bits that a word names, one after another.
-use Rattle.std.proofs.Common.{◌≡◌, ◌≤◌, ℕ, Bool, true, false, cond, List, [], ◌∷◌, length, map, refl, sym, ap, ◌∙◌, arith}
+use Rattle.std.proofs.Common.{◌≡◌, ◌≤◌, ℕ, Bool, true, false, cond, List, [], ◌∷◌, length, map, refl, arith}
 use Rattle.std.proofs.Common.{Option, Some, None, Ok, Err, MatchOption, Bor, bit_or, find}
 use Rattle.std.specs.Option.{option_map}
 use Rattle.std.specs.List.{slice_split, position_or_len}

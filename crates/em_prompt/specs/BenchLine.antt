@@ -1,5 +1,5 @@
 -- A line of em_bench's, and its text as it is kept.
-use Rattle.std.specs.Prelude.{ℕ, List, [], ◌∷◌, ◌++◌, codes, slice_get, if◌then◌else◌, Option, Some, None, Result, Ok, Err}
+use Rattle.std.specs.Prelude.{ℕ, List, [], ◌++◌, codes, slice_get, if◌then◌else◌, Option, Some, None, Result, Ok, Err}
 use Rattle.em_text.specs.Words.{words_of}
 use Rattle.em_text.specs.Writer.{value_digits}
 use Rattle.em_regs.specs.declared.reg.Reg.{Reg}

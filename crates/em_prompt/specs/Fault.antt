@@ -1,14 +1,12 @@
 -- What is wrong with a line.
-use Rattle.std.specs.Prelude.{ℕ, Bool, true, false, not, ◌-◌, ◌/◌, ◌%◌, ◌==◌, ◌&&◌, nat_le, if◌then◌else◌, List, [], ◌∷◌}
+use Rattle.std.specs.Prelude.{ℕ, Bool, true, false, ◌-◌, ◌/◌, ◌%◌, ◌==◌, ◌&&◌, if◌then◌else◌, List, [], ◌∷◌}
 use Rattle.std.specs.Prelude.{length, Option, Some, None, Result, Ok, Err}
 use Rattle.std.specs.List.{list_all}
 use Rattle.std.specs.Char.{is_ascii_hexdigit}
-use Rattle.em_text.specs.Words.{words_of}
 use Rattle.em_text.specs.Numbers.{decimal_number, octets_of}
-use Rattle.em_line.specs.ParsedLine.{ParsedLine, silent, bad, says, asks, plans}
+use Rattle.em_line.specs.ParsedLine.{ParsedLine, bad}
 use Rattle.em_line.specs.Grammar.{turns_form}
 use Rattle.em_regs.specs.declared.reg.Reg.{Reg}
-use Rattle.em_prompt.specs.declared.command.Command.{Command}
 use Rattle.em_prompt.specs.declared.kind.Kind.{Kind}
 use Rattle.em_prompt.specs.declared.kind.Kind.TheVariants.{Register, Known, Value, Address, Data, Ethernet, FrameLen}
 use Rattle.em_prompt.specs.declared.kind.Kind.TheVariants.{Turn, Watch, File, Name, Number, Choice}

@@ -5,7 +5,7 @@ use Rattle.std.specs.Str.{bytes_eq}
 use Rattle.em_text.specs.Numbers.{decimal_number}
 use Rattle.em_prompt.specs.declared.watch.Watch.{Watch}
 use Rattle.em_prompt.specs.declared.watch.Watch.TheVariants.{Register, Octets, Line, Link, Frames, Sent}
-use Rattle.em_prompt.specs.Register.{named, or_else}
+use Rattle.em_prompt.specs.Register.{named}
 use Rattle.em_prompt.specs.Word.{hex_address_in}
 
 -- what one word says

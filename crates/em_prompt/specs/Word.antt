@@ -1,6 +1,6 @@
 -- What a word writes.
 use Rattle.std.specs.Prelude.{ℕ, Bool, ◌==◌, ◌&&◌, ◌||◌, if◌then◌else◌, List, [], ◌∷◌, length, slice_index}
-use Rattle.std.specs.Prelude.{Option, Some, None, option_map}
+use Rattle.std.specs.Prelude.{Option, option_map}
 use Rattle.em_text.specs.Words.{words_of, read_first}
 use Rattle.em_text.specs.Numbers.{hex_number, hex_address}
 

@@ -1,13 +1,13 @@
 -- Lines that did no more than one event each, taken back and performed again.
-use Rattle.std.proofs.Common.{◌≡◌, ◌⊎◌, ℕ, ◌+◌, ◌-◌, ◌<◌, ◌≤◌, zero, suc, List, [], ◌∷◌, ◌++◌, length, take, drop, map}
-use Rattle.std.proofs.Common.{Option, Some, None, Result, Ok, Err, refl, sym, ap, ◌∙◌, subst, arith, inl, inr}
+use Rattle.std.proofs.Common.{◌≡◌, ℕ, ◌+◌, ◌-◌, ◌<◌, ◌≤◌, zero, suc, List, [], ◌∷◌, ◌++◌, length, take, drop, map}
+use Rattle.std.proofs.Common.{Option, Some, None, Result, refl, sym, ap, ◌∙◌, subst, arith}
 use Rattle.std.specs.Prelude.{slice_get, get_or}
 use Rattle.std.specs.Option.{option_map}
 use Rattle.std.proofs.lemmas.List.{length-take-le, length-append, length-drop, length-map, take_all, take-take, take-map, drop-map}
-use Rattle.std.proofs.lemmas.List.{drop-take, map-append, drop_more, take_more, nil_from_length}
+use Rattle.std.proofs.lemmas.List.{drop-take, map-append, drop_more}
 use Rattle.em_line.specs.Grammar.{parsed_line}
 use Rattle.em_line.specs.ParsedLine.{ParsedLine}
-use Rattle.em_script.specs.PlayedLine.{PlayedLine, ArePlayed, AreAllowed, IsAllowed, after_all, after_played}
+use Rattle.em_script.specs.PlayedLine.{PlayedLine, AreAllowed, IsAllowed, after_all, after_played}
 use Rattle.em_script.specs.Reply.{Performs}
 use Rattle.em_script.specs.Session.{Session}
 use Rattle.em_tape.specs.Did.{AllDo, AreDone, Does, IsKnown, events_in}

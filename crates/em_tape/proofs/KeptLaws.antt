@@ -13,7 +13,7 @@ use Rattle.em_script.specs.Reply.{Performs}
 use Rattle.em_tape.specs.Ends.{noted}
 use Rattle.em_tape.specs.Did.{Does, IsKnown}
 use Rattle.em_tape.specs.Holds.{Holds}
-use Rattle.em_tape.specs.Tape.{Tape, IsAt, IsTape, IsShort, taken_back}
+use Rattle.em_tape.specs.Tape.{Tape, IsShort, taken_back}
 use Rattle.em_tape.specs.declared.did.Did.{Did}
 use Rattle.em_tape.specs.Moves.{Plays}
 use Rattle.em_tape.proofs.AgainLaws.{known_back, known_cut, known_lines, known_next, place_of}

@@ -1,4 +1,3 @@
-use Rattle.std.proofs.Common.{◌≡◌, refl}
 use Rattle.em_pcap.specs.Capture.{left_of}
 use Rattle.em_pcap.specs.Frame.{frame_of}
 use Rattle.em_pcap.specs.Reading.{reading_of}

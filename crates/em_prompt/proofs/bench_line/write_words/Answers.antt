@@ -1,4 +1,4 @@
-use Rattle.std.proofs.Common.{[], ◌++◌, slice_get, sym, ap, ◌∙◌, refl}
+use Rattle.std.proofs.Common.{[], ◌++◌, slice_get, sym, ap, ◌∙◌}
 use Rattle.std.proofs.lemmas.Result.{MatchResult-from_err}
 use Rattle.em_text.proofs.WritingLemmas.{Writes-more, WritesPart-front}
 use Rattle.em_prompt.specs.BenchLine.{kept_behind}

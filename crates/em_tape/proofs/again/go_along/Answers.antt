@@ -1,9 +1,8 @@
-use Rattle.std.proofs.Common.{◌≡◌, ◌-◌, ◌<◌, ◌≤◌, ◌∙◌, length, take, drop, ap, sym, subst, arith}
+use Rattle.std.proofs.Common.{◌≡◌, ◌-◌, ◌∙◌, take, drop, ap, subst, arith}
 use Rattle.std.specs.Prelude.{All}
 use Rattle.std.proofs.lemmas.List.{take-map, drop-map}
 use Rattle.std.proofs.lemmas.List.Elements.{All-take, All-drop}
 use Rattle.em_turn.specs.Planned.{lists}
-use Rattle.em_script.specs.PlayedLine.{PlayedLine, after_all}
 use Rattle.em_tape.specs.Did.{AreDone}
 use Rattle.em_tape.specs.Tape.{IsShort}
 use Rattle.em_tape.proofs.AgainLaws.{known_before, known_behind, done_between}

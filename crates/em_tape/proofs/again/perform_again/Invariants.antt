@@ -1,4 +1,4 @@
-use Rattle.std.proofs.Common.{◌≡◌, ◌<◌, ◌≤◌, ◌-◌, ◌^◌, ℕ, List, Some, length, take}
+use Rattle.std.proofs.Common.{◌≡◌, ◌<◌, ◌≤◌, ◌-◌, ◌^◌, List, Some, length, take}
 use Rattle.em_turn.specs.Planned.{lists}
 use Rattle.em_script.specs.PlayedLine.{PlayedLine, after_all}
 use Rattle.em_tape.specs.Did.{AreDone, events_in}

@@ -1,4 +1,4 @@
-use Rattle.std.proofs.Common.{◌≡◌, ◌+◌, ◌-◌, ◌<◌, ◌∷◌, ◌∙◌, suc, Some, ap, arith, drop, take, length, sym}
+use Rattle.std.proofs.Common.{◌≡◌, ◌+◌, ◌-◌, ◌∷◌, ◌∙◌, suc, Some, ap, arith, drop, take, sym}
 use Rattle.std.specs.Option.{option_map}
 use Rattle.em_tape.specs.Did.{events_in}
 use Rattle.em_tape.specs.declared.did.Did.TheVariants.{Nothing}

@@ -1,4 +1,4 @@
-use Rattle.std.proofs.Common.{◌≡◌, ◌≤◌, ◌∙◌, length, refl, sym, ap, subst}
+use Rattle.std.proofs.Common.{◌≤◌, length, refl, sym, subst}
 use Rattle.em_turn.specs.Planned.{lists}
 use Rattle.em_journal.specs.Settings.{new_machine}
 use Rattle.em_script.specs.Session.{bare}
