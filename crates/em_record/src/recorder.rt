@@ -7,6 +7,7 @@ use em_output::Outcome;
 use em_recording::{
     Recorded, record_of, write_event, write_number, write_settings, write_start, write_string,
 };
+use em_script::BenchFault;
 use em_tape::Tape;
 use em_text::{WriteFailed, next_line, write_pieces, write_whole};
 use std::alloc::{AllocError, Global};
@@ -107,10 +108,11 @@ impl Recorder {
         let before = self.tape.event();
         self.tape.add(line)?;
         self.answer.clear();
-        let outcome = self
-            .tape
-            .perform_next(&mut self.answer)?
-            .unwrap_or(Outcome::Silent);
+        let outcome = match self.tape.perform_next(&mut self.answer) {
+            Ok(outcome) => outcome.unwrap_or(Outcome::Silent),
+            // A vector fails only where memory is refused.
+            Err(_) => return Err(RecordFault::Bench(BenchFault::Memory)),
+        };
         let number = self.tape.len() as u64;
         write_number(writer, b"{\"line\":", number)?;
         write_whole(writer, b",\"answer\":")?;
