@@ -3,13 +3,12 @@
 use crate::session::Served;
 use anyhow::{Result, bail};
 use em_debugger::{Compared, Disk};
-use em_names::write_register;
+use em_names::write_name;
 use em_regs::Reg;
 use em_script::BenchFault;
-use std::alloc::{AllocError, Global};
+use std::alloc::AllocError;
+use std::io;
 use std::io::{BufWriter, Write};
-use std::rt::Print;
-use std::{io, rt};
 
 /// How often answers differed that reads of a register gave; of other lines, where there is none.
 #[derive(Clone, Copy, Debug)]
@@ -85,7 +84,7 @@ pub fn compare_all<R: Print + AllocGlobal, D: Disk + Drop>(
 /// Writes how often a register's answers differed.
 fn write_count<W: Write>(writer: &mut W, count: &Count) -> Result<()> {
     let named = match count.reg {
-        Some(reg) => write_register(writer, reg).is_ok(),
+        Some(reg) => write_name(writer, reg).is_ok(),
         None => write!(writer, "other lines").is_ok(),
     };
     if !named || writeln!(writer, ": {} differed", count.differed).is_err() {
