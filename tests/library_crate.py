@@ -2,12 +2,14 @@
 so they are no `.rt` files, each of which rt wants proved."""
 from pathlib import Path
 
-from tally import TOP
+from tally import CRATES, TOP
 
 LIBRARY = TOP / "tests" / "library"
 EXAMPLES = TOP / "examples"
 FILES = sorted(LIBRARY.glob("*.rtt"))
 NAME = "em_tests"
+# What the tests of the driver's calls stand on: files of the program em_calls.
+CALLING = [CRATES / "em_calls" / "src" / f"{name}.rt" for name in "digest driven plan random same setup".split()]
 
 
 def uses() -> list[str]:
@@ -36,5 +38,7 @@ def copied(to: Path) -> Path:
     (crate / "src").mkdir(parents=True)
     for file in FILES:
         (crate / "src" / f"{file.stem}.rt").write_text(file.read_text())
+    for file in CALLING:
+        (crate / "src" / file.name).write_text(file.read_text())
     (crate / "src" / "examples.rt").write_text(examples())
     return crate

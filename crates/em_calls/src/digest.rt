@@ -1,6 +1,7 @@
 //! A state in one number.
 
 use em_journal::Machine;
+use em_step::Adapter;
 
 /// The start and the factor of the FNV-1a hash of 64 bits.
 const START: u64 = 0xCBF2_9CE4_8422_2325;
@@ -32,6 +33,36 @@ pub trait Shown {
 }
 
 impl Shown for Machine {
+    fn register(&self, offset: u32) -> Option<u32> {
+        self.look(offset)
+    }
+
+    fn octets(&self, addr: u64, out: &mut [u8]) -> bool {
+        self.peek(addr, out).is_ok()
+    }
+
+    fn has_line(&self) -> bool {
+        self.line()
+    }
+
+    fn has_link(&self) -> bool {
+        self.link()
+    }
+
+    fn frames(&self) -> usize {
+        self.wire_len()
+    }
+
+    fn frame(&self, index: usize) -> Option<&[u8]> {
+        self.wire_frame(index)
+    }
+
+    fn size(&self) -> u64 {
+        self.memory_size()
+    }
+}
+
+impl Shown for Adapter {
     fn register(&self, offset: u32) -> Option<u32> {
         self.look(offset)
     }

@@ -6,8 +6,8 @@ ghost use Rattle.em_turn.specs.Turn.{plan_turns};
 
 use crate::digest::digest;
 use crate::plan::Plan;
+use crate::same::same;
 use crate::setup::{driver_with_turns, packet};
-use crate::tests::same;
 use em_driver::{
     Batch, Bus, Cause, DeviceStats, E1000, IxyDevice, Layout, PlanRefused, StartRefused, Stopped,
     Turn, Turns,
@@ -35,15 +35,6 @@ pub type Counts = (u32, u32, usize, bool);
 /// The answer of a call that moved so many packets.
 pub fn batch(count: u32, events: u32) -> Result<Batch, Stopped> {
     Ok(Batch { count, events })
-}
-
-/// The answer of a call that was stopped.
-pub fn stopped(count: u32, events: u32, cause: Cause) -> Result<Batch, Stopped> {
-    Err(Stopped {
-        count,
-        events,
-        cause,
-    })
 }
 
 /// How a start went: why it was refused, where it was, and how many events it performed.

@@ -1,6 +1,6 @@
 //! Calls to which memory is refused: what they answer, and that all is as before once they are taken back.
 //!
-//! A test that meets a refusal, and finds all as it is to be, ends with an error that names what it met.
+//! A case that meets a refusal, and finds all as it is to be, ends with an error that names what it met.
 //! Without a refusal it passes.
 
 ghost use Rattle.std.specs.Prelude.{◌≡◌, ◌<◌, length, IfOk};
@@ -10,8 +10,8 @@ ghost use Rattle.em_turn.specs.Turn.{plan_turns};
 use crate::digest::{digest, digest_of};
 use crate::driven::{Driven, Started, batch, on_a_driver, start_on};
 use crate::plan::Plan;
+use crate::same::same;
 use crate::setup::{LAYOUT, arrival, linked_machine};
-use crate::tests::same;
 use em_driver::{Cause, Stopped, Turn};
 use em_eeprom::Eeprom;
 use em_journal::{JournalRefusal, Machine, Settings};
@@ -75,10 +75,23 @@ const SENT: [(u32, u32, usize); 6] = [
 /// the frames stored, and that memory was refused.
 const STARVED: [(u32, u32, usize, bool); 3] = [(0, 0, 0, true), (1, 0, 1, true), (2, 0, 1, true)];
 
-#[test]
-fn a_refused_machine_is_named(rt: HostRuntime) -> Result<(), Fail> {
-    match Adapter::new(rt.alloc(), SETTINGS.memory, Eeprom::of_mac(SETTINGS.mac)) {
-        Ok(adapter) => has_a_journal(rt.alloc(), adapter),
+/// One of the cases below, by its name.
+pub fn case(alloc: Global, name: &str) -> Result<(), Fail> {
+    match name {
+        "machine" => a_refused_machine_is_named(alloc),
+        "event" => a_refused_event_changes_nothing(alloc),
+        "start" => a_refused_start_can_be_made_again(alloc),
+        "rx_batch" => a_refused_rx_batch_can_be_made_again(alloc),
+        "tx_batch" => a_refused_tx_batch_can_be_made_again(alloc),
+        "plan" => a_refused_plan_comes_back(alloc),
+        "turn" => a_refused_turn_is_not_counted(alloc),
+        _ => Err(Fail::new(format_args!("no case {name}"))),
+    }
+}
+
+fn a_refused_machine_is_named(alloc: Global) -> Result<(), Fail> {
+    match Adapter::new(alloc, SETTINGS.memory, Eeprom::of_mac(SETTINGS.mac)) {
+        Ok(adapter) => has_a_journal(alloc, adapter),
         Err(refusal) => {
             same("refusal", refusal, MemRefusal::Memory)?;
             Err(met_event("an adapter"))
@@ -104,9 +117,8 @@ fn comes_back(refusal: JournalRefusal, state: u64, before: u64) -> Result<(), Fa
     Err(met_event("a journal"))
 }
 
-#[test]
-fn a_refused_event_changes_nothing(rt: HostRuntime) -> Result<(), Fail> {
-    let mut machine = linked_machine(rt.alloc())?;
+fn a_refused_event_changes_nothing(alloc: Global) -> Result<(), Fail> {
+    let mut machine = linked_machine(alloc)?;
     every_growth(&mut machine)
 }
 
@@ -178,17 +190,16 @@ fn is_refused_at_first(
     }
 }
 
-#[test]
-fn a_refused_start_can_be_made_again(rt: HostRuntime) -> Result<(), Fail> {
-    let machine = linked_machine(rt.alloc())?;
+fn a_refused_start_can_be_made_again(alloc: Global) -> Result<(), Fail> {
+    let machine = linked_machine(alloc)?;
     let before = digest(&machine);
-    let (mut machine, (cause, events)) = start_on(rt.alloc(), machine, LAYOUT);
+    let (mut machine, (cause, events)) = start_on(alloc, machine, LAYOUT);
     let _ = machine.back_by(events as usize);
     let state = digest(&machine);
     // with memory a driver starts
     let (machine, again) = match cause {
         None => (machine, (None, 291)),
-        Some(_) => start_on(rt.alloc(), machine, LAYOUT),
+        Some(_) => start_on(alloc, machine, LAYOUT),
     };
     let _ = machine;
     starts_again((cause, events), state == before, again)
@@ -208,9 +219,8 @@ fn starts_again(first: Started, is_taken_back: bool, again: Started) -> Result<(
     }
 }
 
-#[test]
-fn a_refused_rx_batch_can_be_made_again(rt: HostRuntime) -> Result<(), Fail> {
-    on_a_driver(rt.alloc(), |driven| {
+fn a_refused_rx_batch_can_be_made_again(alloc: Global) -> Result<(), Fail> {
+    on_a_driver(alloc, |driven| {
         two_wait(driven)?;
         let before = driven.digest();
         match driven.rx_batch(0, 9) {
@@ -226,9 +236,8 @@ fn a_refused_rx_batch_can_be_made_again(rt: HostRuntime) -> Result<(), Fail> {
     })
 }
 
-#[test]
-fn a_refused_tx_batch_can_be_made_again(rt: HostRuntime) -> Result<(), Fail> {
-    on_a_driver(rt.alloc(), |driven| {
+fn a_refused_tx_batch_can_be_made_again(alloc: Global) -> Result<(), Fail> {
+    on_a_driver(alloc, |driven| {
         give_three(driven)?;
         let before = driven.digest();
         match driven.tx_batch(0) {
@@ -246,9 +255,8 @@ fn a_refused_tx_batch_can_be_made_again(rt: HostRuntime) -> Result<(), Fail> {
     })
 }
 
-#[test]
-fn a_refused_plan_comes_back(rt: HostRuntime) -> Result<(), Fail> {
-    on_a_driver(rt.alloc(), |driven| {
+fn a_refused_plan_comes_back(alloc: Global) -> Result<(), Fail> {
+    on_a_driver(alloc, |driven| {
         two_wait(driven)?;
         driven.set_plan(one_list(driven.alloc())?)?;
         same("speed", driven.get_link_speed(), 1000)?;
@@ -270,9 +278,8 @@ fn a_refused_plan_comes_back(rt: HostRuntime) -> Result<(), Fail> {
     })
 }
 
-#[test]
-fn a_refused_turn_is_not_counted(rt: HostRuntime) -> Result<(), Fail> {
-    on_a_driver(rt.alloc(), |driven| {
+fn a_refused_turn_is_not_counted(alloc: Global) -> Result<(), Fail> {
+    on_a_driver(alloc, |driven| {
         two_wait(driven)?;
         let before = driven.digest();
         driven.set_plan(one_list(driven.alloc())?)?;
@@ -293,7 +300,7 @@ fn met_event(what: &str) -> Fail {
     Fail::new(format_args!("error: refused {what}"))
 }
 
-/// What a test met.
+/// What a call met.
 fn met(call: &str, events: u32, count: u32) -> Fail {
     Fail::new(format_args!("error: refused {call} after {events} events, {count} packets"))
 }
