@@ -23,6 +23,10 @@ low_bits = codes "the low 4 bits are 0 here, as in the manual; QEMU stores them"
 abbrev pub by_steps : List ℕ
 by_steps = codes "here engines make steps by rx and tx alone"
 
+-- what arriving frames move
+abbrev pub by_arrivals : List ℕ
+by_arrivals = codes "here frames arrive by arrive alone"
+
 abbrev pub departure_of : Reg → List ℕ
 departure_of reg.Ctrl = after_reset
 departure_of reg.Ledctl = after_reset
@@ -54,8 +58,29 @@ departure_of reg.Tdh = by_steps
 departure_of reg.Gptc = by_steps
 departure_of reg.Gotcl = by_steps
 departure_of reg.Gotch = by_steps
+departure_of reg.Ptc64 = by_steps
+departure_of reg.Ptc127 = by_steps
+departure_of reg.Ptc255 = by_steps
+departure_of reg.Ptc511 = by_steps
+departure_of reg.Ptc1023 = by_steps
+departure_of reg.Ptc1522 = by_steps
 departure_of reg.Mptc = by_steps
 departure_of reg.Bptc = by_steps
+departure_of reg.Mpc = by_arrivals
+departure_of reg.Prc64 = by_arrivals
+departure_of reg.Prc127 = by_arrivals
+departure_of reg.Prc255 = by_arrivals
+departure_of reg.Prc511 = by_arrivals
+departure_of reg.Prc1023 = by_arrivals
+departure_of reg.Prc1522 = by_arrivals
+departure_of reg.Gprc = by_arrivals
+departure_of reg.Bprc = by_arrivals
+departure_of reg.Mprc = by_arrivals
+departure_of reg.Gorcl = by_arrivals
+departure_of reg.Gorch = by_arrivals
+departure_of reg.Rnbc = by_arrivals
+departure_of reg.Ruc = by_arrivals
+departure_of reg.Roc = by_arrivals
 departure_of _ = []
 
 abbrev pub known_text : List ℕ → List ℕ

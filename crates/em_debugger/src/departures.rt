@@ -32,9 +32,34 @@ fn departure(reg: Reg) -> &'static [u8]
         Reg::Ics => b"it reads as 0 here",
         Reg::Icr => b"here engines make steps by rx and tx alone, and no PHY raises a cause",
         Reg::Ims => b"bits 31 to 17 are 0 here, as in the manual; QEMU stores them",
-        Reg::Rdh | Reg::Tdh | Reg::Gptc | Reg::Gotcl | Reg::Gotch | Reg::Mptc | Reg::Bptc => {
-            b"here engines make steps by rx and tx alone"
-        }
+        Reg::Rdh
+        | Reg::Tdh
+        | Reg::Gptc
+        | Reg::Gotcl
+        | Reg::Gotch
+        | Reg::Ptc64
+        | Reg::Ptc127
+        | Reg::Ptc255
+        | Reg::Ptc511
+        | Reg::Ptc1023
+        | Reg::Ptc1522
+        | Reg::Mptc
+        | Reg::Bptc => b"here engines make steps by rx and tx alone",
+        Reg::Mpc
+        | Reg::Prc64
+        | Reg::Prc127
+        | Reg::Prc255
+        | Reg::Prc511
+        | Reg::Prc1023
+        | Reg::Prc1522
+        | Reg::Gprc
+        | Reg::Bprc
+        | Reg::Mprc
+        | Reg::Gorcl
+        | Reg::Gorch
+        | Reg::Rnbc
+        | Reg::Ruc
+        | Reg::Roc => b"here frames arrive by arrive alone",
         _ => b"",
     }
 }
