@@ -51,40 +51,28 @@ pub data LoadsText (old new : Debugger) (script text : List ℕ) : Type 0 where
       → LoadsText old new script text
   stops : (fault : BenchFault) → text ≡ fault_text fault → LoadsText old new script text
 
--- and before that how many lines were dropped
-pub record LoadsBehind (dropped : ℕ) (old new : Debugger) (script text : List ℕ) : Type 0 where
-  pub rest : List ℕ
-  pub loads : LoadsText old new script rest
-  pub said : text ≡ dropped_text dropped ++ rest
-
--- what lay ahead was dropped, and the script's lines were put there; or memory was refused
-pub data LoadsInstead (old new : Debugger) (script text : List ℕ) : Type 0 where
-  cuts : (between : Debugger) (dropped : ℕ) → Cuts old between dropped → LoadsBehind dropped between new script text
-      → LoadsInstead old new script text
-  uncut : (fault : BenchFault) → text ≡ fault_text fault → LoadsInstead old new script text
-
 -- the script's lines were put behind the last one, and played; or memory was refused
 pub data PlaysText (old new : Debugger) (script text : List ℕ) : Type 0 where
   plays : (between : Debugger) → AddsLines old between (lines_of script) → RunsAll between new text
       → PlaysText old new script text
   unplayed : (fault : BenchFault) → text ≡ fault_text fault → PlaysText old new script text
 
--- and before that it is said how many lines were dropped
-pub record PlaysBehind (dropped : ℕ) (old new : Debugger) (script text : List ℕ) : Type 0 where
-  pub rest : List ℕ
-  pub plays : PlaysText old new script rest
-  pub said : text ≡ dropped_text dropped ++ rest
-
--- what lay ahead was dropped, and the script's lines were put there and played; or memory was refused
-pub data PlaysInstead (old new : Debugger) (script text : List ℕ) : Type 0 where
-  cuts_first : (between : Debugger) (dropped : ℕ) → Cuts old between dropped → PlaysBehind dropped between new script text
-      → PlaysInstead old new script text
-  stays : (fault : BenchFault) → text ≡ fault_text fault → PlaysInstead old new script text
-
 -- the script is stepped through, or played to its end
 abbrev pub BeginsText : Bool → Debugger → Debugger → List ℕ → List ℕ → Type 0
 BeginsText true old new script text = LoadsText old new script text
 BeginsText false old new script text = PlaysText old new script text
+
+-- and before that it is said how many lines were dropped
+pub record BeginsBehind (step : Bool) (dropped : ℕ) (old new : Debugger) (script text : List ℕ) : Type 0 where
+  pub rest : List ℕ
+  pub begins : BeginsText step old new script rest
+  pub said : text ≡ dropped_text dropped ++ rest
+
+-- what lay ahead was dropped, and the script is there instead; or memory was refused
+pub data BeginsInstead (step : Bool) (old new : Debugger) (script text : List ℕ) : Type 0 where
+  cuts : (between : Debugger) (dropped : ℕ) → Cuts old between dropped
+      → BeginsBehind step dropped between new script text → BeginsInstead step old new script text
+  uncut : (fault : BenchFault) → text ≡ fault_text fault → BeginsInstead step old new script text
 
 -- the file was read, or it was not, and nothing is said
 abbrev pub BeginsWith : Bool → Bool → Debugger → Debugger → List ℕ → Type 0

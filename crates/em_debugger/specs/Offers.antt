@@ -11,7 +11,7 @@ use Rattle.em_frames.specs.Arrivals.{AreArrivals}
 use Rattle.em_looks.specs.Numbers.{count_text, number_text}
 use Rattle.em_debugger.specs.declared.debugger.Debugger.{Debugger}
 use Rattle.em_debugger.specs.declared.disk.DiskFault.{DiskFault}
-use Rattle.em_debugger.specs.Files.{LoadsInstead, PlaysInstead, disk_text}
+use Rattle.em_debugger.specs.Files.{BeginsInstead, disk_text}
 use Rattle.em_debugger.specs.Performing.{AnswersNew}
 
 -- a name that ends so
@@ -63,7 +63,7 @@ pub record OffersFrames (old new : Debugger) (file text : List ℕ) : Type 0 whe
 -- by its name a file is a capture, or a script
 abbrev pub LoadsAs : Bool → Debugger → Debugger → List ℕ → List ℕ → Type 0
 LoadsAs true old new file text = OffersFrames old new file text
-LoadsAs false old new file text = LoadsInstead old new file text
+LoadsAs false old new file text = BeginsInstead true old new file text
 
 -- the file was not read; or what it holds was loaded
 pub data Loads (old new : Debugger) (name text : List ℕ) : Type 0 where
@@ -94,7 +94,7 @@ offered_script has_engines lines = flat_map (offered_line has_engines) lines
 pub data ArrivesAll (old new : Debugger) (text : List ℕ) : Type 0 where
   none_left : HasNone old new → text ≡ none_left_text → ArrivesAll old new text
   arrive : (between : Debugger) → offered between ≡ [] → between ≡ record old { offered = between.offered }
-      → PlaysInstead between new (offered_script (nat_lt 0 old.engines) (offered old)) text → ArrivesAll old new text
+      → BeginsInstead false between new (offered_script (nat_lt 0 old.engines) (offered old)) text → ArrivesAll old new text
 
 -- the frames that were sent were written to a file, or they were not
 pub data SavesFrames (d : Debugger) (name text : List ℕ) : Type 0 where

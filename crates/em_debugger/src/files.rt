@@ -8,7 +8,7 @@ ghost use Rattle.em_text.specs.Lines.{lines_of};
 ghost use Rattle.em_text.specs.Writer.{Writes};
 ghost use Rattle.em_debugger.specs.Deeper.{lines_here};
 ghost use Rattle.em_debugger.specs.Place.{text_of};
-ghost use Rattle.em_debugger.specs.Files.{AddsLines, BeginsText, BeginsWith, LoadsBehind, LoadsInstead};
+ghost use Rattle.em_debugger.specs.Files.{AddsLines, BeginsBehind, BeginsInstead, BeginsText, BeginsWith};
 ghost use Rattle.em_debugger.specs.Offers.{Loads, LoadsAs, is_capture};
 ghost use Rattle.em_debugger.specs.Files.{LoadsText, PlaysText, Saves, disk_text, loaded_text, saved_text, script_of};
 
@@ -55,6 +55,7 @@ impl Debugger {
         Ok(true)
     }
 
+    /// Begins with a text: loads its lines behind the last one, and plays them unless they are to be stepped through.
     fn begin_text<W: Write>(
         &mut self,
         writer: &mut W,
@@ -116,33 +117,39 @@ impl Debugger {
         if is_capture(name) {
             self.offer(writer, text)
         } else {
-            self.load_instead(writer, text)
+            self.begin_instead(writer, text, true)
         }
     }
 
-    /// Loads the lines of a text in the place of those that lie ahead.
-    fn load_instead<W: Write>(&mut self, writer: &mut W, script: &[u8]) -> Result<(), WriteFailed>
+    /// Begins with a text in the place of the lines that lie ahead.
+    pub(crate) fn begin_instead<W: Write>(
+        &mut self,
+        writer: &mut W,
+        script: &[u8],
+        step: bool,
+    ) -> Result<(), WriteFailed>
         ensures ok { OnOk result ((text : List ℕ) × Appends (W.contents writer.old) (W.contents writer.new) text
-            × LoadsInstead self.old self.new script.now text) }
+            × BeginsInstead step self.old self.new script.now text) }
     {
         match self.cut() {
-            Ok(dropped) => self.load_behind(writer, dropped, script),
+            Ok(dropped) => self.begin_behind(writer, dropped, script, step),
             Err(fault) => write_fault(writer, fault),
         }
     }
 
-    /// Says how many lines were dropped, and loads the lines of a text.
-    fn load_behind<W: Write>(
+    /// Says how many lines were dropped, and begins with a text.
+    fn begin_behind<W: Write>(
         &mut self,
         writer: &mut W,
         dropped: usize,
         script: &[u8],
+        step: bool,
     ) -> Result<(), WriteFailed>
         ensures ok { OnOk result ((text : List ℕ) × Appends (W.contents writer.old) (W.contents writer.new) text
-            × LoadsBehind dropped self.old self.new script.now text) }
+            × BeginsBehind step dropped self.old self.new script.now text) }
     {
         write_dropped(writer, dropped)?;
-        self.load_text(writer, script)
+        self.begin_text(writer, script, step)
     }
 
     /// Loads the lines of a text behind the last line.

@@ -3,7 +3,6 @@ ghost use Rattle.std.specs.Prelude.{◌≡◌, ℕ, List, [], OnOk, slice_get, u
 ghost use Rattle.std.specs.Io.KnownBytes.{Appends};
 ghost use Rattle.em_text.specs.Writer.{Writes};
 ghost use Rattle.em_turn.specs.Planned.{lists};
-ghost use Rattle.em_debugger.specs.Files.{PlaysBehind, PlaysInstead};
 ghost use Rattle.em_debugger.specs.Offers.{ArrivesAll, ArrivesNext, EndsOffer, OffersFrames, SavesFrames, TellsOffer};
 ghost use Rattle.em_debugger.specs.Offers.{cut_text, ends_with, is_capture, none_left_text, offered_line, offered_script};
 ghost use Rattle.em_debugger.specs.Offers.{offered_text, wrote_text};
@@ -11,7 +10,6 @@ ghost use Rattle.em_debugger.specs.Offers.{offered_text, wrote_text};
 use crate::debugger::Debugger;
 use crate::disk::{Disk, DiskFault};
 use crate::files::{write_disk_fault, write_file};
-use crate::performing::{write_dropped, write_fault};
 use em_frames::{Arrivals, arrivals_of, write_sent};
 use em_looks::{write_count, write_number};
 use em_pcap::CaptureError;
@@ -64,32 +62,7 @@ impl Debugger {
         let mut script = Vec::new(self.alloc);
         write_script(&mut script, &self.offered, self.has_engines())?;
         self.offered.clear();
-        self.play_instead(writer, script.as_slice())
-    }
-
-    /// Plays the lines of a text in the place of those that lie ahead.
-    fn play_instead<W: Write>(&mut self, writer: &mut W, script: &[u8]) -> Result<(), WriteFailed>
-        ensures ok { OnOk result ((text : List ℕ) × Appends (W.contents writer.old) (W.contents writer.new) text
-            × PlaysInstead self.old self.new script.now text) }
-    {
-        match self.cut() {
-            Ok(dropped) => self.play_behind(writer, dropped, script),
-            Err(fault) => write_fault(writer, fault),
-        }
-    }
-
-    /// Says how many lines were dropped, and plays the lines of a text.
-    fn play_behind<W: Write>(
-        &mut self,
-        writer: &mut W,
-        dropped: usize,
-        script: &[u8],
-    ) -> Result<(), WriteFailed>
-        ensures ok { OnOk result ((text : List ℕ) × Appends (W.contents writer.old) (W.contents writer.new) text
-            × PlaysBehind dropped self.old self.new script.now text) }
-    {
-        write_dropped(writer, dropped)?;
-        self.play_text(writer, script)
+        self.begin_instead(writer, script.as_slice(), false)
     }
 
     /// Writes the frames that were sent to a file.

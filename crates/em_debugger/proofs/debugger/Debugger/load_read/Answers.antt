@@ -6,4 +6,4 @@ returns-then-is_capture g c = record { ok = rw (sym c.is_capture.ensures ∙ c.i
 
 pub returns-else-is_capture : goal.returns-else-is_capture
 returns-else-is_capture g c =
-    record { ok = rw (sym c.is_capture.ensures ∙ c.if-is_capture.false) c.load_instead.ensures.ok }
+    record { ok = rw (sym c.is_capture.ensures ∙ c.if-is_capture.false) c.begin_instead.ensures.ok }
