@@ -163,8 +163,9 @@ def lines_of(log):
     return [line[:MOST_KEPT] for line in (lines if lines[-1] else lines[:-1])]
 
 
-def script_of(log, reader, missing, frames=(), at=None, link=True):
-    """The script of a log, as octets. `missing` has the names of registers that the model lacks."""
+def script_of(log, reader, missing, frames=(), at=None, link=True, others=True):
+    """The script of a log, as octets. `missing` has the names of registers that the model lacks; without `others`, accesses
+    of something else are no comments."""
     script, frames, rctl, head = [], [*frames], 0, ["link up", "w 000C0 00000004"] if link else []
     accesses = 0
     for count, line in enumerate(lines_of(log), 1):
@@ -172,7 +173,7 @@ def script_of(log, reader, missing, frames=(), at=None, link=True):
             script += head + [text for frame in frames for text in arrival(frame, rctl)]
             frames, head = [], []
         said = reader.read(line)
-        if said == FAULT:
+        if said == FAULT or said == ELSEWHERE and others:
             script.append(f"# line {count}: ".encode() + line)
         if isinstance(said, str):
             continue

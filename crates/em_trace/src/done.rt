@@ -1,12 +1,13 @@
-//! What was done, and what was left out.
+//! What was done, and what the script does not do.
 
 use crate::counts::Counts;
 use crate::text::plural;
 use anyhow::Result;
+use em_text::MOST_SCRIPT;
 use std::alloc::{AllocError, Global};
 use std::io::Write;
 
-/// What was done, and what was left out.
+/// What was done, and what the script does not do.
 #[derive(Drop)]
 pub struct Done {
     alloc: Global,
@@ -20,6 +21,8 @@ pub struct Done {
     pub faults: u64,
     /// Frames that found no place, and stand at the end.
     pub late_frames: u64,
+    /// How many octets the script has.
+    pub octets: u64,
     /// Those of registers that the model lacks.
     pub missing: Counts,
 }
@@ -34,6 +37,7 @@ impl Done {
             elsewhere: 0,
             faults: 0,
             late_frames: 0,
+            octets: 0,
             missing: Counts::new(alloc)?,
         })
     }
@@ -43,8 +47,8 @@ impl Done {
         self.accesses > 0 && self.faults == 0
     }
 
-    /// Writes what was left out, a line for each kind.
-    pub fn write<W: Write>(&self, out: &mut W) -> Result<()> {
+    /// Writes what the script does not do, a line for each kind, and whether it is too long.
+    pub fn write<W: Write>(&self, out: &mut W, skips_others: bool) -> Result<()> {
         if self.accesses == 0 {
             writeln!(out, "no line is an access of the adapter's registers")?;
         }
@@ -55,7 +59,20 @@ impl Done {
         write_count(out, self.elsewhere, "access", "accesses", other)?;
         write_count(out, self.faults, "line", "lines", "that cannot be read")?;
         let late = "at the end, for want of a place in the log";
-        write_count(out, self.late_frames, "frame", "frames", late)
+        write_count(out, self.late_frames, "frame", "frames", late)?;
+        if self.octets > MOST_SCRIPT as u64 {
+            let octets = self.octets;
+            let advice = if self.elsewhere > 0 && !skips_others {
+                ": --skip-others leaves accesses of something else out"
+            } else {
+                ""
+            };
+            writeln!(
+                out,
+                "the script has {octets} octets, and em_bench and em_debug play {MOST_SCRIPT}{advice}"
+            )?;
+        }
+        Ok(())
     }
 }
 

@@ -3,8 +3,8 @@
 //!     em_trace [OPTIONS] LOG
 //!
 //! Each access of four octets becomes a line: a write as it is, and a read with the value that the log's adapter gave,
-//! as the answer that the line expects. What the model has no register for stays as a comment, and is counted on
-//! standard error.
+//! as the answer that the line expects. What the model has no register for, and what is no access of the adapter, stays as
+//! a comment, and is counted on standard error.
 #![tactic(auto)]
 
 mod counts;
@@ -130,14 +130,14 @@ fn with_reader<R: Print + Eprint + AllocGlobal, B: BufRead + Drop>(
     let mut out = BufWriter::with_capacity(rt.alloc(), BUFFER, io::writer(rt))?;
     let done = translate(rt, wanted, capture, &mut lines, &mut out)?;
     out.flush().context("the script cannot be written")?;
-    told_of(rt, &done)?;
+    told_of(rt, &done, wanted.skips_others)?;
     Ok(if done.is_well() { WELL } else { UNREAD })
 }
 
-/// Says on standard error what was left out.
-fn told_of<R: Eprint + AllocGlobal>(rt: &R, done: &Done) -> Result<()> {
+/// Says on standard error what the script does not do.
+fn told_of<R: Eprint + AllocGlobal>(rt: &R, done: &Done, skips_others: bool) -> Result<()> {
     let mut text = Vec::new(rt.alloc());
-    done.write(&mut text)?;
+    done.write(&mut text, skips_others)?;
     if let Ok(text) = str::from_utf8(text.as_slice()) {
         let _ = eprint!(rt; "{text}");
     }

@@ -35,6 +35,8 @@ pub struct Wanted<'a> {
     /// The line before which all frames arrive.
     pub at: Option<u64>,
     pub link: Link,
+    /// Whether accesses of something else are left out of the script.
+    pub skips_others: bool,
 }
 
 /// A script that is being written.
@@ -42,10 +44,13 @@ pub struct Wanted<'a> {
 struct Script<'a> {
     frames: Frames<'a>,
     done: Done,
+    /// Lines that are not written yet.
+    lines: Vec<u8>,
     /// How the script begins, if it has not begun.
     begins: Option<Link>,
     /// Whether frames arrive where reads of ICR tell of them.
     by_icr: bool,
+    skips_others: bool,
 }
 
 /// Writes the script of a log, and says on standard error which lines cannot be read.
@@ -60,8 +65,10 @@ pub fn translate<E: Eprint + AllocGlobal, R: BufRead, W: Write>(
     let mut script = Script {
         frames: Frames::new(rt.alloc(), capture),
         done: Done::new(rt.alloc())?,
+        lines: Vec::new(rt.alloc()),
         begins: Some(wanted.link),
         by_icr: wanted.at.is_none(),
+        skips_others: wanted.skips_others,
     };
     let mut line = Vec::new(rt.alloc());
     for number in 1..u64::MAX {
@@ -75,9 +82,9 @@ pub fn translate<E: Eprint + AllocGlobal, R: BufRead, W: Write>(
         let entry = log.read(text);
         if entry == Entry::Fault {
             let _ = eprintln!(rt; "line {number} cannot be read");
-            write_kept(out, number, text)?;
         }
-        script.take(out, number, entry)?;
+        script.take(number, text, entry)?;
+        script.pass(out)?;
     }
     if script.done.accesses > 0 {
         script.done.late_frames = script.write_frames(out)?;
@@ -86,40 +93,43 @@ pub fn translate<E: Eprint + AllocGlobal, R: BufRead, W: Write>(
 }
 
 impl Script<'_> {
-    /// Counts a line of the log, and writes what it gives, but for one that can't be read.
-    fn take<W: Write>(&mut self, out: &mut W, number: u64, entry: Entry) -> Result<()> {
+    /// Counts a line of the log, and gives it its lines of the script.
+    fn take(&mut self, number: u64, text: &[u8], entry: Entry) -> Result<()> {
         let done = &mut self.done;
         match entry {
             Entry::Access(access) => {
                 done.accesses = done.accesses.saturating_add(1);
-                return self.take_access(out, number, access);
+                self.take_access(number, access)
             }
-            Entry::Elsewhere => done.elsewhere = done.elsewhere.saturating_add(1),
-            Entry::Nothing => {}
-            Entry::Fault => done.faults = done.faults.saturating_add(1),
+            Entry::Elsewhere => {
+                done.elsewhere = done.elsewhere.saturating_add(1);
+                if self.skips_others {
+                    return Ok(());
+                }
+                write_kept(&mut self.lines, number, text)
+            }
+            Entry::Nothing => Ok(()),
+            Entry::Fault => {
+                done.faults = done.faults.saturating_add(1);
+                write_kept(&mut self.lines, number, text)
+            }
         }
-        Ok(())
     }
 
-    /// Writes the line of an access, or a comment where the model can't have it.
-    fn take_access<W: Write>(
-        &mut self,
-        out: &mut W,
-        number: u64,
-        access: RegisterAccess,
-    ) -> Result<()> {
-        self.begin(out)?;
+    /// The line of an access, or a comment where the model can't have it.
+    fn take_access(&mut self, number: u64, access: RegisterAccess) -> Result<()> {
+        self.begin()?;
         if self.by_icr && has_frame(access) {
-            self.frames.write_next(out)?;
+            self.frames.write_next(&mut self.lines)?;
         }
         if access.width != Width::Four {
             self.done.other_sizes = self.done.other_sizes.saturating_add(1);
-            return write_other_size(out, number, access);
+            return write_other_size(&mut self.lines, number, access);
         }
         let Some(reg) = Reg::of_offset(access.offset) else {
             self.done.missing.add(access.offset);
             let name = missing_name(access.offset).unwrap_or("no register");
-            return write_missing(out, number, access, name);
+            return write_missing(&mut self.lines, number, access, name);
         };
         let value = match access.value {
             Some(value) => u32::try_from(value).ok(),
@@ -128,25 +138,36 @@ impl Script<'_> {
         if let (Reg::Rctl, Way::Write, Some(rctl)) = (reg, access.way, value) {
             self.frames.set_rctl(rctl);
         }
-        write_access(out, access.way, access.offset, value)
+        write_access(&mut self.lines, access.way, access.offset, value)
     }
 
     /// Writes the lines of all frames that are left, and gives how many they were.
     fn write_frames<W: Write>(&mut self, out: &mut W) -> Result<u64> {
-        self.begin(out)?;
+        self.begin()?;
         for count in 0..u64::MAX {
-            if !self.frames.write_next(out)? {
+            let was_there = self.frames.write_next(&mut self.lines)?;
+            self.pass(out)?;
+            if !was_there {
                 return Ok(count);
             }
         }
         Ok(u64::MAX)
     }
 
-    /// Writes how the script begins, if it has not begun.
-    fn begin<W: Write>(&mut self, out: &mut W) -> Result<()> {
+    /// How the script begins, if it has not begun.
+    fn begin(&mut self) -> Result<()> {
         if self.begins.take() == Some(Link::Up) {
-            write_text(out, LINK_UP)?;
+            write_text(&mut self.lines, LINK_UP)?;
         }
+        Ok(())
+    }
+
+    /// Writes the lines that are not written yet.
+    fn pass<W: Write>(&mut self, out: &mut W) -> Result<()> {
+        let lines = self.lines.as_slice();
+        self.done.octets = self.done.octets.saturating_add(lines.len() as u64);
+        write_text(out, lines)?;
+        self.lines.clear();
         Ok(())
     }
 }

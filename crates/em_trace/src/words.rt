@@ -56,6 +56,12 @@ fn command<'a>(alloc: Global) -> Result<Command<'a>, AllocError> {
     let link = option(alloc, "link", "WAY", link)
         .value_parser(["up", "down"].as_slice())
         .default_value("up");
+    let skip =
+        "Leave accesses of other regions out of the script, where they are comments otherwise";
+    let skip = Arg::new(alloc, "skip-others")
+        .long("skip-others")
+        .action(ArgAction::SetTrue)
+        .help(skip);
     let log = Arg::new(alloc, "log")
         .value_name("LOG")
         .required(true)
@@ -70,6 +76,7 @@ fn command<'a>(alloc: Global) -> Result<Command<'a>, AllocError> {
         .arg(option(alloc, "frames", "PCAP", frames))?
         .arg(at)?
         .arg(link)?
+        .arg(skip)?
         .arg(log)
 }
 
@@ -97,6 +104,7 @@ pub fn wanted<'a>(matches: &ArgMatches<'a>) -> Result<Wanted<'a>, WordsRefused> 
             Some("down") => Link::Down,
             _ => Link::Up,
         },
+        skips_others: matches.get_flag("skip-others"),
     })
 }
 
