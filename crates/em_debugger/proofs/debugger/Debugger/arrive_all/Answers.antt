@@ -1,5 +1,5 @@
 use Rattle.std.proofs.Common.{◌≡◌, ◌∙◌, ap, refl}
-use Rattle.std.specs.Prelude.{nat_lt}
+use Rattle.std.specs.Prelude.{false, nat_lt}
 use Rattle.em_turn.specs.Planned.{lists}
 use Rattle.em_debugger.specs.Files.{BeginsInstead}
 use Rattle.em_debugger.specs.Offers.{ArrivesAll, arrive, offered, offered_script}
