@@ -1,8 +1,9 @@
 -- Loading and saving lines.
-use Rattle.std.specs.Prelude.{◌≡◌, ℕ, ◌+◌, Bool, true, false, List, [], ◌++◌, codes, length, map}
+use Rattle.std.specs.Prelude.{◌≡◌, ◌⊎◌, ℕ, ◌+◌, Bool, true, false, List, [], ◌++◌, codes, length, map}
 use Rattle.std.specs.List.{flat_map}
 use Rattle.em_text.specs.Lines.{lines_of}
 use Rattle.em_script.specs.declared.runner.BenchFault.{BenchFault}
+use Rattle.em_script.specs.declared.runner.BenchFault.TheVariants as fault
 use Rattle.em_looks.specs.Numbers.{count_text}
 use Rattle.em_debugger.specs.declared.debugger.Debugger.{Debugger}
 use Rattle.em_debugger.specs.declared.disk.DiskFault.{DiskFault}
@@ -21,6 +22,10 @@ pub record AddsLines (old new : Debugger) (lines : List (List ℕ)) : Type 0 whe
   pub expect : AllExpect (length old.tape.lines + 1) lines (lists old.wanted.answers.items)
       (lists new.wanted.answers.items)
   pub rest : KeepsSome old new
+
+-- why lines were not all added: one is too long or they are too many, or there is no memory
+abbrev pub IsUnadded : BenchFault → Type 0
+IsUnadded why = (why ≡ fault.TooLarge) ⊎ (why ≡ fault.Memory)
 
 -- ---- texts
 

@@ -1,5 +1,5 @@
 //! Loading and saving lines.
-ghost use Rattle.std.specs.Prelude.{◌≡◌, ◌+◌, ◌++◌, ◌∷◌, [], ℕ, List, IfOk, OnOk, codes, length, map};
+ghost use Rattle.std.specs.Prelude.{◌≡◌, ◌+◌, ◌++◌, ◌∷◌, [], ℕ, List, IfErr, IfOk, OnOk, codes, length, map};
 ghost use Rattle.em_turn.specs.Planned.{lists};
 ghost use Rattle.em_expect.specs.Expectation.{said_in};
 ghost use Rattle.em_debugger.specs.Expected.{AllExpect, Expects, wanted_in};
@@ -8,7 +8,7 @@ ghost use Rattle.em_text.specs.Lines.{lines_of};
 ghost use Rattle.em_text.specs.Writer.{Writes};
 ghost use Rattle.em_debugger.specs.Deeper.{lines_here};
 ghost use Rattle.em_debugger.specs.Place.{text_of};
-ghost use Rattle.em_debugger.specs.Files.{AddsLines, BeginsBehind, BeginsInstead, BeginsText, BeginsWith};
+ghost use Rattle.em_debugger.specs.Files.{AddsLines, BeginsBehind, BeginsInstead, BeginsText, BeginsWith, IsUnadded};
 ghost use Rattle.em_debugger.specs.Offers.{Loads, LoadsAs, is_capture};
 ghost use Rattle.em_debugger.specs.Files.{LoadsText, PlaysText, Saves, disk_text, loaded_text, saved_text, script_of};
 
@@ -28,9 +28,13 @@ use std::io::Write;
 
 impl Debugger {
     /// Puts the lines of a text behind the last line, and gives how many they are. They are not performed.
+    ///
+    /// Refused as `TooLarge` where a line is too long or there are too many, and as `Memory`; the lines before are there
+    /// then.
     pub fn add_lines(&mut self, text: &[u8]) -> Result<usize, BenchFault>
         ensures ok { OnOk result (AddsLines self.old self.new (lines_of text.now)) }
         ensures count { IfOk result (λ count. count ≡ length (lines_of text.now)) }
+        ensures only { IfErr result IsUnadded }
     {
         add_all(&mut self.tape, &mut self.wanted, text)
     }
@@ -209,6 +213,7 @@ fn add_all(tape: &mut Tape, wanted: &mut Told, text: &[u8]) -> Result<usize, Ben
     ensures expect { OnOk result (AllExpect (length tape.old.lines + 1) (lines_of text.now)
         (lists wanted.old.answers.items) (lists wanted.new.answers.items)) }
     ensures count { IfOk result (λ count. count ≡ length (lines_of text.now)) }
+    ensures only { IfErr result IsUnadded }
 {
     let before = tape.len();
     let mut rest = text;
@@ -225,6 +230,7 @@ fn add_line(tape: &mut Tape, wanted: &mut Told, line: &[u8]) -> Result<(), Bench
     ensures ok { OnOk result (tape.new ≡ record tape.old { lines = tape.old.lines ++ said_in line.now ∷ [] }) }
     ensures expect { OnOk result (Expects (length tape.new.lines) (wanted_in line.now)
         (lists wanted.old.answers.items) (lists wanted.new.answers.items)) }
+    ensures only { IfErr result IsUnadded }
 {
     let asked = expectation(line);
     tape.add(asked.line)?;
