@@ -19,7 +19,7 @@ pub(crate) fn arrivals_of_plan(plan: &VecDeque<Vec<Turn>>) -> usize
 }
 
 /// The arrivals of a list of turns.
-#[tactic(auto, using(crate::proofs::CountLaws::arrivals_more, crate::proofs::CountLaws::arrival_least))]
+#[tactic(auto, using(crate::proofs::course::Arrivals::arrivals_more, crate::proofs::course::Arrivals::arrival_least))]
 fn arrivals_of(turns: &[Turn]) -> usize
     requires { length turns.now < 0x1_0000_0000 }
     ensures { result ≡ arrivals turns.now }

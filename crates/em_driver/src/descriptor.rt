@@ -36,7 +36,7 @@ pub(crate) fn is_done(descriptor: &Descriptor) -> bool
 }
 
 /// Whether the buffer of a receive descriptor has the last octet of its frame.
-#[tactic(auto, using(crate::proofs::BitLaws::second_bit), unfolding(crate::specs::Descriptor::is_last))]
+#[tactic(auto, using(crate::proofs::course::BitFields::second_bit), unfolding(crate::specs::Descriptor::is_last))]
 fn is_last(descriptor: &Descriptor) -> bool
     ensures { result ≡ has_eop descriptor.now }
 {

@@ -9,7 +9,7 @@ use em_regs::Status;
 const SPEED_100: u32 = 0x40;
 
 /// Whether STATUS says that the link is up.
-#[tactic(auto, using(crate::proofs::BitLaws::second_bit))]
+#[tactic(auto, using(crate::proofs::course::BitFields::second_bit))]
 fn is_up(status: u32) -> bool
     ensures { result ≡ (status / 2 % 2 == 1) }
 {
@@ -17,7 +17,7 @@ fn is_up(status: u32) -> bool
 }
 
 /// The speed that STATUS holds, in Mb/s; 0 where the link is down.
-#[tactic(auto, using(crate::proofs::BitLaws::speed_field))]
+#[tactic(auto, using(crate::proofs::course::BitFields::speed_field))]
 pub(crate) fn speed_of(status: u32) -> u16
     ensures { result ≡ speed_in status }
 {

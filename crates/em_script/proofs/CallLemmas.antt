@@ -25,7 +25,7 @@ use Rattle.em_line.specs.Request.{Request}
 use Rattle.em_script.specs.Calling.{has_driver, course_of, world_at, done_by, after_call, after_asked, made_calls}
 use Rattle.em_script.specs.Calling.{asked_calls, MayBeRefusedAt}
 use Rattle.em_turn.specs.declared.turn.Turn.{Turn}
-use Rattle.em_driver.proofs.CallLaws.{play_runs}
+use Rattle.em_driver.proofs.course.RunOfCalls.{play_runs}
 use Rattle.em_script.specs.Reply.{step_call, back_call, call_reply, done_reply, refusal_reply, calls_of, reply}
 use Rattle.em_script.specs.Reply.{line_calls, after_line, after_plan, IsAllowed, IsAllowedTo}
 use Rattle.em_script.specs.PlayedLine.{PlayedLine, AreAllowed, played_calls, after_played, calls, after_all}

@@ -18,10 +18,10 @@ use Rattle.em_driver.specs.Layout.{IsCount, IsGoodLayout}
 use Rattle.em_driver.specs.declared.outcome.Cause.{Cause}
 use Rattle.std.proofs.lemmas.Bool.{cases_lt, le-leb, lt-leb}
 use Rattle.em_driver.specs.declared.stats.DeviceStats.{DeviceStats}
-use Rattle.em_driver.proofs.AnsweringLaws.{answering_tells, answering_follows}
-use Rattle.em_driver.proofs.HappenedLaws.{call_happens, unplanned_fed}
-use Rattle.em_driver.proofs.TellsLaws.{start_tells, rx_batch_tells, tx_batch_tells, get_mac_addr_tells}
-use Rattle.em_driver.proofs.TellsLaws.{set_mac_addr_tells, read_stats_tells}
+use Rattle.em_driver.proofs.course.MappedAnswers.{answering_tells, answering_follows}
+use Rattle.em_driver.proofs.course.HappenedCalls.{call_happens, unplanned_fed}
+use Rattle.em_driver.proofs.course.TellsOfMemory.{start_tells, rx_batch_tells, tx_batch_tells, get_mac_addr_tells}
+use Rattle.em_driver.proofs.course.TellsOfMemory.{set_mac_addr_tells, read_stats_tells}
 use Rattle.em_driver.specs.declared.outcome.Cause.TheVariants as cause
 use Rattle.em_script.specs.Session.{Session}
 use Rattle.em_line.specs.Request.{Request, starts, sends, receives, stats, address, sets_address}

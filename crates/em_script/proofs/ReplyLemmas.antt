@@ -29,7 +29,7 @@ use Rattle.em_script.specs.Calling.{world_at, course_of}
 use Rattle.em_journal.specs.History.{Run}
 use Rattle.em_driver.specs.Play.{Played}
 use Rattle.em_driver.specs.World.{World}
-use Rattle.em_driver.proofs.CallLaws.{follows_run}
+use Rattle.em_driver.proofs.course.RunOfCalls.{follows_run}
 use Rattle.em_script.proofs.CallingLemmas.{request_happens}
 use Rattle.em_script.specs.declared.driver_reply.DriverReply.{DriverReply}
 use Rattle.std.specs.Prelude.{IsSome, IsTrue}

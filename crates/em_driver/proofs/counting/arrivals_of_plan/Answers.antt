@@ -1,7 +1,7 @@
 use Rattle.std.proofs.Common.{ap, arith}
 use Rattle.em_turn.specs.Planned.{planned}
 use Rattle.em_turn.specs.Turn.{arrivals, plan_arrivals, plan_turns}
-use Rattle.em_driver.proofs.CountLaws.{arrivals_least}
+use Rattle.em_driver.proofs.course.Arrivals.{arrivals_least}
 use Rattle.em_driver.proofs.counting.arrivals_of_plan.Goals as goal
 
 pub arrivals_of-count-requires : goal.arrivals_of-count-requires

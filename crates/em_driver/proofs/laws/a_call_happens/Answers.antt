@@ -1,4 +1,4 @@
-use Rattle.em_driver.proofs.HappenedLaws.{call_happens, unplanned_fed}
+use Rattle.em_driver.proofs.course.HappenedCalls.{call_happens, unplanned_fed}
 use Rattle.em_driver.proofs.laws.a_call_happens.Goals as goal
 
 pub returns-clause-happens : goal.returns-clause-happens

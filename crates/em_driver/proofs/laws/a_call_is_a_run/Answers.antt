@@ -1,4 +1,4 @@
-use Rattle.em_driver.proofs.CallLaws.{play_runs, follows_run}
+use Rattle.em_driver.proofs.course.RunOfCalls.{play_runs, follows_run}
 use Rattle.em_driver.proofs.laws.a_call_is_a_run.Goals as goal
 
 pub returns-clause-played : goal.returns-clause-played

@@ -1,5 +1,5 @@
 use Rattle.std.proofs.Common.{inl, inr}
-use Rattle.em_driver.proofs.PlayLaws.{followed_is_played, neither}
+use Rattle.em_driver.proofs.course.PlayedCourse.{followed_is_played, neither}
 use Rattle.em_driver.proofs.laws.a_fed_call_is_played.Goals as goal
 
 pub returns-clause-said : goal.returns-clause-said

@@ -1,4 +1,4 @@
-use Rattle.em_driver.proofs.AnsweringLaws.{answering_follows, answering_tells}
+use Rattle.em_driver.proofs.course.MappedAnswers.{answering_follows, answering_tells}
 use Rattle.em_driver.proofs.laws.answers_are_put_otherwise.Goals as goal
 
 pub returns-clause-follows : goal.returns-clause-follows

@@ -1,5 +1,6 @@
-use Rattle.em_driver.proofs.TellsLaws.{start_tells, rx_batch_tells, tx_batch_tells, get_mac_addr_tells}
-use Rattle.em_driver.proofs.TellsLaws.{set_mac_addr_tells, read_stats_tells, reset_stats_tells, get_link_speed_tells}
+use Rattle.em_driver.proofs.course.TellsOfMemory.{start_tells, rx_batch_tells, tx_batch_tells, get_mac_addr_tells}
+use Rattle.em_driver.proofs.course.TellsOfMemory.{set_mac_addr_tells, read_stats_tells, reset_stats_tells}
+use Rattle.em_driver.proofs.course.TellsOfMemory.{get_link_speed_tells}
 use Rattle.em_driver.proofs.laws.calls_tell_of_memory.Goals as goal
 
 pub returns : goal.returns

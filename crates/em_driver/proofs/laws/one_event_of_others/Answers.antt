@@ -1,5 +1,5 @@
-use Rattle.em_driver.proofs.OthersLaws.{others_move, queue_rests, turns_are_others, wire_rests}
-use Rattle.em_driver.proofs.TurnLaws.{but_moves, driven_moves}
+use Rattle.em_driver.proofs.order.EventsOfOthers.{others_move, queue_rests, turns_are_others, wire_rests}
+use Rattle.em_driver.proofs.rings.OneTurn.{but_moves, driven_moves}
 use Rattle.em_driver.proofs.laws.one_event_of_others.Goals as goal
 
 pub returns-clause-kept : goal.returns-clause-kept

@@ -1,4 +1,4 @@
-use Rattle.em_driver.proofs.RunLaws.{call_span, event_span, handed_prefix, sent_prefix, wire_grows, started_prefix}
+use Rattle.em_driver.proofs.order.Spans.{call_span, event_span, handed_prefix, sent_prefix, wire_grows, started_prefix}
 use Rattle.em_driver.proofs.laws.packets_in_order.Goals as goal
 
 pub returns-clause-calls : goal.returns-clause-calls

@@ -1,4 +1,4 @@
-use Rattle.em_driver.proofs.BackLaws.{back_to_start}
+use Rattle.em_driver.proofs.order.StepsBack.{back_to_start}
 use Rattle.em_driver.proofs.laws.steps_back_start_again.Goals as goal
 
 pub returns : goal.returns

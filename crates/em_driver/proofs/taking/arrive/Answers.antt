@@ -1,5 +1,5 @@
 use Rattle.std.proofs.Common.{◌∙◌, ◌++◌, arith, refl, sym, ap, append-nil}
-use Rattle.em_driver.proofs.TakingLaws.{takes_arrival, stored_one, stored_none}
+use Rattle.em_driver.proofs.course.TakenTurns.{takes_arrival, stored_one, stored_none}
 use Rattle.em_driver.proofs.taking.arrive.Goals as goal
 
 pub returns-in-Stored-clause-takes : goal.returns-in-Stored-clause-takes

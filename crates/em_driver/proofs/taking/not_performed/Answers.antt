@@ -1,4 +1,4 @@
-use Rattle.em_driver.proofs.TakingLaws.{refused_as}
+use Rattle.em_driver.proofs.course.TakenTurns.{refused_as}
 use Rattle.em_driver.proofs.taking.not_performed.Goals as goal
 
 pub returns-in_default : goal.returns-in_default

@@ -1,5 +1,5 @@
 use Rattle.std.proofs.Common.{refl}
-use Rattle.em_driver.proofs.TakingLaws.{engine_performed, engine_refused}
+use Rattle.em_driver.proofs.course.TakenTurns.{engine_performed, engine_refused}
 use Rattle.em_turn.specs.declared.turn.Turn.TheVariants.{RxStep}
 use Rattle.em_driver.proofs.taking.receive.Goals as goal
 

@@ -2,7 +2,7 @@ use Rattle.std.proofs.Common.{◌∙◌, ◌∷◌, ◌++◌, [], length, arith,
 use Rattle.std.specs.Vec.Iter.{into_iter_items}
 use Rattle.em_turn.specs.Turn.{arrivals}
 use Rattle.em_driver.specs.Taking.{world_with}
-use Rattle.em_driver.proofs.TakingLaws.{performed_more, refused_more}
+use Rattle.em_driver.proofs.course.TakenTurns.{performed_more, refused_more}
 use Rattle.em_driver.proofs.taking.take_all.Goals as goal
 
 pub loop-turn-preserved-in-Performed : goal.loop-turn-preserved-in-Performed

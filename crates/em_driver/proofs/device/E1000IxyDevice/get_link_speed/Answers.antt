@@ -1,6 +1,6 @@
 use Rattle.std.proofs.Common.{refl}
-use Rattle.em_driver.proofs.CourseLaws.{ends_with, reads_on}
-use Rattle.em_driver.proofs.CallOrderLaws.{get_link_speed_order}
+use Rattle.em_driver.proofs.course.CourseSteps.{ends_with, reads_on}
+use Rattle.em_driver.proofs.order.OtherCalls.{get_link_speed_order}
 use Rattle.em_driver.proofs.device.E1000IxyDevice.get_link_speed.Goals as goal
 
 pub returns-clause-course : goal.returns-clause-course

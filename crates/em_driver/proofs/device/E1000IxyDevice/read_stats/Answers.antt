@@ -1,8 +1,8 @@
 use Rattle.std.proofs.Common.{◌≡◌, ◌∙◌, ℕ, refl, ap}
 use Rattle.em_driver.specs.Calls.{added}
 use Rattle.em_driver.specs.declared.stats.DeviceStats.{DeviceStats}
-use Rattle.em_driver.proofs.CourseLaws.{ends_with, reads_on}
-use Rattle.em_driver.proofs.CallOrderLaws.{read_stats_order}
+use Rattle.em_driver.proofs.course.CourseSteps.{ends_with, reads_on}
+use Rattle.em_driver.proofs.order.OtherCalls.{read_stats_order}
 use Rattle.em_driver.proofs.device.E1000IxyDevice.read_stats.Goals as goal
 
 same_stats : (a b c d p q r s : ℕ) → a ≡ p → b ≡ q → c ≡ r → d ≡ s

@@ -1,6 +1,6 @@
 use Rattle.std.proofs.Common.{refl}
-use Rattle.em_driver.proofs.CourseLaws.{ends, reads_on}
-use Rattle.em_driver.proofs.CallOrderLaws.{reset_stats_order}
+use Rattle.em_driver.proofs.course.CourseSteps.{ends, reads_on}
+use Rattle.em_driver.proofs.order.OtherCalls.{reset_stats_order}
 use Rattle.em_driver.proofs.device.E1000IxyDevice.reset_stats.Goals as goal
 
 pub returns-clause-course : goal.returns-clause-course

@@ -1,7 +1,8 @@
 use Rattle.std.proofs.Common.{arith, ◌≡◌, ◌∙◌, refl, ℕ, ◌+◌, ◌-◌, ◌<◌, ◌≤◌, suc}
-use Rattle.em_driver.proofs.ReceiveLaws.{other_queue, no_packets, broken_tail, opened, goes_on, goes_to_the_end}
-use Rattle.em_driver.proofs.ReceiveLaws.{goes_no_further, goes_and_stops, following_below}
-use Rattle.em_driver.proofs.ReceiveOrderLaws.{rx_batch_order}
+use Rattle.em_driver.proofs.course.RxBatchCourse.{other_queue, no_packets, broken_tail, opened, goes_on}
+use Rattle.em_driver.proofs.course.RxBatchCourse.{goes_to_the_end}
+use Rattle.em_driver.proofs.course.RxBatchCourse.{goes_no_further, goes_and_stops, following_below}
+use Rattle.em_driver.proofs.order.RxBatchOrder.{rx_batch_order}
 use Rattle.em_driver.proofs.device.E1000IxyDevice.rx_batch.Goals as goal
 use Rattle.em_driver.proofs.device.E1000IxyDevice.rx_batch.Goals.{else-loop-i-test, then-loop-i-test+in-Ok-false}
 

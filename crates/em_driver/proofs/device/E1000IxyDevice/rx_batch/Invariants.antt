@@ -1,6 +1,6 @@
 use Rattle.std.proofs.Common.{◌≡◌, ◌-◌, ◌≤◌, ◌<◌}
 use Rattle.em_turn.specs.Planned.{lists}
-use Rattle.em_driver.proofs.ReceiveLaws.{Going}
+use Rattle.em_driver.proofs.course.RxBatchCourse.{Going}
 use Rattle.em_driver.proofs.device.E1000IxyDevice.rx_batch.Given as goal
 
 abbrev pub invariant-loop-i : goal.invariant-loop-i

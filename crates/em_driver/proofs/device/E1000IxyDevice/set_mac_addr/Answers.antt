@@ -6,8 +6,8 @@ use Rattle.em_step.specs.Event.{writes}
 use Rattle.em_step.specs.declared.event.Answer.TheVariants.{Done}
 use Rattle.em_driver.specs.Course.{Course, write, Follows}
 use Rattle.em_driver.specs.World.{World, Accesses}
-use Rattle.em_driver.proofs.CourseLaws.{ends, writes_on}
-use Rattle.em_driver.proofs.CallOrderLaws.{set_mac_addr_order}
+use Rattle.em_driver.proofs.course.CourseSteps.{ends, writes_on}
+use Rattle.em_driver.proofs.order.OtherCalls.{set_mac_addr_order}
 use Rattle.em_driver.proofs.device.E1000IxyDevice.set_mac_addr.Goals as goal
 
 -- a write of a value, in other words

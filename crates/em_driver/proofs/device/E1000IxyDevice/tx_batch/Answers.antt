@@ -1,8 +1,9 @@
 use Rattle.std.proofs.Common.{arith, ◌≡◌, ◌≢◌, ◌∙◌, refl, length, ℕ, ◌+◌, ◌-◌, ◌<◌, ◌≤◌, suc}
-use Rattle.em_driver.proofs.TransmitLaws.{other_queue, no_packets, broken_index, opened, goes_on, goes_to_the_end}
-use Rattle.em_driver.proofs.TransmitLaws.{goes_no_further, goes_and_stops}
-use Rattle.em_driver.proofs.ReceiveLaws.{following_below}
-use Rattle.em_driver.proofs.TransmitOrderLaws.{tx_batch_order}
+use Rattle.em_driver.proofs.course.TxBatchCourse.{other_queue, no_packets, broken_index, opened, goes_on}
+use Rattle.em_driver.proofs.course.TxBatchCourse.{goes_to_the_end}
+use Rattle.em_driver.proofs.course.TxBatchCourse.{goes_no_further, goes_and_stops}
+use Rattle.em_driver.proofs.course.RxBatchCourse.{following_below}
+use Rattle.em_driver.proofs.order.TxBatchOrder.{tx_batch_order}
 use Rattle.em_driver.proofs.device.E1000IxyDevice.tx_batch.Goals as goal
 use Rattle.em_driver.proofs.device.E1000IxyDevice.tx_batch.Goals.{else-loop-i-test, then-loop-i-test+in-Ok-false}
 

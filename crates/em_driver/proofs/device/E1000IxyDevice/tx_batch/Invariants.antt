@@ -1,6 +1,6 @@
 use Rattle.std.proofs.Common.{◌≡◌, ◌-◌, ◌≤◌, ◌<◌}
 use Rattle.em_turn.specs.Planned.{lists}
-use Rattle.em_driver.proofs.TransmitLaws.{Going}
+use Rattle.em_driver.proofs.course.TxBatchCourse.{Going}
 use Rattle.em_driver.proofs.device.E1000IxyDevice.tx_batch.Given as goal
 
 abbrev pub invariant-loop-i : goal.invariant-loop-i

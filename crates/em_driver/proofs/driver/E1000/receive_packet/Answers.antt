@@ -1,5 +1,5 @@
 use Rattle.std.proofs.Common.{sym, ◌∙◌}
-use Rattle.em_driver.proofs.ReceiveLaws.{ring_ends, none_there, not_whole, left_there, took_there}
+use Rattle.em_driver.proofs.course.RxBatchCourse.{ring_ends, none_there, not_whole, left_there, took_there}
 use Rattle.em_driver.proofs.driver.E1000.receive_packet.Goals as goal
 
 pub returns-in_default-clause-err : goal.returns-in_default-clause-err

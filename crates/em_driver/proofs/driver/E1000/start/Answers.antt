@@ -1,7 +1,7 @@
-use Rattle.em_driver.proofs.StartOrderLaws.{start_order}
+use Rattle.em_driver.proofs.bring_up.StartOrder.{start_order}
 use Rattle.std.proofs.Common.{subst, arith}
 use Rattle.em_driver.specs.Layout.{IsGoodLayout}
-use Rattle.em_driver.proofs.StartLaws.{placed}
+use Rattle.em_driver.proofs.course.StartCourse.{placed}
 use Rattle.em_driver.proofs.driver.E1000.start.Goals as goal
 
 pub invariant_of-driver : goal.invariant_of-driver

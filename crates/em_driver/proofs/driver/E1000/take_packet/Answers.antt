@@ -1,7 +1,7 @@
 use Rattle.std.proofs.Common.{ap, refl, ◌≡◌, ◌+◌, ◌++◌, arith, length, take, drop, vec_len}
 use Rattle.std.proofs.lemmas.List.{take_at}
 use Rattle.em_turn.specs.Planned.{lists}
-use Rattle.em_driver.proofs.ReceiveLaws.{no_room, not_seen, seen, not_cleared, taken, pushed}
+use Rattle.em_driver.proofs.course.RxBatchCourse.{no_room, not_seen, seen, not_cleared, taken, pushed}
 use Rattle.em_driver.proofs.driver.E1000.take_packet.Goals as goal
 
 pub returns-in_default-clause-err : goal.returns-in_default-clause-err

@@ -1,5 +1,5 @@
 use Rattle.std.proofs.Common.{refl, arith}
-use Rattle.em_driver.proofs.TransmitLaws.{fronted, none_left, front_sent, front_halts}
+use Rattle.em_driver.proofs.course.TxBatchCourse.{fronted, none_left, front_sent, front_halts}
 use Rattle.em_driver.proofs.driver.E1000.transmit_front.Goals as goal
 
 pub returns-in_default-clause-ok : goal.returns-in_default-clause-ok

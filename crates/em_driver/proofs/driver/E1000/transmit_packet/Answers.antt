@@ -1,6 +1,7 @@
 use Rattle.std.proofs.Common.{ap, refl, sym, ◌∙◌}
 use Rattle.em_driver.specs.Transmit.{halt_after}
-use Rattle.em_driver.proofs.TransmitLaws.{bad_length, packet_refused, written, described, descriptor_refused, sent}
+use Rattle.em_driver.proofs.course.TxBatchCourse.{bad_length, packet_refused, written, described, descriptor_refused}
+use Rattle.em_driver.proofs.course.TxBatchCourse.{sent}
 use Rattle.em_driver.proofs.driver.E1000.transmit_packet.Goals as goal
 
 pub returns-then-not-is_packet-clause-err : goal.returns-then-not-is_packet-clause-err

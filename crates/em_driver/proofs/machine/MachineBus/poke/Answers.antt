@@ -1,4 +1,4 @@
-use Rattle.em_driver.proofs.QuietLaws.{quiet_poke}
+use Rattle.em_driver.proofs.course.QuietMachine.{quiet_poke}
 use Rattle.em_driver.proofs.machine.MachineBus.poke.Goals as goal
 
 pub returns-clause-ok : goal.returns-clause-ok

@@ -1,7 +1,7 @@
 use Rattle.em_regs.specs.Table.{offset_of}
 use Rattle.em_step.specs.Event.{reads}
 use Rattle.em_step.specs.declared.event.Answer.TheVariants.{Value}
-use Rattle.em_driver.proofs.QuietLaws.{quiet_access}
+use Rattle.em_driver.proofs.course.QuietMachine.{quiet_access}
 use Rattle.em_driver.proofs.machine.MachineBus.read.Goals as goal
 
 pub returns : goal.returns

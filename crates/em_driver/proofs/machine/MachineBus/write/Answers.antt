@@ -2,8 +2,8 @@ use Rattle.em_regs.specs.Table.{offset_of}
 use Rattle.em_step.specs.Event.{writes}
 use Rattle.em_step.specs.declared.event.Answer.TheVariants.{Done}
 use Rattle.em_step.proofs.Registers.{if_err, on_ok}
-use Rattle.em_driver.proofs.AnswerLaws.{write_refused}
-use Rattle.em_driver.proofs.QuietLaws.{quiet_access, quiet_refusal}
+use Rattle.em_driver.proofs.course.WriteAnswers.{write_refused}
+use Rattle.em_driver.proofs.course.QuietMachine.{quiet_access, quiet_refusal}
 use Rattle.em_driver.proofs.machine.MachineBus.write.Goals as goal
 
 pub returns-clause-ok : goal.returns-clause-ok

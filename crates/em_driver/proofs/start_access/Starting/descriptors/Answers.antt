@@ -1,7 +1,7 @@
 use Rattle.std.proofs.Common.{◌≡◌, ◌∙◌, ◌+◌, ◌*◌, refl, sym, ap, arith}
 use Rattle.std.proofs.lemmas.Result.{err_from_is_err_and}
 use Rattle.em_driver.specs.Start.{memory, fresh_descriptor, descriptors}
-use Rattle.em_driver.proofs.StartLaws.{each_none, each_more, each_all, each_stops, memory_as, memory_stops_as}
+use Rattle.em_driver.proofs.course.StartCourse.{each_none, each_more, each_all, each_stops, memory_as, memory_stops_as}
 use Rattle.em_driver.proofs.start_access.Starting.descriptors.Goals as goal
 
 pub loop-i-init : goal.loop-i-init

@@ -1,8 +1,8 @@
 use Rattle.std.proofs.Common.{◌∙◌, ◌*◌, take, refl, arith, length-set}
 use Rattle.std.proofs.lemmas.Result.{err_from_is_err_and}
 use Rattle.em_driver.specs.Start.{summed, eeprom}
-use Rattle.em_driver.proofs.CourseLaws.{comes_none}
-use Rattle.em_driver.proofs.StartLaws.{words_more, words_stop, words_all, summed_right, summed_wrong}
+use Rattle.em_driver.proofs.course.CourseSteps.{comes_none}
+use Rattle.em_driver.proofs.course.StartCourse.{words_more, words_stop, words_all, summed_right, summed_wrong}
 use Rattle.em_driver.proofs.start_access.Starting.eeprom.Goals as goal
 
 pub loop-address-init : goal.loop-address-init

@@ -3,8 +3,8 @@ use Rattle.em_step.specs.Access.{has}
 use Rattle.em_driver.specs.Course.{done}
 use Rattle.em_driver.specs.Start.{eeprom_word}
 use Rattle.em_driver.specs.declared.outcome.Cause.TheVariants as cause
-use Rattle.em_driver.proofs.CourseLaws.{ends_with, comes_on, comes_both, comes_as, comes_read}
-use Rattle.em_driver.proofs.StartLaws.{write_as, chosen, not_chosen}
+use Rattle.em_driver.proofs.course.CourseSteps.{ends_with, comes_on, comes_both, comes_as, comes_read}
+use Rattle.em_driver.proofs.course.StartCourse.{write_as, chosen, not_chosen}
 use Rattle.em_driver.proofs.start_access.Starting.eeprom_word.Goals as goal
 
 pub returns-then-contains-clause-ok : goal.returns-then-contains-clause-ok

@@ -1,8 +1,8 @@
 use Rattle.std.proofs.Common.{◌≡◌, ◌+◌, refl, arith}
 use Rattle.std.proofs.lemmas.Result.{err_from_is_err_and}
 use Rattle.em_driver.specs.Start.{global_reset, until_reset, set_link_up}
-use Rattle.em_driver.proofs.CourseLaws.{comes_on, comes_both}
-use Rattle.em_driver.proofs.StartLaws.{write_as}
+use Rattle.em_driver.proofs.course.CourseSteps.{comes_on, comes_both}
+use Rattle.em_driver.proofs.course.StartCourse.{write_as}
 use Rattle.em_driver.proofs.start_access.Starting.global_reset.Goals as goal
 
 pub returns-in_err-reset-clause-err : goal.returns-in_err-reset-clause-err

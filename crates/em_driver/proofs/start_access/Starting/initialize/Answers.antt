@@ -1,8 +1,8 @@
 use Rattle.std.proofs.Common.{◌∙◌, ◌+◌, ap, arith}
 use Rattle.std.proofs.lemmas.Result.{err_from_is_err_and}
 use Rattle.em_driver.specs.Start.{receive_ring, transmit_ring}
-use Rattle.em_driver.proofs.StartLaws.{comes_stops, stops_as, stops_at_reset}
-use Rattle.em_driver.proofs.StartLaws.{at_eeprom, at_receive, at_transmit, at_end}
+use Rattle.em_driver.proofs.course.StartCourse.{comes_stops, stops_as, stops_at_reset}
+use Rattle.em_driver.proofs.course.StartCourse.{at_eeprom, at_receive, at_transmit, at_end}
 use Rattle.em_driver.proofs.start_access.Starting.initialize.Goals as goal
 
 pub returns-in_err-global_reset-clause-err : goal.returns-in_err-global_reset-clause-err

@@ -2,8 +2,8 @@ use Rattle.std.proofs.Common.{◌∙◌, refl, arith}
 use Rattle.em_regs.specs.declared.reg.Reg.TheVariants.{Mta}
 use Rattle.em_driver.specs.Course.{write}
 use Rattle.em_driver.specs.Start.{multicast_table}
-use Rattle.em_driver.proofs.CourseLaws.{comes_none}
-use Rattle.em_driver.proofs.StartLaws.{each_more, each_all}
+use Rattle.em_driver.proofs.course.CourseSteps.{comes_none}
+use Rattle.em_driver.proofs.course.StartCourse.{each_more, each_all}
 use Rattle.em_driver.proofs.start_access.Starting.multicast_table.Goals as goal
 
 pub loop-word-init : goal.loop-word-init

@@ -1,5 +1,5 @@
 use Rattle.std.proofs.Common.{Some, ap, arith}
-use Rattle.em_driver.proofs.CourseLaws.{comes_poke, poke_stops}
+use Rattle.em_driver.proofs.course.CourseSteps.{comes_poke, poke_stops}
 use Rattle.em_driver.proofs.start_access.Starting.poke.Goals as goal
 
 pub returns-in-Ok-clause-ok : goal.returns-in-Ok-clause-ok

@@ -1,7 +1,7 @@
 use Rattle.std.proofs.Common.{◌≡◌, ◌+◌, ◌*◌, slice_index, refl}
 use Rattle.em_driver.specs.Start.{receive_address}
-use Rattle.em_driver.proofs.CourseLaws.{comes_both}
-use Rattle.em_driver.proofs.StartLaws.{write_as}
+use Rattle.em_driver.proofs.course.CourseSteps.{comes_both}
+use Rattle.em_driver.proofs.course.StartCourse.{write_as}
 use Rattle.em_driver.proofs.start_access.Starting.receive_address.Goals as goal
 
 pub returns-clause-performs : goal.returns-clause-performs

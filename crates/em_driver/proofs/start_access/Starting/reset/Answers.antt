@@ -1,5 +1,5 @@
-use Rattle.em_driver.proofs.CourseLaws.{comes_reset}
-use Rattle.em_driver.proofs.StartLaws.{reset_refused}
+use Rattle.em_driver.proofs.course.CourseSteps.{comes_reset}
+use Rattle.em_driver.proofs.course.StartCourse.{reset_refused}
 use Rattle.em_driver.proofs.start_access.Starting.reset.Goals as goal
 
 pub returns-in-Ok-clause-ok : goal.returns-in-Ok-clause-ok

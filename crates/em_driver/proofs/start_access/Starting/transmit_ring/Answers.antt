@@ -1,8 +1,8 @@
 use Rattle.std.proofs.Common.{◌≡◌, ◌+◌, refl}
 use Rattle.std.proofs.lemmas.Result.{err_from_is_err_and}
 use Rattle.em_driver.specs.Start.{transmit_ring}
-use Rattle.em_driver.proofs.CourseLaws.{comes_both}
-use Rattle.em_driver.proofs.StartLaws.{write_as}
+use Rattle.em_driver.proofs.course.CourseSteps.{comes_both}
+use Rattle.em_driver.proofs.course.StartCourse.{write_as}
 use Rattle.em_driver.proofs.start_access.Starting.transmit_ring.Goals as goal
 
 pub returns-in_err-descriptors-clause-err : goal.returns-in_err-descriptors-clause-err

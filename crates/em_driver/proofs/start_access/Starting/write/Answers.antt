@@ -1,4 +1,4 @@
-use Rattle.em_driver.proofs.CourseLaws.{comes_write}
+use Rattle.em_driver.proofs.course.CourseSteps.{comes_write}
 use Rattle.em_driver.proofs.start_access.Starting.write.Goals as goal
 
 pub returns-clause-performs : goal.returns-clause-performs

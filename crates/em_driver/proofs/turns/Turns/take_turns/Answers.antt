@@ -2,7 +2,7 @@ use Rattle.std.proofs.Common.{ap, subst, true}
 use Rattle.em_turn.specs.Planned.{planned}
 use Rattle.em_driver.specs.Taking.{world_with}
 use Rattle.em_driver.specs.World.{World, Passes}
-use Rattle.em_driver.proofs.PassLaws.{pass_whole, pass_starved, planning}
+use Rattle.em_driver.proofs.course.FirstList.{pass_whole, pass_starved, planning}
 use Rattle.em_driver.proofs.turns.Turns.take_turns.Goals as goal
 
 pub returns-then-not-take_all : goal.returns-then-not-take_all

@@ -5,7 +5,7 @@ use Rattle.em_step.specs.declared.event.Answer.TheVariants.{Value}
 use Rattle.em_turn.specs.Planned.{planned}
 use Rattle.em_driver.specs.Taking.{world_with}
 use Rattle.em_driver.specs.World.{World, Passes}
-use Rattle.em_driver.proofs.PassLaws.{planning, passed_access}
+use Rattle.em_driver.proofs.course.FirstList.{planning, passed_access}
 use Rattle.em_driver.proofs.turns.TurnsBus.read.Goals as goal
 
 pub returns : goal.returns

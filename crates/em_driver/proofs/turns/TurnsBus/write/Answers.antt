@@ -5,7 +5,7 @@ use Rattle.em_step.specs.declared.event.Answer.TheVariants.{Done}
 use Rattle.em_turn.specs.Planned.{planned}
 use Rattle.em_driver.specs.Taking.{world_with}
 use Rattle.em_driver.specs.World.{World, Passes}
-use Rattle.em_driver.proofs.PassLaws.{planning, passed_access, on_ok}
+use Rattle.em_driver.proofs.course.FirstList.{planning, passed_access, on_ok}
 use Rattle.em_driver.proofs.turns.TurnsBus.write.Goals as goal
 
 pub returns-clause-ok : goal.returns-clause-ok

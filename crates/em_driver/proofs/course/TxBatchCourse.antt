@@ -17,8 +17,8 @@ use Rattle.em_driver.specs.World.{World, Accesses, IsRefused}
 use Rattle.em_driver.specs.declared.layout.Layout.{Layout}
 use Rattle.em_driver.specs.declared.outcome.Stopped.{Stopped}
 use Rattle.em_driver.specs.declared.outcome.Cause.TheVariants.{Queue, PacketLength, Broken}
-use Rattle.em_driver.proofs.CourseLaws.{ends, pokes_on, poke_stops, comes_both, comes_as, comes_on, comes_read}
-use Rattle.em_driver.proofs.CourseLaws.{comes_poke, comes_write}
+use Rattle.em_driver.proofs.course.CourseSteps.{ends, pokes_on, poke_stops, comes_both, comes_as, comes_on, comes_read}
+use Rattle.em_driver.proofs.course.CourseSteps.{comes_poke, comes_write}
 
 -- ---- one packet
 

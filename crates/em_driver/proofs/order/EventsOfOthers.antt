@@ -32,13 +32,13 @@ use Rattle.em_turn.specs.Turn.{event_of, stored_in}
 use Rattle.em_driver.specs.declared.layout.Layout.{Layout}
 use Rattle.em_turn.specs.declared.turn.Turn.{Turn}
 use Rattle.em_turn.specs.declared.turn.Turn.TheVariants.{Arrive, RxStep, TxStep}
-use Rattle.em_driver.proofs.ReceivingLaws.{rx_same}
-use Rattle.em_driver.proofs.SendingLaws.{tx_same}
-use Rattle.em_driver.proofs.SideLaws.{rx_side, tx_side, same_side, IsOther}
-use Rattle.em_driver.proofs.TurnLaws.{Moves, moves_link, moves_none, moves_same, moves_word, laid_same, turn_moves}
-use Rattle.em_driver.proofs.TurnLaws.{arrival_turn, receive_turn}
-use Rattle.em_driver.proofs.UnitLaws.{rx_ring, rx_buffers, tx_ring, tx_buffers, unit_outside}
-use Rattle.em_driver.proofs.WorldLaws.{ok_is, read_keeps}
+use Rattle.em_driver.proofs.rings.ReceiveRing.{rx_same}
+use Rattle.em_driver.proofs.rings.TransmitRing.{tx_same}
+use Rattle.em_driver.proofs.rings.SideRegisters.{rx_side, tx_side, same_side, IsOther}
+use Rattle.em_driver.proofs.rings.OneTurn.{Moves, moves_link, moves_none, moves_same, moves_word, laid_same, turn_moves}
+use Rattle.em_driver.proofs.rings.OneTurn.{arrival_turn, receive_turn}
+use Rattle.em_driver.proofs.rings.MemoryUnits.{rx_ring, rx_buffers, tx_ring, tx_buffers, unit_outside}
+use Rattle.em_driver.proofs.order.DrivenWorld.{ok_is, read_keeps}
 
 -- nothing moves, and nothing goes onto the wire
 record Still (l : Layout) (s t : State) : Type 0 where

@@ -20,9 +20,9 @@ use Rattle.em_driver.specs.declared.layout.Layout.{Layout}
 use Rattle.em_driver.specs.declared.outcome.Stopped.{Stopped}
 use Rattle.em_driver.specs.declared.outcome.Cause.{Cause}
 use Rattle.em_driver.specs.declared.outcome.Cause.TheVariants.{Memory, Queue, Broken}
-use Rattle.em_driver.proofs.CourseLaws.{ends, room_on, room_stops, peeks_on, peek_stops, poke_stops, follows_as}
-use Rattle.em_driver.proofs.CourseLaws.{comes_both, comes_as, comes_on, comes_read, comes_room, comes_peek}
-use Rattle.em_driver.proofs.CourseLaws.{comes_poke, comes_write}
+use Rattle.em_driver.proofs.course.CourseSteps.{ends, room_on, room_stops, peeks_on, peek_stops, poke_stops, follows_as}
+use Rattle.em_driver.proofs.course.CourseSteps.{comes_both, comes_as, comes_on, comes_read, comes_room, comes_peek}
+use Rattle.em_driver.proofs.course.CourseSteps.{comes_poke, comes_write}
 
 -- ---- one packet, once its length is known
 

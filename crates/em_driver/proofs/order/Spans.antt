@@ -15,7 +15,7 @@ use Rattle.em_driver.specs.Started.{StartsInOrder}
 use Rattle.em_turn.specs.Turn.{stored_in}
 use Rattle.em_driver.specs.World.{World, present}
 use Rattle.em_driver.specs.declared.layout.Layout.{Layout}
-use Rattle.em_driver.proofs.OthersLaws.{others_move}
+use Rattle.em_driver.proofs.order.EventsOfOthers.{others_move}
 
 -- ---- the spans
 

@@ -21,12 +21,13 @@ use Rattle.em_driver.specs.Places.{is_among, between, distance}
 use Rattle.em_driver.specs.Receive.{following}
 use Rattle.em_driver.specs.Transmit.{tx_buffer, tx_descriptor}
 use Rattle.em_driver.specs.declared.layout.Layout.{Layout}
-use Rattle.em_driver.proofs.PlaceLaws.{following_in, grow_other, distance_more, between_grow}
-use Rattle.em_driver.proofs.ReceivingLaws.{RxMoves, rx_same, same_ring, writes, index_kept}
-use Rattle.em_driver.proofs.SendingLaws.{TxMoves, TxKept, kept_queued, kept_sending}
-use Rattle.em_driver.proofs.SideLaws.{rx_side, tx_side, is_rx_side, is_tx_side, same_side, put_other_side, put_tail}
-use Rattle.em_driver.proofs.TurnLaws.{laid_same}
-use Rattle.em_driver.proofs.UnitLaws.{rx_ring, rx_buffers, tx_ring, tx_buffers, unit, unit_at, part_front}
+use Rattle.em_driver.proofs.rings.RingPlaces.{following_in, grow_other, distance_more, between_grow}
+use Rattle.em_driver.proofs.rings.ReceiveRing.{RxMoves, rx_same, same_ring, writes, index_kept}
+use Rattle.em_driver.proofs.rings.TransmitRing.{TxMoves, TxKept, kept_queued, kept_sending}
+use Rattle.em_driver.proofs.rings.SideRegisters.{rx_side, tx_side, is_rx_side, is_tx_side, same_side, put_other_side}
+use Rattle.em_driver.proofs.rings.SideRegisters.{put_tail}
+use Rattle.em_driver.proofs.rings.OneTurn.{laid_same}
+use Rattle.em_driver.proofs.rings.MemoryUnits.{rx_ring, rx_buffers, tx_ring, tx_buffers, unit, unit_at, part_front}
 
 -- what a write of the driver leaves
 pub record Hands (l : Layout) (s t : State) : Type 0 where

@@ -24,12 +24,13 @@ use Rattle.em_driver.specs.Places.{is_among, between, distance}
 use Rattle.em_driver.specs.Receive.{following}
 use Rattle.em_driver.specs.Transmit.{tx_buffer, tx_descriptor}
 use Rattle.em_driver.specs.declared.layout.Layout.{Layout}
-use Rattle.em_driver.proofs.DescriptorLaws.{address_stays}
-use Rattle.em_driver.proofs.PlaceLaws.{following_in, among_first, among_end, shrink_here, shrink_other, distance_less}
-use Rattle.em_driver.proofs.PlaceLaws.{between_shrink, between_same}
-use Rattle.em_driver.proofs.ReceivingLaws.{Writes, writes, index_kept}
-use Rattle.em_driver.proofs.SideLaws.{tx_side, is_tx_side, SameSetup, SameSide, put_head}
-use Rattle.em_driver.proofs.UnitLaws.{tx_ring, tx_buffers, unit, unit_held, unit_long, part_front}
+use Rattle.em_driver.proofs.rings.WrittenDescriptors.{address_stays}
+use Rattle.em_driver.proofs.rings.RingPlaces.{following_in, among_first, among_end, shrink_here, shrink_other}
+use Rattle.em_driver.proofs.rings.RingPlaces.{distance_less}
+use Rattle.em_driver.proofs.rings.RingPlaces.{between_shrink, between_same}
+use Rattle.em_driver.proofs.rings.ReceiveRing.{Writes, writes, index_kept}
+use Rattle.em_driver.proofs.rings.SideRegisters.{tx_side, is_tx_side, SameSetup, SameSide, put_head}
+use Rattle.em_driver.proofs.rings.MemoryUnits.{tx_ring, tx_buffers, unit, unit_held, unit_long, part_front}
 
 -- ---- what an event of others leaves of the transmit side
 

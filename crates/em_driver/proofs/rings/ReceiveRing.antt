@@ -30,12 +30,13 @@ use Rattle.em_driver.specs.Order.{rx_packet_at, octets_of, waiting}
 use Rattle.em_driver.specs.Places.{is_among, between}
 use Rattle.em_driver.specs.Receive.{following, rx_buffer, rx_descriptor}
 use Rattle.em_driver.specs.declared.layout.Layout.{Layout}
-use Rattle.em_driver.proofs.DescriptorLaws.{address_stays, filled_back, filled_length, filled_mark}
-use Rattle.em_driver.proofs.PlaceLaws.{following_in, following_apart, among_end, grow_here, grow_other}
-use Rattle.em_driver.proofs.PlaceLaws.{between_grow, between_same}
-use Rattle.em_driver.proofs.SideLaws.{rx_side, is_rx_side, SameSetup, SameSide, put_head}
-use Rattle.em_driver.proofs.UnitLaws.{Region, rx_ring, rx_buffers, AreTwo, count_of, size_of, unit, unit_at, unit_apart}
-use Rattle.em_driver.proofs.UnitLaws.{unit_within, unit_size, unit_long, part_front}
+use Rattle.em_driver.proofs.rings.WrittenDescriptors.{address_stays, filled_back, filled_length, filled_mark}
+use Rattle.em_driver.proofs.rings.RingPlaces.{following_in, following_apart, among_end, grow_here, grow_other}
+use Rattle.em_driver.proofs.rings.RingPlaces.{between_grow, between_same}
+use Rattle.em_driver.proofs.rings.SideRegisters.{rx_side, is_rx_side, SameSetup, SameSide, put_head}
+use Rattle.em_driver.proofs.rings.MemoryUnits.{Region, rx_ring, rx_buffers, AreTwo, count_of, size_of, unit, unit_at}
+use Rattle.em_driver.proofs.rings.MemoryUnits.{unit_apart}
+use Rattle.em_driver.proofs.rings.MemoryUnits.{unit_within, unit_size, unit_long, part_front}
 
 -- ---- one write to memory
 

@@ -12,7 +12,7 @@ use Rattle.em_driver.specs.Order.{InOrder}
 use Rattle.em_driver.specs.World.{World, present}
 use Rattle.em_driver.specs.declared.layout.Layout.{Layout}
 use Rattle.em_driver.specs.declared.stats.DeviceStats.{DeviceStats}
-use Rattle.em_driver.proofs.WorldLaws.{order_on, order_none, order_read, order_write}
+use Rattle.em_driver.proofs.order.DrivenWorld.{order_on, order_none, order_read, order_write}
 
 -- a course that reads registers alone
 abbrev pub ReadsOnly : {A : Type 0} → Course A → Type 0

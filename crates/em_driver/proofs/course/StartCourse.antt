@@ -22,7 +22,7 @@ use Rattle.em_driver.specs.Start.{Performs, Gives, Stops}
 use Rattle.em_driver.specs.declared.layout.Layout.{Layout}
 use Rattle.em_driver.specs.declared.outcome.Cause.{Cause}
 use Rattle.em_driver.specs.declared.outcome.Cause.TheVariants as cause
-use Rattle.em_driver.proofs.CourseLaws.{ends_with, reset_stops, comes_on, comes_none, comes_both, comes_as}
+use Rattle.em_driver.proofs.course.CourseSteps.{ends_with, reset_stops, comes_on, comes_none, comes_both, comes_as}
 
 -- ---- one part and then another
 

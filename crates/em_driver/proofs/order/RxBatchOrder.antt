@@ -24,16 +24,16 @@ use Rattle.em_driver.specs.Receive.{rx_from, rx_batch}
 use Rattle.em_driver.specs.World.{World, Accesses, present}
 use Rattle.em_driver.specs.declared.layout.Layout.{Layout}
 use Rattle.em_driver.specs.declared.outcome.Cause.TheVariants.{Memory, Broken}
-use Rattle.em_driver.proofs.DescriptorLaws.{marked_whole}
-use Rattle.em_driver.proofs.PlaceLaws.{following_in}
-use Rattle.em_driver.proofs.ReceivingLaws.{first_same}
-use Rattle.em_driver.proofs.SendingLaws.{tx_moves_on}
-use Rattle.em_driver.proofs.TakeLaws.{clears, cleared_moves, first_packet, gives_back}
-use Rattle.em_driver.proofs.UnitLaws.{rx_ring, rx_buffers, unit_held}
-use Rattle.em_driver.proofs.WorldLaws.{passed, passed_but, passed_driven, order_on, order_none, order_passes}
-use Rattle.em_driver.proofs.WorldLaws.{order_read}
-use Rattle.em_driver.proofs.StageLaws.{stored_same}
-use Rattle.em_driver.proofs.WorldLaws.{written, read_gives, read_keeps, poked, poke_refused}
+use Rattle.em_driver.proofs.rings.WrittenDescriptors.{marked_whole}
+use Rattle.em_driver.proofs.rings.RingPlaces.{following_in}
+use Rattle.em_driver.proofs.rings.ReceiveRing.{first_same}
+use Rattle.em_driver.proofs.rings.TransmitRing.{tx_moves_on}
+use Rattle.em_driver.proofs.order.GivenBack.{clears, cleared_moves, first_packet, gives_back}
+use Rattle.em_driver.proofs.rings.MemoryUnits.{rx_ring, rx_buffers, unit_held}
+use Rattle.em_driver.proofs.order.DrivenWorld.{passed, passed_but, passed_driven, order_on, order_none, order_passes}
+use Rattle.em_driver.proofs.order.DrivenWorld.{order_read}
+use Rattle.em_driver.proofs.order.Stages.{stored_same}
+use Rattle.em_driver.proofs.order.DrivenWorld.{written, read_gives, read_keeps, poked, poke_refused}
 
 -- ---- one packet goes from the ring to the queue's end
 

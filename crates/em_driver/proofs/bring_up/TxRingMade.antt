@@ -34,18 +34,19 @@ use Rattle.em_driver.specs.Transmit.{tx_buffer, tx_descriptor}
 use Rattle.em_turn.specs.Turn.{stored_by}
 use Rattle.em_driver.specs.declared.layout.Layout.{Layout}
 use Rattle.em_turn.specs.declared.turn.Turn.TheVariants.{Arrive, RxStep, TxStep}
-use Rattle.em_driver.proofs.HandLaws.{put_whole}
-use Rattle.em_driver.proofs.HoldLaws.{Entries, Hold, are_others, hold_other, base_low, base_high, base_is, ring_length}
-use Rattle.em_driver.proofs.MakingLaws.{IsMaking, making_closed, rx_entries}
-use Rattle.em_driver.proofs.OffLaws.{tx_idle}
-use Rattle.em_driver.proofs.PlaceLaws.{among_none, between_none}
-use Rattle.em_driver.proofs.ReceivingLaws.{RxMoves, rx_same, same_ring}
-use Rattle.em_driver.proofs.ReceivingLaws.{writes as writes_unit}
-use Rattle.em_driver.proofs.SideLaws.{rx_side, is_rx_side, same_side, IsOther, put_other_side}
-use Rattle.em_driver.proofs.StageLaws.{IsClosed, Brings, brings_all, brings_both, brings_memory, brings_write}
-use Rattle.em_driver.proofs.TurnLaws.{RxTurn, arrival_turn, receive_turn, laid_same}
-use Rattle.em_driver.proofs.UnitLaws.{rx_ring, rx_buffers, tx_ring, unit, unit_at}
-use Rattle.em_driver.proofs.WorldLaws.{poked, written}
+use Rattle.em_driver.proofs.order.HandedOver.{put_whole}
+use Rattle.em_driver.proofs.bring_up.HeldRegisters.{Entries, Hold, are_others, hold_other, base_low, base_high, base_is}
+use Rattle.em_driver.proofs.bring_up.HeldRegisters.{ring_length}
+use Rattle.em_driver.proofs.bring_up.RxRingMade.{IsMaking, making_closed, rx_entries}
+use Rattle.em_driver.proofs.bring_up.DeviceOff.{tx_idle}
+use Rattle.em_driver.proofs.rings.RingPlaces.{among_none, between_none}
+use Rattle.em_driver.proofs.rings.ReceiveRing.{RxMoves, rx_same, same_ring}
+use Rattle.em_driver.proofs.rings.ReceiveRing.{writes as writes_unit}
+use Rattle.em_driver.proofs.rings.SideRegisters.{rx_side, is_rx_side, same_side, IsOther, put_other_side}
+use Rattle.em_driver.proofs.order.Stages.{IsClosed, Brings, brings_all, brings_both, brings_memory, brings_write}
+use Rattle.em_driver.proofs.rings.OneTurn.{RxTurn, arrival_turn, receive_turn, laid_same}
+use Rattle.em_driver.proofs.rings.MemoryUnits.{rx_ring, rx_buffers, tx_ring, unit, unit_at}
+use Rattle.em_driver.proofs.order.DrivenWorld.{poked, written}
 
 -- ---- fresh descriptors
 

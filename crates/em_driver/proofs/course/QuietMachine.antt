@@ -7,7 +7,7 @@ use Rattle.em_step.specs.declared.refusal.Refusal.{Refusal}
 use Rattle.em_journal.specs.History.{performs, refuses, Does}
 use Rattle.em_journal.specs.View.{View}
 use Rattle.em_driver.specs.World.{quiet, Passes, Accesses, IsRefused}
-use Rattle.em_driver.proofs.AnswerLaws.{poke_answer}
+use Rattle.em_driver.proofs.course.WriteAnswers.{poke_answer}
 
 pub quiet_passes : (m : View) → Passes (quiet m) (quiet m)
 quiet_passes m = record { turns = []; taken = inl (refl, refl, refl); is = refl }

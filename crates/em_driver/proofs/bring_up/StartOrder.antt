@@ -21,14 +21,15 @@ use Rattle.em_driver.specs.World.{World, Accesses, present}
 use Rattle.em_driver.specs.declared.layout.Layout.{Layout}
 use Rattle.em_driver.specs.declared.outcome.Cause.{Cause}
 use Rattle.em_driver.specs.declared.outcome.Cause.TheVariants.{Memory}
-use Rattle.em_driver.proofs.CourseLaws.{ends, resets_on, writes_on}
-use Rattle.em_driver.proofs.ListeningLaws.{IsStarted, receiving_enabled, sending_enabled, tx_descriptors_made}
-use Rattle.em_driver.proofs.ListeningLaws.{tx_registers, tx_registers_made}
-use Rattle.em_driver.proofs.MakingLaws.{IsMaking, link_made, eeprom_made, address_made, table_made, descriptors_made}
-use Rattle.em_driver.proofs.MakingLaws.{registers_made, rx_registers}
-use Rattle.em_driver.proofs.SizeLaws.{turn_size}
-use Rattle.em_driver.proofs.StageLaws.{Stage, At, IsClosed, event_at, not_none}
-use Rattle.em_driver.proofs.WorldLaws.{written_so}
+use Rattle.em_driver.proofs.course.CourseSteps.{ends, resets_on, writes_on}
+use Rattle.em_driver.proofs.bring_up.TxRingMade.{IsStarted, receiving_enabled, sending_enabled, tx_descriptors_made}
+use Rattle.em_driver.proofs.bring_up.TxRingMade.{tx_registers, tx_registers_made}
+use Rattle.em_driver.proofs.bring_up.RxRingMade.{IsMaking, link_made, eeprom_made, address_made, table_made}
+use Rattle.em_driver.proofs.bring_up.RxRingMade.{descriptors_made}
+use Rattle.em_driver.proofs.bring_up.RxRingMade.{registers_made, rx_registers}
+use Rattle.em_driver.proofs.bring_up.MemorySize.{turn_size}
+use Rattle.em_driver.proofs.order.Stages.{Stage, At, IsClosed, event_at, not_none}
+use Rattle.em_driver.proofs.order.DrivenWorld.{written_so}
 
 -- ---- until the reset
 

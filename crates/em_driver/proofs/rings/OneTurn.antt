@@ -24,15 +24,15 @@ use Rattle.em_turn.specs.Turn.{event_of, stored_by}
 use Rattle.em_driver.specs.declared.layout.Layout.{Layout}
 use Rattle.em_turn.specs.declared.turn.Turn.{Turn}
 use Rattle.em_turn.specs.declared.turn.Turn.TheVariants.{Arrive, RxStep, TxStep}
-use Rattle.em_driver.proofs.ReceivingLaws.{RxMoves, rx_moves_on, rx_kept, rx_same, same_ring}
-use Rattle.em_driver.proofs.ReceivingLaws.{rx_writes, fills}
-use Rattle.em_driver.proofs.ReceivingLaws.{moves_fill, buffer_whole, no_long_frames}
-use Rattle.em_driver.proofs.SendingLaws.{TxMoves, tx_moves_on, SameTxRing, tx_same, same_tx_ring}
-use Rattle.em_driver.proofs.SendingLaws.{sends, moves_send, is_whole}
-use Rattle.em_driver.proofs.SendingLaws.{no_tags, pads}
-use Rattle.em_driver.proofs.SideLaws.{rx_side, tx_side, is_rx_side, is_tx_side, SameSide, same_side, IsOther}
-use Rattle.em_driver.proofs.SideLaws.{word_other, put_other_side}
-use Rattle.em_driver.proofs.UnitLaws.{rx_ring, rx_buffers, tx_ring, tx_buffers}
+use Rattle.em_driver.proofs.rings.ReceiveRing.{RxMoves, rx_moves_on, rx_kept, rx_same, same_ring}
+use Rattle.em_driver.proofs.rings.ReceiveRing.{rx_writes, fills}
+use Rattle.em_driver.proofs.rings.ReceiveRing.{moves_fill, buffer_whole, no_long_frames}
+use Rattle.em_driver.proofs.rings.TransmitRing.{TxMoves, tx_moves_on, SameTxRing, tx_same, same_tx_ring}
+use Rattle.em_driver.proofs.rings.TransmitRing.{sends, moves_send, is_whole}
+use Rattle.em_driver.proofs.rings.TransmitRing.{no_tags, pads}
+use Rattle.em_driver.proofs.rings.SideRegisters.{rx_side, tx_side, is_rx_side, is_tx_side, SameSide, same_side, IsOther}
+use Rattle.em_driver.proofs.rings.SideRegisters.{word_other, put_other_side}
+use Rattle.em_driver.proofs.rings.MemoryUnits.{rx_ring, rx_buffers, tx_ring, tx_buffers}
 
 -- what a turn leaves, and the packets that it added to what waits
 pub record Moves (l : Layout) (s t : State) (added : List (List ℕ)) : Type 0 where

@@ -27,10 +27,10 @@ use Rattle.em_driver.specs.Order.{InOrder, queued, waiting}
 use Rattle.em_turn.specs.Turn.{stored_by}
 use Rattle.em_driver.specs.World.{World, Accesses, Passes, present}
 use Rattle.em_driver.specs.declared.layout.Layout.{Layout}
-use Rattle.em_driver.proofs.SideLaws.{rx_side, tx_side, IsOther}
-use Rattle.em_driver.proofs.StageLaws.{At, IsClosed, passed_at, stored_same}
-use Rattle.em_driver.proofs.TurnLaws.{Moves, moves_none, moves_on, moves_same, turn_moves, but_moves}
-use Rattle.em_driver.proofs.TurnLaws.{driven_moves, moves_word}
+use Rattle.em_driver.proofs.rings.SideRegisters.{rx_side, tx_side, IsOther}
+use Rattle.em_driver.proofs.order.Stages.{At, IsClosed, passed_at, stored_same}
+use Rattle.em_driver.proofs.rings.OneTurn.{Moves, moves_none, moves_on, moves_same, turn_moves, but_moves}
+use Rattle.em_driver.proofs.rings.OneTurn.{driven_moves, moves_word}
 
 -- ---- turns
 

@@ -16,14 +16,14 @@ use Rattle.em_driver.specs.Order.{rx_packet_at, octets_of, waiting}
 use Rattle.em_driver.specs.Places.{is_among, between}
 use Rattle.em_driver.specs.Receive.{following, rx_buffer, rx_descriptor}
 use Rattle.em_driver.specs.declared.layout.Layout.{Layout}
-use Rattle.em_driver.proofs.DescriptorLaws.{address_stays, status_length, cleared_mark}
-use Rattle.em_driver.proofs.PlaceLaws.{following_in, among_none, shrink_here, shrink_other, between_shrink}
-use Rattle.em_driver.proofs.PlaceLaws.{between_same}
-use Rattle.em_driver.proofs.ReceivingLaws.{RxMoves, writes, index_kept, packet_same, first_same}
-use Rattle.em_driver.proofs.SendingLaws.{TxMoves, tx_same, same_tx_ring}
-use Rattle.em_driver.proofs.SideLaws.{tx_side, is_rx_side, is_tx_side, same_side, put_other_side, put_tail}
-use Rattle.em_driver.proofs.TurnLaws.{laid_same}
-use Rattle.em_driver.proofs.UnitLaws.{rx_ring, rx_buffers, tx_ring, tx_buffers, unit, unit_long, part_front}
+use Rattle.em_driver.proofs.rings.WrittenDescriptors.{address_stays, status_length, cleared_mark}
+use Rattle.em_driver.proofs.rings.RingPlaces.{following_in, among_none, shrink_here, shrink_other, between_shrink}
+use Rattle.em_driver.proofs.rings.RingPlaces.{between_same}
+use Rattle.em_driver.proofs.rings.ReceiveRing.{RxMoves, writes, index_kept, packet_same, first_same}
+use Rattle.em_driver.proofs.rings.TransmitRing.{TxMoves, tx_same, same_tx_ring}
+use Rattle.em_driver.proofs.rings.SideRegisters.{tx_side, is_rx_side, is_tx_side, same_side, put_other_side, put_tail}
+use Rattle.em_driver.proofs.rings.OneTurn.{laid_same}
+use Rattle.em_driver.proofs.rings.MemoryUnits.{rx_ring, rx_buffers, tx_ring, tx_buffers, unit, unit_long, part_front}
 
 -- the first descriptor is still filled, with DD clear
 pub record IsCleared (l : Layout) (s : State) : Type 0 where

@@ -7,7 +7,7 @@ use Rattle.em_driver.specs.World.{World, first, rest, IsTaken, Passes, Accesses}
 use Rattle.em_driver.specs.Course.{Course, done, read, write, reset, peek, poke, room, Follows}
 use Rattle.em_driver.specs.Play.{Tells, wants_memory}
 use Rattle.em_driver.specs.HappenedCall.{Happens}
-use Rattle.em_driver.proofs.PlayLaws.{followed_is_played, neither}
+use Rattle.em_driver.proofs.course.PlayedCourse.{followed_is_played, neither}
 
 by_want : {A : Type 0} (says : A → Bool) (course : Course A) (w v : World) (n : ℕ) (a : A) (b : Bool)
     → wants_memory says a v ≡ b → Tells says course → Follows w course n a v

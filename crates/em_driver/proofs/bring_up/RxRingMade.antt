@@ -29,14 +29,15 @@ use Rattle.em_driver.specs.Start.{Part, memory, fresh_descriptor, set_link_up, e
 use Rattle.em_driver.specs.Start.{multicast_table, descriptors}
 use Rattle.em_turn.specs.Turn.{stored_by}
 use Rattle.em_driver.specs.declared.layout.Layout.{Layout}
-use Rattle.em_driver.proofs.HandLaws.{put_whole}
-use Rattle.em_driver.proofs.HoldLaws.{Entries, Hold, are_others, hold_other, base_low, base_high, ring_length, index}
-use Rattle.em_driver.proofs.OffLaws.{off_turn}
-use Rattle.em_driver.proofs.ReceivingLaws.{writes as writes_unit}
-use Rattle.em_driver.proofs.StageLaws.{IsClosed, Brings, BringsWith, brings_both, brings_write}
-use Rattle.em_driver.proofs.StageLaws.{brings_memory, brings_all, brings_eeprom}
-use Rattle.em_driver.proofs.UnitLaws.{rx_ring, unit, unit_at}
-use Rattle.em_driver.proofs.WorldLaws.{poked, read_keeps, written, written_so}
+use Rattle.em_driver.proofs.order.HandedOver.{put_whole}
+use Rattle.em_driver.proofs.bring_up.HeldRegisters.{Entries, Hold, are_others, hold_other, base_low, base_high}
+use Rattle.em_driver.proofs.bring_up.HeldRegisters.{ring_length, index}
+use Rattle.em_driver.proofs.bring_up.DeviceOff.{off_turn}
+use Rattle.em_driver.proofs.rings.ReceiveRing.{writes as writes_unit}
+use Rattle.em_driver.proofs.order.Stages.{IsClosed, Brings, BringsWith, brings_both, brings_write}
+use Rattle.em_driver.proofs.order.Stages.{brings_memory, brings_all, brings_eeprom}
+use Rattle.em_driver.proofs.rings.MemoryUnits.{rx_ring, unit, unit_at}
+use Rattle.em_driver.proofs.order.DrivenWorld.{poked, read_keeps, written, written_so}
 
 -- ---- a device that is off
 

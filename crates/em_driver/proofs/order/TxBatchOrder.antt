@@ -30,14 +30,15 @@ use Rattle.em_driver.specs.Transmit.{tx_from, tx_batch}
 use Rattle.em_driver.specs.World.{World, Accesses, present}
 use Rattle.em_driver.specs.declared.layout.Layout.{Layout}
 use Rattle.em_driver.specs.declared.outcome.Cause.TheVariants.{Memory, Broken, PacketLength}
-use Rattle.em_driver.proofs.HandLaws.{Hands, fills_buffer, writes_descriptor, IsReady, ready_moves}
-use Rattle.em_driver.proofs.HandLaws.{queues}
-use Rattle.em_driver.proofs.ReceivingLaws.{RxMoves, rx_moves_on}
-use Rattle.em_driver.proofs.UnitLaws.{tx_ring, tx_buffers, unit, unit_held}
-use Rattle.em_driver.proofs.WorldLaws.{Passed, passed, passed_but, passed_driven, order_on, order_none, order_passes}
-use Rattle.em_driver.proofs.WorldLaws.{order_read}
-use Rattle.em_driver.proofs.StageLaws.{stored_same}
-use Rattle.em_driver.proofs.WorldLaws.{written, read_gives, read_keeps, poked, poke_refused}
+use Rattle.em_driver.proofs.order.HandedOver.{Hands, fills_buffer, writes_descriptor, IsReady, ready_moves}
+use Rattle.em_driver.proofs.order.HandedOver.{queues}
+use Rattle.em_driver.proofs.rings.ReceiveRing.{RxMoves, rx_moves_on}
+use Rattle.em_driver.proofs.rings.MemoryUnits.{tx_ring, tx_buffers, unit, unit_held}
+use Rattle.em_driver.proofs.order.DrivenWorld.{Passed, passed, passed_but, passed_driven, order_on, order_none}
+use Rattle.em_driver.proofs.order.DrivenWorld.{order_passes}
+use Rattle.em_driver.proofs.order.DrivenWorld.{order_read}
+use Rattle.em_driver.proofs.order.Stages.{stored_same}
+use Rattle.em_driver.proofs.order.DrivenWorld.{written, read_gives, read_keeps, poked, poke_refused}
 
 -- what passes before an access of the driver, and what the access takes
 order_own : (l : Layout) (w m v : World) (took : List (List ℕ)) → Passed l w m

@@ -1,0 +1,15 @@
+pub mod BitFields
+pub mod CourseSteps
+pub mod WriteAnswers
+pub mod QuietMachine
+pub mod PlayedCourse
+pub mod RunOfCalls
+pub mod MappedAnswers
+pub mod HappenedCalls
+pub mod TakenTurns
+pub mod FirstList
+pub mod Arrivals
+pub mod RxBatchCourse
+pub mod TxBatchCourse
+pub mod StartCourse
+pub mod TellsOfMemory

@@ -1,0 +1,10 @@
+pub mod Stages
+pub mod DrivenWorld
+pub mod GivenBack
+pub mod RxBatchOrder
+pub mod HandedOver
+pub mod TxBatchOrder
+pub mod OtherCalls
+pub mod EventsOfOthers
+pub mod Spans
+pub mod StepsBack
