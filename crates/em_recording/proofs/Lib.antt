@@ -4,3 +4,4 @@ pub mod OctetLaws
 pub mod WireLaws
 pub mod RecordLaws
 pub mod RunLaws
+pub mod StartLaws

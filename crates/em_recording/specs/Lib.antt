@@ -6,3 +6,5 @@ pub mod Run
 pub mod Effects
 pub mod Text
 pub mod Strings
+pub mod EventText
+pub mod StartText

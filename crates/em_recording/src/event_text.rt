@@ -1,6 +1,13 @@
 //! An event's record as JSON.
+ghost use Rattle.std.specs.Prelude.{◌++◌, codes};
+ghost use Rattle.std.specs.List.{flat_map};
+ghost use Rattle.std.specs.Option.{option_map};
+ghost use Rattle.em_text.specs.Writer.{Writes};
+ghost use Rattle.em_recording.specs.EventText.{change_text, event_text, frame_text, frames_text, list_text};
+ghost use Rattle.em_recording.specs.EventText.{register_text, way_text, ways_text};
+ghost use Rattle.em_recording.specs.Rebuild.{sent_of};
 
-use crate::numbers::{write_flag, write_hex, write_number};
+use crate::numbers::{write_flag, write_hex, write_number, write_numbers};
 use crate::recorded::{OctetStep, Recorded, RegisterStep, Step};
 use em_names::write_name;
 use em_text::{WriteFailed, write_whole};
@@ -13,53 +20,97 @@ pub fn write_event<W: Write>(
     number: u64,
     recorded: &Recorded,
     stored: Option<&[u8]>,
-) -> Result<(), WriteFailed> {
+) -> Result<(), WriteFailed>
+    ensures writes { Writes (W.contents writer.old) (W.contents writer.new) result
+        (event_text number recorded.now (option_map (λ octets. octets.now) stored.entry)) }
+{
     write_number(writer, b"{\"event\":", number)?;
     write_registers(writer, recorded.registers.as_slice())?;
     write_memory(writer, recorded.octets.as_slice())?;
-    write_counts(writer, recorded.frames)?;
+    write_frames(writer, recorded.frames)?;
     write_frame(writer, b",\"stored\":", stored)?;
-    write_sent(writer, &recorded.sent)?;
-    write_flags(writer, b",\"link\":[", recorded.link)?;
-    write_flags(writer, b",\"interrupt\":[", recorded.line)?;
+    write_sent(writer, recorded)?;
+    write_ways(writer, recorded)?;
     write_whole(writer, b"}")
 }
 
-fn write_registers<W: Write>(writer: &mut W, steps: &[RegisterStep]) -> Result<(), WriteFailed> {
+fn write_registers<W: Write>(writer: &mut W, steps: &[RegisterStep]) -> Result<(), WriteFailed>
+    ensures writes { Writes (W.contents writer.old) (W.contents writer.new) result
+        (list_text register_text (codes ",\"registers\":[") steps.now) }
+{
     let Some((first, others)) = steps.split_first() else {
         return Ok(());
     };
     write_whole(writer, b",\"registers\":[")?;
     write_register(writer, first)?;
-    for step in others {
-        write_whole(writer, b",")?;
-        write_register(writer, step)?;
-    }
+    write_other_registers(writer, others)?;
     write_whole(writer, b"]")
 }
 
-fn write_register<W: Write>(writer: &mut W, step: &RegisterStep) -> Result<(), WriteFailed> {
+/// Writes registers, each behind a comma.
+fn write_other_registers<W: Write>(
+    writer: &mut W,
+    steps: &[RegisterStep],
+) -> Result<(), WriteFailed>
+    ensures writes { Writes (W.contents writer.old) (W.contents writer.new) result
+        (flat_map (λ step. codes "," ++ register_text step) steps.now) }
+{
+    for step in steps {
+        write_other_register(writer, step)?;
+    }
+    Ok(())
+}
+
+fn write_other_register<W: Write>(writer: &mut W, step: &RegisterStep) -> Result<(), WriteFailed>
+    ensures writes { Writes (W.contents writer.old) (W.contents writer.new) result (codes "," ++ register_text step.now) }
+{
+    write_whole(writer, b",")?;
+    write_register(writer, step)
+}
+
+fn write_register<W: Write>(writer: &mut W, step: &RegisterStep) -> Result<(), WriteFailed>
+    ensures writes { Writes (W.contents writer.old) (W.contents writer.new) result (register_text step.now) }
+{
     write_whole(writer, b"[\"")?;
     write_name(writer, step.reg)?;
-    write_number(writer, b"\",", u64::from(step.before))?;
-    write_number(writer, b",", u64::from(step.after))?;
-    write_whole(writer, b"]")
+    let (before, after) = (u64::from(step.before), u64::from(step.after));
+    write_numbers(writer, b"\",", before, after)
 }
 
-fn write_memory<W: Write>(writer: &mut W, steps: &[OctetStep]) -> Result<(), WriteFailed> {
+fn write_memory<W: Write>(writer: &mut W, steps: &[OctetStep]) -> Result<(), WriteFailed>
+    ensures writes { Writes (W.contents writer.old) (W.contents writer.new) result
+        (list_text change_text (codes ",\"memory\":[") steps.now) }
+{
     let Some((first, others)) = steps.split_first() else {
         return Ok(());
     };
     write_whole(writer, b",\"memory\":[")?;
     write_octet_step(writer, first)?;
-    for step in others {
-        write_whole(writer, b",")?;
-        write_octet_step(writer, step)?;
-    }
+    write_other_octet_steps(writer, others)?;
     write_whole(writer, b"]")
 }
 
-fn write_octet_step<W: Write>(writer: &mut W, step: &OctetStep) -> Result<(), WriteFailed> {
+/// Writes octets that changed, each piece behind a comma.
+fn write_other_octet_steps<W: Write>(writer: &mut W, steps: &[OctetStep]) -> Result<(), WriteFailed>
+    ensures writes { Writes (W.contents writer.old) (W.contents writer.new) result
+        (flat_map (λ step. codes "," ++ change_text step) steps.now) }
+{
+    for step in steps {
+        write_other_octet_step(writer, step)?;
+    }
+    Ok(())
+}
+
+fn write_other_octet_step<W: Write>(writer: &mut W, step: &OctetStep) -> Result<(), WriteFailed>
+    ensures writes { Writes (W.contents writer.old) (W.contents writer.new) result (codes "," ++ change_text step.now) }
+{
+    write_whole(writer, b",")?;
+    write_octet_step(writer, step)
+}
+
+fn write_octet_step<W: Write>(writer: &mut W, step: &OctetStep) -> Result<(), WriteFailed>
+    ensures writes { Writes (W.contents writer.old) (W.contents writer.new) result (change_text step.now) }
+{
     let len = step.range.len();
     write_number(writer, b"[", step.range.addr())?;
     write_hex(writer, b",", &step.before[..len])?;
@@ -67,19 +118,23 @@ fn write_octet_step<W: Write>(writer: &mut W, step: &OctetStep) -> Result<(), Wr
     write_whole(writer, b"]")
 }
 
-fn write_counts<W: Write>(writer: &mut W, step: Option<Step<usize>>) -> Result<(), WriteFailed> {
+fn write_frames<W: Write>(writer: &mut W, step: Option<Step<usize>>) -> Result<(), WriteFailed>
+    ensures writes { Writes (W.contents writer.old) (W.contents writer.new) result (frames_text step) }
+{
     match step {
         Some(step) => {
-            write_number(writer, b",\"frames\":[", step.before as u64)?;
-            write_number(writer, b",", step.after as u64)?;
-            write_whole(writer, b"]")
+            let (before, after) = (step.before as u64, step.after as u64);
+            write_numbers(writer, b",\"frames\":[", before, after)
         }
         None => Ok(()),
     }
 }
 
-fn write_sent<W: Write>(writer: &mut W, sent: &Option<Vec<u8>>) -> Result<(), WriteFailed> {
-    match sent {
+fn write_sent<W: Write>(writer: &mut W, recorded: &Recorded) -> Result<(), WriteFailed>
+    ensures writes { Writes (W.contents writer.old) (W.contents writer.new) result
+        (frame_text (codes ",\"sent\":") (sent_of recorded.now)) }
+{
+    match &recorded.sent {
         Some(frame) => write_hex(writer, b",\"sent\":", frame.as_slice()),
         None => Ok(()),
     }
@@ -89,24 +144,35 @@ fn write_frame<W: Write>(
     writer: &mut W,
     name: &[u8],
     frame: Option<&[u8]>,
-) -> Result<(), WriteFailed> {
+) -> Result<(), WriteFailed>
+    ensures writes { Writes (W.contents writer.old) (W.contents writer.new) result
+        (frame_text name.now (option_map (λ octets. octets.now) frame.entry)) }
+{
     match frame {
         Some(octets) => write_hex(writer, name, octets),
         None => Ok(()),
     }
 }
 
-fn write_flags<W: Write>(
+/// Writes what became of the link and of the interrupt line.
+fn write_ways<W: Write>(writer: &mut W, recorded: &Recorded) -> Result<(), WriteFailed>
+    ensures writes { Writes (W.contents writer.old) (W.contents writer.new) result (ways_text recorded.now) }
+{
+    write_way(writer, b",\"link\":[", recorded.link)?;
+    write_way(writer, b",\"interrupt\":[", recorded.line)
+}
+
+fn write_way<W: Write>(
     writer: &mut W,
     before: &[u8],
     step: Option<Step<bool>>,
-) -> Result<(), WriteFailed> {
-    match step {
-        Some(step) => {
-            write_flag(writer, before, step.before)?;
-            write_flag(writer, b",", step.after)?;
-            write_whole(writer, b"]")
-        }
-        None => Ok(()),
-    }
+) -> Result<(), WriteFailed>
+    ensures writes { Writes (W.contents writer.old) (W.contents writer.new) result (way_text before.now step) }
+{
+    let Some(step) = step else {
+        return Ok(());
+    };
+    write_flag(writer, before, step.before)?;
+    write_flag(writer, b",", step.after)?;
+    write_whole(writer, b"]")
 }

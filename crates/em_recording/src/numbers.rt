@@ -1,6 +1,6 @@
-//! Numbers and words of JSON.
+//! Numbers, words and octets of JSON.
 ghost use Rattle.em_text.specs.Writer.{Writes};
-ghost use Rattle.em_recording.specs.Text.{flag_text, number_text};
+ghost use Rattle.em_recording.specs.Text.{flag_text, number_text, numbers_text, octets_text};
 
 use em_text::{WriteFailed, write_octets, write_pieces, write_whole};
 use itoa::Buffer;
@@ -12,6 +12,25 @@ pub fn write_number<W: Write>(writer: &mut W, before: &[u8], number: u64) -> Res
 {
     let mut digits = Buffer::new();
     write_pieces(writer, &[before, digits.format(number).as_bytes()])
+}
+
+/// Writes two numbers behind a text, and the end of their list.
+pub(crate) fn write_numbers<W: Write>(
+    writer: &mut W,
+    before: &[u8],
+    first: u64,
+    second: u64,
+) -> Result<(), WriteFailed>
+    ensures writes { Writes (W.contents writer.old) (W.contents writer.new) result
+        (numbers_text before.now first second) }
+{
+    let mut one = Buffer::new();
+    let mut other = Buffer::new();
+    let (first, second) = (one.format(first), other.format(second));
+    write_pieces(
+        writer,
+        &[before, first.as_bytes(), b",", second.as_bytes(), b"]"],
+    )
 }
 
 /// Writes `true` or `false` behind a text.
@@ -31,9 +50,10 @@ pub(crate) fn write_hex<W: Write>(
     writer: &mut W,
     before: &[u8],
     octets: &[u8],
-) -> Result<(), WriteFailed> {
-    write_whole(writer, before)?;
-    write_whole(writer, b"\"")?;
+) -> Result<(), WriteFailed>
+    ensures writes { Writes (W.contents writer.old) (W.contents writer.new) result (octets_text before.now octets.now) }
+{
+    write_pieces(writer, &[before, b"\""])?;
     write_octets(writer, octets)?;
     write_whole(writer, b"\"")
 }

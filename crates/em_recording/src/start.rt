@@ -1,4 +1,7 @@
 //! What a record begins with.
+ghost use Rattle.std.specs.Prelude.{◌<◌};
+ghost use Rattle.em_text.specs.Writer.{Writes};
+ghost use Rattle.em_recording.specs.StartText.{named_text, settings_text, start_text, word_text};
 
 use crate::numbers::{write_hex, write_number};
 use em_journal::{Machine, Settings};
@@ -8,10 +11,15 @@ use em_text::{WriteFailed, write_whole};
 use std::io::Write;
 
 /// How many octets lie between one register's offset and the next.
-const WORD: usize = 4;
+const WORD: u32 = 4;
+
+/// How many words the registers take, with what lies between them.
+const WORDS: u32 = SPACE / WORD;
 
 /// Writes what a machine is made of.
-pub fn write_settings<W: Write>(writer: &mut W, settings: &Settings) -> Result<(), WriteFailed> {
+pub fn write_settings<W: Write>(writer: &mut W, settings: &Settings) -> Result<(), WriteFailed>
+    ensures writes { Writes (W.contents writer.old) (W.contents writer.new) result (settings_text settings.now) }
+{
     write_number(writer, b"\"settings\":{\"memory\":", settings.memory)?;
     write_number(writer, b",\"budget\":", settings.budget)?;
     write_hex(writer, b",\"mac\":", &settings.mac)?;
@@ -19,15 +27,39 @@ pub fn write_settings<W: Write>(writer: &mut W, settings: &Settings) -> Result<(
 }
 
 /// Writes each register's value as a look shows it, by offset.
-pub fn write_start<W: Write>(writer: &mut W, machine: &Machine) -> Result<(), WriteFailed> {
-    let mut before: &[u8] = b"\"start\":{\"registers\":{\"";
-    for offset in (0..SPACE).step_by(WORD) {
-        if let Some(reg) = Reg::of_offset(offset) {
-            write_whole(writer, before)?;
-            write_name(writer, reg)?;
-            write_number(writer, b"\":", u64::from(machine.look(offset).unwrap_or(0)))?;
-            before = b",\"";
-        }
+pub fn write_start<W: Write>(writer: &mut W, machine: &Machine) -> Result<(), WriteFailed>
+    ensures writes { Writes (W.contents writer.old) (W.contents writer.new) result (start_text machine.now.present) }
+{
+    let ctrl = machine.look(Reg::Ctrl.offset()).unwrap_or(0);
+    write_value(writer, b"\"start\":{\"registers\":{\"", Reg::Ctrl, ctrl)?;
+    for word in 1..WORDS {
+        write_word(writer, machine, word)?;
     }
     write_whole(writer, b"}},\n")
+}
+
+/// Writes the register of a word behind others, if one lies there.
+fn write_word<W: Write>(writer: &mut W, machine: &Machine, word: u32) -> Result<(), WriteFailed>
+    requires { word < 0x1600 }
+    ensures writes { Writes (W.contents writer.old) (W.contents writer.new) result (word_text machine.now.present word) }
+{
+    let offset = WORD * word;
+    match Reg::of_offset(offset) {
+        Some(reg) => write_value(writer, b",\"", reg, machine.look(offset).unwrap_or(0)),
+        None => Ok(()),
+    }
+}
+
+/// Writes a value under a register's name behind a text.
+fn write_value<W: Write>(
+    writer: &mut W,
+    before: &[u8],
+    reg: Reg,
+    value: u32,
+) -> Result<(), WriteFailed>
+    ensures writes { Writes (W.contents writer.old) (W.contents writer.new) result (named_text before.now reg value) }
+{
+    write_whole(writer, before)?;
+    write_name(writer, reg)?;
+    write_number(writer, b"\":", u64::from(value))
 }
