@@ -23,6 +23,8 @@ pub struct Done {
     pub late_frames: u64,
     /// How many octets the script has.
     pub octets: u64,
+    /// How many of them are comments of accesses of something else.
+    pub other_octets: u64,
     /// Those of registers that the model lacks.
     pub missing: Counts,
 }
@@ -38,6 +40,7 @@ impl Done {
             faults: 0,
             late_frames: 0,
             octets: 0,
+            other_octets: 0,
             missing: Counts::new(alloc)?,
         })
     }
@@ -48,7 +51,7 @@ impl Done {
     }
 
     /// Writes what the script does not do, a line for each kind, and whether it is too long.
-    pub fn write<W: Write>(&self, out: &mut W, skips_others: bool) -> Result<()> {
+    pub fn write<W: Write>(&self, out: &mut W) -> Result<()> {
         if self.accesses == 0 {
             writeln!(out, "no line is an access of the adapter's registers")?;
         }
@@ -62,15 +65,14 @@ impl Done {
         write_count(out, self.late_frames, "frame", "frames", late)?;
         if self.octets > MOST_SCRIPT as u64 {
             let octets = self.octets;
-            let advice = if self.elsewhere > 0 && !skips_others {
-                ": --skip-others leaves accesses of something else out"
-            } else {
-                ""
-            };
-            writeln!(
+            write!(
                 out,
-                "the script has {octets} octets, and em_bench and em_debug play {MOST_SCRIPT}{advice}"
+                "the script has {octets} octets, and em_bench and em_debug play {MOST_SCRIPT}"
             )?;
+            if self.other_octets > 0 {
+                write!(out, "; --skip-others leaves {} out", self.other_octets)?;
+            }
+            writeln!(out, "")?;
         }
         Ok(())
     }

@@ -119,7 +119,7 @@ fn with_capture<R: Files + Input + Print + Eprint + AllocGlobal>(
     }
 }
 
-/// Turns the log into a script, says what was left out, and gives the status.
+/// Turns the log into a script, says what it does not do, and gives the status.
 fn with_reader<R: Print + Eprint + AllocGlobal, B: BufRead + Drop>(
     rt: &R,
     wanted: &Wanted<'_>,
@@ -130,14 +130,14 @@ fn with_reader<R: Print + Eprint + AllocGlobal, B: BufRead + Drop>(
     let mut out = BufWriter::with_capacity(rt.alloc(), BUFFER, io::writer(rt))?;
     let done = translate(rt, wanted, capture, &mut lines, &mut out)?;
     out.flush().context("the script cannot be written")?;
-    told_of(rt, &done, wanted.skips_others)?;
+    told_of(rt, &done)?;
     Ok(if done.is_well() { WELL } else { UNREAD })
 }
 
 /// Says on standard error what the script does not do.
-fn told_of<R: Eprint + AllocGlobal>(rt: &R, done: &Done, skips_others: bool) -> Result<()> {
+fn told_of<R: Eprint + AllocGlobal>(rt: &R, done: &Done) -> Result<()> {
     let mut text = Vec::new(rt.alloc());
-    done.write(&mut text, skips_others)?;
+    done.write(&mut text)?;
     if let Ok(text) = str::from_utf8(text.as_slice()) {
         let _ = eprint!(rt; "{text}");
     }

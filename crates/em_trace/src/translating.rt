@@ -106,7 +106,10 @@ impl Script<'_> {
                 if self.skips_others {
                     return Ok(());
                 }
-                write_kept(&mut self.lines, number, text)
+                write_kept(&mut self.lines, number, text)?;
+                let octets = self.lines.len() as u64;
+                self.done.other_octets = self.done.other_octets.saturating_add(octets);
+                Ok(())
             }
             Entry::Nothing => Ok(()),
             Entry::Fault => {

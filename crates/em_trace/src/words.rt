@@ -57,7 +57,7 @@ fn command<'a>(alloc: Global) -> Result<Command<'a>, AllocError> {
         .value_parser(["up", "down"].as_slice())
         .default_value("up");
     let skip =
-        "Leave accesses of other regions out of the script, where they are comments otherwise";
+        "Leave accesses of something else than the adapter's registers out, where they are comments otherwise";
     let skip = Arg::new(alloc, "skip-others")
         .long("skip-others")
         .action(ArgAction::SetTrue)
