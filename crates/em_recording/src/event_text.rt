@@ -62,7 +62,8 @@ fn write_other_registers<W: Write>(
 }
 
 fn write_other_register<W: Write>(writer: &mut W, step: &RegisterStep) -> Result<(), WriteFailed>
-    ensures writes { Writes (W.contents writer.old) (W.contents writer.new) result (codes "," ++ register_text step.now) }
+    ensures writes { Writes (W.contents writer.old) (W.contents writer.new) result
+        (codes "," ++ register_text step.now) }
 {
     write_whole(writer, b",")?;
     write_register(writer, step)

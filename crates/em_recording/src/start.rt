@@ -41,7 +41,8 @@ pub fn write_start<W: Write>(writer: &mut W, machine: &Machine) -> Result<(), Wr
 /// Writes the register of a word behind others, if one lies there.
 fn write_word<W: Write>(writer: &mut W, machine: &Machine, word: u32) -> Result<(), WriteFailed>
     requires { word < 0x1600 }
-    ensures writes { Writes (W.contents writer.old) (W.contents writer.new) result (word_text machine.now.present word) }
+    ensures writes { Writes (W.contents writer.old) (W.contents writer.new) result
+        (word_text machine.now.present word) }
 {
     let offset = WORD * word;
     match Reg::of_offset(offset) {

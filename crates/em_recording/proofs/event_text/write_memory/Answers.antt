@@ -10,28 +10,34 @@ use Rattle.em_recording.proofs.event_text.write_memory.Goals as goal
 pub returns-in_err-write_whole : goal.returns-in_err-write_whole
 returns-in_err-write_whole g c =
     let cut : c.args.steps.now ≡ c.in-Some.first.now ∷ c.in-Some.others.now = c.in-Some.ensures.cases.0 in
-    let wrote-0 = WroteFront-none (g.W.Write.contents c.args.writer.now) (list_text change_text (codes ",\"memory\":[") (c.in-Some.first.now ∷ c.in-Some.others.now)) in
+    let wrote-0 = WroteFront-none (g.W.Write.contents c.args.writer.now) (list_text change_text (codes ",\"memory\":[")
+    (c.in-Some.first.now ∷ c.in-Some.others.now)) in
     record {
       writes = rw cut (MatchResult-from_err _ _ _ c.from_residual.ensures.0 (λ _.
-          WroteFront-part ((change_text c.in-Some.first.now) ++ ((flat_map (λ step. codes "," ++ change_text step) c.in-Some.others.now) ++ (codes "]"))) wrote-0 refl c.in_err-write_whole.ensures.writes));
+          WroteFront-part ((change_text c.in-Some.first.now) ++ ((flat_map (λ step. codes "," ++ change_text step)
+          c.in-Some.others.now) ++ (codes "]"))) wrote-0 refl c.in_err-write_whole.ensures.writes));
     }
 
 pub returns-in_err-write_octet_step : goal.returns-in_err-write_octet_step
 returns-in_err-write_octet_step g c =
     let cut : c.args.steps.now ≡ c.in-Some.first.now ∷ c.in-Some.others.now = c.in-Some.ensures.cases.0 in
-    let wrote-0 = WroteFront-none (g.W.Write.contents c.args.writer.now) (list_text change_text (codes ",\"memory\":[") (c.in-Some.first.now ∷ c.in-Some.others.now)) in
+    let wrote-0 = WroteFront-none (g.W.Write.contents c.args.writer.now) (list_text change_text (codes ",\"memory\":[")
+    (c.in-Some.first.now ∷ c.in-Some.others.now)) in
     let wrote-1 = WroteFront-more (codes ",\"memory\":[") wrote-0 refl c.in_ok-write_whole.ensures.writes in
     record {
       writes = rw cut (MatchResult-from_err _ _ _ c.from_residual-in_err-write_octet_step.ensures.0 (λ _.
-          WroteFront-part ((flat_map (λ step. codes "," ++ change_text step) c.in-Some.others.now) ++ (codes "]")) wrote-1 refl c.in_err-write_octet_step.ensures.writes));
+          WroteFront-part ((flat_map (λ step. codes "," ++ change_text step) c.in-Some.others.now) ++ (codes "]"))
+          wrote-1 refl c.in_err-write_octet_step.ensures.writes));
     }
 
 pub returns-in_err-write_other_octet_steps : goal.returns-in_err-write_other_octet_steps
 returns-in_err-write_other_octet_steps g c =
     let cut : c.args.steps.now ≡ c.in-Some.first.now ∷ c.in-Some.others.now = c.in-Some.ensures.cases.0 in
-    let wrote-0 = WroteFront-none (g.W.Write.contents c.args.writer.now) (list_text change_text (codes ",\"memory\":[") (c.in-Some.first.now ∷ c.in-Some.others.now)) in
+    let wrote-0 = WroteFront-none (g.W.Write.contents c.args.writer.now) (list_text change_text (codes ",\"memory\":[")
+    (c.in-Some.first.now ∷ c.in-Some.others.now)) in
     let wrote-1 = WroteFront-more (codes ",\"memory\":[") wrote-0 refl c.in_ok-write_whole.ensures.writes in
-    let wrote-2 = WroteFront-more (change_text c.in-Some.first.now) wrote-1 refl c.in_ok-write_octet_step.ensures.writes in
+    let wrote-2 = WroteFront-more (change_text c.in-Some.first.now) wrote-1 refl
+    c.in_ok-write_octet_step.ensures.writes in
     record {
       writes = rw cut (MatchResult-from_err _ _ _ c.from_residual-in_err-write_other_octet_steps.ensures.0 (λ _.
           WroteFront-part (codes "]") wrote-2 refl c.in_err-write_other_octet_steps.ensures.writes));
@@ -40,10 +46,14 @@ returns-in_err-write_other_octet_steps g c =
 pub returns : goal.returns
 returns g c =
     let cut : c.args.steps.now ≡ c.in-Some.first.now ∷ c.in-Some.others.now = c.in-Some.ensures.cases.0 in
-    let wrote-0 = WroteFront-none (g.W.Write.contents c.args.writer.now) (list_text change_text (codes ",\"memory\":[") (c.in-Some.first.now ∷ c.in-Some.others.now)) in
+    let wrote-0 = WroteFront-none (g.W.Write.contents c.args.writer.now) (list_text change_text (codes ",\"memory\":[")
+    (c.in-Some.first.now ∷ c.in-Some.others.now)) in
     let wrote-1 = WroteFront-more (codes ",\"memory\":[") wrote-0 refl c.in_ok-write_whole.ensures.writes in
-    let wrote-2 = WroteFront-more (change_text c.in-Some.first.now) wrote-1 refl c.in_ok-write_octet_step.ensures.writes in
-    let wrote-3 = WroteFront-more (flat_map (λ step. codes "," ++ change_text step) c.in-Some.others.now) wrote-2 refl c.in_ok-write_other_octet_steps.ensures.writes in
+    let wrote-2 = WroteFront-more (change_text c.in-Some.first.now) wrote-1 refl
+    c.in_ok-write_octet_step.ensures.writes in
+    let wrote-3 = WroteFront-more (flat_map (λ step. codes "," ++ change_text step) c.in-Some.others.now) wrote-2 refl
+    c.in_ok-write_other_octet_steps.ensures.writes in
     record {
-      writes = rw cut (Writes-more _ _ _ _ wrote-3.front (codes "]") _ wrote-3.written c.write_whole-2.ensures.writes wrote-3.whole);
+      writes = rw cut (Writes-more _ _ _ _ wrote-3.front (codes "]") _ wrote-3.written c.write_whole-2.ensures.writes
+      wrote-3.whole);
     }

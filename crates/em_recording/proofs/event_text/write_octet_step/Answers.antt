@@ -12,23 +12,29 @@ returns-in_err-write_number g c =
     let wrote-0 = WroteFront-none (g.W.Write.contents c.args.writer.now) (change_text c.args.step.now) in
     record {
       writes = MatchResult-from_err _ _ _ c.from_residual.ensures.0 (λ _.
-          WroteFront-part ((octets_text (codes ",") (take c.args.step.now.range.len c.args.step.now.before)) ++ ((octets_text (codes ",") (take c.args.step.now.range.len c.args.step.now.after)) ++ (codes "]"))) wrote-0 refl (rw c.addr.ensures at c.in_err-write_number.ensures.writes));
+          WroteFront-part ((octets_text (codes ",") (take c.args.step.now.range.len c.args.step.now.before)) ++
+          ((octets_text (codes ",") (take c.args.step.now.range.len c.args.step.now.after)) ++ (codes "]"))) wrote-0
+          refl (rw c.addr.ensures at c.in_err-write_number.ensures.writes));
     }
 
 pub returns-in_err-write_hex : goal.returns-in_err-write_hex
 returns-in_err-write_hex g c =
     let wrote-0 = WroteFront-none (g.W.Write.contents c.args.writer.now) (change_text c.args.step.now) in
-    let wrote-1 = WroteFront-more (number_text (codes "[") c.args.step.now.range.addr) wrote-0 refl (rw c.addr.ensures at c.in_ok-write_number.ensures.writes) in
+    let wrote-1 = WroteFront-more (number_text (codes "[") c.args.step.now.range.addr) wrote-0 refl (rw c.addr.ensures
+    at c.in_ok-write_number.ensures.writes) in
     record {
       writes = MatchResult-from_err _ _ _ c.from_residual-in_err-write_hex.ensures.0 (λ _.
-          WroteFront-part ((octets_text (codes ",") (take c.args.step.now.range.len c.args.step.now.after)) ++ (codes "]")) wrote-1 refl (rw c.len-len.ensures.len at c.in_err-write_hex.ensures.writes));
+          WroteFront-part ((octets_text (codes ",") (take c.args.step.now.range.len c.args.step.now.after)) ++ (codes
+          "]")) wrote-1 refl (rw c.len-len.ensures.len at c.in_err-write_hex.ensures.writes));
     }
 
 pub returns-in_err-write_hex-2 : goal.returns-in_err-write_hex-2
 returns-in_err-write_hex-2 g c =
     let wrote-0 = WroteFront-none (g.W.Write.contents c.args.writer.now) (change_text c.args.step.now) in
-    let wrote-1 = WroteFront-more (number_text (codes "[") c.args.step.now.range.addr) wrote-0 refl (rw c.addr.ensures at c.in_ok-write_number.ensures.writes) in
-    let wrote-2 = WroteFront-more (octets_text (codes ",") (take c.args.step.now.range.len c.args.step.now.before)) wrote-1 refl (rw c.len-len.ensures.len at c.in_ok-write_hex.ensures.writes) in
+    let wrote-1 = WroteFront-more (number_text (codes "[") c.args.step.now.range.addr) wrote-0 refl (rw c.addr.ensures
+    at c.in_ok-write_number.ensures.writes) in
+    let wrote-2 = WroteFront-more (octets_text (codes ",") (take c.args.step.now.range.len c.args.step.now.before))
+    wrote-1 refl (rw c.len-len.ensures.len at c.in_ok-write_hex.ensures.writes) in
     record {
       writes = MatchResult-from_err _ _ _ c.from_residual-in_err-write_hex-2.ensures.0 (λ _.
           WroteFront-part (codes "]") wrote-2 refl (rw c.len-len.ensures.len at c.in_err-write_hex-2.ensures.writes));
@@ -37,9 +43,13 @@ returns-in_err-write_hex-2 g c =
 pub returns : goal.returns
 returns g c =
     let wrote-0 = WroteFront-none (g.W.Write.contents c.args.writer.now) (change_text c.args.step.now) in
-    let wrote-1 = WroteFront-more (number_text (codes "[") c.args.step.now.range.addr) wrote-0 refl (rw c.addr.ensures at c.in_ok-write_number.ensures.writes) in
-    let wrote-2 = WroteFront-more (octets_text (codes ",") (take c.args.step.now.range.len c.args.step.now.before)) wrote-1 refl (rw c.len-len.ensures.len at c.in_ok-write_hex.ensures.writes) in
-    let wrote-3 = WroteFront-more (octets_text (codes ",") (take c.args.step.now.range.len c.args.step.now.after)) wrote-2 refl (rw c.len-len.ensures.len at c.in_ok-write_hex-2.ensures.writes) in
+    let wrote-1 = WroteFront-more (number_text (codes "[") c.args.step.now.range.addr) wrote-0 refl (rw c.addr.ensures
+    at c.in_ok-write_number.ensures.writes) in
+    let wrote-2 = WroteFront-more (octets_text (codes ",") (take c.args.step.now.range.len c.args.step.now.before))
+    wrote-1 refl (rw c.len-len.ensures.len at c.in_ok-write_hex.ensures.writes) in
+    let wrote-3 = WroteFront-more (octets_text (codes ",") (take c.args.step.now.range.len c.args.step.now.after))
+    wrote-2 refl (rw c.len-len.ensures.len at c.in_ok-write_hex-2.ensures.writes) in
     record {
-      writes = Writes-more _ _ _ _ wrote-3.front (codes "]") _ wrote-3.written c.write_whole.ensures.writes wrote-3.whole;
+      writes = Writes-more _ _ _ _ wrote-3.front (codes "]") _ wrote-3.written c.write_whole.ensures.writes
+      wrote-3.whole;
     }

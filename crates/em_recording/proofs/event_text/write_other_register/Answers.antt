@@ -10,5 +10,6 @@ returns g c =
     let wrote-0 = WroteFront-none (g.W.Write.contents c.args.writer.now) (codes "," ++ register_text c.args.step.now) in
     let wrote-1 = WroteFront-more (codes ",") wrote-0 refl c.in_ok-write_whole.ensures.writes in
     record {
-      writes = Writes-more _ _ _ _ wrote-1.front (register_text c.args.step.now) _ wrote-1.written c.write_register.ensures.writes wrote-1.whole;
+      writes = Writes-more _ _ _ _ wrote-1.front (register_text c.args.step.now) _ wrote-1.written
+      c.write_register.ensures.writes wrote-1.whole;
     }

@@ -13,7 +13,8 @@ returns-in_err-write_name g c =
     let wrote-1 = WroteFront-more (codes "[\"") wrote-0 refl c.in_ok-write_whole.ensures.writes in
     record {
       writes = MatchResult-from_err _ _ _ c.from_residual-in_err-write_name.ensures.0 (λ _.
-          WroteFront-part (numbers_text (codes "\",") c.args.step.now.before c.args.step.now.after) wrote-1 refl c.in_err-write_name.ensures.writes);
+          WroteFront-part (numbers_text (codes "\",") c.args.step.now.before c.args.step.now.after) wrote-1 refl
+          c.in_err-write_name.ensures.writes);
     }
 
 pub returns : goal.returns
@@ -22,5 +23,7 @@ returns g c =
     let wrote-1 = WroteFront-more (codes "[\"") wrote-0 refl c.in_ok-write_whole.ensures.writes in
     let wrote-2 = WroteFront-more (name_of c.args.step.now.reg) wrote-1 refl c.in_ok-write_name.ensures.writes in
     record {
-      writes = Writes-more _ _ _ _ wrote-2.front (numbers_text (codes "\",") c.args.step.now.before c.args.step.now.after) _ wrote-2.written (rw (c.from-before.ensures, c.from-after.ensures) at c.write_numbers.ensures.writes) wrote-2.whole;
+      writes = Writes-more _ _ _ _ wrote-2.front (numbers_text (codes "\",") c.args.step.now.before
+      c.args.step.now.after) _ wrote-2.written (rw (c.from-before.ensures, c.from-after.ensures) at
+      c.write_numbers.ensures.writes) wrote-2.whole;
     }

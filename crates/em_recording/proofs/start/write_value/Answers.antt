@@ -9,7 +9,8 @@ use Rattle.em_recording.proofs.start.write_value.Goals as goal
 
 pub returns-in_err-write_name : goal.returns-in_err-write_name
 returns-in_err-write_name g c =
-    let wrote-0 = WroteFront-none (g.W.Write.contents c.args.writer.now) (named_text c.args.before.now c.args.reg c.args.value) in
+    let wrote-0 = WroteFront-none (g.W.Write.contents c.args.writer.now) (named_text c.args.before.now c.args.reg
+    c.args.value) in
     let wrote-1 = WroteFront-more (c.args.before.now) wrote-0 refl c.in_ok-write_whole.ensures.writes in
     record {
       writes = MatchResult-from_err _ _ _ c.from_residual-in_err-write_name.ensures.0 (λ _.
@@ -18,9 +19,11 @@ returns-in_err-write_name g c =
 
 pub returns : goal.returns
 returns g c =
-    let wrote-0 = WroteFront-none (g.W.Write.contents c.args.writer.now) (named_text c.args.before.now c.args.reg c.args.value) in
+    let wrote-0 = WroteFront-none (g.W.Write.contents c.args.writer.now) (named_text c.args.before.now c.args.reg
+    c.args.value) in
     let wrote-1 = WroteFront-more (c.args.before.now) wrote-0 refl c.in_ok-write_whole.ensures.writes in
     let wrote-2 = WroteFront-more (name_of c.args.reg) wrote-1 refl c.in_ok-write_name.ensures.writes in
     record {
-      writes = Writes-more _ _ _ _ wrote-2.front (number_text (codes "\":") c.args.value) _ wrote-2.written (rw c.from.ensures at c.write_number.ensures.writes) wrote-2.whole;
+      writes = Writes-more _ _ _ _ wrote-2.front (number_text (codes "\":") c.args.value) _ wrote-2.written (rw
+      c.from.ensures at c.write_number.ensures.writes) wrote-2.whole;
     }
