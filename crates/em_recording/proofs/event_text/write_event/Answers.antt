@@ -4,8 +4,15 @@ use Rattle.std.proofs.lemmas.Result.{MatchResult-from_err}
 use Rattle.em_text.proofs.WritingLemmas.{WroteFront-more, WroteFront-none, WroteFront-part, Writes-more}
 use Rattle.std.specs.Option.{option_map}
 use Rattle.em_recording.specs.Text.{number_text}
-use Rattle.em_recording.specs.EventText.{change_text, event_text, frame_text, frames_text, list_text, register_text,
-    ways_text}
+use Rattle.em_recording.specs.EventText.{
+  change_text,
+  event_text,
+  frame_text,
+  frames_text,
+  list_text,
+  register_text,
+  ways_text,
+}
 use Rattle.em_recording.specs.Rebuild.{sent_of}
 use Rattle.em_recording.proofs.event_text.write_event.Goals as goal
 
@@ -154,5 +161,5 @@ returns g c =
     let wrote-7 = WroteFront-more (ways_text c.args.recorded.now) wrote-6 refl c.in_ok-write_ways.ensures.writes in
     record {
       writes = Writes-more _ _ _ _ wrote-7.front (codes "}") _ wrote-7.written c.write_whole.ensures.writes
-      wrote-7.whole;
+          wrote-7.whole;
     }

@@ -55,5 +55,5 @@ returns g c =
     c.in_ok-write_other_octet_steps.ensures.writes in
     record {
       writes = rw cut (Writes-more _ _ _ _ wrote-3.front (codes "]") _ wrote-3.written c.write_whole-2.ensures.writes
-      wrote-3.whole);
+          wrote-3.whole);
     }

@@ -51,5 +51,5 @@ returns g c =
     wrote-2 refl (rw c.len-len.ensures.len at c.in_ok-write_hex-2.ensures.writes) in
     record {
       writes = Writes-more _ _ _ _ wrote-3.front (codes "]") _ wrote-3.written c.write_whole.ensures.writes
-      wrote-3.whole;
+          wrote-3.whole;
     }

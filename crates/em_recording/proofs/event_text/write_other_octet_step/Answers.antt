@@ -11,5 +11,5 @@ returns g c =
     let wrote-1 = WroteFront-more (codes ",") wrote-0 refl c.in_ok-write_whole.ensures.writes in
     record {
       writes = Writes-more _ _ _ _ wrote-1.front (change_text c.args.step.now) _ wrote-1.written
-      c.write_octet_step.ensures.writes wrote-1.whole;
+          c.write_octet_step.ensures.writes wrote-1.whole;
     }

@@ -11,5 +11,5 @@ returns g c =
     let wrote-1 = WroteFront-more (codes ",") wrote-0 refl c.in_ok-write_whole.ensures.writes in
     record {
       writes = Writes-more _ _ _ _ wrote-1.front (register_text c.args.step.now) _ wrote-1.written
-      c.write_register.ensures.writes wrote-1.whole;
+          c.write_register.ensures.writes wrote-1.whole;
     }

@@ -24,6 +24,6 @@ returns g c =
     let wrote-2 = WroteFront-more (name_of c.args.step.now.reg) wrote-1 refl c.in_ok-write_name.ensures.writes in
     record {
       writes = Writes-more _ _ _ _ wrote-2.front (numbers_text (codes "\",") c.args.step.now.before
-      c.args.step.now.after) _ wrote-2.written (rw (c.from-before.ensures, c.from-after.ensures) at
-      c.write_numbers.ensures.writes) wrote-2.whole;
+          c.args.step.now.after) _ wrote-2.written (rw (c.from-before.ensures, c.from-after.ensures) at
+          c.write_numbers.ensures.writes) wrote-2.whole;
     }

@@ -28,5 +28,5 @@ returns g c =
     c.in_ok-write_flag-2.ensures.writes in
     record {
       writes = rw c.in-Some.is (Writes-more _ _ _ _ wrote-2.front (codes "]") _ wrote-2.written
-      c.write_whole.ensures.writes wrote-2.whole);
+          c.write_whole.ensures.writes wrote-2.whole);
     }

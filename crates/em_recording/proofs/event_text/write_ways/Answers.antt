@@ -12,5 +12,5 @@ returns g c =
     c.in_ok-write_way.ensures.writes in
     record {
       writes = Writes-more _ _ _ _ wrote-1.front (way_text (codes ",\"interrupt\":[") c.args.recorded.now.line) _
-      wrote-1.written c.write_way-2.ensures.writes wrote-1.whole;
+          wrote-1.written c.write_way-2.ensures.writes wrote-1.whole;
     }

@@ -24,5 +24,5 @@ returns g c =
     let wrote-2 = WroteFront-more (hex_text c.args.octets.now) wrote-1 refl c.in_ok-write_octets.ensures.writes in
     record {
       writes = Writes-more _ _ _ _ wrote-2.front (codes "\"") _ wrote-2.written c.write_whole.ensures.writes
-      wrote-2.whole;
+          wrote-2.whole;
     }

@@ -49,5 +49,5 @@ returns g c =
     c.in_ok-write_hex.ensures.writes in
     record {
       writes = Writes-more _ _ _ _ wrote-3.front (codes "},\n") _ wrote-3.written c.write_whole.ensures.writes
-      wrote-3.whole;
+          wrote-3.whole;
     }

@@ -25,5 +25,5 @@ returns g c =
     let wrote-2 = WroteFront-more (name_of c.args.reg) wrote-1 refl c.in_ok-write_name.ensures.writes in
     record {
       writes = Writes-more _ _ _ _ wrote-2.front (number_text (codes "\":") c.args.value) _ wrote-2.written (rw
-      c.from.ensures at c.write_number.ensures.writes) wrote-2.whole;
+          c.from.ensures at c.write_number.ensures.writes) wrote-2.whole;
     }
