@@ -40,6 +40,11 @@ function setAttribute(element, name, value) {
   else if (element.getAttribute(name) !== String(value)) element.setAttribute(name, String(value));
 }
 
+/** Hides an element or shows it, where it is not so already. */
+function setHidden(element, hidden) {
+  if (element.hidden !== hidden) element.hidden = hidden;
+}
+
 /**
  * Makes an element's children like those of another list, and changes only what differs: what stays is not laid out
  * again,

@@ -81,7 +81,7 @@ class MemoryPanel {
       const address = make("span", { class: "address", role: "rowheader" });
       const cells = Array.from({ length: across }, () => {
         const text = document.createTextNode("");
-        return { text, element: make("span", { class: "octet", role: "gridcell", tabindex: "-1" }, text), key: "" };
+        return { text, element: make("span", { class: "octet", role: "gridcell", tabindex: "-1" }, text), octet: -1 };
       });
       const letters = make("span", { class: "letters", "aria-hidden": "true" });
       const element = make("div", { class: "octets-row", role: "row" }, address, ...cells.map((cell) => cell.element),
@@ -140,17 +140,19 @@ class MemoryPanel {
       const lit = octet !== old;
       changedInRow ||= lit;
       letters += octet >= 0x20 && octet < 0x7F ? String.fromCharCode(octet) : ".";
-      const key = `${octet} ${old} ${at} ${at === this.focus} ${this.isSelected(at)}`;
-      if (key === cell.key) return;
-      cell.key = key;
+      const isFocus = at === this.focus;
+      const isSelected = this.isSelected(at);
+      if (cell.octet === octet && cell.old === old && cell.at === at && cell.isFocus === isFocus
+        && cell.isSelected === isSelected) return;
+      Object.assign(cell, { octet, old, at, isFocus, isSelected });
       cell.text.nodeValue = PAIRS[octet];
       const { element } = cell;
       setAttribute(element, "data-watch", `octets ${at} 1`);
       setAttribute(element, "data-changed", lit ? "" : null);
       setAttribute(element, "data-old", lit ? PAIRS[old] : null);
       setAttribute(element, "data-zero", octet === 0 ? "" : null);
-      setAttribute(element, "tabindex", at === this.focus ? 0 : -1);
-      setAttribute(element, "data-selected", this.isSelected(at) ? "" : null);
+      setAttribute(element, "tabindex", isFocus ? 0 : -1);
+      setAttribute(element, "data-selected", isSelected ? "" : null);
       setAttribute(element, "aria-label", `${addressText(at)}: ${PAIRS[octet]}${lit ? `, was ${PAIRS[old]}` : ""}`);
     });
     setAttribute(row.element, "data-changed", changedInRow ? "" : null);
@@ -245,10 +247,15 @@ class MemoryPanel {
 
   /** @private */
   paintMap() {
+    const cell = this.size / MAP_CELLS;
+    const filled = this.filledCells(cell);
+    const key = [widthOf(this.map), window.devicePixelRatio, palette.version, this.address, this.across(), this.regionsKey,
+      filled].join();
+    if (key === this.mapKey) return;
+    this.mapKey = key;
     const { columns, rows, side } = this.shape(widthOf(this.map));
     const { context, width } = sized(this.map, rows * side);
     const across = width / columns;
-    const cell = this.size / MAP_CELLS;
     const fill = (kind, from, end) => {
       context.fillStyle = palette[`map-${kind}`];
       for (let index = Math.floor(from / cell); index < Math.ceil(end / cell); index++) {
@@ -261,7 +268,7 @@ class MemoryPanel {
     context.fillStyle = palette.panel;
     for (let column = 0; column <= columns; column++) context.fillRect(column * across - 0.5, 0, 1, rows * side);
     for (let row = 0; row <= rows; row++) context.fillRect(0, row * side - 0.5, width, 1);
-    this.filledCells(cell).forEach((index) => fill("filled", index * cell, (index + 1) * cell));
+    filled.forEach((index) => fill("filled", index * cell, (index + 1) * cell));
     for (const wanted of ["buffer", "ring", "touched"]) {
       for (const { kind, at, size } of this.shownParts) {
         if (kind === wanted) fill(kind, Number(at), Math.min(this.size, Number(at) + size));

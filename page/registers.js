@@ -50,7 +50,7 @@ class Registers {
     const element = make("div", { class: "register", "data-register": name, "data-offset": hex(offset, 5) },
       button, make("span", { class: "values" }, value, old),
       make("span", { class: "bits" }, ...bits.map((bit) => bit.element)));
-    return { offset, name, index, element, button, value, old, bits, shown: -1, lit: false };
+    return { offset, name, index, element, button, value, old, bits, shown: -1, lit: false, hidden: false };
   }
 
   /** @private */
@@ -69,9 +69,13 @@ class Registers {
       const before = changes.get(row.index);
       if (value !== row.shown || row.lit || before !== undefined) this.paintRow(row, value, before);
       if (value === 0) zero += 1;
-      row.element.hidden = value === 0 && before === undefined && !this.zeros.checked;
+      const hidden = value === 0 && before === undefined && !this.zeros.checked;
+      if (hidden !== row.hidden) {
+        row.hidden = hidden;
+        row.element.hidden = hidden;
+      }
     }
-    for (const { element, rows } of this.groups) element.hidden = rows.every((row) => row.element.hidden);
+    for (const { element, rows } of this.groups) setHidden(element, rows.every((row) => row.hidden));
     setText(byId("zero-count"), `the ${zero} that are zero too`);
   }
 

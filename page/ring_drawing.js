@@ -13,28 +13,90 @@ function onCircle(turn, radius) {
 
 const pointText = ([x, y]) => `${x.toFixed(1)} ${y.toFixed(1)}`;
 
-/** @returns {SVGElement} */
-function ringDrawing(app, { ring, shown, first }) {
-  const parts = shown.length;
-  const turnOf = (index) => (index - first + 0.5) / parts;
-  const buffers = buffersOf(shown);
-  const title = `${ring.side === "rx" ? "Receive" : "Transmit"} ring with head ${ring.head} and tail ${ring.tail}; `
-    + "the table below has the same in words";
-  const drawing = draw("svg", { viewBox: `0 0 ${DRAWING.width} ${DRAWING.height}`, role: "img", "aria-label": title,
-    class: "drawing" });
-  drawing.append(arrowTip(ring.side, "tip"), arrowTip(ring.side, "bad-tip"));
-  for (const one of shown) drawing.append(cell(app, ring, one, (one.index - first) / parts,
-    (one.index - first + 1) / parts));
-  const tracks = tracksOf(buffers.flatMap(({ of }) => of.slice(0, MOST_ARROWS)), turnOf);
-  buffers.forEach((buffer, row) => drawing.append(
-    ...bufferParts(app, ring, buffer, row, buffers.length, turnOf, (one) => tracks.get(one.index) ?? 0)));
-  const within = (index) => index >= first && index < first + parts;
-  if (!buffers.length) drawing.append(draw("text", { x: 300, y: DRAWING.middle + 4, class: "none" },
-    "no buffer is in use"));
-  const isOne = ring.head === ring.tail;
-  if (within(ring.tail) && !isOne) drawing.append(...hand("tail", "tail", turnOf(ring.tail)));
-  if (within(ring.head)) drawing.append(...hand("head", isOne ? "head = tail" : "head", turnOf(ring.head)));
-  return drawing;
+/** A ring's drawing. A part of it is made anew only where something else is to be seen there. */
+class RingDrawing {
+  constructor(app, side) {
+    this.app = app;
+    this.groups = { cells: draw("g"), buffers: draw("g"), hands: draw("g") };
+    this.element = draw("svg", { viewBox: `0 0 ${DRAWING.width} ${DRAWING.height}`, role: "img", class: "drawing" },
+      arrowTip(side, "tip"), arrowTip(side, "bad-tip"), ...Object.values(this.groups));
+    /** by group, what each of its parts was made of */
+    this.keys = new Map();
+  }
+
+  paint({ ring, shown, first }) {
+    const parts = shown.length;
+    const turnOf = (index) => (index - first + 0.5) / parts;
+    setAttribute(this.element, "aria-label", `${ring.side === "rx" ? "Receive" : "Transmit"} ring with head ${ring.head} `
+      + `and tail ${ring.tail}; the table below has the same in words`);
+    this.fill(this.groups.cells, shown.map((one, row) => this.cell(one, row, parts)));
+    this.fill(this.groups.buffers, this.buffers(ring, shown, turnOf));
+    this.fill(this.groups.hands, this.hands(ring, first, parts, turnOf));
+  }
+
+  /** Makes the parts of a group that differ from those that stand there. @private */
+  fill(group, parts) {
+    const keys = this.keys.get(group) ?? [];
+    parts.forEach(({ key, make }, row) => {
+      if (keys[row] === key) return;
+      keys[row] = key;
+      const fresh = draw("g", {}, ...make());
+      if (group.children[row]) group.children[row].replaceWith(fresh);
+      else group.append(fresh);
+    });
+    while (group.children.length > parts.length) group.lastChild.remove();
+    keys.length = parts.length;
+    this.keys.set(group, keys);
+  }
+
+  /** @private */
+  cell(one, row, parts) {
+    const isDone = one.octets !== null && (one.octets[12] & 1) !== 0;
+    const isChanged = one.octets !== null && this.touches(one.address, DESCRIPTOR_OCTETS);
+    return {
+      key: [one.index, parts, one.owner, one.trouble, isDone, isChanged].join(),
+      make: () => [cell(one, row / parts, (row + 1) / parts, isDone, isChanged)],
+    };
+  }
+
+  /** @private */
+  buffers(ring, shown, turnOf) {
+    const found = buffersOf(shown);
+    if (!found.length) {
+      const attributes = { x: 300, y: DRAWING.middle + 4, class: "none" };
+      return [{ key: "none", make: () => [draw("text", attributes, "no buffer is in use")] }];
+    }
+    const tracks = tracksOf(found.flatMap(({ of }) => of.slice(0, MOST_ARROWS)), turnOf);
+    return found.map((buffer, row) => {
+      const { at, size, of } = buffer;
+      const isTouched = at + BigInt(size) <= BigInt(this.app.state.memory.size) && this.touches(at, size);
+      const ways = of.map(({ index, trouble }) => `${index} ${turnOf(index)} ${tracks.get(index) ?? 0} ${trouble}`);
+      return {
+        key: [at, size, row, found.length, isTouched, ...ways].join(),
+        make: () => bufferParts(ring, buffer, row, found.length, isTouched, turnOf,
+          (one) => tracks.get(one.index) ?? 0),
+      };
+    });
+  }
+
+  /** @private */
+  hands(ring, first, parts, turnOf) {
+    const within = (index) => index >= first && index < first + parts;
+    const isOne = ring.head === ring.tail;
+    const made = [];
+    const add = (name, index, words) => made.push({
+      key: [name, words, index, first, parts].join(), make: () => hand(name, words, turnOf(index)),
+    });
+    if (within(ring.tail) && !isOne) add("tail", ring.tail, "tail");
+    if (within(ring.head)) add("head", ring.head, isOne ? "head = tail" : "head");
+    return made;
+  }
+
+  /** Whether the present step changed octets of this range. @private */
+  touches(address, count) {
+    const { changes, place } = this.app;
+    return changes && place.memory.some((piece) => changedWithin(piece, Number(address), count));
+  }
 }
 
 function arrowTip(side, name) {
@@ -44,19 +106,16 @@ function arrowTip(side, name) {
 }
 
 /** A descriptor as a part of the circle. */
-function cell(app, ring, one, from, to) {
+function cell(one, from, to, isDone, isChanged) {
   const gap = Math.min(0.002, (to - from) / 10);
   const [start, end] = [from + gap, to - gap];
   const big = end - start > 0.5 ? 1 : 0;
   const path = `M${pointText(onCircle(start, DRAWING.outer))}A${DRAWING.outer} ${DRAWING.outer} 0 ${big} 1 `
     + `${pointText(onCircle(end, DRAWING.outer))}L${pointText(onCircle(end, DRAWING.inner))}A${DRAWING.inner} `
     + `${DRAWING.inner} 0 ${big} 0 ${pointText(onCircle(start, DRAWING.inner))}Z`;
-  const isDone = one.octets && one.octets[12] & 1;
-  const group = draw("g", { class: `cell ${one.owner}${one.trouble ? " wrong" : ""}` }, draw("path", { d: path }));
+  const marks = `${one.trouble ? " wrong" : ""}${isChanged ? " changed" : ""}`;
+  const group = draw("g", { class: `cell ${one.owner}${marks}` }, draw("path", { d: path }));
   const [x, y] = onCircle((from + to) / 2, (DRAWING.inner + DRAWING.outer) / 2);
-  const changes = app.changes && one.octets
-    && app.place.memory.some((piece) => changedWithin(piece, Number(one.address), DESCRIPTOR_OCTETS));
-  if (changes) group.classList.add("changed");
   if (to - from > 0.02) {
     const sign = one.trouble ? "⚠\uFE0E" : `${one.owner === "adapter" ? "A" : ""}${isDone ? "✓" : ""}`;
     group.append(draw("text", { x: x.toFixed(1), y: (y - 3).toFixed(1), class: "index" }, String(one.index)),
@@ -95,18 +154,16 @@ function buffersOf(shown) {
 }
 
 /** A buffer's box, and the arrows that lead to it. */
-function bufferParts(app, ring, { at, size, of }, row, rows, turnOf, trackOf) {
+function bufferParts(ring, { at, size, of }, row, rows, isTouched, turnOf, trackOf) {
   const step = Math.min(34, (DRAWING.height - 8) / rows);
   const height = Math.min(26, step - 3);
   const [left, top] = [292, (DRAWING.height - step * rows) / 2 + row * step];
   const wrong = of.find(({ trouble }) => trouble.includes("buffer"));
-  const touched = app.changes && at + BigInt(size) <= BigInt(app.state.memory.size)
-    && app.place.memory.some((piece) => changedWithin(piece, Number(at), size));
   const parts = of.slice(0, MOST_ARROWS).map((one) => draw("path", {
     d: arrowPath(turnOf(one.index), trackOf(one), left - 1, top + height / 2), class: wrong ? "arrow wrong" : "arrow",
     "marker-end": `url(#${ring.side}-${wrong ? "bad-tip" : "tip"})`,
   }));
-  const box = draw("g", { class: `buffer${wrong ? " wrong" : ""}${touched ? " changed" : ""}` },
+  const box = draw("g", { class: `buffer${wrong ? " wrong" : ""}${isTouched ? " changed" : ""}` },
     draw("rect", { x: left, y: top.toFixed(1), width: 184, height: height.toFixed(1), rx: 2 }),
     draw("text", { x: left + 6, y: (top + height / 2 + 4).toFixed(1) }, bufferText(at, size, wrong)),
     draw("title", {}, `buffer of ${of.map(({ index }) => index).join(", ")}: ${size} octets at ${addressText(at)}`

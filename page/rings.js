@@ -192,9 +192,11 @@ class RingPanel {
       this.element.replaceChildren();
       return;
     }
-    const drawing = ringDrawing(this.app, view);
-    if (this.element.firstChild) morph(this.element.firstChild, drawing);
-    else this.element.replaceChildren(drawing, this.table());
+    if (!this.element.firstChild) {
+      this.drawing = new RingDrawing(this.app, this.side);
+      this.element.replaceChildren(this.drawing.element, this.table());
+    }
+    this.drawing.paint(view);
     this.paintRows(view);
   }
 
@@ -283,7 +285,7 @@ class RingPanel {
   ask(one, name, address, count, text, lit) {
     return askButton(`octets ${address} ${count}`, {
       class: "field", "data-field": name, "data-changed": lit ? "" : null,
-      title: `${this.fieldsText(one)}`,
+      title: this.tip(one),
       "aria-label": `descriptor ${one.index}, ${name} ${text}${lit ? ", changed by this step" : ""}: `
         + "who changed it last?",
     }, text);
@@ -304,7 +306,13 @@ class RingPanel {
     });
   }
 
-  /** All fields of a descriptor, as its tip says them. @private */
+  /** All fields of a descriptor, as the tip of each says them. @private */
+  tip(one) {
+    one.tip ??= this.fieldsText(one);
+    return one.tip;
+  }
+
+  /** @private */
   fieldsText(one) {
     const fields = DESCRIPTOR_FIELDS[this.side].map(([name, first, count]) => {
       const value = littleEndian(one.octets, first, count);

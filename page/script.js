@@ -58,7 +58,7 @@ class ScriptPanel {
       }
     }
     this.fill();
-    for (const [number, option] of this.made) this.paintLine(number, option);
+    for (const [number, made] of this.made) this.paintLine(number, made);
     setAttribute(this.element, "aria-activedescendant", line > 0 ? `line-${line}` : null);
   }
 
@@ -66,7 +66,7 @@ class ScriptPanel {
   fill() {
     const first = Math.max(1, Math.floor(this.top / LINE_HEIGHT) + 1 - SPARE_LINES);
     const last = Math.min(this.app.run.script.length, Math.ceil((this.top + this.height) / LINE_HEIGHT) + SPARE_LINES);
-    for (const [number, option] of this.made) {
+    for (const [number, { option }] of this.made) {
       if (number < first || number > last) {
         option.remove();
         this.made.delete(number);
@@ -74,10 +74,10 @@ class ScriptPanel {
     }
     for (let number = first; number <= last; number++) {
       if (this.made.has(number)) continue;
-      const option = this.option(number);
-      this.made.set(number, option);
-      this.room.append(option);
-      this.paintLine(number, option);
+      const made = { option: this.option(number), key: "" };
+      this.made.set(number, made);
+      this.room.append(made.option);
+      this.paintLine(number, made);
     }
   }
 
@@ -100,13 +100,17 @@ class ScriptPanel {
   }
 
   /** @private */
-  paintLine(number, option) {
+  paintLine(number, made) {
     const { run, step, line: present } = this.app;
     const line = run.lines[number - 1];
     const ahead = line ? line.first > step : number > present;
     const place = line ? run.steps[line.last].place : null;
     const isGone = line && run.steps[line.last].performs && run.steps[line.last].line === number
       && place.takenBack <= step;
+    const { option } = made;
+    const key = `${number === present} ${ahead} ${isGone}`;
+    if (key === made.key) return;
+    made.key = key;
     setAttribute(option, "aria-selected", number === present);
     setAttribute(option, "data-ahead", ahead ? "" : null);
     setAttribute(option, "data-gone", isGone ? "" : null);

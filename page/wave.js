@@ -2,6 +2,21 @@
 
 const ROW = 20;
 
+/**
+ * Steps next to each other at which a signal is the same: the first step, the one past the last, and the signal.
+ * @returns {[number, number, number][]}
+ */
+function runsOf(at, first, count) {
+  const runs = [];
+  for (let step = first; step < first + count; step++) {
+    const value = at(step);
+    const last = runs[runs.length - 1];
+    if (last && last[2] === value) last[1] = step + 1;
+    else runs.push([step, step + 1, value]);
+  }
+  return runs;
+}
+
 class Wave {
   constructor(app, timeline) {
     this.app = app;
@@ -104,21 +119,22 @@ class Wave {
     context.lineTo(width, y + 0.5);
     context.stroke();
     context.fillStyle = palette.touched;
-    for (let step = first; row.through && step < first + count; step++) {
-      if (row.through(step)) context.fillRect((step - first) * cell, low + 1, cell, 2);
+    for (const [from, end, through] of row.through ? runsOf(row.through, first, count) : []) {
+      if (through) context.fillRect((from - first) * cell, low + 1, (end - from) * cell, 2);
     }
-    const level = (step) => low - (low - high) * row.at(step);
+    const level = (value) => low - (low - high) * value;
+    const runs = runsOf(row.at, first, count);
     context.fillStyle = palette.shade;
-    for (let step = first; step < first + count; step++) {
-      if (row.at(step)) context.fillRect((step - first) * cell, level(step), cell, low - level(step));
+    for (const [from, end, value] of runs) {
+      if (value) context.fillRect((from - first) * cell, level(value), (end - from) * cell, low - level(value));
     }
     context.strokeStyle = palette[row.watch === "interrupt" ? "accent" : "ink"];
     context.lineWidth = 1.3;
     context.beginPath();
-    context.moveTo(0, level(first));
-    for (let step = first; step < first + count; step++) {
-      context.lineTo((step - first) * cell, level(step));
-      context.lineTo((step - first + 1) * cell, level(step));
+    context.moveTo(0, level(row.at(first)));
+    for (const [from, end, value] of runs) {
+      context.lineTo((from - first) * cell, level(value));
+      context.lineTo((end - first) * cell, level(value));
     }
     context.stroke();
     context.lineWidth = 1;
