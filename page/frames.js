@@ -50,6 +50,10 @@ function octetLines(octets, across) {
   return lines.join("\n");
 }
 
+function isNarrow() {
+  return matchMedia("(max-width: 560px)").matches;
+}
+
 class Frames {
   constructor(app) {
     this.app = app;
@@ -63,9 +67,19 @@ class Frames {
     this.list(byId("fifo"), fifo.slice(0, MOST_FRAMES), fifo.length - MOST_FRAMES);
     const count = place.sending?.count ?? 0;
     setText(byId("wire-head"), count ? `${counted(count, "frame")} sent, the newest first` : "nothing was sent");
+    this.gathered(byId("gathered"), place.gathered);
     this.list(byId("wire"), sentFrames(place, MOST_FRAMES), count - MOST_FRAMES);
     setAttribute(byId("wire"), "data-count", count);
     setAttribute(byId("fifo"), "data-count", fifo.length);
+  }
+
+  /** What is gathered for the next frame to be sent. @private */
+  gathered(element, digits) {
+    element.hidden = digits === "";
+    setAttribute(element, "data-octets", digits);
+    if (digits === "") return;
+    setText(element.querySelector("summary"), `${counted(digits.length / 2, "octet")} gathered for the next frame`);
+    setText(element.querySelector("pre"), octetLines(octetsOf(digits), isNarrow() ? 8 : 12));
   }
 
   /** @private */
@@ -96,7 +110,7 @@ class Frames {
     const body = make("pre", {});
     const details = make("details", {}, make("summary", {}, "octets"), body);
     details.addEventListener("toggle", () => {
-      body.textContent = octetLines(octets, matchMedia("(max-width: 560px)").matches ? 8 : 12);
+      body.textContent = octetLines(octets, isNarrow() ? 8 : 12);
     }, { once: true });
     return make("li", { class: "frame", "data-octets": frame.octets.toUpperCase() }, make("p", {}, ...parts), source,
       details);

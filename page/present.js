@@ -56,6 +56,8 @@ class Present {
       ...place.interruptChange.map((on) => (on ? "1" : "0")));
     if (place.linkChange) item("link", "link", ...place.linkChange.map((up) => (up ? "up" : "down")));
     if (place.framesChange) item("frames", "frames in the FIFO", ...place.framesChange.map(String));
+    if (place.gatheredChange) item("gathered", "octets gathered", String(place.before.gathered.length / 2),
+      String(place.gathered.length / 2));
     if (place.sent !== null) item("sent", "frames sent", String(place.sending.count - 1), String(place.sending.count));
     for (const [address, before] of place.memory) {
       const count = before.length / 2;

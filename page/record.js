@@ -135,8 +135,8 @@ class Reader {
     /** @type {Place} */
     const root = {
       number: 0, before: null, step: 0, line: 0, takenBack: Infinity, registers: [], memory: [], framesChange: null,
-      sent: null, linkChange: null, interruptChange: null, frames: 0, link: false, interrupt: false, arrival: null,
-      sending: null, snapshot: null,
+      gatheredChange: null, sent: null, linkChange: null, interruptChange: null, frames: 0, gathered: "", link: false,
+      interrupt: false, arrival: null, sending: null, snapshot: null,
     };
     /** @type {Run} */
     this.run = {
@@ -211,12 +211,16 @@ class Reader {
     const place = {
       number: before.number + 1, before, step: run.steps.length, line: line.line, takenBack: Infinity,
       registers: this.registers(event, name), memory: this.memory(event, name),
-      framesChange: this.frames(event, name), sent: sentOf(event, name),
+      framesChange: this.frames(event, name), gatheredChange: this.gathered(event, name), sent: sentOf(event, name),
       linkChange: this.flag(event, "link", name), interruptChange: this.flag(event, "interrupt", name),
-      frames: before.frames, link: before.link, interrupt: before.interrupt, arrival: before.arrival,
+      frames: before.frames, gathered: before.gathered, link: before.link, interrupt: before.interrupt, arrival: before.arrival,
       sending: before.sending, snapshot: null,
     };
     if (place.framesChange) place.frames = place.framesChange[1];
+    if (place.gatheredChange) {
+      const [kept, , after] = place.gatheredChange;
+      place.gathered = place.gathered.slice(0, 2 * kept) + after;
+    }
     if (place.linkChange) place.link = place.linkChange[1];
     if (place.interruptChange) place.interrupt = place.interruptChange[1];
     if (place.frames > before.frames) place.arrival = { place, octets: storedOf(event, name), before: before.arrival };
@@ -290,6 +294,19 @@ class Reader {
       `${name} has a number of frames that can’t be`);
     want(event.frames[0] === frames, `${name} says that ${event.frames[0]} frames waited before it, and ${frames} did`);
     return event.frames;
+  }
+
+  /** @private */
+  gathered(event, name) {
+    if (event.gathered === undefined) return null;
+    const { gathered } = this.run.state.place;
+    want(Array.isArray(event.gathered) && event.gathered.length === 3, `${name} has gathered octets that can’t be read`);
+    const [kept, before, after] = event.gathered;
+    want(isNumber(kept, gathered.length / 2) && isDigits(before) && isDigits(after),
+      `${name} has gathered octets that can’t be read`);
+    want(gathered.slice(2 * kept) === before.toUpperCase(), `${name} says what octets were gathered before it, and `
+      + "others were");
+    return [kept, before.toUpperCase(), after.toUpperCase()];
   }
 
   /** @private */

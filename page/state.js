@@ -18,10 +18,13 @@ const SNAPSHOT_EVERY = 256;
  * @property {[number, number, number][]} registers index, before, after
  * @property {[number, string, string][]} memory address, octets before and after
  * @property {number[]|null} framesChange
+ * @property {[number, string, string]|null} gatheredChange how many of the gathered octets stayed; those behind them
+ *   before and after
  * @property {string|null} sent the octets of the frame that was sent
  * @property {boolean[]|null} linkChange
  * @property {boolean[]|null} interruptChange
  * @property {number} frames in the FIFO behind it
+ * @property {string} gathered octets for the next frame to be sent
  * @property {boolean} link
  * @property {boolean} interrupt
  * @property {Arrival|null} arrival the newest frame that came into the FIFO up to here

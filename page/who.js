@@ -2,9 +2,9 @@
 
 /**
  * What is asked about. Its text, as `data-watch` has it: `register RCTL`, `bits RCTL 2`, `octets 4112 8`, `link`,
- * `interrupt`, `frames`, `sent`; numbers are decimal.
+ * `interrupt`, `frames`, `gathered`, `sent`; numbers are decimal.
  * @typedef {Object} Watch
- * @property {"register"|"octets"|"link"|"interrupt"|"frames"|"sent"} kind
+ * @property {"register"|"octets"|"link"|"interrupt"|"frames"|"gathered"|"sent"} kind
  * @property {number} index of the register
  * @property {number} mask its bits
  * @property {string} bits the name of the bit or field; empty for the whole register
@@ -39,6 +39,7 @@ function watchText(watch) {
     case "link": return "the link";
     case "interrupt": return "the interrupt line";
     case "frames": return "the number of frames in the FIFO";
+    case "gathered": return "the octets gathered for the next frame";
     default: return "the number of frames sent";
   }
 }
@@ -53,6 +54,7 @@ function changed(place, watch) {
     case "link": return place.linkChange !== null && place.linkChange[0] !== place.linkChange[1];
     case "interrupt": return place.interruptChange !== null && place.interruptChange[0] !== place.interruptChange[1];
     case "frames": return place.framesChange !== null && place.framesChange[0] !== place.framesChange[1];
+    case "gathered": return place.gatheredChange !== null;
     default: return place.sent !== null;
   }
 }

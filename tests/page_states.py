@@ -35,7 +35,7 @@ const octets = arguments[1].map((address) => {
 });
 const { event, line, link, interrupt, frames, sent } = document.getElementById('run').dataset;
 return { event, line, link, interrupt, frames, sent, registers, octets, rx: ring('rx'), tx: ring('tx'),
-  fifo: all('#fifo [data-octets]', 'octets'), wire: all('#wire [data-octets]', 'octets') };
+  fifo: all('#fifo [data-octets]', 'octets'), gathered: document.getElementById('gathered').dataset.octets, wire: all('#wire [data-octets]', 'octets') };
 """
 ASK = """
 const button = document.querySelector(`[data-watch="${arguments[0]}"]`);
@@ -90,6 +90,8 @@ def differences(page: dict, step, bench: dict, places: list[int]) -> list[str]:
     for place, octets, (at, shown) in zip(places, bench["octets"], page["octets"]):
         if (place, octets) != (at, shown):
             faults.append(f"the octets at {place:X} are {shown} at {at:X}, and not {octets}")
+    if page["gathered"] != state.gathered.hex().upper():
+        faults.append(f"gathered is {page['gathered']}, and not {state.gathered.hex().upper()}")
     if page["wire"] != bench["wire"]:
         faults.append("the wire has other frames")
     fifo = [octets.hex().upper() for octets, _ in state.fifo][:MOST_FRAMES]

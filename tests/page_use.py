@@ -208,23 +208,25 @@ def spent(browser, *names: str) -> float:
 
 def timing(tally: Tally, browser, room: Path) -> None:
     """10,000 events open within a second, and a step takes at most 16 ms to its layout: seconds of a processor, since others
-    run too, and the best of some tries."""
+    run too, and the best of some tries. What it takes with its painting is told, and has no bound: machines differ."""
     page = room / "many.html"
     page.write_bytes(page_of(record_of(many_events(MANY_ROUNDS).encode())))
     browser.command("Performance.enable", timeDomain="threadTicks")
     work = ("ScriptDuration", "RecalcStyleDuration", "LayoutDuration")
-    opening, step = [], []
+    opening, step, painted = [], [], []
     for _ in range(TRIES):
         browser.open(page)
         opening.append(spent(browser, "TaskDuration"))
-        before = spent(browser, *work)
+        before, all_before = spent(browser, *work), spent(browser, "TaskDuration")
         browser.run(STEPS_ON, STEPS_TIMED)
         step.append(1000 * (spent(browser, *work) - before) / STEPS_TIMED)
+        painted.append(1000 * (spent(browser, "TaskDuration") - all_before) / STEPS_TIMED)
         if opening[-1] <= OPEN_SECONDS and step[-1] <= STEP_MILLISECONDS:
             break
     tally.check("10,000 events open", [] if min(opening) <= OPEN_SECONDS else [f"it takes {min(opening):.2f} s"])
     tally.check("a step is painted", [] if min(step) <= STEP_MILLISECONDS else [f"it takes {min(step):.1f} ms"])
-    print(f"10,000 events open in {min(opening):.2f} s, and a step takes {min(step):.1f} ms")
+    print(f"10,000 events open in {min(opening):.2f} s, and a step takes {min(step):.1f} ms up to its layout, "
+          f"{min(painted):.1f} with its painting")
 
 
 def check_use(tally: Tally, browser, room: Path) -> None:

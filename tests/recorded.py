@@ -38,7 +38,7 @@ def memory_pieces(before: State, after: State) -> list[list]:
     return pieces
 
 
-def effect(number: int, before: State, after: State, stored: bool) -> dict:
+def effect(number: int, before: State, after: State) -> dict:
     """What the event did, in the order of the format's fields."""
     made = {"event": number}
     touched = {at for at in before.kept.keys() | after.kept.keys() if before.at(at) != after.at(at)}
@@ -52,8 +52,11 @@ def effect(number: int, before: State, after: State, stored: bool) -> dict:
         made["memory"] = memory
     if len(before.fifo) != len(after.fifo):
         made["frames"] = [len(before.fifo), len(after.fifo)]
-        if stored:
-            made["stored"] = after.fifo[-1][0].hex().upper()
+        if len(before.fifo) < len(after.fifo):
+            made["stored"] = second_reading.newest_arrival(after).hex().upper()
+    if before.gathered != after.gathered:
+        kept = len(before.gathered) if after.gathered.startswith(before.gathered) else 0
+        made["gathered"] = [kept, *(octets[kept:].hex().upper() for octets in (before.gathered, after.gathered))]
     if len(after.wire) > len(before.wire):
         made["sent"] = after.wire[-1].hex().upper()
     if before.link != after.link:
@@ -114,8 +117,7 @@ def told(line: Played) -> dict:
         made["refused"] = line.said[0].split()[-1]
     if line.back is not None:
         made["back"] = line.back
-    is_stored = line.words[:1] == ["arrive"] and line.said == ["stored"]
-    return made | {"events": [effect(one.number, one.before.state, one.state, is_stored) for one in line.events]}
+    return made | {"events": [effect(one.number, one.before.state, one.state) for one in line.events]}
 
 
 def record(script: str, memory: int = 65536, budget: int = 1_048_576, mac: str = "525400123456") -> dict:

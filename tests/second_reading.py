@@ -607,6 +607,12 @@ def new_address(call: Call, octets: bytes) -> str:
     return "ok"
 
 
+def newest_arrival(s: State) -> bytes:
+    """The newest frame in the FIFO as it came from the wire: with the tag that was taken out of it."""
+    octets, tag = s.fifo[-1]
+    return octets if tag is None else octets[:12] + (s.at(VET) << 16 | tag).to_bytes(4, "big") + octets[12:]
+
+
 def lengthened(data: str, length: str = "") -> bytes | None:
     """The octets, with zero octets up to the length where there is one; None where it does not fit them."""
     octets = bytes.fromhex(data)

@@ -4,7 +4,7 @@ use Rattle.std.specs.List.{flat_map}
 use Rattle.em_text.specs.Lines.{lines_of}
 use Rattle.em_script.specs.declared.runner.BenchFault.{BenchFault}
 use Rattle.em_script.specs.declared.runner.BenchFault.TheVariants as fault
-use Rattle.em_looks.specs.Numbers.{count_text}
+use Rattle.em_looks.specs.Numbers.{counted_text}
 use Rattle.em_debugger.specs.declared.debugger.Debugger.{Debugger}
 use Rattle.em_debugger.specs.declared.disk.DiskFault.{DiskFault}
 use Rattle.em_debugger.specs.declared.disk.DiskFault.TheVariants.{Missing, Exists, Name, TooLarge, Memory, Failed}
@@ -30,10 +30,10 @@ IsUnadded why = (why ≡ fault.TooLarge) ⊎ (why ≡ fault.Memory)
 -- ---- texts
 
 abbrev pub loaded_text : ℕ → List ℕ
-loaded_text n = codes "loaded " ++ count_text n (codes "1 line\n") (codes " lines\n")
+loaded_text n = counted_text (codes "loaded ") n (codes " line\n") (codes " lines\n")
 
 abbrev pub saved_text : ℕ → List ℕ
-saved_text n = codes "saved " ++ count_text n (codes "1 line\n") (codes " lines\n")
+saved_text n = counted_text (codes "saved ") n (codes " line\n") (codes " lines\n")
 
 -- what is said of a fault, behind the name of the file
 abbrev pub disk_text : DiskFault → List ℕ

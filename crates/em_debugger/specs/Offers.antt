@@ -8,7 +8,7 @@ use Rattle.em_pcap.specs.declared.fault.CaptureError.{CaptureError}
 use Rattle.em_pcap.specs.Reading.{reading_of}
 use Rattle.em_frames.specs.declared.arrivals.Arrivals.{Arrivals}
 use Rattle.em_frames.specs.Arrivals.{AreArrivals}
-use Rattle.em_looks.specs.Numbers.{count_text, number_text}
+use Rattle.em_looks.specs.Numbers.{count_text, counted_text, number_text}
 use Rattle.em_debugger.specs.declared.debugger.Debugger.{Debugger}
 use Rattle.em_debugger.specs.declared.disk.DiskFault.{DiskFault}
 use Rattle.em_debugger.specs.Files.{BeginsInstead, disk_text}
@@ -49,7 +49,7 @@ pub record TellsOffer (count cut : ℕ) (error : Option CaptureError) (text : Li
   pub told : text ≡ offered_text count cut ++ end
 
 abbrev pub wrote_text : ℕ → List ℕ
-wrote_text count = codes "wrote " ++ count_text count (codes "1 frame\n") (codes " frames\n")
+wrote_text count = counted_text (codes "wrote ") count (codes " frame\n") (codes " frames\n")
 
 -- ---- what is answered
 

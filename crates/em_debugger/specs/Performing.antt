@@ -9,7 +9,7 @@ use Rattle.em_tape.specs.Tape.{Tape, event_of}
 use Rattle.em_tape.specs.Moves.{Plays, IsCut}
 use Rattle.em_prompt.specs.BenchLine.{BenchLine, text_of as text_of_line}
 use Rattle.em_explain.specs.Explain.{Explains}
-use Rattle.em_looks.specs.Numbers.{number_text, count_text, short_text}
+use Rattle.em_looks.specs.Numbers.{counted_text, number_text, short_text}
 use Rattle.em_warnings.specs.Warnings.{warnings_text}
 use Rattle.em_debugger.specs.declared.debugger.Debugger.{Debugger}
 use Rattle.em_debugger.specs.declared.performing.Performed.{Performed}
@@ -63,7 +63,7 @@ no_line_text before = if before == 0 then codes "no line lies ahead\n" else code
 
 abbrev pub dropped_lines_text : ℕ → List ℕ
 dropped_lines_text n =
-    codes "dropped " ++ count_text n (codes "1 line that lay ahead\n") (codes " lines that lay ahead\n")
+    counted_text (codes "dropped ") n (codes " line that lay ahead\n") (codes " lines that lay ahead\n")
 
 -- so many lines were dropped, if any were
 abbrev pub dropped_text : ℕ → List ℕ

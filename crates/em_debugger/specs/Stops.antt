@@ -6,7 +6,7 @@ use Rattle.em_tape.specs.Tape.{event_of}
 use Rattle.em_watch.specs.Change.{IsNextChange}
 use Rattle.em_watch.specs.declared.change.Change.{Change}
 use Rattle.em_watch.specs.declared.watch.Watch.{Watch}
-use Rattle.em_looks.specs.Numbers.{number_text, count_text, short_text}
+use Rattle.em_looks.specs.Numbers.{counted_text, number_text, short_text}
 use Rattle.em_looks.specs.Sights.{watch_text, IsWatch, HasNoWatch}
 use Rattle.em_prompt.specs.declared.typed.Until.{Until}
 use Rattle.em_prompt.specs.declared.typed.Until.TheVariants as until
@@ -60,7 +60,7 @@ pub data Runs (s : Stop) (first : Debugger) : ℕ → Debugger → Type 0 where
 -- ---- texts
 
 abbrev pub played_text : ℕ → List ℕ
-played_text n = codes "played " ++ count_text n (codes "1 line\n") (codes " lines\n")
+played_text n = counted_text (codes "played ") n (codes " line\n") (codes " lines\n")
 
 -- the line before which a run ended
 abbrev pub before_text : Debugger → ℕ → List ℕ

@@ -20,7 +20,7 @@ use crate::performing::{write_dropped, write_fault};
 use crate::place::{line_here, text_of};
 use crate::told::Told;
 use em_expect::expectation;
-use em_looks::write_count;
+use em_looks::write_counted;
 use em_script::BenchFault;
 use em_tape::Tape;
 use em_text::{WriteFailed, next_line, write_pieces, write_whole};
@@ -243,15 +243,13 @@ fn add_line(tape: &mut Tape, wanted: &mut Told, line: &[u8]) -> Result<(), Bench
 fn write_loaded<W: Write>(writer: &mut W, count: usize) -> Result<(), WriteFailed>
     ensures writes { Writes (W.contents writer.old) (W.contents writer.new) result (loaded_text count) }
 {
-    write_whole(writer, b"loaded ")?;
-    write_count(writer, count as u64, b"1 line\n", b" lines\n")
+    write_counted(writer, b"loaded ", count as u64, b" line\n", b" lines\n")
 }
 
 fn write_saved<W: Write>(writer: &mut W, count: usize) -> Result<(), WriteFailed>
     ensures writes { Writes (W.contents writer.old) (W.contents writer.new) result (saved_text count) }
 {
-    write_whole(writer, b"saved ")?;
-    write_count(writer, count as u64, b"1 line\n", b" lines\n")
+    write_counted(writer, b"saved ", count as u64, b" line\n", b" lines\n")
 }
 
 /// Makes a file with this text; one that is there already is refused, or replaced.

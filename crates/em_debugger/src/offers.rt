@@ -11,7 +11,7 @@ use crate::debugger::Debugger;
 use crate::disk::{Disk, DiskFault};
 use crate::files::{write_disk_fault, write_file};
 use em_frames::{Arrivals, arrivals_of, write_sent};
-use em_looks::{write_count, write_number};
+use em_looks::{write_count, write_counted, write_number};
 use em_pcap::CaptureError;
 use em_text::{WriteFailed, is_name, write_pieces, write_whole};
 use std::alloc::Global;
@@ -211,6 +211,5 @@ fn write_offered_line<W: Write>(
 fn write_wrote<W: Write>(writer: &mut W, count: usize) -> Result<(), WriteFailed>
     ensures writes { Writes (W.contents writer.old) (W.contents writer.new) result (wrote_text count) }
 {
-    write_whole(writer, b"wrote ")?;
-    write_count(writer, count as u64, b"1 frame\n", b" frames\n")
+    write_counted(writer, b"wrote ", count as u64, b" frame\n", b" frames\n")
 }

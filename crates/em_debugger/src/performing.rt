@@ -15,7 +15,7 @@ use crate::debugger::Debugger;
 use crate::expected::expect;
 use crate::place::{line_here, text_of};
 use em_explain::write_explained;
-use em_looks::{write_count, write_number, write_short};
+use em_looks::{write_counted, write_number, write_short};
 use em_prompt::BenchLine;
 use em_script::{BenchFault, Outcome};
 use em_text::{WriteFailed, write_pieces, write_whole};
@@ -283,11 +283,11 @@ pub(crate) fn write_dropped<W: Write>(writer: &mut W, dropped: usize) -> Result<
 fn write_dropped_lines<W: Write>(writer: &mut W, dropped: usize) -> Result<(), WriteFailed>
     ensures writes { Writes (W.contents writer.old) (W.contents writer.new) result (dropped_lines_text dropped) }
 {
-    write_whole(writer, b"dropped ")?;
-    write_count(
+    write_counted(
         writer,
+        b"dropped ",
         dropped as u64,
-        b"1 line that lay ahead\n",
+        b" line that lay ahead\n",
         b" lines that lay ahead\n",
     )
 }

@@ -9,7 +9,7 @@ ghost use Rattle.em_debugger.specs.Stops.{says_dropped, unchanged_text};
 use crate::debugger::Debugger;
 use crate::performing::{Performed, write_fault};
 use crate::place::{line_here, text_of};
-use em_looks::{watch_of, write_count, write_number, write_short, write_watch};
+use em_looks::{watch_of, write_counted, write_number, write_short, write_watch};
 use em_prompt::Until;
 use em_script::{BenchFault, Outcome};
 use em_text::{WriteFailed, is_name, write_whole};
@@ -185,8 +185,7 @@ impl Debugger {
 fn write_lines_played<W: Write>(writer: &mut W, lines: usize) -> Result<(), WriteFailed>
     ensures writes { Writes (W.contents writer.old) (W.contents writer.new) result (played_text lines) }
 {
-    write_whole(writer, b"played ")?;
-    write_count(writer, lines as u64, b"1 line\n", b" lines\n")
+    write_counted(writer, b"played ", lines as u64, b" line\n", b" lines\n")
 }
 
 /// What a typed line says; none where octets are to be watched that are none or too many.

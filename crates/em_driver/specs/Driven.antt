@@ -11,7 +11,8 @@ use Rattle.em_step.specs.Whole.{IsPlain}
 use Rattle.em_driver.specs.Descriptor.{length_of, is_done}
 use Rattle.em_driver.specs.Layout.{IsGoodLayout, IsPlaced}
 use Rattle.em_driver.specs.Places.{is_among}
-use Rattle.em_driver.specs.Receive.{following, rx_descriptor, rx_buffer}
+use Rattle.em_regs.specs.Ring.{following}
+use Rattle.em_driver.specs.Receive.{rx_descriptor, rx_buffer}
 use Rattle.em_driver.specs.Transmit.{tx_descriptor, tx_buffer}
 use Rattle.em_driver.specs.declared.layout.Layout.{Layout}
 

@@ -2,6 +2,7 @@
 use Rattle.std.specs.Prelude.{ℕ, zero, suc, ◌+◌, ◌*◌, min, nat_lt, not, Bool, true, false, if◌then◌else◌, List, []}
 use Rattle.std.specs.Prelude.{◌∷◌, ◌++◌, Result, Ok, Err}
 use Rattle.em_regs.specs.declared.reg.Reg.TheVariants.{Rdt}
+use Rattle.em_regs.specs.Ring.{following}
 use Rattle.em_driver.specs.Course.{Course, done, read, write, peek, poke, room, Follows, Comes}
 use Rattle.em_driver.specs.Descriptor.{length_of, is_done, is_whole}
 use Rattle.em_driver.specs.Outcome.{cause_of}
@@ -15,10 +16,6 @@ use Rattle.em_driver.specs.declared.outcome.Cause.TheVariants.{Memory, Queue, Br
 -- the queue at the end of a call, and what the call answers
 abbrev pub Answered : Type 0
 Answered = List (List ℕ) × Result Batch Stopped
-
--- the descriptor after descriptor i, in a ring of so many
-abbrev pub following : ℕ → ℕ → ℕ
-following count i = if nat_lt (i + 1) count then i + 1 else 0
 
 abbrev pub rx_descriptor : Layout → ℕ → ℕ
 rx_descriptor l i = l.rx_ring + 16 * i

@@ -5,7 +5,8 @@ use Rattle.em_regs.specs.declared.reg.Reg.TheVariants.{Tdh, Tdt}
 use Rattle.em_driver.specs.Course.{Course, done, read, write, poke, Follows, Comes}
 use Rattle.em_driver.specs.Descriptor.{transmit_descriptor}
 use Rattle.em_driver.specs.Outcome.{cause_of}
-use Rattle.em_driver.specs.Receive.{Answered, following}
+use Rattle.em_regs.specs.Ring.{following}
+use Rattle.em_driver.specs.Receive.{Answered}
 use Rattle.em_driver.specs.World.{World}
 use Rattle.em_driver.specs.declared.layout.Layout.{Layout}
 use Rattle.em_driver.specs.declared.outcome.Batch.{Batch}

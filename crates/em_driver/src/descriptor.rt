@@ -3,11 +3,14 @@ ghost use Rattle.std.specs.Prelude.{◌≡◌, true, false, MatchOption};
 ghost use Rattle.em_driver.specs.Descriptor.{is_done as has_dd, is_last as has_eop, is_whole};
 ghost use Rattle.em_driver.specs.Descriptor.{length_of, transmit_descriptor};
 
-use crate::layout::{BUFFER_OCTETS, DESCRIPTOR_OCTETS};
+use crate::layout::BUFFER_OCTETS;
 use byteorder::{ByteOrder, LittleEndian};
+use em_regs::DESCRIPTOR_OCTETS;
+use em_rx::RxDescriptor;
+use em_tx::TxDescriptor;
 
 /// The octets of a descriptor.
-pub(crate) type Descriptor = [u8; DESCRIPTOR_OCTETS as usize];
+pub(crate) type Descriptor = [u8; DESCRIPTOR_OCTETS];
 
 /// Where the length lies in a descriptor.
 const LENGTH: usize = 8;
@@ -18,21 +21,15 @@ const COMMAND: usize = 11;
 /// Where the status octet lies in a receive descriptor.
 pub(crate) const STATUS: usize = 12;
 
-/// DD of a receive descriptor's status: the adapter wrote it back.
-const DD: u8 = 0x01;
-
-/// EOP of a receive descriptor's status: the buffer has the last octet of the frame.
-const EOP: u8 = 0x02;
-
-/// CMD of a whole packet: EOP, IFCS and RS.
-const WHOLE_PACKET: u8 = 0x0B;
+/// CMD of a whole packet.
+const WHOLE_PACKET: u8 = TxDescriptor::EOP | TxDescriptor::IFCS | TxDescriptor::RS;
 
 /// Whether the adapter wrote a receive descriptor back.
 #[tactic(auto, unfolding(crate::specs::Descriptor::is_done))]
 pub(crate) fn is_done(descriptor: &Descriptor) -> bool
     ensures { result ≡ has_dd descriptor.now }
 {
-    descriptor[STATUS] & DD != 0
+    descriptor[STATUS] & RxDescriptor::DD != 0
 }
 
 /// Whether the buffer of a receive descriptor has the last octet of its frame.
@@ -40,7 +37,7 @@ pub(crate) fn is_done(descriptor: &Descriptor) -> bool
 fn is_last(descriptor: &Descriptor) -> bool
     ensures { result ≡ has_eop descriptor.now }
 {
-    descriptor[STATUS] & EOP != 0
+    descriptor[STATUS] & RxDescriptor::EOP != 0
 }
 
 /// How many octets the packet of a receive descriptor has; None where its buffer does not have a
@@ -62,7 +59,7 @@ pub(crate) fn packet_length(descriptor: &Descriptor) -> Option<u16>
 pub(crate) fn of_packet(address: u64, length: u16) -> Descriptor
     ensures { result ≡ transmit_descriptor address length }
 {
-    let mut octets = [0; DESCRIPTOR_OCTETS as usize];
+    let mut octets = [0; DESCRIPTOR_OCTETS];
     LittleEndian::write_u64(&mut octets, address);
     LittleEndian::write_u16(&mut octets[LENGTH..], length);
     octets[COMMAND] = WHOLE_PACKET;

@@ -14,12 +14,12 @@ use crate::bus::Bus;
 use crate::driver::E1000;
 use crate::link::speed_of;
 use crate::outcome::{Batch, Cause, Stopped};
-use crate::receive::{following, stop_after};
+use crate::receive::stop_after;
 use crate::stats::{DeviceStats, octets, sum};
 use crate::transmit::{free_descriptors, halt_after};
 use bitflags::Flags;
 use byteorder::{ByteOrder, LittleEndian};
-use em_regs::{Rah, Reg};
+use em_regs::{Rah, Reg, following};
 use std::collections::VecDeque;
 
 /// The most packets that one call takes.

@@ -20,8 +20,8 @@ pub struct Layout {
     pub tx_buffers: u64,
 }
 
-/// How many octets a descriptor has.
-pub(crate) const DESCRIPTOR_OCTETS: u64 = 16;
+/// How many octets a descriptor has, as addresses count them.
+pub(crate) const DESCRIPTOR_OCTETS: u64 = em_regs::DESCRIPTOR_OCTETS as u64;
 
 /// How many octets a buffer has.
 pub(crate) const BUFFER_OCTETS: u64 = 2048;

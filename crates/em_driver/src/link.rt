@@ -5,9 +5,6 @@ ghost use Rattle.em_driver.specs.Calls.{speed_in};
 use bitflags::Flags;
 use em_regs::Status;
 
-/// SPEED of STATUS, where it says 100 Mb/s.
-const SPEED_100: u32 = 0x40;
-
 /// Whether STATUS says that the link is up.
 #[tactic(auto, using(crate::proofs::course::BitFields::second_bit))]
 fn is_up(status: u32) -> bool
@@ -24,9 +21,12 @@ pub(crate) fn speed_of(status: u32) -> u16
     if !is_up(status) {
         return 0;
     }
-    match status & Status::SPEED.bits() {
-        0 => 10,
-        SPEED_100 => 100,
-        _ => 1000,
+    let speed = status & Status::SPEED.bits();
+    if speed == 0 {
+        10
+    } else if speed == Status::SPEED_100.bits() {
+        100
+    } else {
+        1000
     }
 }

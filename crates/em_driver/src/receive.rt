@@ -13,15 +13,6 @@ use crate::packet::packet_of;
 use em_regs::Reg;
 use std::collections::VecDeque;
 
-/// The descriptor after descriptor `index` in a ring of `count`.
-pub(crate) fn following(index: u32, count: u32) -> u32
-    requires { index < count }
-    ensures { result ≡ spec.following count index }
-{
-    let next = index + 1;
-    if next < count { next } else { 0 }
-}
-
 impl<B: Bus> E1000<B> {
     /// Takes the packet of descriptor `index` to the back of `buffer`, where there is one.
     pub(crate) fn receive_packet(

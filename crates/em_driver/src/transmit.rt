@@ -9,8 +9,7 @@ use crate::descriptor::of_packet;
 use crate::driver::E1000;
 use crate::layout::{BUFFER_OCTETS, DESCRIPTOR_OCTETS};
 use crate::outcome::{Cause, Stopped, cause_of};
-use crate::receive::following;
-use em_regs::Reg;
+use em_regs::{Reg, following};
 use std::collections::VecDeque;
 
 /// The least octets of a packet, without a check sequence.

@@ -3,7 +3,7 @@ ghost use Rattle.std.specs.Prelude.{◌≡◌, ◌<◌, length};
 ghost use Rattle.std.specs.List.{flat_map};
 ghost use Rattle.em_text.specs.Words.{words_of};
 ghost use Rattle.em_text.specs.Writer.{Writes};
-ghost use Rattle.em_names.specs.Bits.{four_digits, number_in, row_of_field};
+ghost use Rattle.em_names.specs.Bits.{four_digits, row_of_field};
 ghost use Rattle.em_expect.specs.Agreement.{first_line};
 ghost use Rattle.em_expect.specs.Difference.{differs_text, field_text, fields_text, holds_text};
 ghost use Rattle.em_expect.specs.Difference.{register_read, value_in, wanted_digit, wanted_digits};
@@ -11,10 +11,10 @@ ghost use Rattle.em_expect.specs.Difference.{wanted_value};
 
 use crate::agreement::{DASH, first_line};
 use em_line::{Command, read_form};
-use em_names::{Field, Form, fields};
+use em_names::{Field, Form, fields, number_in, write_low};
 use em_regs::Reg;
 use em_step::Event;
-use em_text::{Words, WriteFailed, is_name, write_octets, write_pieces, write_whole};
+use em_text::{Words, WriteFailed, is_name, write_pieces, write_whole};
 use hex::FromHex;
 use std::io::Write;
 
@@ -177,23 +177,4 @@ fn write_number<W: Write>(writer: &mut W, name: &[u8], number: u32) -> Result<()
 {
     write_pieces(writer, &[b", ", name, b" is "])?;
     write_low(writer, number)
-}
-
-/// Writes the low 16 bits of a number in 4 hexadecimal digits.
-fn write_low<W: Write>(writer: &mut W, number: u32) -> Result<(), WriteFailed>
-    ensures writes { Writes (W.contents writer.old) (W.contents writer.new) result (four_digits number) }
-{
-    let low = (number % 0x1_0000) as u16;
-    write_octets(writer, &low.to_be_bytes())
-}
-
-/// What a field holds.
-fn number_in(field: Field, value: u32) -> u32
-    ensures { result ≡ number_in value (row_of_field field) }
-{
-    // no field is without bits
-    if field.lowest == 0 {
-        return 0;
-    }
-    (value & field.mask) / field.lowest
 }

@@ -7,6 +7,7 @@ use Rattle.em_regs.specs.declared.reg.Reg.{Reg}
 use Rattle.em_regs.specs.declared.reg.Reg.TheVariants.{Rah}
 use Rattle.em_step.specs.State.{State}
 use Rattle.em_text.specs.Writer.{hex_text, value_digits}
+use Rattle.em_looks.specs.Numbers.{counted_text}
 use Rattle.em_inspect.specs.AddressText.{address_text}
 use Rattle.em_names.specs.Bits.{Row, row_text, table_of}
 use Rattle.em_names.specs.Names.{name_of}
@@ -38,10 +39,6 @@ abbrev pub register_look : State → Reg → ℕ → List ℕ
 register_look s reg mask = sight_look reg mask (register_sight s reg)
 
 -- ---- the FIFO and the address filter
-
--- how many there are: one, or none or many
-abbrev pub counted_text : List ℕ → ℕ → List ℕ → List ℕ → List ℕ
-counted_text front n one many = front ++ (decimal n ++ (if n == 1 then one else many))
 
 abbrev pub frames_text : ℕ → List ℕ
 frames_text n = counted_text (codes "FIFO ") n (codes " frame") (codes " frames")

@@ -1,17 +1,19 @@
 //! What was looked at, and its value, in words.
 ghost use Rattle.std.specs.Prelude.{◌≡◌, ◌≤◌, ◌++◌, codes, decimal};
 ghost use Rattle.em_text.specs.Writer.{Writes, hex_text, value_digits};
-ghost use Rattle.em_explain.specs.LookText.{at_text, counted_text, entries_text, from_text, is_valid, look_text};
+ghost use Rattle.em_explain.specs.LookText.{at_text, entries_text, from_text, is_valid, look_text};
 ghost use Rattle.em_explain.specs.LookText.{octets_text, place_text, register_look, rah_of, seen_text};
 ghost use Rattle.em_explain.specs.LookText.{shown_text, valid_entries, value_look};
 
 use crate::masked::write_masked;
 use crate::watched::address_of;
+use bitflags::Flags;
 use em_inspect::write_address;
 use em_journal::Machine;
+use em_looks::{write_counted, write_number};
 use em_names::write_name;
 use em_reasons::Look;
-use em_regs::Reg;
+use em_regs::{Rah, Reg};
 use em_text::{WriteFailed, write_octets, write_pieces, write_whole};
 use em_watch::{Sight, Watch, seen};
 use itoa::Buffer;
@@ -19,11 +21,6 @@ use std::io::Write;
 
 /// How many entries the address filter has.
 const ENTRIES: u8 = 16;
-
-/// RAH.AV and RAH.AS; an entry is valid and compared with destinations where AV alone is set.
-const AV_AS: u32 = 0x8003_0000;
-
-const AV: u32 = 0x8000_0000;
 
 /// The most octets of a descriptor that are shown: all that it has.
 const MOST_SHOWN: usize = 16;
@@ -45,7 +42,13 @@ pub fn write_look<W: Write>(
     match look {
         Look::Bits { reg, mask } => write_register(writer, machine, reg, mask),
         Look::Entries => write_entries(writer, valid_entries(machine)),
-        Look::Frames => write_counted(writer, b"FIFO ", machine.frames(), b" frame", b" frames"),
+        Look::Frames => write_counted(
+            writer,
+            b"FIFO ",
+            machine.frames() as u64,
+            b" frame",
+            b" frames",
+        ),
         Look::Octets { at, first, count } => write_descriptor(writer, machine, at, first, count),
     }
 }
@@ -96,44 +99,9 @@ fn write_entries<W: Write>(writer: &mut W, count: usize) -> Result<(), WriteFail
     write_counted(
         writer,
         b"RAL and RAH: ",
-        count,
+        count as u64,
         b" of 16 entries is valid",
         b" of 16 entries are valid",
-    )
-}
-
-/// Writes how many there are: one, or none or many.
-fn write_counted<W: Write>(
-    writer: &mut W,
-    front: &[u8],
-    count: usize,
-    one: &[u8],
-    many: &[u8],
-) -> Result<(), WriteFailed>
-    ensures writes { Writes (W.contents writer.old) (W.contents writer.new) result
-        (counted_text front.now count one.now many.now) }
-{
-    if count == 1 {
-        write_number(writer, front, count, one)
-    } else {
-        write_number(writer, front, count, many)
-    }
-}
-
-/// Writes a number in decimal digits between two texts.
-fn write_number<W: Write>(
-    writer: &mut W,
-    front: &[u8],
-    number: usize,
-    behind: &[u8],
-) -> Result<(), WriteFailed>
-    ensures writes { Writes (W.contents writer.old) (W.contents writer.new) result
-        (front.now ++ (decimal number ++ behind.now)) }
-{
-    let mut digits = Buffer::new();
-    write_pieces(
-        writer,
-        &[front, digits.format(number as u64).as_bytes(), behind],
     )
 }
 
@@ -157,10 +125,11 @@ fn rah(machine: &Machine, index: u8) -> u32
     }
 }
 
+/// Whether an entry is valid and compared with destinations: AV is set, and AS clear.
 fn is_valid(rah: u32) -> bool
     ensures { result ≡ is_valid rah }
 {
-    rah & AV_AS == AV
+    rah & Rah::AV.union(Rah::AS).bits() == Rah::AV.bits()
 }
 
 /// Writes octets of a descriptor.

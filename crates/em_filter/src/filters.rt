@@ -10,8 +10,8 @@ use crate::vlan::passes_vlan;
 use em_address::kind_of;
 use em_regs::RegFile;
 
-/// The octets of the frame check sequence, which follow a frame on the wire.
-const CHECK_OCTETS: usize = 4;
+/// The octets of the frame check sequence, which follow a frame on the wire and count with it.
+pub const CHECK_OCTETS: usize = 4;
 
 /// The fewest octets of a frame on the wire, and the most without and with RCTL.LPE.
 const FEWEST: usize = 64;

@@ -9,6 +9,6 @@ mod outcome;
 mod vlan;
 
 pub use em_address::{Kind, kind_of};
-pub use filters::verdict;
+pub use filters::{CHECK_OCTETS, verdict};
 pub use outcome::Verdict;
 pub use vlan::tagged;

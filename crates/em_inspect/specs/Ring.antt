@@ -5,38 +5,27 @@ use Rattle.std.specs.Option.{option_map}
 use Rattle.em_mem.specs.Memory.{part}
 use Rattle.em_regs.specs.declared.setup.RxSetup.{RxSetup}
 use Rattle.em_regs.specs.declared.setup.TxSetup.{TxSetup}
+use Rattle.em_regs.specs.declared.ring.Ring.{Ring}
+use Rattle.em_regs.specs.Ring as ring
+use Rattle.em_regs.specs.Ring.{descriptor_at}
 use Rattle.em_rx.specs.Descriptor.{RxDescriptor, descriptor_of}
 use Rattle.em_tx.specs.Descriptor.{address, command, length_of}
 use Rattle.em_inspect.specs.declared.ring.Side.{Side}
 use Rattle.em_inspect.specs.declared.ring.Side.TheVariants.{Receive, Transmit}
 use Rattle.em_inspect.specs.declared.ring.Owner.{Owner}
 use Rattle.em_inspect.specs.declared.ring.Owner.TheVariants.{Adapter, Driver}
-use Rattle.em_inspect.specs.declared.ring.Ring.{Ring}
+use Rattle.em_inspect.specs.declared.ring.SidedRing.{SidedRing}
 use Rattle.em_inspect.specs.declared.descriptor.Bits.TheVariants.{Rx, Tx}
 use Rattle.em_inspect.specs.declared.descriptor.Fields.{Fields}
 use Rattle.em_inspect.specs.declared.extent.Extent.{Extent}
 
 -- the receive ring that the registers set up
-abbrev pub rx_ring : RxSetup → Ring
-rx_ring q = record {
-  side = Receive q.buffer;
-  enabled = q.enabled;
-  base = q.base;
-  count = q.count;
-  head = q.head;
-  tail = q.tail;
-}
+abbrev pub rx_ring : RxSetup → SidedRing
+rx_ring q = record { side = Receive q.buffer; setup = ring.rx_ring q }
 
 -- the transmit ring
-abbrev pub tx_ring : TxSetup → Ring
-tx_ring q = record {
-  side = Transmit;
-  enabled = q.enabled;
-  base = q.base;
-  count = q.count;
-  head = q.head;
-  tail = q.tail;
-}
+abbrev pub tx_ring : TxSetup → SidedRing
+tx_ring q = record { side = Transmit; setup = ring.tx_ring q }
 
 -- descriptor i is the adapter's: from the head up to but not the tail, going round; none is where either stands past
 -- the last descriptor
@@ -47,10 +36,6 @@ is_adapters r i =
 
 abbrev pub owner_of : Ring → ℕ → Owner
 owner_of r i = if is_adapters r i then Adapter else Driver
-
--- where descriptor i lies
-abbrev pub descriptor_at : Ring → ℕ → ℕ
-descriptor_at r i = r.base + 16 * i
 
 -- where all of them lie
 abbrev pub extent_of : Ring → Extent
@@ -74,5 +59,5 @@ fields_in Transmit octets = record {
 }
 
 -- what descriptor i says
-abbrev pub fields_at : Ring → List ℕ → ℕ → Option Fields
-fields_at r memory i = option_map (fields_in r.side) (octets_at r memory i)
+abbrev pub fields_at : SidedRing → List ℕ → ℕ → Option Fields
+fields_at r memory i = option_map (fields_in r.side) (octets_at r.setup memory i)

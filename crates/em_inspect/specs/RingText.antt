@@ -4,7 +4,7 @@ use Rattle.std.specs.Prelude.{decimal}
 use Rattle.std.specs.List.{flat_map, range_with_len}
 use Rattle.em_inspect.specs.declared.ring.Side.{Side}
 use Rattle.em_inspect.specs.declared.ring.Side.TheVariants.{Receive, Transmit}
-use Rattle.em_inspect.specs.declared.ring.Ring.{Ring}
+use Rattle.em_inspect.specs.declared.ring.SidedRing.{SidedRing}
 use Rattle.em_inspect.specs.AddressText.{address_text}
 use Rattle.em_inspect.specs.Piece.{buffers_text}
 use Rattle.em_inspect.specs.Trouble.{descriptor_in}
@@ -21,59 +21,59 @@ abbrev pub memory_text : Bool → List ℕ
 memory_text outside = if outside then codes "  outside memory" else []
 
 -- how the head or the tail is marked, or that it stands past the last descriptor
-abbrev pub place_text : Ring → ℕ → List ℕ → List ℕ
-place_text r place mark = if nat_lt place r.count then mark else codes " past the last"
+abbrev pub place_text : SidedRing → ℕ → List ℕ → List ℕ
+place_text r place mark = if nat_lt place r.setup.count then mark else codes " past the last"
 
 -- the line of a ring without descriptors
-abbrev pub empty_line : Ring → List ℕ
+abbrev pub empty_line : SidedRing → List ℕ
 empty_line r =
     side_text r.side
     ++ (codes " ring at "
-    ++ (address_text r.base ++ (codes "  no descriptors" ++ (enabled_text r.enabled ++ codes "\n"))))
+    ++ (address_text r.setup.base ++ (codes "  no descriptors" ++ (enabled_text r.setup.enabled ++ codes "\n"))))
 
 -- the line of one with descriptors
-abbrev pub full_line : Ring → Bool → List ℕ
+abbrev pub full_line : SidedRing → Bool → List ℕ
 full_line r outside =
     side_text r.side
     ++ (codes " ring at "
-    ++ (address_text r.base
+    ++ (address_text r.setup.base
     ++ (codes "  "
-    ++ (decimal r.count
+    ++ (decimal r.setup.count
     ++ (codes " descriptors  head "
-    ++ (decimal r.head
-    ++ (place_text r r.head (codes " (>)")
+    ++ (decimal r.setup.head
+    ++ (place_text r r.setup.head (codes " (>)")
     ++ (codes "  tail "
-    ++ (decimal r.tail
-    ++ (place_text r r.tail (codes " (<)")
+    ++ (decimal r.setup.tail
+    ++ (place_text r r.setup.tail (codes " (<)")
     ++ (buffers_text r.side
-    ++ (enabled_text r.enabled
+    ++ (enabled_text r.setup.enabled
     ++ (memory_text outside ++ codes "\n")))))))))))))
 
-abbrev pub ring_line : Ring → Bool → List ℕ
-ring_line r outside = if r.count == 0 then empty_line r else full_line r outside
+abbrev pub ring_line : SidedRing → Bool → List ℕ
+ring_line r outside = if r.setup.count == 0 then empty_line r else full_line r outside
 
 -- descriptor 0 lies outside guest memory, or part of it does
-abbrev pub is_outside : Ring → List ℕ → Bool
-is_outside r memory = nat_lt (length memory) (r.base + 16)
+abbrev pub is_outside : SidedRing → List ℕ → Bool
+is_outside r memory = nat_lt (length memory) (r.setup.base + 16)
 
 -- the line of descriptor i
-abbrev pub line_of_index : Ring → List ℕ → ℕ → List ℕ
+abbrev pub line_of_index : SidedRing → List ℕ → ℕ → List ℕ
 line_of_index r memory i = descriptor_text (descriptor_in r memory i)
 
 -- the lines of n descriptors, from an index on
-abbrev pub descriptors_text : Ring → List ℕ → ℕ → ℕ → List ℕ
+abbrev pub descriptors_text : SidedRing → List ℕ → ℕ → ℕ → List ℕ
 descriptors_text r memory from n = flat_map (λ k. line_of_index r memory (from + k)) (range_with_len 0 n)
 
 -- how many descriptors are shown, of so many from an index on
-abbrev pub shown : Ring → Bool → ℕ → ℕ → ℕ
-shown r outside from most = if outside then 0 else min most (r.count - from)
+abbrev pub shown : SidedRing → Bool → ℕ → ℕ → ℕ
+shown r outside from most = if outside then 0 else min most (r.setup.count - from)
 
 -- the ring's line, and those of descriptors
-abbrev pub ring_text : Ring → List ℕ → ℕ → ℕ → List ℕ
+abbrev pub ring_text : SidedRing → List ℕ → ℕ → ℕ → List ℕ
 ring_text r memory from most =
     let outside = is_outside r memory in
     ring_line r outside ++ descriptors_text r memory from (shown r outside from most)
 
 -- the first of 64 descriptors to show: eight before the head, or so many before the ring's end
-abbrev pub shown_from : Ring → ℕ
-shown_from r = min (r.head - 8) (r.count - 64)
+abbrev pub shown_from : SidedRing → ℕ
+shown_from r = min (r.setup.head - 8) (r.setup.count - 64)

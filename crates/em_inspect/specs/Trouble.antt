@@ -8,7 +8,7 @@ use Rattle.em_inspect.specs.declared.ring.Side.{Side}
 use Rattle.em_inspect.specs.declared.ring.Side.TheVariants.{Receive, Transmit}
 use Rattle.em_inspect.specs.declared.ring.Owner.{Owner}
 use Rattle.em_inspect.specs.declared.ring.Owner.TheVariants.{Adapter, Driver}
-use Rattle.em_inspect.specs.declared.ring.Ring.{Ring}
+use Rattle.em_inspect.specs.declared.ring.SidedRing.{SidedRing}
 use Rattle.em_inspect.specs.declared.descriptor.Bits.{Bits}
 use Rattle.em_inspect.specs.declared.descriptor.Bits.TheVariants.{Rx, Tx}
 use Rattle.em_inspect.specs.declared.descriptor.Fields.{Fields}
@@ -25,7 +25,8 @@ use Rattle.em_inspect.specs.declared.trouble.Trouble.TheVariants.{
   OverBuffer,
 }
 use Rattle.em_inspect.specs.Extent.{overlaps}
-use Rattle.em_inspect.specs.Ring.{descriptor_at, extent_of, fields_at, owner_of}
+use Rattle.em_regs.specs.Ring.{descriptor_at}
+use Rattle.em_inspect.specs.Ring.{extent_of, fields_at, owner_of}
 
 -- DEXT, bit 5 of a transmit descriptor's command: the extended format
 abbrev pub is_extended : Bits → Bool
@@ -48,25 +49,25 @@ abbrev pub buffer_of : Side → Fields → Extent
 buffer_of side f = record { at = f.buffer; size = size_of side f }
 
 -- the buffer of descriptor i, where that is live and has one
-abbrev pub claimed : Ring → ℕ → Fields → Option Extent
+abbrev pub claimed : SidedRing → ℕ → Fields → Option Extent
 claimed r i f =
-    if is_live (owner_of r i) f.bits && not (is_extended f.bits) then Some (buffer_of r.side f) else None
+    if is_live (owner_of r.setup i) f.bits && not (is_extended f.bits) then Some (buffer_of r.side f) else None
 
-abbrev pub claim_in : Ring → ℕ → Option Fields → Option Extent
+abbrev pub claim_in : SidedRing → ℕ → Option Fields → Option Extent
 claim_in r i None = None
 claim_in r i (Some f) = claimed r i f
 
-abbrev pub claim_of : Ring → List ℕ → ℕ → Option Extent
+abbrev pub claim_of : SidedRing → List ℕ → ℕ → Option Extent
 claim_of r memory i = claim_in r i (fields_at r memory i)
 
 -- descriptor j is another one than i, whose buffer lies over this one
-abbrev pub is_over : Ring → List ℕ → ℕ → Extent → ℕ → Bool
+abbrev pub is_over : SidedRing → List ℕ → ℕ → Extent → ℕ → Bool
 is_over r memory i buffer j =
     if j == i then false else option_map_or (overlaps buffer) (claim_of r memory j) false
 
 -- the lowest such
-abbrev pub lowest_over : Ring → List ℕ → ℕ → Extent → Option ℕ
-lowest_over r memory i buffer = find (is_over r memory i buffer) (range_with_len 0 r.count)
+abbrev pub lowest_over : SidedRing → List ℕ → ℕ → Extent → Option ℕ
+lowest_over r memory i buffer = find (is_over r memory i buffer) (range_with_len 0 r.setup.count)
 
 -- ---- in the order in which they are told
 
@@ -83,10 +84,10 @@ format_trouble (Receive size) f = None
 format_trouble Transmit f = sent_trouble f
 
 -- what is wrong with the buffer of descriptor i
-abbrev pub buffer_trouble : Ring → List ℕ → ℕ → Extent → Option Trouble
+abbrev pub buffer_trouble : SidedRing → List ℕ → ℕ → Extent → Option Trouble
 buffer_trouble r memory i buffer =
     if nat_lt (length memory) (buffer.at + buffer.size) then Some BufferOutside
-    else if overlaps buffer (extent_of r) then Some OverRing
+    else if overlaps buffer (extent_of r.setup) then Some OverRing
     else option_map OverBuffer (lowest_over r memory i buffer)
 
 -- the first, or else the second
@@ -95,26 +96,26 @@ or_else None trouble = trouble
 or_else (Some trouble) _ = Some trouble
 
 -- what is wrong with a live descriptor
-abbrev pub live_trouble : Ring → List ℕ → ℕ → Fields → Option Trouble
+abbrev pub live_trouble : SidedRing → List ℕ → ℕ → Fields → Option Trouble
 live_trouble r memory i f =
     or_else (format_trouble r.side f) (buffer_trouble r memory i (buffer_of r.side f))
 
-abbrev pub trouble_in : Ring → List ℕ → ℕ → Option Fields → Option Trouble
+abbrev pub trouble_in : SidedRing → List ℕ → ℕ → Option Fields → Option Trouble
 trouble_in r memory i None = Some Outside
-trouble_in r memory i (Some f) = if is_live (owner_of r i) f.bits then live_trouble r memory i f else None
+trouble_in r memory i (Some f) = if is_live (owner_of r.setup i) f.bits then live_trouble r memory i f else None
 
 -- what is wrong with descriptor i first
-abbrev pub trouble_of : Ring → List ℕ → ℕ → Option Trouble
+abbrev pub trouble_of : SidedRing → List ℕ → ℕ → Option Trouble
 trouble_of r memory i = trouble_in r memory i (fields_at r memory i)
 
 -- descriptor i
-abbrev pub descriptor_in : Ring → List ℕ → ℕ → Descriptor
+abbrev pub descriptor_in : SidedRing → List ℕ → ℕ → Descriptor
 descriptor_in r memory i = record {
   index = i;
-  address = descriptor_at r i;
-  owner = owner_of r i;
-  is_head = i == r.head;
-  is_tail = i == r.tail;
+  address = descriptor_at r.setup i;
+  owner = owner_of r.setup i;
+  is_head = i == r.setup.head;
+  is_tail = i == r.setup.tail;
   fields = fields_at r memory i;
   trouble = trouble_of r memory i;
 }

@@ -2,9 +2,10 @@
 ghost use Rattle.std.specs.Prelude.{◌≡◌};
 ghost use Rattle.em_inspect.specs.Ring.{fields_at, fields_in, octets_at};
 
-use crate::ring::{DESCRIPTOR_OCTETS, Owner, Ring, Side};
+use crate::ring::{Owner, Side, SidedRing};
 use crate::trouble::Trouble;
 use em_journal::Machine;
+use em_regs::{DESCRIPTOR_OCTETS, Ring};
 use em_rx::RxDescriptor;
 use em_tx::TxDescriptor;
 
@@ -57,27 +58,27 @@ pub struct Descriptor {
     pub trouble: Option<Trouble>,
 }
 
-impl Ring {
+impl SidedRing {
     /// What the descriptor at an index says; none where it lies outside guest memory.
     pub(crate) fn fields(&self, machine: &Machine, index: u32) -> Option<Fields>
         ensures { result ≡ fields_at self.now machine.now.present.memory index }
     {
-        let octets = self.octets(machine, index)?;
+        let octets = octets_at(machine, &self.setup, index)?;
         Some(self.side.fields(octets))
     }
+}
 
-    /// The octets of the descriptor at an index; none where it lies outside guest memory.
-    fn octets(&self, machine: &Machine, index: u32) -> Option<[u8; DESCRIPTOR_OCTETS]>
-        ensures { result ≡ octets_at self.now machine.now.present.memory index }
-    {
-        // memory is smaller than 2^64 octets, so that a sum past that leaves it
-        let _size = machine.memory_size();
-        let address = self.base.checked_add(16 * u64::from(index))?;
-        let mut octets = [0u8; DESCRIPTOR_OCTETS];
-        match machine.peek(address, &mut octets) {
-            Ok(()) => Some(octets),
-            Err(_) => None,
-        }
+/// The octets of the descriptor at an index of a ring; none where it lies outside guest memory.
+pub fn octets_at(machine: &Machine, ring: &Ring, index: u32) -> Option<[u8; DESCRIPTOR_OCTETS]>
+    ensures { result ≡ octets_at ring.now machine.now.present.memory index }
+{
+    // memory is smaller than 2^64 octets, so that an address past that leaves it
+    let _size = machine.memory_size();
+    let address = ring.address_of(index)?;
+    let mut octets = [0u8; DESCRIPTOR_OCTETS];
+    match machine.peek(address, &mut octets) {
+        Ok(()) => Some(octets),
+        Err(_) => None,
     }
 }
 

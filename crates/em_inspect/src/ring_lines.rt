@@ -1,5 +1,5 @@
 //! A ring as text.
-ghost use Rattle.std.specs.Prelude.{◌≡◌, ◌-◌, ◌≤◌};
+ghost use Rattle.std.specs.Prelude.{◌≡◌, ◌+◌, ◌≤◌};
 ghost use Rattle.em_text.specs.Writer.{Writes};
 ghost use Rattle.em_inspect.specs.Piece.{buffers_text};
 ghost use Rattle.em_inspect.specs.RingText.{descriptors_text, empty_line, enabled_text, is_outside, line_of_index};
@@ -8,45 +8,47 @@ ghost use Rattle.em_inspect.specs.RingText.{shown_from, side_text};
 
 use crate::descriptor_line::write_descriptor;
 use crate::piece::{Piece, write_line};
-use crate::ring::{DESCRIPTOR_OCTETS, Ring, Side};
+use crate::ring::{Side, SidedRing};
 use em_journal::Machine;
+use em_regs::DESCRIPTOR_OCTETS;
 use em_text::{WriteFailed, write_pieces};
 use itoa::Buffer;
 use std::io::Write;
 
-/// The most descriptors that a window of [`Ring::shown_from`] has.
+/// The most descriptors that a window of [`SidedRing::shown_from`] has.
 pub const MOST_SHOWN: u32 = 64;
 
 /// How many of them stand before the head.
 const SHOWN_BEFORE_HEAD: u32 = 8;
 
-impl Ring {
+impl SidedRing {
     /// The first of [`MOST_SHOWN`] descriptors to show where nothing else is asked for: 0 where the ring has no more;
     /// else eight before the head, or so many before the ring's end.
     pub fn shown_from(&self) -> u32
         ensures { result ≡ shown_from self.now }
     {
-        self.head
+        self.setup
+            .head
             .saturating_sub(SHOWN_BEFORE_HEAD)
-            .min(self.count.saturating_sub(MOST_SHOWN))
+            .min(self.setup.count.saturating_sub(MOST_SHOWN))
     }
 
     /// Whether descriptor 0 lies outside guest memory, or part of it does.
     fn is_outside(&self, machine: &Machine) -> bool
         ensures { result ≡ is_outside self.now machine.now.present.memory }
     {
-        u128::from(machine.memory_size()) < u128::from(self.base) + DESCRIPTOR_OCTETS as u128
+        u128::from(machine.memory_size()) < u128::from(self.setup.base) + DESCRIPTOR_OCTETS as u128
     }
 }
 
 /// Writes a ring: a line of what the registers say, and a line for each of up to `most` descriptors from an index on.
 /// A ring that has no descriptors, or whose descriptor 0 lies outside guest memory, has the first line alone.
 ///
-/// For each line it looks at each descriptor of the ring, as [`Ring::descriptor`] does.
+/// For each line it looks at each descriptor of the ring, as [`SidedRing::descriptor`] does.
 pub fn write_ring<W: Write>(
     writer: &mut W,
     machine: &Machine,
-    ring: &Ring,
+    ring: &SidedRing,
     from: u32,
     most: u32,
 ) -> Result<(), WriteFailed>
@@ -60,22 +62,26 @@ pub fn write_ring<W: Write>(
 }
 
 /// How many descriptors are shown, of up to `most` from an index on.
-fn shown(ring: &Ring, outside: bool, from: u32, most: u32) -> u32
+fn shown(ring: &SidedRing, outside: bool, from: u32, most: u32) -> u32
     ensures shown { result ≡ shown ring.now outside from most }
-    ensures most { result ≤ ring.now.count - from }
+    ensures bound { from + result ≤ 0xFFFF_FFFF }
 {
     if outside {
         0
     } else {
-        most.min(ring.count.saturating_sub(from))
+        most.min(ring.setup.count.saturating_sub(from))
     }
 }
 
 /// Writes what the registers say of a ring.
-fn write_ring_line<W: Write>(writer: &mut W, ring: &Ring, outside: bool) -> Result<(), WriteFailed>
+fn write_ring_line<W: Write>(
+    writer: &mut W,
+    ring: &SidedRing,
+    outside: bool,
+) -> Result<(), WriteFailed>
     ensures writes { Writes (W.contents writer.old) (W.contents writer.new) result (ring_line ring.now outside) }
 {
-    if ring.count == 0 {
+    if ring.setup.count == 0 {
         return write_empty_line(writer, ring);
     }
     write_line(
@@ -83,17 +89,17 @@ fn write_ring_line<W: Write>(writer: &mut W, ring: &Ring, outside: bool) -> Resu
         &[
             Piece::Text(side_word(&ring.side)),
             Piece::Text(b" ring at "),
-            Piece::Address(u128::from(ring.base)),
+            Piece::Address(u128::from(ring.setup.base)),
             Piece::Text(b"  "),
-            Piece::Number(u64::from(ring.count)),
+            Piece::Number(u64::from(ring.setup.count)),
             Piece::Text(b" descriptors  head "),
-            Piece::Number(u64::from(ring.head)),
-            Piece::Text(place_word(ring, ring.head, b" (>)")),
+            Piece::Number(u64::from(ring.setup.head)),
+            Piece::Text(place_word(ring, ring.setup.head, b" (>)")),
             Piece::Text(b"  tail "),
-            Piece::Number(u64::from(ring.tail)),
-            Piece::Text(place_word(ring, ring.tail, b" (<)")),
+            Piece::Number(u64::from(ring.setup.tail)),
+            Piece::Text(place_word(ring, ring.setup.tail, b" (<)")),
             Piece::Buffers(ring.side),
-            Piece::Text(enabled_word(ring.enabled)),
+            Piece::Text(enabled_word(ring.setup.enabled)),
             Piece::Text(memory_word(outside)),
             Piece::Text(b"\n"),
         ],
@@ -101,7 +107,7 @@ fn write_ring_line<W: Write>(writer: &mut W, ring: &Ring, outside: bool) -> Resu
 }
 
 /// Says that a ring has no descriptors.
-fn write_empty_line<W: Write>(writer: &mut W, ring: &Ring) -> Result<(), WriteFailed>
+fn write_empty_line<W: Write>(writer: &mut W, ring: &SidedRing) -> Result<(), WriteFailed>
     ensures writes { Writes (W.contents writer.old) (W.contents writer.new) result (empty_line ring.now) }
 {
     write_line(
@@ -109,9 +115,9 @@ fn write_empty_line<W: Write>(writer: &mut W, ring: &Ring) -> Result<(), WriteFa
         &[
             Piece::Text(side_word(&ring.side)),
             Piece::Text(b" ring at "),
-            Piece::Address(u128::from(ring.base)),
+            Piece::Address(u128::from(ring.setup.base)),
             Piece::Text(b"  no descriptors"),
-            Piece::Text(enabled_word(ring.enabled)),
+            Piece::Text(enabled_word(ring.setup.enabled)),
             Piece::Text(b"\n"),
         ],
     )
@@ -139,10 +145,10 @@ fn memory_word(outside: bool) -> &'static [u8]
 }
 
 /// How the head or the tail is marked below, or that it stands past the last descriptor.
-fn place_word(ring: &Ring, place: u32, mark: &'static [u8]) -> &'static [u8]
+fn place_word(ring: &SidedRing, place: u32, mark: &'static [u8]) -> &'static [u8]
     ensures { result.now ≡ place_text ring.now place mark.now }
 {
-    if place < ring.count {
+    if place < ring.setup.count {
         mark
     } else {
         b" past the last"
@@ -167,11 +173,11 @@ pub(crate) fn write_buffers<W: Write>(writer: &mut W, side: Side) -> Result<(), 
 fn write_descriptors<W: Write>(
     writer: &mut W,
     machine: &Machine,
-    ring: &Ring,
+    ring: &SidedRing,
     from: u32,
     shown: u32,
 ) -> Result<(), WriteFailed>
-    requires { shown ≤ ring.now.count - from }
+    requires { from + shown ≤ 0xFFFF_FFFF }
     ensures writes { Writes (W.contents writer.old) (W.contents writer.new) result
         (descriptors_text ring.now machine.now.present.memory from shown) }
 {
@@ -184,7 +190,7 @@ fn write_descriptors<W: Write>(
 fn write_descriptor_at<W: Write>(
     writer: &mut W,
     machine: &Machine,
-    ring: &Ring,
+    ring: &SidedRing,
     index: u32,
 ) -> Result<(), WriteFailed>
     ensures writes { Writes (W.contents writer.old) (W.contents writer.new) result

@@ -7,16 +7,13 @@ ghost use Rattle.em_inspect.specs.Trouble.{buffer_of, is_live, is_over, live_tro
 
 use crate::descriptor::{Bits, Descriptor, Fields};
 use crate::extent::Extent;
-use crate::ring::{Owner, Ring, Side};
+use crate::ring::{Owner, Side, SidedRing, owner_of};
 use em_journal::Machine;
+use em_rx::RxDescriptor;
+use em_tx::TxDescriptor;
 
 /// The most octets of a transmit buffer that the adapter takes (this project's profile).
 const MOST_LENGTH: u16 = 16_380;
-
-/// DD of a receive descriptor's status, and DEXT of a transmit descriptor's command.
-const DD: u8 = 0x01;
-
-const DEXT: u8 = 0x20;
 
 /// What is wrong with a descriptor.
 #[derive(Clone, Copy, Debug, PartialEq, Eq)]
@@ -38,7 +35,7 @@ pub enum Trouble {
     OverBuffer(u32),
 }
 
-impl Ring {
+impl SidedRing {
     /// The descriptor at an index, with what is wrong with it.
     ///
     /// Only the buffers of live descriptors count: of those that are the adapter's, and of those of the receive ring
@@ -48,10 +45,10 @@ impl Ring {
     {
         Descriptor {
             index,
-            address: self.address(index),
-            owner: self.owner(index),
-            is_head: index == self.head,
-            is_tail: index == self.tail,
+            address: self.setup.descriptor_at(index),
+            owner: owner_of(&self.setup, index),
+            is_head: index == self.setup.head,
+            is_tail: index == self.setup.tail,
             fields: self.fields(machine, index),
             trouble: self.trouble(machine, index),
         }
@@ -63,7 +60,7 @@ impl Ring {
         let Some(fields) = self.fields(machine, index) else {
             return Some(Trouble::Outside);
         };
-        if !self.owner(index).is_live(&fields.bits) {
+        if !owner_of(&self.setup, index).is_live(&fields.bits) {
             return None;
         }
         self.live_trouble(machine, index, &fields)
@@ -97,11 +94,11 @@ impl Ring {
 
     /// Where the ring's descriptors lie.
     fn extent(&self) -> Extent
-        ensures { result ≡ extent_of self.now }
+        ensures { result ≡ extent_of self.now.setup }
     {
         Extent {
-            at: self.base,
-            size: 16 * u64::from(self.count),
+            at: self.setup.base,
+            size: 16 * u64::from(self.setup.count),
         }
     }
 
@@ -109,7 +106,7 @@ impl Ring {
     fn lowest_over(&self, machine: &Machine, index: u32, buffer: &Extent) -> Option<u32>
         ensures { result ≡ lowest_over self.now machine.now.present.memory index buffer.now }
     {
-        (0..self.count).find(|other| self.is_over(machine, index, buffer, *other))
+        (0..self.setup.count).find(|other| self.is_over(machine, index, buffer, *other))
     }
 
     /// Whether the buffer of another descriptor lies over that of the one at an index.
@@ -130,7 +127,7 @@ impl Ring {
         ensures { result ≡ claim_of self.now machine.now.present.memory index }
     {
         let fields = self.fields(machine, index)?;
-        if self.owner(index).is_live(&fields.bits) && !fields.bits.is_extended() {
+        if owner_of(&self.setup, index).is_live(&fields.bits) && !fields.bits.is_extended() {
             Some(self.side.buffer(&fields))
         } else {
             None
@@ -145,7 +142,7 @@ impl Owner {
     {
         match (self, bits) {
             (Owner::Adapter, _) => true,
-            (Owner::Driver, Bits::Rx { status, .. }) => *status / DD % 2 == 1,
+            (Owner::Driver, Bits::Rx { status, .. }) => *status / RxDescriptor::DD % 2 == 1,
             (Owner::Driver, Bits::Tx { .. }) => false,
         }
     }
@@ -158,7 +155,7 @@ impl Bits {
     {
         match self {
             Bits::Rx { .. } => false,
-            Bits::Tx { command, .. } => *command / DEXT % 2 == 1,
+            Bits::Tx { command, .. } => *command / TxDescriptor::DEXT % 2 == 1,
         }
     }
 }

@@ -22,7 +22,7 @@ ghost use Rattle.em_mem.specs.Memory.{part};
 ghost use Rattle.em_regs.specs.Table.{IsReg, offset_of, reg_at};
 ghost use Rattle.em_regs.specs.RegFile.{IsStored, OnlyStores};
 ghost use Rattle.em_latch.specs.Latches.{IsAsserted, IsLatched};
-ghost use Rattle.em_rx.specs.Fifo.{first};
+ghost use Rattle.em_rx.specs.Fifo.{first, last};
 ghost use Rattle.em_rx.specs.StoredFrame.{LiesSo};
 ghost use Rattle.em_step.specs.Access.{gives};
 ghost use Rattle.em_step.specs.Cells.{shows};
@@ -445,6 +445,14 @@ impl Machine {
         self.adapter.first_frame()
     }
 
+    /// The newest frame of the FIFO, as it lies there; none where no frame waits.
+    pub fn last_frame(&self) -> Option<StoredFrame<'_>>
+        ensures none { IsNone result ↔ (length self.now.present.fifo.frames ≡ 0) }
+        ensures lies { IfSome result (LiesSo (last self.now.present.fifo)) }
+    {
+        self.adapter.last_frame()
+    }
+
     /// How many frames were sent.
     pub fn wire_len(&self) -> usize
         ensures { result ≡ length self.now.present.wire }
@@ -457,6 +465,13 @@ impl Machine {
         ensures { option_map (λ frame. frame.now) result ≡ slice_get self.now.present.wire index }
     {
         self.adapter.wire_frame(index)
+    }
+
+    /// The octets that are gathered for the next frame to be sent.
+    pub fn gathered(&self) -> &[u8]
+        ensures { result.now ≡ self.now.present.gathered }
+    {
+        self.adapter.gathered()
     }
 
     /// How many octets the guest's memory has: as many in each state.

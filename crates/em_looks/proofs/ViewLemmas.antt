@@ -9,7 +9,7 @@ use Rattle.em_step.specs.Access.{gives}
 use Rattle.em_step.specs.State.{State}
 use Rattle.em_names.specs.Bits as names
 use Rattle.em_inspect.specs.RingText as ring
-use Rattle.em_inspect.specs.declared.ring.Ring.{Ring}
+use Rattle.em_inspect.specs.declared.ring.SidedRing.{SidedRing}
 use Rattle.em_prompt.specs.declared.typed.Side.{Side}
 use Rattle.em_looks.specs.Views.{look_at, register_text, ring_of, window_text}
 
@@ -23,8 +23,8 @@ register_looked s reg offset value look at looked is =
     ap (λ (v : ℕ). names.register_text reg v ++ codes "\n") (sym same)
 
 -- the window of a ring
-pub window_of : (registers : Registers) (side : Side) (memory : List ℕ) (r : Ring) (from : ℕ)
+pub window_of : (registers : Registers) (side : Side) (memory : List ℕ) (r : SidedRing) (from : ℕ)
     → r ≡ ring_of registers side → from ≡ ring.shown_from r
     → ring.ring_text r memory from 64 ≡ window_text (ring_of registers side) memory
 window_of registers side memory r from is shown =
-    ap (λ (n : ℕ). ring.ring_text r memory n 64) shown ∙ ap (λ (q : Ring). window_text q memory) is
+    ap (λ (n : ℕ). ring.ring_text r memory n 64) shown ∙ ap (λ (q : SidedRing). window_text q memory) is

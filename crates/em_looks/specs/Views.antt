@@ -14,7 +14,7 @@ use Rattle.em_output.specs.Output.{refusal_text}
 use Rattle.em_inspect.specs.Lines.{lines_text}
 use Rattle.em_inspect.specs.Ring.{rx_ring, tx_ring}
 use Rattle.em_inspect.specs.RingText as ring
-use Rattle.em_inspect.specs.declared.ring.Ring.{Ring}
+use Rattle.em_inspect.specs.declared.ring.SidedRing.{SidedRing}
 use Rattle.em_prompt.specs.declared.typed.Side.{Side}
 use Rattle.em_prompt.specs.declared.typed.Side.TheVariants.{Receive, Transmit}
 
@@ -27,12 +27,12 @@ abbrev pub register_text : State → Reg → List ℕ
 register_text s reg = names.register_text reg (look_at s reg) ++ codes "\n"
 
 -- the ring of a side, as the registers say
-abbrev pub ring_of : Registers → Side → Ring
+abbrev pub ring_of : Registers → Side → SidedRing
 ring_of registers Receive = rx_ring (rx_setup registers)
 ring_of registers Transmit = tx_ring (tx_setup registers)
 
 -- its 64 descriptors around the head
-abbrev pub window_text : Ring → List ℕ → List ℕ
+abbrev pub window_text : SidedRing → List ℕ → List ℕ
 window_text r memory = ring.ring_text r memory (ring.shown_from r) 64
 
 abbrev pub ring_text : State → Side → List ℕ

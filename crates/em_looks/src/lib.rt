@@ -10,6 +10,6 @@ mod views;
 
 pub use effects::write_effect;
 pub use frames::{show_sent, show_waiting};
-pub use numbers::{write_count, write_number, write_short};
+pub use numbers::{write_count, write_counted, write_number, write_short};
 pub use sights::{watch_of, write_difference, write_sight, write_watch};
 pub use views::{show_memory, show_register, show_ring};

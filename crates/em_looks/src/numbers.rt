@@ -1,6 +1,6 @@
 //! Numbers among texts.
 ghost use Rattle.em_text.specs.Writer.{Writes};
-ghost use Rattle.em_looks.specs.Numbers.{number_text, count_text, short_text};
+ghost use Rattle.em_looks.specs.Numbers.{count_text, counted_text, number_text, short_text};
 
 use em_text::{WriteFailed, write_pieces, write_whole};
 use itoa::Buffer;
@@ -37,6 +37,24 @@ pub fn write_count<W: Write>(
         write_whole(writer, one)
     } else {
         write_number(writer, b"", number, many)
+    }
+}
+
+/// Writes a number behind a text, and behind the number `one` where it is 1, and else `many`.
+pub fn write_counted<W: Write>(
+    writer: &mut W,
+    before: &[u8],
+    number: u64,
+    one: &[u8],
+    many: &[u8],
+) -> Result<(), WriteFailed>
+    ensures writes { Writes (W.contents writer.old) (W.contents writer.new) result
+        (counted_text before.now number one.now many.now) }
+{
+    if number == 1 {
+        write_number(writer, before, number, one)
+    } else {
+        write_number(writer, before, number, many)
     }
 }
 

@@ -3,7 +3,7 @@ ghost use Rattle.std.specs.Prelude.{◌≡◌};
 ghost use Rattle.em_text.specs.Writer.{Writes};
 ghost use Rattle.em_looks.specs.Views.{memory_text, register_text, ring_of, ring_text};
 
-use em_inspect::{MOST_SHOWN, Ring, write_octet_lines, write_ring};
+use em_inspect::{MOST_SHOWN, SidedRing, write_octet_lines, write_ring};
 use em_journal::Machine;
 use em_line::MOST_PEEK;
 use em_names::write_register;
@@ -37,12 +37,12 @@ pub fn show_ring<W: Write>(writer: &mut W, machine: &Machine, side: Side) -> Res
 }
 
 /// The ring of a side, as the registers say.
-fn ring_of(machine: &Machine, side: Side) -> Ring
+fn ring_of(machine: &Machine, side: Side) -> SidedRing
     ensures { result ≡ ring_of machine.now.present.registers side }
 {
     match side {
-        Side::Receive => Ring::rx(machine),
-        Side::Transmit => Ring::tx(machine),
+        Side::Receive => SidedRing::rx(machine),
+        Side::Transmit => SidedRing::tx(machine),
     }
 }
 

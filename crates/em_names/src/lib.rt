@@ -11,4 +11,4 @@ pub use bits::fields;
 pub use field::{Field, Form};
 pub use names::{LONGEST, name, parse};
 pub use near::nearest;
-pub use show::{write_bits, write_name, write_register};
+pub use show::{number_in, write_bits, write_field, write_low, write_name, write_register};

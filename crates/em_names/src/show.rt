@@ -3,27 +3,16 @@ ghost use Rattle.std.specs.Prelude.{◌≡◌, ◌-◌, fold, bit_and, decimal};
 ghost use Rattle.std.specs.List.{flat_map};
 ghost use Rattle.em_text.specs.Writer.{Writes, value_digits};
 ghost use Rattle.em_names.specs.Names.{name_of};
-ghost use Rattle.em_regs.specs.Setup.{buffer_size};
 ghost use Rattle.em_names.specs.Bits.{row_of_field, number_in, row_text, with_value, four_digits};
 ghost use Rattle.em_names.specs.Bits.{rest_text, bits_text, register_text};
 
 use crate::bits::fields;
 use crate::field::{Field, Form};
 use crate::names::name;
-use bitflags::Flags;
-use em_regs::{Rctl, Reg};
+use em_regs::{Reg, buffer_size};
 use em_text::{WriteFailed, write_octets, write_pieces, write_whole};
 use itoa::Buffer;
 use std::io::Write;
-
-/// The lowest bit of RCTL.BSIZE, a field of two bits.
-const BSIZE_BIT: u32 = 0x0001_0000;
-
-/// The sizes of a receive buffer in octets by BSIZE, with BSEX clear.
-const SIZES: [u32; 4] = [2048, 1024, 512, 256];
-
-/// The sizes with BSEX set.
-const GREATER_SIZES: [u32; 4] = [2048, 16384, 8192, 4096];
 
 /// The speeds in Mb/s, by SPEED or ASDV.
 const SPEEDS: [u32; 4] = [10, 100, 1000, 1000];
@@ -71,8 +60,9 @@ fn write_fields<W: Write>(writer: &mut W, fields: &[Field], value: u32) -> Resul
     Ok(())
 }
 
-/// Writes a field of a register that holds a value.
-fn write_field<W: Write>(writer: &mut W, field: Field, value: u32) -> Result<(), WriteFailed>
+/// Writes a field of a register that holds a value, behind a space: a bit that is set by its name alone, and of a field
+/// that is not 0 also what it holds, ` SPEED=1000`. BSIZE comes with the buffer's size in octets, also where it is 0.
+pub fn write_field<W: Write>(writer: &mut W, field: Field, value: u32) -> Result<(), WriteFailed>
     ensures writes { Writes (W.contents writer.old) (W.contents writer.new) result
         (row_text value (row_of_field field)) }
 {
@@ -87,8 +77,8 @@ fn write_field<W: Write>(writer: &mut W, field: Field, value: u32) -> Result<(),
     }
 }
 
-/// What a field holds.
-fn number_in(field: Field, value: u32) -> u32
+/// What a field of a register holds: the field's bits as one number.
+pub fn number_in(field: Field, value: u32) -> u32
     ensures { result ≡ number_in value (row_of_field field) }
 {
     // no field is without bits
@@ -125,7 +115,7 @@ fn write_digits<W: Write>(writer: &mut W, field: Field, number: u32) -> Result<(
 }
 
 /// Writes the low 16 bits of a number in 4 hexadecimal digits.
-fn write_low<W: Write>(writer: &mut W, number: u32) -> Result<(), WriteFailed>
+pub fn write_low<W: Write>(writer: &mut W, number: u32) -> Result<(), WriteFailed>
     ensures writes { Writes (W.contents writer.old) (W.contents writer.new) result (four_digits number) }
 {
     let low = (number % 0x1_0000) as u16;
@@ -155,16 +145,4 @@ fn write_rest<W: Write>(writer: &mut W, rest: u32) -> Result<(), WriteFailed>
     }
     write_whole(writer, b" ")?;
     write_value(writer, rest)
-}
-
-/// The size of a receive buffer in octets by RCTL.
-fn buffer_size(rctl: u32) -> u32
-    ensures { result ≡ buffer_size rctl }
-{
-    let bsize = (rctl / BSIZE_BIT % 4) as usize;
-    if Rctl::from_bits_retain(rctl).contains(Rctl::BSEX) {
-        GREATER_SIZES[bsize]
-    } else {
-        SIZES[bsize]
-    }
 }

@@ -5,7 +5,6 @@ pub mod Dropped
 pub mod Refused
 pub mod Bits
 pub mod Looks
-pub mod Piece
 pub mod RingText
 pub mod RxIdleText
 pub mod TxIdleText

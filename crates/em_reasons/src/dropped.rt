@@ -6,11 +6,9 @@ ghost use Rattle.em_reasons.specs.Dropped.{IsDropped, rejected, to_of, unfiltere
 
 use crate::filters::{accepts, hash_of, identifier_of, longest, octet, tagged};
 use em_address::{Kind, kind_of};
+use em_filter::CHECK_OCTETS;
 use em_journal::Machine;
 use em_step::Reason;
-
-/// The octets of the frame check sequence, which follow a frame on the wire.
-const CHECK_OCTETS: u64 = 4;
 
 /// The octets of a tag that is taken out of a frame.
 const TAG_OCTETS: u64 = 4;
@@ -42,7 +40,7 @@ pub enum Dropped {
 pub fn why_dropped(machine: &Machine, frame: &[u8], reason: Reason) -> Dropped
     ensures { IsDropped machine.now.present frame.now reason → why machine.now.present frame.now ≡ Some result }
 {
-    let octets = frame.len() as u64 + CHECK_OCTETS;
+    let octets = frame.len() as u64 + CHECK_OCTETS as u64;
     match reason {
         Reason::Down => Dropped::Down,
         Reason::Disabled => Dropped::Disabled,

@@ -8,7 +8,6 @@ mod dropped_text;
 mod filters;
 pub mod laws;
 mod look;
-mod piece;
 mod refused;
 mod refused_text;
 mod registers;

@@ -5,7 +5,8 @@ ghost use Rattle.em_reasons.specs.Looks.{dropped_looks, refused_looks, rx_idle_l
 
 use crate::bits::{mask_of, word_of};
 use crate::{Dropped, Refused, RxIdle, TxIdle};
-use em_regs::Reg;
+use bitflags::Flags;
+use em_regs::{Ctrl, Rctl, Reg, Status, Tctl};
 use std::alloc::{AllocError, Global};
 
 /// All bits of a register, and the low half of them.
@@ -17,28 +18,6 @@ const LOW_HALF: u32 = 0x0000_FFFF;
 const BASE: u32 = 0xFFFF_FFF0;
 
 const LENGTH: u32 = 0x000F_FF80;
-
-/// CTRL.VME.
-const VME: u32 = 0x4000_0000;
-
-/// STATUS.LU.
-const LU: u32 = 0x0000_0002;
-
-/// EN of RCTL and of TCTL.
-const EN: u32 = 0x0000_0002;
-
-/// The other bits and fields of RCTL that decide.
-const UPE: u32 = 0x0000_0008;
-
-const MPE_MO: u32 = 0x0000_3010;
-
-const MPE_MO_BAM: u32 = 0x0000_B010;
-
-const LPE: u32 = 0x0000_0020;
-
-const VFE: u32 = 0x0004_0000;
-
-const BSIZE_BSEX: u32 = 0x0203_0000;
 
 /// What of a descriptor decides: its buffer's address, with the length behind it, that length, and CMD.
 const ADDRESS_OCTETS: u32 = 8;
@@ -78,7 +57,7 @@ impl RxIdle {
         ensures { IfOk result (λ looks. looks.items ≡ rx_idle_looks self) }
     {
         match self {
-            RxIdle::Disabled => Vec::from_slice(alloc, &[bits(Reg::Rctl, EN)]),
+            RxIdle::Disabled => Vec::from_slice(alloc, &[bits(Reg::Rctl, Rctl::EN.bits())]),
             RxIdle::NoRing => Vec::from_slice(alloc, &[bits(Reg::Rdlen, LENGTH)]),
             RxIdle::HeadPast { .. } => Vec::from_slice(
                 alloc,
@@ -103,7 +82,7 @@ impl TxIdle {
         ensures { IfOk result (λ looks. looks.items ≡ tx_idle_looks self) }
     {
         match self {
-            TxIdle::Disabled => Vec::from_slice(alloc, &[bits(Reg::Tctl, EN)]),
+            TxIdle::Disabled => Vec::from_slice(alloc, &[bits(Reg::Tctl, Tctl::EN.bits())]),
             TxIdle::NoRing => Vec::from_slice(alloc, &[bits(Reg::Tdlen, LENGTH)]),
             TxIdle::HeadPast { .. } => Vec::from_slice(
                 alloc,
@@ -127,32 +106,47 @@ impl Dropped {
         ensures { IfOk result (λ looks. looks.items ≡ dropped_looks self) }
     {
         match self {
-            Dropped::Down => Vec::from_slice(alloc, &[bits(Reg::Status, LU)]),
-            Dropped::Disabled => Vec::from_slice(alloc, &[bits(Reg::Rctl, EN)]),
+            Dropped::Down => Vec::from_slice(alloc, &[bits(Reg::Status, Status::LU.bits())]),
+            Dropped::Disabled => Vec::from_slice(alloc, &[bits(Reg::Rctl, Rctl::EN.bits())]),
             Dropped::Unicast { .. } => {
-                Vec::from_slice(alloc, &[bits(Reg::Rctl, UPE), Look::Entries])
+                Vec::from_slice(alloc, &[bits(Reg::Rctl, Rctl::UPE.bits()), Look::Entries])
             }
             Dropped::Multicast { hash, .. } => Vec::from_slice(
                 alloc,
-                &[bits(Reg::Rctl, MPE_MO), mta(hash), Look::Entries],
+                &[
+                    bits(Reg::Rctl, Rctl::MPE.union(Rctl::MO).bits()),
+                    mta(hash),
+                    Look::Entries,
+                ],
             ),
             Dropped::Broadcast { hash } => Vec::from_slice(
                 alloc,
-                &[bits(Reg::Rctl, MPE_MO_BAM), mta(hash), Look::Entries],
+                &[
+                    bits(Reg::Rctl, Rctl::MPE.union(Rctl::MO).union(Rctl::BAM).bits()),
+                    mta(hash),
+                    Look::Entries,
+                ],
             ),
             Dropped::Undersize { .. } => Ok(Vec::new(alloc)),
-            Dropped::Oversize { .. } => Vec::from_slice(alloc, &[bits(Reg::Rctl, LPE)]),
+            Dropped::Oversize { .. } => Vec::from_slice(
+                alloc,
+                &[bits(Reg::Rctl, Rctl::LPE.bits())],
+            ),
             Dropped::Vlan { identifier } => Vec::from_slice(
                 alloc,
                 &[
-                    bits(Reg::Rctl, VFE),
+                    bits(Reg::Rctl, Rctl::VFE.bits()),
                     bits(Reg::Vet, LOW_HALF),
                     bits(Reg::Vfta(word_of(identifier)), mask_of(identifier)),
                 ],
             ),
             Dropped::Missed { .. } => Vec::from_slice(
                 alloc,
-                &[Look::Frames, bits(Reg::Ctrl, VME), bits(Reg::Vet, LOW_HALF)],
+                &[
+                    Look::Frames,
+                    bits(Reg::Ctrl, Ctrl::VME.bits()),
+                    bits(Reg::Vet, LOW_HALF),
+                ],
             ),
         }
     }
@@ -191,7 +185,7 @@ impl Refused {
                         first: 0,
                         count: ADDRESS_OCTETS,
                     },
-                    bits(Reg::Rctl, BSIZE_BSEX),
+                    bits(Reg::Rctl, Rctl::BSIZE.union(Rctl::BSEX).bits()),
                     Look::Frames,
                     bits(Reg::Rdbal, BASE),
                     bits(Reg::Rdbah, EVERY_BIT),

@@ -8,13 +8,10 @@ ghost use Rattle.em_reasons.specs.Refused.{octets_at, refused_descriptor, refuse
 ghost use Rattle.em_reasons.specs.Refused.{refused_write, why};
 
 use em_journal::Machine;
-use em_regs::TxSetup;
+use em_regs::{DESCRIPTOR_OCTETS, TxSetup};
 use em_rx::RxDescriptor;
 use em_step::{Event, Refusal};
 use em_tx::TxDescriptor;
-
-/// How many octets a descriptor has.
-const DESCRIPTOR_OCTETS: usize = 16;
 
 /// Why an event was refused. The tests of an event are made in this order, and the first that holds is the reason.
 #[derive(Clone, Copy, Debug, PartialEq, Eq)]

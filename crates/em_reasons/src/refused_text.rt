@@ -4,7 +4,7 @@ ghost use Rattle.em_reasons.specs.RefusedText.{descriptor_then, end_text, long_t
 ghost use Rattle.em_reasons.specs.RefusedText.{rx_buffer_text, tx_buffer_text};
 
 use crate::Refused;
-use crate::piece::{Piece, write_text};
+use em_pieces::{Piece, write_text};
 use em_text::{WriteFailed, write_whole};
 use std::io::Write;
 

@@ -1,15 +1,17 @@
 //! Playing a script, and writing its record as it goes.
 
 use crate::fault::{MOST_EVENTS, RecordFault};
-use crate::lines::{reads_frame, refusal_in, takes_back};
+use crate::lines::{refusal_in, takes_back};
 use em_journal::{Settings, SettingsRefusal};
 use em_output::Outcome;
 use em_recording::{
-    Recorded, record_of, write_event, write_number, write_settings, write_start, write_string,
+    Recorded, newest_frame, record_of, write_event, write_number, write_settings, write_start,
+    write_string,
 };
 use em_script::BenchFault;
 use em_tape::Tape;
 use em_text::{WriteFailed, next_line, write_pieces, write_whole};
+use em_watch::{Difference, Sight, what};
 use std::alloc::{AllocError, Global};
 use std::io::Write;
 
@@ -27,12 +29,48 @@ pub struct Recorder {
     tape: Tape,
     /// The answer of the line that was played last.
     answer: Vec<u8>,
-    /// The octets of the frame that it brought.
-    frame: Vec<u8>,
     /// How many events were recorded.
     events: u64,
     /// Whether a line was bad.
     is_bad: bool,
+}
+
+/// What is told of an event: what it changed, and the frame that it stored.
+#[derive(Drop)]
+struct Told {
+    recorded: Recorded,
+    stored: Option<Vec<u8>>,
+}
+
+/// Whether there are more frames in the FIFO than there were.
+fn has_stored(frames: Option<Difference>) -> bool {
+    match frames {
+        Some(
+            Difference {
+                before: Sight::Count(before),
+                after: Sight::Count(after),
+            },
+        ) => before < after,
+        _ => false,
+    }
+}
+
+/// Writes the record of an event behind `done` others of its line, of which the first has a number.
+fn write_one<W: Write>(
+    writer: &mut W,
+    first: u64,
+    done: usize,
+    one: &Told,
+) -> Result<(), WriteFailed> {
+    if done > 0 {
+        write_whole(writer, b",")?;
+    }
+    let number = first.saturating_add(done as u64);
+    let stored = match &one.stored {
+        Some(octets) => Some(octets.as_slice()),
+        None => None,
+    };
+    write_event(writer, number, &one.recorded, stored)
 }
 
 /// Writes each line's text.
@@ -68,7 +106,6 @@ impl Recorder {
                 settings,
                 tape,
                 answer: Vec::new(alloc),
-                frame: Vec::new(alloc),
                 events: 0,
                 is_bad: false,
             }),
@@ -122,7 +159,7 @@ impl Recorder {
         if outcome != Outcome::Bad && takes_back(line) {
             write_number(writer, b",\"back\":", before.saturating_sub(after))?;
         }
-        self.write_events(writer, line, before, after)?;
+        self.write_events(writer, before, after)?;
         write_whole(writer, b"}")?;
         Ok(())
     }
@@ -150,7 +187,6 @@ impl Recorder {
     fn write_events<W: Write>(
         &mut self,
         writer: &mut W,
-        line: &[u8],
         before: u64,
         after: u64,
     ) -> Result<(), RecordFault> {
@@ -163,85 +199,75 @@ impl Recorder {
         }
         self.events = self.events.saturating_add(count);
         write_whole(writer, b",\"events\":[")?;
-        if count <= FEW {
-            self.write_few(writer, line, before, count as usize)?;
+        let number = before.saturating_add(1);
+        let is_read_at_once = count <= 1 || (count <= FEW && !self.have_stored(count as usize));
+        if is_read_at_once {
+            self.write_few(writer, number, count as usize)?;
         } else {
-            self.write_many(writer, line, before, count as usize)?;
+            self.write_many(writer, number, count as usize)?;
         }
         write_whole(writer, b"]")?;
         Ok(())
     }
 
-    /// Writes the newest events, from where the machine is.
+    /// Whether one of so many newest events stored a frame.
+    fn have_stored(&self, count: usize) -> bool {
+        let machine = self.tape.machine();
+        let most = count.min(machine.can_go_back());
+        (1..=most).any(|back| has_stored(what(machine, back).frames()))
+    }
+
+    /// Writes the newest events, of which the first has a number, from where the machine is. At most the only one stored
+    /// a frame.
     fn write_few<W: Write>(
         &mut self,
         writer: &mut W,
-        line: &[u8],
-        before: u64,
+        number: u64,
         count: usize,
     ) -> Result<(), RecordFault> {
         for done in 0..count {
-            let one = self.newest(count - done)?;
-            self.write_one(writer, line, before, done, &one)?;
+            let one = self.told(count - done)?;
+            write_one(writer, number, done, &one)?;
         }
         Ok(())
     }
 
-    /// Writes the newest events, which are taken back one by one, since what a record of the journal tells has to be
-    /// followed back over all newer ones. The line is then performed again.
+    /// Writes the newest events, which are taken back one by one: what a record of the journal tells has to be followed
+    /// back over all newer ones, and a frame that was stored is read right behind its event. The line is then performed
+    /// again.
     fn write_many<W: Write>(
         &mut self,
         writer: &mut W,
-        line: &[u8],
-        before: u64,
+        number: u64,
         count: usize,
     ) -> Result<(), RecordFault> {
         let mut all = Vec::new(self.alloc);
         for _ in 0..count {
-            let one = self.newest(1)?;
+            let one = self.told(1)?;
             all.push(one).map_err(AllocError::from)?;
             self.tape.back(1);
         }
         self.tape.to_line(self.tape.len())?;
         for (done, one) in all.as_slice().iter().rev().enumerate() {
-            self.write_one(writer, line, before, done, one)?;
+            write_one(writer, number, done, one)?;
         }
         Ok(())
     }
 
-    /// What the event changed before which so many steps back lead.
-    fn newest(&self, back: usize) -> Result<Recorded, RecordFault> {
+    /// What the event changed before which so many steps back lead; the newest at 1 with the frame that it stored.
+    fn told(&self, back: usize) -> Result<Told, RecordFault> {
         let machine = self.tape.machine();
         if back == 0 || back > machine.can_go_back() {
             return Err(RecordFault::JournalTooSmall(self.tape.len()));
         }
-        Ok(record_of(self.alloc, machine, back)?)
-    }
-
-    /// Writes the record of an event behind `done` others of its line.
-    fn write_one<W: Write>(
-        &mut self,
-        writer: &mut W,
-        line: &[u8],
-        before: u64,
-        done: usize,
-        one: &Recorded,
-    ) -> Result<(), RecordFault> {
-        let is_stored = match one.frames {
-            Some(step) => step.after > step.before && reads_frame(line, &mut self.frame)?,
-            None => false,
+        let recorded = record_of(self.alloc, machine, back)?;
+        let stored = match recorded.frames {
+            Some(step) if back == 1 && step.after > step.before => newest_frame(
+                self.alloc, machine,
+            )?,
+            _ => None,
         };
-        if done > 0 {
-            write_whole(writer, b",")?;
-        }
-        let number = before.saturating_add(1).saturating_add(done as u64);
-        let stored = if is_stored {
-            Some(self.frame.as_slice())
-        } else {
-            None
-        };
-        write_event(writer, number, one, stored)?;
-        Ok(())
+        Ok(Told { recorded, stored })
     }
 
     /// Writes how many events stand, and how many lines were played.

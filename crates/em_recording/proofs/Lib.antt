@@ -2,6 +2,8 @@ pub mod ThingLaws
 pub mod RegisterLaws
 pub mod OctetLaws
 pub mod WireLaws
+pub mod GatheredLaws
 pub mod RecordLaws
 pub mod RunLaws
 pub mod StartLaws
+pub mod StringLaws

@@ -1,8 +1,8 @@
 -- The steps of octets, by address.
-use Rattle.std.proofs.Common.{◌≡◌, ◌∙◌, ℕ, ◌+◌, ◌-◌, ◌<◌, ◌≤◌, ◌⊎◌, inl, inr, Bool, true, false, cond, List, [], ◌∷◌, ◌++◌}
-use Rattle.std.proofs.Common.{Option, Some, None, refl, sym, ap, subst, arith, length, take, drop, get_or}
-use Rattle.std.specs.Prelude.{nat_lt, map, slice_get, slice_index, replicate}
-use Rattle.std.specs.Iterator.{Drains, Yields}
+use Rattle.std.proofs.Common.{◌≡◌, ◌∙◌, ℕ, ◌+◌, ◌-◌, ◌<◌, ◌≤◌, inl, inr, Bool, true, false, cond, List, [], ◌∷◌, ◌++◌}
+use Rattle.std.proofs.Common.{Option, Some, None, refl, sym, ap, subst, arith, length, drop, get_or}
+use Rattle.std.specs.Prelude.{nat_lt, slice_get, slice_index, replicate}
+use Rattle.std.specs.Iterator.{Yields}
 use Rattle.std.proofs.lemmas.Bool.{cases_lt}
 use Rattle.std.proofs.lemmas.Bool.Decides.{nat_tests}
 use Rattle.std.proofs.lemmas.List.{get_or_append_left, get_or-take, get_or-drop}
@@ -13,14 +13,13 @@ use Rattle.em_step.specs.State.{State}
 use Rattle.em_journal.specs.View.{View, states}
 use Rattle.em_watch.specs.MemoryChange.{IsMemoryChange, LeavesOctet}
 use Rattle.em_watch.specs.MemorySearch.{GivesOctets, MemorySearch}
-use Rattle.em_watch.specs.Watching.{octets_sight, sight}
+use Rattle.em_watch.specs.Watching.{sight}
 use Rattle.em_watch.specs.declared.octets.MemoryChange.{MemoryChange}
 use Rattle.em_watch.specs.declared.range.MemoryRange.{MemoryRange}
 use Rattle.em_watch.specs.declared.range.TheConstants.{MOST_WATCHED}
 use Rattle.em_watch.specs.declared.watch.Watch.TheVariants.{Octets}
-use Rattle.em_watch.specs.declared.watch.Sight.{Sight}
 use Rattle.em_watch.specs.declared.watch.Sight.TheVariants as sight
-use Rattle.em_watch.proofs.TracedLaws.{mapped, some_is}
+use Rattle.em_watch.proofs.TracedLaws.{mapped}
 use Rattle.em_recording.specs.Effects.{AreOctetSteps}
 use Rattle.em_recording.specs.Steps.{has_address, octet_at}
 use Rattle.em_recording.proofs.ThingLaws.{seen_is}

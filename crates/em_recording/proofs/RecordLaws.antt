@@ -1,17 +1,14 @@
 -- The parts of a record together.
-use Rattle.std.proofs.Common.{◌≡◌, ◌∙◌, ℕ, ◌-◌, Bool, List, length, Option, refl, sym, ap, subst}
-use Rattle.std.specs.Prelude.{slice_get}
-use Rattle.std.specs.Option.{option_map}
-use Rattle.em_step.specs.State.{State}
-use Rattle.em_journal.specs.View.{View, states}
-use Rattle.em_watch.specs.Watching.{sight}
+use Rattle.std.proofs.Common.{◌≡◌, ℕ, Bool, length, Option, sym, subst}
+use Rattle.em_journal.specs.View.{View}
 use Rattle.em_watch.specs.declared.difference.Difference.{Difference}
 use Rattle.em_watch.specs.declared.watch.Watch.TheVariants.{Frames, Line, Link}
 use Rattle.em_recording.specs.Effects.{AreOctetSteps, AreRegisterSteps, Does, bit_in, count_in, step_of}
 use Rattle.em_recording.specs.Rebuild.{IsRecordOf, sent_of}
-use Rattle.em_recording.specs.Shown.{Shown, shown_in}
+use Rattle.em_recording.specs.Shown.{shown_in}
 use Rattle.em_recording.specs.Steps.{step_after, step_before}
 use Rattle.em_recording.specs.Wire.{IsFrameOf}
+use Rattle.em_recording.specs.Gathered.{IsGatheredStep}
 use Rattle.em_recording.specs.declared.recorded.Step.{Step}
 use Rattle.em_recording.specs.declared.recorded.Recorded.{Recorded}
 use Rattle.em_recording.proofs.ThingLaws.{thing_after, thing_before}
@@ -26,6 +23,7 @@ pub record HasParts (v : View) (back : ℕ) (r : Recorded) : Type 0 where
   pub link : (did : Option Difference) × Does Link v back did × (r.link ≡ step_of bit_in did)
   pub line : (did : Option Difference) × Does Line v back did × (r.line ≡ step_of bit_in did)
   pub sent : IsFrameOf v back (sent_of r)
+  pub gathered : IsGatheredStep v back r.gathered
 
 pub is_record_of : (v : View) (back : ℕ) (r : Recorded) → HasParts v back r → IsRecordOf v back r
 is_record_of v back r parts before after was is =
@@ -34,6 +32,7 @@ is_record_of v back r parts before after was is =
     let octets_on = octets_after v back before after was is r.octets.items in
     let octets_off = octets_before v back before after was is r.octets.items in
     let wire = parts.sent before after was is in
+    let gathered = parts.gathered before after was is in
     let frames_on = subst (λ (step : Option (Step ℕ)). step_after step (length before.fifo.frames)
     ≡ length after.fifo.frames) (sym parts.frames.2)
     (thing_after v back before after was is Frames count_in parts.frames.0 parts.frames.1) in
@@ -55,6 +54,7 @@ is_record_of v back r parts before after was is =
         octet = λ a. octets_on a parts.octets i;
         frames = frames_on i;
         wire = wire.0 i;
+        gathered = gathered.forward i;
         link = link_on i;
         line = line_on i;
       };
@@ -63,6 +63,7 @@ is_record_of v back r parts before after was is =
         octet = λ a. octets_off a parts.octets i;
         frames = frames_off i;
         wire = wire.1 i;
+        gathered = gathered.backward i;
         link = link_off i;
         line = line_off i;
       };

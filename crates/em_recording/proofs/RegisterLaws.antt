@@ -1,6 +1,6 @@
 -- The steps of registers, by offset.
-use Rattle.std.proofs.Common.{◌≡◌, ◌∙◌, ℕ, ◌+◌, ◌-◌, ◌<◌, ◌≤◌, ◌⊎◌, inl, inr, Bool, true, false, cond, List, [], ◌∷◌}
-use Rattle.std.proofs.Common.{Option, Some, None, refl, sym, ap, subst, arith, length, ne_eqb}
+use Rattle.std.proofs.Common.{◌≡◌, ◌∙◌, ℕ, ◌+◌, ◌-◌, ◌<◌, ◌≤◌, inl, inr, Bool, true, false, cond, List, [], ◌∷◌}
+use Rattle.std.proofs.Common.{Option, Some, None, refl, sym, ap, subst, arith, ne_eqb}
 use Rattle.std.specs.Prelude.{nat_eq, nat_lt, map, slice_get}
 use Rattle.std.specs.Option.{option_map}
 use Rattle.std.specs.Iterator.{Yields}
@@ -14,10 +14,9 @@ use Rattle.em_step.specs.Access.{gives}
 use Rattle.em_journal.specs.View.{View, states}
 use Rattle.em_watch.specs.Difference.{IsRegisterChange, LeavesOffset}
 use Rattle.em_watch.specs.RegisterSearch.{GivesRegister, RegisterSearch}
-use Rattle.em_watch.specs.Watching.{register_sight, sight}
+use Rattle.em_watch.specs.Watching.{sight}
 use Rattle.em_watch.specs.declared.registers.RegisterChange.{RegisterChange}
 use Rattle.em_watch.specs.declared.watch.Watch.TheVariants.{Register}
-use Rattle.em_watch.specs.declared.watch.Sight.{Sight}
 use Rattle.em_watch.specs.declared.watch.Sight.TheVariants as sight
 use Rattle.em_recording.specs.Effects.{AreRegisterSteps, register_step, value_in}
 use Rattle.em_recording.specs.Steps.{value_at}

@@ -1,5 +1,5 @@
 -- The records of a run, call by call.
-use Rattle.std.proofs.Common.{◌≡◌, ◌∙◌, ℕ, ◌+◌, ◌-◌, ◌<◌, ◌≤◌, zero, suc, List, [], ◌∷◌, length, take, drop, Some, None}
+use Rattle.std.proofs.Common.{◌≡◌, ◌∙◌, ℕ, ◌+◌, ◌-◌, ◌<◌, ◌≤◌, zero, suc, List, [], ◌∷◌, length, take, drop, Some}
 use Rattle.std.proofs.Common.{refl, sym, ap, subst, arith}
 use Rattle.std.specs.Prelude.{slice_get}
 use Rattle.std.proofs.lemmas.List.{length-take}
@@ -8,7 +8,7 @@ use Rattle.em_step.specs.State.{State}
 use Rattle.em_step.specs.Cost.{cost}
 use Rattle.em_journal.specs.History.{Call, performs, refuses, goes_back, is_empty}
 use Rattle.em_journal.specs.View.{View, after_event, back_to, opening, reach, states}
-use Rattle.em_watch.proofs.TracedLaws.{next_item, some_is}
+use Rattle.em_watch.proofs.TracedLaws.{some_is}
 use Rattle.em_recording.specs.Rebuild.{IsRecordOf, LeadsBetween, put_on, take_off}
 use Rattle.em_recording.specs.Run.{AreRecordsFrom, IsRecording, Records, RecordsAll, put_all_on, take_some_off}
 use Rattle.em_recording.specs.Shown.{Shown, shown_in}

@@ -1,5 +1,5 @@
 -- The registers of a record's start, one after another.
-use Rattle.std.proofs.Common.{◌≡◌, ℕ, ◌+◌, suc, List, [], ◌++◌, refl}
+use Rattle.std.proofs.Common.{◌≡◌, ℕ, ◌+◌, suc, [], ◌++◌, refl}
 use Rattle.em_step.specs.State.{State}
 use Rattle.em_recording.specs.StartText.{word_text, words_text}
 

@@ -1,5 +1,5 @@
 -- What is seen just before an event and just after it, in the two states.
-use Rattle.std.proofs.Common.{◌≡◌, ◌∙◌, ℕ, ◌-◌, List, Option, Some, None, refl, sym, ap, subst}
+use Rattle.std.proofs.Common.{◌≡◌, ◌∙◌, ℕ, ◌-◌, Option, Some, None, sym, ap}
 use Rattle.std.specs.Prelude.{IfSome, IfNone, slice_get}
 use Rattle.em_step.specs.State.{State}
 use Rattle.em_journal.specs.View.{View, states}

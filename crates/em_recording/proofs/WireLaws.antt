@@ -1,6 +1,6 @@
 -- The frames that were sent, step by step back.
 use Rattle.std.proofs.Common.{◌≡◌, ◌∙◌, ℕ, ◌+◌, ◌-◌, ◌<◌, ◌≤◌, ◌⊎◌, inl, inr, Bool, true, false, List, [], ◌∷◌, ◌++◌}
-use Rattle.std.proofs.Common.{Option, Some, None, refl, sym, ap, subst, arith, length, take, get_or, suc}
+use Rattle.std.proofs.Common.{Some, None, refl, sym, ap, subst, arith, length, take, get_or, suc}
 use Rattle.std.specs.Prelude.{slice_get, if◌then◌else◌, min}
 use Rattle.std.proofs.lemmas.List.{length-take, length-take-le, take-take, take_all}
 use Rattle.em_regs.specs.declared.reg.Reg.TheVariants.{Tdh}
@@ -16,7 +16,7 @@ use Rattle.em_tx.specs.declared.undo.TxUndo.TheVariants as tx
 use Rattle.em_step.specs.Before.{TakesOffWire}
 use Rattle.em_step.specs.Cells.{Cells, shows}
 use Rattle.em_step.specs.State.{State}
-use Rattle.em_step.specs.Undo.{Fits, undo}
+use Rattle.em_step.specs.Undo.{undo}
 use Rattle.em_step.specs.declared.undo.Undo.{Undo}
 use Rattle.em_step.specs.declared.undo.Effect.{Effect}
 use Rattle.em_step.specs.declared.undo.Effect.TheVariants.{Nothing, Register, Octets, FewOctets, Arrival}
@@ -90,7 +90,7 @@ there_is xs k l = elim (slice_get_cases xs k).1 [
   | inr none ↦ absurd (omega (arith, none.0, l))
 ]
 
-past_there : (v : View) (k : ℕ) (s : State) → slice_get (states v) (k + 1) ≡ Some s → slice_get v.past k ≡ Some s
+pub past_there : (v : View) (k : ℕ) (s : State) → slice_get (states v) (k + 1) ≡ Some s → slice_get v.past k ≡ Some s
 past_there v k s e = sym (next_item v.present v.past k) ∙ e
 
 front_length : (wire : List (List ℕ)) → length (front_of wire) ≡ length wire - 1

@@ -1,5 +1,5 @@
 -- What the parts of an event's record say of it. So many steps back lead to just before the event.
-use Rattle.std.specs.Prelude.{◌≡◌, ℕ, ◌-◌, Bool, false, List, length, map, Option, Some, None, MatchOption}
+use Rattle.std.specs.Prelude.{◌≡◌, ℕ, Bool, false, List, map, Option, Some, None, MatchOption}
 use Rattle.std.specs.Iterator.{Drains}
 use Rattle.em_journal.specs.View.{View}
 use Rattle.em_watch.specs.Difference.{IsDifference, LeavesAsItIs}

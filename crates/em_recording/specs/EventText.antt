@@ -5,6 +5,7 @@ use Rattle.em_names.specs.Names.{name_of}
 use Rattle.em_watch.specs.declared.octets.MemoryChange.{MemoryChange}
 use Rattle.em_recording.specs.Rebuild.{sent_of}
 use Rattle.em_recording.specs.Text.{flag_text, number_text, numbers_text, octets_text}
+use Rattle.em_recording.specs.declared.recorded.GatheredStep.{GatheredStep}
 use Rattle.em_recording.specs.declared.recorded.Recorded.{Recorded}
 use Rattle.em_recording.specs.declared.recorded.RegisterStep.{RegisterStep}
 use Rattle.em_recording.specs.declared.recorded.Step.{Step}
@@ -34,6 +35,13 @@ abbrev pub frame_text : List ℕ → Option (List ℕ) → List ℕ
 frame_text before None = []
 frame_text before (Some frame) = octets_text before frame
 
+-- the gathered octets: how many of the first stay, and those behind them before and after
+abbrev pub gathered_text : Option GatheredStep → List ℕ
+gathered_text None = []
+gathered_text (Some step) =
+    number_text (codes ",\"gathered\":[") step.kept
+    ++ (octets_text (codes ",") step.before.items ++ (octets_text (codes ",") step.after.items ++ codes "]"))
+
 abbrev pub way_text : List ℕ → Option (Step Bool) → List ℕ
 way_text before None = []
 way_text before (Some step) = flag_text before step.before ++ (flag_text (codes ",") step.after ++ codes "]")
@@ -50,5 +58,6 @@ event_text number r stored =
     ++ (list_text change_text (codes ",\"memory\":[") r.octets.items
     ++ (frames_text r.frames
     ++ (frame_text (codes ",\"stored\":") stored
+    ++ (gathered_text r.gathered
     ++ (frame_text (codes ",\"sent\":") (sent_of r)
-    ++ (ways_text r ++ codes "}"))))))
+    ++ (ways_text r ++ codes "}")))))))

@@ -1,6 +1,9 @@
 pub mod Shown
 pub mod Steps
 pub mod Wire
+pub mod Sending
+pub mod Gathered
+pub mod Stored
 pub mod Rebuild
 pub mod Run
 pub mod Effects

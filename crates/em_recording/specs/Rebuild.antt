@@ -1,10 +1,11 @@
 -- Rebuilding what a machine showed from the record of an event: forwards, and backwards.
-use Rattle.std.specs.Prelude.{◌≡◌, ℕ, ◌-◌, List, [], ◌∷◌, ◌++◌, length, take, Option, Some, None, slice_get}
+use Rattle.std.specs.Prelude.{◌≡◌, ℕ, ◌-◌, List, Option, Some, slice_get}
 use Rattle.std.specs.Option.{option_map}
 use Rattle.em_step.specs.State.{State}
 use Rattle.em_journal.specs.View.{View, states}
 use Rattle.em_recording.specs.Shown.{Shown, shown_in}
 use Rattle.em_recording.specs.Wire.{wire_after, wire_before}
+use Rattle.em_recording.specs.Gathered.{gathered_after, gathered_before}
 use Rattle.em_recording.specs.Steps.{octet_at, step_after, step_before, value_at}
 use Rattle.em_recording.specs.declared.recorded.Recorded.{Recorded}
 
@@ -19,6 +20,7 @@ put_on r before = record {
   octet = λ a. octet_at (λ step. step.after) r.octets.items a (before.octet a);
   frames = step_after r.frames before.frames;
   wire = wire_after (sent_of r) before.wire;
+  gathered = gathered_after r.gathered before.gathered;
   link = step_after r.link before.link;
   line = step_after r.line before.line;
 }
@@ -30,6 +32,7 @@ take_off r after = record {
   octet = λ a. octet_at (λ step. step.before) r.octets.items a (after.octet a);
   frames = step_before r.frames after.frames;
   wire = wire_before (sent_of r) after.wire;
+  gathered = gathered_before r.gathered after.gathered;
   link = step_before r.link after.link;
   line = step_before r.line after.line;
 }

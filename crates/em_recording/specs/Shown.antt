@@ -16,6 +16,8 @@ pub record Shown : Type 0 where
   pub frames : ℕ
   -- the frames that were sent, the first one first
   pub wire : List (List ℕ)
+  -- the octets that are gathered for the next one
+  pub gathered : List ℕ
   -- whether the link is up
   pub link : Bool
   -- whether the interrupt line is asserted
@@ -27,6 +29,7 @@ shown_in s = record {
   octet = λ a. slice_get s.memory a;
   frames = length s.fifo.frames;
   wire = s.wire;
+  gathered = s.gathered;
   link = s.link;
   line = is_asserted (causes s.latches) (mask s.latches);
 }

@@ -1,6 +1,7 @@
 -- Strings of JSON, of octets that may be any.
-use Rattle.std.specs.Prelude.{◌≡◌, ℕ, ◌==◌, nat_lt, if◌then◌else◌, List, [], ◌∷◌, ◌++◌, codes}
+use Rattle.std.specs.Prelude.{ℕ, ◌==◌, nat_lt, if◌then◌else◌, List, [], ◌∷◌, ◌++◌, codes, length}
 use Rattle.std.specs.List.{flat_map}
+use Rattle.std.specs.Str.Lossy.{replacement_bytes, utf8_lossy}
 use Rattle.em_text.specs.Writer.{hex_text}
 
 -- an octet of a text: a quotation mark and a backslash behind a backslash, `<` and what lies below a space by a number
@@ -13,3 +14,11 @@ octet_text octet =
 
 abbrev pub escaped : List ℕ → List ℕ
 escaped text = flat_map octet_text text
+
+-- a run of text, and U+FFFD where octets come behind it that are none
+abbrev pub chunk_text : List ℕ → List ℕ → List ℕ
+chunk_text valid invalid = escaped valid ++ (if length invalid == 0 then [] else replacement_bytes)
+
+-- a string: the text that `from_utf8_lossy` makes of octets, escaped, between quotation marks
+abbrev pub string_text : List ℕ → List ℕ
+string_text octets = codes "\"" ++ (escaped (utf8_lossy octets) ++ codes "\"")

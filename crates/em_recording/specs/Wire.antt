@@ -1,6 +1,7 @@
 -- The frames that were sent, before an event and after it.
-use Rattle.std.specs.Prelude.{◌≡◌, ℕ, ◌+◌, ◌-◌, ◌<◌, Bool, true, false, List, [], ◌∷◌, ◌++◌, length, take}
+use Rattle.std.specs.Prelude.{◌≡◌, ℕ, ◌-◌, ◌<◌, Bool, true, false, List, [], ◌∷◌, ◌++◌, length, take}
 use Rattle.std.specs.Prelude.{Option, Some, None, slice_get}
+use Rattle.em_tx.specs.Undo.{last_of}
 use Rattle.em_step.specs.State.{State}
 use Rattle.em_journal.specs.View.{View, states}
 
@@ -28,6 +29,10 @@ SentAt v k came = (before after : State) → slice_get v.past k ≡ Some before 
 abbrev pub HasSent : View → ℕ → ℕ → Type 0
 HasSent v k count = (s : State) → slice_get (states v) k ≡ Some s
     → (count ≡ length s.wire) × (s.wire ≡ take count v.present.wire)
+
+-- so many steps back this frame was sent last; it has no octets where none was sent
+abbrev pub LastIs : View → ℕ → List ℕ → Type 0
+LastIs v k frame = (s : State) → slice_get (states v) k ≡ Some s → last_of s.wire ≡ frame
 
 -- the frame leads from the frames that were sent before the event to those after it, and back
 abbrev pub IsFrameOf : View → ℕ → Option (List ℕ) → Type 0

@@ -1,11 +1,14 @@
 //! What an event of a machine's journal changed.
-ghost use Rattle.std.specs.Prelude.{◌≡◌, ◌<◌, ◌≤◌, length, IfOk};
+ghost use Rattle.std.specs.Prelude.{◌≡◌, ◌<◌, ◌≤◌, ◌-◌, length, IfOk};
 ghost use Rattle.std.specs.Option.{option_map};
 ghost use Rattle.em_recording.specs.Effects.{AreOctetSteps, AreRegisterSteps, bit_in, count_in, step_of, value_in};
 ghost use Rattle.em_recording.specs.Rebuild.{IsRecordOf};
 ghost use Rattle.em_recording.specs.Wire.{HasSent, IsFrameOf, SentAt};
 
+use crate::copied::copied;
+use crate::gathered::gathered_of;
 use crate::recorded::{OctetStep, Recorded, RegisterStep, Step};
+use crate::sending::Sending;
 use em_journal::Machine;
 use em_watch::{Difference, Effect, Sight, what};
 use std::alloc::{AllocError, Global};
@@ -22,11 +25,14 @@ pub fn record_of(alloc: Global, machine: &Machine, back: usize) -> Result<Record
     let line = bits_of(effect.line());
     let registers = registers_of(alloc, &effect)?;
     let octets = octets_of(alloc, &effect)?;
-    let sent = frame_of(alloc, machine, back)?;
+    let after = Sending::until(alloc, machine, back - 1)?;
+    let sent = frame_of(alloc, machine, back, after.sent)?;
+    let gathered = gathered_of(alloc, machine, back, after)?;
     Ok(Recorded {
         registers,
         octets,
         frames,
+        gathered,
         sent,
         link,
         line,
@@ -114,34 +120,26 @@ fn bits_of(did: Option<Difference>) -> Option<Step<bool>>
     }
 }
 
-/// The frame that an event sent, if it sent one.
-fn frame_of(alloc: Global, machine: &Machine, back: usize) -> Result<Option<Vec<u8>>, AllocError>
+/// The frame that an event sent, if it sent one. It is the one before which so many steps back lead; `sent` frames were
+/// sent until after it.
+fn frame_of(
+    alloc: Global,
+    machine: &Machine,
+    back: usize,
+    sent: usize,
+) -> Result<Option<Vec<u8>>, AllocError>
     requires some { 0 < back }
     requires there { back ≤ length machine.now.past }
+    requires sent { HasSent machine.now (back - 1) sent }
     ensures ok { IfOk result (λ sent. IsFrameOf machine.now back (option_map (λ frame. frame.items) sent)) }
 {
-    let after = sent_until(machine, back - 1);
     if !has_sent(machine, back - 1) {
         return Ok(None);
     }
-    match machine.wire_frame(after - 1) {
+    match machine.wire_frame(sent - 1) {
         Some(frame) => Ok(Some(copied(alloc, frame)?)),
         None => unreachable!(),
     }
-}
-
-/// How many frames were sent, so many steps back.
-fn sent_until(machine: &Machine, back: usize) -> usize
-    requires there { back < length machine.now.past }
-    ensures sent { HasSent machine.now back result }
-{
-    let mut count = machine.wire_len();
-    for k in 0..back {
-        if has_sent(machine, k) {
-            count -= 1;
-        }
-    }
-    count
 }
 
 /// Whether the event sent a frame that k steps back lead to.
@@ -153,12 +151,4 @@ fn has_sent(machine: &Machine, k: usize) -> bool
         Some(record) => record.takes_off_wire(),
         None => unreachable!(),
     }
-}
-
-fn copied(alloc: Global, octets: &[u8]) -> Result<Vec<u8>, AllocError>
-    ensures { IfOk result (λ copy. copy.items ≡ octets.now) }
-{
-    let mut copy = Vec::new(alloc);
-    copy.extend_from_slice(octets)?;
-    Ok(copy)
 }

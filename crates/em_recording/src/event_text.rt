@@ -1,14 +1,14 @@
 //! An event's record as JSON.
-ghost use Rattle.std.specs.Prelude.{◌++◌, codes};
+ghost use Rattle.std.specs.Prelude.{◌++◌, Some, codes};
 ghost use Rattle.std.specs.List.{flat_map};
 ghost use Rattle.std.specs.Option.{option_map};
 ghost use Rattle.em_text.specs.Writer.{Writes};
-ghost use Rattle.em_recording.specs.EventText.{change_text, event_text, frame_text, frames_text, list_text};
+ghost use Rattle.em_recording.specs.EventText.{change_text, event_text, frame_text, frames_text, gathered_text, list_text};
 ghost use Rattle.em_recording.specs.EventText.{register_text, way_text, ways_text};
 ghost use Rattle.em_recording.specs.Rebuild.{sent_of};
 
 use crate::numbers::{write_flag, write_hex, write_number, write_numbers};
-use crate::recorded::{OctetStep, Recorded, RegisterStep, Step};
+use crate::recorded::{GatheredStep, OctetStep, Recorded, RegisterStep, Step};
 use em_names::write_name;
 use em_text::{WriteFailed, write_whole};
 use std::io::Write;
@@ -29,6 +29,7 @@ pub fn write_event<W: Write>(
     write_memory(writer, recorded.octets.as_slice())?;
     write_frames(writer, recorded.frames)?;
     write_frame(writer, b",\"stored\":", stored)?;
+    write_gathered(writer, recorded)?;
     write_sent(writer, recorded)?;
     write_ways(writer, recorded)?;
     write_whole(writer, b"}")
@@ -129,6 +130,27 @@ fn write_frames<W: Write>(writer: &mut W, step: Option<Step<usize>>) -> Result<(
         }
         None => Ok(()),
     }
+}
+
+/// Writes how the gathered octets changed.
+fn write_gathered<W: Write>(writer: &mut W, recorded: &Recorded) -> Result<(), WriteFailed>
+    ensures writes { Writes (W.contents writer.old) (W.contents writer.new) result
+        (gathered_text recorded.now.gathered) }
+{
+    match &recorded.gathered {
+        Some(step) => write_gathered_step(writer, step),
+        None => Ok(()),
+    }
+}
+
+fn write_gathered_step<W: Write>(writer: &mut W, step: &GatheredStep) -> Result<(), WriteFailed>
+    ensures writes { Writes (W.contents writer.old) (W.contents writer.new) result
+        (gathered_text (Some step.now)) }
+{
+    write_number(writer, b",\"gathered\":[", step.kept as u64)?;
+    write_hex(writer, b",", step.before.as_slice())?;
+    write_hex(writer, b",", step.after.as_slice())?;
+    write_whole(writer, b"]")
 }
 
 fn write_sent<W: Write>(writer: &mut W, recorded: &Recorded) -> Result<(), WriteFailed>

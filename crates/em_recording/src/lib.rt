@@ -5,18 +5,23 @@
 //! forwards and backwards.
 #![tactic(auto)]
 
+mod copied;
 mod effects;
 mod event_text;
+mod gathered;
 mod laws;
 mod numbers;
 mod recorded;
+mod sending;
 mod start;
+mod stored;
 mod strings;
 
 pub use effects::record_of;
 pub use event_text::write_event;
 pub use laws::{newest_records_rebuild, records_rebuild};
 pub use numbers::write_number;
-pub use recorded::{OctetStep, Recorded, RegisterStep, Step};
+pub use recorded::{GatheredStep, OctetStep, Recorded, RegisterStep, Step};
 pub use start::{write_settings, write_start};
+pub use stored::newest_frame;
 pub use strings::write_string;

@@ -21,6 +21,15 @@ pub struct RegisterStep {
 /// Octets side by side that an event changed, at most 16.
 pub type OctetStep = MemoryChange;
 
+/// How the octets that are gathered for the next frame changed: the first `kept` of them stayed, and behind those came
+/// others.
+#[derive(Drop)]
+pub struct GatheredStep {
+    pub kept: usize,
+    pub before: Vec<u8>,
+    pub after: Vec<u8>,
+}
+
 /// What an event changed. What it left as it was is not in here.
 #[derive(Drop)]
 pub struct Recorded {
@@ -30,6 +39,8 @@ pub struct Recorded {
     pub octets: Vec<OctetStep>,
     /// How many frames lay in the FIFO.
     pub frames: Option<Step<usize>>,
+    /// The octets that are gathered for the next frame to be sent.
+    pub gathered: Option<GatheredStep>,
     /// The frame that was sent.
     pub sent: Option<Vec<u8>>,
     /// Whether the link was up.

@@ -1,26 +1,52 @@
 //! Strings of JSON, of octets that may be any.
+ghost use Rattle.std.specs.Str.Chunks.{utf8_chunk_invalid, utf8_chunk_valid};
+ghost use Rattle.std.specs.Str.Lossy.{utf8_lossy};
 ghost use Rattle.em_text.specs.Writer.{Writes};
-ghost use Rattle.em_recording.specs.Strings.{escaped, octet_text};
+ghost use Rattle.em_recording.specs.Strings.{chunk_text, escaped, octet_text, string_text};
 
 use em_text::{WriteFailed, octet_digits, write_pieces, write_whole};
 use std::io::Write;
+use std::str::Utf8Chunk;
 
 /// Octets below this one are written by their number.
 const FIRST_PLAIN: u8 = 0x20;
 
-/// Writes octets as a string of JSON. Octets that are no UTF-8 are written as U+FFFD, one for each piece that
-/// `String::from_utf8_lossy` takes as one.
+/// U+FFFD, as UTF-8.
+const REPLACEMENT: [u8; 3] = [0xEF, 0xBF, 0xBD];
+
+/// Writes octets as a string of JSON, with the text that `String::from_utf8_lossy` makes of them: of octets that are no
+/// UTF-8, U+FFFD for each piece that it takes as one.
 ///
 /// `<` is always written by its number, so that the text can stand within a page's script.
-pub fn write_string<W: Write>(writer: &mut W, octets: &[u8]) -> Result<(), WriteFailed> {
+pub fn write_string<W: Write>(writer: &mut W, octets: &[u8]) -> Result<(), WriteFailed>
+    ensures writes { Writes (W.contents writer.old) (W.contents writer.new) result (string_text octets.now) }
+{
     write_whole(writer, b"\"")?;
-    for chunk in octets.utf8_chunks() {
-        write_escaped(writer, chunk.valid().as_bytes())?;
-        if !chunk.invalid().is_empty() {
-            write_whole(writer, b"\\ufffd")?;
-        }
-    }
+    write_lossy(writer, octets)?;
     write_whole(writer, b"\"")
+}
+
+/// Writes the text of octets, with those escaped that a string can't hold.
+fn write_lossy<W: Write>(writer: &mut W, octets: &[u8]) -> Result<(), WriteFailed>
+    ensures writes { Writes (W.contents writer.old) (W.contents writer.new) result (escaped (utf8_lossy octets.now)) }
+{
+    for chunk in octets.utf8_chunks() {
+        write_chunk(writer, chunk)?;
+    }
+    Ok(())
+}
+
+/// Writes a run of text, and U+FFFD where octets come behind it that are no text.
+fn write_chunk<W: Write>(writer: &mut W, chunk: Utf8Chunk<'_>) -> Result<(), WriteFailed>
+    ensures writes { Writes (W.contents writer.old) (W.contents writer.new) result
+        (chunk_text (utf8_chunk_valid chunk.entry) (utf8_chunk_invalid chunk.entry)) }
+{
+    write_escaped(writer, chunk.valid().as_bytes())?;
+    if chunk.invalid().is_empty() {
+        Ok(())
+    } else {
+        write_whole(writer, &REPLACEMENT)
+    }
 }
 
 /// Writes octets of a text, with those escaped that a string can't hold.

@@ -44,8 +44,8 @@ impl Flags for Ctrl {
 
 /// STATUS, the device status register (manual, chapter on register descriptions).
 ///
-/// FD says full duplex and LU that the link is up; SPEED is a field of two bits, and SPEED_1000 is its
-/// value for 1000 Mb/s.
+/// FD says full duplex and LU that the link is up; SPEED is a field of two bits, and SPEED_100 and SPEED_1000 are its
+/// values for 100 and 1000 Mb/s.
 #[derive(Clone, Copy, PartialEq, Eq, Debug)]
 pub struct Status(u32);
 
@@ -54,6 +54,7 @@ bitflag_items! {
         const FD = 0x0000_0001;
         const LU = 0x0000_0002;
         const SPEED = 0x0000_00C0;
+        const SPEED_100 = 0x0000_0040;
         const SPEED_1000 = 0x0000_0080;
     }
 }
@@ -64,7 +65,7 @@ impl Flags for Status {
     ghost exact = { ⊤ };
 
     ghost table = { (codes "FD", 0x0000_0001) ∷ (codes "LU", 0x0000_0002) ∷ (codes "SPEED", 0x0000_00C0) ∷
-        (codes "SPEED_1000", 0x0000_0080) ∷ [] };
+        (codes "SPEED_100", 0x0000_0040) ∷ (codes "SPEED_1000", 0x0000_0080) ∷ [] };
 
     ghost set_of = { λ status. status.0 };
 

@@ -5,11 +5,13 @@ mod bits;
 pub mod laws;
 mod reg;
 mod reg_file;
+mod ring;
 mod setup;
 mod table;
 
 pub use bits::{Causes, Ctrl, Eerd, Rah, Rctl, Status, Tctl};
 pub use reg::Reg;
 pub use reg_file::{RegFile, RegUndo};
-pub use setup::{RxSetup, TxSetup};
+pub use ring::{DESCRIPTOR_OCTETS, Ring, following};
+pub use setup::{RxSetup, TxSetup, buffer_size};
 pub use table::{COUNTER_WORDS, Kind, Row, SPACE};

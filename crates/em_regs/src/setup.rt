@@ -3,19 +3,18 @@ ghost use Rattle.std.specs.Prelude.{◌≡◌, ◌<◌, ◌≤◌, ◌^◌};
 ghost use Rattle.em_regs.specs.Storage.{Registers};
 ghost use Rattle.em_regs.specs.Setup.{pair, buffer_size, few_of};
 ghost use Rattle.em_regs.specs.RegFile.{IsStored};
+ghost use Rattle.em_regs.specs.Ring.{rx_ring, tx_ring};
 
 use crate::bits::{Ctrl, Rctl, Tctl};
 use crate::reg::Reg;
 use crate::reg_file::RegFile;
+use crate::ring::{DESCRIPTOR_OCTETS, Ring};
 use bitflags::Flags;
 
 /// The lowest bit of RCTL.BSIZE and of RCTL.RDMTS, fields of two bits.
 const BSIZE_BIT: u32 = 0x0001_0000;
 
 const RDMTS_BIT: u32 = 0x0000_0100;
-
-/// The octets of a descriptor.
-const DESCRIPTOR: u32 = 16;
 
 /// The sizes of a receive buffer in octets by BSIZE, with BSEX clear.
 const SIZES: [u32; 4] = [2048, 1024, 512, 256];
@@ -61,6 +60,38 @@ pub struct TxSetup {
     pub vlan: Option<u16>,
 }
 
+impl RxSetup {
+    /// Its ring.
+    #[inline(always)]
+    pub fn ring(&self) -> Ring
+        ensures { result ≡ rx_ring self.now }
+    {
+        Ring {
+            enabled: self.enabled,
+            base: self.base,
+            count: self.count,
+            head: self.head,
+            tail: self.tail,
+        }
+    }
+}
+
+impl TxSetup {
+    /// Its ring.
+    #[inline(always)]
+    pub fn ring(&self) -> Ring
+        ensures { result ≡ tx_ring self.now }
+    {
+        Ring {
+            enabled: self.enabled,
+            base: self.base,
+            count: self.count,
+            head: self.head,
+            tail: self.tail,
+        }
+    }
+}
+
 impl RegFile {
     ghost use Rattle.em_regs.specs.Setup.{rx_setup, tx_setup};
 
@@ -71,7 +102,7 @@ impl RegFile {
         ensures buffer { result.buffer ≤ 16_384 }
     {
         let rctl = self.look(Reg::Rctl);
-        let count = self.look(Reg::Rdlen) / DESCRIPTOR;
+        let count = self.look(Reg::Rdlen) / DESCRIPTOR_OCTETS as u32;
         RxSetup {
             enabled: Rctl::from_bits_retain(rctl).contains(Rctl::EN),
             base: self.register_pair(Reg::Rdbah, Reg::Rdbal),
@@ -94,7 +125,7 @@ impl RegFile {
             enabled: tctl.contains(Tctl::EN),
             pad: tctl.contains(Tctl::PSP),
             base: self.register_pair(Reg::Tdbah, Reg::Tdbal),
-            count: self.look(Reg::Tdlen) / DESCRIPTOR,
+            count: self.look(Reg::Tdlen) / DESCRIPTOR_OCTETS as u32,
             head: self.look(Reg::Tdh),
             tail: self.look(Reg::Tdt),
             vlan: if tagging { Some(vet) } else { None },
@@ -111,7 +142,8 @@ impl RegFile {
     }
 }
 
-fn buffer_size(rctl: u32) -> u32
+/// The size of a receive buffer in octets by RCTL.BSIZE and BSEX (manual, chapter on register descriptions).
+pub fn buffer_size(rctl: u32) -> u32
     ensures size { result ≡ buffer_size rctl }
     ensures most { result ≤ 16_384 }
 {

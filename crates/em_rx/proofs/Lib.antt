@@ -3,6 +3,7 @@ pub mod PatchLaws
 pub mod CutLaws
 pub mod ArrivalLaws
 pub mod DeliveryLaws
+pub mod LastLaws
 pub mod BackLaws
 pub mod StepLaws
 pub mod MadePages

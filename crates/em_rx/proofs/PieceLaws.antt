@@ -9,6 +9,7 @@ use Rattle.std.proofs.Math.Nat.{mul-le-mul_right}
 use Rattle.em_mem.specs.Memory.{IsHeld, part, put}
 use Rattle.em_mem.proofs.PutLaws.{drop_past-put, length-part, length-put, part-put}
 use Rattle.em_regs.specs.declared.setup.RxSetup.{RxSetup}
+use Rattle.em_regs.specs.Ring.{following}
 use Rattle.em_rx.specs.Ring.{wrap}
 use Rattle.em_rx.specs.Frame.{Frame}
 use Rattle.em_rx.specs.Fifo.{Fifo, after_delivery}
@@ -50,25 +51,25 @@ if_true b x y is = ap (λ (c : Bool). if c then x else y) is
 
 -- the descriptor after the one k places behind RDH
 following_place : (n h k : ℕ) → h < n → k < n →
-    (if wrap n (h + k) + 1 == n then 0 else wrap n (h + k) + 1) ≡ wrap n (h + suc k)
+    following n (wrap n (h + k)) ≡ wrap n (h + suc k)
 following_place n h k inside less = elim (cases_lt (h + suc k) n) [
   | inl low ↦
       let here : wrap n (h + k) ≡ h + k = grind (arith, nat_tests) in
       let there : wrap n (h + suc k) ≡ h + suc k = grind (arith, nat_tests) in
-      let test : (wrap n (h + k) + 1 == n) ≡ false = grind (arith, nat_tests) in
-      if_false _ 0 (wrap n (h + k) + 1) test ∙ omega arith
+      let test : nat_lt (wrap n (h + k) + 1) n ≡ true = grind (arith, nat_tests) in
+      if_true _ (wrap n (h + k) + 1) 0 test ∙ omega arith
   | inr high ↦
       let there : wrap n (h + suc k) ≡ h + suc k - n = grind (arith, nat_tests) in
       elim (cases_eq (h + suc k) n) [
         | inl last ↦
             let here : wrap n (h + k) ≡ h + k = grind (arith, nat_tests) in
-            let test : (wrap n (h + k) + 1 == n) ≡ true = grind (arith, nat_tests) in
-            if_true _ 0 (wrap n (h + k) + 1) test ∙ omega arith
+            let test : nat_lt (wrap n (h + k) + 1) n ≡ false = grind (arith, nat_tests) in
+            if_false _ (wrap n (h + k) + 1) 0 test ∙ omega arith
         | inr past ↦
             let over : n ≤ h + k = omega arith in
             let here : wrap n (h + k) ≡ h + k - n = grind (arith, nat_tests) in
-            let test : (wrap n (h + k) + 1 == n) ≡ false = grind (arith, nat_tests) in
-            if_false _ 0 (wrap n (h + k) + 1) test ∙ omega arith
+            let test : nat_lt (wrap n (h + k) + 1) n ≡ true = grind (arith, nat_tests) in
+            if_true _ (wrap n (h + k) + 1) 0 test ∙ omega arith
       ]
 ]
 

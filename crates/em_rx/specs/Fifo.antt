@@ -1,10 +1,10 @@
 -- What the FIFO shows, and what it keeps.
 use Rattle.std.specs.Prelude.{◌≡◌, ℕ, ◌+◌, ◌-◌, ◌<◌, ◌≤◌, nat_lt, if◌then◌else◌, List, [], ◌∷◌, ◌++◌, All, length, take}
-use Rattle.std.specs.Prelude.{drop, replicate, sum_by, Option, None, refl}
+use Rattle.std.specs.Prelude.{drop, replicate, slice_index_or, sum_by, Option, None, refl}
 use Rattle.std.specs.Coded.{Coded, code_by, coded×, coded_list, coded_ℕ, coded_option}
 use Rattle.em_mem.specs.Memory.{part}
 use Rattle.em_rx.specs.Frame.{Frame, len_of}
-use Rattle.em_rx.specs.Ring.{turn}
+use Rattle.em_rx.specs.Ring.{ring_part, turn, wrap}
 use Rattle.em_rx.specs.declared.places.Entry.{Entry}
 use Rattle.em_rx.specs.declared.places.Places.{Places}
 
@@ -32,6 +32,10 @@ HasRoom fifo n = octets_in fifo + n ≤ 49_152
 -- the oldest frame
 abbrev pub first : Fifo → Frame
 first fifo = elim fifo.frames [ [] ↦ record { octets = []; tag = None } | frame ∷ frames ↦ frame ]
+
+-- the newest frame
+abbrev pub last : Fifo → Frame
+last fifo = slice_index_or fifo.frames (length fifo.frames - 1) (record { octets = []; tag = None })
 
 -- how many of its octets are not in guest memory yet
 abbrev pub rest : Fifo → ℕ
@@ -112,6 +116,13 @@ fresh = record {
   entries = replicate 877 (record { len = 0; tag = None });
   places = record { head = 0; first = 0; count = 0; taken = 0; used = 0 };
 }
+
+-- the entry is that of the newest frame, whose octets end where the FIFO's do
+pub record IsLast (c : Cells) (e : Entry) : Type 0 where
+  pub tag : e.tag ≡ (last (shows c)).tag
+  pub used : e.len ≤ c.places.used
+  pub octets : ring_part c.octets (wrap 49_152 (c.places.head + (c.places.used - e.len))) e.len
+      ≡ (last (shows c)).octets
 
 -- the entry is that of the first frame
 pub record IsFirst (c : Cells) (e : Entry) : Type 0 where

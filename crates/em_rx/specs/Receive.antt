@@ -1,8 +1,10 @@
 -- The receive engine's step, over what the registers set up, the octets of guest memory and what the FIFO shows.
-use Rattle.std.specs.Prelude.{◌≡◌, ℕ, ◌+◌, ◌-◌, ◌*◌, ◌%◌, ◌==◌, ◌||◌, min, nat_lt, nat_le, if◌then◌else◌, Bool, not}
+use Rattle.std.specs.Prelude.{◌≡◌, ℕ, ◌+◌, ◌-◌, ◌*◌, ◌%◌, ◌==◌, ◌||◌, min, nat_lt, nat_le, if◌then◌else◌, Bool}
 use Rattle.std.specs.Prelude.{List, length, Result, Ok, Err}
 use Rattle.em_mem.specs.Memory.{part, put}
 use Rattle.em_regs.specs.declared.setup.RxSetup.{RxSetup}
+use Rattle.em_regs.specs.Ring as ring
+use Rattle.em_regs.specs.Ring.{rx_ring}
 use Rattle.em_rx.specs.Descriptor.{descriptor_of, written_back}
 use Rattle.em_rx.specs.Fifo.{Fifo, after_delivery, first, next, rest}
 use Rattle.em_rx.specs.declared.receive.RxAnswer.{RxAnswer}
@@ -10,17 +12,13 @@ use Rattle.em_rx.specs.declared.receive.RxAnswer.TheVariants.{Idle, Wrote}
 use Rattle.em_rx.specs.declared.refusal.RxRefusal.{RxRefusal}
 use Rattle.em_rx.specs.declared.refusal.RxRefusal.TheVariants.{DmaRange, Memory}
 
--- no descriptor belongs to the adapter: EN clear, RDH or RDT at the ring's count or past it, or RDH = RDT
-abbrev pub has_no_descriptor : RxSetup → Bool
-has_no_descriptor q = not q.enabled || nat_le q.count q.head || nat_le q.count q.tail || q.head == q.tail
-
--- nothing is done
+-- nothing is done: no descriptor is the adapter's, or no frame waits
 abbrev pub is_idle : RxSetup → Fifo → Bool
-is_idle q fifo = has_no_descriptor q || length fifo.frames == 0
+is_idle q fifo = ring.is_idle (rx_ring q) || length fifo.frames == 0
 
 -- where the descriptor lies
 abbrev pub descriptor_at : RxSetup → ℕ
-descriptor_at q = q.base + 16 * q.head
+descriptor_at q = ring.descriptor_at (rx_ring q) q.head
 
 -- where its buffer lies
 abbrev pub buffer_at : RxSetup → List ℕ → ℕ
@@ -40,15 +38,19 @@ after_write q memory fifo =
     put (put memory (buffer_at q memory) (next fifo (count_of q fifo))) (descriptor_at q + 8)
     (written_back (count_of q fifo) (is_last q fifo) (first fifo).tag)
 
--- the descriptor after this one
+-- the descriptor behind it
 abbrev pub following : RxSetup → ℕ
-following q = if q.head + 1 == q.count then 0 else q.head + 1
+following q = ring.next (rx_ring q)
 
 -- RXT0 with the last octet of a frame, and RXDMT0 where the adapter's descriptors are now as many as the threshold
 abbrev pub causes_of : RxSetup → Bool → ℕ
 causes_of q last =
     (if last then 0x80 else 0)
     + (if (q.tail + q.count - following q) % q.count == q.threshold then 0x10 else 0)
+
+-- what a step answers that writes
+abbrev pub wrote : RxSetup → Bool → RxAnswer
+wrote q last = Wrote q.head (following q) (causes_of q last)
 
 -- what a step leaves: its answer, the octets of guest memory, and what the FIFO shows
 pub record Outcome : Type 0 where
@@ -59,7 +61,7 @@ pub record Outcome : Type 0 where
 -- a step that writes
 abbrev pub delivery : RxSetup → List ℕ → Fifo → Outcome
 delivery q memory fifo = record {
-  answer = Wrote q.head (following q) (causes_of q (is_last q fifo));
+  answer = wrote q (is_last q fifo);
   memory = after_write q memory fifo;
   fifo = after_delivery fifo (count_of q fifo);
 }

@@ -5,26 +5,14 @@ ghost use Rattle.em_rx.specs.Descriptor.{descriptor_of, written_back as octets_o
 use byteorder::{ByteOrder, LittleEndian};
 use std::marker::Model;
 
-/// How many octets a descriptor has.
-pub(crate) const DESCRIPTOR_OCTETS: usize = 16;
-
 /// The first of its octets that the adapter writes back.
 pub(crate) const WRITTEN_AT: u64 = 8;
 
 /// How many octets the adapter writes back.
 pub(crate) const WRITTEN_OCTETS: usize = 8;
 
-/// The descriptor was written back.
-const DD: u8 = 0x01;
-
-/// The frame's last octet is in its buffer.
-const EOP: u8 = 0x02;
-
-/// No checksum was made.
-const IXSM: u8 = 0x04;
-
-/// The frame had a VLAN tag.
-const VP: u8 = 0x08;
+/// The status bits of each descriptor that is written back.
+const WRITTEN: u8 = RxDescriptor::DD | RxDescriptor::IXSM;
 
 /// A receive descriptor, as it lies in guest memory.
 #[derive(Drop)]
@@ -53,6 +41,18 @@ impl Model for RxDescriptor {
 }
 
 impl RxDescriptor {
+    /// A bit of the status: the descriptor was written back.
+    pub const DD: u8 = 0x01;
+
+    /// A bit of the status: the frame's last octet is in the buffer.
+    pub const EOP: u8 = 0x02;
+
+    /// A bit of the status: no checksum was made.
+    pub const IXSM: u8 = 0x04;
+
+    /// A bit of the status: the frame had a VLAN tag.
+    pub const VP: u8 = 0x08;
+
     /// The descriptor that 16 octets are.
     pub fn read(octets: &[u8]) -> RxDescriptor
         requires { length octets.now ≡ 16 }
@@ -116,9 +116,9 @@ pub(crate) fn written_back(count: u16, last: bool, tag: Option<u16>) -> [u8; WRI
     ensures { result ≡ octets_of count last tag }
 {
     let (status, special) = match (last, tag) {
-        (false, _) => (DD | IXSM, 0),
-        (true, None) => (DD | IXSM | EOP, 0),
-        (true, Some(tag)) => (DD | IXSM | EOP | VP, tag),
+        (false, _) => (WRITTEN, 0),
+        (true, None) => (WRITTEN | RxDescriptor::EOP, 0),
+        (true, Some(tag)) => (WRITTEN | RxDescriptor::EOP | RxDescriptor::VP, tag),
     };
     let [length_low, length_high] = count.to_le_bytes();
     let [special_low, special_high] = special.to_le_bytes();

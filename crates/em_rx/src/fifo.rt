@@ -5,7 +5,8 @@ ghost use Rattle.em_mem.specs.Memory as memory;
 ghost use Rattle.em_mem.specs.Memory.{IsHeld, IsMade, part, put};
 ghost use Rattle.em_rx.specs.Frame.{stored_frame};
 ghost use Rattle.em_rx.specs.StoredFrame.{LiesSo};
-ghost use Rattle.em_rx.specs.Fifo.{after_arrival, empty, first, fresh, HasRoom, IsFirst, IsSound, next, rest, shows};
+ghost use Rattle.em_rx.specs.Fifo.{after_arrival, empty, first, fresh, HasRoom, IsFirst, IsLast, IsSound, last, next, rest};
+ghost use Rattle.em_rx.specs.Fifo.{shows};
 ghost use Rattle.em_rx.specs.Undo.{Fits, FitsFrame, FitsStep, IsMove, Reverses, ReversesStep, octets_held, undo_fifo};
 ghost use Rattle.em_rx.specs.Undo.{IsOverwritten, delivered, undo_memory, with_both, with_patch};
 ghost use Rattle.em_rx.specs.Ring.{ring_part};
@@ -275,6 +276,25 @@ impl Fifo {
         })
     }
 
+    /// The newest frame, as it lies in the packet buffer; none where no frame waits.
+    pub fn last_frame(&self) -> Option<StoredFrame<'_>>
+        ensures none { IsNone result ↔ (length (shows self.now).frames ≡ 0) }
+        ensures lies { IfSome result (LiesSo (last (shows self.now))) }
+    {
+        if self.places.count == 0 {
+            return None;
+        }
+        let entry = self.last_entry();
+        let len = entry.len as u32;
+        let at = wrap(OCTETS, self.places.head + (self.places.used - len));
+        let (front, back) = pieces(self.octets.as_slice(), at as usize, len as usize);
+        Some(StoredFrame {
+            front,
+            back,
+            tag: entry.tag,
+        })
+    }
+
     /// Whether no frame waits.
     pub(crate) fn is_empty(&self) -> bool
         ensures { IsTrue result ↔ (length (shows self.now).frames ≡ 0) }
@@ -288,6 +308,15 @@ impl Fifo {
         ensures { IsFirst self.now result }
     {
         self.entries[self.places.first as usize]
+    }
+
+    /// The entry of the newest frame.
+    fn last_entry(&self) -> Entry
+        requires { 0 < length (shows self.now).frames }
+        ensures { IsLast self.now result }
+    {
+        let index = wrap(ENTRIES, self.places.first + (self.places.count - 1));
+        self.entries[index as usize]
     }
 
     /// How many octets of the first frame are not in guest memory yet.

@@ -7,12 +7,12 @@ ghost use Rattle.em_rx.specs.Receive as spec;
 ghost use Rattle.em_rx.specs.Receive.{receive, Refuses, octets_written};
 ghost use Rattle.em_rx.specs.Undo.{IsRecordOf, ReversesInPages, octets_held};
 
-use crate::descriptor::{DESCRIPTOR_OCTETS, RxDescriptor, WRITTEN_AT, WRITTEN_OCTETS};
+use crate::descriptor::{RxDescriptor, WRITTEN_AT, WRITTEN_OCTETS};
 use crate::ring::wrap;
 use crate::{Fifo, RxRefusal, RxUndo};
 use bitflags::Flags;
 use em_mem::GuestMemory;
-use em_regs::{Causes, RxSetup};
+use em_regs::{Causes, DESCRIPTOR_OCTETS, RxSetup};
 
 /// What a receive step did.
 #[derive(Clone, Copy, Debug, PartialEq, Eq)]
@@ -22,29 +22,6 @@ pub enum RxAnswer {
     /// Descriptor `index` was filled and written back. RDH is `next` from now on, and `causes` are
     /// raised in ICR: RXT0, RXDMT0, both or none.
     Wrote { index: u32, next: u32, causes: u32 },
-}
-
-/// Whether no descriptor is the adapter's.
-fn has_no_descriptor(setup: &RxSetup) -> bool
-    ensures { result ≡ spec.has_no_descriptor setup.now }
-{
-    !setup.enabled
-        || setup.count <= setup.head
-        || setup.count <= setup.tail
-        || setup.head == setup.tail
-}
-
-/// The descriptor after this one: behind the ring's last comes its first.
-fn following(setup: &RxSetup) -> u32
-    requires { setup.now.head < setup.now.count }
-    ensures place { result ≡ spec.following setup.now }
-    ensures within { result < setup.now.count }
-{
-    if setup.head + 1 == setup.count {
-        0
-    } else {
-        setup.head + 1
-    }
 }
 
 /// The causes that a step raises.
@@ -57,13 +34,27 @@ fn causes_of(setup: &RxSetup, last: bool) -> u32
 {
     let delivered = if last { Causes::RXT0.bits() } else { 0 };
     // less than two rounds of the ring
-    let left = wrap(setup.count, setup.tail + setup.count - following(setup));
+    let left = wrap(setup.count, setup.tail + setup.count - setup.ring().next());
     let low = if left == setup.threshold {
         Causes::RXDMT0.bits()
     } else {
         0
     };
     delivered + low
+}
+
+/// What a step answers that wrote.
+fn wrote(setup: &RxSetup, last: bool) -> RxAnswer
+    requires head { setup.now.head < setup.now.count }
+    requires tail { setup.now.tail < setup.now.count }
+    requires count { setup.now.count < 2 ^ 28 }
+    ensures { result ≡ spec.wrote setup.now last }
+{
+    RxAnswer::Wrote {
+        index: setup.head,
+        next: setup.ring().next(),
+        causes: causes_of(setup, last),
+    }
 }
 
 /// The descriptor at RDH.
@@ -87,7 +78,7 @@ fn fetch(memory: &GuestMemory, setup: &RxSetup) -> Result<Fetched, RxRefusal>
 {
     // no place in memory lies past 2^64
     let _size = memory.len();
-    let Some(at) = setup.base.checked_add(16 * setup.head as u64) else {
+    let Some(at) = setup.ring().address_of(setup.head) else {
         return Err(RxRefusal::DmaRange);
     };
     if !memory.holds(at, DESCRIPTOR_OCTETS as u64) {
@@ -109,7 +100,7 @@ impl Fifo {
     pub fn is_idle(&self, setup: &RxSetup) -> bool
         ensures { result ≡ spec.is_idle setup.now (shows self.now) }
     {
-        has_no_descriptor(setup) || self.is_empty()
+        setup.ring().is_idle() || self.is_empty()
     }
 
     /// One step of the receive engine.
@@ -150,11 +141,6 @@ impl Fifo {
         memory.touch(found.buffer, count as u64)?;
         memory.touch(found.end_at, WRITTEN_OCTETS as u64)?;
         self.deliver(memory, &mut patch, last);
-        let answer = RxAnswer::Wrote {
-            index: setup.head,
-            next: following(&setup),
-            causes: causes_of(&setup, last),
-        };
-        Ok((answer, RxUndo::Step(patch)))
+        Ok((wrote(&setup, last), RxUndo::Step(patch)))
     }
 }

@@ -1,7 +1,7 @@
 //! The session that is shown. Its calls have no contracts, so that the prover carries none on.
 
 use anyhow::{Result, bail};
-use em_inspect::{Ring, write_ring, write_stored_frame};
+use em_inspect::{SidedRing, write_ring, write_stored_frame};
 use em_journal::Settings;
 use em_script::{Player, Session};
 use std::alloc::Global;
@@ -60,14 +60,14 @@ impl Shown {
     }
 
     pub(crate) fn show_rx<W: Write>(&self, writer: &mut W, from: u32, most: u32) -> Result<()> {
-        self.show(writer, &Ring::rx(self.session.machine()), from, most)
+        self.show(writer, &SidedRing::rx(self.session.machine()), from, most)
     }
 
     pub(crate) fn show_tx<W: Write>(&self, writer: &mut W, from: u32, most: u32) -> Result<()> {
-        self.show(writer, &Ring::tx(self.session.machine()), from, most)
+        self.show(writer, &SidedRing::tx(self.session.machine()), from, most)
     }
 
-    fn show<W: Write>(&self, writer: &mut W, ring: &Ring, from: u32, most: u32) -> Result<()> {
+    fn show<W: Write>(&self, writer: &mut W, ring: &SidedRing, from: u32, most: u32) -> Result<()> {
         if write_ring(writer, self.session.machine(), ring, from, most).is_err() {
             bail!("a ring was not written");
         }
@@ -75,11 +75,11 @@ impl Shown {
     }
 
     pub(crate) fn rx_from(&self) -> u32 {
-        Ring::rx(self.session.machine()).shown_from()
+        SidedRing::rx(self.session.machine()).shown_from()
     }
 
     pub(crate) fn tx_from(&self) -> u32 {
-        Ring::tx(self.session.machine()).shown_from()
+        SidedRing::tx(self.session.machine()).shown_from()
     }
 
     /// Says in which pieces the first frame lies, and shows a short one.

@@ -32,7 +32,7 @@ use Rattle.em_tx.specs.declared.undo.TxUndo.TheVariants as tx_variant
 use Rattle.em_tx.proofs.BeforeLaws.{status_same, status_window, wire_undone as tx_undone}
 use Rattle.em_step.specs.Access.{gives_by}
 use Rattle.em_step.specs.Before.{PutsBackWindow, frames_before, has_sent, latch_before, latched_before, link_before}
-use Rattle.em_step.specs.Before.{LeavesUpTo, next_octet, octets_before}
+use Rattle.em_step.specs.Before.{LeavesUpTo, PutsBackGathered, gathered_before, next_octet, octets_before}
 use Rattle.em_step.specs.Before.{register_before_by, status_before, stored_before}
 use Rattle.em_step.specs.Cells.{Cells, shows}
 use Rattle.em_step.specs.State.{status}
@@ -162,6 +162,31 @@ pub wire_put_back : (r : Undo) (c : Cells) → Fits c r
     → length (shows c).wire ≡ length (shows (undo c r)).wire + (if has_sent r.effect then 1 else 0)
 wire_put_back r c fits =
     wire_undone (with_words c r.latches) r.effect (fits_with c r.latches r.effect fits.effect)
+
+-- ---- gathered octets
+tx_gathered : (c : tx_cells.Cells) (r : TxUndo)
+    → (tx.undo c r).gathered.octets ≡ tx_before.gathered_by r c.gathered.octets (tx.last_of c.wire)
+tx_gathered c tx_variant.Nothing = refl
+tx_gathered c (tx_variant.Step change) = refl
+tx_gathered c (tx_variant.Cleared old) = refl
+
+gathered_undone : (c : Cells) (e : Effect)
+    → (undo_effect c e).gathered.octets ≡ gathered_before e c.gathered.octets (tx.last_of c.wire)
+gathered_undone c Nothing = refl
+gathered_undone c (Register old) = refl
+gathered_undone c (Octets old) = refl
+gathered_undone c (FewOctets old) = refl
+gathered_undone c (Arrival old) = refl
+gathered_undone c (RxStep head old) = refl
+gathered_undone c (TxStep old head) = refl
+gathered_undone c (Link old) = refl
+gathered_undone c (Reset old) = tx_gathered (tx_cells_of c) old.value.gathered
+
+pub gathered_put_back : (r : Undo) (last now before : List ℕ) → before ≡ gathered_before r.effect now last
+    → PutsBackGathered r last now before
+gathered_put_back r last now before is c fits went holds =
+    gathered_undone (with_words c r.latches) r.effect
+    ∙ (λ i. gathered_before r.effect (holds i) (went i)) ∙ sym is
 
 -- ---- windows of memory
 -- the window is another one once the octets are put back

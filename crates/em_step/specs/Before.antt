@@ -13,6 +13,7 @@ use Rattle.em_regs.specs.RegFile.{OldWord}
 use Rattle.em_latch.specs.Latches as latches
 use Rattle.em_rx.specs.Before as rx
 use Rattle.em_tx.specs.Before as tx
+use Rattle.em_tx.specs.Undo.{gathered_of, last_of}
 use Rattle.em_step.specs.Cells.{Cells, shows}
 use Rattle.em_step.specs.State.{State}
 use Rattle.em_step.specs.Undo.{Fits, undo, word}
@@ -39,6 +40,11 @@ LeavesUpTo r a next = (c : Cells) → Fits c r → SameUpTo (shows c).memory (sh
 abbrev pub TakesOffWire : Undo → Bool → Type 0
 TakesOffWire r off =
     (c : Cells) → Fits c r → length (shows c).wire ≡ length (shows (undo c r)).wire + (if off then 1 else 0)
+
+-- the gathered octets are others once it is put back, where that frame went last to the wire, or none did
+abbrev pub PutsBackGathered : Undo → List ℕ → List ℕ → List ℕ → Type 0
+PutsBackGathered r last now before = (c : Cells) → Fits c r → last_of (shows c).wire ≡ last
+    → (shows c).gathered ≡ now → (shows (undo c r)).gathered ≡ before
 
 -- ---- what each effect tells, where it is so much now
 -- of a register that keeps what software writes
@@ -102,6 +108,12 @@ frames_before (Arrival old) now = old.value.places.count
 frames_before (RxStep head old) now = old.value.places.count
 frames_before (Reset old) now = unwrap_or (rx.frames_of old.value.fifo) now
 frames_before effect now = now
+
+-- of the gathered octets, where that frame went last to the wire
+abbrev pub gathered_before : Effect → List ℕ → List ℕ → List ℕ
+gathered_before (TxStep old head) now last = gathered_of old.count old.sent now last
+gathered_before (Reset old) now last = tx.gathered_by old.value.gathered now last
+gathered_before effect now last = now
 
 -- whether it sent a frame
 abbrev pub has_sent : Effect → Bool

@@ -8,7 +8,7 @@ ghost use Rattle.em_regs.specs.Table.{IsReg, row_of, offset_of, reg_at};
 ghost use Rattle.em_regs.specs.RegFile.{IsStored, OnlyStores};
 ghost use Rattle.em_latch.specs.Latches.{is_latched, IsLatched, IsAsserted};
 ghost use Rattle.em_eeprom.specs.Eeprom.{IsEeprom};
-ghost use Rattle.em_rx.specs.Fifo.{first};
+ghost use Rattle.em_rx.specs.Fifo.{first, last};
 ghost use Rattle.em_rx.specs.StoredFrame.{LiesSo};
 ghost use Rattle.em_step.specs.State.{status};
 ghost use Rattle.em_step.specs.Access.{gives, after_write_by, after_eerd_write};
@@ -159,6 +159,14 @@ impl Adapter {
         self.fifo.first_frame()
     }
 
+    /// The newest frame of the FIFO, as it lies there; none where no frame waits.
+    pub fn last_frame(&self) -> Option<StoredFrame<'_>>
+        ensures none { IsNone result ↔ (length (shows self.now).fifo.frames ≡ 0) }
+        ensures lies { IfSome result (LiesSo (last (shows self.now).fifo)) }
+    {
+        self.fifo.last_frame()
+    }
+
     /// How many frames were sent.
     pub fn wire_len(&self) -> usize
         ensures { result ≡ length (shows self.now).wire }
@@ -171,6 +179,13 @@ impl Adapter {
         ensures { option_map (λ frame. frame.now) result ≡ slice_get (shows self.now).wire index }
     {
         self.wire.frame(index)
+    }
+
+    /// The octets that are gathered for the next frame to be sent.
+    pub fn gathered(&self) -> &[u8]
+        ensures { result.now ≡ (shows self.now).gathered }
+    {
+        self.gather.octets()
     }
 
     /// The EEPROM.

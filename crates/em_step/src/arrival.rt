@@ -11,13 +11,13 @@ ghost use Rattle.em_step.specs.Step.{step, Refuses};
 ghost use Rattle.em_step.specs.Undo.{EffectFits, Reverses, undo_effect};
 
 use crate::adapter::Adapter;
-use crate::counts::{CHECK_OCTETS, count_frame, count_miss};
+use crate::counts::{count_frame, count_miss};
 use crate::event::{Answer, Reason};
 use crate::refusal::Refusal;
 use crate::undo::{Effect, Undo};
 use bitflags::Flags;
 use em_address::Kind;
-use em_filter::{Verdict, tagged, verdict};
+use em_filter::{CHECK_OCTETS, Verdict, tagged, verdict};
 use em_latch::Counter;
 use em_regs::{Rctl, Reg};
 use em_rx::{FramePatch, RxUndo};
@@ -177,7 +177,7 @@ impl Adapter {
         };
         let broadcasts = self.takes_broadcasts();
         let lacks = self.lacks_buffer();
-        let octets = frame.len() as u32 + CHECK_OCTETS;
+        let octets = frame.len() as u32 + CHECK_OCTETS as u32;
         let latches = count_frame(&mut self.latches, octets, kind, broadcasts, lacks);
         let effect = Effect::Arrival(kept);
         Ok((Answer::Stored, Undo { latches, effect }))

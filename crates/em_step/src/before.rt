@@ -1,13 +1,14 @@
 //! What a record tells of the state before its event, without being put back: who changed something last is found by
 //! asking each record of a journal, the newest first. A record that has nothing to do with the question takes a few
 //! instructions.
-ghost use Rattle.std.specs.Prelude.{◌≡◌, length, unwrap_or};
+ghost use Rattle.std.specs.Prelude.{◌≡◌, OnOk, length, unwrap_or};
 ghost use Rattle.em_regs.specs.Table.{IsReg, offset_of};
 ghost use Rattle.em_regs.specs.RegFile as registers;
 ghost use Rattle.em_regs.specs.RegFile.{IsStored};
 ghost use Rattle.em_latch.specs.Latches.{IsLatched};
 ghost use Rattle.em_step.specs.Access.{gives};
-ghost use Rattle.em_step.specs.Before.{LeavesUpTo, PutsBack, PutsBackWindow, TakesOffWire, frames_before, has_sent};
+ghost use Rattle.em_step.specs.Before.{LeavesUpTo, PutsBack, PutsBackGathered, PutsBackWindow, TakesOffWire};
+ghost use Rattle.em_step.specs.Before.{frames_before, gathered_before, has_sent};
 ghost use Rattle.em_step.specs.Before.{latched_before, link_before, next_octet, octets_before, register_before};
 ghost use Rattle.em_step.specs.Before.{status_before, stored_before};
 ghost use Rattle.em_step.specs.Undo.{word};
@@ -16,6 +17,7 @@ use crate::adapter::status_of;
 use crate::undo::{Effect, Undo};
 use em_mem::least;
 use em_regs::{Kind, Reg};
+use std::alloc::AllocError;
 
 impl Undo {
     /// What a look at a register gave before the event, where it gives `now` after it.
@@ -63,6 +65,17 @@ impl Undo {
         ensures before { PutsBack self.now (λ s. length s.fifo.frames) now result }
     {
         self.effect.frames_before(now)
+    }
+
+    /// Makes gathered octets those of before the event, where `last` is the frame that went last to the wire, or
+    /// nothing where none did. Where memory is refused they are any.
+    pub fn gathered_before(&self, gathered: &mut Vec<u8>, last: &[u8]) -> Result<(), AllocError>
+        ensures octets { OnOk result
+            (gathered.new.items ≡ gathered_before self.now.effect gathered.old.items last.now) }
+        ensures before { OnOk result
+            (PutsBackGathered self.now last.now gathered.old.items gathered.new.items) }
+    {
+        self.effect.gathered_before(gathered, last)
     }
 
     /// Whether the event put a frame on the wire, which comes off when it is taken back.
@@ -184,6 +197,17 @@ impl Effect {
             Effect::RxStep(_, old) => old.frames(),
             Effect::Reset(old) => old.fifo.frames().unwrap_or(now),
             _ => now,
+        }
+    }
+
+    /// Makes gathered octets what they were.
+    fn gathered_before(&self, gathered: &mut Vec<u8>, last: &[u8]) -> Result<(), AllocError>
+        ensures { OnOk result (gathered.new.items ≡ gathered_before self.now gathered.old.items last.now) }
+    {
+        match self {
+            Effect::TxStep(old, _) => old.gathered_before(gathered, last),
+            Effect::Reset(old) => old.gathered.gathered_before(gathered, last),
+            _ => Ok(()),
         }
     }
 

@@ -12,9 +12,6 @@ use em_address::Kind;
 use em_latch::{Counter, LatchUndo, Latches};
 use em_regs::Causes;
 
-/// The octets of the frame check sequence, which count with a frame.
-pub(crate) const CHECK_OCTETS: u32 = 4;
-
 /// The fewest octets on the wire of a frame that is counted by its size: those of the first class.
 const LEAST: u32 = 64;
 

@@ -7,10 +7,11 @@ ghost use Rattle.em_step.specs.Step.{step, Refuses};
 ghost use Rattle.em_step.specs.Undo.{EffectFits, Reverses, undo_effect};
 
 use crate::adapter::Adapter;
-use crate::counts::{CHECK_OCTETS, count_sent};
+use crate::counts::count_sent;
 use crate::event::Answer;
 use crate::refusal::Refusal;
 use crate::undo::{Effect, Undo};
+use em_filter::CHECK_OCTETS;
 use em_regs::Reg;
 use em_rx::{RxAnswer, RxUndo, StepPatch};
 use em_tx::{TxAnswer, TxUndo, step};
@@ -83,7 +84,12 @@ impl Adapter {
                 },
                 TxUndo::Step(change),
             ) => {
-                let latches = count_sent(&mut self.latches, octets + CHECK_OCTETS, kind, causes);
+                let latches = count_sent(
+                    &mut self.latches,
+                    octets + CHECK_OCTETS as u32,
+                    kind,
+                    causes,
+                );
                 let head = self.registers.put(Reg::Tdh, next).old();
                 let effect = Effect::TxStep(change, head);
                 Ok((Answer::Sent { index, octets }, Undo { latches, effect }))

@@ -2,10 +2,10 @@
 use Rattle.std.proofs.Common.{◌≡◌, ℕ, suc, zero, ◌+◌, ◌<◌, ◌≤◌, ◌==◌, ◌||◌, not, Bool, true, false, nat_lt, nat_le}
 use Rattle.std.proofs.Common.{if◌then◌else◌, List, ◌∷◌, length, refl, sym, ap, subst, ◌∙◌, inl, inr, arith, Result}
 use Rattle.std.proofs.Common.{Ok, Err}
-use Rattle.std.proofs.lemmas.Bool.{cases_eq}
 use Rattle.std.proofs.lemmas.Bool.Decides.{nat_tests}
 use Rattle.em_regs.specs.declared.setup.RxSetup.{RxSetup}
 use Rattle.em_regs.specs.Setup.{rx_setup}
+use Rattle.em_regs.specs.Ring as ring
 use Rattle.em_rx.specs.Frame.{Frame}
 use Rattle.em_rx.specs.Fifo.{Fifo}
 use Rattle.em_rx.specs.Receive.{Outcome, delivery, descriptor_at, buffer_at, count_of, following, is_idle, receive}
@@ -50,11 +50,8 @@ head_within true b c d e is = cc
 head_within false true c d e is = cc
 head_within false false c d e is = refl
 
-following_within : (h n : ℕ) → h < n → (if h + 1 == n then 0 else h + 1) < n
-following_within h n less = elim (cases_eq (h + 1) n) [
-  | inl last ↦ let test : (h + 1 == n) ≡ true = grind (arith, nat_tests) in rw test (omega arith)
-  | inr more ↦ let test : (h + 1 == n) ≡ false = grind (arith, nat_tests) in rw test (omega arith)
-]
+following_within : (h n : ℕ) → h < n → ring.following n h < n
+following_within h n less = grind (arith, nat_tests)
 
 -- and goes on to a descriptor of the ring
 next_within : (q : RxSetup) (m : List ℕ) (f : Fifo) (o : Outcome) (index next causes : ℕ) → receive q m f ≡ Ok o →

@@ -3,6 +3,7 @@ use Rattle.std.specs.Prelude.{ℕ, Bool, true, false, List, Option, Some, None}
 use Rattle.em_mem.specs.Memory as mem
 use Rattle.em_mem.specs.Extent.{next_octet}
 use Rattle.em_mem.specs.Window.{lay_over}
+use Rattle.em_tx.specs.Undo.{gathered_of}
 use Rattle.em_tx.specs.declared.change.Sent.{Sent}
 use Rattle.em_tx.specs.declared.change.Sent.TheVariants.{NoFrame, Untagged, Tagged}
 use Rattle.em_tx.specs.declared.undo.TxUndo.{TxUndo}
@@ -18,6 +19,12 @@ abbrev pub has_sent_by : TxUndo → Bool
 has_sent_by Nothing = false
 has_sent_by (Step change) = has_sent change.sent
 has_sent_by (Cleared old) = false
+
+-- what was gathered before, by what is gathered and the frame that went last to the wire
+abbrev pub gathered_by : TxUndo → List ℕ → List ℕ → List ℕ
+gathered_by Nothing octets last = octets
+gathered_by (Step change) octets last = gathered_of change.count change.sent octets last
+gathered_by (Cleared old) octets last = old.octets
 
 -- a window of memory from address a on under the status octet, where one was overwritten
 abbrev pub laid_status : Option mem.Patch → ℕ → List ℕ → List ℕ

@@ -1,19 +1,21 @@
--- The ring of transmit descriptors.
-use Rattle.std.specs.Prelude.{ℕ, ◌+◌, ◌*◌, ◌%◌, ◌==◌, ◌||◌, not, nat_le, Bool, List, if◌then◌else◌}
+-- The ring of transmit descriptors, by its set-up.
+use Rattle.std.specs.Prelude.{ℕ, ◌+◌, ◌==◌, Bool, List, if◌then◌else◌}
 use Rattle.em_regs.specs.declared.setup.TxSetup.{TxSetup}
+use Rattle.em_regs.specs.Ring as ring
+use Rattle.em_regs.specs.Ring.{tx_ring}
 use Rattle.em_tx.specs.Descriptor.{rs}
 
--- no descriptor is the adapter's: those from the head up to but not the tail are
+-- no descriptor is the adapter's
 abbrev pub is_idle : TxSetup → Bool
-is_idle q = not q.enabled || nat_le q.count q.head || nat_le q.count q.tail || q.head == q.tail
+is_idle q = ring.is_idle (tx_ring q)
 
--- where the first descriptor lies
+-- where the first one that is lies
 abbrev pub place : TxSetup → ℕ
-place q = q.base + 16 * q.head
+place q = ring.descriptor_at (tx_ring q) q.head
 
--- the descriptor after it
+-- the descriptor behind it
 abbrev pub next : TxSetup → ℕ
-next q = (q.head + 1) % q.count
+next q = ring.next (tx_ring q)
 
 -- TXDW (bit 0) with RS, and TXQE (bit 1) where no further descriptor is the adapter's
 abbrev pub causes : TxSetup → List ℕ → ℕ

@@ -70,16 +70,20 @@ Fits c Nothing = Unit {0}
 Fits c (Step change) = ChangeFits c change
 Fits c (Cleared old) = Unit {0}
 
--- the gathered octets are cut to the n that there were; a frame comes off the wire, without its tag
-abbrev pub gathered_before : Cells → ℕ → Sent → List ℕ
-gathered_before c n NoFrame = take n c.gathered.octets
-gathered_before c n Untagged = take n (without_tag false (last_of c.wire))
-gathered_before c n Tagged = take n (without_tag true (last_of c.wire))
+-- the gathered octets are cut to the n that there were; or they are the first n of the frame that went last, without
+-- its tag
+abbrev pub gathered_of : ℕ → Sent → List ℕ → List ℕ → List ℕ
+gathered_of n NoFrame octets last = take n octets
+gathered_of n Untagged octets last = take n (without_tag false last)
+gathered_of n Tagged octets last = take n (without_tag true last)
 
 abbrev pub wire_before : List (List ℕ) → Sent → List (List ℕ)
 wire_before w NoFrame = w
 wire_before w Untagged = front_of w
 wire_before w Tagged = front_of w
+
+abbrev pub gathered_before : Cells → ℕ → Sent → List ℕ
+gathered_before c n sent = gathered_of n sent c.gathered.octets (last_of c.wire)
 
 -- their room stays
 abbrev pub undo_gathered : Cells → ℕ → Sent → Gathered

@@ -1,15 +1,19 @@
 //! What a record of the transmit side puts back, told without putting it back.
-ghost use Rattle.std.specs.Prelude.{◌≡◌, ◌+◌, if◌then◌else◌, length};
+ghost use Rattle.std.specs.Prelude.{◌≡◌, ◌+◌, ◌++◌, Bool, List, OnOk, if◌then◌else◌, length, take};
 ghost use Rattle.em_mem.specs.Extent as extent;
 ghost use Rattle.em_mem.specs.Extent.{SameUpTo};
 ghost use Rattle.em_mem.specs.Window.{IsWindow, lay_over};
 ghost use Rattle.em_tx.specs.Before.{has_sent, has_sent_by, laid, laid_status, next_of, next_of_status};
+ghost use Rattle.em_tx.specs.Before.{gathered_by};
 ghost use Rattle.em_tx.specs.Cells.{Cells};
-ghost use Rattle.em_tx.specs.Undo.{ChangeFits, Fits, undo, undo_change};
+ghost use Rattle.em_tx.specs.Frame.{without_tag};
+ghost use Rattle.em_tx.specs.Undo.{ChangeFits, Fits, gathered_of, last_of, undo, undo_change};
 
 use crate::change::{Change, Sent, Status};
+use crate::frame;
 use crate::undo::TxUndo;
 use em_mem::{lay_over, next_octet};
+use std::alloc::AllocError;
 
 impl Change {
     /// Whether the step sent a frame, which comes off the wire when it is taken back.
@@ -20,6 +24,25 @@ impl Change {
             → length c.wire ≡ length (undo_change c self.now).wire + (if result then 1 else 0) }
     {
         is_frame(self.sent)
+    }
+
+    /// Makes gathered octets those of before the step, where `last` is the frame that went last to the wire. Where
+    /// memory is refused they are any.
+    pub fn gathered_before(&self, gathered: &mut Vec<u8>, last: &[u8]) -> Result<(), AllocError>
+        ensures octets { OnOk result
+            (gathered.new.items ≡ gathered_of self.now.count self.now.sent gathered.old.items last.now) }
+        ensures before { OnOk result ((c : Cells) → c.gathered.octets ≡ gathered.old.items → last_of c.wire ≡ last.now
+            → (undo_change c self.now).gathered.octets ≡ gathered.new.items) }
+    {
+        let count = self.gathered();
+        match self.sent {
+            Sent::NoFrame => {
+                gathered.truncate(count);
+                Ok(())
+            }
+            Sent::Untagged => gather_first(gathered, last, false, count),
+            Sent::Tagged => gather_first(gathered, last, true, count),
+        }
     }
 
     /// Lays the status octet that the step overwrote over a window of memory from `addr` on. The window is then what
@@ -55,6 +78,24 @@ impl TxUndo {
         match self {
             TxUndo::Nothing | TxUndo::Cleared(_) => false,
             TxUndo::Step(change) => change.has_sent(),
+        }
+    }
+
+    /// Makes gathered octets those of before the change, where `last` is the frame that went last to the wire. Where
+    /// memory is refused they are any.
+    pub fn gathered_before(&self, gathered: &mut Vec<u8>, last: &[u8]) -> Result<(), AllocError>
+        ensures octets { OnOk result (gathered.new.items ≡ gathered_by self.now gathered.old.items last.now) }
+        ensures before { OnOk result ((c : Cells) → c.gathered.octets ≡ gathered.old.items → last_of c.wire ≡ last.now
+            → (undo c self.now).gathered.octets ≡ gathered.new.items) }
+    {
+        match self {
+            TxUndo::Nothing => Ok(()),
+            TxUndo::Step(change) => change.gathered_before(gathered, last),
+            TxUndo::Cleared(old) => {
+                gathered.clear();
+                gathered.extend_from_slice(old.octets())?;
+                Ok(())
+            }
         }
     }
 
@@ -99,6 +140,27 @@ impl Status {
     {
         next_octet(self.place.addr(), &self.octet, addr)
     }
+}
+
+/// Makes gathered octets the first ones of a frame beside its tag.
+fn gather_first(
+    gathered: &mut Vec<u8>,
+    frame: &[u8],
+    tagged: bool,
+    count: usize,
+) -> Result<(), AllocError>
+    ensures { OnOk result (gathered.new.items ≡ take count (without_tag tagged frame.now)) }
+{
+    gathered.clear();
+    if tagged {
+        let (before, behind) = frame::beside_tag(frame);
+        gathered.extend_from_slice(before)?;
+        gathered.extend_from_slice(behind)?;
+    } else {
+        gathered.extend_from_slice(frame)?;
+    }
+    gathered.truncate(count);
+    Ok(())
 }
 
 /// Lays a status octet over a window, where one was overwritten.

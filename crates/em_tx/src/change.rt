@@ -3,11 +3,9 @@ ghost use Rattle.std.specs.Prelude.{◌≡◌, ◌<◌, ◌≤◌, ◌∷◌, []
 ghost use Rattle.em_mem.specs.Memory.{Fits, IsHeld, IsMade, Reverses, put, undo};
 ghost use Rattle.em_tx.specs.Change.{sent_with};
 
+use crate::descriptor::TxDescriptor;
 use em_mem::{GuestMemory, Place};
 use std::marker::Model;
-
-/// DD, alone in the status octet of a descriptor.
-const DD: u8 = 0x01;
 
 /// The most that a step costs beyond the least: 16,380 gathered octets, a status octet and a frame of
 /// 16,384.
@@ -38,7 +36,7 @@ impl Status {
     {
         // a place in memory is less than 2^24
         let _size = memory.len();
-        let octet = memory.replace(place, &[DD]);
+        let octet = memory.replace(place, &[TxDescriptor::DD]);
         Status {
             place: Place::new(place),
             octet,
@@ -117,6 +115,13 @@ impl Change {
         ensures most { result ≤ MOST_COST }
     {
         u32::from(self.cost)
+    }
+
+    /// How many octets were gathered before the step.
+    pub(crate) fn gathered(&self) -> usize
+        ensures { result ≡ self.now.count }
+    {
+        usize::from(self.count)
     }
 
     pub(crate) fn into_parts(self) -> (usize, Option<Status>, Sent)

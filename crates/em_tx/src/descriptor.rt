@@ -3,10 +3,8 @@ ghost use Rattle.std.specs.Prelude.{◌≡◌, slice_index};
 ghost use Rattle.em_tx.specs.Descriptor.{address, dext, eop, length_of, rs, special, vle};
 
 use byteorder::{ByteOrder, LittleEndian};
+use em_regs::DESCRIPTOR_OCTETS;
 use std::marker::Model;
-
-/// How many octets a descriptor has.
-pub(crate) const DESCRIPTOR_OCTETS: usize = 16;
 
 /// Where its fields lie.
 const LENGTH: usize = 8;
@@ -20,15 +18,6 @@ pub(crate) const STATUS: usize = 12;
 const CSS: usize = 13;
 
 const SPECIAL: usize = 14;
-
-/// The bits of CMD that have an effect.
-const EOP: u8 = 0x01;
-
-const RS: u8 = 0x08;
-
-const DEXT: u8 = 0x20;
-
-const VLE: u8 = 0x40;
 
 /// A descriptor of the transmit ring, as software wrote it. Clauses see its octets.
 #[derive(Clone, Copy, PartialEq, Eq, Debug)]
@@ -47,6 +36,24 @@ impl Model for TxDescriptor {
 }
 
 impl TxDescriptor {
+    /// A bit of CMD: the buffer is the last of a frame.
+    pub const EOP: u8 = 0x01;
+
+    /// A bit of CMD: a check sequence is to be added. It has no effect (this project's profile).
+    pub const IFCS: u8 = 0x02;
+
+    /// A bit of CMD: the status is to be reported.
+    pub const RS: u8 = 0x08;
+
+    /// A bit of CMD: the descriptor is of another format.
+    pub const DEXT: u8 = 0x20;
+
+    /// A bit of CMD: a VLAN tag is to be inserted.
+    pub const VLE: u8 = 0x40;
+
+    /// A bit of the status: the descriptor was handled.
+    pub const DD: u8 = 0x01;
+
     /// The descriptor of these octets.
     pub fn of_octets(octets: [u8; 16]) -> TxDescriptor
         ensures { result ≡ octets }
@@ -111,7 +118,7 @@ impl TxDescriptor {
     pub fn eop(&self) -> bool
         ensures { result ≡ eop self.now }
     {
-        self.command() / EOP % 2 == 1
+        self.command() / TxDescriptor::EOP % 2 == 1
     }
 
     /// CMD.RS: the status is to be reported.
@@ -119,7 +126,7 @@ impl TxDescriptor {
     pub fn rs(&self) -> bool
         ensures { result ≡ rs self.now }
     {
-        self.command() / RS % 2 == 1
+        self.command() / TxDescriptor::RS % 2 == 1
     }
 
     /// CMD.DEXT: the descriptor is of another format.
@@ -127,7 +134,7 @@ impl TxDescriptor {
     pub fn dext(&self) -> bool
         ensures { result ≡ dext self.now }
     {
-        self.command() / DEXT % 2 == 1
+        self.command() / TxDescriptor::DEXT % 2 == 1
     }
 
     /// CMD.VLE: a VLAN tag is to be inserted.
@@ -135,6 +142,6 @@ impl TxDescriptor {
     pub fn vle(&self) -> bool
         ensures { result ≡ vle self.now }
     {
-        self.command() / VLE % 2 == 1
+        self.command() / TxDescriptor::VLE % 2 == 1
     }
 }

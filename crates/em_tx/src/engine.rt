@@ -52,7 +52,7 @@ pub fn step(
     ensures same { OnErr result
         (MorePages (cells gather.old wire.old memory.old) (cells gather.new wire.new memory.new)) }
 {
-    if ring::is_idle(&setup) {
+    if setup.ring().is_idle() {
         return Ok((TxAnswer::Idle, TxUndo::Nothing));
     }
     let Some(found) = ring::first(memory, &setup) else {
@@ -203,7 +203,7 @@ fn handle(
     let count = octets.len();
     let cost = u32::from(descriptor.length()) + u32::from(descriptor.rs());
     let index = setup.head;
-    let next = ring::next(setup);
+    let next = setup.ring().next();
     let causes = ring::causes(setup, descriptor);
     if descriptor.eop() && count + usize::from(descriptor.length()) > 0 {
         let sent = send(octets, frames, memory, setup, descriptor);

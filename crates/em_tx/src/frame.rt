@@ -98,6 +98,15 @@ pub(crate) fn gather_beside_tag(octets: &mut Vec<u8>, frame: &[u8], count: usize
     }
 }
 
+/// The octets of a frame before its tag, and those behind it. Those of a frame that is too short for a tag come first.
+pub(crate) fn beside_tag(frame: &[u8]) -> (&[u8], &[u8])
+    ensures { result.0.now ++ result.1.now ≡ without_tag true frame.now }
+{
+    let before = frame.len().min(TAG_PLACE);
+    let behind = frame.len().min(TAG_PLACE + TAG_OCTETS);
+    (&frame[..before], &frame[behind..])
+}
+
 /// Gathers octets, for which there is room.
 pub(crate) fn gather(octets: &mut Vec<u8>, found: &[u8])
     requires { vec_len octets.old + length found.now ≤ vec_capacity octets.old }

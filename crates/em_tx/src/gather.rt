@@ -53,6 +53,13 @@ impl Gather {
         TxUndo::Cleared(std::mem::replace(self, Gather::new(alloc)))
     }
 
+    /// The gathered octets.
+    pub fn octets(&self) -> &[u8]
+        ensures { result.now ≡ self.now.octets }
+    {
+        self.octets.as_slice()
+    }
+
     /// Cuts the gathered octets to so many.
     pub(crate) fn cut(&mut self, count: usize)
         ensures octets { self.new.octets ≡ take count self.old.octets }

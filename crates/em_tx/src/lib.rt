@@ -21,6 +21,5 @@ pub use descriptor::TxDescriptor;
 pub use engine::step;
 pub use gather::Gather;
 pub use refusal::TxRefusal;
-pub use ring::is_idle;
 pub use undo::{TxUndo, take_back};
 pub use wire::Wire;

@@ -1,37 +1,12 @@
 //! The ring of transmit descriptors, by its set-up.
 ghost use Rattle.std.specs.Prelude.{◌≡◌, ◌+◌, ◌*◌, ◌≤◌, ◌<◌, ◌^◌, IfSome, IfNone, length};
 ghost use Rattle.em_mem.specs.Memory.{IsHeld, part};
-ghost use Rattle.em_tx.specs.Ring.{causes, is_idle, next, place};
+ghost use Rattle.em_tx.specs.Ring.{causes, place};
 
-use crate::descriptor::{DESCRIPTOR_OCTETS, TxDescriptor};
+use crate::descriptor::TxDescriptor;
 use bitflags::Flags;
 use em_mem::GuestMemory;
-use em_regs::{Causes, TxSetup};
-
-/// The octets of a descriptor, as addresses count them.
-const DESCRIPTOR_SIZE: u64 = DESCRIPTOR_OCTETS as u64;
-
-/// Whether no descriptor is the adapter's, so that a step would be idle.
-pub fn is_idle(setup: &TxSetup) -> bool
-    ensures { result ≡ is_idle setup.now }
-{
-    !setup.enabled
-        || setup.count <= setup.head
-        || setup.count <= setup.tail
-        || setup.head == setup.tail
-}
-
-/// The descriptor after the first one: behind the ring's last comes its first.
-pub(crate) fn next(setup: &TxSetup) -> u32
-    requires { setup.now.head < setup.now.count }
-    ensures { result ≡ next setup.now }
-{
-    if setup.head + 1 == setup.count {
-        0
-    } else {
-        setup.head + 1
-    }
-}
+use em_regs::{Causes, DESCRIPTOR_OCTETS, TxSetup};
 
 /// The causes that a step of the descriptor raises.
 pub(crate) fn causes(setup: &TxSetup, descriptor: &TxDescriptor) -> u32
@@ -43,7 +18,7 @@ pub(crate) fn causes(setup: &TxSetup, descriptor: &TxDescriptor) -> u32
     } else {
         0
     };
-    let empty = if next(setup) == setup.tail {
+    let empty = if setup.ring().next() == setup.tail {
         Causes::TXQE.bits()
     } else {
         0
@@ -67,10 +42,8 @@ pub(crate) fn first(memory: &GuestMemory, setup: &TxSetup) -> Option<Found>
 {
     // memory is smaller than 2^64 octets, so that a sum past that leaves it
     let _size = memory.len();
-    let place = setup
-        .base
-        .checked_add(DESCRIPTOR_SIZE * u64::from(setup.head))?;
-    if !memory.holds(place, DESCRIPTOR_SIZE) {
+    let place = setup.ring().address_of(setup.head)?;
+    if !memory.holds(place, DESCRIPTOR_OCTETS as u64) {
         return None;
     }
     let descriptor = TxDescriptor::of_octets(memory.read_array(place));

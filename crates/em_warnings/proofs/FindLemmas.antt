@@ -5,7 +5,7 @@ use Rattle.std.specs.Prelude.{find}
 use Rattle.std.specs.Option.{option_or}
 use Rattle.std.specs.List.{range_with_len}
 use Rattle.std.proofs.lemmas.Bool.{cases_lt}
-use Rattle.em_inspect.specs.declared.ring.Ring.{Ring}
+use Rattle.em_regs.specs.declared.ring.Ring.{Ring}
 use Rattle.em_warnings.specs.declared.flaw.Flaw.{Flaw}
 use Rattle.em_warnings.specs.Descriptors.{first_flawed, first_from, is_flawed}
 

@@ -2,7 +2,7 @@
 use Rattle.std.specs.Prelude.{ℕ, ◌-◌, ◌&&◌, Bool, false, List, Option, find}
 use Rattle.std.specs.Option.{option_map_or, option_or}
 use Rattle.std.specs.List.{range_with_len}
-use Rattle.em_inspect.specs.declared.ring.Ring.{Ring}
+use Rattle.em_regs.specs.declared.ring.Ring.{Ring}
 use Rattle.em_inspect.specs.Ring.{is_adapters, octets_at}
 use Rattle.em_warnings.specs.declared.flaw.Flaw.{Flaw}
 use Rattle.em_warnings.specs.Flaw.{is_in}

@@ -3,7 +3,6 @@ pub mod Flaw
 pub mod Descriptors
 pub mod Rings
 pub mod Rules
-pub mod Piece
 pub mod Said
 pub mod WriteLine
 pub mod Warnings

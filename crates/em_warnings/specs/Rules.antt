@@ -28,8 +28,8 @@ use Rattle.em_regs.specs.Table.{mask_of, row_of}
 use Rattle.em_regs.specs.Setup.{rx_setup, tx_setup}
 use Rattle.em_step.specs.Access.{gives}
 use Rattle.em_step.specs.State.{State}
-use Rattle.em_inspect.specs.declared.ring.Ring.{Ring}
-use Rattle.em_inspect.specs.Ring.{descriptor_at}
+use Rattle.em_inspect.specs.declared.ring.SidedRing.{SidedRing}
+use Rattle.em_regs.specs.Ring.{descriptor_at}
 use Rattle.em_warnings.specs.declared.flaw.Flaw.TheVariants as flaw
 use Rattle.em_warnings.specs.declared.warning.Warning.{Warning}
 use Rattle.em_warnings.specs.declared.warning.Warning.TheVariants.{
@@ -59,9 +59,9 @@ bits_dropped reg v =
 -- ---- tail-past-ring (manual, chapters on the descriptor queues: the tail is an index of the ring)
 
 -- a ring of some descriptors, whose tail is none of their indices
-abbrev pub past_ring : Reg → Ring → Option Warning
+abbrev pub past_ring : Reg → SidedRing → Option Warning
 past_ring tail r =
-    if nat_lt 0 r.count && nat_le r.count r.tail then Some (TailPastRing tail r.tail r.count) else None
+    if nat_lt 0 r.setup.count && nat_le r.setup.count r.setup.tail then Some (TailPastRing tail r.setup.tail r.setup.count) else None
 
 abbrev pub tail_past_ring : State → Reg → Option Warning
 tail_past_ring s tail = option_and_then (past_ring tail) (ring_of_tail s.registers tail)
@@ -69,18 +69,18 @@ tail_past_ring s tail = option_and_then (past_ring tail) (ring_of_tail s.registe
 -- ---- enabled-before-ring (manual, chapter on initialization: the ring is set up, and then EN is set)
 
 -- EN is set, and the ring has no descriptor; its base may be 0, since a ring can lie there
-abbrev pub without_ring : Reg → Ring → Option Warning
+abbrev pub without_ring : Reg → SidedRing → Option Warning
 without_ring control r =
-    if r.enabled && r.count == 0 then Some (EnabledBeforeRing control (length_of r.side)) else None
+    if r.setup.enabled && r.setup.count == 0 then Some (EnabledBeforeRing control (length_of r.side)) else None
 
 abbrev pub enabled_before_ring : State → Reg → Option Warning
 enabled_before_ring s control = option_and_then (without_ring control) (ring_of_control s.registers control)
 
 -- ---- descriptor-unwritten (manual, chapters on the descriptor queues: what lies before the tail is ready)
 
-abbrev pub given_unwritten : List ℕ → Reg → Ring → Option Warning
+abbrev pub given_unwritten : List ℕ → Reg → SidedRing → Option Warning
 given_unwritten memory tail r =
-    option_map (λ i. DescriptorUnwritten tail i (descriptor_at r i)) (first_flawed r memory flaw.Unwritten)
+    option_map (λ i. DescriptorUnwritten tail i (descriptor_at r.setup i)) (first_flawed r.setup memory flaw.Unwritten)
 
 abbrev pub descriptor_unwritten : State → Reg → Option Warning
 descriptor_unwritten s tail = option_and_then (given_unwritten s.memory tail) (ring_of_tail s.registers tail)
@@ -88,9 +88,9 @@ descriptor_unwritten s tail = option_and_then (given_unwritten s.memory tail) (r
 -- ---- status-left (manual, chapters on packet reception and transmission: DD says that the adapter is done with a
 -- descriptor; that software clears it before is this project's profile)
 
-abbrev pub given_with_status : List ℕ → Reg → Ring → Option Warning
+abbrev pub given_with_status : List ℕ → Reg → SidedRing → Option Warning
 given_with_status memory tail r =
-    option_map (λ i. StatusLeft tail i (descriptor_at r i)) (first_flawed r memory flaw.StatusLeft)
+    option_map (λ i. StatusLeft tail i (descriptor_at r.setup i)) (first_flawed r.setup memory flaw.StatusLeft)
 
 abbrev pub status_left : State → Reg → Option Warning
 status_left s tail = option_and_then (given_with_status s.memory tail) (ring_of_tail s.registers tail)

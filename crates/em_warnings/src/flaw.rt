@@ -2,21 +2,18 @@
 ghost use Rattle.std.specs.Prelude.{◌≡◌};
 ghost use Rattle.em_warnings.specs.Flaw.{are_zeros, is_in};
 
-/// How many octets a descriptor has.
-pub(crate) const DESCRIPTOR_OCTETS: usize = 16;
+use em_regs::DESCRIPTOR_OCTETS;
+use em_tx::TxDescriptor;
 
 /// Where the status octet lies in a descriptor of either ring.
 const STATUS: usize = 12;
-
-/// DD of the status: the adapter has handled the descriptor.
-const DD: u8 = 0x01;
 
 /// What a descriptor can have against it that the driver gives to the adapter.
 #[derive(Clone, Copy)]
 pub(crate) enum Flaw {
     /// All its octets are 0.
     Unwritten,
-    /// Its status has DD, from the lap before.
+    /// Its status has DD, from the lap before: the adapter has handled it. The bit is the same in both rings.
     StatusLeft,
 }
 
@@ -27,7 +24,7 @@ impl Flaw {
     {
         match self {
             Flaw::Unwritten => are_zeros(octets),
-            Flaw::StatusLeft => octets[STATUS] & DD == DD,
+            Flaw::StatusLeft => octets[STATUS] & TxDescriptor::DD == TxDescriptor::DD,
         }
     }
 }

@@ -1,6 +1,6 @@
 //! What the search for a flaw finds.
 ghost use Rattle.std.specs.Prelude.{◌≡◌, ◌<◌, ℕ, List, true, false, Some, None};
-ghost use Rattle.em_inspect.specs.declared.ring.Ring.{Ring};
+ghost use Rattle.em_regs.specs.declared.ring.Ring.{Ring};
 ghost use Rattle.em_warnings.specs.Descriptors.{first_flawed, is_flawed};
 ghost use Rattle.em_warnings.specs.declared.flaw.Flaw.{Flaw};
 

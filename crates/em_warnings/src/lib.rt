@@ -5,7 +5,6 @@ mod descriptors;
 mod flaw;
 pub mod laws;
 mod lines;
-mod piece;
 mod reads;
 mod rings;
 mod rules;

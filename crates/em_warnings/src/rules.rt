@@ -5,7 +5,7 @@ ghost use Rattle.em_regs.specs.declared.reg.Reg.TheVariants as named;
 ghost use Rattle.em_warnings.specs.Rules.{bits_dropped, descriptor_unwritten, early, early_by, enabled_before_ring};
 ghost use Rattle.em_warnings.specs.Rules.{interrupts_before_rings, status_left, tail_past_ring, warnings_of};
 
-use crate::descriptors::{descriptor_at, first_flawed};
+use crate::descriptors::first_flawed;
 use crate::flaw::Flaw;
 use crate::rings::{length_of, ring_of_control, ring_of_tail};
 use crate::warning::{RULES, Warning};
@@ -51,11 +51,11 @@ fn tail_past_ring(machine: &Machine, tail: Reg) -> Option<Warning>
     ensures { result ≡ tail_past_ring machine.now.present tail }
 {
     let ring = ring_of_tail(machine, tail)?;
-    if 0 < ring.count && ring.count <= ring.tail {
+    if 0 < ring.setup.count && ring.setup.count <= ring.setup.tail {
         Some(Warning::TailPastRing {
             tail,
-            index: ring.tail,
-            count: ring.count,
+            index: ring.setup.tail,
+            count: ring.setup.count,
         })
     } else {
         None
@@ -67,7 +67,7 @@ fn enabled_before_ring(machine: &Machine, control: Reg) -> Option<Warning>
     ensures { result ≡ enabled_before_ring machine.now.present control }
 {
     let ring = ring_of_control(machine, control)?;
-    if ring.enabled && ring.count == 0 {
+    if ring.setup.enabled && ring.setup.count == 0 {
         Some(Warning::EnabledBeforeRing {
             control,
             length: length_of(ring.side),
@@ -82,8 +82,8 @@ fn descriptor_unwritten(machine: &Machine, tail: Reg) -> Option<Warning>
     ensures { result ≡ descriptor_unwritten machine.now.present tail }
 {
     let ring = ring_of_tail(machine, tail)?;
-    let index = first_flawed(machine, &ring, Flaw::Unwritten)?;
-    let at = descriptor_at(&ring, index);
+    let index = first_flawed(machine, &ring.setup, Flaw::Unwritten)?;
+    let at = ring.setup.descriptor_at(index);
     Some(Warning::DescriptorUnwritten { tail, index, at })
 }
 
@@ -92,8 +92,8 @@ fn status_left(machine: &Machine, tail: Reg) -> Option<Warning>
     ensures { result ≡ status_left machine.now.present tail }
 {
     let ring = ring_of_tail(machine, tail)?;
-    let index = first_flawed(machine, &ring, Flaw::StatusLeft)?;
-    let at = descriptor_at(&ring, index);
+    let index = first_flawed(machine, &ring.setup, Flaw::StatusLeft)?;
+    let at = ring.setup.descriptor_at(index);
     Some(Warning::StatusLeft { tail, index, at })
 }
 

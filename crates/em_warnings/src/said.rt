@@ -3,8 +3,8 @@ ghost use Rattle.em_text.specs.Writer.{Writes};
 ghost use Rattle.em_warnings.specs.Said.{again_text, dropped_text, early_text, enabled_text, given_text, head_text};
 ghost use Rattle.em_warnings.specs.Said.{past_text, said, warning_text};
 
-use crate::piece::{Piece, write_text};
 use crate::warning::Warning;
+use em_pieces::{Piece, write_text};
 use em_regs::Reg;
 use em_text::{WriteFailed, write_whole};
 use std::io::Write;
@@ -38,7 +38,12 @@ fn write_said<W: Write>(writer: &mut W, warning: Warning) -> Result<(), WriteFai
 {
     match warning {
         Warning::BitsDropped { reg, kept, written } => write_dropped(writer, reg, kept, written),
-        Warning::TailPastRing { tail, index, count } => write_past(writer, tail, index, count),
+        Warning::TailPastRing { tail, index, count } => write_past(
+            writer,
+            tail,
+            u64::from(index),
+            u64::from(count),
+        ),
         Warning::EnabledBeforeRing { control, length } => write_enabled(writer, control, length),
         Warning::DescriptorUnwritten { tail, index, at } => {
             write_given(writer, tail, index, at, b", all zeros, write it first")
@@ -83,8 +88,8 @@ fn write_dropped<W: Write>(
 fn write_past<W: Write>(
     writer: &mut W,
     tail: Reg,
-    index: u32,
-    count: u32,
+    index: u64,
+    count: u64,
 ) -> Result<(), WriteFailed>
     ensures writes { Writes (W.contents writer.old) (W.contents writer.new) result (past_text tail index count) }
 {
@@ -131,7 +136,7 @@ fn write_given<W: Write>(
         &[
             Piece::Name(tail),
             Piece::Text(b" gives the adapter descriptor "),
-            Piece::Number(index),
+            Piece::Number(u64::from(index)),
             Piece::Text(b" at "),
             Piece::Address(at),
             Piece::Text(text),

@@ -28,7 +28,8 @@ use Rattle.em_driver.specs.Driven.{IsDriven, IsFirstMarked, IsLaidOut, IsMarked,
 use Rattle.em_driver.specs.Layout.{IsGoodLayout, IsPlaced}
 use Rattle.em_driver.specs.Order.{octets_of, queued, rx_packet_at, tx_packet_at, waiting}
 use Rattle.em_driver.specs.Places.{between, is_among}
-use Rattle.em_driver.specs.Receive.{following, rx_buffer}
+use Rattle.em_regs.specs.Ring.{following}
+use Rattle.em_driver.specs.Receive.{rx_buffer}
 use Rattle.em_driver.specs.Start.{Part, memory, fresh_descriptor, descriptors}
 use Rattle.em_driver.specs.Transmit.{tx_buffer, tx_descriptor}
 use Rattle.em_turn.specs.Turn.{stored_by}

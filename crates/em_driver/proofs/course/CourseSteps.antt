@@ -70,11 +70,11 @@ pokes_on w m v addr octets stopped rest n k a step count more =
     inr record { mid = m; others = k; step = step; count = count; more = more }
 
 pub poke_stops : {A : Type 0} (w v : World) (addr : ℕ) (octets : List ℕ) (stopped : Refusal → A) (more : Course A)
-    (refusal : Refusal) (a : A)
+    (refusal : Refusal) {a : A}
     → IsRefused w (pokes addr octets) refusal v → a ≡ stopped refusal
     → Follows w (poke addr octets stopped more) 0 a v
 unfolding Follows
-poke_stops w v addr octets stopped more refusal a refused e = inl (refusal, refused, refl, e)
+poke_stops w v addr octets stopped more refusal refused e = inl (refusal, refused, refl, e)
 
 pub room_on : {A : Type 0} (w v : World) (stopped : A) (more : Course A) (n : ℕ) (a : A)
     → Follows w more n a v → Follows w (room stopped more) n a v
@@ -128,10 +128,10 @@ unfolding Comes
 comes_write w v reg value rest step others a u f =
     writes_on w v u reg value rest (1 + others) others a step refl f
 
-pub comes_reset : {A : Type 0} (w v : World) (stopped : A) (rest : Course A)
+pub comes_reset : {A : Type 0} {w v : World} (stopped : A) (rest : Course A)
     → Accesses w (writes (offset_of Ctrl) 0x0400_0000) Done v → Comes w (reset stopped rest) 1 v rest
 unfolding Comes
-comes_reset w v stopped rest step others a u f =
+comes_reset {w = w} {v = v} stopped rest step others a u f =
     resets_on w v u stopped rest (1 + others) others a step refl f
 
 pub comes_peek : {A : Type 0} (w v : World) (addr len : ℕ) (stopped : A) (next : List ℕ → Course A) (octets : List ℕ)

@@ -48,8 +48,8 @@ passed_unplanned w v passes (inr starves) none =
 pass_unplanned : (w v : World) → Passes w v → w.plan ≡ [] → Unplanned w v
 pass_unplanned w v passes none = passed_unplanned w v passes passes.taken none
 
-access_unplanned : (w v : World) (e : Event) (answer : Answer) → Accesses w e answer v → w.plan ≡ [] → Unplanned w v
-access_unplanned w v e answer access none =
+access_unplanned : (w v : World) {e : Event} {answer : Answer} → Accesses w e answer v → w.plan ≡ [] → Unplanned w v
+access_unplanned w v access none =
     let here = pass_unplanned w access.mid access.passes none in
     (ap (λ x. x.plan) access.is ∙ here.0, ap (λ x. x.starved) access.is ∙ here.1)
 
@@ -58,14 +58,14 @@ pub unplanned_fed : {A : Type 0} (course : Course A) (w v : World) (n : ℕ) (a 
 unfolding Follows
 unplanned_fed (done answer) w v n a h none = ap (λ x. x.starved) h.world_is
 unplanned_fed (read reg next) w v n a h none =
-    let here = access_unplanned w h.1.mid _ _ h.1.step none in
+    let here = access_unplanned w h.1.mid h.1.step none in
     unplanned_fed (next h.0) h.1.mid v h.1.others a h.1.more here.0 ∙ here.1
 unplanned_fed (write reg value more) w v n a h none =
-    let here = access_unplanned w h.mid _ _ h.step none in
+    let here = access_unplanned w h.mid h.step none in
     unplanned_fed more h.mid v h.others a h.more here.0 ∙ here.1
 unplanned_fed (reset stopped more) w v n a (inl h) none = (pass_unplanned w v h.0.passes none).1
 unplanned_fed (reset stopped more) w v n a (inr h) none =
-    let here = access_unplanned w h.mid _ _ h.step none in
+    let here = access_unplanned w h.mid h.step none in
     unplanned_fed more h.mid v h.others a h.more here.0 ∙ here.1
 unplanned_fed (peek addr len stopped next) w v n a (inl h) none = (pass_unplanned w v h.0.passes none).1
 unplanned_fed (peek addr len stopped next) w v n a (inr h) none =
@@ -73,7 +73,7 @@ unplanned_fed (peek addr len stopped next) w v n a (inr h) none =
     unplanned_fed (next h.0) h.1 v n a h.3 here.0 ∙ here.1
 unplanned_fed (poke addr octets stopped more) w v n a (inl h) none = (pass_unplanned w v h.1.passes none).1
 unplanned_fed (poke addr octets stopped more) w v n a (inr h) none =
-    let here = access_unplanned w h.mid _ _ h.step none in
+    let here = access_unplanned w h.mid h.step none in
     unplanned_fed more h.mid v h.others a h.more here.0 ∙ here.1
 unplanned_fed (room stopped more) w v n a (inl h) none = ap (λ x. x.starved) h.world_is
 unplanned_fed (room stopped more) w v n a (inr h) none = unplanned_fed more w v n a h none

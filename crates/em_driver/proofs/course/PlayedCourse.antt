@@ -50,10 +50,10 @@ pass_is : (w v : World) → Passes w v → v.starved ≡ false → (v ≡ passed
 pass_is w v passes fed = pass_taken w v passes.turns passes.is passes.taken fed
 
 -- an access that is performed: the table gives its answer and its machine
-access_is : (w v : World) (e : Event) (answer : Answer) → Accesses w e answer v → v.starved ≡ false
+access_is : (w v : World) {e : Event} {answer : Answer} → Accesses w e answer v → v.starved ≡ false
     → (v ≡ performed (passed w) e) × (w.starved ≡ false)
     × ((t : State) × (step (present (passed w)) e ≡ Ok (answer, t)))
-access_is w v e answer access fed =
+access_is w v {e = e} {answer = answer} access fed =
     let m = access.mid in
     let here = pass_is w m access.passes (sym (ap (λ x. x.starved) access.is) ∙ fed) in
     let stepped = access.does.0 in
@@ -73,18 +73,18 @@ pub was_fed : {A : Type 0} (course : Course A) (w v : World) (n : ℕ) (a : A) �
 unfolding Follows
 was_fed (done answer) w v n a h fed = sym (ap (λ x. x.starved) h.world_is) ∙ fed
 was_fed (read reg next) w v n a h fed =
-    (access_is w h.1.mid _ _ h.1.step (was_fed (next h.0) h.1.mid v h.1.others a h.1.more fed)).1
+    (access_is w h.1.mid h.1.step (was_fed (next h.0) h.1.mid v h.1.others a h.1.more fed)).1
 was_fed (write reg value more) w v n a h fed =
-    (access_is w h.mid _ _ h.step (was_fed more h.mid v h.others a h.more fed)).1
+    (access_is w h.mid h.step (was_fed more h.mid v h.others a h.more fed)).1
 was_fed (reset stopped more) w v n a (inl h) fed = (pass_is w v h.0.passes fed).1
 was_fed (reset stopped more) w v n a (inr h) fed =
-    (access_is w h.mid _ _ h.step (was_fed more h.mid v h.others a h.more fed)).1
+    (access_is w h.mid h.step (was_fed more h.mid v h.others a h.more fed)).1
 was_fed (peek addr len stopped next) w v n a (inl h) fed = (pass_is w v h.0.passes fed).1
 was_fed (peek addr len stopped next) w v n a (inr h) fed =
     (pass_is w h.1 h.2.passes (was_fed (next h.0) h.1 v n a h.3 fed)).1
 was_fed (poke addr octets stopped more) w v n a (inl h) fed = (pass_is w v h.1.passes fed).1
 was_fed (poke addr octets stopped more) w v n a (inr h) fed =
-    (access_is w h.mid _ _ h.step (was_fed more h.mid v h.others a h.more fed)).1
+    (access_is w h.mid h.step (was_fed more h.mid v h.others a h.more fed)).1
 was_fed (room stopped more) w v n a (inl h) fed = sym (ap (λ x. x.starved) h.world_is) ∙ fed
 was_fed (room stopped more) w v n a (inr h) fed = was_fed more w v n a h fed
 
@@ -158,7 +158,7 @@ followed_is_played bus own (done answer) w v n a tells h none ample fed =
     ended_is w v n a answer h.world_is h.events_are h.answer_is
 followed_is_played bus own (read reg next) w v n a tells h none ample fed =
     let then = h.1 in
-    let is = access_is w then.mid _ _ then.step (was_fed (next h.0) then.mid v then.others a then.more fed) in
+    let is = access_is w then.mid then.step (was_fed (next h.0) then.mid v then.others a then.more fed) in
     let more = followed_is_played bus own (next h.0) then.mid v then.others a (tells h.0) then.more none ample fed in
     let value : h.0 ≡ value_of (step (present (passed w)) (reads (offset_of reg))) = sym (ap value_of is.2.1) in
     let m = passed w in
@@ -166,14 +166,14 @@ followed_is_played bus own (read reg next) w v n a tells h none ample fed =
     counted_is (play (performed m e) (next (value_of (step (present m) e)))) v n then.others a
     (ap₂ (λ m x. play m (next x)) (sym is.0) (sym value) ∙ more) then.count
 followed_is_played bus own (write reg value more) w v n a tells h none ample fed =
-    let is = access_is w h.mid _ _ h.step (was_fed more h.mid v h.others a h.more fed) in
+    let is = access_is w h.mid h.step (was_fed more h.mid v h.others a h.more fed) in
     counted_is (play (performed (passed w) (writes (offset_of reg) value)) more) v n h.others a
     (ap (λ m. play m more) (sym is.0)
     ∙ followed_is_played bus own more h.mid v h.others a tells h.more none ample fed) h.count
 followed_is_played bus own (reset stopped more) w v n a tells (inl h) none ample fed =
     wanted bus _ a v h.2 tells.0 (h.0.asked refl) ample
 followed_is_played bus own (reset stopped more) w v n a tells (inr h) none ample fed =
-    let is = access_is w h.mid _ _ h.step (was_fed more h.mid v h.others a h.more fed) in
+    let is = access_is w h.mid h.step (was_fed more h.mid v h.others a h.more fed) in
     counted_is (play (performed (passed w) (writes (offset_of Ctrl) 0x0400_0000)) more) v n h.others a
     (ap (λ m. play m more) (sym is.0)
     ∙ followed_is_played bus own more h.mid v h.others a tells.1 h.more none ample fed) h.count
@@ -197,7 +197,7 @@ followed_is_played bus own (poke addr octets stopped more) w v n a tells (inl h)
     refused_is bus stopped m v e h.0 n a (play (performed m e) more) (pass_is w v h.1.passes fed).0 h.1.refuses
     h.1.asked h.2 h.3 tells.0 ample
 followed_is_played bus own (poke addr octets stopped more) w v n a tells (inr h) none ample fed =
-    let is = access_is w h.mid _ _ h.step (was_fed more h.mid v h.others a h.more fed) in
+    let is = access_is w h.mid h.step (was_fed more h.mid v h.others a h.more fed) in
     let m = passed w in
     let e = pokes addr octets in
     let rest = play (performed m e) more in

@@ -124,8 +124,8 @@ passes_run w v passes = record {
       (turns_run w passes.turns);
 }
 
-accesses_run : (w v : World) (e : Event) (answer : Answer) → Accesses w e answer v → Runs w.machine v.machine
-accesses_run w v e answer access =
+accesses_run : (w v : World) {e : Event} {answer : Answer} → Accesses w e answer v → Runs w.machine v.machine
+accesses_run w v {e = e} {answer = answer} access =
     runs_both w.machine access.mid.machine v.machine (passes_run w access.mid access.passes)
     (runs_one access.mid.machine v.machine (performs e answer) access.does)
 
@@ -142,21 +142,21 @@ pub follows_run : {A : Type 0} (course : Course A) (w v : World) (n : ℕ) (a : 
 unfolding Follows
 follows_run (done answer) w v n a h = ends_run w v h.world_is
 follows_run (read reg next) w v n a h =
-    runs_both w.machine h.1.mid.machine v.machine (accesses_run w h.1.mid _ _ h.1.step)
+    runs_both w.machine h.1.mid.machine v.machine (accesses_run w h.1.mid h.1.step)
     (follows_run (next h.0) h.1.mid v h.1.others a h.1.more)
 follows_run (write reg value more) w v n a h =
-    runs_both w.machine h.mid.machine v.machine (accesses_run w h.mid _ _ h.step)
+    runs_both w.machine h.mid.machine v.machine (accesses_run w h.mid h.step)
     (follows_run more h.mid v h.others a h.more)
 follows_run (reset stopped more) w v n a (inl h) = refused_run w v _ _ h.0
 follows_run (reset stopped more) w v n a (inr h) =
-    runs_both w.machine h.mid.machine v.machine (accesses_run w h.mid _ _ h.step)
+    runs_both w.machine h.mid.machine v.machine (accesses_run w h.mid h.step)
     (follows_run more h.mid v h.others a h.more)
 follows_run (peek addr len stopped next) w v n a (inl h) = passes_run w v h.0.passes
 follows_run (peek addr len stopped next) w v n a (inr h) =
     runs_both w.machine h.1.machine v.machine (passes_run w h.1 h.2.passes) (follows_run (next h.0) h.1 v n a h.3)
 follows_run (poke addr octets stopped more) w v n a (inl h) = refused_run w v (pokes addr octets) h.0 h.1
 follows_run (poke addr octets stopped more) w v n a (inr h) =
-    runs_both w.machine h.mid.machine v.machine (accesses_run w h.mid _ _ h.step)
+    runs_both w.machine h.mid.machine v.machine (accesses_run w h.mid h.step)
     (follows_run more h.mid v h.others a h.more)
 follows_run (room stopped more) w v n a (inl h) = ends_run w v h.world_is
 follows_run (room stopped more) w v n a (inr h) = follows_run more w v n a h

@@ -12,7 +12,8 @@ use Rattle.em_step.specs.declared.refusal.Refusal.{Refusal}
 use Rattle.em_driver.specs.Course.{Course, done, Follows, Comes}
 use Rattle.em_driver.specs.Descriptor.{length_of, is_done, is_whole}
 use Rattle.em_driver.specs.Outcome.{cause_of}
-use Rattle.em_driver.specs.Receive.{Answered, following, rx_descriptor, rx_buffer, received, stop_after}
+use Rattle.em_regs.specs.Ring.{following}
+use Rattle.em_driver.specs.Receive.{Answered, rx_descriptor, rx_buffer, received, stop_after}
 use Rattle.em_turn.specs.Planned.{lists}
 use Rattle.em_driver.specs.Receive.{stopped, rx_packet, rx_from, rx_batch, Takes, Leaves, TakesOrNot, StopsAt}
 use Rattle.em_driver.specs.World.{World, Accesses, IsRefused, Peeks, PeeksPast}
@@ -26,15 +27,15 @@ use Rattle.em_driver.proofs.course.CourseSteps.{comes_poke, comes_write}
 
 -- ---- one packet, once its length is known
 
-pub no_room : (l : Layout) (i len : ℕ) (w : World) (before now : List (List ℕ)) → now ≡ before
+pub no_room : (l : Layout) (i len : ℕ) (w : World) {before now : List (List ℕ)} → now ≡ before
     → Leaves Memory l i len w w before now
-no_room l i len w before now same count more =
+no_room l i len w {before = before} same count more =
     follows_as w w _ 0 0 _ _ (room_stops w (before, stopped count Memory) _) refl
     (ap (λ q. (q, stopped count Memory)) same)
 
-pub not_seen : (l : Layout) (i len n addr : ℕ) (w v : World) (before now : List (List ℕ)) → now ≡ before
+pub not_seen : (l : Layout) (i : ℕ) {len n addr : ℕ} {w v : World} {before now : List (List ℕ)} → now ≡ before
     → n ≡ len → addr ≡ rx_buffer l i → PeeksPast w addr n v → Leaves Broken l i len w v before now
-not_seen l i len n addr w v before now same long at past count more =
+not_seen l i {len = len} {n = n} {addr = addr} {w = w} {v = v} {before = before} same long at past count more =
     let past : PeeksPast w (rx_buffer l i) n v = subst (λ a. PeeksPast w a n v) at past in
     let past : PeeksPast w (rx_buffer l i) len v = subst (λ k. PeeksPast w (rx_buffer l i) k v) long past in
     follows_as w v _ 0 0 _ _
@@ -42,20 +43,20 @@ not_seen l i len n addr w v before now same long at past count more =
     (ap (λ q. (q, stopped count Broken)) same)
 
 -- the packet was looked at
-pub seen : (l : Layout) (i len n addr : ℕ) (w m : World) (packet : List ℕ) → n ≡ len → addr ≡ rx_buffer l i
+pub seen : (l : Layout) (i : ℕ) {len n addr : ℕ} {w m : World} {packet : List ℕ} → n ≡ len → addr ≡ rx_buffer l i
     → Peeks w addr n packet m → Peeks w (rx_buffer l i) len packet m
-seen l i len n addr w m packet long at peeks =
+seen l i {n = n} {w = w} {m = m} {packet = packet} long at peeks =
     subst (λ k. Peeks w (rx_buffer l i) k packet m) long (subst (λ a. Peeks w a n packet m) at peeks)
 
-pub not_cleared : (l : Layout) (i len addr : ℕ) (w m v : World) (packet : List ℕ) (refusal : Refusal) (cause : Cause)
-    (before now : List (List ℕ)) → now ≡ before → Peeks w (rx_buffer l i) len packet m
+pub not_cleared : (l : Layout) (i : ℕ) {len addr : ℕ} {w m v : World} {packet : List ℕ} {refusal : Refusal} {cause : Cause}
+    {before now : List (List ℕ)} → now ≡ before → Peeks w (rx_buffer l i) len packet m
     → addr ≡ rx_descriptor l i + 12 → IsRefused m (pokes addr (0 ∷ [])) refusal v → cause ≡ cause_of refusal
     → Leaves cause l i len w v before now
-not_cleared l i len addr w m v packet refusal cause before now same peeks at refused is count more =
+not_cleared l i {len = len} {w = w} {m = m} {v = v} {packet = packet} {refusal = refusal} {cause = cause} {before = before} same peeks at refused is count more =
     let refused : IsRefused m (pokes (rx_descriptor l i + 12) (0 ∷ [])) refusal v
     = subst (λ a. IsRefused m (pokes a (0 ∷ [])) refusal v) at refused in
     room_on w v _ _ 0 _ (peeks_on w m v (rx_buffer l i) len _ _ packet 0 _ peeks
-    (poke_stops m v (rx_descriptor l i + 12) (0 ∷ []) _ _ refusal _ refused
+    (poke_stops m v (rx_descriptor l i + 12) (0 ∷ []) _ _ refusal refused
     (ap (λ q. (q, stopped count cause)) same ∙ ap (λ x. (before, stopped count x)) is)))
 
 pub taken : (l : Layout) (i len addr : ℕ) (w m u v : World) (packet : List ℕ) (before now : List (List ℕ))
@@ -80,10 +81,10 @@ pushed now mid was x octets e f g =
 
 -- ---- one packet, from the look at its descriptor on
 
-pub ring_ends : (l : Layout) (i addr : ℕ) (w v : World) (queue : List (List ℕ)) → addr ≡ rx_descriptor l i
+pub ring_ends : (l : Layout) (i : ℕ) {addr : ℕ} {w v : World} (queue : List (List ℕ)) → addr ≡ rx_descriptor l i
     → PeeksPast w addr 16 v → StopsAt Broken l i w v queue queue
 unfolding rx_from
-ring_ends l i addr w v queue at past left count =
+ring_ends l i {w = w} {v = v} queue at past left count =
     peek_stops w v (rx_descriptor l i) 16 _ _ (subst (λ a. PeeksPast w a 16 v) at past)
 
 -- what the course is by what the descriptor says
@@ -103,32 +104,32 @@ looked l left i count addr w m queue d a b at peeks is_a is_b =
     (ap (λ x. by_descriptor l left i count queue d x b) (sym is_a)
     ∙ ap (λ x. by_descriptor l left i count queue d (is_done d) x) (sym is_b))
 
-pub none_there : (l : Layout) (i addr : ℕ) (w m : World) (queue : List (List ℕ)) (d : List ℕ)
+pub none_there : (l : Layout) (i : ℕ) {addr : ℕ} {w m : World} (queue : List (List ℕ)) {d : List ℕ}
     → addr ≡ rx_descriptor l i → Peeks w addr 16 d m → is_done d ≡ false → TakesOrNot false l i w m queue queue
-none_there l i addr w m queue d at peeks none left count =
+none_there l i {addr = addr} {w = w} {m = m} queue {d = d} at peeks none left count =
     comes_on w m m _ _ 0 0 0 _ (looked l left i count addr w m queue d false (is_whole d) at peeks none refl) refl
     (ends m (queue, received count))
 
-pub not_whole : (l : Layout) (i addr : ℕ) (w m : World) (queue : List (List ℕ)) (d : List ℕ)
+pub not_whole : (l : Layout) (i : ℕ) {addr : ℕ} {w m : World} (queue : List (List ℕ)) {d : List ℕ}
     → addr ≡ rx_descriptor l i → Peeks w addr 16 d m → is_done d ≡ true → is_whole d ≡ false
     → StopsAt Broken l i w m queue queue
-not_whole l i addr w m queue d at peeks is_done part left count =
+not_whole l i {addr = addr} {w = w} {m = m} queue {d = d} at peeks is_done part left count =
     comes_on w m m _ _ 0 0 0 _ (looked l left i count addr w m queue d true false at peeks is_done part) refl
     (ends m (queue, stopped count Broken))
 
-pub left_there : (l : Layout) (i addr len : ℕ) (cause : Cause) (w m v : World) (before now : List (List ℕ))
-    (d : List ℕ) → addr ≡ rx_descriptor l i → Peeks w addr 16 d m → is_done d ≡ true → is_whole d ≡ true
+pub left_there : (l : Layout) (i : ℕ) {addr len : ℕ} (cause : Cause) {w m : World} (v : World) (before now : List (List ℕ))
+    {d : List ℕ} → addr ≡ rx_descriptor l i → Peeks w addr 16 d m → is_done d ≡ true → is_whole d ≡ true
     → len ≡ length_of d → Leaves cause l i len m v before now → StopsAt cause l i w v before now
-left_there l i addr len cause w m v before now d at peeks is_done whole long leaves left count =
+left_there l i {addr = addr} cause {w = w} {m = m} v before now {d = d} at peeks is_done whole long leaves left count =
     let leaves : Leaves cause l i (length_of d) m v before now
     = subst (λ k. Leaves cause l i k m v before now) long leaves in
     comes_on w m v _ _ 0 0 0 _ (looked l left i count addr w m before d true true at peeks is_done whole) refl
     (leaves count (rx_from l left (following l.rx_count i) (count + 1)))
 
-pub took_there : (l : Layout) (i addr len : ℕ) (w m v : World) (before now : List (List ℕ)) (d : List ℕ)
+pub took_there : (l : Layout) (i : ℕ) {addr len : ℕ} {w m : World} (v : World) (before now : List (List ℕ)) {d : List ℕ}
     → addr ≡ rx_descriptor l i → Peeks w addr 16 d m → is_done d ≡ true → is_whole d ≡ true → len ≡ length_of d
     → Takes l i len m v before now → TakesOrNot true l i w v before now
-took_there l i addr len w m v before now d at peeks is_done whole long takes left count =
+took_there l i {addr = addr} {w = w} {m = m} v before now {d = d} at peeks is_done whole long takes left count =
     let takes : Takes l i (length_of d) m v before now = subst (λ k. Takes l i k m v before now) long takes in
     comes_both w m v _ _ _ 0 2 2 (looked l left i count addr w m before d true true at peeks is_done whole) refl
     (takes count (rx_from l left (following l.rx_count i) (count + 1)))
@@ -146,8 +147,8 @@ following_within count i false e h = omega arith
 lt_false : (a b : ℕ) → b ≤ a → nat_lt a b ≡ false
 lt_false a b h = grind (arith, nat_tests)
 
-pub following_below : (count i j : ℕ) → j ≡ following count i → i < count → j < count
-following_below count i j e h =
+pub following_below : {count i j : ℕ} → j ≡ following count i → i < count → j < count
+following_below {count = count} {i = i} e h =
     subst (λ x. x < count) (sym e) (following_within count i (nat_lt (i + 1) count) refl h)
 
 pub other_queue : (l : Layout) (number n : ℕ) (queue : List (List ℕ)) (w : World) → number ≢ 0
@@ -186,11 +187,11 @@ opened l number n tail left i queue w v h e below many at step =
     comes_as w v _ _ _ 1 1 (opened_as l number n tail queue w v true h e (lt_true tail l.rx_count below) step) refl
     (ap (λ k. rx_from l k i 0 queue) many ∙ ap (λ j. rx_from l (min n 65536) j 0 queue) at)
 
-pub broken_tail : (l : Layout) (number n tail : ℕ) (queue : List (List ℕ)) (w v : World) (stop : Stopped)
+pub broken_tail : (l : Layout) {number n tail : ℕ} (queue : List (List ℕ)) {w v : World} {stop : Stopped}
     → number ≡ 0 → n ≢ 0 → l.rx_count ≤ tail → stop ≡ stop_after 0 Broken
     → Accesses w (reads (offset_of Rdt)) (Value tail) v
     → Follows w (rx_batch l number n queue) stop.events (queue, Err stop) v
-broken_tail l number n tail queue w v stop h e past is step =
+broken_tail l {number = number} {n = n} {tail = tail} queue {w = w} {v = v} h e past is step =
     subst (λ s. Follows w (rx_batch l number n queue) s.events (queue, Err s) v) (sym is)
     (comes_on w v v _ _ 1 0 1 _ (opened_as l number n tail queue w v false h e (lt_false tail l.rx_count past) step)
     refl (ends v (queue, stopped 0 Broken)))

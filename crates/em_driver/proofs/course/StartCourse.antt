@@ -93,10 +93,10 @@ each_more w m v course part count i k more h comes performed =
     (subst (λ x. Comes m x 1 v others) (sym (each_next i count part more h)) (performed others))
 
 -- a part stopped
-pub each_stops : (w m v : World) (course : Part) (part : ℕ → Part) (count i k before mid after : ℕ) (why : Cause)
+pub each_stops : {w m v : World} (course : Part) (part : ℕ → Part) (count i k : ℕ) {before mid after : ℕ} {why : Cause}
     → i < count → ((more : Start) → Comes w (course more) k m (each_from i (count - i) part more))
     → mid ≡ before + k → Stops m (part i) mid why v after → Stops w course before why v after
-each_stops w m v course part count i k before mid after why h comes counted stopped = record {
+each_stops {w = w} {m = m} {v = v} course part count i k {why = why} h comes counted stopped = record {
   events = k + stopped.events;
   counted = omega (arith, counted, stopped.counted);
   follows = λ more.
@@ -111,22 +111,22 @@ none_left : (count i : ℕ) → count ≤ i → count - i ≡ 0
 none_left count i h = omega arith
 
 -- all were performed
-pub each_all : (w v : World) (course : Start) (part : ℕ → Part) (count i k j : ℕ) (more : Start) → count ≤ i
+pub each_all : (w v : World) (course : Start) (part : ℕ → Part) (count i : ℕ) {k j : ℕ} (more : Start) → count ≤ i
     → Comes w course k v (each_from i (count - i) part more) → j ≡ k → Comes w course j v more
-each_all w v course part count i k j more h comes e =
+each_all w v course part count i {k = k} {j = j} more h comes e =
     comes_as w v course (each_from i (count - i) part more) more k j comes e
     (sym (ap (λ n. each_from i n part more) (none_left count i h) ∙ each_end i part more))
 
 -- a write of a register, in other words
-pub write_as : (w v : World) (reg : Reg) (value u : ℕ) → Performs w (write reg value) 1 v → value ≡ u
+pub write_as : (w v : World) (reg : Reg) {value u : ℕ} → Performs w (write reg value) 1 v → value ≡ u
     → Performs w (write reg u) 1 v
-write_as w v reg value u performed e = subst (λ x. Performs w (write reg x) 1 v) e performed
+write_as w v reg {value = value} performed e = subst (λ x. Performs w (write reg x) 1 v) e performed
 
 -- a reset that is refused
-pub reset_refused : (w v : World) (value before : ℕ) (lack : Refusal)
+pub reset_refused : {w v : World} (value : ℕ) {before : ℕ} (lack : Refusal)
     → IsRefused w (writes (offset_of Ctrl) value) lack v → value ≡ 0x0400_0000 → lack ≡ refusal.Memory
     → Stops w device_reset before cause.Memory v before
-reset_refused w v value before lack refused e f = record {
+reset_refused {w = w} {v = v} value lack refused e f = record {
   events = 0;
   counted = omega arith;
   follows = λ more.
@@ -136,14 +136,14 @@ reset_refused w v value before lack refused e f = record {
 }
 
 -- a memory write, in other words
-pub memory_as : (w v : World) (addr a : ℕ) (octets o : List ℕ) → Performs w (memory addr octets) 1 v → a ≡ addr
+pub memory_as : (w v : World) {addr a : ℕ} {octets o : List ℕ} → Performs w (memory addr octets) 1 v → a ≡ addr
     → o ≡ octets → Performs w (memory a o) 1 v
-memory_as w v addr a octets o performed e f =
+memory_as w v {addr = addr} {o = o} performed e f =
     subst (λ x. Performs w (memory x o) 1 v) (sym e) (subst (λ x. Performs w (memory addr x) 1 v) (sym f) performed)
 
-pub memory_stops_as : (w v : World) (addr a : ℕ) (octets o : List ℕ) (before after : ℕ) (why : Cause)
+pub memory_stops_as : {w v : World} {addr a : ℕ} {octets o : List ℕ} {before after : ℕ} {why : Cause}
     → Stops w (memory addr octets) before why v after → a ≡ addr → o ≡ octets → Stops w (memory a o) before why v after
-memory_stops_as w v addr a octets o before after why stopped e f =
+memory_stops_as {w = w} {v = v} {addr = addr} {o = o} {before = before} {after = after} {why = why} stopped e f =
     subst (λ x. Stops w (memory x o) before why v after) (sym e)
     (subst (λ x. Stops w (memory addr x) before why v after) (sym f) stopped)
 
@@ -171,11 +171,11 @@ words_next a count words next h =
     ap (λ n. words_from a n words next) (one_less count a h) ∙ words_step a (count - (a + 1)) words next
 
 -- another word was read
-pub words_more : (w m v : World) (course : Start) (count a place k j word : ℕ) (words : List ℕ)
+pub words_more : (w m v : World) (course : Start) (count a place k : ℕ) {j : ℕ} (word : ℕ) (words : List ℕ)
     (next : List ℕ → Start) → a < count → a < length words → place ≡ a → j ≡ k + 2
     → Comes w course k m (words_from a (count - a) (take a words) next) → Gives m (eeprom_word a) 2 word v
     → Comes w course j v (words_from (a + 1) (count - (a + 1)) (take (a + 1) (set words place word)) next)
-words_more w m v course count a place k j word words next h within e f comes gives =
+words_more w m v course count a place k {j = j} word words next h within e f comes gives =
     let others = λ (x : ℕ). words_from (a + 1) (count - (a + 1)) (take a words ++ x ∷ []) next in
     subst (λ x. Comes w course j v (words_from (a + 1) (count - (a + 1)) x next))
     (sym (ap (λ x. take (a + 1) (set words x word)) e ∙ take_more_set words a word within))
@@ -183,11 +183,11 @@ words_more w m v course count a place k j word words next h within e f comes giv
     (subst (λ x. Comes m x 2 v (others word)) (sym (words_next a count (take a words) next h)) (gives others)))
 
 -- a word was not read
-pub words_stop : (w m v : World) (course : (List ℕ → Start) → Start) (count a k before mid after : ℕ) (words : List ℕ)
-    (next : (List ℕ → Start) → List ℕ → Start) (why : Cause) → a < count
+pub words_stop : {w m v : World} (course : (List ℕ → Start) → Start) (count a k : ℕ) {before mid after : ℕ} (words : List ℕ)
+    (next : (List ℕ → Start) → List ℕ → Start) {why : Cause} → a < count
     → ((more : List ℕ → Start) → Comes w (course more) k m (words_from a (count - a) words (next more)))
     → mid ≡ before + k → Stops m (eeprom_word a) mid why v after → Stops w course before why v after
-words_stop w m v course count a k before mid after words next why h comes counted stopped = record {
+words_stop {w = w} {m = m} {v = v} course count a k {before = before} {after = after} words next {why = why} h comes counted stopped = record {
   events = k + stopped.events;
   counted = omega (arith, counted, stopped.counted);
   follows = λ more.
@@ -199,10 +199,10 @@ words_stop w m v course count a k before mid after words next why h comes counte
 }
 
 -- all words were read
-pub words_all : (w v : World) (course : Start) (count a k j : ℕ) (words whole : List ℕ) (next : List ℕ → Start)
+pub words_all : (w v : World) (course : Start) (count a k j : ℕ) (words : List ℕ) {whole : List ℕ} (next : List ℕ → Start)
     → count ≤ a → length words ≤ a → whole ≡ words → Comes w course k v (words_from a (count - a) (take a words) next)
     → j ≡ k → Comes w course j v (next whole)
-words_all w v course count a k j words whole next h within same comes e =
+words_all w v course count a k j words {whole = whole} next h within same comes e =
     comes_as w v course (words_from a (count - a) (take a words) next) (next whole) k j comes e
     (sym (ap (λ n. words_from a n (take a words) next) (none_left count a h) ∙ words_end a (take a words) next
     ∙ ap next (take_all a words within ∙ sym same)))
@@ -215,10 +215,10 @@ summed_right w v course k words next is comes =
     (chosen (sum words % 0x1_0000 == 0xBABA) (next words) (done (Some cause.Checksum)) (eq-eqb _ _ is))
 
 -- their sum is wrong
-pub summed_wrong : (w v : World) (course : (List ℕ → Start) → Start) (k before after : ℕ) (words : List ℕ)
+pub summed_wrong : {w v : World} (course : (List ℕ → Start) → Start) (k : ℕ) {before after : ℕ} (words : List ℕ)
     → (IsSummed words → ⊥) → ((next : List ℕ → Start) → Comes w (course next) k v (summed next words))
     → after ≡ before + k → Stops w course before cause.Checksum v after
-summed_wrong w v course k before after words is comes counted = record {
+summed_wrong {w = w} {v = v} course k {before = before} {after = after} words is comes counted = record {
   events = k;
   counted = counted;
   follows = λ next.
@@ -256,20 +256,20 @@ at_receive w m1 m2 m3 m4 l words reset gives address table =
     (table ring)))
 
 -- to the transmit ring
-pub at_transmit : (w m v : World) (l k : Layout)
+pub at_transmit : (w m v : World) (l : Layout) {k : Layout}
     → Comes w (start l) 262 m (receive_ring l (transmit_ring l (done None)))
     → k ≡ l → Performs m (receive_ring k) (k.rx_count + 6) v
     → Comes w (start l) (268 + l.rx_count) v (transmit_ring l (done None))
-at_transmit w m v l k comes e ring =
+at_transmit w m v l {k = k} comes e ring =
     comes_both w m v (start l) (receive_ring l (transmit_ring l (done None))) (transmit_ring l (done None))
     262 (l.rx_count + 6) (268 + l.rx_count) comes (omega arith)
     (subst (λ x. Performs m (receive_ring x) (x.rx_count + 6) v) e ring (transmit_ring l (done None)))
 
 -- to its end
-pub at_end : (w m v : World) (l k : Layout) (events : ℕ)
+pub at_end : (w m v : World) (l : Layout) {k : Layout} {events : ℕ}
     → Comes w (start l) (268 + l.rx_count) m (transmit_ring l (done None)) → k ≡ l
     → Performs m (transmit_ring k) (k.tx_count + 7) v → events ≡ start_events l → Follows w (start l) events None v
-at_end w m v l k events comes e ring counted =
+at_end w m v l {k = k} {events = events} comes e ring counted =
     comes_on w v v (start l) (done None) (275 + l.rx_count + l.tx_count) 0 events None
     (comes_both w m v (start l) (transmit_ring l (done None)) (done None) (268 + l.rx_count) (l.tx_count + 7)
     (275 + l.rx_count + l.tx_count) comes (omega arith)
@@ -277,17 +277,17 @@ at_end w m v l k events comes e ring counted =
     (omega (arith, counted)) (ends_with v None None refl)
 
 -- the parts that stop
-pub stops_at_reset : (w v : World) (l : Layout) (before after : ℕ) (why : Cause) → before ≡ 0
+pub stops_at_reset : {w v : World} (l : Layout) {before after : ℕ} {why : Cause} → before ≡ 0
     → Stops w global_reset before why v after → Follows w (start l) after (Some why) v
 unfolding start after_reset global_reset
-stops_at_reset w v l before after why counted stopped =
+stops_at_reset {w = w} {v = v} l {before = before} {after = after} {why = why} counted stopped =
     comes_stops w w v (start l) global_reset (eeprom (behind_eeprom l)) 0 before after why
     (comes_none w (start l)) counted stopped
 
 -- a layout, in other words, at a part that stopped
-pub stops_as : (w v : World) (part : Layout → Part) (l k : Layout) (before after : ℕ) (why : Cause)
+pub stops_as : {w v : World} (part : Layout → Part) {l k : Layout} {before after : ℕ} {why : Cause}
     → Stops w (part k) before why v after → k ≡ l → Stops w (part l) before why v after
-stops_as w v part l k before after why stopped e = subst (λ x. Stops w (part x) before why v after) e stopped
+stops_as {w = w} {v = v} part {l = l} {before = before} {after = after} {why = why} stopped e = subst (λ x. Stops w (part x) before why v after) e stopped
 
 -- a good layout is placed
 pub placed : (size : ℕ) (l : Layout) → IsGoodLayout size l → size ≤ 0xFFFF_FFFF_FFFF_FFFF → IsPlaced l

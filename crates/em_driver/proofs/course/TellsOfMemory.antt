@@ -8,7 +8,8 @@ use Rattle.em_driver.specs.Play.{Tells, TellsApart}
 use Rattle.em_driver.specs.TellsMemory.{start_says, batch_says}
 use Rattle.em_driver.specs.Calls.{get_link_speed, get_mac_addr, read_stats, reset_stats, set_mac_addr}
 use Rattle.em_driver.specs.Descriptor.{is_done, is_whole, length_of}
-use Rattle.em_driver.specs.Receive.{Answered, rx_from, rx_packet, rx_batch, following, received, stopped}
+use Rattle.em_regs.specs.Ring.{following}
+use Rattle.em_driver.specs.Receive.{Answered, rx_from, rx_packet, rx_batch, received, stopped}
 use Rattle.em_driver.specs.Transmit.{tx_from, tx_batch, is_packet, free_from, are_indices}
 use Rattle.em_driver.specs.Start.{Start, Part, each_from, global_reset, eeprom_word, words_from, summed, eeprom}
 use Rattle.em_driver.specs.Start.{receive_address, multicast_table, descriptors, receive_ring}

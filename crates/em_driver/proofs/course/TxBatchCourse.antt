@@ -9,7 +9,8 @@ use Rattle.em_step.specs.declared.refusal.Refusal.{Refusal}
 use Rattle.em_driver.specs.Course.{Course, done, write, poke, Follows, Comes}
 use Rattle.em_driver.specs.Descriptor.{transmit_descriptor}
 use Rattle.em_driver.specs.Outcome.{cause_of}
-use Rattle.em_driver.specs.Receive.{Answered, following}
+use Rattle.em_regs.specs.Ring.{following}
+use Rattle.em_driver.specs.Receive.{Answered}
 use Rattle.em_turn.specs.Planned.{lists}
 use Rattle.em_driver.specs.Transmit.{tx_descriptor, tx_buffer, free_from, are_indices, is_packet, handed, halt_after}
 use Rattle.em_driver.specs.Transmit.{halted, tx_from, tx_batch, Sends, SendsOrNot, Halts, HaltsAt}
@@ -39,9 +40,9 @@ measured : (l : Layout) (free i count : ℕ) (packet : List ℕ) (queue : List (
 unfolding tx_from
 measured l free i count packet queue b e = ap (by_length l free i count packet queue) e
 
-pub bad_length : (l : Layout) (i count : ℕ) (w : World) (packet : List ℕ) (stop : Stopped)
+pub bad_length : (l : Layout) (i : ℕ) {count : ℕ} (w : World) (packet : List ℕ) {stop : Stopped}
     → is_packet packet ≡ false → stop ≡ halt_after count 0 PacketLength → Halts l i count w w packet stop
-bad_length l i count w packet stop bad is = (
+bad_length l i {count = count} w packet bad is = (
   0,
   ap (λ s. s.events) is,
   λ free queue.
@@ -50,10 +51,10 @@ bad_length l i count w packet stop bad is = (
       (sym (measured l free i count packet queue false bad)) (ends w (packet ∷ queue, halted count 0 PacketLength))),
 )
 
-pub packet_refused : (l : Layout) (i count addr : ℕ) (w v : World) (packet : List ℕ) (refusal : Refusal)
-    (stop : Stopped) → is_packet packet ≡ true → addr ≡ tx_buffer l i → IsRefused w (pokes addr packet) refusal v
+pub packet_refused : (l : Layout) (i : ℕ) {count addr : ℕ} {w v : World} {packet : List ℕ} {refusal : Refusal}
+    {stop : Stopped} → is_packet packet ≡ true → addr ≡ tx_buffer l i → IsRefused w (pokes addr packet) refusal v
     → stop ≡ halt_after count 0 (cause_of refusal) → Halts l i count w v packet stop
-packet_refused l i count addr w v packet refusal stop good at refused is =
+packet_refused l i {count = count} {addr = addr} {w = w} {v = v} {packet = packet} {refusal = refusal} good at refused is =
     let refused : IsRefused w (pokes (tx_buffer l i) packet) refusal v
     = subst (λ a. IsRefused w (pokes a packet) refusal v) at refused in (
       0,
@@ -62,7 +63,7 @@ packet_refused l i count addr w v packet refusal stop good at refused is =
           subst (λ s. Follows w (tx_from l (suc free) i count (packet ∷ queue)) 0 (packet ∷ queue, Err s) v) (sym is)
           (subst (λ x. Follows w x 0 (packet ∷ queue, halted count 0 (cause_of refusal)) v)
           (sym (measured l free i count packet queue true good))
-          (poke_stops w v (tx_buffer l i) packet _ _ refusal _ refused refl)),
+          (poke_stops w v (tx_buffer l i) packet _ _ refusal refused refl)),
     )
 
 -- the packet was written
@@ -77,12 +78,12 @@ pub described : (l : Layout) (i addr len : ℕ) (octets packet : List ℕ) → o
 described l i addr len octets packet is at long =
     is ∙ ap (λ a. transmit_descriptor a len) at ∙ ap (λ n. transmit_descriptor (tx_buffer l i) n) long
 
-pub descriptor_refused : (l : Layout) (i count place : ℕ) (w m v : World) (packet octets : List ℕ)
-    (refusal : Refusal) (stop : Stopped) → is_packet packet ≡ true
+pub descriptor_refused : (l : Layout) (i : ℕ) {count place : ℕ} {w m v : World} {packet octets : List ℕ}
+    {refusal : Refusal} {stop : Stopped} → is_packet packet ≡ true
     → Accesses w (pokes (tx_buffer l i) packet) Done m → place ≡ tx_descriptor l i
     → octets ≡ transmit_descriptor (tx_buffer l i) (length packet) → IsRefused m (pokes place octets) refusal v
     → stop ≡ halt_after count 1 (cause_of refusal) → Halts l i count w v packet stop
-descriptor_refused l i count place w m v packet octets refusal stop good wrote at described refused is =
+descriptor_refused l i {count = count} {w = w} {m = m} {v = v} {packet = packet} {octets = octets} {refusal = refusal} good wrote at described refused is =
     let refused : IsRefused m (pokes (tx_descriptor l i) octets) refusal v
     = subst (λ a. IsRefused m (pokes a octets) refusal v) at refused in
     let refused : IsRefused m (pokes (tx_descriptor l i) (transmit_descriptor (tx_buffer l i) (length packet)))
@@ -95,7 +96,7 @@ descriptor_refused l i count place w m v packet octets refusal stop good wrote a
           (subst (λ x. Follows w x 1 (packet ∷ queue, halted count 1 (cause_of refusal)) v)
           (sym (measured l free i count packet queue true good))
           (pokes_on w m v (tx_buffer l i) packet _ _ 1 0 _ wrote refl
-          (poke_stops m v (tx_descriptor l i) _ _ _ refusal _ refused refl))),
+          (poke_stops m v (tx_descriptor l i) _ _ _ refusal refused refl))),
     )
 
 pub sent : (l : Layout) (i j count place : ℕ) (w m u v : World) (packet octets : List ℕ) → is_packet packet ≡ true
@@ -130,16 +131,16 @@ unfolding tx_from
 none_left l i count w [] none free = ends w ([], handed count)
 none_left l i count w (x ∷ queue) none free = cc
 
-pub front_sent : (l : Layout) (i count : ℕ) (w v : World) (packet : List ℕ) (before now : List (List ℕ))
+pub front_sent : (l : Layout) (i count : ℕ) (w v : World) {packet : List ℕ} {before now : List (List ℕ)}
     → before ≡ packet ∷ now → Sends l i count w v packet → SendsOrNot true l i count w v before now
-front_sent l i count w v packet before now front sends free =
+front_sent l i count w v {now = now} front sends free =
     subst (λ q. Comes w (tx_from l (suc free) i count q) 3 v (tx_from l free (following l.tx_count i) (count + 1) now))
     (sym front) (sends free now)
 
-pub front_halts : (l : Layout) (i count : ℕ) (w v : World) (packet : List ℕ) (before rest : List (List ℕ))
+pub front_halts : (l : Layout) (i count : ℕ) (w v : World) {packet : List ℕ} {before rest : List (List ℕ)}
     (stop : Stopped) → before ≡ packet ∷ rest → Halts l i count w v packet stop
     → HaltsAt l i count w v before before stop
-front_halts l i count w v packet before rest stop front halts = (
+front_halts l i count w v {rest = rest} stop front halts = (
   halts.0,
   halts.1,
   λ free.
@@ -188,11 +189,11 @@ opened l number head tail free queue w m v h e good many first second =
     comes_as w v _ _ _ 2 2 (opened_as l number head tail queue w m v true h e good first second) refl
     (ap (λ k. tx_from l k tail 0 (lists queue)) many)
 
-pub broken_index : (l : Layout) (number head tail : ℕ) (queue : List (Vec ℕ Global)) (w m v : World) (stop : Stopped)
+pub broken_index : (l : Layout) {number head tail : ℕ} (queue : List (Vec ℕ Global)) {w m v : World} {stop : Stopped}
     → number ≡ 0 → length queue ≢ 0 → are_indices l.tx_count head tail ≡ false → stop ≡ halt_after 0 0 Broken
     → Accesses w (reads (offset_of Tdt)) (Value tail) m → Accesses m (reads (offset_of Tdh)) (Value head) v
     → Follows w (tx_batch l number (lists queue)) stop.events (lists queue, Err stop) v
-broken_index l number head tail queue w m v stop h e bad is first second =
+broken_index l {number = number} {head = head} {tail = tail} queue {w = w} {m = m} {v = v} h e bad is first second =
     subst (λ s. Follows w (tx_batch l number (lists queue)) s.events (lists queue, Err s) v) (sym is)
     (comes_on w v v _ _ 2 0 2 _ (opened_as l number head tail queue w m v false h e bad first second) refl
     (ends v (lists queue, halted 0 0 Broken)))

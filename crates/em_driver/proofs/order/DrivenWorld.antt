@@ -207,12 +207,12 @@ order_read l w v o a h k =
     (moves_read l (present k.mid) (present v) o a (passed_but l w k.mid p) k.does.0) (stored_same w v (reads o) a k)
 
 -- a write of a register that neither side goes by
-pub order_write : (l : Layout) (w v : World) (reg : Reg) (value : ℕ) → IsOther rx_side (offset_of reg)
+pub order_write : (l : Layout) (w v : World) (reg : Reg) {value : ℕ} → IsOther rx_side (offset_of reg)
     → IsOther tx_side (offset_of reg) → reg_at (offset_of reg) ≡ Some reg → is_latched reg ≡ false
     → ((x : State) → after_write x reg value
     ≡ (if is_latched reg then x else record x { registers = registers.put x.registers reg value }))
     → IsDriven l (present w) → Accesses w (writes (offset_of reg) value) Done v → InOrder l w v [] []
-order_write l w v reg value rx tx there stored by h a =
+order_write l w v reg {value = value} rx tx there stored by h a =
     let p = passed l w a.mid h.but a.passes in
     let s = present a.mid in
     let but = passed_but l w a.mid p in

@@ -14,7 +14,8 @@ use Rattle.em_driver.specs.Driven.{rdh, rdt, rx_at, first, is_filled, IsMarked, 
 use Rattle.em_driver.specs.Driven.{IsDriven, IsDrivenBut}
 use Rattle.em_driver.specs.Order.{rx_packet_at, octets_of, waiting}
 use Rattle.em_driver.specs.Places.{is_among, between}
-use Rattle.em_driver.specs.Receive.{following, rx_buffer, rx_descriptor}
+use Rattle.em_regs.specs.Ring.{following}
+use Rattle.em_driver.specs.Receive.{rx_buffer, rx_descriptor}
 use Rattle.em_driver.specs.declared.layout.Layout.{Layout}
 use Rattle.em_driver.proofs.rings.WrittenDescriptors.{address_stays, status_length, cleared_mark}
 use Rattle.em_driver.proofs.rings.RingPlaces.{following_in, among_none, shrink_here, shrink_other, between_shrink}

@@ -18,7 +18,7 @@ use Rattle.em_driver.specs.Descriptor.{length_of, transmit_descriptor}
 use Rattle.em_driver.specs.Driven.{tdh, tdt, tx_at, is_queued, IsOfPacket, IsSending, IsDriven}
 use Rattle.em_driver.specs.Order.{tx_packet_at, queued}
 use Rattle.em_driver.specs.Places.{is_among, between, distance}
-use Rattle.em_driver.specs.Receive.{following}
+use Rattle.em_regs.specs.Ring.{following}
 use Rattle.em_driver.specs.Transmit.{tx_buffer, tx_descriptor}
 use Rattle.em_driver.specs.declared.layout.Layout.{Layout}
 use Rattle.em_driver.proofs.rings.RingPlaces.{following_in, grow_other, distance_more, between_grow}

@@ -38,32 +38,32 @@ reads_order l (peek addr len stopped next) w v events a only h f = absurd only
 reads_order l (poke addr octets stopped more) w v events a only h f = absurd only
 reads_order l (room stopped more) w v events a only h f = absurd only
 
-pub get_mac_addr_order : (l : Layout) (w v : World) (events : ℕ) (a : List ℕ) → IsDriven l (present w)
+pub get_mac_addr_order : {l : Layout} {w v : World} (events : ℕ) (a : List ℕ) → IsDriven l (present w)
     → Follows w get_mac_addr events a v → InOrder l w v [] []
-get_mac_addr_order l w v events a h f = reads_order l get_mac_addr w v events a (λ low high. tt) h f
+get_mac_addr_order {l = l} {w = w} {v = v} events a h f = reads_order l get_mac_addr w v events a (λ low high. tt) h f
 
-pub get_link_speed_order : (l : Layout) (w v : World) (events a : ℕ) → IsDriven l (present w)
+pub get_link_speed_order : {l : Layout} {w v : World} (events a : ℕ) → IsDriven l (present w)
     → Follows w get_link_speed events a v → InOrder l w v [] []
-get_link_speed_order l w v events a h f = reads_order l get_link_speed w v events a (λ status. tt) h f
+get_link_speed_order {l = l} {w = w} {v = v} events a h f = reads_order l get_link_speed w v events a (λ status. tt) h f
 
-pub read_stats_order : (l : Layout) (stats : DeviceStats) (w v : World) (events : ℕ) (a : DeviceStats)
+pub read_stats_order : {l : Layout} (stats : DeviceStats) {w v : World} (events : ℕ) (a : DeviceStats)
     → IsDriven l (present w) → Follows w (read_stats stats) events a v → InOrder l w v [] []
-read_stats_order l stats w v events a h f =
+read_stats_order {l = l} stats {w = w} {v = v} events a h f =
     reads_order l (read_stats stats) w v events a (λ a b c d e f. tt) h f
 
-pub reset_stats_order : (l : Layout) (w v : World) (events : ℕ) (a : ⊤) → IsDriven l (present w)
+pub reset_stats_order : {l : Layout} {w v : World} (events : ℕ) {a : ⊤} → IsDriven l (present w)
     → Follows w reset_stats events a v → InOrder l w v [] []
-reset_stats_order l w v events a h f = reads_order l reset_stats w v events a (λ a b c d e f. tt) h f
+reset_stats_order {l = l} {w = w} {v = v} events {a = a} h f = reads_order l reset_stats w v events a (λ a b c d e f. tt) h f
 
-pub set_mac_addr_order : (l : Layout) (octets : List ℕ) (w v : World) (events : ℕ) (a : ⊤) → IsDriven l (present w)
+pub set_mac_addr_order : {l : Layout} (octets : List ℕ) {w v : World} (events : ℕ) {a : ⊤} → IsDriven l (present w)
     → Follows w (set_mac_addr octets) events a v → InOrder l w v [] []
 unfolding Follows
-set_mac_addr_order l octets w v events a h step =
-    let one = order_write l w step.mid (Ral 0) _
+set_mac_addr_order {l = l} octets {w = w} {v = v} events h step =
+    let one = order_write l w step.mid (Ral 0)
     (record { ctrl = λ e. omega arith; control = λ e. omega arith; ring = λ e. omega arith })
     (record { ctrl = λ e. omega arith; control = λ e. omega arith; ring = λ e. omega arith })
     (reg_at-offset_of (Ral 0) (omega arith)) refl (λ x. refl) h step.step in
-    let two = order_write l step.mid step.more.mid (Rah 0) _
+    let two = order_write l step.mid step.more.mid (Rah 0)
     (record { ctrl = λ e. omega arith; control = λ e. omega arith; ring = λ e. omega arith })
     (record { ctrl = λ e. omega arith; control = λ e. omega arith; ring = λ e. omega arith })
     (reg_at-offset_of (Rah 0) (omega arith)) refl (λ x. refl) one.driven step.more.step in

@@ -19,7 +19,8 @@ use Rattle.em_driver.specs.Descriptor.{length_of, is_done, is_whole}
 use Rattle.em_driver.specs.Driven.{rdt, rx_at, first, is_filled, IsMarked, IsDriven, IsDrivenBut}
 use Rattle.em_driver.specs.Order.{InOrder, IsSound, Receives, rx_packet_at, waiting, queued}
 use Rattle.em_driver.specs.Outcome.{cause_of}
-use Rattle.em_driver.specs.Receive.{Answered, following, rx_buffer, rx_descriptor, received, stopped, rx_packet}
+use Rattle.em_regs.specs.Ring.{following}
+use Rattle.em_driver.specs.Receive.{Answered, rx_buffer, rx_descriptor, received, stopped, rx_packet}
 use Rattle.em_driver.specs.Receive.{rx_from, rx_batch}
 use Rattle.em_driver.specs.World.{World, Accesses, present}
 use Rattle.em_driver.specs.declared.layout.Layout.{Layout}

@@ -75,8 +75,8 @@ passes_behind w v p =
     let b = turns_behind w p.turns in
     subst (λ x. Behind w x 0) (sym p.is) (record { k = b.k; count = b.count; rest = b.rest; is = b.is })
 
-access_behind : (w v : World) (e : Event) (answer : Answer) → Accesses w e answer v → Behind w v 1
-access_behind w v e answer a =
+access_behind : (w v : World) {e : Event} {answer : Answer} → Accesses w e answer v → Behind w v 1
+access_behind w v {e = e} a =
     let m : World = a.mid in
     let c : ℕ = cost m.machine.present e in
     let one : Behind m v 1 = record {
@@ -96,17 +96,17 @@ follows_behind (done a) w v events answer end =
     behind_as w v 0 events end.events_are (subst (λ x. Behind w x 0) (sym end.world_is) (behind_none w))
 follows_behind (read reg next) w v events answer (value, t) =
     behind_as w v (1 + t.others) events t.count
-    (behind_on w t.mid v 1 t.others (access_behind w t.mid _ _ t.step)
+    (behind_on w t.mid v 1 t.others (access_behind w t.mid t.step)
     (follows_behind (next value) t.mid v t.others answer t.more))
 follows_behind (write reg value more) w v events answer t =
     behind_as w v (1 + t.others) events t.count
-    (behind_on w t.mid v 1 t.others (access_behind w t.mid _ _ t.step)
+    (behind_on w t.mid v 1 t.others (access_behind w t.mid t.step)
     (follows_behind more t.mid v t.others answer t.more))
 follows_behind (reset stopped more) w v events answer (inl (refused, none, is)) =
     behind_as w v 0 events none (passes_behind w v refused.passes)
 follows_behind (reset stopped more) w v events answer (inr t) =
     behind_as w v (1 + t.others) events t.count
-    (behind_on w t.mid v 1 t.others (access_behind w t.mid _ _ t.step)
+    (behind_on w t.mid v 1 t.others (access_behind w t.mid t.step)
     (follows_behind more t.mid v t.others answer t.more))
 follows_behind (peek addr len stopped next) w v events answer (inl (past, none, is)) =
     behind_as w v 0 events none (passes_behind w v past.passes)
@@ -117,7 +117,7 @@ follows_behind (poke addr octets stopped more) w v events answer (inl (why, refu
     behind_as w v 0 events none (passes_behind w v refused.passes)
 follows_behind (poke addr octets stopped more) w v events answer (inr t) =
     behind_as w v (1 + t.others) events t.count
-    (behind_on w t.mid v 1 t.others (access_behind w t.mid _ _ t.step)
+    (behind_on w t.mid v 1 t.others (access_behind w t.mid t.step)
     (follows_behind more t.mid v t.others answer t.more))
 follows_behind (room stopped more) w v events answer (inl end) =
     behind_as w v 0 events end.events_are (subst (λ x. Behind w x 0) (sym end.world_is) (behind_none w))

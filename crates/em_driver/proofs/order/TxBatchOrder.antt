@@ -24,7 +24,8 @@ use Rattle.em_driver.specs.Driven.{tdh, tdt, IsDriven}
 use Rattle.em_driver.specs.Order.{InOrder, IsSound, Transmits, waiting, queued}
 use Rattle.em_driver.specs.Outcome.{cause_of}
 use Rattle.em_driver.specs.Places.{distance}
-use Rattle.em_driver.specs.Receive.{Answered, following}
+use Rattle.em_regs.specs.Ring.{following}
+use Rattle.em_driver.specs.Receive.{Answered}
 use Rattle.em_driver.specs.Transmit.{tx_buffer, tx_descriptor, are_indices, free_from, halted, is_packet}
 use Rattle.em_driver.specs.Transmit.{tx_from, tx_batch}
 use Rattle.em_driver.specs.World.{World, Accesses, present}

@@ -99,13 +99,13 @@ AreTwo tx_ring i tx_ring j = i ≢ j
 AreTwo tx_buffers i tx_buffers j = i ≢ j
 AreTwo k i k' j = Unit {0}
 
-regions : (a m b n x u y v : ℕ) → Apart a m b n → x + u ≤ m → y + v ≤ n → Apart (a + x) u (b + y) v
-regions a m b n x u y v (inl h) p q = inl (omega arith)
-regions a m b n x u y v (inr h) p q = inr (omega arith)
+regions : {a m b n : ℕ} (x u y v : ℕ) → Apart a m b n → x + u ≤ m → y + v ≤ n → Apart (a + x) u (b + y) v
+regions {a = a} {m = m} {b = b} {n = n} x u y v (inl h) p q = inl (omega arith)
+regions x u y v (inr h) p q = inr (omega arith)
 
-turned : (a m b n : ℕ) → Apart a m b n → Apart b n a m
-turned a m b n (inl h) = inr h
-turned a m b n (inr h) = inl h
+turned : {a : ℕ} (m : ℕ) {b : ℕ} (n : ℕ) → Apart a m b n → Apart b n a m
+turned {a = a} m {b = b} n (inl h) = inr h
+turned m n (inr h) = inl h
 
 small : (a i j : ℕ) → i ≢ j → Apart (a + 16 * i) 16 (a + 16 * j) 16
 small a i j h = elim (cases_lt i j) [ inl l ↦ inl (omega arith) | inr l ↦ inr (omega arith) ]
@@ -118,31 +118,31 @@ units_apart : (l : Layout) → IsDisjoint l → (k k' : Region) (i j : ℕ) → 
     → AreTwo k i k' j → Apart (unit_at l k i) (size_of k) (unit_at l k' j) (size_of k')
 units_apart l h rx_ring rx_ring i j a b two = small l.rx_ring i j two
 units_apart l h rx_ring rx_buffers i j a b two =
-    regions _ _ _ _ (16 * i) 16 (2048 * j) 2048 h.receive (omega arith) (omega arith)
+    regions (16 * i) 16 (2048 * j) 2048 h.receive (omega arith) (omega arith)
 units_apart l h rx_ring tx_ring i j a b two =
-    regions _ _ _ _ (16 * i) 16 (16 * j) 16 h.rings (omega arith) (omega arith)
+    regions (16 * i) 16 (16 * j) 16 h.rings (omega arith) (omega arith)
 units_apart l h rx_ring tx_buffers i j a b two =
-    regions _ _ _ _ (16 * i) 16 (2048 * j) 2048 h.rx_ring (omega arith) (omega arith)
+    regions (16 * i) 16 (2048 * j) 2048 h.rx_ring (omega arith) (omega arith)
 units_apart l h rx_buffers rx_ring i j a b two =
-    regions _ _ _ _ (2048 * i) 2048 (16 * j) 16 (turned _ _ _ _ h.receive) (omega arith) (omega arith)
+    regions (2048 * i) 2048 (16 * j) 16 (turned _ _ h.receive) (omega arith) (omega arith)
 units_apart l h rx_buffers rx_buffers i j a b two = large l.rx_buffers i j two
 units_apart l h rx_buffers tx_ring i j a b two =
-    regions _ _ _ _ (2048 * i) 2048 (16 * j) 16 (turned _ _ _ _ h.tx_ring) (omega arith) (omega arith)
+    regions (2048 * i) 2048 (16 * j) 16 (turned _ _ h.tx_ring) (omega arith) (omega arith)
 units_apart l h rx_buffers tx_buffers i j a b two =
-    regions _ _ _ _ (2048 * i) 2048 (2048 * j) 2048 h.buffers (omega arith) (omega arith)
+    regions (2048 * i) 2048 (2048 * j) 2048 h.buffers (omega arith) (omega arith)
 units_apart l h tx_ring rx_ring i j a b two =
-    regions _ _ _ _ (16 * i) 16 (16 * j) 16 (turned _ _ _ _ h.rings) (omega arith) (omega arith)
+    regions (16 * i) 16 (16 * j) 16 (turned _ _ h.rings) (omega arith) (omega arith)
 units_apart l h tx_ring rx_buffers i j a b two =
-    regions _ _ _ _ (16 * i) 16 (2048 * j) 2048 h.tx_ring (omega arith) (omega arith)
+    regions (16 * i) 16 (2048 * j) 2048 h.tx_ring (omega arith) (omega arith)
 units_apart l h tx_ring tx_ring i j a b two = small l.tx_ring i j two
 units_apart l h tx_ring tx_buffers i j a b two =
-    regions _ _ _ _ (16 * i) 16 (2048 * j) 2048 h.transmit (omega arith) (omega arith)
+    regions (16 * i) 16 (2048 * j) 2048 h.transmit (omega arith) (omega arith)
 units_apart l h tx_buffers rx_ring i j a b two =
-    regions _ _ _ _ (2048 * i) 2048 (16 * j) 16 (turned _ _ _ _ h.rx_ring) (omega arith) (omega arith)
+    regions (2048 * i) 2048 (16 * j) 16 (turned _ _ h.rx_ring) (omega arith) (omega arith)
 units_apart l h tx_buffers rx_buffers i j a b two =
-    regions _ _ _ _ (2048 * i) 2048 (2048 * j) 2048 (turned _ _ _ _ h.buffers) (omega arith) (omega arith)
+    regions (2048 * i) 2048 (2048 * j) 2048 (turned _ _ h.buffers) (omega arith) (omega arith)
 units_apart l h tx_buffers tx_ring i j a b two =
-    regions _ _ _ _ (2048 * i) 2048 (16 * j) 16 (turned _ _ _ _ h.transmit) (omega arith) (omega arith)
+    regions (2048 * i) 2048 (16 * j) 16 (turned _ _ h.transmit) (omega arith) (omega arith)
 units_apart l h tx_buffers tx_buffers i j a b two = large l.tx_buffers i j two
 
 -- a unit lies in memory
@@ -153,9 +153,9 @@ unit_held l n h rx_buffers i a = omega (arith, h.rx_buffers)
 unit_held l n h tx_ring i a = omega (arith, h.tx_ring)
 unit_held l n h tx_buffers i a = omega (arith, h.tx_buffers)
 
-part_of_apart : (a n b u o w : ℕ) → Apart a n b u → o + w ≤ u → Apart a n (b + o) w
-part_of_apart a n b u o w (inl h) p = inl (omega arith)
-part_of_apart a n b u o w (inr h) p = inr (omega arith)
+part_of_apart : {a : ℕ} (n : ℕ) {b u : ℕ} (o w : ℕ) → Apart a n b u → o + w ≤ u → Apart a n (b + o) w
+part_of_apart {a = a} n {b = b} {u = u} o w (inl h) p = inl (omega arith)
+part_of_apart {a = a} n {b = b} {u = u} o w (inr h) p = inr (omega arith)
 
 -- a write to one unit leaves another one
 pub unit_apart : (l : Layout) (m : List ℕ) → IsGoodLayout (length m) l → (k k' : Region) (i j o : ℕ) (d : List ℕ)
@@ -164,19 +164,19 @@ pub unit_apart : (l : Layout) (m : List ℕ) → IsGoodLayout (length m) l → (
 unit_apart l m good k k' i j o d a b inside two =
     let held = unit_held l (length m) good.inside k' j b in
     part_apart m (unit_at l k i) (size_of k) (unit_at l k' j + o) d (omega arith)
-    (part_of_apart _ _ _ _ o (length d) (units_apart l good.disjoint k k' i j a b two) inside)
+    (part_of_apart _ o (length d) (units_apart l good.disjoint k k' i j a b two) inside)
 
 -- so does a write to memory that is none of the driver's
-outside : (a n b m x u : ℕ) → Apart a n b m → x + u ≤ m → Apart (b + x) u a n
-outside a n b m x u (inl h) p = inr (omega arith)
-outside a n b m x u (inr h) p = inl (omega arith)
+outside : (a n : ℕ) {b m : ℕ} (x u : ℕ) → Apart a n b m → x + u ≤ m → Apart (b + x) u a n
+outside a n {b = b} {m = m} x u (inl h) p = inr (omega arith)
+outside a n x u (inr h) p = inl (omega arith)
 
 unit_free : (l : Layout) (a n : ℕ) → IsNoDriverMemory l a n → (k : Region) (i : ℕ) → i < count_of l k
     → Apart (unit_at l k i) (size_of k) a n
-unit_free l a n h rx_ring i low = outside a n _ _ (16 * i) 16 h.rx_ring (omega arith)
-unit_free l a n h rx_buffers i low = outside a n _ _ (2048 * i) 2048 h.rx_buffers (omega arith)
-unit_free l a n h tx_ring i low = outside a n _ _ (16 * i) 16 h.tx_ring (omega arith)
-unit_free l a n h tx_buffers i low = outside a n _ _ (2048 * i) 2048 h.tx_buffers (omega arith)
+unit_free l a n h rx_ring i low = outside a n (16 * i) 16 h.rx_ring (omega arith)
+unit_free l a n h rx_buffers i low = outside a n (2048 * i) 2048 h.rx_buffers (omega arith)
+unit_free l a n h tx_ring i low = outside a n (16 * i) 16 h.tx_ring (omega arith)
+unit_free l a n h tx_buffers i low = outside a n (2048 * i) 2048 h.tx_buffers (omega arith)
 
 pub unit_outside : (l : Layout) (m : List ℕ) (a : ℕ) (d : List ℕ) → IsHeld m a (length d)
     → IsNoDriverMemory l a (length d) → (k : Region) (i : ℕ) → i < count_of l k

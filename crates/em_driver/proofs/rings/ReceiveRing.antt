@@ -28,7 +28,8 @@ use Rattle.em_driver.specs.Driven.{IsFirstMarked, IsLaidOut}
 use Rattle.em_driver.specs.Layout.{IsGoodLayout}
 use Rattle.em_driver.specs.Order.{rx_packet_at, octets_of, waiting}
 use Rattle.em_driver.specs.Places.{is_among, between}
-use Rattle.em_driver.specs.Receive.{following, rx_buffer, rx_descriptor}
+use Rattle.em_regs.specs.Ring.{following}
+use Rattle.em_driver.specs.Receive.{rx_buffer, rx_descriptor}
 use Rattle.em_driver.specs.declared.layout.Layout.{Layout}
 use Rattle.em_driver.proofs.rings.WrittenDescriptors.{address_stays, filled_back, filled_length, filled_mark}
 use Rattle.em_driver.proofs.rings.RingPlaces.{following_in, following_apart, among_end, grow_here, grow_other}
@@ -123,8 +124,8 @@ packet_same l s t i few same buffer =
     ∙ ap (take n) buffer
     ∙ sym (part_front s.memory (rx_buffer l i) n 2048 few)
 
-mark_as : (a b : Bool) (d e : List ℕ) → a ≡ b → d ≡ e → IsMarked b e → IsMarked a d
-mark_as a b d e is same h = subst (λ x. IsMarked x d) (sym is) (subst (IsMarked b) (sym same) h)
+mark_as : {a b : Bool} {d e : List ℕ} → a ≡ b → d ≡ e → IsMarked b e → IsMarked a d
+mark_as {a = a} {b = b} {d = d} {e = e} is same h = subst (λ x. IsMarked x d) (sym is) (subst (IsMarked b) (sym same) h)
 
 -- frames came to the FIFO's end, or none did
 pub rx_kept : (l : Layout) (s t : State) (more : List Frame) → IsReceivingBut l s → SameRing l s t
@@ -151,7 +152,7 @@ rx_kept l s t more h same fifo plain =
         addresses = λ i low. ap (little_number 8) (same.descriptors i low) ∙ h.addresses i low;
         lengths = λ i low e. subst (λ d. IsUsualLength (length_of d)) (sym (same.descriptors i low))
             (h.lengths i low (sym (filled i) ∙ e));
-        marks = λ i low other. mark_as _ _ _ _ (filled i) (same.descriptors i low)
+        marks = λ i low other. mark_as (filled i) (same.descriptors i low)
             (h.marks i low (λ e. other (e ∙ sym a)));
         frames = subst (All IsPlain) (sym (ap (λ f. f.frames) fifo))
             (All-append IsPlain s.fifo.frames more h.frames plain);
@@ -166,7 +167,7 @@ rx_kept l s t more h same fifo plain =
       filled = λ e. filled (first l s) ∙ e;
       descriptor = λ e. same.descriptors (first l s) below;
       buffer = λ e. same.buffers (first l s) below;
-      mark = λ m. mark_as _ _ _ _ (ap (is_filled l t) a ∙ filled (first l s))
+      mark = λ m. mark_as (ap (is_filled l t) a ∙ filled (first l s))
           (ap (rx_at l t) a ∙ same.descriptors (first l s) below) m;
     }
 
@@ -215,7 +216,7 @@ moves_fill l s t f frames h k =
     let each : (i : ℕ) → i < n → IsMarked (is_filled l s i) (rx_at l s i) → IsMarked (is_filled l t i) (rx_at l t i)
     = λ i low m. elim (cases_eq i b) [
       | inl e ↦ subst (λ x. IsMarked (is_filled l t x) (rx_at l t x)) (sym e) marked_here
-      | inr e ↦ mark_as _ _ _ _ (there i low e) (k.descriptors i low e) m
+      | inr e ↦ mark_as (there i low e) (k.descriptors i low e) m
     ] in
     let old : between n a b (rx_packet_at l t) ≡ between n a b (rx_packet_at l s)
     = between_same n a b (rx_packet_at l t) (rx_packet_at l s) low_a h.head (λ i low e.
@@ -263,10 +264,6 @@ moves_fill l s t f frames h k =
 
 -- ---- a receive step
 
--- a step of the engine goes to the next descriptor as the driver does
-next_is : (n c h : ℕ) → h < n → c ≡ n → (if h + 1 == c then 0 else h + 1) ≡ following n h
-next_is n c h low same = grind (arith, nat_tests)
-
 -- the two writes of a receive step
 pub record RxWrites (l : Layout) (s t : State) (f : List ℕ) : Type 0 where
   pub mid : List ℕ
@@ -299,7 +296,7 @@ fills l s t f frames laid h r =
     let q = rx_setup s.registers in
     let w = rx_writes l s t f frames laid h r in
     let count : q.count ≡ n = ap (λ v. v / 16) h.len ∙ omega arith in
-    let next : rx.following q ≡ following n b = next_is n q.count b h.head count in
+    let next : rx.following q ≡ following n b = ap (λ c. following c b) count in
     let low : following n b < 65_536 = omega (arith, following_in n b h.head, laid.good.rx_count.most) in
     let regs : t.registers ≡ registers.put s.registers Rdh (following n b)
     = r.registers ∙ ap (registers.put s.registers Rdh) next in

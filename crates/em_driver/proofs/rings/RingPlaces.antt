@@ -4,7 +4,7 @@ use Rattle.std.proofs.Common.{refl, ap, ◌∙◌, sym, arith}
 use Rattle.std.proofs.lemmas.Bool.{lt-ltb}
 use Rattle.std.proofs.lemmas.Bool.Decides.{nat_tests}
 use Rattle.em_driver.specs.Places.{distance, is_among, place, listed, between}
-use Rattle.em_driver.specs.Receive.{following}
+use Rattle.em_regs.specs.Ring.{following}
 
 -- ---- places
 

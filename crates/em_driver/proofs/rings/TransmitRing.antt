@@ -21,7 +21,7 @@ use Rattle.em_driver.specs.Descriptor.{length_of}
 use Rattle.em_driver.specs.Driven.{tdh, tdt, tx_at, is_queued, IsOfPacket, IsSending, IsLaidOut}
 use Rattle.em_driver.specs.Order.{tx_packet_at, queued}
 use Rattle.em_driver.specs.Places.{is_among, between, distance}
-use Rattle.em_driver.specs.Receive.{following}
+use Rattle.em_regs.specs.Ring.{following}
 use Rattle.em_driver.specs.Transmit.{tx_buffer, tx_descriptor}
 use Rattle.em_driver.specs.declared.layout.Layout.{Layout}
 use Rattle.em_driver.proofs.rings.WrittenDescriptors.{address_stays}
@@ -230,17 +230,6 @@ address_is : (d : List ℕ) → tx_descriptors.address d ≡ little_number 8 d
 unfolding tx_descriptors.address
 address_is d = refl
 
-next_is : (n c h : ℕ) → h < n → c ≡ n → (h + 1) % c ≡ following n h
-next_is n c h low same = elim (cases_lt (h + 1) n) [
-  | inl less ↦
-      let to : following n h ≡ h + 1 = grind (arith, nat_tests) in
-      ap (λ x. (h + 1) % x) same ∙ mod-eq_of_lt less ∙ sym to
-  | inr last ↦
-      let to : following n h ≡ 0 = grind (arith, nat_tests) in
-      let end : h + 1 ≡ n = omega arith in
-      (λ i. end i % same i) ∙ mod_self n ∙ sym to
-]
-
 next_at : (l : Layout) (s : State) → IsSending l s → next_descriptor s ≡ tx_at l s (tdh s)
 next_at l s h = ap (λ x. part s.memory (x + 16 * tdh s) 16) h.base
 
@@ -271,7 +260,7 @@ sends l s t laid h r =
     let w = writes l s.memory t.memory tx_ring a 12 (1 ∷ []) laid.good h.head (omega arith)
     (r.memory ∙ ap (λ x. put s.memory (x + 12) (1 ∷ [])) place) in
     let count : q.count ≡ n = ap (λ v. v / 16) h.len ∙ omega arith in
-    let next : tx.next q ≡ following n a = next_is n q.count a h.head count in
+    let next : tx.next q ≡ following n a = ap (λ c. following c a) count in
     let low : following n a < 65_536 = omega (arith, following_in n a h.head, laid.good.tx_count.most) in
     let regs : t.registers ≡ registers.put s.registers Tdh (following n a)
     = r.registers ∙ ap (registers.put s.registers Tdh) next in

@@ -29,5 +29,5 @@ returns g c =
     record {
       writes = subst (λ (text : List ℕ).
           Writes (contents c.args.writer.now) (contents c.write_line.new.writer) c.write_line.result text)
-          (of_false _ (empty_line ring) (full_line ring c.args.outside) (ne_eqb ring.count 0 c.if-ring-eq0.false)) full;
+          (of_false _ (empty_line ring) (full_line ring c.args.outside) (ne_eqb ring.setup.count 0 c.if-ring-eq0.false)) full;
     }

@@ -1,4 +1,4 @@
-use Rattle.std.proofs.Common.{◌∙◌, List, refl, sym, subst}
+use Rattle.std.proofs.Common.{◌∙◌, List, sym, subst}
 use Rattle.std.specs.Iterator.{Drains}
 use Rattle.em_watch.specs.MemorySearch.{GivesOctets, MemorySearch}
 use Rattle.em_watch.specs.declared.octets.MemoryChange.{MemoryChange}

@@ -1,4 +1,4 @@
-use Rattle.std.proofs.Common.{refl, subst}
+use Rattle.std.proofs.Common.{subst}
 use Rattle.em_watch.specs.Effect.{Effect}
 use Rattle.em_watch.specs.declared.watch.Watch.TheVariants.{Frames, Line, Link}
 use Rattle.em_recording.specs.Effects.{AreOctetSteps, AreRegisterSteps, Does}
@@ -29,5 +29,6 @@ returns c =
         link = (c.link.result, link, c.bits_of-link.ensures);
         line = (c.line.result, line, c.bits_of-line.ensures);
         sent = c.in_ok-sent.ensures.ok;
+        gathered = c.in_ok-gathered.ensures.ok;
       });
     }

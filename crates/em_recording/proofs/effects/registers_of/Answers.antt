@@ -1,4 +1,4 @@
-use Rattle.std.proofs.Common.{◌∙◌, refl, subst}
+use Rattle.std.proofs.Common.{◌∙◌, subst}
 use Rattle.std.specs.Iterator.{Drains}
 use Rattle.em_watch.specs.RegisterSearch.{GivesRegister, RegisterSearch}
 use Rattle.em_recording.proofs.effects.registers_of.Goals as goal

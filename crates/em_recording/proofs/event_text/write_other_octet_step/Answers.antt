@@ -1,7 +1,6 @@
 use Rattle.std.proofs.Common.{◌++◌, refl}
 use Rattle.std.specs.Prelude.{codes}
-use Rattle.std.proofs.lemmas.Result.{MatchResult-from_err}
-use Rattle.em_text.proofs.WritingLemmas.{WroteFront-more, WroteFront-none, WroteFront-part, Writes-more}
+use Rattle.em_text.proofs.WritingLemmas.{WroteFront-more, WroteFront-none, Writes-more}
 use Rattle.em_recording.specs.EventText.{change_text}
 use Rattle.em_recording.proofs.event_text.write_other_octet_step.Goals as goal
 

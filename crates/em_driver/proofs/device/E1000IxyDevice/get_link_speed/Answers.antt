@@ -8,4 +8,4 @@ returns-clause-course g c =
     reads_on _ _ _ _ _ _ _ 0 _ c.read.ensures refl (ends_with _ _ _ c.speed_of.ensures)
 
 pub returns-clause-order : goal.returns-clause-order
-returns-clause-order g c = λ h. get_link_speed_order _ _ _ _ _ h (returns-clause-course g c)
+returns-clause-order g c = λ h. get_link_speed_order _ _ h (returns-clause-course g c)

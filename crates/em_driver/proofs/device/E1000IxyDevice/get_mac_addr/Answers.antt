@@ -10,4 +10,4 @@ returns-clause-course g c =
     (ends_with _ _ _ (rw (c.to_le_bytes-low.ensures, c.to_le_bytes-high.ensures) refl)))
 
 pub returns-clause-order : goal.returns-clause-order
-returns-clause-order g c = λ h. get_mac_addr_order _ _ _ _ _ h (returns-clause-course g c)
+returns-clause-order g c = λ h. get_mac_addr_order _ _ h (returns-clause-course g c)

@@ -13,4 +13,4 @@ returns-clause-course g c =
     (reads_on _ _ _ _ _ _ _ 0 _ c.read-6.ensures refl (ends _ _))))))
 
 pub returns-clause-order : goal.returns-clause-order
-returns-clause-order g c = λ h. reset_stats_order _ _ _ _ _ h (returns-clause-course g c)
+returns-clause-order g c = λ h. reset_stats_order _ h (returns-clause-course g c)

@@ -30,7 +30,7 @@ returns-then-n-eq0-clause-order g c = λ h. rx_batch_order _ _ _ _ _ _ _ _ h (re
 
 pub returns-then-tail-ring-clause-course : goal.returns-then-tail-ring-clause-course
 returns-then-tail-ring-clause-course g c =
-    broken_tail c.args.self.now.layout _ _ _ _ _ _ _ c.if-queue-ne0.false c.if-n-eq0.false c.if-tail-ring.true
+    broken_tail c.args.self.now.layout _ c.if-queue-ne0.false c.if-n-eq0.false c.if-tail-ring.true
     c.stop_after.ensures c.read-tail.ensures
 
 pub returns-then-tail-ring-clause-order : goal.returns-then-tail-ring-clause-order
@@ -40,9 +40,9 @@ pub loop-i-init : goal.loop-i-init
 loop-i-init g c = record {
   layout = refl;
   few = omega arith;
-  within = following_below _ _ _ c.following-index.ensures c.if-tail-ring.false;
+  within = following_below c.following-index.ensures.following c.if-tail-ring.false;
   going = opened c.args.self.now.layout _ _ _ _ _ _ _ _ c.if-queue-ne0.false c.if-n-eq0.false c.if-tail-ring.false
-      (minus_zero _ _ c.min-i-end.ensures) c.following-index.ensures c.read-tail.ensures;
+      (minus_zero _ _ c.min-i-end.ensures) c.following-index.ensures.following c.read-tail.ensures;
 }
 
 pub loop-i-preserved : goal.loop-i-preserved
@@ -51,10 +51,10 @@ loop-i-preserved g c =
     record {
       layout = c.receive_packet.ensures.layout ∙ v.layout;
       few = omega (arith, v.few);
-      within = following_below _ _ _ c.following-next.ensures v.within;
+      within = following_below c.following-next.ensures.following v.within;
       going = goes_on c.args.self.now.layout c.loop-i.self.layout _ _ _ _ _ _ _ _ _ _ _ _ _ v.layout (one_less _ _
           c.loop-i-test.true)
-          c.following-next.ensures v.going (rw c.in-Ok-true.field-0-test at c.in-Ok-true.ensures.ok);
+          c.following-next.ensures.following v.going (rw c.in-Ok-true.field-0-test at c.in-Ok-true.ensures.ok);
     }
 
 pub returns-in-Err-clause-course : goal.returns-in-Err-clause-course

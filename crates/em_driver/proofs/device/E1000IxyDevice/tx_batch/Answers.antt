@@ -32,7 +32,7 @@ returns-in_default-clause-order g c = λ h. tx_batch_order _ _ _ _ _ _ _ h (retu
 pub returns-in_default-free_descriptors-clause-course : goal.returns-in_default-free_descriptors-clause-course
 returns-in_default-free_descriptors-clause-course g c =
     let some : length c.args.buffer.now.items ≢ 0 = omega (arith, c.in-Some.ensures.item.3.0) in
-    broken_index c.args.self.now.layout _ _ _ _ _ _ _ _ c.if-queue-ne0.false some
+    broken_index c.args.self.now.layout _ c.if-queue-ne0.false some
     c.in_default-free_descriptors.ensures.value c.halt_after.ensures c.read-tail.ensures c.read-head.ensures
 
 pub returns-in_default-free_descriptors-clause-order : goal.returns-in_default-free_descriptors-clause-order
@@ -58,9 +58,9 @@ loop-i-preserved g c =
       layout = c.transmit_front.ensures.layout ∙ v.layout;
       few = omega (arith, v.few);
       small = v.small;
-      within = following_below _ _ _ c.following-next.ensures v.within;
+      within = following_below c.following-next.ensures.following v.within;
       going = goes_on c.args.self.now.layout c.loop-i.self.layout _ _ _ _ _ _ _ _ _ _ _ _ v.layout
-          (one_less _ _ c.loop-i-test.true) c.following-next.ensures v.going
+          (one_less _ _ c.loop-i-test.true) c.following-next.ensures.following v.going
           (rw c.in-Ok-true.field-0-test at c.in-Ok-true.ensures.ok);
     }
 

@@ -5,25 +5,25 @@ use Rattle.em_driver.proofs.course.RxBatchCourse.{no_room, not_seen, seen, not_c
 use Rattle.em_driver.proofs.driver.E1000.take_packet.Goals as goal
 
 pub returns-in_default-clause-err : goal.returns-in_default-clause-err
-returns-in_default-clause-err g c = no_room c.args.self.now.layout _ _ _ _ _ refl
+returns-in_default-clause-err g c = no_room c.args.self.now.layout _ _ _ refl
 
 pub returns-in_default-reserve-clause-err : goal.returns-in_default-reserve-clause-err
 returns-in_default-reserve-clause-err g c =
-    no_room c.args.self.now.layout _ _ _ _ _ (ap lists c.reserve.ensures.items)
+    no_room c.args.self.now.layout _ _ _ (ap lists c.reserve.ensures.items)
 
 pub returns-in_default-peek-clause-err : goal.returns-in_default-peek-clause-err
 returns-in_default-peek-clause-err g c =
     let long : length c.as_mut_slice.result.now ≡ c.args.length
     = omega (arith, c.as_mut_slice.ensures.len, c.in-Ok.ensures.len) in
-    not_seen c.args.self.now.layout _ _ _ _ _ _ _ _ (ap lists c.reserve.ensures.items) long
+    not_seen c.args.self.now.layout _ (ap lists c.reserve.ensures.items) long
     c.rx_buffer-address.ensures c.in_default-peek.ensures.err
 
 pub returns-in-Err-clause-err : goal.returns-in-Err-clause-err
 returns-in-Err-clause-err g c =
     let long : length c.as_mut_slice.result.now ≡ c.args.length
     = omega (arith, c.as_mut_slice.ensures.len, c.in-Ok.ensures.len) in
-    not_cleared c.args.self.now.layout _ _ _ _ _ _ _ _ _ _ _ (ap lists c.reserve.ensures.items)
-    (seen c.args.self.now.layout _ _ _ _ _ _ _ long c.rx_buffer-address.ensures c.in-Ok-peek.ensures.ok)
+    not_cleared c.args.self.now.layout _ (ap lists c.reserve.ensures.items)
+    (seen c.args.self.now.layout _ long c.rx_buffer-address.ensures c.in-Ok-peek.ensures.ok)
     (ap (λ a. a + 12) c.rx_descriptor.ensures.value) c.in-Err.ensures.err c.cause_of.ensures
 
 pub returns-clause-ok : goal.returns-clause-ok
@@ -35,5 +35,5 @@ returns-clause-ok g c =
     = take_at c.peek.new.out _ _ (omega (arith, c.peek.auto.out, c.as_mut_slice.ensures.len)) in
     taken c.args.self.now.layout _ _ _ _ _ _ _ _ _ _
     (pushed _ _ _ _ _ c.push_back_reserved.ensures.items c.reserve.ensures.items whole)
-    (seen c.args.self.now.layout _ _ _ _ _ _ _ long c.rx_buffer-address.ensures c.in-Ok-peek.ensures.ok)
+    (seen c.args.self.now.layout _ long c.rx_buffer-address.ensures c.in-Ok-peek.ensures.ok)
     (ap (λ a. a + 12) c.rx_descriptor.ensures.value) c.in_default-poke.ensures.ok c.set.ensures.event

@@ -8,12 +8,12 @@ returns-in_default-clause-ok g c =
 
 pub returns-in-Err-clause-err : goal.returns-in-Err-clause-err
 returns-in-Err-clause-err g c =
-    front_halts c.args.self.now.layout _ _ _ _ _ _ _ _
+    front_halts c.args.self.now.layout _ _ _ _ _
     (fronted _ _ _ _ c.in-Some.ensures.lookup c.in-Some.ensures.item.3.0 refl c.as_slice.ensures.value)
     c.in-Err.ensures.err
 
 pub returns-clause-ok : goal.returns-clause-ok
 returns-clause-ok g c =
-    front_sent c.args.self.now.layout _ _ _ _ _ _ _
+    front_sent c.args.self.now.layout _ _ _ _
     (fronted _ _ _ _ c.in-Some.ensures.lookup c.in-Some.ensures.item.3.0 c.pop_front.ensures.rest
     c.as_slice.ensures.value) c.in_default-transmit_packet.ensures.ok

@@ -6,18 +6,18 @@ use Rattle.em_driver.proofs.driver.E1000.transmit_packet.Goals as goal
 
 pub returns-then-not-is_packet-clause-err : goal.returns-then-not-is_packet-clause-err
 returns-then-not-is_packet-clause-err g c =
-    bad_length c.args.self.now.layout _ _ _ _ _ (sym c.is_packet.ensures ∙ c.if-not-is_packet.true) c.halt_after.ensures
+    bad_length c.args.self.now.layout _ _ _ (sym c.is_packet.ensures ∙ c.if-not-is_packet.true) c.halt_after.ensures
 
 pub returns-in-Err-clause-err : goal.returns-in-Err-clause-err
 returns-in-Err-clause-err g c =
-    packet_refused c.args.self.now.layout _ _ _ _ _ _ _ _ (sym c.is_packet.ensures ∙ c.if-not-is_packet.false)
+    packet_refused c.args.self.now.layout _ (sym c.is_packet.ensures ∙ c.if-not-is_packet.false)
     c.tx_buffer-address.ensures c.in-Err.ensures.err
     (c.halt_after-in-Err.ensures ∙ ap (halt_after c.args.count 0) c.cause_of.ensures)
 
 pub returns-in-Err-poke-clause-err : goal.returns-in-Err-poke-clause-err
 returns-in-Err-poke-clause-err g c =
     let l = c.args.self.now.layout in
-    descriptor_refused l _ _ _ _ _ _ _ _ _ _ (sym c.is_packet.ensures ∙ c.if-not-is_packet.false)
+    descriptor_refused l _ (sym c.is_packet.ensures ∙ c.if-not-is_packet.false)
     (written l _ _ _ _ _ c.tx_buffer-address.ensures c.in_default.ensures.ok) c.tx_descriptor-place.ensures
     (described l _ _ _ _ _ c.of_packet-descriptor.ensures c.tx_buffer-address.ensures refl) c.in-Err-poke.ensures.err
     (c.halt_after-in-Err-poke.ensures ∙ ap (halt_after c.args.count 1) c.cause_of-in-Err-poke.ensures)
@@ -28,4 +28,4 @@ returns-clause-ok g c =
     sent l _ _ _ _ _ _ _ _ _ _ (sym c.is_packet.ensures ∙ c.if-not-is_packet.false)
     (written l _ _ _ _ _ c.tx_buffer-address.ensures c.in_default.ensures.ok) c.tx_descriptor-place.ensures
     (described l _ _ _ _ _ c.of_packet-descriptor.ensures c.tx_buffer-address.ensures refl) c.in_default-poke.ensures.ok
-    c.following-next.ensures c.set.ensures.event
+    c.following-next.ensures.following c.set.ensures.event

@@ -21,7 +21,7 @@ loop-i-preserved g c =
       comes = λ more.
           each_more _ _ _ _ (λ j. memory (c.args.ring + 16 * j) (fresh_descriptor (c.args.buffers + 2048 * j)))
           c.args.count i _ more c.loop-i-test.true (c.loop-i.invariant.comes more)
-          (memory_as _ _ _ _ _ _ c.in_ok-poke.ensures.ok addr octets);
+          (memory_as _ _ c.in_ok-poke.ensures.ok addr octets);
     }
 
 pub returns-in_err-poke-clause-err : goal.returns-in_err-poke-clause-err
@@ -33,12 +33,12 @@ returns-in_err-poke-clause-err g c =
     ∙ ap (λ x. fresh_descriptor (c.args.buffers + 2048 * x)) c.from-in-loop-i.ensures) in
     let p = err_from_is_err_and c.from_residual.result c.from_residual.ensures.1 in
     rw (p.1, p.2)
-    (each_stops _ _ _ (descriptors c.args.ring c.args.count c.args.buffers)
-    (λ j. memory (c.args.ring + 16 * j) (fresh_descriptor (c.args.buffers + 2048 * j))) c.args.count i i _ _ _ _
+    (each_stops (descriptors c.args.ring c.args.count c.args.buffers)
+    (λ j. memory (c.args.ring + 16 * j) (fresh_descriptor (c.args.buffers + 2048 * j))) c.args.count i i
     c.loop-i-test.true c.loop-i.invariant.comes c.loop-i.invariant.counted
-    (memory_stops_as _ _ _ _ _ _ _ _ _ c.in_err-poke.ensures.err addr octets))
+    (memory_stops_as c.in_err-poke.ensures.err addr octets))
 
 pub returns-clause-ok : goal.returns-clause-ok
 returns-clause-ok g c = λ more.
     each_all _ _ _ (λ i. memory (c.args.ring + 16 * i) (fresh_descriptor (c.args.buffers + 2048 * i))) c.args.count
-    c.loop-i.i _ _ more (omega arith) (c.loop-i.invariant.comes more) (omega arith)
+    c.loop-i.i more (omega arith) (c.loop-i.invariant.comes more) (omega arith)

@@ -18,7 +18,7 @@ loop-address-preserved g c =
       counted = omega (arith, v.counted, c.in_ok-word.ensures.counted);
       layout = c.eeprom_word.ensures.layout ∙ v.layout;
       comes = λ next.
-          words_more _ _ _ _ 64 a c.from.result (2 * a) _ _ c.loop-address.words (summed next) c.loop-address-test.true
+          words_more _ _ _ _ 64 a c.from.result (2 * a) _ c.loop-address.words (summed next) c.loop-address-test.true
           (omega (arith, v.whole)) c.from.ensures (omega arith) (v.comes next) c.in_ok-word.ensures.ok;
     }
 
@@ -28,7 +28,7 @@ returns-in_err-word-clause-err g c =
     let a = c.loop-address.address in
     let p = err_from_is_err_and c.from_residual.result c.from_residual.ensures.1 in
     rw (p.1, p.2)
-    (words_stop _ _ _ eeprom 64 a (2 * a) _ _ _ (take a c.loop-address.words) summed _ c.loop-address-test.true v.comes
+    (words_stop eeprom 64 a (2 * a) (take a c.loop-address.words) summed c.loop-address-test.true v.comes
     v.counted c.in_err-word.ensures.err)
 
 pub returns-then-checksum_ok-clause-ok : goal.returns-then-checksum_ok-clause-ok
@@ -36,16 +36,16 @@ returns-then-checksum_ok-clause-ok g c = λ next.
     let v = c.loop-address.invariant in
     let a = c.loop-address.address in
     summed_right _ _ _ 128 _ next (c.checksum_ok.ensures.0 c.if-checksum_ok.true)
-    (words_all _ _ _ 64 a (2 * a) 128 c.loop-address.words _ (summed next) c.loop-address-test.false
+    (words_all _ _ _ 64 a (2 * a) 128 c.loop-address.words (summed next) c.loop-address-test.false
     (omega (arith, v.whole)) c.of_words-eeprom.ensures.words (v.comes next) (omega arith))
 
 pub returns-else-checksum_ok-clause-err : goal.returns-else-checksum_ok-clause-err
 returns-else-checksum_ok-clause-err g c =
     let v = c.loop-address.invariant in
     let a = c.loop-address.address in
-    summed_wrong _ _ eeprom 128 _ _ c.of_words-eeprom.result
+    summed_wrong eeprom 128 c.of_words-eeprom.result
     (λ is. let yes = c.checksum_ok.ensures.1 is in let no = c.if-checksum_ok.false in absurd cc)
     (λ next.
-    words_all _ _ _ 64 a (2 * a) 128 c.loop-address.words _ (summed next) c.loop-address-test.false
+    words_all _ _ _ 64 a (2 * a) 128 c.loop-address.words (summed next) c.loop-address-test.false
     (omega (arith, v.whole)) c.of_words-eeprom.ensures.words (v.comes next) (omega arith))
     (omega (arith, v.counted))

@@ -14,7 +14,7 @@ returns-then-contains-clause-ok g c = λ next.
     rw (c.from.ensures, c.bits.ensures tt) refl in
     let value = c.read-value.result in
     let is_done : has value 0x10 ≡ true = sym (rw (c.from_bits_retain.ensures tt) at (c.if-contains.ensures tt)) in
-    comes_both _ _ _ _ _ _ 1 1 2 (write_as _ _ _ _ _ c.write.ensures.performs asked _) refl
+    comes_both _ _ _ _ _ _ 1 1 2 (write_as _ _ _ c.write.ensures.performs asked _) refl
     (comes_as _ _ _ _ _ 1 1 (comes_read _ _ _ _ _ c.read-value.ensures.event) refl
     (chosen (has value 0x10) (next (value / 0x1_0000)) (done (Some cause.Broken)) is_done))
 
@@ -30,7 +30,7 @@ returns-else-contains-clause-err g c =
       counted = omega (arith, c.write.ensures.counted, c.read-value.ensures.counted);
       follows = λ next.
           comes_on _ _ _ _ _ 2 0 2 _
-          (comes_both _ _ _ _ _ _ 1 1 2 (write_as _ _ _ _ _ c.write.ensures.performs asked _) refl
+          (comes_both _ _ _ _ _ _ 1 1 2 (write_as _ _ _ c.write.ensures.performs asked _) refl
           (comes_as _ _ _ _ _ 1 1 (comes_read _ _ _ _ _ c.read-value.ensures.event) refl
           (not_chosen (has value 0x10) (next (value / 0x1_0000)) (done (Some cause.Broken)) not_done)))
           refl (ends_with _ (Some cause.Broken) (Some cause.Broken) refl);

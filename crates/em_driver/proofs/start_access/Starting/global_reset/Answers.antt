@@ -24,4 +24,4 @@ returns-clause-ok g c = λ more.
     comes_both _ _ _ _ _ _ 1 3 4 (c.write.ensures.performs _) refl
     (comes_both _ _ _ _ _ _ 1 2 3 (c.in_ok-reset.ensures.ok _) refl
     (comes_both _ _ _ _ _ _ 1 1 2 (c.write-2.ensures.performs _) refl
-    (write_as _ _ _ _ _ c.write-3.ensures.performs linked more)))
+    (write_as _ _ _ c.write-3.ensures.performs linked more)))

@@ -8,7 +8,7 @@ use Rattle.em_driver.proofs.start_access.Starting.initialize.Goals as goal
 pub returns-in_err-global_reset-clause-err : goal.returns-in_err-global_reset-clause-err
 returns-in_err-global_reset-clause-err g c =
     let p = err_from_is_err_and c.from_residual.result c.from_residual.ensures.1 in
-    rw (p.1, p.2) (stops_at_reset _ _ _ _ _ _ c.requires c.in_err-global_reset.ensures.err)
+    rw (p.1, p.2) (stops_at_reset _ c.requires c.in_err-global_reset.ensures.err)
 
 pub returns-in_err-eeprom-clause-err : goal.returns-in_err-eeprom-clause-err
 returns-in_err-eeprom-clause-err g c =
@@ -36,7 +36,7 @@ returns-in_err-receive_ring-clause-err g c =
       c.receive_address.ensures.counted,
       c.multicast_table.ensures.counted,
     ))
-    (stops_as _ _ receive_ring _ _ _ _ _ c.in_err-receive_ring.ensures.err layout))
+    (stops_as receive_ring c.in_err-receive_ring.ensures.err layout))
 
 pub returns-in_err-transmit_ring-clause-err : goal.returns-in_err-transmit_ring-clause-err
 returns-in_err-transmit_ring-clause-err g c =
@@ -49,7 +49,7 @@ returns-in_err-transmit_ring-clause-err g c =
     let layout =
     c.multicast_table.ensures.layout ∙ c.receive_address.ensures.layout ∙ c.eeprom.ensures.layout
     ∙ c.global_reset.ensures.layout in
-    let there = at_transmit _ _ _ l _ here layout c.in_ok-receive_ring.ensures.ok in
+    let there = at_transmit _ _ _ l here layout c.in_ok-receive_ring.ensures.ok in
     let same = ap (λ k. k.rx_count) layout in
     rw (p.1, p.2)
     (comes_stops _ _ _ _ _ _ (268 + l.rx_count) _ _ _ there
@@ -62,7 +62,7 @@ returns-in_err-transmit_ring-clause-err g c =
       c.multicast_table.ensures.counted,
       c.in_ok-receive_ring.ensures.counted,
     ))
-    (stops_as _ _ transmit_ring _ _ _ _ _ c.in_err-transmit_ring.ensures.err (c.receive_ring.ensures.layout ∙ layout)))
+    (stops_as transmit_ring c.in_err-transmit_ring.ensures.err (c.receive_ring.ensures.layout ∙ layout)))
 
 pub returns-clause-ok : goal.returns-clause-ok
 returns-clause-ok g c =
@@ -73,11 +73,11 @@ returns-clause-ok g c =
     let layout =
     c.multicast_table.ensures.layout ∙ c.receive_address.ensures.layout ∙ c.eeprom.ensures.layout
     ∙ c.global_reset.ensures.layout in
-    let there = at_transmit _ _ _ l _ here layout c.in_ok-receive_ring.ensures.ok in
+    let there = at_transmit _ _ _ l here layout c.in_ok-receive_ring.ensures.ok in
     let last = c.receive_ring.ensures.layout ∙ layout in
     let same = ap (λ k. k.rx_count) layout in
     let sent = ap (λ k. k.tx_count) last in
-    at_end _ _ _ l _ _ there last c.in_ok-transmit_ring.ensures.ok
+    at_end _ _ _ l there last c.in_ok-transmit_ring.ensures.ok
     (omega (
       arith,
       same,

@@ -21,5 +21,5 @@ loop-word-preserved g c = record {
 
 pub returns-clause-performs : goal.returns-clause-performs
 returns-clause-performs g c = λ more.
-    each_all _ _ _ (λ i. write (Mta i) 0) 128 c.loop-word.word _ _ more (omega arith)
+    each_all _ _ _ (λ i. write (Mta i) 0) 128 c.loop-word.word more (omega arith)
     (c.loop-word.invariant.comes more) (omega arith)

@@ -9,5 +9,5 @@ pub returns-in-Err-clause-err : goal.returns-in-Err-clause-err
 returns-in-Err-clause-err g c = record {
   events = 0;
   counted = omega arith;
-  follows = λ more. poke_stops _ _ _ _ _ _ c.in-Err.refusal _ c.in-Err.ensures.err (ap Some c.cause_of.ensures);
+  follows = λ more. poke_stops _ _ _ _ _ _ c.in-Err.refusal c.in-Err.ensures.err (ap Some c.cause_of.ensures);
 }

@@ -12,5 +12,5 @@ returns-clause-performs g c = λ more.
     rw (c.from.ensures, c.word.ensures.word, c.from-2.ensures, c.word-2.ensures.word) refl in
     let high : c.from-3.result + c.bits.result ≡ slice_index words 2 + 0x8000_0000 =
     rw (c.from-3.ensures, c.word-3.ensures.word, c.bits.ensures tt) refl in
-    comes_both _ _ _ _ _ _ 1 1 2 (write_as _ _ _ _ _ c.write.ensures.performs low _) refl
-    (write_as _ _ _ _ _ c.write-2.ensures.performs high more)
+    comes_both _ _ _ _ _ _ 1 1 2 (write_as _ _ _ c.write.ensures.performs low _) refl
+    (write_as _ _ _ c.write-2.ensures.performs high more)

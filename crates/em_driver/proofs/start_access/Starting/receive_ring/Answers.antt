@@ -18,9 +18,9 @@ returns-clause-ok g c = λ more.
     let enabled : c.bits.result ≡ 0x0000_801A =
     rw (c.bits.ensures tt, c.union-control.ensures tt, c.union-2.ensures tt, c.union.ensures tt) refl in
     comes_both _ _ _ _ _ _ c.args.self.now.driver.layout.rx_count 6 _ (c.in_ok-descriptors.ensures.ok _) refl
-    (comes_both _ _ _ _ _ _ 1 5 6 (write_as _ _ _ _ _ c.write.ensures.performs c.low.ensures _) refl
-    (comes_both _ _ _ _ _ _ 1 4 5 (write_as _ _ _ _ _ c.write-2.ensures.performs c.high.ensures _) refl
+    (comes_both _ _ _ _ _ _ 1 5 6 (write_as _ _ _ c.write.ensures.performs c.low.ensures _) refl
+    (comes_both _ _ _ _ _ _ 1 4 5 (write_as _ _ _ c.write-2.ensures.performs c.high.ensures _) refl
     (comes_both _ _ _ _ _ _ 1 3 4 (c.write-3.ensures.performs _) refl
     (comes_both _ _ _ _ _ _ 1 2 3 (c.write-4.ensures.performs _) refl
     (comes_both _ _ _ _ _ _ 1 1 2 (c.write-5.ensures.performs _) refl
-    (write_as _ _ _ _ _ c.write-6.ensures.performs enabled more))))))
+    (write_as _ _ _ c.write-6.ensures.performs enabled more))))))

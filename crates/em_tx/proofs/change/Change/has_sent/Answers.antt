@@ -1,4 +1,4 @@
-use Rattle.std.proofs.Common.{◌≡◌, ◌+◌, ◌∙◌, Bool, length, ap, sym, subst}
+use Rattle.std.proofs.Common.{◌≡◌, ◌+◌, ◌∙◌, Bool, length, ap, sym}
 use Rattle.std.specs.Prelude.{if◌then◌else◌}
 use Rattle.em_tx.specs.Before.{has_sent}
 use Rattle.em_tx.specs.Change.{Change}

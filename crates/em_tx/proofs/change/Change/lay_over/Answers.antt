@@ -1,4 +1,4 @@
-use Rattle.std.proofs.Common.{◌≡◌, ◌∙◌, ap}
+use Rattle.std.proofs.Common.{◌∙◌, ap}
 use Rattle.em_tx.specs.Before.{laid_status}
 use Rattle.em_tx.specs.Change.{Change}
 use Rattle.em_tx.proofs.BeforeLaws.{status_window}

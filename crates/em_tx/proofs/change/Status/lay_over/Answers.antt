@@ -1,4 +1,4 @@
-use Rattle.std.proofs.Common.{◌≡◌, ◌∙◌, ℕ, ap}
+use Rattle.std.proofs.Common.{◌∙◌, ℕ, ap}
 use Rattle.em_mem.specs.Memory.{Patch}
 use Rattle.em_mem.specs.Window.{lay_over}
 use Rattle.em_tx.proofs.change.Status.lay_over.Goals as goal
