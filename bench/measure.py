@@ -1,15 +1,24 @@
 #!/usr/bin/env python3
-"""Measures the bench program: script lines a second, over generated scripts of 1 to 4 MB.
+"""Measures the bench program beside a plain one, over eleven generated scripts of 1 to 4 MB.
 
-    bench/measure.py [--peer PROGRAM] [--runs N] [--only NAME,NAME] [PROGRAM]
+    bench/measure.py [--peer PROGRAM] [--runs N] [--only NAME,NAME] [--most RATIO] [--table] [PROGRAM]
 
-PROGRAM is crates/em_bench/out/em_bench where none is named. With a peer, a program that answers the same language, both
-run in turn and the ratio of their times is printed: 1 is as fast, 2 takes twice as long. The best of N runs (15)
-counts, start-up included.
+PROGRAM is crates/em_bench/out/em_bench where none is named, or that of dist/. The other one is `bench/plain`, which is
+built by rustc, or any program that answers the same language. Both must write the same text. They run in turn, the best
+of N runs (15) counts, start-up included, and the ratio of the two times is told: 1 is as fast, 2 takes twice as long.
+Only ratios of one run compare, since a machine's speed changes. Memory is the greatest resident set, where Debian's `time`
+is there.
+
+    --most RATIO    ends with status 1 where a ratio is above it
+    --table         writes the rows of a table in Markdown
 """
 import argparse
+import math
 import random
+import shutil
 import subprocess
+import sys
+import tempfile
 import time
 from pathlib import Path
 
@@ -157,29 +166,99 @@ WORKLOADS = (
 )
 
 
-def seconds(program: str, script: bytes) -> float:
-    start = time.monotonic()
-    subprocess.run([program], input=script, stdout=subprocess.DEVNULL, check=False)
-    return time.monotonic() - start
+WHAT = {
+    registers: "reads and writes of registers",
+    pokes: "writes of guest memory, and looks at it",
+    steps_back: "writes, most of them taken back",
+    small_frames: "frames of 60 octets that are received",
+    large_frames: "frames of 1,518 octets, each into one buffer",
+    large_frames_in_three: "frames of 1,518 octets, each into three buffers",
+    transmit_60: "frames of 60 octets that are sent",
+    transmit_1500: "frames of 1,500 octets that are sent",
+    driver_calls: "a driver that sends and receives",
+    hundreds_back: "a hundred events and a hundred steps back, over and over",
+    resets: "resets over waiting frames, and steps back over them",
+}
 
 
-def main() -> None:
+def script_of(make) -> bytes:
+    """The script of a workload: the same in each run."""
+    script = ("\n".join(make(random.Random(82540))) + "\n").encode()
+    assert len(script) <= MOST, f"{make.__name__}: {len(script)} octets"
+    return script
+
+
+def seconds(program: str, script: Path) -> float:
+    with script.open("rb") as given:
+        start = time.monotonic()
+        subprocess.run([program], stdin=given, stdout=subprocess.DEVNULL, check=False)
+        return time.monotonic() - start
+
+
+def text_of(program: str, script: Path) -> bytes:
+    return subprocess.run([program], stdin=script.open("rb"), stdout=subprocess.PIPE, check=False).stdout
+
+
+def memory_of(program: str, script: Path) -> str:
+    """The greatest resident set in MB, as `time` tells it: what Python tells of a child has Python's own in it."""
+    if not shutil.which("time"):
+        return "-"
+    words = [shutil.which("time"), "-f", "%M", program]
+    with script.open("rb") as given:
+        told = subprocess.run(words, stdin=given, stdout=subprocess.DEVNULL, stderr=subprocess.PIPE, check=False)
+    return f"{int(told.stderr.split()[-1]) / 1024:.1f}"
+
+
+def built(folder: Path) -> str:
+    """The plain program, built into this folder."""
+    program = folder / "plain"
+    source = TOP / "bench/plain/main.rs"
+    flags = ["--edition", "2021", "-O", "-C", "lto", "-C", "target-cpu=x86-64"]
+    subprocess.run(["rustc", *flags, "-o", program, source], check=True)
+    return str(program)
+
+
+def options() -> argparse.Namespace:
     parser = argparse.ArgumentParser(description=__doc__.splitlines()[0])
     parser.add_argument("--peer")
     parser.add_argument("--runs", type=int, default=15)
     parser.add_argument("--only", default=",".join(make.__name__ for make in WORKLOADS))
-    parser.add_argument("program", nargs="?", default=str(TOP / "crates/em_bench/out/em_bench"))
-    options = parser.parse_args()
-    for make in (make for make in WORKLOADS if make.__name__ in options.only.split(",")):
-        lines = make(random.Random(82540))
-        script = ("\n".join(lines) + "\n").encode()
-        assert len(script) <= MOST, f"{make.__name__}: {len(script)} octets"
-        programs = [options.program] + ([options.peer] if options.peer else [])
-        times = [[seconds(program, script) for program in programs] for _ in range(options.runs)]
-        best = [min(column) for column in zip(*times)]
-        ratio = f"   {best[0] / best[1]:.2f} times the peer's time" if options.peer else ""
-        print(f"{make.__name__:22} {len(lines) / best[0] / 1e6:6.2f} million lines a second{ratio}", flush=True)
+    parser.add_argument("--most", type=float, default=math.inf)
+    parser.add_argument("--table", action="store_true")
+    places = [TOP / "crates/em_bench/out/em_bench", TOP / "dist/x86_64-linux/em_bench"]
+    parser.add_argument("program", nargs="?", default=str(next((p for p in places if p.exists()), places[0])))
+    return parser.parse_args()
+
+
+def main() -> int:
+    asked = options()
+    ratios = {}
+    with tempfile.TemporaryDirectory() as folder:
+        peer = asked.peer or built(Path(folder))
+        script = Path(folder) / "script"
+        if asked.table:
+            print("| Script | Million lines a second | Time, of the plain program's | Memory, and the plain program's, MB |")
+            print("|---|---|---|---|")
+        for make in (make for make in WORKLOADS if make.__name__ in asked.only.split(",")):
+            text = script_of(make)
+            script.write_bytes(text)
+            programs = [asked.program, peer]
+            assert len({text_of(program, script) for program in programs}) == 1, f"{make.__name__}: the texts differ"
+            times = [[seconds(program, script) for program in programs] for _ in range(asked.runs)]
+            own, other = (min(column) for column in zip(*times))
+            ratios[make.__name__] = own / other
+            speed, sizes = text.count(b"\n") / own / 1e6, ", ".join(memory_of(program, script) for program in programs)
+            if asked.table:
+                print(f"| {WHAT[make]} | {speed:.1f} | {own / other:.2f} | {sizes} |", flush=True)
+            else:
+                print(f"{make.__name__:22} {speed:6.2f} million lines a second   {own / other:.2f}   {sizes} MB", flush=True)
+    mean = math.exp(sum(map(math.log, ratios.values())) / len(ratios))
+    print(f"| geometric mean | | {mean:.2f} | |" if asked.table else f"{'geometric mean':22} {'':27} {mean:.2f}")
+    slow = [name for name, ratio in ratios.items() if ratio > asked.most]
+    if slow:
+        print(f"above {asked.most}: {', '.join(slow)}", file=sys.stderr)
+    return 1 if slow else 0
 
 
 if __name__ == "__main__":
-    main()
+    sys.exit(main())

@@ -6,7 +6,7 @@
 --
 -- course: what one call does, access by access, and how the turns of a plan are taken before each access.
 --   1  CourseSteps: one access; MappedAnswers, TellsOfMemory, PlayedCourse, RunOfCalls: a course as a whole
---   1  WriteAnswers, BitFields: what a write answers, and fields of a number
+--   1  WriteAnswers, BitFields, Sides: what a write answers, fields of a number, places of a side
 --   1  TakenTurns, FirstList, Arrivals: the lists of a plan
 --   2  RxBatchCourse, TxBatchCourse, StartCourse on CourseSteps
 --   2  QuietMachine on WriteAnswers; HappenedCalls on PlayedCourse

@@ -1,4 +1,5 @@
 pub mod BitFields
+pub mod Sides
 pub mod CourseSteps
 pub mod WriteAnswers
 pub mod QuietMachine

@@ -1,6 +1,28 @@
 -- Where a driver keeps its descriptors and buffers in the guest's memory.
 use Rattle.std.specs.Prelude.{◌≡◌, ◌⊎◌, ℕ, ◌+◌, ◌*◌, ◌%◌, ◌≤◌}
 use Rattle.em_driver.specs.declared.layout.Layout.{Layout}
+use Rattle.em_driver.specs.declared.layout.Side.{Side}
+
+-- ---- one side: a ring of descriptors of 16 octets, and for each of them a buffer of 2,048
+abbrev pub rx : Layout → Side
+rx l = record { ring = l.rx_ring; count = l.rx_count; buffers = l.rx_buffers }
+
+abbrev pub tx : Layout → Side
+tx l = record { ring = l.tx_ring; count = l.tx_count; buffers = l.tx_buffers }
+
+-- where descriptor i lies, and where its buffer does
+abbrev pub descriptor : Side → ℕ → ℕ
+descriptor side i = side.ring + 16 * i
+
+abbrev pub buffer : Side → ℕ → ℕ
+buffer side i = side.buffers + 2048 * i
+
+-- how many octets the ring has, and how many the buffers have together
+abbrev pub ring_octets : Side → ℕ
+ring_octets side = 16 * side.count
+
+abbrev pub buffer_octets : Side → ℕ
+buffer_octets side = 2048 * side.count
 
 -- a ring has 8 to 4,096 descriptors, a multiple of 8
 pub record IsCount (count : ℕ) : Type 0 where
@@ -8,37 +30,41 @@ pub record IsCount (count : ℕ) : Type 0 where
   pub least : 8 ≤ count
   pub most : count ≤ 4096
 
+-- both regions are inside a memory of that size
+pub record IsInside (size : ℕ) (side : Side) : Type 0 where
+  pub ring : side.ring + ring_octets side ≤ size
+  pub buffers : side.buffers + buffer_octets side ≤ size
+
 -- so many octets from one address on, and so many from another: none is of both
 abbrev pub Apart : ℕ → ℕ → ℕ → ℕ → Type 0
 Apart a m b n = (a + m ≤ b) ⊎ (b + n ≤ a)
 
--- the four regions are inside a memory of that size: descriptors of 16 octets, each with a buffer of 2,048
-pub record IsInside (size : ℕ) (l : Layout) : Type 0 where
-  pub rx_ring : l.rx_ring + 16 * l.rx_count ≤ size
-  pub rx_buffers : l.rx_buffers + 2048 * l.rx_count ≤ size
-  pub tx_ring : l.tx_ring + 16 * l.tx_count ≤ size
-  pub tx_buffers : l.tx_buffers + 2048 * l.tx_count ≤ size
+-- a driver can use it in a memory of that size
+pub record IsGoodSide (size : ℕ) (side : Side) : Type 0 where
+  pub count : IsCount side.count
+  pub aligned : side.ring % 16 ≡ 0
+  pub inside : IsInside size side
+  pub apart : Apart side.ring (ring_octets side) side.buffers (buffer_octets side)
 
--- no two of the four regions have an octet in common
-pub record IsDisjoint (l : Layout) : Type 0 where
-  pub receive : Apart l.rx_ring (16 * l.rx_count) l.rx_buffers (2048 * l.rx_count)
-  pub transmit : Apart l.tx_ring (16 * l.tx_count) l.tx_buffers (2048 * l.tx_count)
-  pub rings : Apart l.rx_ring (16 * l.rx_count) l.tx_ring (16 * l.tx_count)
-  pub buffers : Apart l.rx_buffers (2048 * l.rx_count) l.tx_buffers (2048 * l.tx_count)
-  pub rx_ring : Apart l.rx_ring (16 * l.rx_count) l.tx_buffers (2048 * l.tx_count)
-  pub tx_ring : Apart l.tx_ring (16 * l.tx_count) l.rx_buffers (2048 * l.rx_count)
+-- what a driver needs to count its places: it is inside some memory whose size is a 64-bit number
+pub record IsPlacedSide (side : Side) : Type 0 where
+  pub count : IsCount side.count
+  pub inside : IsInside 0xFFFF_FFFF_FFFF_FFFF side
+
+-- ---- both sides
+-- no region of one side has an octet in common with one of the other
+pub record AreDisjoint (a b : Side) : Type 0 where
+  pub rings : Apart a.ring (ring_octets a) b.ring (ring_octets b)
+  pub buffers : Apart a.buffers (buffer_octets a) b.buffers (buffer_octets b)
+  pub first_ring : Apart a.ring (ring_octets a) b.buffers (buffer_octets b)
+  pub second_ring : Apart b.ring (ring_octets b) a.buffers (buffer_octets a)
 
 -- a driver can use it in a memory of that size
 pub record IsGoodLayout (size : ℕ) (l : Layout) : Type 0 where
-  pub rx_count : IsCount l.rx_count
-  pub tx_count : IsCount l.tx_count
-  pub rx_ring : l.rx_ring % 16 ≡ 0
-  pub tx_ring : l.tx_ring % 16 ≡ 0
-  pub inside : IsInside size l
-  pub disjoint : IsDisjoint l
+  pub receive : IsGoodSide size (rx l)
+  pub transmit : IsGoodSide size (tx l)
+  pub disjoint : AreDisjoint (rx l) (tx l)
 
--- what a driver needs to count its places: it is inside some memory whose size is a 64-bit number
 pub record IsPlaced (l : Layout) : Type 0 where
-  pub rx_count : IsCount l.rx_count
-  pub tx_count : IsCount l.tx_count
-  pub inside : IsInside 0xFFFF_FFFF_FFFF_FFFF l
+  pub receive : IsPlacedSide (rx l)
+  pub transmit : IsPlacedSide (tx l)

@@ -7,6 +7,7 @@ use Rattle.em_driver.specs.Course.{Course, done, read, write, peek, poke, room, 
 use Rattle.em_driver.specs.Descriptor.{length_of, is_done, is_whole}
 use Rattle.em_driver.specs.Outcome.{cause_of}
 use Rattle.em_driver.specs.World.{World}
+use Rattle.em_driver.specs.Layout.{buffer, descriptor, rx}
 use Rattle.em_driver.specs.declared.layout.Layout.{Layout}
 use Rattle.em_driver.specs.declared.outcome.Batch.{Batch}
 use Rattle.em_driver.specs.declared.outcome.Stopped.{Stopped}
@@ -18,10 +19,10 @@ abbrev pub Answered : Type 0
 Answered = List (List ℕ) × Result Batch Stopped
 
 abbrev pub rx_descriptor : Layout → ℕ → ℕ
-rx_descriptor l i = l.rx_ring + 16 * i
+rx_descriptor l = descriptor (rx l)
 
 abbrev pub rx_buffer : Layout → ℕ → ℕ
-rx_buffer l i = l.rx_buffers + 2048 * i
+rx_buffer l = buffer (rx l)
 
 -- so many packets were received: the tail was read, and with each packet there were two events
 abbrev pub received : ℕ → Result Batch Stopped

@@ -8,6 +8,7 @@ use Rattle.em_driver.specs.Outcome.{cause_of}
 use Rattle.em_regs.specs.Ring.{following}
 use Rattle.em_driver.specs.Receive.{Answered}
 use Rattle.em_driver.specs.World.{World}
+use Rattle.em_driver.specs.Layout.{buffer, descriptor, tx}
 use Rattle.em_driver.specs.declared.layout.Layout.{Layout}
 use Rattle.em_driver.specs.declared.outcome.Batch.{Batch}
 use Rattle.em_driver.specs.declared.outcome.Stopped.{Stopped}
@@ -15,10 +16,10 @@ use Rattle.em_driver.specs.declared.outcome.Cause.{Cause}
 use Rattle.em_driver.specs.declared.outcome.Cause.TheVariants.{Queue, PacketLength, Broken}
 
 abbrev pub tx_descriptor : Layout → ℕ → ℕ
-tx_descriptor l i = l.tx_ring + 16 * i
+tx_descriptor l = descriptor (tx l)
 
 abbrev pub tx_buffer : Layout → ℕ → ℕ
-tx_buffer l i = l.tx_buffers + 2048 * i
+tx_buffer l = buffer (tx l)
 
 -- how many descriptors are free in a ring of so many: one always stays empty
 abbrev pub free_from : ℕ → ℕ → ℕ → ℕ

@@ -1,6 +1,7 @@
 //! Where a driver keeps its descriptors and buffers.
-ghost use Rattle.std.specs.Prelude.{◌↔◌, ◌+◌, ◌≤◌, IsTrue};
-ghost use Rattle.em_driver.specs.Layout.{Apart, IsCount, IsDisjoint, IsGoodLayout, IsInside};
+ghost use Rattle.std.specs.Prelude.{◌≡◌, ◌↔◌, ◌+◌, ◌≤◌, ◌<◌, IsTrue};
+ghost use Rattle.em_driver.specs.Layout.{Apart, AreDisjoint, IsCount, IsGoodLayout, IsGoodSide, IsPlacedSide};
+ghost use Rattle.em_driver.specs.Layout.{buffer, buffer_octets, descriptor, ring_octets, rx, tx};
 
 /// Where a driver keeps its descriptors and buffers in the guest's memory: two rings of descriptors
 /// of 16 octets, and for each descriptor a buffer of 2,048 octets. Addresses are in octets.
@@ -32,57 +33,131 @@ const LEAST_COUNT: u32 = 8;
 /// The most descriptors of a ring.
 const MOST_COUNT: u32 = 4096;
 
+/// One side of a layout: a ring of descriptors, and for each of them a buffer.
+#[derive(Clone, Copy)]
+pub(crate) struct Side {
+    /// Where the ring begins.
+    pub(crate) ring: u64,
+    /// How many descriptors it has.
+    pub(crate) count: u32,
+    /// Where the buffers begin.
+    pub(crate) buffers: u64,
+}
+
+impl Side {
+    /// How many octets the ring has.
+    fn ring_octets(&self) -> u64
+        ensures { result ≡ ring_octets self.now }
+    {
+        DESCRIPTOR_OCTETS * u64::from(self.count)
+    }
+
+    /// How many octets the buffers have.
+    fn buffer_octets(&self) -> u64
+        ensures { result ≡ buffer_octets self.now }
+    {
+        BUFFER_OCTETS * u64::from(self.count)
+    }
+
+    /// Where descriptor `index` lies.
+    pub(crate) fn descriptor(&self, index: u32) -> u64
+        requires index { index < self.now.count }
+        requires placed { IsPlacedSide self.now }
+        ensures value { result ≡ descriptor self.now index }
+        ensures within { result + 16 ≤ 0xFFFF_FFFF_FFFF_FFFF }
+    {
+        self.ring + DESCRIPTOR_OCTETS * u64::from(index)
+    }
+
+    /// Where the buffer of descriptor `index` lies.
+    pub(crate) fn buffer(&self, index: u32) -> u64
+        requires index { index < self.now.count }
+        requires placed { IsPlacedSide self.now }
+        ensures { result ≡ buffer self.now index }
+    {
+        self.buffers + BUFFER_OCTETS * u64::from(index)
+    }
+
+    /// Whether a driver can use it in a memory of `size` octets.
+    fn is_good(&self, size: u64) -> bool
+        ensures { IsTrue result ↔ IsGoodSide size self.now }
+    {
+        is_count(self.count)
+            && self.ring % DESCRIPTOR_OCTETS == 0
+            && is_within(self.ring, self.ring_octets(), size)
+            && is_within(self.buffers, self.buffer_octets(), size)
+            && are_apart(
+                self.ring,
+                self.ring_octets(),
+                self.buffers,
+                self.buffer_octets(),
+            )
+    }
+
+    /// Whether no region of it has an octet in common with one of another side.
+    fn is_apart_from(&self, other: &Side) -> bool
+        requires first { IsPlacedSide self.now }
+        requires second { IsPlacedSide other.now }
+        ensures { IsTrue result ↔ AreDisjoint self.now other.now }
+    {
+        are_apart(
+            self.ring,
+            self.ring_octets(),
+            other.ring,
+            other.ring_octets(),
+        ) && are_apart(
+            self.buffers,
+            self.buffer_octets(),
+            other.buffers,
+            other.buffer_octets(),
+        ) && are_apart(
+            self.ring,
+            self.ring_octets(),
+            other.buffers,
+            other.buffer_octets(),
+        ) && are_apart(
+            other.ring,
+            other.ring_octets(),
+            self.buffers,
+            self.buffer_octets(),
+        )
+    }
+}
+
 impl Layout {
+    /// Where a driver receives.
+    #[inline(always)]
+    pub(crate) fn rx(&self) -> Side
+        ensures { result ≡ rx self.now }
+    {
+        Side {
+            ring: self.rx_ring,
+            count: self.rx_count,
+            buffers: self.rx_buffers,
+        }
+    }
+
+    /// Where a driver sends.
+    #[inline(always)]
+    pub(crate) fn tx(&self) -> Side
+        ensures { result ≡ tx self.now }
+    {
+        Side {
+            ring: self.tx_ring,
+            count: self.tx_count,
+            buffers: self.tx_buffers,
+        }
+    }
+
     /// Whether a driver can keep its descriptors and buffers so in a memory of `size` octets: both
     /// counts are multiples of 8 from 8 to 4,096, both rings begin at multiples of 16, and the four
     /// regions are inside memory and have no octet in common.
     pub(crate) fn is_good(&self, size: u64) -> bool
         ensures { IsTrue result ↔ IsGoodLayout size self.now }
     {
-        is_count(self.rx_count)
-            && is_count(self.tx_count)
-            && self.rx_ring % DESCRIPTOR_OCTETS == 0
-            && self.tx_ring % DESCRIPTOR_OCTETS == 0
-            && self.is_inside(size)
-            && self.is_disjoint()
-    }
-
-    fn is_inside(&self, size: u64) -> bool
-        ensures { IsTrue result ↔ IsInside size self.now }
-    {
-        is_within(
-            self.rx_ring,
-            DESCRIPTOR_OCTETS * u64::from(self.rx_count),
-            size,
-        ) && is_within(
-            self.rx_buffers,
-            BUFFER_OCTETS * u64::from(self.rx_count),
-            size,
-        ) && is_within(
-            self.tx_ring,
-            DESCRIPTOR_OCTETS * u64::from(self.tx_count),
-            size,
-        ) && is_within(
-            self.tx_buffers,
-            BUFFER_OCTETS * u64::from(self.tx_count),
-            size,
-        )
-    }
-
-    fn is_disjoint(&self) -> bool
-        requires { IsInside 0xFFFF_FFFF_FFFF_FFFF self.now }
-        ensures { IsTrue result ↔ IsDisjoint self.now }
-    {
-        let rx_ring = DESCRIPTOR_OCTETS * u64::from(self.rx_count);
-        let rx_buffers = BUFFER_OCTETS * u64::from(self.rx_count);
-        let tx_ring = DESCRIPTOR_OCTETS * u64::from(self.tx_count);
-        let tx_buffers = BUFFER_OCTETS * u64::from(self.tx_count);
-        are_apart(self.rx_ring, rx_ring, self.rx_buffers, rx_buffers)
-            && are_apart(self.tx_ring, tx_ring, self.tx_buffers, tx_buffers)
-            && are_apart(self.rx_ring, rx_ring, self.tx_ring, tx_ring)
-            && are_apart(self.rx_buffers, rx_buffers, self.tx_buffers, tx_buffers)
-            && are_apart(self.rx_ring, rx_ring, self.tx_buffers, tx_buffers)
-            && are_apart(self.tx_ring, tx_ring, self.rx_buffers, rx_buffers)
+        let rx = self.rx();
+        let tx = self.tx();
+        rx.is_good(size) && tx.is_good(size) && rx.is_apart_from(&tx)
     }
 }
 

@@ -27,7 +27,7 @@ impl<B: Bus> E1000<B> {
             (B.world self.new.bus) (lists buffer.old.items) (lists buffer.new.items)) }
         ensures layout { self.new.layout ≡ self.old.layout }
     {
-        let address = self.rx_descriptor(index);
+        let address = self.layout.rx().descriptor(index);
         let mut descriptor = [0; DESCRIPTOR_OCTETS as usize];
         let Ok(()) = self.bus.peek(address, &mut descriptor) else {
             return Err(Cause::Broken);
@@ -64,34 +64,17 @@ impl<B: Bus> E1000<B> {
         let Ok(()) = buffer.reserve(1) else {
             return Err(Cause::Memory);
         };
-        let address = self.rx_buffer(index);
+        let address = self.layout.rx().buffer(index);
         let Ok(()) = self.bus.peek(address, packet.as_mut_slice()) else {
             return Err(Cause::Broken);
         };
-        let status = self.rx_descriptor(index) + STATUS as u64;
+        let status = self.layout.rx().descriptor(index) + STATUS as u64;
         if let Err(refusal) = self.bus.poke(status, &[0]) {
             return Err(cause_of(refusal));
         }
         self.set(Reg::Rdt, index);
         buffer.push_back_reserved(packet);
         Ok(())
-    }
-
-    /// Where descriptor `index` lies.
-    fn rx_descriptor(&self, index: u32) -> u64
-        requires { index < self.now.layout.rx_count }
-        ensures value { result ≡ spec.rx_descriptor self.now.layout index }
-        ensures within { result + 16 ≤ 0xFFFF_FFFF_FFFF_FFFF }
-    {
-        self.layout.rx_ring + DESCRIPTOR_OCTETS * u64::from(index)
-    }
-
-    /// Where the buffer of descriptor `index` lies.
-    fn rx_buffer(&self, index: u32) -> u64
-        requires { index < self.now.layout.rx_count }
-        ensures { result ≡ spec.rx_buffer self.now.layout index }
-    {
-        self.layout.rx_buffers + BUFFER_OCTETS * u64::from(index)
     }
 }
 

@@ -61,34 +61,18 @@ impl<B: Bus> E1000<B> {
         if !is_packet(packet) {
             return Err(halt_after(count, 0, Cause::PacketLength));
         }
-        let address = self.tx_buffer(index);
+        let address = self.layout.tx().buffer(index);
         if let Err(refusal) = self.bus.poke(address, packet) {
             return Err(halt_after(count, 0, cause_of(refusal)));
         }
         let descriptor = of_packet(address, packet.len() as u16);
-        let place = self.tx_descriptor(index);
+        let place = self.layout.tx().descriptor(index);
         if let Err(refused) = self.bus.poke(place, &descriptor) {
             return Err(halt_after(count, 1, cause_of(refused)));
         }
         let next = following(index, self.layout.tx_count);
         self.set(Reg::Tdt, next);
         Ok(())
-    }
-
-    /// Where descriptor `index` lies.
-    fn tx_descriptor(&self, index: u32) -> u64
-        requires { index < self.now.layout.tx_count }
-        ensures { result ≡ spec.tx_descriptor self.now.layout index }
-    {
-        self.layout.tx_ring + DESCRIPTOR_OCTETS * u64::from(index)
-    }
-
-    /// Where the buffer of descriptor `index` lies.
-    fn tx_buffer(&self, index: u32) -> u64
-        requires { index < self.now.layout.tx_count }
-        ensures { result ≡ spec.tx_buffer self.now.layout index }
-    {
-        self.layout.tx_buffers + BUFFER_OCTETS * u64::from(index)
     }
 }
 

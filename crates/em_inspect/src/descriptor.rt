@@ -5,6 +5,7 @@ ghost use Rattle.em_inspect.specs.Ring.{fields_at, fields_in, octets_at};
 use crate::ring::{Owner, Side, SidedRing};
 use crate::trouble::Trouble;
 use em_journal::Machine;
+use em_journal::laws::addresses_are_small;
 use em_regs::{DESCRIPTOR_OCTETS, Ring};
 use em_rx::RxDescriptor;
 use em_tx::TxDescriptor;
@@ -72,8 +73,7 @@ impl SidedRing {
 pub fn octets_at(machine: &Machine, ring: &Ring, index: u32) -> Option<[u8; DESCRIPTOR_OCTETS]>
     ensures { result ≡ octets_at ring.now machine.now.present.memory index }
 {
-    // memory is smaller than 2^64 octets, so that an address past that leaves it
-    let _size = machine.memory_size();
+    addresses_are_small(machine);
     let address = ring.address_of(index)?;
     let mut octets = [0u8; DESCRIPTOR_OCTETS];
     match machine.peek(address, &mut octets) {

@@ -1,17 +1,18 @@
 -- A chain of records that is cut, or that grows.
-use Rattle.std.proofs.Common.{◌≡◌, ℕ, ◌≤◌, zero, suc, List, [], ◌∷◌, length, take}
+use Rattle.std.proofs.Common.{◌≡◌, ℕ, ◌≤◌, ◌<◌, zero, suc, List, [], ◌∷◌, length, take}
 use Rattle.std.proofs.Common.{refl, ap, ◌∙◌, sym, subst}
 use Rattle.std.specs.Prelude.{Result, Ok, Err, IfErr, sum}
 use Rattle.em_step.proofs.MadePages.{fits_after, undo_after, shows_after}
 use Rattle.em_step.specs.Cells.{Cells, shows, MorePages}
 use Rattle.em_step.specs.Cost.{cost, cost_of}
 use Rattle.em_step.specs.Event.{Event}
+use Rattle.em_step.specs.Performed.{WasPerformed}
 use Rattle.em_step.specs.Step.{step, Refuses}
 use Rattle.em_step.specs.Undo.{undo, Reverses}
 use Rattle.em_step.specs.declared.event.Answer.{Answer}
 use Rattle.em_step.specs.declared.refusal.Refusal.{Refusal}
 use Rattle.em_step.specs.declared.undo.Undo.{Undo}
-use Rattle.em_journal.specs.History.{performs, refuses, Does}
+use Rattle.em_journal.specs.History.{refuses, Does, WasJournalled}
 use Rattle.em_journal.specs.Records.{back_through, AllFit, costs_of, view_of, IsJournal}
 use Rattle.em_journal.specs.View.{View, reach, after_event}
 use Rattle.em_journal.proofs.BudgetLaws.{costs_of-take}
@@ -97,17 +98,20 @@ journal_event {budget} {used} {capacity} {c} {d} {left} {r} {rs} {new} is old re
       allowed = old.allowed;
     })
 
--- so it was performed
+-- so it was performed, and can be taken back
 pub event_does : {budget : ℕ} {c d left : Cells} {r : Undo} (rs : List Undo) {new : List Undo} {old : View} (e : Event)
-    {answer : Answer} → left ≡ d
-    → step (shows c) e ≡ Ok (answer, shows d) → cost_of r ≡ cost (shows c) e → Reverses c d r
-    → new ≡ take (reach budget (cost_of r ∷ costs_of rs)) (r ∷ rs) → view_of budget c rs ≡ old
-    → Does old (performs e answer) (view_of budget left new)
-event_does {budget} {d = d} rs {new} {old} e {answer} left_is is same reverses kept view =
-    subst (λ x. Does old (performs e answer) (view_of budget x new)) (sym left_is) (
-      ap (λ v. step v.present e) (sym view) ∙ is,
-      view_event e (record { kept = kept; reverses = reverses }) same view,
-    )
+    {answer : Answer} → left ≡ d → WasPerformed c e d answer r
+    → new ≡ take (reach budget (cost_of r ∷ costs_of rs)) (r ∷ rs) → 0 < length new → view_of budget c rs ≡ old
+    → WasJournalled old e answer (view_of budget left new)
+event_does {budget} {d = d} rs {new} {old} e {answer} left_is done kept some view =
+    subst (λ x. WasJournalled old e answer (view_of budget x new)) (sym left_is)
+    (record {
+      does = (
+        ap (λ v. step v.present e) (sym view) ∙ done.ok,
+        view_event e (record { kept = kept; reverses = done.reverses }) done.cost view,
+      );
+      kept = subst (λ n. 0 < n) (sym (length-back_through d new)) some;
+    })
 
 -- ---- a refused event may leave more pages made
 

@@ -30,6 +30,11 @@ Does v (refuses e refusal) w = Refuses v.present e refusal × (w ≡ v)
 Does v goes_back w = (0 < length v.past) × (w ≡ after_back v)
 Does v is_empty w = (v.past ≡ []) × (w ≡ v)
 
+-- the event was performed with this answer, and can be taken back
+pub record WasJournalled (v : View) (e : Event) (answer : Answer) (w : View) : Type 0 where
+  pub does : Does v (performs e answer) w
+  pub kept : 0 < length w.past
+
 -- one after the other
 abbrev pub Run : View → List Call → View → Type 0
 Run v [] w = w ≡ v

@@ -1,5 +1,5 @@
 //! What the definitions of a machine's view say together.
-ghost use Rattle.std.specs.Prelude.{◌≡◌, ◌<◌, ◌≤◌, ◌↔◌, ℕ, List, [], ◌∷◌, ◌++◌, length, take, sum, slice_get};
+ghost use Rattle.std.specs.Prelude.{◌≡◌, ◌<◌, ◌≤◌, ◌↔◌, ◌^◌, ℕ, List, [], ◌∷◌, ◌++◌, length, take, sum, slice_get};
 ghost use Rattle.em_step.specs.State.{State};
 ghost use Rattle.em_step.specs.Event.{Event};
 ghost use Rattle.em_step.specs.Step.{step, Refuses};
@@ -11,6 +11,8 @@ ghost use Rattle.em_journal.specs.Records.{back_through, AllFit};
 ghost use Rattle.em_journal.specs.View.{View, states, reach};
 ghost use Rattle.em_journal.specs.History.{Call, performs, refuses, Run, Leads};
 ghost use Rattle.em_journal.specs.History.{state, kept_events, held_costs, without_last};
+
+use crate::Machine;
 
 /// The law of the view: after any calls, item i of what a machine shows is the state that the
 /// events which were performed and not taken back lead to, without the last i of them. It can go
@@ -56,3 +58,11 @@ pub fn made_pages()
     ensures { (c d : Cells) (records : List Undo) → MorePages c d → AllFit c records
         → AllFit d records × (back_through d records ≡ back_through c records) }
 {}
+
+/// Guest memory ends before address 2^64, so that what lies past that leaves it.
+#[inline(always)]
+pub fn addresses_are_small(machine: &Machine)
+    ensures { length machine.now.present.memory < 2 ^ 64 }
+{
+    machine.memory_size();
+}

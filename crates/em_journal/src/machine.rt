@@ -10,7 +10,7 @@
 //! - a memory write: `poke`; `poke`; `GuestMemory::write_few`, `write_keeping`
 //! - an arriving frame: `arrive`; `arrive`, `dispose`, `judge`, `admit`, `accept`; em_filter, `Fifo::accept`
 //! - a change of the link: `set_link`; `set_link`; `Latches::raise`
-//! - a step of an engine: `receive_step`, `transmit_step`; the same; `Fifo::step`, em_tx's `step`
+//! - a step of an engine: `receive_step`, `transmit_step`; the same; `Fifo::receive`, em_tx's `transmit`
 //!
 //! Each function of `Adapter` gives an `Undo` too. `Records::keep` puts it first in the journal, and `back` gives
 //! it to `Adapter::take_back`: the words of the latches by `Latches::put_back`, and then its effect.
@@ -29,7 +29,7 @@ ghost use Rattle.em_step.specs.Cells.{shows};
 ghost use Rattle.em_step.specs.Cost.{least_cost};
 ghost use Rattle.em_step.specs.Event.{plain, reads, writes, pokes, arrives, links, receives, transmits};
 ghost use Rattle.em_journal.specs.Budget.{IsBudget};
-ghost use Rattle.em_journal.specs.History.{performs, refuses, goes_back, is_empty, Does, Run};
+ghost use Rattle.em_journal.specs.History.{refuses, goes_back, is_empty, Does, Run, WasJournalled};
 ghost use Rattle.em_journal.specs.Record.{IsRecordAt};
 ghost use Rattle.em_journal.specs.View.{HaveMemoryOf, opening, after_backs};
 
@@ -108,9 +108,7 @@ impl Machine {
     /// back.
     #[inline(always)]
     pub fn perform(&mut self, event: Event<'_>) -> Result<Answer, Refusal>
-        ensures ok { IfOk result (λ answer. Does self.old (performs (plain event.entry) answer) self.new) }
-        // a performed event can always be taken back
-        ensures kept { OnOk result (0 < length self.new.past) }
+        ensures ok { IfOk result (λ answer. WasJournalled self.old (plain event.entry) answer self.new) }
         ensures err { IfErr result (λ refusal. Does self.old (refuses (plain event.entry) refusal) self.new) }
     {
         match event {
@@ -135,8 +133,7 @@ impl Machine {
     /// Software reads the register at an offset.
     #[inline(never)]
     fn read(&mut self, offset: u32) -> Result<u32, Refusal>
-        ensures ok { IfOk result (λ value. Does self.old (performs (reads offset) (Answer.Value value)) self.new) }
-        ensures kept { OnOk result (0 < length self.new.past) }
+        ensures ok { IfOk result (λ value. WasJournalled self.old (reads offset) (Answer.Value value) self.new) }
         ensures err { IfErr result (λ refusal. Does self.old (refuses (reads offset) refusal) self.new) }
     {
         match Reg::of_offset(offset) {
@@ -148,8 +145,7 @@ impl Machine {
     /// Software writes a value to the register at an offset.
     #[inline(never)]
     fn write(&mut self, offset: u32, value: u32) -> Result<(), Refusal>
-        ensures ok { OnOk result (Does self.old (performs (writes offset value) Answer.Done) self.new) }
-        ensures kept { OnOk result (0 < length self.new.past) }
+        ensures ok { OnOk result (WasJournalled self.old (writes offset value) Answer.Done self.new) }
         ensures err { IfErr result (λ refusal. Does self.old (refuses (writes offset value) refusal) self.new) }
     {
         match Reg::of_offset(offset) {
@@ -162,8 +158,7 @@ impl Machine {
     #[inline(always)]
     pub fn read_register(&mut self, reg: Reg) -> u32
         requires { IsReg reg }
-        ensures does { Does self.old (performs (reads (offset_of reg)) (Answer.Value result)) self.new }
-        ensures kept { 0 < length self.new.past }
+        ensures { WasJournalled self.old (reads (offset_of reg)) (Answer.Value result) self.new }
     {
         match reg.row().kind {
             Kind::Stored | Kind::Control | Kind::EepromRead => self.read_stored(reg),
@@ -177,8 +172,7 @@ impl Machine {
     #[inline(always)]
     pub fn write_register(&mut self, reg: Reg, value: u32) -> Result<(), Refusal>
         requires { IsReg reg }
-        ensures ok { OnOk result (Does self.old (performs (writes (offset_of reg) value) Answer.Done) self.new) }
-        ensures kept { OnOk result (0 < length self.new.past) }
+        ensures ok { OnOk result (WasJournalled self.old (writes (offset_of reg) value) Answer.Done self.new) }
         ensures err { IfErr result (λ refusal.
             Does self.old (refuses (writes (offset_of reg) value) refusal) self.new) }
     {
@@ -197,8 +191,7 @@ impl Machine {
     #[inline(always)]
     fn read_stored(&mut self, reg: Reg) -> u32
         requires { IsStored reg }
-        ensures does { Does self.old (performs (reads (offset_of reg)) (Answer.Value result)) self.new }
-        ensures kept { 0 < length self.new.past }
+        ensures { WasJournalled self.old (reads (offset_of reg)) (Answer.Value result) self.new }
     {
         let (value, undo) = self.adapter.read_stored(reg);
         self.records
@@ -210,8 +203,7 @@ impl Machine {
     fn read_latched(&mut self, reg: Reg) -> u32
         requires reg { IsReg reg }
         requires latched { IsLatched reg }
-        ensures does { Does self.old (performs (reads (offset_of reg)) (Answer.Value result)) self.new }
-        ensures kept { 0 < length self.new.past }
+        ensures { WasJournalled self.old (reads (offset_of reg)) (Answer.Value result) self.new }
     {
         let (value, undo) = self.adapter.read_latched(reg);
         self.records
@@ -222,8 +214,7 @@ impl Machine {
     #[inline(never)]
     fn read_other(&mut self, reg: Reg) -> u32
         requires { IsReg reg }
-        ensures does { Does self.old (performs (reads (offset_of reg)) (Answer.Value result)) self.new }
-        ensures kept { 0 < length self.new.past }
+        ensures { WasJournalled self.old (reads (offset_of reg)) (Answer.Value result) self.new }
     {
         let (value, undo) = self.adapter.read_register(reg);
         self.records
@@ -234,8 +225,7 @@ impl Machine {
     #[inline(always)]
     fn write_stored(&mut self, reg: Reg, value: u32)
         requires { OnlyStores reg }
-        ensures does { Does self.old (performs (writes (offset_of reg) value) Answer.Done) self.new }
-        ensures kept { 0 < length self.new.past }
+        ensures { WasJournalled self.old (writes (offset_of reg) value) Answer.Done self.new }
     {
         let undo = self.adapter.write_stored(reg, value);
         self.records
@@ -246,8 +236,7 @@ impl Machine {
     fn write_latched(&mut self, reg: Reg, value: u32)
         requires reg { IsReg reg }
         requires latched { IsLatched reg }
-        ensures does { Does self.old (performs (writes (offset_of reg) value) Answer.Done) self.new }
-        ensures kept { 0 < length self.new.past }
+        ensures { WasJournalled self.old (writes (offset_of reg) value) Answer.Done self.new }
     {
         let undo = self.adapter.write_latched(reg, value);
         self.records
@@ -257,8 +246,7 @@ impl Machine {
     #[inline(never)]
     fn write_other(&mut self, reg: Reg, value: u32) -> Result<(), Refusal>
         requires { IsReg reg }
-        ensures ok { OnOk result (Does self.old (performs (writes (offset_of reg) value) Answer.Done) self.new) }
-        ensures kept { OnOk result (0 < length self.new.past) }
+        ensures ok { OnOk result (WasJournalled self.old (writes (offset_of reg) value) Answer.Done self.new) }
         ensures err { IfErr result (λ refusal.
             Does self.old (refuses (writes (offset_of reg) value) refusal) self.new) }
     {
@@ -272,8 +260,7 @@ impl Machine {
     /// Software writes octets to guest memory.
     #[inline(never)]
     fn poke(&mut self, addr: u64, octets: &[u8]) -> Result<Answer, Refusal>
-        ensures ok { IfOk result (λ answer. Does self.old (performs (pokes addr octets.now) answer) self.new) }
-        ensures kept { OnOk result (0 < length self.new.past) }
+        ensures ok { IfOk result (λ answer. WasJournalled self.old (pokes addr octets.now) answer self.new) }
         ensures err { IfErr result (λ refusal. Does self.old (refuses (pokes addr octets.now) refusal) self.new) }
     {
         let (answer, undo) = self.adapter.poke(addr, octets)?;
@@ -286,8 +273,7 @@ impl Machine {
     /// A frame arrives.
     #[inline(never)]
     fn arrive(&mut self, frame: &[u8]) -> Result<Answer, Refusal>
-        ensures ok { IfOk result (λ answer. Does self.old (performs (arrives frame.now) answer) self.new) }
-        ensures kept { OnOk result (0 < length self.new.past) }
+        ensures ok { IfOk result (λ answer. WasJournalled self.old (arrives frame.now) answer self.new) }
         ensures err { IfErr result (λ refusal. Does self.old (refuses (arrives frame.now) refusal) self.new) }
     {
         let (answer, undo) = self.adapter.arrive(frame)?;
@@ -300,8 +286,7 @@ impl Machine {
     /// The link goes up or down.
     #[inline(never)]
     fn set_link(&mut self, up: bool) -> Result<Answer, Refusal>
-        ensures ok { IfOk result (λ answer. Does self.old (performs (links up) answer) self.new) }
-        ensures kept { OnOk result (0 < length self.new.past) }
+        ensures ok { IfOk result (λ answer. WasJournalled self.old (links up) answer self.new) }
         ensures err { IfErr result (λ refusal. Does self.old (refuses (links up) refusal) self.new) }
     {
         let (answer, undo) = self.adapter.set_link(up)?;
@@ -313,8 +298,7 @@ impl Machine {
     /// The receive engine handles a descriptor.
     #[inline(never)]
     fn receive_step(&mut self) -> Result<Answer, Refusal>
-        ensures ok { IfOk result (λ answer. Does self.old (performs receives answer) self.new) }
-        ensures kept { OnOk result (0 < length self.new.past) }
+        ensures ok { IfOk result (λ answer. WasJournalled self.old receives answer self.new) }
         ensures err { IfErr result (λ refusal. Does self.old (refuses receives refusal) self.new) }
     {
         let (answer, undo) = self.adapter.receive_step()?;
@@ -327,8 +311,7 @@ impl Machine {
     /// The transmit engine handles a descriptor.
     #[inline(never)]
     fn transmit_step(&mut self) -> Result<Answer, Refusal>
-        ensures ok { IfOk result (λ answer. Does self.old (performs transmits answer) self.new) }
-        ensures kept { OnOk result (0 < length self.new.past) }
+        ensures ok { IfOk result (λ answer. WasJournalled self.old transmits answer self.new) }
         ensures err { IfErr result (λ refusal. Does self.old (refuses transmits refusal) self.new) }
     {
         let (answer, undo) = self.adapter.transmit_step()?;

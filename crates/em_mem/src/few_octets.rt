@@ -3,6 +3,7 @@ ghost use Rattle.std.specs.Prelude.{◌≡◌, ◌≤◌, ◌<◌, length, take}
 ghost use Rattle.em_mem.specs.Memory.{Fits, IsHeld, IsMade, Reverses, part, put, undo};
 
 use crate::GuestMemory;
+use crate::laws::places_are_small;
 use crate::place::Place;
 use std::marker::Model;
 
@@ -89,8 +90,7 @@ impl GuestMemory {
         requires few { len ≤ 9 }
         ensures { result ≡ record { at = addr; octets = part self.now.octets addr len } }
     {
-        // a place in memory is less than 2^24
-        let _size = self.len();
+        places_are_small(self);
         let Some(octets) = self.slice(addr, FEW) else {
             return self.keep_few_pieces(addr, len);
         };
@@ -107,8 +107,7 @@ impl GuestMemory {
         requires few { len ≤ 9 }
         ensures { result ≡ record { at = addr; octets = part self.now.octets addr len } }
     {
-        // a place in memory is less than 2^24
-        let _size = self.len();
+        places_are_small(self);
         let mut octets = [0; FEW];
         self.read_into(addr, &mut octets[..len]);
         FewOctets::new(addr, len, octets)

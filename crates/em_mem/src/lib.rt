@@ -14,6 +14,7 @@ pub use window::lay_over;
 
 mod extent;
 mod few_octets;
+pub mod laws;
 mod memory;
 mod page;
 mod place;

@@ -4,6 +4,7 @@ ghost use Rattle.std.specs.Prelude.{IfOk, IfErr, IsErrOf, IsOk, IsTrue, IsSome, 
 ghost use Rattle.em_mem.specs.Memory.{IsHeld, IsInOnePage, IsMade, IsMemorySize, MakesOnly, MorePages};
 ghost use Rattle.em_mem.specs.Memory.{fresh, part, put, Fits, undo, Reverses};
 
+use crate::laws::places_are_small;
 use crate::page::Page;
 use crate::{
     MOST_MEMORY, MOST_RECORD, MemRefusal, MemUndo, PAGE_OCTETS, Reversible, empty_for, page, table,
@@ -144,8 +145,7 @@ impl GuestMemory {
         if len == 0 {
             return Ok(());
         }
-        // the sum below stays small
-        let _size = self.len();
+        places_are_small(self);
         let first = addr as usize / PAGE_OCTETS;
         let last = (addr + len - 1) as usize / PAGE_OCTETS;
         table::make_pages(self.alloc, self.pages.as_mut_slice(), first, last)?;

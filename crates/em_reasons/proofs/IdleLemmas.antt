@@ -10,14 +10,14 @@ use Rattle.em_regs.specs.declared.setup.TxSetup.{TxSetup}
 use Rattle.em_regs.specs.Setup.{rx_setup, tx_setup}
 use Rattle.em_rx.specs.Fifo.{Fifo}
 use Rattle.em_rx.specs.Receive as rx
-use Rattle.em_rx.specs.declared.receive.RxAnswer.TheVariants as rx_answer
+use Rattle.em_rx.specs.declared.step.RxAnswer.TheVariants as rx_answer
 use Rattle.em_rx.specs.declared.refusal.RxRefusal.TheVariants as rx_refusal
 use Rattle.em_tx.specs.Cells.{Shown}
 use Rattle.em_tx.specs.Engine.{gather, handle, refusal, sends, transmit, unless}
 use Rattle.em_tx.specs.Engine as engine
 use Rattle.em_tx.specs.Frame.{frame}
 use Rattle.em_tx.specs.Ring as tx
-use Rattle.em_tx.specs.Undo.{IsHandled}
+use Rattle.em_tx.specs.Engine.{IsHandled}
 use Rattle.em_tx.specs.declared.answer.TxAnswer.{TxAnswer}
 use Rattle.em_tx.specs.declared.answer.TxAnswer.TheVariants as tx_answer
 use Rattle.em_tx.specs.declared.refusal.TxRefusal.{TxRefusal}

@@ -12,7 +12,7 @@ use Rattle.em_regs.specs.Table.{reg_at}
 use Rattle.em_rx.specs.Descriptor.{descriptor_of}
 use Rattle.em_rx.specs.Fifo.{Fifo, first}
 use Rattle.em_rx.specs.Receive as rx
-use Rattle.em_rx.specs.declared.receive.RxAnswer.TheVariants as rx_answer
+use Rattle.em_rx.specs.declared.step.RxAnswer.TheVariants as rx_answer
 use Rattle.em_rx.specs.declared.refusal.RxRefusal.TheVariants as rx_refusal
 use Rattle.em_tx.specs.Cells.{Shown}
 use Rattle.em_tx.specs.Descriptor.{address, dext, length_of}
@@ -33,7 +33,10 @@ use Rattle.em_reasons.specs.declared.refused.Refused.{Refused}
 use Rattle.em_reasons.specs.declared.refused.Refused.TheVariants.{NoRegister, Range, WriteLength, FrameLength}
 use Rattle.em_reasons.specs.declared.refused.Refused.TheVariants.{RxDescriptor, RxBuffer, TxDescriptor, Extended}
 use Rattle.em_reasons.specs.declared.refused.Refused.TheVariants.{TooLong}
-use Rattle.em_reasons.specs.Refused.{access_table, octets_at, refusal_of, refusal_table, refused_descriptor}
+use Rattle.em_inspect.specs.Ring.{octets_at}
+use Rattle.em_regs.specs.Ring.{descriptor_at, rx_ring, tx_ring}
+use Rattle.em_regs.specs.declared.ring.Ring.{Ring}
+use Rattle.em_reasons.specs.Refused.{access_table, refusal_of, refusal_table, refused_descriptor}
 use Rattle.em_reasons.specs.Refused.{refused_receive, refused_transmit}
 use Rattle.em_reasons.specs.Refused.{refused_write, rx_buffer, rx_table, tx_buffer, tx_octets, tx_table, unless_idle}
 use Rattle.em_reasons.specs.Refused.{why}
@@ -273,8 +276,16 @@ inside : (b : Bool) (x octets : List ℕ) → Some octets ≡ (if b then None el
 inside true x octets h = cc
 inside false x octets h = (refl, cc)
 
+-- the descriptor of an index in a ring that is known to be another one
+pub octets_in : (memory : List ℕ) (i : ℕ) {o : Option (List ℕ)} {r q : Ring} → o ≡ octets_at r memory i → r ≡ q
+    → o ≡ octets_at q memory i
+octets_in memory i is same = is ∙ ap (λ (r : Ring). octets_at r memory i) same
+
+pub place_in : (i : ℕ) {place : ℕ} {r q : Ring} → place ≡ descriptor_at r i → r ≡ q → place ≡ descriptor_at q i
+place_in i is same = is ∙ ap (λ (r : Ring). descriptor_at r i) same
+
 pub receive_outside : (p q : RxSetup) (memory : List ℕ) (fifo : Fifo) (place size : ℕ) → p ≡ q
-    → None ≡ octets_at p.base p.head memory → place ≡ p.base + 16 * p.head → size ≡ length memory
+    → None ≡ octets_at (rx_ring p) memory p.head → place ≡ p.base + 16 * p.head → size ≡ length memory
     → RxDescriptor p.head place size ≡ refused_receive q memory fifo
 receive_outside p q memory fifo place size same none at count =
     let test : nat_lt (length memory) (rx.descriptor_at p + 16) ≡ true = outside _ _ none in
@@ -285,7 +296,7 @@ receive_outside p q memory fifo place size same none at count =
     ∙ ap (λ (r : RxSetup). refused_receive r memory fifo) same
 
 pub receive_inside : (p q : RxSetup) (memory octets : List ℕ) (fifo : Fifo) (place buffer n size : ℕ) → p ≡ q
-    → Some octets ≡ octets_at p.base p.head memory → place ≡ p.base + 16 * p.head
+    → Some octets ≡ octets_at (rx_ring p) memory p.head → place ≡ p.base + 16 * p.head
     → buffer ≡ (descriptor_of octets).address → n ≡ length (first fifo).octets → size ≡ length memory
     → RxBuffer p.head place buffer p.buffer n size ≡ refused_receive q memory fifo
 receive_inside p q memory octets fifo place buffer n size same some at address frame count =
@@ -302,7 +313,7 @@ receive_inside p q memory octets fifo place buffer n size same some at address f
     ∙ ap (λ (r : RxSetup). refused_receive r memory fifo) same
 
 pub transmit_outside : (r : Refusal) (p q : TxSetup) (memory : List ℕ) (place size : ℕ) → p ≡ q
-    → None ≡ octets_at p.base p.head memory → place ≡ p.base + 16 * p.head → size ≡ length memory
+    → None ≡ octets_at (tx_ring p) memory p.head → place ≡ p.base + 16 * p.head → size ≡ length memory
     → TxDescriptor p.head place size ≡ refused_transmit r q memory
 transmit_outside r p q memory place size same none at count =
     let test : nat_lt (length memory) (tx.place p + 16) ≡ true = outside _ _ none in
@@ -313,7 +324,7 @@ transmit_outside r p q memory place size same none at count =
     ∙ ap (λ (s : TxSetup). refused_transmit r s memory) same
 
 pub transmit_inside : (r : Refusal) (p q : TxSetup) (memory octets : List ℕ) (d : Refused) → p ≡ q
-    → Some octets ≡ octets_at p.base p.head memory → d ≡ refused_descriptor r p memory octets
+    → Some octets ≡ octets_at (tx_ring p) memory p.head → d ≡ refused_descriptor r p memory octets
     → d ≡ refused_transmit r q memory
 transmit_inside r p q memory octets d same some is =
     let found = inside (nat_lt (length memory) (tx.place p + 16)) (part memory (tx.place p) 16) octets some in

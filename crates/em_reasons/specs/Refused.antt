@@ -1,6 +1,6 @@
 -- Why an event was refused.
-use Rattle.std.specs.Prelude.{ℕ, ◌+◌, ◌*◌, ◌==◌, ◌&&◌, ◌||◌, nat_lt, is_none, Bool, List, [], ◌∷◌, length, Option, Some}
-use Rattle.std.specs.Prelude.{None, if◌then◌else◌}
+use Rattle.std.specs.Prelude.{ℕ, ◌+◌, ◌==◌, ◌&&◌, ◌||◌, nat_lt, is_none, Bool, List, [], ◌∷◌, length, Option}
+use Rattle.std.specs.Prelude.{if◌then◌else◌}
 use Rattle.em_mem.specs.Memory.{part}
 use Rattle.em_regs.specs.declared.setup.RxSetup.{RxSetup}
 use Rattle.em_regs.specs.declared.setup.TxSetup.{TxSetup}
@@ -116,8 +116,3 @@ abbrev pub refused_transmit : Refusal → TxSetup → List ℕ → Refused
 refused_transmit r q memory =
     if nat_lt (length memory) (tx.place q + 16) then TxDescriptor q.head (tx.place q) (length memory)
     else refused_descriptor r q memory (tx_octets q memory)
-
--- the octets of the descriptor of an index in a ring; none where it leaves memory
-abbrev pub octets_at : ℕ → ℕ → List ℕ → Option (List ℕ)
-octets_at base i memory =
-    if nat_lt (length memory) (base + 16 * i + 16) then None else Some (part memory (base + 16 * i) 16)

@@ -1,12 +1,13 @@
 //! Why an event was refused.
-ghost use Rattle.std.specs.Prelude.{◌≡◌, ◌+◌, ◌*◌, Err, Some, length};
+ghost use Rattle.std.specs.Prelude.{◌≡◌, Err, Some, length};
 ghost use Rattle.em_regs.specs.Setup.{rx_setup, tx_setup};
 ghost use Rattle.em_rx.specs.Fifo.{first};
 ghost use Rattle.em_step.specs.Event.{plain};
 ghost use Rattle.em_step.specs.Step.{step};
-ghost use Rattle.em_reasons.specs.Refused.{octets_at, refused_descriptor, refused_receive, refused_transmit};
+ghost use Rattle.em_reasons.specs.Refused.{refused_descriptor, refused_receive, refused_transmit};
 ghost use Rattle.em_reasons.specs.Refused.{refused_write, why};
 
+use em_inspect::octets_at;
 use em_journal::Machine;
 use em_regs::{DESCRIPTOR_OCTETS, TxSetup};
 use em_rx::RxDescriptor;
@@ -120,17 +121,18 @@ fn refused_receive(machine: &Machine) -> Refused
     ensures { result ≡ refused_receive (rx_setup machine.now.present.registers) machine.now.present.memory
         machine.now.present.fifo }
 {
-    let ring = machine.ring_rx();
-    let index = ring.head;
-    let at = descriptor_at(ring.base, index);
+    let setup = machine.ring_rx();
+    let ring = setup.ring();
+    let index = setup.head;
+    let at = ring.descriptor_at(index);
     let memory = machine.memory_size();
-    match octets_at(machine, ring.base, index) {
+    match octets_at(machine, &ring, index) {
         None => Refused::RxDescriptor { index, at, memory },
         Some(octets) => Refused::RxBuffer {
             index,
             at,
             buffer: RxDescriptor::read(&octets).address(),
-            size: ring.buffer,
+            size: setup.buffer,
             frame: first_len(machine),
             memory,
         },
@@ -152,14 +154,15 @@ fn refused_transmit(machine: &Machine, refusal: Refusal) -> Refused
     ensures { result ≡ refused_transmit refusal (tx_setup machine.now.present.registers)
         machine.now.present.memory }
 {
-    let ring = machine.ring_tx();
-    match octets_at(machine, ring.base, ring.head) {
+    let setup = machine.ring_tx();
+    let ring = setup.ring();
+    match octets_at(machine, &ring, setup.head) {
         None => Refused::TxDescriptor {
-            index: ring.head,
-            at: descriptor_at(ring.base, ring.head),
+            index: setup.head,
+            at: ring.descriptor_at(setup.head),
             memory: machine.memory_size(),
         },
-        Some(octets) => refused_descriptor(machine, refusal, &ring, octets),
+        Some(octets) => refused_descriptor(machine, refusal, &setup, octets),
     }
 }
 
@@ -167,14 +170,14 @@ fn refused_transmit(machine: &Machine, refusal: Refusal) -> Refused
 fn refused_descriptor(
     machine: &Machine,
     refusal: Refusal,
-    ring: &TxSetup,
+    setup: &TxSetup,
     octets: [u8; DESCRIPTOR_OCTETS],
 ) -> Refused
-    ensures { result ≡ refused_descriptor refusal ring.now machine.now.present.memory octets }
+    ensures { result ≡ refused_descriptor refusal setup.now machine.now.present.memory octets }
 {
     let descriptor = TxDescriptor::of_octets(octets);
-    let index = ring.head;
-    let at = descriptor_at(ring.base, index);
+    let index = setup.head;
+    let at = setup.ring().descriptor_at(index);
     let length = descriptor.length();
     match refusal {
         Refusal::Extended => Refused::Extended { index, at },
@@ -190,26 +193,5 @@ fn refused_descriptor(
             octets: length,
             memory: machine.memory_size(),
         },
-    }
-}
-
-/// Where the descriptor of an index lies in a ring.
-fn descriptor_at(base: u64, index: u32) -> u128
-    ensures { result ≡ base + 16 * index }
-{
-    u128::from(base) + 16 * u128::from(index)
-}
-
-/// The octets of the descriptor of an index in a ring; none where it leaves guest memory.
-fn octets_at(machine: &Machine, base: u64, index: u32) -> Option<[u8; DESCRIPTOR_OCTETS]>
-    ensures { result ≡ octets_at base index machine.now.present.memory }
-{
-    // memory is smaller than 2^64 octets, so that a sum past that leaves it
-    let _size = machine.memory_size();
-    let address = base.checked_add(16 * u64::from(index))?;
-    let mut octets = [0u8; DESCRIPTOR_OCTETS];
-    match machine.peek(address, &mut octets) {
-        Ok(()) => Some(octets),
-        Err(_) => None,
     }
 }

@@ -47,7 +47,7 @@ impl Ring {
     pub fn descriptor_at(&self, index: u32) -> u128
         ensures { result ≡ spec.descriptor_at self.now index }
     {
-        u128::from(self.base) + 16 * u128::from(index)
+        u128::from(self.base) + DESCRIPTOR_OCTETS as u128 * u128::from(index)
     }
 
     /// Where a descriptor lies; none where that is past 2^64, and so outside of every memory.
@@ -56,7 +56,8 @@ impl Ring {
         ensures some { IfSome result (λ address. address ≡ spec.descriptor_at self.now index) }
         ensures none { IfNone result (2 ^ 64 ≤ spec.descriptor_at self.now index) }
     {
-        self.base.checked_add(16 * u64::from(index))
+        self.base
+            .checked_add(DESCRIPTOR_OCTETS as u64 * u64::from(index))
     }
 }
 

@@ -1,6 +1,6 @@
 -- Cells show as many frames as their places say, and memory is the same up to the next octet of a step.
-use Rattle.std.proofs.Common.{◌≡◌, ◌∙◌, ◌≤◌, ℕ, refl, arith, length, length-append, length-drop}
-use Rattle.std.proofs.lemmas.List.{length-take-le, length-take}
+use Rattle.std.proofs.Common.{◌≡◌, ◌∙◌, ℕ, refl, arith, length}
+use Rattle.std.proofs.lemmas.List.{length-take-le}
 use Rattle.em_mem.specs.Memory as memory
 use Rattle.em_mem.specs.Extent.{SameUpTo, next_octet}
 use Rattle.em_mem.proofs.ExtentLaws.{same_in_turn, same_up_to}

@@ -5,6 +5,7 @@ pub mod Fifo
 pub mod StoredFrame
 pub mod FramePatch
 pub mod StepPatch
+pub mod RxStep
 pub mod Undo
 pub mod Descriptor
 pub mod Receive

@@ -8,8 +8,8 @@ use Rattle.em_rx.specs.Frame.{Frame}
 use Rattle.em_rx.specs.Fifo.{Fifo}
 use Rattle.em_rx.specs.Descriptor.{descriptor_of, written_back}
 use Rattle.em_rx.specs.Receive.{receive, Outcome}
-use Rattle.em_rx.specs.declared.receive.RxAnswer.{RxAnswer}
-use Rattle.em_rx.specs.declared.receive.RxAnswer.TheVariants.{Idle, Wrote}
+use Rattle.em_rx.specs.declared.step.RxAnswer.{RxAnswer}
+use Rattle.em_rx.specs.declared.step.RxAnswer.TheVariants.{Idle, Wrote}
 use Rattle.em_rx.specs.declared.refusal.RxRefusal.{RxRefusal}
 
 -- what the receive engine works on

@@ -1,5 +1,5 @@
 -- The receive engine's step, over what the registers set up, the octets of guest memory and what the FIFO shows.
-use Rattle.std.specs.Prelude.{◌≡◌, ℕ, ◌+◌, ◌-◌, ◌*◌, ◌%◌, ◌==◌, ◌||◌, min, nat_lt, nat_le, if◌then◌else◌, Bool}
+use Rattle.std.specs.Prelude.{◌≡◌, ℕ, ◌+◌, ◌-◌, ◌%◌, ◌==◌, ◌||◌, min, nat_lt, nat_le, if◌then◌else◌, Bool}
 use Rattle.std.specs.Prelude.{List, length, Result, Ok, Err}
 use Rattle.em_mem.specs.Memory.{part, put}
 use Rattle.em_regs.specs.declared.setup.RxSetup.{RxSetup}
@@ -7,8 +7,8 @@ use Rattle.em_regs.specs.Ring as ring
 use Rattle.em_regs.specs.Ring.{rx_ring}
 use Rattle.em_rx.specs.Descriptor.{descriptor_of, written_back}
 use Rattle.em_rx.specs.Fifo.{Fifo, after_delivery, first, next, rest}
-use Rattle.em_rx.specs.declared.receive.RxAnswer.{RxAnswer}
-use Rattle.em_rx.specs.declared.receive.RxAnswer.TheVariants.{Idle, Wrote}
+use Rattle.em_rx.specs.declared.step.RxAnswer.{RxAnswer}
+use Rattle.em_rx.specs.declared.step.RxAnswer.TheVariants.{Idle, Wrote}
 use Rattle.em_rx.specs.declared.refusal.RxRefusal.{RxRefusal}
 use Rattle.em_rx.specs.declared.refusal.RxRefusal.TheVariants.{DmaRange, Memory}
 

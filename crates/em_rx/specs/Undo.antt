@@ -7,8 +7,6 @@ use Rattle.em_rx.specs.Fifo.{Cells, Fifo, IsSound, after_delivery, first, next, 
 use Rattle.em_rx.specs.FramePatch.{FramePatch}
 use Rattle.em_rx.specs.StepPatch.{StepPatch}
 use Rattle.em_rx.specs.declared.places.Places as places
-use Rattle.em_rx.specs.declared.receive.RxAnswer.{RxAnswer}
-use Rattle.em_rx.specs.declared.receive.RxAnswer.TheVariants.{Idle, Wrote}
 use Rattle.em_rx.specs.declared.undo.RxUndo.{RxUndo}
 use Rattle.em_rx.specs.declared.undo.RxUndo.TheVariants.{Nothing, Places, Frame, Step}
 
@@ -86,12 +84,6 @@ octets_held Nothing = 0
 octets_held (Places places) = 0
 octets_held (Frame patch) = length patch.value.octets
 octets_held (Step patch) = length patch.value.first.octets + length patch.value.second.octets
-
--- a receive step that was idle leaves nothing, and one that wrote leaves what it overwrote
-abbrev pub IsRecordOf : RxAnswer → RxUndo → Type 0
-IsRecordOf Idle Nothing = Unit {0}
-IsRecordOf (Wrote index next causes) (Step patch) = Unit {0}
-IsRecordOf answer r = ⊥
 
 -- the record takes back the change from the old cells and memory to the new ones
 pub record Reverses (old new : Cells) (before after : memory.Cells) (r : RxUndo) : Type 0 where

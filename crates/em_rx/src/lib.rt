@@ -5,8 +5,8 @@
 pub use descriptor::RxDescriptor;
 pub use fifo::Fifo;
 pub use places::{Entry, Places};
-pub use receive::RxAnswer;
 pub use refusal::RxRefusal;
+pub use step::{RxAnswer, RxStep};
 pub use stored::StoredFrame;
 pub use undo::{FramePatch, MOST_HELD, RxUndo, StepPatch};
 
@@ -19,5 +19,6 @@ mod places;
 mod receive;
 mod refusal;
 mod ring;
+mod step;
 mod stored;
 mod undo;

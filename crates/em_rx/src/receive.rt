@@ -5,24 +5,16 @@ ghost use Rattle.em_mem.specs.Memory.{IsHeld, MorePages, part};
 ghost use Rattle.em_rx.specs.Fifo.{shows};
 ghost use Rattle.em_rx.specs.Receive as spec;
 ghost use Rattle.em_rx.specs.Receive.{receive, Refuses, octets_written};
-ghost use Rattle.em_rx.specs.Undo.{IsRecordOf, ReversesInPages, octets_held};
+ghost use Rattle.em_rx.specs.RxStep.{answer_of, undo_of};
+ghost use Rattle.em_rx.specs.Undo.{ReversesInPages, octets_held};
 
 use crate::descriptor::{RxDescriptor, WRITTEN_AT, WRITTEN_OCTETS};
 use crate::ring::wrap;
-use crate::{Fifo, RxRefusal, RxUndo};
+use crate::{Fifo, RxAnswer, RxRefusal, RxStep, RxUndo};
 use bitflags::Flags;
 use em_mem::GuestMemory;
+use em_mem::laws::places_are_small;
 use em_regs::{Causes, DESCRIPTOR_OCTETS, RxSetup};
-
-/// What a receive step did.
-#[derive(Clone, Copy, Debug, PartialEq, Eq)]
-pub enum RxAnswer {
-    /// No descriptor is the adapter's, or no frame waits.
-    Idle,
-    /// Descriptor `index` was filled and written back. RDH is `next` from now on, and `causes` are
-    /// raised in ICR: RXT0, RXDMT0, both or none.
-    Wrote { index: u32, next: u32, causes: u32 },
-}
 
 /// The causes that a step raises.
 #[tactic(auto, using(crate::proofs::RingLaws::wrap_remainder))]
@@ -41,20 +33,6 @@ fn causes_of(setup: &RxSetup, last: bool) -> u32
         0
     };
     delivered + low
-}
-
-/// What a step answers that wrote.
-fn wrote(setup: &RxSetup, last: bool) -> RxAnswer
-    requires head { setup.now.head < setup.now.count }
-    requires tail { setup.now.tail < setup.now.count }
-    requires count { setup.now.count < 2 ^ 28 }
-    ensures { result ≡ spec.wrote setup.now last }
-{
-    RxAnswer::Wrote {
-        index: setup.head,
-        next: setup.ring().next(),
-        causes: causes_of(setup, last),
-    }
 }
 
 /// The descriptor at RDH.
@@ -76,8 +54,7 @@ fn fetch(memory: &GuestMemory, setup: &RxSetup) -> Result<Fetched, RxRefusal>
     ensures refused { IfErr result (λ refusal. refusal ≡ RxRefusal.DmaRange) }
     ensures outside { OnErr result (length memory.now.octets < spec.descriptor_at setup.now + 16) }
 {
-    // no place in memory lies past 2^64
-    let _size = memory.len();
+    places_are_small(memory);
     let Some(at) = setup.ring().address_of(setup.head) else {
         return Err(RxRefusal::DmaRange);
     };
@@ -111,24 +88,20 @@ impl Fifo {
     /// ring. `DmaRange` where the descriptor leaves guest memory, and then where the buffer does;
     /// sums of addresses do not wrap. `Memory` where a page, or the record of what is overwritten,
     /// finds none. After a refusal all shows as before; pages may be left made.
-    pub fn step(
-        &mut self,
-        memory: &mut GuestMemory,
-        setup: RxSetup,
-    ) -> Result<(RxAnswer, RxUndo), RxRefusal>
+    pub fn receive(&mut self, memory: &mut GuestMemory, setup: RxSetup) -> Result<RxStep, RxRefusal>
         requires buffer { setup.buffer ≤ 16_384 }
         requires count { setup.count < 2 ^ 28 }
         ensures ok { IfOk result (λ r. receive setup memory.old.octets (shows self.old)
-            ≡ Ok (record { answer = r.0; memory = memory.new.octets; fifo = shows self.new })) }
-        ensures held { IfOk result (λ r. octets_held r.1 ≡ octets_written setup (shows self.old)) }
-        ensures kind { IfOk result (λ r. IsRecordOf r.0 r.1) }
-        ensures reverses { IfOk result (λ r. ReversesInPages self.old self.new memory.old memory.new r.1) }
+            ≡ Ok (record { answer = answer_of r; memory = memory.new.octets; fifo = shows self.new })) }
+        ensures held { IfOk result (λ r. octets_held (undo_of r) ≡ octets_written setup (shows self.old)) }
+        ensures reverses { IfOk result (λ r.
+            ReversesInPages self.old self.new memory.old memory.new (undo_of r)) }
         ensures refused { IfErr result (Refuses setup memory.old.octets (shows self.old)) }
         ensures same { OnErr result (self.new ≡ self.old) }
         ensures pages { OnErr result (MorePages memory.old memory.new) }
     {
         if self.is_idle(&setup) {
-            return Ok((RxAnswer::Idle, RxUndo::Nothing));
+            return Ok(RxStep::Idle);
         }
         let found = fetch(memory, &setup)?;
         let rest = self.rest();
@@ -141,6 +114,30 @@ impl Fifo {
         memory.touch(found.buffer, count as u64)?;
         memory.touch(found.end_at, WRITTEN_OCTETS as u64)?;
         self.deliver(memory, &mut patch, last);
-        Ok((wrote(&setup, last), RxUndo::Step(patch)))
+        Ok(RxStep::Wrote {
+            index: setup.head,
+            next: setup.ring().next(),
+            causes: causes_of(&setup, last),
+            patch,
+        })
+    }
+
+    /// The same step, with its answer and its record apart.
+    pub fn step(
+        &mut self,
+        memory: &mut GuestMemory,
+        setup: RxSetup,
+    ) -> Result<(RxAnswer, RxUndo), RxRefusal>
+        requires buffer { setup.buffer ≤ 16_384 }
+        requires count { setup.count < 2 ^ 28 }
+        ensures ok { IfOk result (λ r. receive setup memory.old.octets (shows self.old)
+            ≡ Ok (record { answer = r.0; memory = memory.new.octets; fifo = shows self.new })) }
+        ensures held { IfOk result (λ r. octets_held r.1 ≡ octets_written setup (shows self.old)) }
+        ensures reverses { IfOk result (λ r. ReversesInPages self.old self.new memory.old memory.new r.1) }
+        ensures refused { IfErr result (Refuses setup memory.old.octets (shows self.old)) }
+        ensures same { OnErr result (self.new ≡ self.old) }
+        ensures pages { OnErr result (MorePages memory.old memory.new) }
+    {
+        Ok(self.receive(memory, setup)?.into_parts())
     }
 }

@@ -4,6 +4,7 @@ ghost use Rattle.em_mem.specs.Memory.{IsHeld, IsMade, put};
 ghost use Rattle.em_rx.specs.Ring.{ring_part, ring_put, wrap as place_in};
 
 use crate::places::Entry;
+use em_mem::laws::places_are_small;
 use em_mem::{GuestMemory, empty_for, refill};
 use std::alloc::AllocError;
 
@@ -64,8 +65,7 @@ pub(crate) fn write_out(memory: &mut GuestMemory, addr: u64, ring: &[u8], at: us
         memory.write(addr, &high[..len]);
         return;
     }
-    // places in memory stay small
-    let _size = memory.len();
+    places_are_small(memory);
     memory.write(addr, high);
     memory.write(addr + high.len() as u64, &low[..len - high.len()]);
 }

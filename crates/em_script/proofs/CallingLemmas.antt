@@ -120,28 +120,28 @@ good_size : (size : ℕ) → 0x9000 ≤ size → IsGoodLayout size init_layout
 good_size size le =
     let eight : IsCount 8 = record { eights = refl; least = omega arith; most = omega arith } in
     record {
-      rx_count = eight;
-      tx_count = eight;
-      rx_ring = refl;
-      tx_ring = refl;
-      inside = record {
-        rx_ring = omega arith;
-        rx_buffers = omega arith;
-        tx_ring = omega arith;
-        tx_buffers = omega arith;
+      receive = record {
+        count = eight;
+        aligned = refl;
+        inside = record { ring = omega arith; buffers = omega arith };
+        apart = inl (omega arith);
+      };
+      transmit = record {
+        count = eight;
+        aligned = refl;
+        inside = record { ring = omega arith; buffers = omega arith };
+        apart = inl (omega arith);
       };
       disjoint = record {
-        receive = inl (omega arith);
-        transmit = inl (omega arith);
         rings = inl (omega arith);
         buffers = inl (omega arith);
-        rx_ring = inl (omega arith);
-        tx_ring = inl (omega arith);
+        first_ring = inl (omega arith);
+        second_ring = inl (omega arith);
       };
     }
 
 good_layout : (size : ℕ) → IsGoodLayout size init_layout → 0x9000 ≤ size
-good_layout size good = omega (arith, good.inside.tx_buffers)
+good_layout size good = omega (arith, good.transmit.inside.buffers)
 
 -- a start on a memory that is large enough
 on_good : (w v : World) (events : ℕ) (answer : Option Cause) → 0x9000 ≤ length w.machine.present.memory

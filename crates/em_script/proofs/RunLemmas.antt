@@ -1,6 +1,6 @@
 -- Playing one line after another.
 use Rattle.std.proofs.Common.{◌≡◌, ℕ, ◌+◌, List, [], ◌∷◌, ◌++◌, length, take, count_by, cond, Option, Bool}
-use Rattle.std.proofs.Common.{refl, sym, ap, ◌∙◌, subst, arith, append_assoc, append-nil, length-append, add-zero}
+use Rattle.std.proofs.Common.{refl, sym, ap, ◌∙◌, subst, arith, IsTrue, append_assoc, append-nil, length-append, add-zero}
 use Rattle.std.specs.Io.KnownBytes.{Appends}
 use Rattle.std.proofs.lemmas.List.{map-append}
 use Rattle.std.proofs.lemmas.List.Sums.{sum_by_push}
@@ -10,11 +10,13 @@ use Rattle.em_text.proofs.WritingLemmas.{Appends-more}
 use Rattle.em_output.specs.declared.outcome.Outcome.{Outcome}
 use Rattle.em_output.specs.declared.outcome.Outcome.TheVariants.{Silent, Bad, Done, Refused}
 use Rattle.em_script.specs.declared.summary.Summary.{Summary}
+use Rattle.em_line.specs.Grammar.{parsed_line}
+use Rattle.em_line.specs.ParsedLine.{brings_octets}
 use Rattle.em_script.specs.Session.{Session}
 use Rattle.em_script.specs.PlayedLine.{PlayedLine, played_text, played_outcome, after_played, IsAllowed, AreAllowed}
 use Rattle.em_script.specs.PlayedLine.{text_from, after_all, outcomes, ArePlayed}
 use Rattle.em_script.specs.Summary.{counts, after_outcome, is_counted, is_bad, is_refused}
-use Rattle.em_script.specs.Runner.{FailsInLine}
+use Rattle.em_script.specs.Runner.{FailsInLine, StopsBeforeLine}
 
 -- the lines before `rest` were played: their text is written, their session is left, and they are counted
 pub record Ran (lines rest : List (List ℕ)) (first now : Session) (old new : Option (List ℕ)) (number : ℕ)
@@ -150,3 +152,20 @@ Ran-fails {behind = behind} {first = first} {now = now} {old = old} {mid = mid} 
       written = Appends-more old mid new (text_from 1 before first) (take cut.octets own) _ ran.written cut.written
           refl;
     }
+
+-- a line's octets found no memory
+pub Ran-stops : {rest behind : List (List ℕ)} {first now after : Session} {old mid new : Option (List ℕ)} {number : ℕ}
+    {summary : Summary} (script line : List ℕ) → Ran (lines_of script) rest first now old mid number summary
+    → rest ≡ line ∷ behind → IsTrue (brings_octets (parsed_line line)) → after ≡ now → new ≡ mid
+    → StopsBeforeLine script first after old new
+Ran-stops {behind = behind} {first = first} {old = old} script line ran er octets same unwritten = record {
+  before = ran.before;
+  line = line;
+  done = ran.done;
+  behind = behind;
+  lines = ran.cut ∙ ap (λ l. ran.done ++ l) er;
+  octets = octets;
+  played = ran.played;
+  session = same ∙ ran.session;
+  written = subst (λ text. Appends old text (text_from 1 ran.before first)) (sym unwritten) ran.written;
+}

@@ -20,7 +20,7 @@ use Rattle.em_output.specs.declared.outcome.Outcome.TheVariants as outcome
 use Rattle.em_script.specs.Session.{Session}
 use Rattle.em_line.specs.Command as command
 use Rattle.em_line.specs.Command.{Command, event}
-use Rattle.em_line.specs.ParsedLine.{ParsedLine, silent, bad, says, asks, plans}
+use Rattle.em_line.specs.ParsedLine.{ParsedLine, brings_octets, silent, bad, says, asks, plans}
 use Rattle.em_script.specs.RefusedAt.{RefusedAt, before, within, named_of}
 use Rattle.em_script.specs.Calling.{asked_text, asked_outcome, after_asked, asked_calls, MayBeRefusedAt}
 use Rattle.em_turn.specs.declared.turn.Turn.{Turn}
@@ -209,3 +209,9 @@ pub record Performs (number : ℕ) (parsed : ParsedLine) (first now : Session) (
   pub allowed : IsAllowed memory parsed first
   pub prints : Prints (line_text number memory parsed first) (line_outcome memory parsed first) old new result
   pub session : now ≡ after_line memory parsed first
+
+-- the line was played; or memory was refused for the octets that it brings, and nothing was done and nothing written
+abbrev pub Plays : {E : Type 0} → ℕ → ParsedLine → Session → Session → Option (List ℕ) → Option (List ℕ)
+    → Result (Result Outcome WriteFailed) E → Type 0
+Plays number parsed first now old new (Ok replied) = Performs number parsed first now old new replied
+Plays number parsed first now old new (Err refused) = IsTrue (brings_octets parsed) × (now ≡ first) × (new ≡ old)

@@ -4,7 +4,6 @@ ghost use Rattle.em_line.specs.Grammar.{parsed_line};
 ghost use Rattle.em_line.specs.ParsedLine.{brings_octets};
 ghost use Rattle.em_script.specs.Reply.{Performs};
 
-use crate::play::play_line;
 use crate::runner::BenchFault;
 use crate::session::Session;
 use em_line::MOST_PEEK;
@@ -17,9 +16,11 @@ use std::io::Write;
 /// made once.
 #[derive(Drop)]
 pub struct Player {
-    alloc: Global,
-    data_buffer: Vec<u8>,
-    peek_buffer: [u8; MOST_PEEK],
+    pub(crate) alloc: Global,
+    // the octets that a line brings
+    pub(crate) data_buffer: Vec<u8>,
+    // those of guest memory that a line shows
+    pub(crate) peek_buffer: [u8; MOST_PEEK],
 }
 
 impl Player {
@@ -37,6 +38,7 @@ impl Player {
     ///
     /// It fails as `Write` where the writer fails, and what the line did stands; and as `Memory` where
     /// memory is refused for the octets of the line: then nothing was done and nothing written.
+    #[inline(always)]
     pub fn play<W: Write>(
         &mut self,
         writer: &mut W,
@@ -54,15 +56,7 @@ impl Player {
             × (session.new ≡ session.old) × (W.contents writer.new ≡ W.contents writer.old) }
         ensures only { IfErr result (λ fault. (fault ≡ BenchFault.Write) ⊎ (fault ≡ BenchFault.Memory)) }
     {
-        let Ok(played) = play_line(
-            self.alloc,
-            writer,
-            session,
-            number,
-            line,
-            &mut self.data_buffer,
-            &mut self.peek_buffer,
-        ) else {
+        let Ok(played) = self.play_line(writer, session, number, line) else {
             return Err(BenchFault::Memory);
         };
         match played {

@@ -5,11 +5,10 @@ ghost use Rattle.em_text.specs.Reader.{most_script};
 ghost use Rattle.em_script.specs.Runner.{text, TakesNoMemory, SaysMemory, Answers, ReadsWhole, FailsInLine};
 ghost use Rattle.em_script.specs.Runner.{code_of, name_of, StopsBeforeLine, StopsInScript};
 
-use crate::play::play_line;
+use crate::player::Player;
 use crate::session::Session;
 use crate::summary::{Summary, count};
-use em_line::MOST_PEEK;
-use em_text::{ReadFault, WriteFailed, next_line, read_script};
+use em_text::{ReadFault, next_line, read_script};
 use std::alloc::Global;
 use std::io::{Read, Write};
 use thiserror::Error;
@@ -97,28 +96,16 @@ pub fn run<R: Read, W: Write>(
         Err(ReadFault::TooLarge) => return Err(BenchFault::TooLarge),
         Err(ReadFault::Memory) => return Err(BenchFault::Memory),
     };
-    let mut data_buffer = Vec::new(alloc);
-    let mut peek_buffer = [0u8; MOST_PEEK];
-    run_lines(
-        alloc,
-        writer,
-        session,
-        script.as_slice(),
-        &mut data_buffer,
-        &mut peek_buffer,
-    )
+    let mut player = Player::new(alloc);
+    run_lines(&mut player, writer, session, script.as_slice())
 }
 
 /// Plays each line of a script.
-///
-/// `data_buffer` and `peek_buffer` hold what one line says and shows, so that each is made once.
 fn run_lines<W: Write>(
-    alloc: Global,
+    player: &mut Player,
     writer: &mut W,
     session: &mut Session,
     script: &[u8],
-    data_buffer: &mut Vec<u8>,
-    peek_buffer: &mut [u8; MOST_PEEK],
 ) -> Result<Summary, BenchFault>
     requires { length script.now ≤ most_script }
     ensures text { OnOk result (TakesNoMemory script.now
@@ -140,21 +127,7 @@ fn run_lines<W: Write>(
     let mut number = 1;
     while !rest.is_empty() {
         let (line, behind) = next_line(rest);
-        let Ok(played) = play_line(
-            alloc,
-            writer,
-            session,
-            number,
-            line,
-            data_buffer,
-            peek_buffer,
-        ) else {
-            return Err(BenchFault::Memory);
-        };
-        let outcome = match played {
-            Ok(outcome) => outcome,
-            Err(WriteFailed) => return Err(BenchFault::Write),
-        };
+        let outcome = player.play(writer, session, number, line)?;
         count(&mut summary, outcome);
         rest = behind;
         number += 1;

@@ -1,8 +1,8 @@
 -- What a record tells is what it puts back.
-use Rattle.std.proofs.Common.{◌≡◌, ◌∙◌, ◌+◌, ℕ, Bool, true, false, List, length, refl, sym, ap, arith, subst}
-use Rattle.std.specs.Prelude.{if◌then◌else◌, unwrap_or, Option, None}
+use Rattle.std.proofs.Common.{◌≡◌, ◌∙◌, ◌+◌, ℕ, List, length, refl, sym, arith, subst}
+use Rattle.std.specs.Prelude.{if◌then◌else◌, unwrap_or, Option}
 use Rattle.em_mem.specs.Memory as memory
-use Rattle.em_mem.specs.Extent.{SameUpTo, least, next_octet as next_of_patch}
+use Rattle.em_mem.specs.Extent.{SameUpTo, next_octet as next_of_patch}
 use Rattle.em_mem.specs.Window.{IsWindow, lay_over}
 use Rattle.em_mem.proofs.ExtentLaws.{all_same, same_in_turn, same_up_to}
 use Rattle.em_mem.proofs.WindowLaws.{window-undone}

@@ -11,14 +11,14 @@ use Rattle.em_regs.specs.RegFile.{put}
 use Rattle.em_regs.specs.Setup.{rx_setup, tx_setup}
 use Rattle.em_latch.specs.Latches.{after_raise}
 use Rattle.em_rx.specs.Receive.{Outcome, receive}
-use Rattle.em_rx.specs.declared.receive.RxAnswer.{RxAnswer}
-use Rattle.em_rx.specs.declared.receive.RxAnswer.TheVariants as rx_answer
+use Rattle.em_rx.specs.declared.step.RxAnswer.{RxAnswer}
+use Rattle.em_rx.specs.declared.step.RxAnswer.TheVariants as rx_answer
 use Rattle.em_tx.specs.Cells.{Shown}
 use Rattle.em_tx.specs.Engine.{gather, handle, refusal, sends, transmit, unless}
 use Rattle.em_tx.specs.Engine as tx
 use Rattle.em_tx.specs.Frame.{frame}
 use Rattle.em_tx.specs.Ring.{is_idle, place}
-use Rattle.em_tx.specs.Undo.{IsHandled}
+use Rattle.em_tx.specs.Engine.{IsHandled}
 use Rattle.em_tx.specs.declared.answer.TxAnswer.{TxAnswer}
 use Rattle.em_tx.specs.declared.answer.TxAnswer.TheVariants as tx_answer
 use Rattle.em_tx.specs.declared.refusal.TxRefusal.{TxRefusal}

@@ -2,6 +2,7 @@ pub mod Registers
 pub mod ResetLaws
 pub mod MadePages
 pub mod ReversalLaws
+mod ResultLaws
 pub mod ArrivalLaws
 pub mod CostLaws
 pub mod EngineLaws

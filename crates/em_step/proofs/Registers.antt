@@ -1,6 +1,6 @@
 -- What an access of a register does, by the kind of its row.
 use Rattle.std.proofs.Common.{◌∙◌, ◌≡◌, ◌≢◌, ◌⊎◌, ℕ, false, IsTrue, refl, sym, ap, subst, inl}
-use Rattle.std.specs.Prelude.{if◌then◌else◌, Option, Result, Ok, Err, IfErr, OnOk}
+use Rattle.std.specs.Prelude.{if◌then◌else◌, Option, Ok, Err}
 use Rattle.em_regs.specs.declared.reg.Reg.{Reg}
 use Rattle.em_regs.specs.declared.reg.Reg.TheVariants as named
 use Rattle.em_regs.specs.declared.table.Kind.{Kind}
@@ -161,12 +161,3 @@ pub latched_costs : (s : State) (reg : Reg) (v : ℕ) → IsReg reg → IsTrue (
 latched_costs s reg v is latched =
     write_costs s reg v is
     ∙ ap (λ b. if b then most_cost else least_cost) (no_reset_by (row_of reg).kind v latched)
-
--- ---- what follows for a result
-pub on_ok : {A E : Type 0} (r : Result A E) {P Q : Type 0} → (P → Q) → OnOk r P → OnOk r Q
-on_ok (Ok x) f p = f p
-on_ok (Err e) f p = tt
-
-pub if_err : {A E : Type 0} (r : Result A E) {P Q : E → Type 0} → ((e : E) → P e → Q e) → IfErr r P → IfErr r Q
-if_err (Ok x) f p = tt
-if_err (Err e) f p = f e p

@@ -28,7 +28,7 @@ use Rattle.em_rx.specs.Fifo.{Fifo, after_arrival, after_delivery, next}
 use Rattle.em_rx.specs.Frame.{Frame, stored_frame}
 use Rattle.em_rx.specs.Receive.{Outcome, buffer_at, causes_of, count_of, delivery, descriptor_at, following}
 use Rattle.em_rx.specs.Receive.{is_idle, is_last}
-use Rattle.em_rx.specs.declared.receive.RxAnswer.TheVariants as rx_answer
+use Rattle.em_rx.specs.declared.step.RxAnswer.TheVariants as rx_answer
 use Rattle.em_rx.specs.declared.refusal.RxRefusal.TheVariants as rx_refusal
 use Rattle.em_tx.specs.Cells.{Shown}
 use Rattle.em_tx.specs.Descriptor.{address, command, length_of, eop, rs}

@@ -1,5 +1,5 @@
 -- What a record tells of the state before the event, without being put back.
-use Rattle.std.specs.Prelude.{◌≡◌, ℕ, ◌+◌, Bool, true, false, if◌then◌else◌, List, length, unwrap_or, Option, None}
+use Rattle.std.specs.Prelude.{◌≡◌, ℕ, ◌+◌, Bool, false, if◌then◌else◌, List, length, unwrap_or, Option, None}
 use Rattle.em_mem.specs.Extent as extent
 use Rattle.em_mem.specs.Extent.{SameUpTo, least}
 use Rattle.em_mem.specs.Window.{IsWindow, lay_over}
@@ -19,7 +19,7 @@ use Rattle.em_step.specs.State.{State}
 use Rattle.em_step.specs.Undo.{Fits, undo, word}
 use Rattle.em_step.specs.declared.undo.Undo.{Undo}
 use Rattle.em_step.specs.declared.undo.Effect.{Effect}
-use Rattle.em_step.specs.declared.undo.Effect.TheVariants.{Nothing, Register, Octets, FewOctets, Arrival}
+use Rattle.em_step.specs.declared.undo.Effect.TheVariants.{Register, Octets, FewOctets, Arrival}
 use Rattle.em_step.specs.declared.undo.Effect.TheVariants.{RxStep, TxStep, Link, Reset}
 
 -- ---- what an answer about a record means: in any cells that the record fits

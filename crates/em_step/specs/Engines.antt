@@ -5,8 +5,8 @@ use Rattle.em_regs.specs.RegFile.{put}
 use Rattle.em_regs.specs.Setup.{rx_setup, tx_setup}
 use Rattle.em_latch.specs.Latches.{after_raise}
 use Rattle.em_rx.specs.Receive as rx
-use Rattle.em_rx.specs.declared.receive.RxAnswer.{RxAnswer}
-use Rattle.em_rx.specs.declared.receive.RxAnswer.TheVariants as rx_answer
+use Rattle.em_rx.specs.declared.step.RxAnswer.{RxAnswer}
+use Rattle.em_rx.specs.declared.step.RxAnswer.TheVariants as rx_answer
 use Rattle.em_rx.specs.declared.refusal.RxRefusal.{RxRefusal}
 use Rattle.em_rx.specs.declared.refusal.RxRefusal.TheVariants as rx_refusal
 use Rattle.em_tx.specs.Cells.{Shown}

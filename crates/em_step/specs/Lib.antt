@@ -9,5 +9,6 @@ pub mod Engines
 pub mod Step
 pub mod Whole
 pub mod Undo
+pub mod Performed
 pub mod Cost
 pub mod Before

@@ -15,9 +15,9 @@ ghost use Rattle.em_step.specs.Access.{gives, after_write_by, after_eerd_write};
 ghost use Rattle.em_step.specs.Access.{is_reset_by, reset};
 ghost use Rattle.em_step.specs.Cells.{fresh, shows, MorePages};
 ghost use Rattle.em_step.specs.Event.{links, plain, pokes, reads, writes};
-ghost use Rattle.em_step.specs.Step.{step, Refuses};
+ghost use Rattle.em_step.specs.Performed.{WasPerformed, WasRefused};
 ghost use Rattle.em_step.specs.Undo.{Fits, EffectFits, Reverses, undo, undo_effect};
-ghost use Rattle.em_step.specs.Cost.{cost, cost_of, least_cost, most_cost};
+ghost use Rattle.em_step.specs.Cost.{cost_of, least_cost, most_cost};
 
 use crate::event::{Answer, Event};
 use crate::refusal::Refusal;
@@ -206,11 +206,8 @@ impl Adapter {
     /// Performs one event, and gives what takes it back. A refused event changes nothing that is
     /// shown.
     pub fn apply(&mut self, event: Event<'_>) -> Result<(Answer, Undo), Refusal>
-        ensures ok { IfOk result (λ r. step (shows self.old) (plain event.entry) ≡ Ok (r.0, shows self.new)) }
-        ensures cost { IfOk result (λ r. cost_of r.1 ≡ cost (shows self.old) (plain event.entry)) }
-        ensures reverses { IfOk result (λ r. Reverses self.old self.new r.1) }
-        ensures err { IfErr result (Refuses (shows self.old) (plain event.entry)) }
-        ensures same { OnErr result (MorePages self.old self.new) }
+        ensures ok { IfOk result (λ r. WasPerformed self.old (plain event.entry) self.new r.0 r.1) }
+        ensures err { IfErr result (WasRefused self.old (plain event.entry) self.new) }
     {
         match event {
             Event::Read(offset) => {
@@ -239,9 +236,7 @@ impl Adapter {
     #[inline(always)]
     pub fn read_register(&mut self, reg: Reg) -> (u32, Undo)
         requires { IsReg reg }
-        ensures ok { step (shows self.old) (reads (offset_of reg)) ≡ Ok (Answer.Value result.0, shows self.new) }
-        ensures cost { cost_of result.1 ≡ cost (shows self.old) (reads (offset_of reg)) }
-        ensures reverses { Reverses self.old self.new result.1 }
+        ensures { WasPerformed self.old (reads (offset_of reg)) self.new (Answer.Value result.0) result.1 }
     {
         match reg.row().kind {
             Kind::Stored | Kind::Control | Kind::EepromRead => self.read_stored(reg),
@@ -255,11 +250,8 @@ impl Adapter {
     #[inline(always)]
     pub fn write_register(&mut self, reg: Reg, value: u32) -> Result<Undo, Refusal>
         requires { IsReg reg }
-        ensures ok { OnOk result (step (shows self.old) (writes (offset_of reg) value)
-            ≡ Ok (Answer.Done, shows self.new)) }
-        ensures cost { IfOk result (λ undo. cost_of undo ≡ cost (shows self.old) (writes (offset_of reg) value)) }
-        ensures reverses { IfOk result (λ undo. Reverses self.old self.new undo) }
-        ensures err { IfErr result (Refuses (shows self.old) (writes (offset_of reg) value)) }
+        ensures ok { IfOk result (WasPerformed self.old (writes (offset_of reg) value) self.new Answer.Done) }
+        ensures err { IfErr result (WasRefused self.old (writes (offset_of reg) value) self.new) }
         ensures same { OnErr result (self.new ≡ self.old) }
     {
         match reg.row().kind {
@@ -275,9 +267,7 @@ impl Adapter {
     #[inline(always)]
     pub fn read_stored(&mut self, reg: Reg) -> (u32, Undo)
         requires { IsStored reg }
-        ensures ok { step (shows self.old) (reads (offset_of reg)) ≡ Ok (Answer.Value result.0, shows self.new) }
-        ensures cost { cost_of result.1 ≡ cost (shows self.old) (reads (offset_of reg)) }
-        ensures reverses { Reverses self.old self.new result.1 }
+        ensures { WasPerformed self.old (reads (offset_of reg)) self.new (Answer.Value result.0) result.1 }
     {
         (self.registers.look(reg), Undo::of_effect(Effect::Nothing))
     }
@@ -286,9 +276,7 @@ impl Adapter {
     #[inline(always)]
     pub fn write_stored(&mut self, reg: Reg, value: u32) -> Undo
         requires { OnlyStores reg }
-        ensures ok { step (shows self.old) (writes (offset_of reg) value) ≡ Ok (Answer.Done, shows self.new) }
-        ensures cost { cost_of result ≡ cost (shows self.old) (writes (offset_of reg) value) }
-        ensures reverses { Reverses self.old self.new result }
+        ensures { WasPerformed self.old (writes (offset_of reg) value) self.new Answer.Done result }
     {
         Undo::of_effect(Effect::Register(self.registers.put(reg, value)))
     }
@@ -298,9 +286,7 @@ impl Adapter {
     pub fn read_latched(&mut self, reg: Reg) -> (u32, Undo)
         requires reg { IsReg reg }
         requires latched { IsLatched reg }
-        ensures ok { step (shows self.old) (reads (offset_of reg)) ≡ Ok (Answer.Value result.0, shows self.new) }
-        ensures cost { cost_of result.1 ≡ cost (shows self.old) (reads (offset_of reg)) }
-        ensures reverses { Reverses self.old self.new result.1 }
+        ensures { WasPerformed self.old (reads (offset_of reg)) self.new (Answer.Value result.0) result.1 }
     {
         let (value, words) = self.latches.read(reg);
         (value, Undo::of_latches(words))
@@ -311,9 +297,7 @@ impl Adapter {
     pub fn write_latched(&mut self, reg: Reg, value: u32) -> Undo
         requires reg { IsReg reg }
         requires latched { IsLatched reg }
-        ensures ok { step (shows self.old) (writes (offset_of reg) value) ≡ Ok (Answer.Done, shows self.new) }
-        ensures cost { cost_of result ≡ cost (shows self.old) (writes (offset_of reg) value) }
-        ensures reverses { Reverses self.old self.new result }
+        ensures { WasPerformed self.old (writes (offset_of reg) value) self.new Answer.Done result }
     {
         Undo::of_latches(self.latches.write(reg, value))
     }
@@ -521,10 +505,8 @@ impl Adapter {
     /// The link goes up or down; a change raises LSC. It is never refused.
     #[inline(always)]
     pub fn set_link(&mut self, up: bool) -> Result<(Answer, Undo), Refusal>
-        ensures ok { IfOk result (λ r. step (shows self.old) (links up) ≡ Ok (r.0, shows self.new)) }
-        ensures cost { IfOk result (λ r. cost_of r.1 ≡ cost (shows self.old) (links up)) }
-        ensures reverses { IfOk result (λ r. Reverses self.old self.new r.1) }
-        ensures err { IfErr result (Refuses (shows self.old) (links up)) }
+        ensures ok { IfOk result (λ r. WasPerformed self.old (links up) self.new r.0 r.1) }
+        ensures err { IfErr result (WasRefused self.old (links up) self.new) }
         ensures same { OnErr result (self.new ≡ self.old) }
     {
         if up == self.link {

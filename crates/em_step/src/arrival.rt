@@ -5,9 +5,9 @@ ghost use Rattle.em_step.specs.Arrival.{after_accept, after_miss, after_one_more
 ghost use Rattle.em_step.specs.Arrival.{is_enabled, kept_frame, lacks_buffer, lacks_room, octets_stored};
 ghost use Rattle.em_step.specs.Arrival.{takes_broadcasts};
 ghost use Rattle.em_step.specs.Cells.{shows};
-ghost use Rattle.em_step.specs.Cost.{cost, cost_of, least_cost};
+ghost use Rattle.em_step.specs.Cost.{cost_of, least_cost};
 ghost use Rattle.em_step.specs.Event.{arrives};
-ghost use Rattle.em_step.specs.Step.{step, Refuses};
+ghost use Rattle.em_step.specs.Performed.{BecameOf, LacksMemory, WasPerformed, WasRefused};
 ghost use Rattle.em_step.specs.Undo.{EffectFits, Reverses, undo_effect};
 
 use crate::adapter::Adapter;
@@ -34,10 +34,8 @@ impl Adapter {
     /// A frame arrives. It is refused for its length alone, and for memory where it would be stored.
     #[inline(always)]
     pub fn arrive(&mut self, frame: &[u8]) -> Result<(Answer, Undo), Refusal>
-        ensures ok { IfOk result (λ r. step (shows self.old) (arrives frame.now) ≡ Ok (r.0, shows self.new)) }
-        ensures cost { IfOk result (λ r. cost_of r.1 ≡ cost (shows self.old) (arrives frame.now)) }
-        ensures reverses { IfOk result (λ r. Reverses self.old self.new r.1) }
-        ensures err { IfErr result (Refuses (shows self.old) (arrives frame.now)) }
+        ensures ok { IfOk result (λ r. WasPerformed self.old (arrives frame.now) self.new r.0 r.1) }
+        ensures err { IfErr result (WasRefused self.old (arrives frame.now) self.new) }
         ensures same { OnErr result (self.new ≡ self.old) }
     {
         if frame.len() < LEAST_FRAME || frame.len() > MOST_FRAME {
@@ -50,11 +48,9 @@ impl Adapter {
     fn dispose(&mut self, frame: &[u8]) -> Result<(Answer, Undo), Refusal>
         requires least { 14 ≤ length frame.now }
         requires most { length frame.now ≤ 20_000 }
-        ensures ok { IfOk result (λ r. arrival (shows self.old) frame.now ≡ (r.0, shows self.new)) }
-        ensures cost { IfOk result (λ r. cost_of r.1 ≡ least_cost + octets_stored (shows self.old) frame.now r.0) }
-        ensures reverses { IfOk result (λ r. Reverses self.old self.new r.1) }
-        ensures err { IfErr result (λ e. (e ≡ Refusal.Memory)
-            × ((arrival (shows self.old) frame.now).0 ≡ Answer.Stored)) }
+        ensures ok { IfOk result (λ r.
+            BecameOf self.old frame.now (arrival (shows self.old) frame.now) self.new r.0 r.1) }
+        ensures err { IfErr result (LacksMemory (arrival (shows self.old) frame.now)) }
         ensures same { OnErr result (self.new ≡ self.old) }
     {
         if !self.link {
@@ -70,11 +66,9 @@ impl Adapter {
     fn judge(&mut self, frame: &[u8]) -> Result<(Answer, Undo), Refusal>
         requires least { 14 ≤ length frame.now }
         requires most { length frame.now ≤ 20_000 }
-        ensures ok { IfOk result (λ r. judged (shows self.old) frame.now ≡ (r.0, shows self.new)) }
-        ensures cost { IfOk result (λ r. cost_of r.1 ≡ least_cost + octets_stored (shows self.old) frame.now r.0) }
-        ensures reverses { IfOk result (λ r. Reverses self.old self.new r.1) }
-        ensures err { IfErr result (λ e. (e ≡ Refusal.Memory)
-            × ((judged (shows self.old) frame.now).0 ≡ Answer.Stored)) }
+        ensures ok { IfOk result (λ r.
+            BecameOf self.old frame.now (judged (shows self.old) frame.now) self.new r.0 r.1) }
+        ensures err { IfErr result (LacksMemory (judged (shows self.old) frame.now)) }
         ensures same { OnErr result (self.new ≡ self.old) }
     {
         match verdict(&self.registers, frame) {
@@ -92,11 +86,9 @@ impl Adapter {
     fn admit(&mut self, frame: &[u8], kind: Kind) -> Result<(Answer, Undo), Refusal>
         requires least { 60 ≤ length frame.now }
         requires most { length frame.now ≤ 16_380 }
-        ensures ok { IfOk result (λ r. admission (shows self.old) frame.now kind ≡ (r.0, shows self.new)) }
-        ensures cost { IfOk result (λ r. cost_of r.1 ≡ least_cost + octets_stored (shows self.old) frame.now r.0) }
-        ensures reverses { IfOk result (λ r. Reverses self.old self.new r.1) }
-        ensures err { IfErr result (λ e. (e ≡ Refusal.Memory)
-            × ((admission (shows self.old) frame.now kind).0 ≡ Answer.Stored)) }
+        ensures ok { IfOk result (λ r.
+            BecameOf self.old frame.now (admission (shows self.old) frame.now kind) self.new r.0 r.1) }
+        ensures err { IfErr result (LacksMemory (admission (shows self.old) frame.now kind)) }
         ensures same { OnErr result (self.new ≡ self.old) }
     {
         if self.has_room(frame) {
@@ -164,10 +156,9 @@ impl Adapter {
         requires least { 60 ≤ length frame.now }
         requires most { length frame.now ≤ 16_380 }
         requires room { lacks_room (shows self.old) frame.now ≡ false }
-        ensures answer { IfOk result (λ r. r.0 ≡ Answer.Stored) }
-        ensures state { OnOk result (shows self.new ≡ after_accept (shows self.old) frame.now kind) }
-        ensures cost { IfOk result (λ r. cost_of r.1 ≡ least_cost + len_of (kept_frame (shows self.old) frame.now)) }
-        ensures reverses { IfOk result (λ r. Reverses self.old self.new r.1) }
+        ensures ok { IfOk result (λ r.
+            BecameOf self.old frame.now (Answer.Stored, after_accept (shows self.old) frame.now kind)
+            self.new r.0 r.1) }
         ensures err { IfErr result (λ e. e ≡ Refusal.Memory) }
         ensures same { OnErr result (self.new ≡ self.old) }
     {

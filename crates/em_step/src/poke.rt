@@ -3,9 +3,9 @@ ghost use Rattle.std.specs.Prelude.{◌≡◌, ◌+◌, ◌<◌, ◌≤◌, [], 
 ghost use Rattle.em_mem.specs.Memory.{IsHeld, put};
 ghost use Rattle.em_step.specs.Cells.{shows, MorePages};
 ghost use Rattle.em_step.specs.Event.{pokes};
-ghost use Rattle.em_step.specs.Step.{step, Refuses};
+ghost use Rattle.em_step.specs.Performed.{WasPerformed, WasRefused};
 ghost use Rattle.em_step.specs.Undo.{EffectFits, Reverses, undo_effect};
-ghost use Rattle.em_step.specs.Cost.{cost, cost_of, cost_of_effect, least_cost};
+ghost use Rattle.em_step.specs.Cost.{cost_of_effect, least_cost};
 
 use crate::adapter::Adapter;
 use crate::event::Answer;
@@ -21,11 +21,8 @@ impl Adapter {
     /// Writes octets of guest memory. All that can be refused comes before the first change.
     #[inline(always)]
     pub fn poke(&mut self, addr: u64, octets: &[u8]) -> Result<(Answer, Undo), Refusal>
-        ensures ok { IfOk result (λ r. step (shows self.old) (pokes addr octets.now) ≡ Ok (r.0, shows self.new)) }
-        ensures cost { IfOk result (λ r. cost_of r.1 ≡ cost (shows self.old) (pokes addr octets.now)) }
-        ensures reverses { IfOk result (λ r. Reverses self.old self.new r.1) }
-        ensures err { IfErr result (Refuses (shows self.old) (pokes addr octets.now)) }
-        ensures same { OnErr result (MorePages self.old self.new) }
+        ensures ok { IfOk result (λ r. WasPerformed self.old (pokes addr octets.now) self.new r.0 r.1) }
+        ensures err { IfErr result (WasRefused self.old (pokes addr octets.now) self.new) }
     {
         if !self.memory.holds(addr, octets.len() as u64) {
             return Err(Refusal::Range);

@@ -32,8 +32,8 @@ use Rattle.em_filter.specs.declared.outcome.Verdict.TheVariants as outcome
 use Rattle.em_rx.specs.Fifo.{after_arrival, octets_in}
 use Rattle.em_rx.specs.Frame.{Frame, len_of, stored_frame}
 use Rattle.em_rx.specs.Receive as rx
-use Rattle.em_rx.specs.declared.receive.RxAnswer.{RxAnswer}
-use Rattle.em_rx.specs.declared.receive.RxAnswer.TheVariants as rx_answer
+use Rattle.em_rx.specs.declared.step.RxAnswer.{RxAnswer}
+use Rattle.em_rx.specs.declared.step.RxAnswer.TheVariants as rx_answer
 use Rattle.em_rx.specs.declared.refusal.RxRefusal.{RxRefusal}
 use Rattle.em_tx.specs.Cells.{Shown}
 use Rattle.em_tx.specs.Engine as tx

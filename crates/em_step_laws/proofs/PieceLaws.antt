@@ -11,8 +11,8 @@ use Rattle.em_rx.specs.Fifo.{Fifo}
 use Rattle.em_rx.specs.Receive.{Outcome, delivery, descriptor_at, buffer_at, count_of, following, is_idle, receive}
 use Rattle.em_rx.specs.Pieces as rx
 use Rattle.em_rx.specs.Pieces.{Engine, GoesInPieces, IsDelivered, after_step, after_steps, and_then}
-use Rattle.em_rx.specs.declared.receive.RxAnswer.{RxAnswer}
-use Rattle.em_rx.specs.declared.receive.RxAnswer.TheVariants.{Idle, Wrote}
+use Rattle.em_rx.specs.declared.step.RxAnswer.{RxAnswer}
+use Rattle.em_rx.specs.declared.step.RxAnswer.TheVariants.{Idle, Wrote}
 use Rattle.em_rx.specs.declared.refusal.RxRefusal.{RxRefusal}
 use Rattle.em_rx.specs.declared.refusal.RxRefusal.TheVariants.{DmaRange}
 use Rattle.em_rx.proofs.PieceLaws as rx_laws

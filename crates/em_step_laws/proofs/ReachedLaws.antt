@@ -21,8 +21,8 @@ use Rattle.em_filter.specs.declared.outcome.Verdict.{Verdict}
 use Rattle.em_filter.specs.declared.outcome.Verdict.TheVariants.{Reject, Undersize, Oversize, Accept}
 use Rattle.em_filter.specs.Filters.{verdict}
 use Rattle.em_rx.specs.Receive.{Outcome}
-use Rattle.em_rx.specs.declared.receive.RxAnswer.{RxAnswer}
-use Rattle.em_rx.specs.declared.receive.RxAnswer.TheVariants as rx_answer
+use Rattle.em_rx.specs.declared.step.RxAnswer.{RxAnswer}
+use Rattle.em_rx.specs.declared.step.RxAnswer.TheVariants as rx_answer
 use Rattle.em_rx.specs.declared.refusal.RxRefusal.{RxRefusal}
 use Rattle.em_tx.specs.Cells.{Shown}
 use Rattle.em_tx.specs.declared.answer.TxAnswer.{TxAnswer}

@@ -8,8 +8,9 @@ use Rattle.em_regs.specs.declared.setup.TxSetup.{TxSetup}
 use Rattle.em_tx.specs.Cells.{Cells, cells, with_room}
 use Rattle.em_tx.specs.Frame.{tag_of, frame, without_tag}
 use Rattle.em_tx.specs.Change.{sent_with}
-use Rattle.em_tx.specs.Undo.{ChangeReverses, FrameFits, SentFits, StatusReverses, front_of, gathered_before}
+use Rattle.em_tx.specs.Undo.{FrameFits, Reverses, SentFits, StatusReverses, front_of, gathered_before}
 use Rattle.em_tx.specs.Undo.{last_of, status_undo, wire_before}
+use Rattle.em_tx.specs.declared.undo.TxUndo.TheVariants.{Step}
 use Rattle.em_tx.proofs.FrameLaws.{parts, cut_frame}
 
 -- the frame that went last to the wire is the last one
@@ -50,8 +51,8 @@ pub Reverses-send : (q : TxSetup) (d : List ℕ) {old o : List ℕ} (new g : Lis
     (m n : mem.Cells) (cost : ℕ) {count : ℕ} {tagged : Bool} {status : Option mem.Patch}
     → o ≡ old ++ new → v ≡ w ++ frame q d o ∷ [] → tagged ≡ is_some (tag_of q.vlan d (length o))
     → count ≡ length old → StatusReverses m n status
-    → ChangeReverses (cells (with_room old) w m) (cells (with_room g) v n)
-    (record { count = count; cost = cost; status = status; sent = sent_with tagged })
+    → Reverses (cells (with_room old) w m) (cells (with_room g) v n)
+    (Step (record { count = count; cost = cost; status = status; sent = sent_with tagged }))
 Reverses-send q d {old = old} {o = o} new g {w = w} {v = v} m n cost {count = k} {tagged = tagged} {status = status}
     is_o is_v tag count back =
     let beside : Bool → ℕ = λ b. cond b 16 0 in

@@ -117,3 +117,8 @@ cost q s = if is_idle q then 0 else handling_cost q (part s.memory (place q) 16)
 abbrev pub octets_sent : TxAnswer → ℕ
 octets_sent (Sent index next causes octets kind) = octets
 octets_sent answer = 0
+
+-- a descriptor was handled
+abbrev pub IsHandled : TxAnswer → Type 0
+IsHandled Idle = ⊥
+IsHandled answer = Unit {0}

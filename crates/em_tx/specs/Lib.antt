@@ -5,6 +5,7 @@ pub mod Frame
 pub mod Wire
 pub mod Cells
 pub mod Change
+pub mod TxStep
 pub mod Undo
 pub mod Engine
 pub mod Before

@@ -22,8 +22,6 @@ use Rattle.std.specs.Prelude.{
 use Rattle.em_mem.specs.Memory as mem
 use Rattle.em_tx.specs.Cells.{Cells, Gathered, MorePages, cells}
 use Rattle.em_tx.specs.Frame.{without_tag}
-use Rattle.em_tx.specs.declared.answer.TxAnswer.{TxAnswer}
-use Rattle.em_tx.specs.declared.answer.TxAnswer.TheVariants.{Idle}
 use Rattle.em_tx.specs.declared.undo.TxUndo.{TxUndo}
 use Rattle.em_tx.specs.declared.undo.TxUndo.TheVariants.{Nothing, Step, Cleared}
 use Rattle.em_tx.specs.declared.change.Sent.{Sent}
@@ -100,24 +98,9 @@ undo c (Cleared old) = record c { gathered = old }
 
 -- the record takes the change from the old cells to the new ones back, but that more pages may be made, and room for
 -- gathered octets
-pub record ChangeReverses (old new : Cells) (r : Change) : Type 0 where
-  pub fits : ChangeFits new r
-  pub restores : MorePages old (undo_change new r)
-
 pub record Reverses (old new : Cells) (r : TxUndo) : Type 0 where
   pub fits : Fits new r
   pub restores : MorePages old (undo new r)
-
--- a descriptor was handled
-abbrev pub IsHandled : TxAnswer → Type 0
-IsHandled Idle = ⊥
-IsHandled answer = Unit {0}
-
--- a step that was idle leaves nothing, and any other one leaves what it changed
-abbrev pub IsRecordOf : TxAnswer → TxUndo → Type 0
-IsRecordOf Idle Nothing = Unit {0}
-IsRecordOf answer (Step change) = IsHandled answer
-IsRecordOf answer r = ⊥
 
 -- what a record costs beyond the least
 abbrev pub cost_of : TxUndo → ℕ

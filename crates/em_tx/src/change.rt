@@ -4,6 +4,7 @@ ghost use Rattle.em_mem.specs.Memory.{Fits, IsHeld, IsMade, Reverses, put, undo}
 ghost use Rattle.em_tx.specs.Change.{sent_with};
 
 use crate::descriptor::TxDescriptor;
+use em_mem::laws::places_are_small;
 use em_mem::{GuestMemory, Place};
 use std::marker::Model;
 
@@ -34,8 +35,7 @@ impl Status {
         ensures octets { memory.new.octets ≡ put memory.old.octets place (1 ∷ []) }
         ensures reverses { Reverses memory.old memory.new result }
     {
-        // a place in memory is less than 2^24
-        let _size = memory.len();
+        places_are_small(memory);
         let octet = memory.replace(place, &[TxDescriptor::DD]);
         Status {
             place: Place::new(place),

@@ -9,11 +9,11 @@ ghost use Rattle.em_tx.specs.Engine.{Allows, Refuses, cost, handle, handling_cos
 ghost use Rattle.em_tx.specs.Engine.{octets_sent, transmit};
 ghost use Rattle.em_tx.specs.Frame.{frame, frame_len, kind_sent, tag_of};
 ghost use Rattle.em_tx.specs.Ring.{is_idle, place};
-ghost use Rattle.em_tx.specs.Undo.{ChangeReverses, Reverses, StatusReverses, cost_of};
-ghost use Rattle.em_tx.specs.Undo.{IsHandled, IsRecordOf};
+ghost use Rattle.em_tx.specs.Undo.{Reverses, StatusReverses, cost_of};
+ghost use Rattle.em_tx.specs.TxStep.{answer_of, undo_of};
 ghost use Rattle.em_tx.specs.Wire.{AreLaid, HasRoom, plain};
 
-use crate::answer::TxAnswer;
+use crate::answer::{TxAnswer, TxStep};
 use crate::change::{Change, Sent, Status};
 use crate::descriptor::{STATUS, TxDescriptor};
 use crate::gather::{Gather, ROOM};
@@ -23,6 +23,7 @@ use crate::wire::{Frames, Wire};
 use crate::{frame, ring};
 use em_address::Kind;
 use em_mem::GuestMemory;
+use em_mem::laws::places_are_small;
 use em_regs::TxSetup;
 
 /// The most octets that are gathered (this project's profile).
@@ -34,26 +35,25 @@ const MOST_GATHERED: usize = 16_380;
 ///
 /// Refused, in this order: DmaRange where the descriptor leaves memory, Extended, TooLong, DmaRange where
 /// its buffer leaves memory, and Memory. All growth comes before the first change.
-pub fn step(
+pub fn transmit(
     gather: &mut Gather,
     wire: &mut Wire,
     memory: &mut GuestMemory,
     setup: TxSetup,
-) -> Result<(TxAnswer, TxUndo), TxRefusal>
+) -> Result<TxStep, TxRefusal>
     ensures ok { IfOk result (λ r.
         transmit setup (shows (cells gather.old wire.old memory.old))
-        ≡ Ok (r.0, shows (cells gather.new wire.new memory.new))) }
-    ensures cost { IfOk result (λ r. cost_of r.1 ≡ cost setup (shows (cells gather.old wire.old memory.old))) }
-    ensures kind { IfOk result (λ r. IsRecordOf r.0 r.1) }
-    ensures most { IfOk result (λ r. octets_sent r.0 ≤ 16384) }
+        ≡ Ok (answer_of r, shows (cells gather.new wire.new memory.new))) }
+    ensures cost { IfOk result (λ r. cost_of (undo_of r) ≡ cost setup (shows (cells gather.old wire.old memory.old))) }
+    ensures most { IfOk result (λ r. octets_sent (answer_of r) ≤ 16384) }
     ensures reverses { IfOk result (λ r.
-        Reverses (cells gather.old wire.old memory.old) (cells gather.new wire.new memory.new) r.1) }
+        Reverses (cells gather.old wire.old memory.old) (cells gather.new wire.new memory.new) (undo_of r)) }
     ensures err { IfErr result (Refuses setup (shows (cells gather.old wire.old memory.old))) }
     ensures same { OnErr result
         (MorePages (cells gather.old wire.old memory.old) (cells gather.new wire.new memory.new)) }
 {
     if setup.ring().is_idle() {
-        return Ok((TxAnswer::Idle, TxUndo::Nothing));
+        return Ok(TxStep::Idle);
     }
     let Some(found) = ring::first(memory, &setup) else {
         return Err(TxRefusal::DmaRange);
@@ -64,6 +64,27 @@ pub fn step(
     }
 }
 
+/// The same step, with its answer and its record apart.
+pub fn step(
+    gather: &mut Gather,
+    wire: &mut Wire,
+    memory: &mut GuestMemory,
+    setup: TxSetup,
+) -> Result<(TxAnswer, TxUndo), TxRefusal>
+    ensures ok { IfOk result (λ r.
+        transmit setup (shows (cells gather.old wire.old memory.old))
+        ≡ Ok (r.0, shows (cells gather.new wire.new memory.new))) }
+    ensures cost { IfOk result (λ r. cost_of r.1 ≡ cost setup (shows (cells gather.old wire.old memory.old))) }
+    ensures most { IfOk result (λ r. octets_sent r.0 ≤ 16384) }
+    ensures reverses { IfOk result (λ r.
+        Reverses (cells gather.old wire.old memory.old) (cells gather.new wire.new memory.new) r.1) }
+    ensures err { IfErr result (Refuses setup (shows (cells gather.old wire.old memory.old))) }
+    ensures same { OnErr result
+        (MorePages (cells gather.old wire.old memory.old) (cells gather.new wire.new memory.new)) }
+{
+    Ok(transmit(gather, wire, memory, setup)?.into_parts())
+}
+
 /// Handles a descriptor that is not refused, where its room can be made.
 fn perform(
     gather: &mut Gather,
@@ -72,7 +93,7 @@ fn perform(
     at: u64,
     setup: &TxSetup,
     descriptor: &TxDescriptor,
-) -> Result<(TxAnswer, TxUndo), TxRefusal>
+) -> Result<TxStep, TxRefusal>
     requires turn { is_idle setup.now ≡ false }
     requires place { at ≡ place setup.now }
     requires held { IsHeld memory.old.octets (place setup.now) 16 }
@@ -81,23 +102,19 @@ fn perform(
     requires allows { Allows gather.old.octets memory.old.octets descriptor.now }
     ensures ok { IfOk result (λ r.
         transmit setup.now (shows (cells gather.old wire.old memory.old))
-        ≡ Ok (r.0, shows (cells gather.new wire.new memory.new))) }
-    ensures cost { IfOk result (λ r. cost_of r.1 ≡ cost setup.now (shows (cells gather.old wire.old memory.old))) }
-    ensures kind { IfOk result (λ r. IsRecordOf r.0 r.1) }
-    ensures most { IfOk result (λ r. octets_sent r.0 ≤ 16384) }
+        ≡ Ok (answer_of r, shows (cells gather.new wire.new memory.new))) }
+    ensures cost { IfOk result (λ r. cost_of (undo_of r) ≡ cost setup.now (shows (cells gather.old wire.old memory.old))) }
+    ensures most { IfOk result (λ r. octets_sent (answer_of r) ≤ 16384) }
     ensures reverses { IfOk result (λ r.
-        Reverses (cells gather.old wire.old memory.old) (cells gather.new wire.new memory.new) r.1) }
+        Reverses (cells gather.old wire.old memory.old) (cells gather.new wire.new memory.new) (undo_of r)) }
     ensures err { IfErr result (Refuses setup.now (shows (cells gather.old wire.old memory.old))) }
     ensures same { OnErr result
         (MorePages (cells gather.old wire.old memory.old) (cells gather.new wire.new memory.new)) }
 {
     let octets = &mut gather.octets;
     let frames = &mut wire.frames;
-    if let Err(refused) = make_room(octets, frames, memory, at, setup, descriptor) {
-        return Err(refused);
-    }
-    let (answer, change) = handle(octets, frames, memory, at, setup, descriptor);
-    Ok((answer, TxUndo::Step(change)))
+    make_room(octets, frames, memory, at, setup, descriptor)?;
+    Ok(handle(octets, frames, memory, at, setup, descriptor))
 }
 
 /// Why a descriptor is refused, if it is.
@@ -161,8 +178,7 @@ fn room_for_status(
     ensures made { OnOk result (IsTrue (rs descriptor.now) → IsMade memory.new (at + 12) 1) }
     ensures refused { IfErr result (λ e. e ≡ TxRefusal.Memory) }
 {
-    // the sum below stays small
-    let _size = memory.len();
+    places_are_small(memory);
     if descriptor.rs() && memory.touch(at + STATUS as u64, 1).is_err() {
         return Err(TxRefusal::Memory);
     }
@@ -178,7 +194,7 @@ fn handle(
     at: u64,
     setup: &TxSetup,
     descriptor: &TxDescriptor,
-) -> (TxAnswer, Change)
+) -> TxStep
     requires first { setup.now.head < setup.now.count }
     requires place { at ≡ place setup.now }
     requires descriptor { IsHeld memory.old.octets at 16 }
@@ -188,17 +204,16 @@ fn handle(
     requires frames { IsTrue (sends descriptor.now (vec_len octets.old + length_of descriptor.now))
         → HasRoom frames.old (frame_len setup.now descriptor.now (vec_len octets.old + length_of descriptor.now)) }
     requires made { IsTrue (rs descriptor.now) → IsMade memory.old (at + 12) 1 }
-    ensures state { (result.0, shows (cells (with_room octets.new.items) (plain frames.new) memory.new)) ≡ handle
+    ensures state { (answer_of result, shows (cells (with_room octets.new.items) (plain frames.new) memory.new)) ≡ handle
         setup.now descriptor.now (shows (cells (with_room octets.old.items) (plain frames.old) memory.old)) }
     ensures room { ROOM ≤ vec_capacity octets.new }
     ensures laid { AreLaid frames.new }
-    ensures handled { IsHandled result.0 }
-    ensures most { octets_sent result.0 ≤ 16384 }
-    ensures cost { result.1.cost
+    ensures most { octets_sent (answer_of result) ≤ 16384 }
+    ensures cost { cost_of (undo_of result)
         ≡ handling_cost setup.now descriptor.now
         (shows (cells (with_room octets.old.items) (plain frames.old) memory.old)) }
-    ensures reverses { ChangeReverses (cells (with_room octets.old.items) (plain frames.old) memory.old)
-        (cells (with_room octets.new.items) (plain frames.new) memory.new) result.1 }
+    ensures reverses { Reverses (cells (with_room octets.old.items) (plain frames.old) memory.old)
+        (cells (with_room octets.new.items) (plain frames.new) memory.new) (undo_of result) }
 {
     let count = octets.len();
     let cost = u32::from(descriptor.length()) + u32::from(descriptor.rs());
@@ -208,27 +223,24 @@ fn handle(
     if descriptor.eop() && count + usize::from(descriptor.length()) > 0 {
         let sent = send(octets, frames, memory, setup, descriptor);
         let status = report(memory, at, descriptor);
-        let answer = TxAnswer::Sent {
+        let frame = Sent::with(sent.tagged);
+        TxStep::Sent {
             index,
             next,
             causes,
             octets: sent.octets,
             kind: sent.kind,
-        };
-        let frame = Sent::with(sent.tagged);
-        (
-            answer,
-            Change::new(count, cost + sent.octets, status, frame),
-        )
+            change: Change::new(count, cost + sent.octets, status, frame),
+        }
     } else {
         fetch(octets, memory, descriptor);
         let status = report(memory, at, descriptor);
-        let answer = TxAnswer::Fetched {
+        TxStep::Fetched {
             index,
             next,
             causes,
-        };
-        (answer, Change::new(count, cost, status, Sent::NoFrame))
+            change: Change::new(count, cost, status, Sent::NoFrame),
+        }
     }
 }
 
@@ -265,8 +277,7 @@ fn report(memory: &mut GuestMemory, at: u64, descriptor: &TxDescriptor) -> Optio
     ensures octets { memory.new.octets ≡ report at descriptor.now memory.old.octets }
     ensures reverses { StatusReverses memory.old memory.new result }
 {
-    // the sum below stays small
-    let _size = memory.len();
+    places_are_small(memory);
     if descriptor.rs() {
         Some(Status::report(memory, at + STATUS as u64))
     } else {

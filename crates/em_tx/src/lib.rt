@@ -15,10 +15,10 @@ mod ring;
 mod undo;
 mod wire;
 
-pub use answer::TxAnswer;
+pub use answer::{TxAnswer, TxStep};
 pub use change::{Change, MOST_COST, Sent};
 pub use descriptor::TxDescriptor;
-pub use engine::step;
+pub use engine::{step, transmit};
 pub use gather::Gather;
 pub use refusal::TxRefusal;
 pub use undo::{TxUndo, take_back};

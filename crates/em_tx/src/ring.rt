@@ -6,6 +6,7 @@ ghost use Rattle.em_tx.specs.Ring.{causes, place};
 use crate::descriptor::TxDescriptor;
 use bitflags::Flags;
 use em_mem::GuestMemory;
+use em_mem::laws::places_are_small;
 use em_regs::{Causes, DESCRIPTOR_OCTETS, TxSetup};
 
 /// The causes that a step of the descriptor raises.
@@ -40,8 +41,7 @@ pub(crate) fn first(memory: &GuestMemory, setup: &TxSetup) -> Option<Found>
     ensures held { IfSome result (λ found. IsHeld memory.now.octets (place setup.now) 16) }
     ensures none { IfNone result (length memory.now.octets < place setup.now + 16) }
 {
-    // memory is smaller than 2^64 octets, so that a sum past that leaves it
-    let _size = memory.len();
+    places_are_small(memory);
     let place = setup.ring().address_of(setup.head)?;
     if !memory.holds(place, DESCRIPTOR_OCTETS as u64) {
         return None;

@@ -13,7 +13,7 @@ use Rattle.em_filter.specs.Filters.{verdict as verdict_of}
 use Rattle.em_rx.specs.Descriptor.{written_back}
 use Rattle.em_rx.specs.Fifo.{Fifo, first, next}
 use Rattle.em_rx.specs.Receive as rx
-use Rattle.em_rx.specs.declared.receive.RxAnswer.TheVariants as rx_answer
+use Rattle.em_rx.specs.declared.step.RxAnswer.TheVariants as rx_answer
 use Rattle.em_rx.specs.declared.refusal.RxRefusal.TheVariants as rx_refusal
 use Rattle.em_regs.specs.declared.setup.RxSetup.{RxSetup}
 use Rattle.em_regs.specs.declared.setup.TxSetup.{TxSetup}

@@ -336,21 +336,21 @@ registers_made l sent size good placed =
     let b : Entries = (Rdbah, high) ∷ a in
     let c : Entries = (Rdlen, 16 * n) ∷ b in
     let d : Entries = (Rdh, 0) ∷ c in
-    let inside = placed.inside.rx_ring in
+    let inside = placed.receive.inside.ring in
     brings_both (at []) (at a) (at (rx_entries l)) (write Rdbal low) _
     (making_write l sent [] n Rdbal low low (high_switch (offset_of Rdbal) (omega arith)) refl
-    (reg_at-offset_of Rdbal (omega arith)) refl (λ x. refl) (base_low l.rx_ring good.rx_ring))
+    (reg_at-offset_of Rdbal (omega arith)) refl (λ x. refl) (base_low l.rx_ring good.receive.aligned))
     (brings_both (at a) (at b) (at (rx_entries l)) (write Rdbah high) _
     (making_write l sent a n Rdbah high high (high_switch (offset_of Rdbah) (omega arith)) refl
     (reg_at-offset_of Rdbah (omega arith)) refl (λ x. refl) (base_high l.rx_ring (omega (arith, inside))))
     (brings_both (at b) (at c) (at (rx_entries l)) (write Rdlen (16 * n)) _
     (making_write l sent b n Rdlen (16 * n) (16 * n) (high_switch (offset_of Rdlen) (omega arith))
     refl
-    (reg_at-offset_of Rdlen (omega arith)) refl (λ x. refl) (ring_length n good.rx_count.eights good.rx_count.most))
+    (reg_at-offset_of Rdlen (omega arith)) refl (λ x. refl) (ring_length n good.receive.count.eights good.receive.count.most))
     (brings_both (at c) (at d) (at (rx_entries l)) (write Rdh 0) _
     (making_write l sent c n Rdh 0 0 (high_switch (offset_of Rdh) (omega arith))
     refl
     (reg_at-offset_of Rdh (omega arith)) refl (λ x. refl) refl)
     (making_write l sent d n Rdt (n - 1) (n - 1) (high_switch (offset_of Rdt) (omega arith))
     refl
-    (reg_at-offset_of Rdt (omega arith)) refl (λ x. refl) (index (n - 1) (omega (arith, good.rx_count.most)))))))
+    (reg_at-offset_of Rdt (omega arith)) refl (λ x. refl) (index (n - 1) (omega (arith, good.receive.count.most)))))))

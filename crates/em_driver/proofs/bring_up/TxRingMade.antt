@@ -123,7 +123,7 @@ enabled_receiving : (l : Layout) (sent : List (List ℕ)) (s : State) (stored : 
 enabled_receiving l sent s stored placed h =
     let n : ℕ = l.rx_count in
     let t : State = record s { registers = registers.put s.registers Rctl 0x801A } in
-    let least = h.good.rx_count.least in
+    let least = h.good.receive.count.least in
     let kept = hold_other s.registers Rctl 0x801A (rx_entries l) refl h.holds in
     let tail : rdt t ≡ n - 1 = kept.0 in
     let head : rdh t ≡ 0 = kept.1.0 in
@@ -134,7 +134,7 @@ enabled_receiving l sent s stored placed h =
     let mark : (i : ℕ) → i < n → IsMarked (is_filled l t i) (rx_at l t i)
     = λ i low. subst (λ b. IsMarked b (rx_at l t i)) (sym (none i))
     (ap is_done (at i low) ∙ fresh_mark (rx_buffer l i)) in
-    let inside = placed.inside.rx_buffers in
+    let inside = placed.receive.inside.buffers in
     let begins : first l t < n = omega (arith, same, head, least) in
     record {
       layout = record { good = h.good; placed = placed };
@@ -301,18 +301,18 @@ tx_registers_made l sent size good placed =
     let c : Entries = (Tdlen, 16 * n) ∷ b in
     let d : Entries = (Tdh, 0) ∷ c in
     let e : Entries = (Tdt, 0) ∷ d in
-    let inside = placed.inside.tx_ring in
+    let inside = placed.transmit.inside.ring in
     let all : n ≤ l.tx_count = omega arith in
     brings_both (at []) (at a) (at (tx_entries l)) (write Tdbal low) _
     (listening_write l sent [] n Tdbal low low all refl (quiet (offset_of Tdbal) (omega arith) (λ x. omega arith)) refl
-    (reg_at-offset_of Tdbal (omega arith)) refl (λ x. refl) (base_low l.tx_ring good.tx_ring))
+    (reg_at-offset_of Tdbal (omega arith)) refl (λ x. refl) (base_low l.tx_ring good.transmit.aligned))
     (brings_both (at a) (at b) (at (tx_entries l)) (write Tdbah high) _
     (listening_write l sent a n Tdbah high high all refl (quiet (offset_of Tdbah) (omega arith) (λ x. omega arith)) refl
     (reg_at-offset_of Tdbah (omega arith)) refl (λ x. refl) (base_high l.tx_ring (omega (arith, inside))))
     (brings_both (at b) (at c) (at (tx_entries l)) (write Tdlen (16 * n)) _
     (listening_write l sent b n Tdlen (16 * n) (16 * n) all refl
     (quiet (offset_of Tdlen) (omega arith) (λ x. omega arith)) refl
-    (reg_at-offset_of Tdlen (omega arith)) refl (λ x. refl) (ring_length n good.tx_count.eights good.tx_count.most))
+    (reg_at-offset_of Tdlen (omega arith)) refl (λ x. refl) (ring_length n good.transmit.count.eights good.transmit.count.most))
     (brings_both (at c) (at d) (at (tx_entries l)) (write Tdh 0) _
     (listening_write l sent c n Tdh 0 0 all refl (quiet (offset_of Tdh) (omega arith) (λ x. omega arith)) refl
     (reg_at-offset_of Tdh (omega arith)) refl (λ x. refl) refl)
@@ -338,12 +338,12 @@ enabled_sending : (l : Layout) (sent : List (List ℕ)) (s : State) (stored : Li
 enabled_sending l sent s stored h =
     let n : ℕ = l.tx_count in
     let t : State = record s { registers = registers.put s.registers Tctl 0x4_010A } in
-    let least = h.layout.good.tx_count.least in
+    let least = h.layout.good.transmit.count.least in
     let kept = hold_other s.registers Tctl 0x4_010A (tx_entries l) refl h.holds in
     let tail : tdt t ≡ 0 = kept.1.0 in
     let head : tdh t ≡ 0 = kept.1.1.0 in
     let none : (i : ℕ) → is_queued l t i ≡ false = λ i. (λ p. is_among n (head p) (tail p) i) ∙ among_none n 0 i in
-    let inside = h.layout.placed.inside.tx_buffers in
+    let inside = h.layout.placed.transmit.inside.buffers in
     let r : RxMoves l s t []
     = rx_same l s t h.receiving
     (same_ring l s t

@@ -14,12 +14,13 @@ use Rattle.em_step.specs.declared.refusal.Refusal.{Refusal}
 use Rattle.em_step.specs.declared.refusal.Refusal.TheVariants as refusal
 use Rattle.em_driver.specs.World.{World, IsRefused}
 use Rattle.em_driver.specs.Course.{done, write, Follows, Comes}
-use Rattle.em_driver.specs.Layout.{IsGoodLayout, IsPlaced}
+use Rattle.em_driver.specs.Layout.{IsGoodLayout, IsGoodSide, IsPlaced, IsPlacedSide, rx, tx}
 use Rattle.em_driver.specs.Start.{Start, Part, each_from, eeprom_word, words_from, summed, eeprom, memory, device_reset}
 use Rattle.em_driver.specs.Start.{global_reset, receive_address, multicast_table, receive_ring, transmit_ring}
 use Rattle.em_driver.specs.Start.{after_reset, start, start_events}
 use Rattle.em_driver.specs.Start.{Performs, Gives, Stops}
 use Rattle.em_driver.specs.declared.layout.Layout.{Layout}
+use Rattle.em_driver.specs.declared.layout.Side.{Side}
 use Rattle.em_driver.specs.declared.outcome.Cause.{Cause}
 use Rattle.em_driver.specs.declared.outcome.Cause.TheVariants as cause
 use Rattle.em_driver.proofs.course.CourseSteps.{ends_with, reset_stops, comes_on, comes_none, comes_both, comes_as}
@@ -290,14 +291,14 @@ pub stops_as : {w v : World} (part : Layout → Part) {l k : Layout} {before aft
 stops_as {w = w} {v = v} part {l = l} {before = before} {after = after} {why = why} stopped e = subst (λ x. Stops w (part x) before why v after) e stopped
 
 -- a good layout is placed
+placed_side : (size : ℕ) (side : Side) → IsGoodSide size side → size ≤ 0xFFFF_FFFF_FFFF_FFFF → IsPlacedSide side
+placed_side size side good h = record {
+  count = good.count;
+  inside = record { ring = omega (arith, good.inside.ring, h); buffers = omega (arith, good.inside.buffers, h) };
+}
+
 pub placed : (size : ℕ) (l : Layout) → IsGoodLayout size l → size ≤ 0xFFFF_FFFF_FFFF_FFFF → IsPlaced l
 placed size l good h = record {
-  rx_count = good.rx_count;
-  tx_count = good.tx_count;
-  inside = record {
-    rx_ring = omega (arith, good.inside.rx_ring, h);
-    rx_buffers = omega (arith, good.inside.rx_buffers, h);
-    tx_ring = omega (arith, good.inside.tx_ring, h);
-    tx_buffers = omega (arith, good.inside.tx_buffers, h);
-  };
+  receive = placed_side size (rx l) good.receive h;
+  transmit = placed_side size (tx l) good.transmit h;
 }

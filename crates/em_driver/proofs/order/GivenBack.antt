@@ -155,7 +155,7 @@ gives_back l s t h c is =
     = λ e. absurd (let not_so : true ≡ false = sym c.filled ∙ ap (λ x. is_among n a x a) (sym e)
     ∙ among_none n a a in cc) in
     let tail : rdt u ≡ a
-    = index_kept s.registers Rdt a (put_same s.registers Rdt a) (omega (arith, h.layout.good.rx_count.most)) in
+    = index_kept s.registers Rdt a (put_same s.registers Rdt a) (omega (arith, h.layout.good.receive.count.most)) in
     let head : rdh u ≡ b = put_other s.registers Rdt Rdh a (λ e. omega arith) in
     let next : first l u ≡ following n a = ap (following n) tail in
     let setup = put_tail is_rx_side s.registers a in

@@ -131,7 +131,7 @@ writes_descriptor l s t packet h few is =
     (ap (λ a. put s.memory a d) zero) in
     let here : unit l m tx_ring b ≡ d
     = w.here ∙ put_whole (unit l s.memory tx_ring b) d (w.long ∙ sym long) in
-    let inside = h.but.layout.placed.inside.tx_buffers in
+    let inside = h.but.layout.placed.transmit.inside.buffers in
     let kept : TxKept l s (record s { memory = m }) = record {
       registers = same_side tx_side s.registers s.registers refl;
       descriptors = λ i inside other. w.other tx_ring i inside other;
@@ -193,7 +193,7 @@ queues l s t packet h ready free is =
     let room : next ≢ a = λ e. full n a b k.head k.tail free e in
     let tail : tdt u ≡ next
     = index_kept s.registers Tdt next (put_same s.registers Tdt next)
-    (omega (arith, h.but.layout.good.tx_count.most)) in
+    (omega (arith, h.but.layout.good.transmit.count.most)) in
     let head : tdh u ≡ a = put_other s.registers Tdt Tdh next (λ e. omega arith) in
     let setup = put_tail is_tx_side s.registers next in
     let now : (i : ℕ) → is_queued l u i ≡ is_among n a next i = λ i p. is_among n (head p) (tail p) i in

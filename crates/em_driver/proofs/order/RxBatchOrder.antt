@@ -119,11 +119,11 @@ memory_sound l w v queue count a is order =
 -- the descriptor and its buffer are held
 descriptor_held : (l : Layout) (w : World) (i : ℕ) → IsDrivenBut l (present w) → i < l.rx_count
     → rx_descriptor l i + 16 ≤ length (present w).memory
-descriptor_held l w i h low = unit_held l (length (present w).memory) h.layout.good.inside rx_ring i low
+descriptor_held l w i h low = unit_held l (length (present w).memory) h.layout.good rx_ring i low
 
 buffer_held : (l : Layout) (w : World) (i : ℕ) → IsDrivenBut l (present w) → i < l.rx_count
     → rx_buffer l i + 2048 ≤ length (present w).memory
-buffer_held l w i h low = unit_held l (length (present w).memory) h.layout.good.inside rx_buffers i low
+buffer_held l w i h low = unit_held l (length (present w).memory) h.layout.good rx_buffers i low
 
 -- from the look at the packet on
 packet_order : (l : Layout) (i count len : ℕ) (queue : List (List ℕ)) (more : List (List ℕ) → Course Answered)

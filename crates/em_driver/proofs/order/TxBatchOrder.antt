@@ -207,7 +207,7 @@ described_order : (l : Layout) (i count : ℕ) (packet : List ℕ) (queue : List
 unfolding Follows
 described_order l i count packet queue more w u v events a at free good has rest (inl (why, refused, none, is)) =
     let p = passed l u v has.order.driven.but refused.passes in
-    let held = unit_held l (length (present v).memory) (passed_but l u v p).layout.good.inside tx_ring
+    let held = unit_held l (length (present v).memory) (passed_but l u v p).layout.good tx_ring
     (tdt (present u)) has.order.driven.but.sending.tail in
     let only : why ≡ refusal.Memory
     = poke_refused (present v) (tx_descriptor l i) (transmit_descriptor (tx_buffer l i) (length packet)) why
@@ -241,7 +241,7 @@ unfolding Follows
 packet_order l i count packet queue more w v events a h at free good rest (inl (why, refused, none, is)) =
     let sizes = packet_sizes packet good in
     let p = passed l w v h.but refused.passes in
-    let held = unit_held l (length (present v).memory) (passed_but l w v p).layout.good.inside tx_buffers
+    let held = unit_held l (length (present v).memory) (passed_but l w v p).layout.good tx_buffers
     (tdt (present w)) h.but.sending.tail in
     let only : why ≡ refusal.Memory
     = poke_refused (present v) (tx_buffer l i) packet why (omega (arith, held, sizes.1, ap (tx_buffer l) at))

@@ -7,7 +7,7 @@ use Rattle.std.proofs.lemmas.List.{drop-take}
 use Rattle.std.proofs.lemmas.List.{take-take, drop-drop, take-append-drop, take_at, drop_at}
 use Rattle.em_mem.specs.Memory.{IsHeld, part, put}
 use Rattle.em_mem.proofs.PutLaws.{drop_past-put, length-part, length-put, put_left, put_right}
-use Rattle.em_driver.specs.Layout.{Apart, IsDisjoint, IsGoodLayout, IsInside}
+use Rattle.em_driver.specs.Layout.{Apart, IsGoodLayout}
 use Rattle.em_driver.specs.Others.{IsNoDriverMemory}
 use Rattle.em_driver.specs.declared.layout.Layout.{Layout}
 
@@ -114,44 +114,44 @@ large : (a i j : ℕ) → i ≢ j → Apart (a + 2048 * i) 2048 (a + 2048 * j) 2
 large a i j h = elim (cases_lt i j) [ inl l ↦ inl (omega arith) | inr l ↦ inr (omega arith) ]
 
 -- two units have no octet in common
-units_apart : (l : Layout) → IsDisjoint l → (k k' : Region) (i j : ℕ) → i < count_of l k → j < count_of l k'
+units_apart : (l : Layout) {n : ℕ} → IsGoodLayout n l → (k k' : Region) (i j : ℕ) → i < count_of l k → j < count_of l k'
     → AreTwo k i k' j → Apart (unit_at l k i) (size_of k) (unit_at l k' j) (size_of k')
 units_apart l h rx_ring rx_ring i j a b two = small l.rx_ring i j two
 units_apart l h rx_ring rx_buffers i j a b two =
-    regions (16 * i) 16 (2048 * j) 2048 h.receive (omega arith) (omega arith)
+    regions (16 * i) 16 (2048 * j) 2048 h.receive.apart (omega arith) (omega arith)
 units_apart l h rx_ring tx_ring i j a b two =
-    regions (16 * i) 16 (16 * j) 16 h.rings (omega arith) (omega arith)
+    regions (16 * i) 16 (16 * j) 16 h.disjoint.rings (omega arith) (omega arith)
 units_apart l h rx_ring tx_buffers i j a b two =
-    regions (16 * i) 16 (2048 * j) 2048 h.rx_ring (omega arith) (omega arith)
+    regions (16 * i) 16 (2048 * j) 2048 h.disjoint.first_ring (omega arith) (omega arith)
 units_apart l h rx_buffers rx_ring i j a b two =
-    regions (2048 * i) 2048 (16 * j) 16 (turned _ _ h.receive) (omega arith) (omega arith)
+    regions (2048 * i) 2048 (16 * j) 16 (turned _ _ h.receive.apart) (omega arith) (omega arith)
 units_apart l h rx_buffers rx_buffers i j a b two = large l.rx_buffers i j two
 units_apart l h rx_buffers tx_ring i j a b two =
-    regions (2048 * i) 2048 (16 * j) 16 (turned _ _ h.tx_ring) (omega arith) (omega arith)
+    regions (2048 * i) 2048 (16 * j) 16 (turned _ _ h.disjoint.second_ring) (omega arith) (omega arith)
 units_apart l h rx_buffers tx_buffers i j a b two =
-    regions (2048 * i) 2048 (2048 * j) 2048 h.buffers (omega arith) (omega arith)
+    regions (2048 * i) 2048 (2048 * j) 2048 h.disjoint.buffers (omega arith) (omega arith)
 units_apart l h tx_ring rx_ring i j a b two =
-    regions (16 * i) 16 (16 * j) 16 (turned _ _ h.rings) (omega arith) (omega arith)
+    regions (16 * i) 16 (16 * j) 16 (turned _ _ h.disjoint.rings) (omega arith) (omega arith)
 units_apart l h tx_ring rx_buffers i j a b two =
-    regions (16 * i) 16 (2048 * j) 2048 h.tx_ring (omega arith) (omega arith)
+    regions (16 * i) 16 (2048 * j) 2048 h.disjoint.second_ring (omega arith) (omega arith)
 units_apart l h tx_ring tx_ring i j a b two = small l.tx_ring i j two
 units_apart l h tx_ring tx_buffers i j a b two =
-    regions (16 * i) 16 (2048 * j) 2048 h.transmit (omega arith) (omega arith)
+    regions (16 * i) 16 (2048 * j) 2048 h.transmit.apart (omega arith) (omega arith)
 units_apart l h tx_buffers rx_ring i j a b two =
-    regions (2048 * i) 2048 (16 * j) 16 (turned _ _ h.rx_ring) (omega arith) (omega arith)
+    regions (2048 * i) 2048 (16 * j) 16 (turned _ _ h.disjoint.first_ring) (omega arith) (omega arith)
 units_apart l h tx_buffers rx_buffers i j a b two =
-    regions (2048 * i) 2048 (2048 * j) 2048 (turned _ _ h.buffers) (omega arith) (omega arith)
+    regions (2048 * i) 2048 (2048 * j) 2048 (turned _ _ h.disjoint.buffers) (omega arith) (omega arith)
 units_apart l h tx_buffers tx_ring i j a b two =
-    regions (2048 * i) 2048 (16 * j) 16 (turned _ _ h.transmit) (omega arith) (omega arith)
+    regions (2048 * i) 2048 (16 * j) 16 (turned _ _ h.transmit.apart) (omega arith) (omega arith)
 units_apart l h tx_buffers tx_buffers i j a b two = large l.tx_buffers i j two
 
 -- a unit lies in memory
-pub unit_held : (l : Layout) (n : ℕ) → IsInside n l → (k : Region) (i : ℕ) → i < count_of l k
+pub unit_held : (l : Layout) (n : ℕ) → IsGoodLayout n l → (k : Region) (i : ℕ) → i < count_of l k
     → unit_at l k i + size_of k ≤ n
-unit_held l n h rx_ring i a = omega (arith, h.rx_ring)
-unit_held l n h rx_buffers i a = omega (arith, h.rx_buffers)
-unit_held l n h tx_ring i a = omega (arith, h.tx_ring)
-unit_held l n h tx_buffers i a = omega (arith, h.tx_buffers)
+unit_held l n h rx_ring i a = omega (arith, h.receive.inside.ring)
+unit_held l n h rx_buffers i a = omega (arith, h.receive.inside.buffers)
+unit_held l n h tx_ring i a = omega (arith, h.transmit.inside.ring)
+unit_held l n h tx_buffers i a = omega (arith, h.transmit.inside.buffers)
 
 part_of_apart : {a : ℕ} (n : ℕ) {b u : ℕ} (o w : ℕ) → Apart a n b u → o + w ≤ u → Apart a n (b + o) w
 part_of_apart {a = a} n {b = b} {u = u} o w (inl h) p = inl (omega arith)
@@ -162,9 +162,9 @@ pub unit_apart : (l : Layout) (m : List ℕ) → IsGoodLayout (length m) l → (
     → i < count_of l k → j < count_of l k' → o + length d ≤ size_of k' → AreTwo k i k' j
     → unit l (put m (unit_at l k' j + o) d) k i ≡ unit l m k i
 unit_apart l m good k k' i j o d a b inside two =
-    let held = unit_held l (length m) good.inside k' j b in
+    let held = unit_held l (length m) good k' j b in
     part_apart m (unit_at l k i) (size_of k) (unit_at l k' j + o) d (omega arith)
-    (part_of_apart _ o (length d) (units_apart l good.disjoint k k' i j a b two) inside)
+    (part_of_apart _ o (length d) (units_apart l good k k' i j a b two) inside)
 
 -- so does a write to memory that is none of the driver's
 outside : (a n : ℕ) {b m : ℕ} (x u : ℕ) → Apart a n b m → x + u ≤ m → Apart (b + x) u a n
@@ -189,15 +189,15 @@ pub unit_within : (l : Layout) (m : List ℕ) → IsGoodLayout (length m) l → 
     → j < count_of l k → o + length d ≤ size_of k
     → unit l (put m (unit_at l k j + o) d) k j ≡ put (unit l m k j) o d
 unit_within l m good k j o d b inside =
-    part_within m (unit_at l k j) (size_of k) o d inside (unit_held l (length m) good.inside k j b)
+    part_within m (unit_at l k j) (size_of k) o d inside (unit_held l (length m) good k j b)
 
 -- memory stays as long
 pub unit_size : (l : Layout) (m : List ℕ) → IsGoodLayout (length m) l → (k : Region) (j o : ℕ) (d : List ℕ)
     → j < count_of l k → o + length d ≤ size_of k → length (put m (unit_at l k j + o) d) ≡ length m
 unit_size l m good k j o d b inside =
-    let held = unit_held l (length m) good.inside k j b in
+    let held = unit_held l (length m) good k j b in
     length-put m (unit_at l k j + o) d (omega arith)
 
 pub unit_long : (l : Layout) (m : List ℕ) → IsGoodLayout (length m) l → (k : Region) (i : ℕ) → i < count_of l k
     → length (unit l m k i) ≡ size_of k
-unit_long l m good k i a = length-part m (unit_at l k i) (size_of k) (unit_held l (length m) good.inside k i a)
+unit_long l m good k i a = length-part m (unit_at l k i) (size_of k) (unit_held l (length m) good k i a)

@@ -2,9 +2,8 @@
 use Rattle.std.proofs.Common.{◌≡◌, ◌≢◌, ◌∙◌, ℕ, ◌+◌, ◌*◌, ◌/◌, ◌<◌, ◌≤◌, Bool, true, false, List, [], ◌∷◌}
 use Rattle.std.proofs.Common.{◌++◌}
 use Rattle.std.proofs.Common.{length, take, drop, refl, sym, ap, subst, inl, inr, arith, append_assoc, append-nil}
-use Rattle.std.specs.Prelude.{All, slice_index, ◌==◌, if◌then◌else◌, bit_and}
+use Rattle.std.specs.Prelude.{All, slice_index, ◌==◌, bit_and}
 use Rattle.std.proofs.lemmas.Bool.{cases_eq}
-use Rattle.std.proofs.lemmas.Bool.Decides.{nat_tests}
 use Rattle.std.proofs.lemmas.List.{map-append, take_at}
 use Rattle.std.proofs.lemmas.List.Elements.{All-append, All-rest}
 use Rattle.std.proofs.lemmas.Nat.{and_mask}
@@ -297,7 +296,7 @@ fills l s t f frames laid h r =
     let w = rx_writes l s t f frames laid h r in
     let count : q.count ≡ n = ap (λ v. v / 16) h.len ∙ omega arith in
     let next : rx.following q ≡ following n b = ap (λ c. following c b) count in
-    let low : following n b < 65_536 = omega (arith, following_in n b h.head, laid.good.rx_count.most) in
+    let low : following n b < 65_536 = omega (arith, following_in n b h.head, laid.good.receive.count.most) in
     let regs : t.registers ≡ registers.put s.registers Rdh (following n b)
     = r.registers ∙ ap (registers.put s.registers Rdh) next in
     let here : rx_at l t b ≡ put (rx_at l s b) 8 (filled_back (length f))

@@ -4,9 +4,7 @@ use Rattle.std.proofs.Common.{◌++◌}
 use Rattle.std.proofs.Common.{length, take, refl, sym, ap, subst, inl, inr, arith, append_assoc, append-nil}
 use Rattle.std.proofs.Common.{Some, None}
 use Rattle.std.specs.Prelude.{slice_index, ◌==◌, if◌then◌else◌, bit_and}
-use Rattle.std.proofs.lemmas.Bool.{cases_eq, cases_lt}
-use Rattle.std.proofs.lemmas.Bool.Decides.{nat_tests}
-use Rattle.std.proofs.Math.Nat.{mod-eq_of_lt, mod_self}
+use Rattle.std.proofs.lemmas.Bool.{cases_eq}
 use Rattle.byteorder.specs.Endian.{little_number}
 use Rattle.em_mem.specs.Memory.{part, put}
 use Rattle.em_regs.specs.declared.reg.Reg.TheVariants.{Vet, Tdh, Tdt}
@@ -242,7 +240,7 @@ is_whole l s laid h apart =
     = length_is (next_descriptor s) ∙ ap length_of at in
     let address : tx_descriptors.address (next_descriptor s) ≡ tx_buffer l a
     = address_is (next_descriptor s) ∙ ap (little_number 8) at ∙ h.addresses a h.head in
-    let held = unit_held l (length s.memory) laid.good.inside tx_buffers a h.head in
+    let held = unit_held l (length s.memory) laid.good tx_buffers a h.head in
     record {
       command = ap (λ d. slice_index d 11) at ∙ p.command;
       least = omega (arith, len, p.least);
@@ -261,7 +259,7 @@ sends l s t laid h r =
     (r.memory ∙ ap (λ x. put s.memory (x + 12) (1 ∷ [])) place) in
     let count : q.count ≡ n = ap (λ v. v / 16) h.len ∙ omega arith in
     let next : tx.next q ≡ following n a = ap (λ c. following c a) count in
-    let low : following n a < 65_536 = omega (arith, following_in n a h.head, laid.good.tx_count.most) in
+    let low : following n a < 65_536 = omega (arith, following_in n a h.head, laid.good.transmit.count.most) in
     let regs : t.registers ≡ registers.put s.registers Tdh (following n a)
     = r.registers ∙ ap (registers.put s.registers Tdh) next in
     let long : length (tx_at l s a) ≡ 16 = unit_long l s.memory laid.good tx_ring a h.head in

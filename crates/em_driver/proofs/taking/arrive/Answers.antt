@@ -6,7 +6,7 @@ pub returns-in-Stored-clause-takes : goal.returns-in-Stored-clause-takes
 returns-in-Stored-clause-takes c =
     let before = c.args.stored.now.items in
     takes_arrival c.args.machine.now c.perform.new.self before c.push_reserved.new.self.items c.args.frame
-    c.octets.result.now c.in-Ok.answer c.octets.ensures c.in-Ok.ensures.ok
+    c.octets.result.now c.in-Ok.answer c.octets.ensures c.in-Ok.ensures.ok.does
     (c.push_reserved.ensures.items ∙ ap (λ fs. before ++ fs) (stored_one c.args.frame c.in-Ok.answer c.in-Stored.is))
 
 pub returns-in_default : goal.returns-in_default
@@ -14,7 +14,7 @@ returns-in_default c =
     let before = c.args.stored.now.items in
     record {
       takes = takes_arrival c.args.machine.now c.perform.new.self before before c.args.frame
-          c.octets.result.now c.in-Ok.answer c.octets.ensures c.in-Ok.ensures.ok
+          c.octets.result.now c.in-Ok.answer c.octets.ensures c.in-Ok.ensures.ok.does
           (sym (append-nil before)
           ∙ ap (λ fs. before ++ fs) (stored_none c.args.frame c.in-Ok.answer c.in_default.not-Stored));
       room = omega arith;

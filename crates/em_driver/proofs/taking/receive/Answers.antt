@@ -5,7 +5,7 @@ use Rattle.em_driver.proofs.taking.receive.Goals as goal
 
 pub returns-in-Ok : goal.returns-in-Ok
 returns-in-Ok c =
-    engine_performed c.args.machine.now c.perform.new.self RxStep c.in-Ok.field-0 refl c.in-Ok.ensures.ok
+    engine_performed c.args.machine.now c.perform.new.self RxStep c.in-Ok.field-0 refl c.in-Ok.ensures.ok.does
 
 pub returns-in-Err : goal.returns-in-Err
 returns-in-Err c =

@@ -1,8 +1,9 @@
 use Rattle.std.proofs.Common.{◌≡◌, ◌+◌, ◌∙◌, ap, arith, length, refl, sym, subst}
 use Rattle.em_tx.specs.Cells.{cells, with_room}
 use Rattle.em_tx.specs.Change.{sent_with}
-use Rattle.em_tx.specs.Undo.{ChangeReverses}
+use Rattle.em_tx.specs.Undo.{Reverses}
 use Rattle.em_tx.specs.Wire.{plain}
+use Rattle.em_tx.specs.declared.undo.TxUndo.TheVariants.{Step}
 use Rattle.em_tx.proofs.ReverseLaws.{Reverses-send}
 use Rattle.em_tx.proofs.engine.handle.Goals as goal
 
@@ -24,6 +25,6 @@ returns-then-count-from-gt0-clause-reverses c =
       status = status.result;
       sent = s;
     }) c.with-frame.ensures in
-    subst (ChangeReverses old new) (sym same)
+    subst (λ x. Reverses old new (Step x)) (sym same)
     (Reverses-send c.args.setup.now c.args.descriptor.now _ sent.new.octets.items c.args.memory.now status.new.memory _
     refl sent.ensures.wire sent.ensures.tagged count status.ensures.reverses)

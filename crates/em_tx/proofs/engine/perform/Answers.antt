@@ -1,14 +1,18 @@
-use Rattle.std.proofs.Common.{◌≡◌, ◌∙◌, ap}
+use Rattle.std.proofs.Common.{◌≡◌, ◌∙◌, ap, rules}
 use Rattle.em_tx.specs.Cells.{Gathered, cells, shows, with_room}
-use Rattle.em_tx.specs.Engine.{handle}
+use Rattle.em_tx.specs.Engine.{Refuses, handle}
 use Rattle.em_tx.specs.Wire.{frames_from, plain}
 use Rattle.em_tx.proofs.EngineLaws.{transmit-handle, Refuses-memory, shows-same}
 use Rattle.em_tx.proofs.engine.perform.Goals as goal
 
-pub returns-in-Err-clause-err : goal.returns-in-Err-clause-err
-returns-in-Err-clause-err c =
+pub returns-in_err-make_room-clause-err : goal.returns-in_err-make_room-clause-err
+returns-in_err-make_room-clause-err c =
     let r = c.requires in
-    Refuses-memory c.args.setup.now _ c.args.descriptor.now r.turn r.held r.octets r.allowed c.in-Err.ensures.refused
+    let start = shows (cells c.args.gather.now c.args.wire.now c.args.memory.now) in
+    let refuses : Refuses c.args.setup.now start c.in_err-make_room.field-0.0
+    = Refuses-memory c.args.setup.now _ c.args.descriptor.now r.turn r.held r.octets r.allowed
+    c.in_err-make_room.ensures.refused in
+    search (rules, refuses)
 
 pub returns-clause-ok : goal.returns-clause-ok
 returns-clause-ok c =
@@ -20,4 +24,4 @@ returns-clause-ok c =
     (made.ensures.gathered ∙ ap (λ (g : Gathered). g.octets) c.gather.view_is)
     ((λ i. frames_from 0 (made.ensures.ends i) (made.ensures.octets i)) ∙ c.wire.view_is) made.ensures.memory.octets in
     transmit-handle c.args.setup.now _ c.args.descriptor.now r.turn r.held r.octets r.allowed
-    (c.handle-answer.ensures.state ∙ ap (handle c.args.setup.now c.args.descriptor.now) room)
+    (c.handle.ensures.state ∙ ap (handle c.args.setup.now c.args.descriptor.now) room)

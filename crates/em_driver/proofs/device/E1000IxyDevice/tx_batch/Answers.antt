@@ -44,7 +44,7 @@ loop-i-init g c =
     record {
       layout = refl;
       few = omega arith;
-      small = omega (arith, c.in-Some-free_descriptors.ensures.fits.0, c.args.self.now.placed.tx_count.most);
+      small = omega (arith, c.in-Some-free_descriptors.ensures.fits.0, c.args.self.now.placed.transmit.count.most);
       within = c.in-Some-free_descriptors.ensures.fits.1;
       going = opened c.args.self.now.layout _ _ _ _ _ _ _ _ c.if-queue-ne0.false some
           c.in-Some-free_descriptors.ensures.value.0 (minus_zero _ _ c.in-Some-free_descriptors.ensures.value.1)

@@ -8,8 +8,8 @@ invariant_of-self c =
     let kept = c.keep.ensures in
     journal_event kept.same c.self.invariant c.read_stored-value.ensures.reverses kept.items kept.capacity kept.counted kept.held
 
-pub returns-clause-does : goal.returns-clause-does
-returns-clause-does c =
+pub returns : goal.returns
+returns c =
     let done = c.read_stored-value.ensures in
     event_does c.self.inside.records.ring.items (reads (offset_of c.args.reg))
-    c.keep.ensures.same done.ok done.cost done.reverses c.keep.ensures.items c.self.view_is
+    c.keep.ensures.same done c.keep.ensures.items c.keep.ensures.some c.self.view_is

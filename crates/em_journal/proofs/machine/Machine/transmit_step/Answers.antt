@@ -8,19 +8,19 @@ use Rattle.em_journal.proofs.machine.Machine.transmit_step.Goals as goal
 pub invariant_of-self-2 : goal.invariant_of-self-2
 invariant_of-self-2 c =
     let kept = c.keep.ensures in
-    journal_event kept.same c.self.invariant c.in_ok-answer.ensures.reverses kept.items kept.capacity kept.counted kept.held
+    journal_event kept.same c.self.invariant c.in_ok-answer.ensures.ok.reverses kept.items kept.capacity kept.counted kept.held
 
 pub returns-clause-ok : goal.returns-clause-ok
 returns-clause-ok c =
-    let done = c.in_ok-answer.ensures in
+    let done = c.in_ok-answer.ensures.ok in
     event_does c.self.inside.records.ring.items transmits
-    c.keep.ensures.same done.ok done.cost done.reverses c.keep.ensures.items c.self.view_is
+    c.keep.ensures.same done c.keep.ensures.items c.keep.ensures.some c.self.view_is
 
 pub invariant_of-self : goal.invariant_of-self
-invariant_of-self c = journal_same c.in_err-answer.ensures.same c.self.invariant
+invariant_of-self c = journal_same c.in_err-answer.ensures.err.same c.self.invariant
 
 pub returns-in_err-answer-clause-err : goal.returns-in_err-answer-clause-err
 returns-in_err-answer-clause-err c =
     let why : IfErr c.from_residual.result (Refuses c.args.self.now.present transmits) = search rules in
     refusal_does transmits c.from_residual.result why
-    (view_same c.self.inside.records.ring.items c.in_err-answer.ensures.same c.self.view_is)
+    (view_same c.self.inside.records.ring.items c.in_err-answer.ensures.err.same c.self.view_is)

@@ -11,11 +11,11 @@ invariant_of-self c =
     let kept = c.keep.ensures in
     journal_event kept.same c.self.invariant c.write_latched-undo.ensures.reverses kept.items kept.capacity kept.counted kept.held
 
-pub returns-clause-does : goal.returns-clause-does
-returns-clause-does c =
+pub returns : goal.returns
+returns c =
     let done = c.write_latched-undo.ensures in
     event_does c.self.inside.records.ring.items (writes (offset_of c.args.reg) c.args.value)
-    c.keep.ensures.same done.ok done.cost done.reverses c.keep.ensures.items c.self.view_is
+    c.keep.ensures.same done c.keep.ensures.items c.keep.ensures.some c.self.view_is
 
 pub keep-requires-clause-cost : goal.keep-requires-clause-cost
 keep-requires-clause-cost c =

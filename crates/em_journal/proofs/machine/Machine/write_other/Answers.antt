@@ -6,10 +6,10 @@ use Rattle.em_journal.proofs.machine.Machine.write_other.Goals as goal
 pub invariant_of-self-2 : goal.invariant_of-self-2
 invariant_of-self-2 c =
     let kept = c.keep.ensures in
-    journal_event kept.same c.self.invariant c.in_ok-undo.ensures.reverses kept.items kept.capacity kept.counted kept.held
+    journal_event kept.same c.self.invariant c.in_ok-undo.ensures.ok.reverses kept.items kept.capacity kept.counted kept.held
 
 pub returns-clause-ok : goal.returns-clause-ok
 returns-clause-ok c =
-    let done = c.in_ok-undo.ensures in
+    let done = c.in_ok-undo.ensures.ok in
     event_does c.self.inside.records.ring.items (writes (offset_of c.args.reg) c.args.value)
-    c.keep.ensures.same done.ok done.cost done.reverses c.keep.ensures.items c.self.view_is
+    c.keep.ensures.same done c.keep.ensures.items c.keep.ensures.some c.self.view_is

@@ -1,4 +1,4 @@
-use Rattle.std.proofs.Common.{◌≡◌, ◌∙◌, ℕ, ap, sym, subst, length}
+use Rattle.std.proofs.Common.{◌≡◌, sym, subst, length}
 use Rattle.em_mem.specs.Memory as memory
 use Rattle.em_rx.specs.Fifo.{Cells, shows}
 use Rattle.em_rx.specs.Undo.{Fits, undo_fifo}

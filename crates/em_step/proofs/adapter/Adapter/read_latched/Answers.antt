@@ -1,7 +1,13 @@
+use Rattle.std.proofs.Common.{rules}
 use Rattle.em_step.proofs.Registers.{reads_latched}
 use Rattle.em_step.proofs.adapter.Adapter.read_latched.Goals as goal
 
-pub returns-clause-ok : goal.returns-clause-ok
-returns-clause-ok c =
+pub returns : goal.returns
+returns c =
     let read = c.read-value.ensures in
-    reads_latched _ c.args.self.now c.args.reg c.self.view_is c.requires.reg c.requires.latched read.value read.state
+    record {
+      ok = reads_latched _ c.args.self.now c.args.reg c.self.view_is c.requires.reg c.requires.latched
+          read.value read.state;
+      cost = search rules;
+      reverses = search rules;
+    }

@@ -1,15 +1,14 @@
-use Rattle.std.proofs.Common.{ap, sym, ◌∙◌}
+use Rattle.std.proofs.Common.{ap, rules, sym, ◌∙◌}
 use Rattle.em_step.specs.Cells.{shows}
 use Rattle.em_step.specs.Cost.{cost_of}
 use Rattle.em_step.proofs.Registers.{latched_costs, writes_latched}
 use Rattle.em_step.proofs.adapter.Adapter.write_latched.Goals as goal
 
-pub returns-clause-ok : goal.returns-clause-ok
-returns-clause-ok c =
-    writes_latched _ c.args.self.now c.args.reg c.args.value c.self.view_is c.requires.reg c.requires.latched
-    c.write.ensures.state
-
-pub returns-clause-cost : goal.returns-clause-cost
-returns-clause-cost c =
-    ap cost_of c.of_latches.ensures
-    ∙ sym (latched_costs (shows c.args.self.now) c.args.reg c.args.value c.requires.reg c.requires.latched)
+pub returns : goal.returns
+returns c = record {
+  ok = writes_latched _ c.args.self.now c.args.reg c.args.value c.self.view_is c.requires.reg c.requires.latched
+      c.write.ensures.state;
+  cost = ap cost_of c.of_latches.ensures
+      ∙ sym (latched_costs (shows c.args.self.now) c.args.reg c.args.value c.requires.reg c.requires.latched);
+  reverses = search rules;
+}

@@ -1,4 +1,4 @@
-use Rattle.std.proofs.Common.{ap, sym, ◌∙◌}
+use Rattle.std.proofs.Common.{ap, rules, sym, ◌∙◌}
 use Rattle.em_regs.specs.declared.table.Kind.TheVariants.{Stored}
 use Rattle.em_regs.specs.RegFile.{put}
 use Rattle.em_step.specs.Cells.{shows}
@@ -9,12 +9,11 @@ use Rattle.em_step.proofs.adapter.Adapter.write_stored.Goals as goal
 pub put-requires : goal.put-requires
 put-requires c = only_stored c.args.reg c.requires
 
-pub returns-clause-ok : goal.returns-clause-ok
-returns-clause-ok c =
-    writes_stored _ c.args.self.now c.args.reg c.args.value c.self.view_is c.requires
-    (c.put.ensures.state ∙ ap (λ file. put file c.args.reg c.args.value) c.deref_mut.ensures.value)
-
-pub returns-clause-cost : goal.returns-clause-cost
-returns-clause-cost c =
-    ap cost_of c.of_effect.ensures
-    ∙ sym (costs_by Stored (shows c.args.self.now) c.args.reg c.args.value c.requires.0 c.requires.1)
+pub returns : goal.returns
+returns c = record {
+  ok = writes_stored _ c.args.self.now c.args.reg c.args.value c.self.view_is c.requires
+      (c.put.ensures.state ∙ ap (λ file. put file c.args.reg c.args.value) c.deref_mut.ensures.value);
+  cost = ap cost_of c.of_effect.ensures
+      ∙ sym (costs_by Stored (shows c.args.self.now) c.args.reg c.args.value c.requires.0 c.requires.1);
+  reverses = search rules;
+}

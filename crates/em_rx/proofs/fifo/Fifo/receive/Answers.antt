@@ -1,9 +1,9 @@
 -- Both ranges lie in memory, and their pages were made.
 use Rattle.std.proofs.Common.{rules, ◌≡◌, ap, subst, sym, ◌∙◌}
-use Rattle.em_mem.specs.Memory.{Patch}
+use Rattle.em_mem.specs.Memory.{MorePages, Patch}
 use Rattle.em_rx.specs.Undo.{FitsStep, IsOverwritten}
 use Rattle.em_rx.proofs.StepLaws.{is_overwritten, step_fits}
-use Rattle.em_rx.proofs.fifo.Fifo.step.Goals as goal
+use Rattle.em_rx.proofs.fifo.Fifo.receive.Goals as goal
 
 pub deliver-requires-clause-fits : goal.deliver-requires-clause-fits
 deliver-requires-clause-fits c =
@@ -36,3 +36,13 @@ deliver-requires-clause-overwritten c =
     c.in_ok-found.found.end_at same patch.ensures.first patch.ensures.count patch.ensures.second
     patch.ensures.eight
     )
+
+pub returns-clause-reverses : goal.returns-clause-reverses
+returns-clause-reverses c =
+    let back = c.deliver.ensures.reverses in
+    let made : MorePages c.args.memory.now c.touch-2.new.self = search rules in
+    record {
+      fits = back.fits;
+      fifo = back.fifo ∙ c.delivery.ensures.same;
+      memory = subst (MorePages c.args.memory.now) (sym back.memory) made;
+    }

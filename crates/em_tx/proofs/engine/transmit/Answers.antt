@@ -1,7 +1,7 @@
 use Rattle.std.proofs.Common.{◌≡◌, sym, true, false}
 use Rattle.em_tx.specs.Ring.{is_idle}
 use Rattle.em_tx.proofs.EngineLaws.{transmit-idle, Refuses-off_memory, Refuses-refusal}
-use Rattle.em_tx.proofs.engine.step.Goals as goal
+use Rattle.em_tx.proofs.engine.transmit.Goals as goal
 
 pub returns-then-is_idle-clause-ok : goal.returns-then-is_idle-clause-ok
 returns-then-is_idle-clause-ok c =

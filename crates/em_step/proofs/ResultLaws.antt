@@ -1,0 +1,34 @@
+-- What follows for the result of an event from what is known of its parts.
+use Rattle.std.proofs.Common.{◌≡◌, ap}
+use Rattle.std.specs.Prelude.{Result, Ok, Err, IfErr, IfOk, OnErr, OnOk}
+use Rattle.em_step.specs.Cells.{Cells, MorePages, shows}
+use Rattle.em_step.specs.Event.{Event}
+use Rattle.em_step.specs.Performed.{WasRefused}
+use Rattle.em_step.specs.Step.{Refuses}
+use Rattle.em_step.specs.declared.refusal.Refusal.{Refusal}
+use Rattle.em_step.proofs.ReversalLaws.{more_same, room_same}
+
+pub if_all : {A E : Type 0} (r : Result A E) {P : Type 0} {Q R S : A → Type 0} → (P → (x : A) → Q x → R x → S x)
+    → OnOk r P → IfOk r Q → IfOk r R → IfOk r S
+if_all (Ok x) f p q made = f p x q made
+if_all (Err e) f p q made = tt
+
+-- the same cells have the same pages made
+cells_same : (c d : Cells) → d ≡ c → MorePages c d
+cells_same c d same = record {
+  registers = ap (λ (x : Cells). x.registers) same;
+  latches = ap (λ (x : Cells). x.latches) same;
+  fifo = ap (λ (x : Cells). x.fifo) same;
+  memory = more_same _ _ (ap (λ (x : Cells). x.memory) same);
+  gathered = room_same _ _ (ap (λ (x : Cells). x.gathered) same);
+  wire = ap (λ (x : Cells). x.wire) same;
+  eeprom = ap (λ (x : Cells). x.eeprom) same;
+  link = ap (λ (x : Cells). x.link) same;
+}
+
+-- what is refused for this, and changes nothing
+pub refused_so : {A : Type 0} (r : Result A Refusal) {P : Refusal → Type 0} (old new : Cells) (e : Event)
+    → ((x : Refusal) → P x → Refuses (shows old) e x) → IfErr r P → OnErr r (new ≡ old)
+    → IfErr r (WasRefused old e new)
+refused_so (Ok x) old new e f why same = tt
+refused_so (Err x) old new e f why same = record { err = f x why; same = cells_same old new same }
