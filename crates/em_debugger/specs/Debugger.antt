@@ -1,6 +1,7 @@
 -- What a debugger begins with, and what its parts hold.
 use Rattle.std.specs.Prelude.{◌≡◌, ℕ, true, List, [], None}
 use Rattle.em_turn.specs.Planned.{lists}
+use Rattle.em_tape.specs.Texts.{texts}
 use Rattle.em_journal.specs.Settings.{new_machine}
 use Rattle.em_journal.specs.declared.settings.Settings.{Settings}
 use Rattle.em_script.specs.Session.{bare}
@@ -10,16 +11,16 @@ use Rattle.em_debugger.specs.Told.{told_of}
 
 -- what is kept of the answer to the line of a number
 abbrev pub told : ℕ → Debugger → List ℕ
-told line d = told_of line (lists d.told.answers.items)
+told line d = told_of line (texts d.told.answers.items)
 
 -- a new machine, no line, and nothing asked for
 pub record Begins (given : Settings) (d : Debugger) : Type 0 where
   pub settings : d.settings ≡ given
   pub tape : d.tape ≡ empty_tape (bare (new_machine given))
-  pub told : lists d.told.answers.items ≡ []
+  pub told : texts d.told.answers.items ≡ []
   pub asked : d.asked ≡ None
   pub warns : d.warns ≡ true
-  pub wanted : lists d.wanted.answers.items ≡ []
+  pub wanted : texts d.wanted.answers.items ≡ []
   pub score : d.score ≡ record { agreed = 0; differed = 0 }
   pub engines : d.engines ≡ 0
   pub offered : lists d.offered.items ≡ []

@@ -2,7 +2,7 @@
 use Rattle.std.specs.Prelude.{◌≡◌, ℕ, ◌+◌, ◌-◌, ◌<◌, ◌≤◌, ◌==◌, ◌||◌, nat_lt, Bool, true, false, if◌then◌else◌}
 use Rattle.std.specs.Prelude.{List, [], ◌++◌, codes, insert, length, Option, Some, None}
 use Rattle.std.specs.Str.{bytes_eq}
-use Rattle.em_turn.specs.Planned.{lists}
+use Rattle.em_tape.specs.Texts.{texts}
 use Rattle.em_step.specs.State.{State}
 use Rattle.em_output.specs.declared.outcome.Outcome.{Outcome}
 use Rattle.em_output.specs.declared.outcome.Outcome.TheVariants.{Refused}
@@ -86,7 +86,7 @@ engine_behind before p d =
 pub record PutsStep (side : Side) (old new : Debugger) : Type 0 where
   pub tape : new.tape ≡ record old.tape { lines = insert old.tape.lines old.tape.whole (step_line side) }
   pub engines : new.engines + 1 ≡ old.engines
-  pub wanted : lists new.wanted.answers.items ≡ moved old.tape.whole (lists old.wanted.answers.items)
+  pub wanted : texts new.wanted.answers.items ≡ moved old.tape.whole (texts old.wanted.answers.items)
   pub told : new.told ≡ old.told
   pub settings : new.settings ≡ old.settings
   pub answer : new.answer ≡ old.answer

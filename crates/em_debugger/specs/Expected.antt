@@ -1,6 +1,6 @@
 -- The answers that lines expect, and how many were given so.
 use Rattle.std.specs.Prelude.{◌≡◌, ℕ, ◌+◌, ◌&&◌, not, Bool, true, false, if◌then◌else◌, List, [], ◌∷◌, unwrap_or}
-use Rattle.em_turn.specs.Planned.{lists}
+use Rattle.em_tape.specs.Texts.{texts}
 use Rattle.em_expect.specs.Agreement.{agrees}
 use Rattle.em_expect.specs.Difference.{differs_text}
 use Rattle.em_expect.specs.Expectation.{expected_in}
@@ -12,7 +12,7 @@ use Rattle.em_debugger.specs.Told.{Puts, told_of}
 
 -- the answer that a line expects, by its number; where it expects none, no octet
 abbrev pub wanted : ℕ → Debugger → List ℕ
-wanted line d = told_of line (lists d.wanted.answers.items)
+wanted line d = told_of line (texts d.wanted.answers.items)
 
 -- the one that stands in a text; no octet, where none does
 abbrev pub wanted_in : List ℕ → List ℕ

@@ -8,7 +8,7 @@ use Rattle.em_looks.specs.Numbers.{counted_text}
 use Rattle.em_debugger.specs.declared.debugger.Debugger.{Debugger}
 use Rattle.em_debugger.specs.declared.disk.DiskFault.{DiskFault}
 use Rattle.em_debugger.specs.declared.disk.DiskFault.TheVariants.{Missing, Exists, Name, TooLarge, Memory, Failed}
-use Rattle.em_turn.specs.Planned.{lists}
+use Rattle.em_tape.specs.Texts.{texts}
 use Rattle.em_expect.specs.Expectation.{said_in}
 use Rattle.em_debugger.specs.Debugger.{KeepsSome}
 use Rattle.em_debugger.specs.Expected.{AllExpect}
@@ -19,8 +19,8 @@ use Rattle.em_debugger.specs.Performing.{Cuts, dropped_text, fault_text}
 -- what these lines say was put behind the last one, and which answers they expect; none of them is performed
 pub record AddsLines (old new : Debugger) (lines : List (List ℕ)) : Type 0 where
   pub tape : new.tape ≡ record old.tape { lines = old.tape.lines ++ map said_in lines }
-  pub expect : AllExpect (length old.tape.lines + 1) lines (lists old.wanted.answers.items)
-      (lists new.wanted.answers.items)
+  pub expect : AllExpect (length old.tape.lines + 1) lines (texts old.wanted.answers.items)
+      (texts new.wanted.answers.items)
   pub rest : KeepsSome old new
 
 -- why lines were not all added: one is too long or they are too many, or there is no memory

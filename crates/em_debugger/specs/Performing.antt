@@ -1,7 +1,7 @@
 -- Performing the line behind the place.
 use Rattle.std.specs.Prelude.{◌≡◌, ℕ, ◌+◌, ◌==◌, ◌<◌, ◌≤◌, nat_lt, Bool, true, false, not, ◌&&◌, ◌||◌, if◌then◌else◌}
 use Rattle.std.specs.Prelude.{List, [], ◌∷◌, ◌++◌, codes, length, take, Some, None, Ok}
-use Rattle.em_turn.specs.Planned.{lists}
+use Rattle.em_tape.specs.Texts.{texts}
 use Rattle.em_script.specs.Runner.{name_of}
 use Rattle.em_script.specs.declared.runner.BenchFault.{BenchFault}
 use Rattle.em_tape.specs.Ends.{end_of}
@@ -31,7 +31,7 @@ pub record Performs (old new : Debugger) (performed : Performed) : Type 0 where
   pub before : Tape
   pub whole : IsWhole old.tape before
   pub plays : Plays before new.tape (Some []) (Some new.answer.items) (Ok performed.outcome)
-  pub noted : Notes performed.line new.answer.items (lists old.told.answers.items) (lists new.told.answers.items)
+  pub noted : Notes performed.line new.answer.items (texts old.told.answers.items) (texts new.told.answers.items)
   pub settings : new.settings ≡ old.settings
   pub asked : new.asked ≡ old.asked
   pub warns : new.warns ≡ old.warns
@@ -83,11 +83,11 @@ is_among_lines tape =
 -- the lines ahead of the place were dropped, so many of them, and what was told of them and asked for
 pub record Cuts (old new : Debugger) (dropped : ℕ) : Type 0 where
   pub tape : IsCut old.tape new.tape dropped
-  pub told : lists new.told.answers.items ≡ take (length new.tape.lines) (lists old.told.answers.items)
+  pub told : texts new.told.answers.items ≡ take (length new.tape.lines) (texts old.told.answers.items)
   pub asked : new.asked ≡ None
   pub settings : new.settings ≡ old.settings
   pub warns : new.warns ≡ old.warns
-  pub wanted : lists new.wanted.answers.items ≡ take (length new.tape.lines) (lists old.wanted.answers.items)
+  pub wanted : texts new.wanted.answers.items ≡ take (length new.tape.lines) (texts old.wanted.answers.items)
   pub score : new.score ≡ old.score
   pub engines : new.engines ≡ old.engines
   pub offered : new.offered ≡ old.offered
@@ -97,8 +97,8 @@ pub record AddsLine (old new : Debugger) (line asked : List ℕ) (dropped : ℕ)
   pub between : Debugger
   pub cut : Cuts old between dropped
   pub tape : new.tape ≡ record between.tape { lines = between.tape.lines ++ line ∷ [] }
-  pub expects : Expects (length new.tape.lines) asked (lists between.wanted.answers.items)
-      (lists new.wanted.answers.items)
+  pub expects : Expects (length new.tape.lines) asked (texts between.wanted.answers.items)
+      (texts new.wanted.answers.items)
   pub rest : KeepsSome between new
 
 -- what drivers get wrong, if that is to be said

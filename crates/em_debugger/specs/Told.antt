@@ -22,4 +22,4 @@ Notes number text old new = Puts number (kept_of text) old new
 
 -- the texts beside the lines behind the first so many stand beside the next ones
 abbrev pub moved : ℕ → List (List ℕ) → List (List ℕ)
-moved lines texts = if nat_lt lines (length texts) then insert texts lines [] else texts
+moved lines held = if nat_lt lines (length held) then insert held lines [] else held

@@ -1,7 +1,7 @@
 //! The answers that lines expect, and how many were given so.
 ghost use Rattle.std.specs.Prelude.{◌≡◌, ◌<◌, OnOk, length, [], true, false};
 ghost use Rattle.em_text.specs.Writer.{Writes};
-ghost use Rattle.em_turn.specs.Planned.{lists};
+ghost use Rattle.em_tape.specs.Texts.{texts};
 ghost use Rattle.em_debugger.specs.Expected.{Expects, answers_otherwise, compared_text, differs, scored, wanted, with_answer};
 
 use crate::debugger::Debugger;
@@ -100,7 +100,7 @@ fn differs(wanted: &[u8], answer: &[u8]) -> bool
 /// Keeps which answer a line expects, if it expects one.
 pub(crate) fn expect(all: &mut Told, line: usize, answer: &[u8]) -> Result<(), AllocError>
     requires { 0 < line }
-    ensures ok { OnOk result (Expects line answer.now (lists all.old.answers.items) (lists all.new.answers.items)) }
+    ensures ok { OnOk result (Expects line answer.now (texts all.old.answers.items) (texts all.new.answers.items)) }
 {
     if answer.is_empty() {
         return Ok(());

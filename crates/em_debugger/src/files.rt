@@ -1,6 +1,6 @@
 //! Loading and saving lines.
 ghost use Rattle.std.specs.Prelude.{◌≡◌, ◌+◌, ◌++◌, ◌∷◌, [], ℕ, List, IfErr, IfOk, OnOk, codes, length, map};
-ghost use Rattle.em_turn.specs.Planned.{lists};
+ghost use Rattle.em_tape.specs.Texts.{texts};
 ghost use Rattle.em_expect.specs.Expectation.{said_in};
 ghost use Rattle.em_debugger.specs.Expected.{AllExpect, Expects, wanted_in};
 ghost use Rattle.std.specs.Io.KnownBytes.{Appends};
@@ -211,7 +211,7 @@ fn add_all(tape: &mut Tape, wanted: &mut Told, text: &[u8]) -> Result<usize, Ben
       lines = tape.old.lines ++ map said_in (lines_of text.now);
     }) }
     ensures expect { OnOk result (AllExpect (length tape.old.lines + 1) (lines_of text.now)
-        (lists wanted.old.answers.items) (lists wanted.new.answers.items)) }
+        (texts wanted.old.answers.items) (texts wanted.new.answers.items)) }
     ensures count { IfOk result (λ count. count ≡ length (lines_of text.now)) }
     ensures only { IfErr result IsUnadded }
 {
@@ -229,7 +229,7 @@ fn add_all(tape: &mut Tape, wanted: &mut Told, text: &[u8]) -> Result<usize, Ben
 fn add_line(tape: &mut Tape, wanted: &mut Told, line: &[u8]) -> Result<(), BenchFault>
     ensures ok { OnOk result (tape.new ≡ record tape.old { lines = tape.old.lines ++ said_in line.now ∷ [] }) }
     ensures expect { OnOk result (Expects (length tape.new.lines) (wanted_in line.now)
-        (lists wanted.old.answers.items) (lists wanted.new.answers.items)) }
+        (texts wanted.old.answers.items) (texts wanted.new.answers.items)) }
     ensures only { IfErr result IsUnadded }
 {
     let asked = expectation(line);

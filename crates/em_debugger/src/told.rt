@@ -1,10 +1,11 @@
 //! What the lines were answered, and other texts beside lines.
-ghost use Rattle.std.specs.Prelude.{◌≡◌, ◌<◌, OnOk, [], take, slice_get};
+ghost use Rattle.std.specs.Prelude.{◌≡◌, ◌<◌, OnOk, [], length, take, slice_get, slice_set};
 ghost use Rattle.std.specs.Option.{option_map};
-ghost use Rattle.em_turn.specs.Planned.{lists};
+ghost use Rattle.em_tape.specs.Texts.{texts};
 ghost use Rattle.em_tape.specs.Tape.{line_at};
 ghost use Rattle.em_debugger.specs.Told.{kept_of, moved, told_of, Notes, Puts};
 
+use em_tape::Text;
 use em_text::next_line;
 use std::alloc::{AllocError, Global};
 
@@ -15,13 +16,13 @@ const MOST_KEPT: usize = 64;
 #[derive(Drop)]
 pub(crate) struct Told {
     alloc: Global,
-    answers: Vec<Vec<u8>>,
+    answers: Vec<Text>,
 }
 
 impl Told {
     /// Before any line.
     pub(crate) fn new(alloc: Global) -> Told
-        ensures { lists result.answers.items ≡ [] }
+        ensures { texts result.answers.items ≡ [] }
     {
         Told {
             alloc,
@@ -32,7 +33,7 @@ impl Told {
     /// Notes the answer to the line of this number, from 1.
     pub(crate) fn note(&mut self, number: usize, text: &[u8]) -> Result<(), AllocError>
         requires { 0 < number }
-        ensures ok { OnOk result (Notes number text.now (lists self.old.answers.items) (lists self.new.answers.items)) }
+        ensures ok { OnOk result (Notes number text.now (texts self.old.answers.items) (texts self.new.answers.items)) }
     {
         self.put(number, kept_of(text))
     }
@@ -40,25 +41,32 @@ impl Told {
     /// Puts a text beside the line of this number, from 1.
     pub(crate) fn put(&mut self, number: usize, text: &[u8]) -> Result<(), AllocError>
         requires { 0 < number }
-        ensures ok { OnOk result (Puts number text.now (lists self.old.answers.items) (lists self.new.answers.items)) }
+        ensures ok { OnOk result (Puts number text.now (texts self.old.answers.items) (texts self.new.answers.items)) }
     {
-        let kept = text.to_vec(self.alloc)?;
         while self.answers.len() < number {
-            self.answers.push(Vec::new(self.alloc))?;
+            self.answers.push(Text::new(self.alloc))?;
         }
-        self.answers[number - 1] = kept;
+        let text = Text::from_slice(self.alloc, text)?;
+        self.set(number - 1, text);
         Ok(())
+    }
+
+    fn set(&mut self, before: usize, text: Text)
+        requires { before < length self.old.answers.items }
+        ensures { self.new.answers.items ≡ slice_set self.old.answers.items before text }
+    {
+        self.answers[before] = text;
     }
 
     /// What is kept of the answer to the line of this number; where nothing is, no octet.
     pub(crate) fn of(&self, number: usize) -> &[u8]
-        ensures { result.now ≡ told_of number (lists self.now.answers.items) }
+        ensures { result.now ≡ told_of number (texts self.now.answers.items) }
     {
         self.find(number).unwrap_or_default()
     }
 
     fn find(&self, number: usize) -> Option<&[u8]>
-        ensures { option_map (λ text. text.now) result ≡ line_at number (lists self.now.answers.items) }
+        ensures { option_map (λ text. text.now) result ≡ line_at number (texts self.now.answers.items) }
     {
         if number == 0 {
             return None;
@@ -68,10 +76,10 @@ impl Told {
 
     /// Makes way for a line behind so many: what stands beside the lines behind those then stands beside the next ones.
     pub(crate) fn make_way(&mut self, lines: usize) -> Result<(), AllocError>
-        ensures ok { OnOk result (lists self.new.answers.items ≡ moved lines (lists self.old.answers.items)) }
+        ensures ok { OnOk result (texts self.new.answers.items ≡ moved lines (texts self.old.answers.items)) }
     {
         if lines < self.answers.len() {
-            self.answers.insert(lines, Vec::new(self.alloc))?;
+            self.answers.insert(lines, Text::new(self.alloc))?;
         }
         Ok(())
     }
@@ -85,15 +93,15 @@ impl Told {
 
     /// Forgets the answers to the lines behind so many.
     pub(crate) fn keep(&mut self, lines: usize)
-        ensures { lists self.new.answers.items ≡ take lines (lists self.old.answers.items) }
+        ensures { texts self.new.answers.items ≡ take lines (texts self.old.answers.items) }
     {
         self.answers.truncate(lines);
     }
 }
 
 /// The answer behind the first so many.
-fn answer_at(answers: &[Vec<u8>], before: usize) -> Option<&[u8]>
-    ensures { option_map (λ text. text.now) result ≡ slice_get (lists answers.now) before }
+fn answer_at(answers: &[Text], before: usize) -> Option<&[u8]>
+    ensures { option_map (λ text. text.now) result ≡ slice_get (texts answers.now) before }
 {
     match answers.get(before) {
         Some(answer) => Some(answer.as_slice()),

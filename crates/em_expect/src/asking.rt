@@ -45,10 +45,12 @@ fn asked_in(line: &[u8]) -> Option<usize>
     ensures place { result ≡ asked_in line.now }
     ensures within { IfSome result (λ at. at < length line.now) }
 {
+    // Most lines have no such word, and need not be looked at for a comment.
+    let at = equals_in(line)?;
     if is_comment_line(line) {
         None
     } else {
-        equals_in(line)
+        Some(at)
     }
 }
 

@@ -74,7 +74,7 @@ impl Player {
             session.old session.new (W.contents writer.old) (W.contents writer.new) result }
     {
         if is_name(line.name, b"turns") {
-            return Ok(self.play_turns(writer, session, line));
+            return Ok(self.play_turns(writer, session, line.number, line.words));
         }
         self.play_event(writer, session, line)
     }
@@ -179,7 +179,7 @@ impl Player {
                 &mut self.peek_buffer,
             ));
         }
-        self.play_request(writer, session, line)
+        self.play_request(writer, session, line.number, line.name, line.words)
     }
 
     /// Sets the plan that the words of a line say, if they say one.
@@ -188,15 +188,16 @@ impl Player {
         &mut self,
         writer: &mut W,
         session: &mut Session,
-        line: NamedLine<'_>,
+        number: u32,
+        words: Words<'_>,
     ) -> Result<Outcome, WriteFailed>
-        requires { length (words_of line.words.0.now) < 0x1_0000_0000 }
-        ensures { Performs line.entry.number (turns_form (words_of line.entry.words.0.now))
+        requires { length (words_of words.0.now) < 0x1_0000_0000 }
+        ensures { Performs number (turns_form (words_of words.entry.0.now))
             session.old session.new (W.contents writer.old) (W.contents writer.new) result }
     {
-        match turns_form(line.words) {
+        match turns_form(words) {
             Some(plan) => set_plan(self.alloc, writer, session, plan),
-            None => write_bad_line(writer, line.number),
+            None => write_bad_line(writer, number),
         }
     }
 
@@ -206,16 +207,13 @@ impl Player {
         &mut self,
         writer: &mut W,
         session: &mut Session,
-        line: NamedLine<'_>,
+        number: u32,
+        name: &[u8],
+        words: Words<'_>,
     ) -> Result<Result<Outcome, WriteFailed>, AllocError>
-        ensures { Plays line.entry.number (request_line (request_form line.entry.name.now (arguments_of (words_of line.entry.words.0.now))))
+        ensures { Plays number (request_line (request_form name.entry.now (arguments_of (words_of words.entry.0.now))))
             session.old session.new (W.contents writer.old) (W.contents writer.new) result }
     {
-        let NamedLine {
-            number,
-            name,
-            words,
-        } = line;
         let packets = &mut session.packets;
         match request_form(self.alloc, name, words, &mut self.data_buffer, packets)? {
             Some(request) => Ok(ask(self.alloc, writer, session, request)),

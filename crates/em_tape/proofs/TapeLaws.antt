@@ -1,13 +1,13 @@
 -- A place that moves, and the lines behind it.
 use Rattle.std.proofs.Common.{◌≡◌, ℕ, ◌+◌, ◌-◌, ◌<◌, ◌≤◌, zero, suc, List, [], ◌∷◌, ◌++◌, length, take, drop, Some, Option, Result}
 use Rattle.std.proofs.Common.{refl, sym, ap, ◌∙◌, subst, arith, inl, inr}
-use Rattle.std.specs.Prelude.{slice_get, get_or, All, Vec, insert, min}
-use Rattle.std.specs.Global.{Global}
+use Rattle.std.specs.Prelude.{slice_get, get_or, All, insert, min}
 use Rattle.std.specs.Option.{option_map}
 use Rattle.std.proofs.lemmas.Bool.{cases_lt}
 use Rattle.std.proofs.lemmas.List.{drop-map, map-append, nil_from_length, take-map}
 use Rattle.std.proofs.lemmas.Option.{slice_get-map, slice_get-get_or, get_or_from_slice_get, slice_get_within}
-use Rattle.em_turn.specs.Planned.{lists}
+use Rattle.smallvec.specs.SmallVec.{SmallVec}
+use Rattle.em_tape.specs.Texts.{texts}
 use Rattle.em_journal.specs.View.{View, after_back, after_backs}
 use Rattle.em_journal.proofs.BackLaws.{no_more_back, past_left}
 use Rattle.em_line.specs.Grammar.{parsed_line}
@@ -73,11 +73,11 @@ at_next {first = first} {after = after} lines k line is place did =
     subst (λ ls. IsAt first ls 0 after) (sym (take-more k lines line is)) (at_more line place did)
 
 -- a line as the code holds it
-pub line_in : (ls : List (Vec ℕ Global)) (k : ℕ) (x : Vec ℕ Global) → k < length ls → x ≡ get_or ls k x
-    → slice_get (lists ls) k ≡ Some x.items
+pub line_in : (ls : List (SmallVec ℕ)) (k : ℕ) (x : SmallVec ℕ) → k < length ls → x ≡ get_or ls k x
+    → slice_get (texts ls) k ≡ Some x.items
 line_in ls k x lt is =
-    slice_get-map (λ (v : Vec ℕ Global). v.items) ls k
-    ∙ ap (option_map (λ (v : Vec ℕ Global). v.items)) (slice_get-get_or ls k x lt ∙ ap Some (sym is))
+    slice_get-map (λ (v : SmallVec ℕ). v.items) ls k
+    ∙ ap (option_map (λ (v : SmallVec ℕ). v.items)) (slice_get-get_or ls k x lt ∙ ap Some (sym is))
 
 -- each line is one that can be played
 pub short_at : (lines : List (List ℕ)) (k : ℕ) (line : List ℕ) → All IsShort lines → slice_get lines k ≡ Some line
@@ -138,10 +138,10 @@ at_back {back = back} n place = record {
 
 -- ---- a line among others
 
--- the octets of vectors, one of which is put among the others
-pub lists-insert : (lines : List (Vec ℕ Global)) (before : ℕ) (line : Vec ℕ Global)
-    → lists (insert lines before line) ≡ insert (lists lines) before line.items
-lists-insert lines before line =
-    map-append (λ (v : Vec ℕ Global). v.items) (take before lines) (line ∷ drop before lines)
-    ∙ ap (λ l. l ++ line.items ∷ lists (drop before lines)) (sym (take-map (λ (v : Vec ℕ Global). v.items) before lines))
-    ∙ ap (λ l. take before (lists lines) ++ line.items ∷ l) (sym (drop-map (λ (v : Vec ℕ Global). v.items) before lines))
+-- the octets of texts, one of which is put among the others
+pub texts-insert : (lines : List (SmallVec ℕ)) (before : ℕ) (line : SmallVec ℕ)
+    → texts (insert lines before line) ≡ insert (texts lines) before line.items
+texts-insert lines before line =
+    map-append (λ (v : SmallVec ℕ). v.items) (take before lines) (line ∷ drop before lines)
+    ∙ ap (λ l. l ++ line.items ∷ texts (drop before lines)) (sym (take-map (λ (v : SmallVec ℕ). v.items) before lines))
+    ∙ ap (λ l. take before (texts lines) ++ line.items ∷ l) (sym (drop-map (λ (v : SmallVec ℕ). v.items) before lines))

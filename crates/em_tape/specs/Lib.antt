@@ -5,3 +5,4 @@ pub mod Kind
 pub mod Replied
 pub mod Tape
 pub mod Moves
+pub mod Texts

@@ -1,6 +1,6 @@
 //! Going along lines that did no more than one event each, from where the session is.
 ghost use Rattle.std.specs.Prelude.{◌≡◌, ◌<◌, ◌≤◌, ◌^◌, ◌∷◌, [], All, List, ℕ, false, length, take, IsTrue, IsNone, IfSome, Some};
-ghost use Rattle.em_turn.specs.Planned.{lists};
+ghost use Rattle.em_tape.specs.Texts.{texts};
 ghost use Rattle.em_line.specs.Grammar.{parsed_line};
 ghost use Rattle.em_script.specs.PlayedLine.{PlayedLine, after_all};
 ghost use Rattle.em_script.specs.Session.{Session};
@@ -8,6 +8,7 @@ ghost use Rattle.em_tape.specs.Did.{AllDo, AreDone, Does, IsKnown, PerformsOne, 
 ghost use Rattle.em_tape.specs.Tape.{IsShort};
 
 use crate::did::{Did, events_of, line_before};
+use crate::text::Text;
 use em_script::{Player, Session};
 use std::io::sink;
 
@@ -16,21 +17,21 @@ use std::io::sink;
 pub(crate) fn go_along(
     player: &mut Player,
     session: &mut Session,
-    lines: &[Vec<u8>],
+    lines: &[Text],
     did: &[Did],
     whole: usize,
     back: usize,
     line: usize,
 ) -> bool
-    requires short { All IsShort (lists lines.now) }
+    requires short { All IsShort (texts lines.now) }
     requires known { length did.now ≤ length lines.now }
     requires within { whole ≤ length did.now }
     requires room { length session.old.machine.past < 2 ^ 64 }
     ensures there { IsTrue result → (first : Session)
-        → IsKnown first (lists lines.now) did.now whole back session.old
-        → IsKnown first (lists lines.now) did.now line 0 session.new }
+        → IsKnown first (texts lines.now) did.now whole back session.old
+        → IsKnown first (texts lines.now) did.now line 0 session.new }
     ensures same { result ≡ false → (first : Session)
-        → IsKnown first (lists lines.now) did.now whole back session.old → session.new ≡ session.old }
+        → IsKnown first (texts lines.now) did.now whole back session.old → session.new ≡ session.old }
     ensures within { IsTrue result → line ≤ length did.now }
     ensures room { length session.new.machine.past < 2 ^ 64 }
 {
@@ -66,15 +67,15 @@ fn take_back(session: &mut Session, did: &[Did]) -> bool
 
 /// Performs lines again, each of which did no more than one event. False where one of them did something else, or does
 /// not do so again: then the session stays.
-fn perform_again(player: &mut Player, session: &mut Session, lines: &[Vec<u8>], did: &[Did]) -> bool
-    requires short { All IsShort (lists lines.now) }
+fn perform_again(player: &mut Player, session: &mut Session, lines: &[Text], did: &[Did]) -> bool
+    requires short { All IsShort (texts lines.now) }
     requires known { length did.now ≤ length lines.now }
     requires room { length session.old.machine.past < 2 ^ 64 }
     ensures there { IsTrue result → (all : List PlayedLine)
-        → AreDone all did.now (lists lines.now) session.old
+        → AreDone all did.now (texts lines.now) session.old
         → session.new ≡ after_all (take (length did.now) all) session.old }
     ensures same { result ≡ false → (all : List PlayedLine)
-        → AreDone all did.now (lists lines.now) session.old → session.new ≡ session.old }
+        → AreDone all did.now (texts lines.now) session.old → session.new ≡ session.old }
     ensures room { length session.new.machine.past < 2 ^ 64 }
 {
     let mut events = 0;

@@ -16,6 +16,8 @@ mod laws;
 mod lines;
 mod playing;
 mod tape;
+mod text;
 
 pub use laws::a_place_shows_the_same;
 pub use tape::{MOST_LINES, MOST_OCTETS, Tape};
+pub use text::Text;

@@ -1,6 +1,6 @@
 //! Performing the lines of a tape, for the first time and again.
 ghost use Rattle.std.specs.Prelude.{◌≡◌, ◌<◌, ◌≤◌, ◌^◌, [], All, length, IfOk, IfErr, IfSome, OnOk, IsNone};
-ghost use Rattle.em_turn.specs.Planned.{lists};
+ghost use Rattle.em_tape.specs.Texts.{texts};
 ghost use Rattle.em_journal.specs.Settings.{new_machine, IsRefusedAs};
 ghost use Rattle.em_line.specs.Grammar.{parsed_line};
 ghost use Rattle.em_script.specs.Session.{bare};
@@ -12,6 +12,7 @@ ghost use Rattle.em_tape.specs.Tape.{IsShort};
 use crate::count::{Count, Seen};
 use crate::did::{Did, did_of};
 use crate::kind::kind_of;
+use crate::text::Text;
 use em_journal::{Settings, SettingsRefusal};
 use em_script::{BenchFault, Outcome, Player, Session};
 use em_text::WriteFailed;
@@ -94,16 +95,16 @@ fn replied_of(played: Result<Outcome, BenchFault>) -> Option<Result<Outcome, Wri
 fn replay(
     player: &mut Player,
     session: &mut Session,
-    lines: &[Vec<u8>],
+    lines: &[Text],
     ends: &[u64],
     count: &mut Count,
     did: &mut Vec<Did>,
 ) -> Result<(), BenchFault>
-    requires short { All IsShort (lists lines.now) }
+    requires short { All IsShort (texts lines.now) }
     requires few { length lines.now ≤ 0xFFFF_FFFF }
     requires room { length session.old.machine.past < 2 ^ 64 }
     requires first { did.old.items ≡ [] }
-    ensures ok { OnOk result (IsKnown session.old (lists lines.now) did.new.items (length lines.now) 0 session.new) }
+    ensures ok { OnOk result (IsKnown session.old (texts lines.now) did.new.items (length lines.now) 0 session.new) }
     ensures room { length session.new.machine.past < 2 ^ 64 }
     ensures err { IfErr result (λ fault. fault ≡ BenchFault.Memory) }
 {
@@ -143,13 +144,13 @@ pub(crate) fn replayed(
     alloc: Global,
     settings: Settings,
     player: &mut Player,
-    lines: &[Vec<u8>],
+    lines: &[Text],
     ends: &[u64],
 ) -> Result<Left, BenchFault>
-    requires short { All IsShort (lists lines.now) }
+    requires short { All IsShort (texts lines.now) }
     requires few { length lines.now ≤ 0xFFFF_FFFF }
     ensures ok { IfOk result (λ r.
-        IsKnown (bare (new_machine settings)) (lists lines.now) r.did.items (length lines.now) 0 r.session) }
+        IsKnown (bare (new_machine settings)) (texts lines.now) r.did.items (length lines.now) 0 r.session) }
     ensures room { IfOk result (λ r. length r.session.machine.past < 2 ^ 64) }
     ensures err { IfErr result (λ fault. fault ≡ BenchFault.Memory) }
 {

@@ -14,6 +14,7 @@ use crate::did::{Did, keep};
 use crate::ends::{end_of, line_of, note};
 use crate::lines::{back_line, push_line, put_line, text_at};
 use crate::playing::{Left, opening, play, put, replayed};
+use crate::text::Text;
 use em_journal::{Machine, Settings, SettingsRefusal};
 use em_script::{BenchFault, Outcome, Player, Session};
 use em_text::WriteFailed;
@@ -40,7 +41,7 @@ pub struct Tape {
     settings: Settings,
     player: Player,
     session: Session,
-    lines: Vec<Vec<u8>>,
+    lines: Vec<Text>,
     // how many events stand after each line that was performed so far
     ends: Vec<u64>,
     // how many lines stand performed
@@ -54,7 +55,7 @@ pub struct Tape {
 }
 
 impl Model for Tape {
-    ghost use Rattle.em_turn.specs.Planned.{lists};
+    ghost use Rattle.em_tape.specs.Texts.{texts};
     ghost use Rattle.em_journal.specs.Settings.{new_machine};
     ghost use Rattle.em_script.specs.Session.{bare};
     ghost use Rattle.em_tape.specs.Tape.{Tape, tape_code};
@@ -66,7 +67,7 @@ impl Model for Tape {
 
     ghost view = { λ t. record {
       first = bare (new_machine t.settings);
-      lines = lists t.lines.items;
+      lines = texts t.lines.items;
       ends = t.ends.items;
       whole = t.whole;
       back = t.back;
@@ -74,7 +75,7 @@ impl Model for Tape {
     } };
 
     ghost invariant = { λ t.
-        Holds (bare (new_machine t.settings)) (lists t.lines.items) t.ends.items t.did.items t.whole t.back t.session };
+        Holds (bare (new_machine t.settings)) (texts t.lines.items) t.ends.items t.did.items t.whole t.back t.session };
 }
 
 impl Tape {

@@ -1,5 +1,5 @@
 -- What a text that is written leaves in a writer, and the texts of octets and numbers.
-use Rattle.std.specs.Prelude.{ℕ, ◌<◌, List, ◌++◌, length, take, drop, Option, Result, MatchResult, codes, decimal}
+use Rattle.std.specs.Prelude.{ℕ, ◌≡◌, ◌*◌, ◌<◌, List, ◌++◌, length, take, drop, Option, Result, MatchResult, codes, decimal}
 use Rattle.std.specs.Int.{w32, to_be_bytes}
 use Rattle.std.specs.Io.KnownBytes.{Appends}
 use Rattle.hex.specs.Hex.{encode_upper}
@@ -17,6 +17,10 @@ Writes old new result text = MatchResult result (λ _. Appends old new text) (λ
 -- octets in upper case digits, two for each
 abbrev pub hex_text : List ℕ → List ℕ
 hex_text octets = encode_upper octets
+
+-- the digits of the first so many octets stand at the front of a text
+abbrev pub AreDigits : List ℕ → List ℕ → ℕ → Type 0
+AreDigits octets digits count = take (2 * count) digits ++ hex_text (drop count octets) ≡ hex_text octets
 
 -- a line of octets
 abbrev pub hex_line_text : List ℕ → List ℕ

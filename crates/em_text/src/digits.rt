@@ -1,6 +1,7 @@
 //! The values of digits, by a table: digits are most of a script, and their letters and numerals
 //! are mixed too well for a branch to be foreseen.
-ghost use Rattle.std.specs.Prelude.{◌≡◌, ◌+◌, ◌<◌, ◌≤◌, ◌/◌, ◌%◌, ℕ, [], ◌∷◌, length, min, slice_index};
+ghost use Rattle.std.specs.Prelude.{◌≡◌, ◌+◌, ◌<◌, ◌≤◌, ◌/◌, ◌%◌, ℕ, [], ◌∷◌, length, map, min, slice_index};
+ghost use Rattle.em_text.specs.Digits.{lane_digit};
 ghost use Rattle.hex.specs.Hex.{upper_digits};
 ghost use Rattle.std.specs.Char.{digit_value};
 
@@ -21,8 +22,13 @@ const NUMERALS: u8 = 10;
 /// How many hexadecimal digits are letters.
 const LETTERS: u8 = 6;
 
-/// How far the letters in upper case stand behind the numerals.
-const PAST_NUMERALS: u8 = b'A' - b'0' - NUMERALS;
+/// What a letter in upper case is past its value.
+const PAST_VALUE: u8 = b'A' - NUMERALS;
+
+/// How many bits the low digit of an octet has, and which they are.
+const DIGIT_BITS: u8 = 4;
+
+const LOW_DIGIT: u8 = 0x0F;
 
 /// The bit that a letter has in lower case alone.
 const LOWER: u8 = 0x20;
@@ -72,15 +78,38 @@ pub fn hex_values<const N: usize>(text: &[u8], from: usize) -> Simd<u8, N>
         .select(numerals, letters)
 }
 
-/// The hexadecimal digit in upper case of a value below 16. By a comparison in place of the table, so
-/// that a loop over many octets takes several at once.
+/// The hexadecimal digits in upper case of values below 16. By a comparison of one vector in place of the table.
 #[inline(always)]
-pub fn upper_digit(value: u8) -> u8
-    requires { value < 16 }
-    ensures { result ≡ slice_index upper_digits value }
+fn digit_lanes<const N: usize>(values: Simd<u8, N>) -> Simd<u8, N>
+    ensures { result ≡ map lane_digit values.entry }
 {
-    let past = if value < NUMERALS { 0 } else { PAST_NUMERALS };
-    b'0' + value + past
+    let numerals = values + Simd::splat(b'0');
+    let letters = values + Simd::splat(PAST_VALUE);
+    values
+        .simd_lt(Simd::splat(NUMERALS))
+        .select(numerals, letters)
+}
+
+/// The hexadecimal digits in upper case of the high four bits of `N` octets.
+#[inline(always)]
+pub fn high_digits<const N: usize>(octets: &[u8], from: usize) -> Simd<u8, N>
+    requires { from + N ≤ length octets.now }
+    ensures { (i : ℕ) → i < N
+        → slice_index result i ≡ slice_index upper_digits (slice_index octets.now (from + i) / 16) }
+{
+    let octets = Simd::<u8, N>::from_slice(&octets[from..]);
+    digit_lanes(octets >> Simd::splat(DIGIT_BITS))
+}
+
+/// The digits of their low four bits.
+#[inline(always)]
+pub fn low_digits<const N: usize>(octets: &[u8], from: usize) -> Simd<u8, N>
+    requires { from + N ≤ length octets.now }
+    ensures { (i : ℕ) → i < N
+        → slice_index result i ≡ slice_index upper_digits (slice_index octets.now (from + i) % 16) }
+{
+    let octets = Simd::<u8, N>::from_slice(&octets[from..]);
+    digit_lanes(octets & Simd::splat(LOW_DIGIT))
 }
 
 /// The two digits of each octet in upper case, one octet after another.

@@ -2,9 +2,9 @@
 ghost use Rattle.std.specs.Prelude.{◌≡◌, ◌+◌, ◌*◌, ◌^◌, ◌<◌, ◌≤◌, length, drop, [], ◌∷◌, ◌++◌};
 ghost use Rattle.std.specs.List.{flat_map};
 ghost use Rattle.em_text.specs.Writer.{Writes, hex_text, hex_line_text, value_digits, value_text, register_line_text};
-ghost use Rattle.em_text.specs.Writer.{decimal_line_text, numbers_text};
+ghost use Rattle.em_text.specs.Writer.{decimal_line_text, numbers_text, AreDigits};
 
-use crate::digits::{HALF_LANES, digit_pair, upper_digit};
+use crate::digits::{HALF_LANES, LANES, digit_pair, high_digits, low_digits};
 use itoa::write_digits;
 use std::io::Write;
 
@@ -223,15 +223,36 @@ fn fill_digits(octets: &[u8], digits: &mut [u8])
     requires { length digits.old ≡ 2 * length octets.now }
     ensures { digits.new ≡ hex_text octets.now }
 {
-    let even = octets.len() / HALF_LANES * HALF_LANES;
-    for i in 0..even {
-        let octet = octets[i];
-        digits[2 * i] = upper_digit(octet >> 4);
-        digits[2 * i + 1] = upper_digit(octet & 0x0f);
+    let mut done = 0;
+    while octets.len() - done >= LANES {
+        fill_lanes::<LANES>(octets, digits, done);
+        done += LANES;
     }
-    for i in even..octets.len() {
+    if octets.len() - done >= HALF_LANES {
+        fill_lanes::<HALF_LANES>(octets, digits, done);
+        done += HALF_LANES;
+    }
+    for i in done..octets.len() {
         let [high, low] = digit_pair(octets[i]);
         digits[2 * i] = high;
         digits[2 * i + 1] = low;
+    }
+}
+
+/// The digits of `N` octets from `done` on, which are taken as one vector.
+#[inline(always)]
+fn fill_lanes<const N: usize>(octets: &[u8], digits: &mut [u8], done: usize)
+    requires room { done + N ≤ length octets.now }
+    requires few { N ≤ 64 }
+    requires digits { length digits.old ≡ 2 * length octets.now }
+    requires before { AreDigits octets.now digits.old done }
+    ensures len { length digits.new ≡ length digits.old }
+    ensures after { AreDigits octets.now digits.new (done + N) }
+{
+    let high = high_digits::<N>(octets, done).to_array();
+    let low = low_digits::<N>(octets, done).to_array();
+    for i in 0..N {
+        digits[2 * (done + i)] = high[i];
+        digits[2 * (done + i) + 1] = low[i];
     }
 }

@@ -1,7 +1,7 @@
 use Rattle.std.proofs.Common.{◌≡◌, ◌∙◌, ◌+◌, ◌∷◌, [], subst, ap, map, length, length-append, arith, rules}
 use Rattle.std.proofs.lemmas.List.{length-map}
 use Rattle.em_expect.specs.Expectation.{said_in}
-use Rattle.em_turn.specs.Planned.{lists}
+use Rattle.em_tape.specs.Texts.{texts}
 use Rattle.em_text.specs.Lines.{lines_of}
 use Rattle.em_tape.specs.Tape.{Tape}
 use Rattle.em_debugger.specs.Expected.{Expects, wanted_in}
@@ -27,7 +27,7 @@ pub returns-clause-expect : goal.returns-clause-expect
 returns-clause-expect c =
     let none : length c.loop-rest.rest.now ≡ 0 = search rules in
     ExpectedSo-all (length c.args.tape.now.lines + 1) (length c.loop-rest.tape.lines + 1)
-    (lists c.args.wanted.now.answers.items) (lists c.loop-rest.wanted.answers.items) c.args.text.now c.loop-rest.rest.now
+    (texts c.args.wanted.now.answers.items) (texts c.loop-rest.wanted.answers.items) c.args.text.now c.loop-rest.rest.now
     c.loop-rest.invariant.expected none
 
 pub loop-rest-preserved : goal.loop-rest-preserved
@@ -36,8 +36,8 @@ loop-rest-preserved c =
     let new = c.add_line.new.tape in
     let line = c.next_line.result.0.now in
     let behind = c.next_line.result.1.now in
-    let held = lists c.loop-rest.wanted.answers.items in
-    let holds = lists c.add_line.new.wanted.answers.items in
+    let held = texts c.loop-rest.wanted.answers.items in
+    let holds = texts c.add_line.new.wanted.answers.items in
     let added = c.in_ok-add_line.ensures.ok in
     let long : length new.lines ≡ length old.lines + 1 =
     ap (λ (t : Tape). length t.lines) added ∙ length-append old.lines (said_in line ∷ []) in
@@ -47,6 +47,6 @@ loop-rest-preserved c =
       added = AddedSo-more c.args.tape.now old new c.args.text.now c.loop-rest.rest.now line behind
           c.loop-rest.invariant.added c.next_line.ensures.lines added;
       expected = ExpectedSo-more (length c.args.tape.now.lines + 1) (length old.lines + 1) (length new.lines + 1)
-          (lists c.args.wanted.now.answers.items) held holds c.args.text.now c.loop-rest.rest.now line behind
+          (texts c.args.wanted.now.answers.items) held holds c.args.text.now c.loop-rest.rest.now line behind
           c.loop-rest.invariant.expected c.next_line.ensures.lines expects (ap (λ n. n + 1) long);
     }

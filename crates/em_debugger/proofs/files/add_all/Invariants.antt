@@ -1,5 +1,5 @@
 use Rattle.std.proofs.Common.{◌+◌, length}
-use Rattle.em_turn.specs.Planned.{lists}
+use Rattle.em_tape.specs.Texts.{texts}
 use Rattle.em_debugger.proofs.FilesLaws.{AddedSo, ExpectedSo}
 use Rattle.em_debugger.proofs.files.add_all.Given as goal
 
@@ -9,7 +9,7 @@ invariant-loop-rest l =
     record {
       added : AddedSo l.fn.tape l.tape l.fn.text l.rest;
       expected : ExpectedSo (length l.fn.tape.lines + 1) (length l.tape.lines + 1)
-          (lists l.fn.wanted.answers.items) (lists l.wanted.answers.items) l.fn.text l.rest;
+          (texts l.fn.wanted.answers.items) (texts l.wanted.answers.items) l.fn.text l.rest;
     }
 
 abbrev pub decreases-loop-rest : goal.decreases-loop-rest

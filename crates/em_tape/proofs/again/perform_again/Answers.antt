@@ -1,7 +1,7 @@
 use Rattle.std.proofs.Common.{◌≡◌, ◌+◌, ◌<◌, ◌∙◌, Some, length, take, refl, ap, sym, arith}
 use Rattle.std.specs.Prelude.{slice_get}
 use Rattle.std.proofs.lemmas.List.{take_more}
-use Rattle.em_turn.specs.Planned.{lists}
+use Rattle.em_tape.specs.Texts.{texts}
 use Rattle.em_script.specs.PlayedLine.{after_all}
 use Rattle.em_script.specs.Session.{Session}
 use Rattle.em_tape.specs.Did.{events_in}
@@ -16,9 +16,9 @@ do_again-requires c =
     let ls = c.args.lines.now in
     let k = c.loop-done.done in
     let within : k < length ls = omega (arith, c.requires.known, c.loop-done-test.true) in
-    let is : slice_get (lists ls) k ≡ Some c.as_slice.result.now =
-    line_in ls k c.index-lines-done.result within c.index-lines-done.is ∙ ap Some (sym c.as_slice.ensures.value) in
-    short_at (lists ls) k c.as_slice.result.now c.requires.short is
+    let is : slice_get (texts ls) k ≡ Some c.as_slice.result.now =
+    line_in ls k c.index-lines-done.result within c.index-lines-done.is ∙ ap Some (sym c.as_slice.ensures) in
+    short_at (texts ls) k c.as_slice.result.now c.requires.short is
 
 pub returns-in-None-clause-same : goal.returns-in-None-clause-same
 returns-in-None-clause-same c = λ failed all done.
@@ -27,10 +27,10 @@ returns-in-None-clause-same c = λ failed all done.
     let first = c.args.session.now in
     let k = c.loop-done.done in
     let within : k < length ls = omega (arith, c.requires.known, c.loop-done-test.true) in
-    let is : slice_get (lists ls) k ≡ Some c.as_slice.result.now =
-    line_in ls k c.index-lines-done.result within c.index-lines-done.is ∙ ap Some (sym c.as_slice.ensures.value) in
+    let is : slice_get (texts ls) k ≡ Some c.as_slice.result.now =
+    line_in ls k c.index-lines-done.result within c.index-lines-done.is ∙ ap Some (sym c.as_slice.ensures) in
     let here = c.loop-done.invariant.here all done in
-    let does = done_at k Nothing c.as_slice.result.now all did (lists ls) first c.loop-done.session done here
+    let does = done_at k Nothing c.as_slice.result.now all did (texts ls) first c.loop-done.session done here
     c.loop-done-test.true is in
     c.back_by-taken.ensures.session
     ∙ ap (taken_back c.loop-done.events) (c.in-None.ensures.same refl (after_all (take (k + 1) all) first) does ∙ here)
@@ -49,8 +49,8 @@ loop-done-preserved c =
     let first = c.args.session.now in
     let k = c.loop-done.done in
     let within : k < length ls = omega (arith, c.requires.known, c.loop-done-test.true) in
-    let is : slice_get (lists ls) k ≡ Some c.as_slice.result.now =
-    line_in ls k c.index-lines-done.result within c.index-lines-done.is ∙ ap Some (sym c.as_slice.ensures.value) in
+    let is : slice_get (texts ls) k ≡ Some c.as_slice.result.now =
+    line_in ls k c.index-lines-done.result within c.index-lines-done.is ∙ ap Some (sym c.as_slice.ensures) in
     let one = c.in-Some.ensures.does.0 in
     record {
       within = omega (arith, c.loop-done-test.true);
@@ -58,7 +58,7 @@ loop-done-preserved c =
       events = ap events_in (take_more did k Nothing c.loop-done-test.true)
           ∙ events_push (take k did) _ c.loop-done.events c.in-Some.more c.loop-done.invariant.events one;
       here = λ all done. c.in-Some.ensures.does.1 (after_all (take (k + 1) all) first)
-          (done_at k Nothing c.as_slice.result.now all did (lists ls) first c.loop-done.session done
+          (done_at k Nothing c.as_slice.result.now all did (texts ls) first c.loop-done.session done
           (c.loop-done.invariant.here all done) c.loop-done-test.true is);
       room = c.in-Some.ensures.room c.loop-done.invariant.room;
     }

@@ -1,5 +1,5 @@
 use Rattle.std.proofs.Common.{◌≡◌, ◌<◌, ◌≤◌, ◌-◌, ◌^◌, List, Some, length, take}
-use Rattle.em_turn.specs.Planned.{lists}
+use Rattle.em_tape.specs.Texts.{texts}
 use Rattle.em_script.specs.PlayedLine.{PlayedLine, after_all}
 use Rattle.em_tape.specs.Did.{AreDone, events_in}
 use Rattle.em_tape.proofs.again.perform_again.Given as goal
@@ -11,7 +11,7 @@ invariant-loop-done l =
       within : l.done ≤ length l.did;
       few : l.events ≤ l.done;
       events : events_in (take l.done l.did) ≡ Some l.events;
-      here : (all : List PlayedLine) → AreDone all l.did (lists l.lines) l.fn.session
+      here : (all : List PlayedLine) → AreDone all l.did (texts l.lines) l.fn.session
           → l.session ≡ after_all (take l.done all) l.fn.session;
       room : length l.session.machine.past < 2 ^ 64;
     }

@@ -1,5 +1,5 @@
 use Rattle.std.proofs.Common.{◌≡◌, ◌<◌, ◌^◌, length}
-use Rattle.em_turn.specs.Planned.{lists}
+use Rattle.em_tape.specs.Texts.{texts}
 use Rattle.em_tape.specs.Did.{IsKnown}
 use Rattle.em_tape.proofs.playing.replay.Given as goal
 
@@ -7,7 +7,7 @@ use Rattle.em_tape.proofs.playing.replay.Given as goal
 abbrev pub invariant-loop-line : goal.invariant-loop-line
 invariant-loop-line l =
     record {
-      known : IsKnown l.fn.session (lists l.lines) l.did.items l.line-index 0 l.session;
+      known : IsKnown l.fn.session (texts l.lines) l.did.items l.line-index 0 l.session;
       all : length l.did.items ≡ l.line-index;
       number : l.number ≡ l.line-index;
       room : length l.session.machine.past < 2 ^ 64;

@@ -1,13 +1,13 @@
 use Rattle.std.proofs.Common.{refl, subst}
-use Rattle.em_turn.specs.Planned.{lists}
+use Rattle.em_tape.specs.Texts.{texts}
 use Rattle.em_debugger.specs.Expected.{Expects}
 use Rattle.em_debugger.proofs.debugger.Debugger.add_typed.Goals as goal
 
 pub returns-in-Ok-clause-ok : goal.returns-in-Ok-clause-ok
 returns-in-Ok-clause-ok c =
     let between = c.cut.new.self in
-    let held = lists between.wanted.answers.items in
-    let holds = lists c.expect.new.all.answers.items in
+    let held = texts between.wanted.answers.items in
+    let holds = texts c.expect.new.all.answers.items in
     record {
       between = between;
       cut = c.in_ok-dropped.ensures.ok;

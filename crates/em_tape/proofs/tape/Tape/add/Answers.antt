@@ -1,13 +1,13 @@
 use Rattle.std.proofs.Common.{◌<◌, length, inl, inr, arith}
 use Rattle.std.proofs.lemmas.List.{length-map}
-use Rattle.em_turn.specs.Planned.{lists}
+use Rattle.em_tape.specs.Texts.{texts}
 use Rattle.em_tape.proofs.KeptLaws.{holds_add}
 use Rattle.em_tape.proofs.tape.Tape.add.Goals as goal
 use Rattle.em_tape.proofs.tape.Tape.add.Goals.{in-Ok, in-Err}
 
 pub invariant_of-self : goal.invariant_of-self
 invariant_of-self c =
-    let lines = lists c.self.inside.lines.items in
+    let lines = texts c.self.inside.lines.items in
     let few : length lines < 0xFFFF_FFFF =
     omega (arith, length-map c.self.inside.lines.items (λ v. v.items), c.len.ensures, c.if-len-ge-MOST_LINES.false) in
     holds_add c.args.line.now c.self.invariant c.if-line-ge-MOST_OCTETS.false few

@@ -1,5 +1,5 @@
 use Rattle.std.proofs.Common.{◌≤◌, length, refl, sym, subst}
-use Rattle.em_turn.specs.Planned.{lists}
+use Rattle.em_tape.specs.Texts.{texts}
 use Rattle.em_journal.specs.Settings.{new_machine}
 use Rattle.em_script.specs.Session.{bare}
 use Rattle.em_tape.specs.Did.{IsKnown}
@@ -11,11 +11,11 @@ pub invariant_of-self : goal.invariant_of-self
 invariant_of-self c =
     let inside = c.self.inside in
     let first = bare (new_machine inside.settings) in
-    let lines = lists inside.lines.items in
+    let lines = texts inside.lines.items in
     let line = c.args.line in
     let within : line ≤ length inside.ends.items =
     subst (λ (t : Tape). line ≤ length t.ends) (sym c.self.view_is) c.requires in
-    let known : IsKnown first (lists c.as_slice.result.now) c.as_slice-2.result.now inside.whole inside.back inside.session =
+    let known : IsKnown first (texts c.as_slice.result.now) c.as_slice-2.result.now inside.whole inside.back inside.session =
     rw (c.as_slice.ensures.value, c.as_slice-2.ensures.value) c.self.invariant.known in
     let gone : IsKnown first lines inside.did.items line 0 c.go_along-gone.new.session =
     rw (← c.as_slice.ensures.value, ← c.as_slice-2.ensures.value) (c.go_along-gone.ensures.there c.if-gone.true first known) in
@@ -25,7 +25,7 @@ pub invariant_of-self-else-gone : goal.invariant_of-self-else-gone
 invariant_of-self-else-gone c =
     let inside = c.self.inside in
     let first = bare (new_machine inside.settings) in
-    let known : IsKnown first (lists c.as_slice.result.now) c.as_slice-2.result.now inside.whole inside.back inside.session =
+    let known : IsKnown first (texts c.as_slice.result.now) c.as_slice-2.result.now inside.whole inside.back inside.session =
     rw (c.as_slice.ensures.value, c.as_slice-2.ensures.value) c.self.invariant.known in
     rw (c.go_along-gone.ensures.same c.if-gone.false first known) c.self.invariant
 
@@ -33,6 +33,6 @@ pub returns-else-gone-clause-same : goal.returns-else-gone-clause-same
 returns-else-gone-clause-same c = λ _.
     let inside = c.self.inside in
     let first = bare (new_machine inside.settings) in
-    let known : IsKnown first (lists c.as_slice.result.now) c.as_slice-2.result.now inside.whole inside.back inside.session =
+    let known : IsKnown first (texts c.as_slice.result.now) c.as_slice-2.result.now inside.whole inside.back inside.session =
     rw (c.as_slice.ensures.value, c.as_slice-2.ensures.value) c.self.invariant.known in
     rw (← c.self.view_is, c.go_along-gone.ensures.same c.if-gone.false first known) refl

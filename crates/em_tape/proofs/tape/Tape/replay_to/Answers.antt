@@ -2,7 +2,7 @@ use Rattle.std.proofs.Common.{◌≡◌, ◌≤◌, ◌∙◌, length, take, ap,
 use Rattle.std.specs.Prelude.{All}
 use Rattle.std.proofs.lemmas.List.{length-map, length-take-le, take-map}
 use Rattle.std.proofs.lemmas.List.Elements.{All-take}
-use Rattle.em_turn.specs.Planned.{lists}
+use Rattle.em_tape.specs.Texts.{texts}
 use Rattle.em_journal.specs.Settings.{new_machine}
 use Rattle.em_script.specs.Session.{bare}
 use Rattle.em_tape.specs.Tape.{Tape, IsShort}
@@ -12,20 +12,20 @@ use Rattle.em_tape.proofs.tape.Tape.replay_to.Goals as goal
 pub replayed-requires-clause-short : goal.replayed-requires-clause-short
 replayed-requires-clause-short c =
     let lines = c.self.inside.lines.items in
-    let is : take c.args.line (lists lines) ≡ lists (take c.args.line c.as_slice.result.now) =
+    let is : take c.args.line (texts lines) ≡ texts (take c.args.line c.as_slice.result.now) =
     take-map (λ v. v.items) c.args.line lines
-    ∙ ap (λ ls. lists (take c.args.line ls)) (sym c.as_slice.ensures.value) in
-    subst (All IsShort) is (All-take IsShort c.args.line (lists lines) c.self.invariant.tape.short)
+    ∙ ap (λ ls. texts (take c.args.line ls)) (sym c.as_slice.ensures.value) in
+    subst (All IsShort) is (All-take IsShort c.args.line (texts lines) c.self.invariant.tape.short)
 
 pub invariant_of-self : goal.invariant_of-self
 invariant_of-self c =
-    let lines = lists c.self.inside.lines.items in
+    let lines = texts c.self.inside.lines.items in
     let first = bare (new_machine c.self.inside.settings) in
     let line = c.args.line in
-    let some = lists (take line c.as_slice.result.now) in
+    let some = texts (take line c.as_slice.result.now) in
     let is : take line lines ≡ some =
     take-map (λ v. v.items) line c.self.inside.lines.items
-    ∙ ap (λ ls. lists (take line ls)) (sym c.as_slice.ensures.value) in
+    ∙ ap (λ ls. texts (take line ls)) (sym c.as_slice.ensures.value) in
     let within : line ≤ length c.self.inside.ends.items =
     subst (λ (t : Tape). line ≤ length t.ends) (sym c.self.view_is) c.requires in
     let count : length (take line c.as_slice.result.now) ≡ line =
