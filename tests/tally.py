@@ -1,4 +1,5 @@
 """What the parts of ./check share: where things lie, one run of the program, and the count of what passed."""
+import re
 import subprocess
 import sys
 from pathlib import Path
@@ -12,6 +13,12 @@ def below() -> dict[str, list[str]]:
     lines = [line.partition("#")[0] for line in (TOP / "crates.txt").read_text().splitlines()]
     named = {head.split()[0]: deps.split() for head, colon, deps in (line.partition(":") for line in lines) if colon}
     return {name: [dep for dep in deps if dep in named] for name, deps in named.items()}
+
+
+def kits(top: Path = TOP) -> set[str]:
+    """The kits that README.md names, each by its line of `rt version`."""
+    readme = top / "README.md"
+    return set(re.findall(r"rattle-kit-\S+ logic [0-9a-f]+", readme.read_text())) if readme.is_file() else set()
 
 
 def program(crate: str = "em_bench") -> str:
