@@ -16,7 +16,7 @@ pub use descriptor::{Bits, Descriptor, Fields, octets_at};
 pub use descriptor_line::write_descriptor;
 pub use frame::{Heading, write_frame, write_stored_frame};
 pub use lines::write_octet_lines;
-pub use piece::write_address;
+pub use piece::{write_address, write_number};
 pub use ring::{Owner, Side, SidedRing, owner_of};
 pub use ring_lines::{MOST_SHOWN, write_ring};
 pub use trouble::Trouble;

@@ -89,7 +89,8 @@ fn write_piece<W: Write>(writer: &mut W, piece: Piece<'_>) -> Result<(), WriteFa
     }
 }
 
-fn write_number<W: Write>(writer: &mut W, number: u64) -> Result<(), WriteFailed>
+/// Writes a number in decimal digits.
+pub fn write_number<W: Write>(writer: &mut W, number: u64) -> Result<(), WriteFailed>
     ensures writes { Writes (W.contents writer.old) (W.contents writer.new) result (decimal number) }
 {
     let mut digits = Buffer::new();

@@ -8,14 +8,17 @@ use crate::place::Place;
 use std::marker::Model;
 
 /// How many octets are few: so many lie in a record itself, which then takes no memory.
-pub const FEW: usize = 9;
+pub const FEW: usize = 8;
 
-/// Old octets of guest memory, at most 9 of them, and the address where they lay.
+/// Old octets of guest memory, at most 8 of them, and the address where they lay.
 #[derive(Drop)]
 pub struct FewOctets {
     // a number of two octets, which lies where other records of an event have what they cost
     len: u16,
     place: Place,
+    // The octets then lie at a multiple of eight of a record, so that they are copied to it as one number. Copied in
+    // two halves, they would wait in memory for each other.
+    gap: u8,
     octets: [u8; FEW],
 }
 
@@ -27,7 +30,7 @@ impl Model for FewOctets {
 
     ghost view = { λ f. record { at = f.place; octets = take f.len f.octets } };
 
-    ghost invariant = { λ f. (f.len ≤ 9) × (length f.octets ≡ 9) };
+    ghost invariant = { λ f. (f.len ≤ 8) × (length f.octets ≡ 8) };
 }
 
 impl FewOctets {
@@ -35,12 +38,13 @@ impl FewOctets {
     #[inline(always)]
     fn new(addr: u64, len: usize, octets: [u8; FEW]) -> FewOctets
         requires addr { addr < 0x100_0000 }
-        requires few { len ≤ 9 }
+        requires few { len ≤ 8 }
         ensures { result ≡ record { at = addr; octets = take len octets } }
     {
         FewOctets {
             len: len as u16,
             place: Place::new(addr),
+            gap: 0,
             octets,
         }
     }
@@ -54,7 +58,7 @@ impl FewOctets {
         (self.place.addr(), &self.octets[..usize::from(self.len)])
     }
 
-    /// How many octets it holds, at most 9.
+    /// How many octets it holds, at most 8.
     pub fn len(&self) -> u32
         ensures len { result ≡ length self.now.octets }
         ensures most { result ≤ FEW }
@@ -64,13 +68,13 @@ impl FewOctets {
 }
 
 impl GuestMemory {
-    /// Writes a few octets from `addr` on, 1 to 9, and gives a record of the old ones. The range may cross
+    /// Writes a few octets from `addr` on, 1 to 8, and gives a record of the old ones. The range may cross
     /// page ends. It takes no memory: `touch` made the pages.
     pub fn write_few(&mut self, addr: u64, written: &[u8]) -> FewOctets
         requires held { IsHeld self.old.octets addr (length written.now) }
         requires made { IsMade self.old addr (length written.now) }
         requires some { 0 < length written.now }
-        requires few { length written.now ≤ 9 }
+        requires few { length written.now ≤ 8 }
         ensures octets { self.new.octets ≡ put self.old.octets addr written.now }
         ensures made { self.new.made ≡ self.old.made }
         ensures len { length result.octets ≡ length written.now }
@@ -87,30 +91,17 @@ impl GuestMemory {
     fn keep_few(&self, addr: u64, len: usize) -> FewOctets
         requires held { IsHeld self.now.octets addr len }
         requires some { 0 < len }
-        requires few { len ≤ 9 }
+        requires few { len ≤ 8 }
         ensures { result ≡ record { at = addr; octets = part self.now.octets addr len } }
     {
         places_are_small(self);
-        let Some(octets) = self.slice(addr, FEW) else {
-            return self.keep_few_pieces(addr, len);
-        };
         let mut old = [0; FEW];
-        old.copy_from_slice(octets);
+        match self.slice(addr, FEW) {
+            Some(octets) => old.copy_from_slice(octets),
+            // so many cross a page's end, or that of memory
+            None => self.read_pieces(addr, &mut old[..len]),
+        }
         FewOctets::new(addr, len, old)
-    }
-
-    /// The record of a few octets from `addr` on, which may cross a page's end.
-    #[inline(never)]
-    fn keep_few_pieces(&self, addr: u64, len: usize) -> FewOctets
-        requires held { IsHeld self.now.octets addr len }
-        requires some { 0 < len }
-        requires few { len ≤ 9 }
-        ensures { result ≡ record { at = addr; octets = part self.now.octets addr len } }
-    {
-        places_are_small(self);
-        let mut octets = [0; FEW];
-        self.read_into(addr, &mut octets[..len]);
-        FewOctets::new(addr, len, octets)
     }
 
     /// Takes back the write that gave out this record. It takes no memory.

@@ -166,7 +166,7 @@ impl GuestMemory {
 
     /// Copies the octets from `addr` on into `out`, page by page.
     #[inline(never)]
-    fn read_pieces(&self, addr: u64, out: &mut [u8])
+    pub(crate) fn read_pieces(&self, addr: u64, out: &mut [u8])
         requires { IsHeld self.now.octets addr (length out.old) }
         ensures { out.new ≡ part self.now.octets addr (length out.old) }
     {

@@ -1,14 +1,12 @@
 //! The pieces that a text is made of.
-ghost use Rattle.std.specs.Prelude.{decimal};
 ghost use Rattle.std.specs.List.{flat_map};
 ghost use Rattle.em_text.specs.Writer.{Writes, value_digits};
 ghost use Rattle.em_pieces.specs.Piece.{mac_text, piece_text, pieces_text};
 
-use em_inspect::write_address;
+use em_inspect::{write_address, write_number};
 use em_names::write_name;
 use em_regs::Reg;
 use em_text::{WriteFailed, octet_digits, write_octets, write_pieces, write_whole};
-use itoa::Buffer;
 use std::io::Write;
 
 /// A piece of a text.
@@ -55,13 +53,6 @@ fn write_piece<W: Write>(writer: &mut W, piece: Piece<'_>) -> Result<(), WriteFa
         Piece::Address(address) => write_address(writer, address),
         Piece::Mac(address) => write_mac(writer, address),
     }
-}
-
-fn write_number<W: Write>(writer: &mut W, number: u64) -> Result<(), WriteFailed>
-    ensures writes { Writes (W.contents writer.old) (W.contents writer.new) result (decimal number) }
-{
-    let mut digits = Buffer::new();
-    write_whole(writer, digits.format(number).as_bytes())
 }
 
 fn write_mac<W: Write>(writer: &mut W, address: &[u8; 6]) -> Result<(), WriteFailed>

@@ -48,34 +48,25 @@ impl Adapter {
         let setup = self.registers.ring_tx();
         match transmit(&mut self.gather, &mut self.wire, &mut self.memory, setup)? {
             TxStep::Idle => Ok((Answer::Idle, Undo::of_effect(Effect::Nothing))),
-            TxStep::Fetched {
+            TxStep::Handled {
                 index,
                 next,
                 causes,
+                frame,
                 change,
             } => {
-                let latches = self.latches.raise(causes);
+                let (answer, latches) = match frame {
+                    Some(sent) => {
+                        let octets = sent.octets;
+                        let on_the_wire = octets + CHECK_OCTETS as u32;
+                        let latches = count_sent(&mut self.latches, on_the_wire, sent.kind, causes);
+                        (Answer::Sent { index, octets }, latches)
+                    }
+                    None => (Answer::Fetched { index }, self.latches.raise(causes)),
+                };
                 let head = self.registers.put(Reg::Tdh, next).old();
                 let effect = Effect::TxStep(change, head);
-                Ok((Answer::Fetched { index }, Undo { latches, effect }))
-            }
-            TxStep::Sent {
-                index,
-                next,
-                causes,
-                octets,
-                kind,
-                change,
-            } => {
-                let latches = count_sent(
-                    &mut self.latches,
-                    octets + CHECK_OCTETS as u32,
-                    kind,
-                    causes,
-                );
-                let head = self.registers.put(Reg::Tdh, next).old();
-                let effect = Effect::TxStep(change, head);
-                Ok((Answer::Sent { index, octets }, Undo { latches, effect }))
+                Ok((answer, Undo { latches, effect }))
             }
         }
     }

@@ -7,7 +7,7 @@ use Rattle.std.proofs.lemmas.Bool.{and_parts, cases_eq, eqb-true, agree_below, a
 use Rattle.std.proofs.lemmas.List.{get_or_default, length-map}
 use Rattle.std.proofs.lemmas.List.Sums.{prefix_len_passes}
 use Rattle.std.proofs.lemmas.Simd.{zip2_of_maps, splat_is_map, tops_compared, length-chunk, get_or-chunk}
-use Rattle.std.proofs.lemmas.Simd.{leading_from_mask_l}
+use Rattle.std.proofs.lemmas.Simd.{leading_from_mask_l, map-map, zip2_splat}
 use Rattle.std.proofs.Math.ListN.{get_or-map}
 use Rattle.std.specs.Simd.Lanes.{zip2, sel_l, mask_l, top, chunk}
 use Rattle.hex.specs.Hex.{upper_digits}
@@ -97,6 +97,18 @@ lanes_are f g text from n lanes room fits are same i lt =
     ∙ get_or-map f v i 0
     ∙ ap f (get_or-chunk from n text i 0 lt)
     ∙ eqb-true (f octet) (g octet) (agree_below_at (λ x. f x == g x) (λ _. true) 256 octet same (fits (from + i)).fits)
+
+-- the same where each lane is first put through an operation with one number
+pub lanes_are_of : (op : ℕ → ℕ → ℕ) (y : ℕ) (f g : ℕ → ℕ) (text : List ℕ) (from n : ℕ) (lanes : List ℕ)
+    → from + n ≤ length text → ((k : ℕ) → Fits w8 (get_or text k 0))
+    → lanes ≡ map f (zip2 op (chunk from n text) (replicate n y))
+    → agree_below (λ octet. f (op octet y) == g octet) (λ _. true) 256 ≡ true
+    → (i : ℕ) → i < n → slice_index lanes i ≡ g (slice_index text (from + i))
+lanes_are_of op y f g text from n lanes room fits are same =
+    let v = chunk from n text in
+    let through = zip2_splat op v n y (length-chunk from n text room) in
+    lanes_are (λ octet. f (op octet y)) g text from n lanes room fits
+    (are ∙ ap (map f) through ∙ map-map f (λ octet. op octet y) v) same
 
 -- where no bit of a mask is set, no lane passes
 pub none_passes : (p : ℕ → Bool) (xs : List ℕ) → mask_l (map p xs) ≡ 0 → (k : ℕ) → k < length xs

@@ -4,7 +4,7 @@ ghost use Rattle.std.specs.List.{flat_map};
 ghost use Rattle.em_text.specs.Writer.{Writes, hex_text, hex_line_text, value_digits, value_text, register_line_text};
 ghost use Rattle.em_text.specs.Writer.{decimal_line_text, numbers_text, AreDigits};
 
-use crate::digits::{HALF_LANES, LANES, digit_pair, high_digits, low_digits};
+use crate::digits::{HALF_LANES, LANES, QUARTER_LANES, digit_pair, high_digits, low_digits};
 use itoa::write_digits;
 use std::io::Write;
 
@@ -231,6 +231,10 @@ fn fill_digits(octets: &[u8], digits: &mut [u8])
     if octets.len() - done >= HALF_LANES {
         fill_lanes::<HALF_LANES>(octets, digits, done);
         done += HALF_LANES;
+    }
+    if octets.len() - done >= QUARTER_LANES {
+        fill_lanes::<QUARTER_LANES>(octets, digits, done);
+        done += QUARTER_LANES;
     }
     for i in done..octets.len() {
         let [high, low] = digit_pair(octets[i]);

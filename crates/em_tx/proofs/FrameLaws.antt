@@ -1,11 +1,12 @@
 -- Frames made of gathered octets, and taken apart again.
 use Rattle.std.proofs.Common.{◌≡◌, ℕ, ◌+◌, ◌-◌, ◌<◌, ◌≤◌, Bool, true, false, cond, ◌&&◌, List, [], ◌++◌}
 use Rattle.std.proofs.Common.{length, take, drop, Option, Some, None, refl, sym, ap, ◌∙◌, arith, length-append}
-use Rattle.std.proofs.Common.{append_assoc, append-nil}
-use Rattle.std.specs.Prelude.{replicate, max, is_some, nat_le}
+use Rattle.std.proofs.Common.{append_assoc, append-nil, ◌⊎◌, inl, inr}
+use Rattle.std.specs.Prelude.{replicate, max, min, is_some, nat_le}
 use Rattle.std.proofs.lemmas.List.{take_at, drop_at, take_all, length-take-le, take-append-drop, length-replicate}
-use Rattle.std.proofs.lemmas.List.{take-append-le, take-take}
-use Rattle.std.proofs.Math.Seq.{take-append-add}
+use Rattle.std.proofs.lemmas.List.{take-append-le}
+use Rattle.std.proofs.Math.Seq.{take-append-add, take-length}
+use Rattle.std.proofs.lemmas.Bool.{cases_lt}
 use Rattle.std.proofs.lemmas.Bool.Decides.{nat_tests}
 use Rattle.byteorder.specs.Endian.{big_bytes}
 use Rattle.em_regs.specs.declared.setup.TxSetup.{TxSetup}
@@ -133,18 +134,20 @@ frame_len_most q d n few = of (is_some (tag_of q.vlan d n)) q.pad
     of false true = omega arith
     of false false = omega arith
 
--- the first octets beside a tag: none behind it where they are few
-pub beside_tag_few : (f : List ℕ) (n : ℕ) → 16 ≤ length f → n ≤ 12 → take n f ≡ take n (without_tag true f)
-beside_tag_few f n long few =
-    let front : length (take 12 f) ≡ 12 = length-take-le 12 f (omega (arith, long)) in
-    sym (take-append-le n (take 12 f) (drop 16 f) (omega (arith, front, few)) ∙ take-take n 12 f few)
-
-pub beside_tag_more : (f : List ℕ) (n : ℕ) → 16 ≤ length f → 12 ≤ n
-    → take 12 f ++ take (n + 4 - 16) (drop 16 f) ≡ take n (without_tag true f)
-beside_tag_more f n long many =
-    let front : length (take 12 f) ≡ 12 = length-take-le 12 f (omega (arith, long)) in
-    sym (ap (λ k. take k (take 12 f ++ drop 16 f)) (omega (arith, front, many))
-    ∙ take-append-add (take 12 f) (drop 16 f) (n + 4 - 16))
+-- the first octets of two lists, as many of the first one as it has
+pub take_of_both : (n k : ℕ) (a b : List ℕ) → k ≡ min n (length a) → take k a ++ take (n - k) b ≡ take n (a ++ b)
+take_of_both n k a b is = by (cases_lt n (length a))
+  where
+    by : (n < length a) ⊎ (length a ≤ n) → take k a ++ take (n - k) b ≡ take n (a ++ b)
+    by (inl few) =
+        let all : k ≡ n = omega (arith, is, few) in
+        let none : n - k ≡ 0 = omega (arith, all) in
+        (λ i. take (all i) a ++ take (none i) b) ∙ append-nil (take n a)
+        ∙ sym (take-append-le n a b (omega (arith, few)))
+    by (inr many) =
+        let all : k ≡ length a = omega (arith, is, many) in
+        ap (λ j. take j a ++ take (n - j) b) all ∙ ap (λ l. l ++ take (n - length a) b) (take-length a)
+        ∙ sym (take-append-add a b (n - length a)) ∙ ap (λ j. take j (a ++ b)) (omega (arith, many))
 
 -- with no tag to insert and no padding to add, the gathered octets are the frame
 pub frame_whole : (q : TxSetup) (d o : List ℕ) → tag_of q.vlan d (length o) ≡ None → 60 ≤ length o → frame q d o ≡ o

@@ -52,7 +52,7 @@ pub Reverses-send : (q : TxSetup) (d : List ℕ) {old o : List ℕ} (new g : Lis
     → o ≡ old ++ new → v ≡ w ++ frame q d o ∷ [] → tagged ≡ is_some (tag_of q.vlan d (length o))
     → count ≡ length old → StatusReverses m n status
     → Reverses (cells (with_room old) w m) (cells (with_room g) v n)
-    (Step (record { count = count; cost = cost; status = status; sent = sent_with tagged }))
+    (Step (record { count = count; cost = cost; sent = sent_with tagged; status = status }))
 Reverses-send q d {old = old} {o = o} new g {w = w} {v = v} m n cost {count = k} {tagged = tagged} {status = status}
     is_o is_v tag count back =
     let beside : Bool → ℕ = λ b. cond b 16 0 in

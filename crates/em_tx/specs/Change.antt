@@ -9,10 +9,10 @@ pub record Change : Type 0 where
   pub count : ℕ
   -- what the step costs beyond the least
   pub cost : ℕ
-  -- the status octet that it overwrote
-  pub status : Option mem.Patch
   -- the frame that it sent
   pub sent : Sent
+  -- the status octet that it overwrote
+  pub status : Option mem.Patch
 
 -- a frame with a tag, or without one
 abbrev pub sent_with : Bool → Sent

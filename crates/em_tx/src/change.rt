@@ -72,14 +72,15 @@ impl Sent {
     }
 }
 
-/// What a step of the transmit engine changed: how many octets were gathered, what its record costs
-/// beyond the least, the status octet that it overwrote, and the frame that it sent.
+/// What a step of the transmit engine changed: what its record costs beyond the least, how many octets
+/// were gathered, the frame that it sent, and the status octet that it overwrote. In this order each group
+/// of four octets that a record is copied by is made of whole fields, so that none waits in memory for parts.
 #[derive(Drop)]
 pub struct Change {
     cost: u16,
     count: u16,
-    pub(crate) status: Option<Status>,
     pub(crate) sent: Sent,
+    pub(crate) status: Option<Status>,
 }
 
 impl Model for Change {
@@ -89,22 +90,22 @@ impl Model for Change {
 
     ghost Value = { Change };
 
-    ghost view = { λ c. record { count = c.count; cost = c.cost; status = c.status; sent = c.sent } };
+    ghost view = { λ c. record { count = c.count; cost = c.cost; sent = c.sent; status = c.status } };
 
     ghost invariant = { λ c. (c.cost ≤ MOST_COST) × (c.count ≤ 16_380) };
 }
 
 impl Change {
-    pub(crate) fn new(count: usize, cost: u32, status: Option<Status>, sent: Sent) -> Change
+    pub(crate) fn new(count: usize, cost: u32, sent: Sent, status: Option<Status>) -> Change
         requires count { count ≤ 16_380 }
         requires cost { cost ≤ MOST_COST }
-        ensures { result ≡ record { count = count; cost = cost; status = status; sent = sent } }
+        ensures { result ≡ record { count = count; cost = cost; sent = sent; status = status } }
     {
         Change {
             cost: cost as u16,
             count: count as u16,
-            status,
             sent,
+            status,
         }
     }
 

@@ -13,7 +13,7 @@ ghost use Rattle.em_tx.specs.Undo.{Reverses, StatusReverses, cost_of};
 ghost use Rattle.em_tx.specs.TxStep.{answer_of, undo_of};
 ghost use Rattle.em_tx.specs.Wire.{AreLaid, HasRoom, plain};
 
-use crate::answer::{TxAnswer, TxStep};
+use crate::answer::{SentFrame, TxAnswer, TxStep};
 use crate::change::{Change, Sent, Status};
 use crate::descriptor::{STATUS, TxDescriptor};
 use crate::gather::{Gather, ROOM};
@@ -21,7 +21,6 @@ use crate::refusal::TxRefusal;
 use crate::undo::TxUndo;
 use crate::wire::{Frames, Wire};
 use crate::{frame, ring};
-use em_address::Kind;
 use em_mem::GuestMemory;
 use em_mem::laws::places_are_small;
 use em_regs::TxSetup;
@@ -224,22 +223,22 @@ fn handle(
         let sent = send(octets, frames, memory, setup, descriptor);
         let status = report(memory, at, descriptor);
         let frame = Sent::with(sent.tagged);
-        TxStep::Sent {
+        TxStep::Handled {
             index,
             next,
             causes,
-            octets: sent.octets,
-            kind: sent.kind,
-            change: Change::new(count, cost + sent.octets, status, frame),
+            frame: Some(sent),
+            change: Change::new(count, cost + sent.octets, frame, status),
         }
     } else {
         fetch(octets, memory, descriptor);
         let status = report(memory, at, descriptor);
-        TxStep::Fetched {
+        TxStep::Handled {
             index,
             next,
             causes,
-            change: Change::new(count, cost, status, Sent::NoFrame),
+            frame: None,
+            change: Change::new(count, cost, Sent::NoFrame, status),
         }
     }
 }
@@ -285,27 +284,6 @@ fn report(memory: &mut GuestMemory, at: u64, descriptor: &TxDescriptor) -> Optio
     }
 }
 
-/// A frame that was sent.
-#[derive(Clone, Copy)]
-pub(crate) struct Sending {
-    octets: u32,
-    kind: Kind,
-    tagged: bool,
-}
-
-impl Sending {
-    fn of(frame: &[u8], tagged: bool) -> Sending
-        requires { length frame.now ≤ 16384 }
-        ensures { result ≡ record { octets = length frame.now; kind = kind_sent frame.now; tagged = tagged } }
-    {
-        Sending {
-            octets: frame.len() as u32,
-            kind: frame::kind_sent(frame),
-            tagged,
-        }
-    }
-}
-
 /// Puts the gathered octets, and after them those of the descriptor's buffer, on the wire as a frame.
 fn send(
     octets: &mut Vec<u8>,
@@ -313,7 +291,7 @@ fn send(
     memory: &GuestMemory,
     setup: &TxSetup,
     descriptor: &TxDescriptor,
-) -> Sending
+) -> SentFrame
     requires few { vec_len octets.old + length_of descriptor.now ≤ 16380 }
     requires held { 0 < length_of descriptor.now
         → IsHeld memory.now.octets (address descriptor.now) (length_of descriptor.now) }
@@ -339,13 +317,13 @@ fn send(
     if octets.is_empty() {
         if let Some(found) = whole_frame(memory, setup, descriptor) {
             frames.push(found);
-            return Sending::of(found, false);
+            return SentFrame::of(found, false);
         }
     }
     fetch(octets, memory, descriptor);
     let tagged = frame::make(octets, setup, descriptor);
     frames.push(octets);
-    let sent = Sending::of(octets, tagged);
+    let sent = SentFrame::of(octets, tagged);
     octets.clear();
     sent
 }

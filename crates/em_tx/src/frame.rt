@@ -1,5 +1,5 @@
 //! Gathered octets made a frame.
-ghost use Rattle.std.specs.Prelude.{◌≡◌, ◌+◌, ◌≤◌, ◌++◌, [], IsTrue, Some, true, is_some, length, take, drop};
+ghost use Rattle.std.specs.Prelude.{◌≡◌, ◌+◌, ◌-◌, ◌≤◌, ◌++◌, [], IsTrue, Some, true, is_some, length, min, take, drop};
 ghost use Rattle.std.specs.Prelude.{vec_len, vec_capacity};
 ghost use Rattle.em_tx.specs.Frame.{frame, frame_len, kind_sent, with_padding, tag_of, with_tag, without_tag};
 
@@ -90,17 +90,17 @@ pub(crate) fn gather_beside_tag(octets: &mut Vec<u8>, frame: &[u8], count: usize
     ensures items { octets.new.items ≡ take count (without_tag true frame.now) }
     ensures capacity { vec_capacity octets.old ≤ vec_capacity octets.new }
 {
-    if count <= TAG_PLACE {
-        gather(octets, &frame[..count]);
-    } else {
-        gather(octets, &frame[..TAG_PLACE]);
-        gather(octets, &frame[TAG_PLACE + TAG_OCTETS..count + TAG_OCTETS]);
-    }
+    let (before, behind) = beside_tag(frame);
+    let first = count.min(before.len());
+    gather(octets, &before[..first]);
+    gather(octets, &behind[..count - first]);
 }
 
 /// The octets of a frame before its tag, and those behind it. Those of a frame that is too short for a tag come first.
 pub(crate) fn beside_tag(frame: &[u8]) -> (&[u8], &[u8])
-    ensures { result.0.now ++ result.1.now ≡ without_tag true frame.now }
+    ensures octets { result.0.now ++ result.1.now ≡ without_tag true frame.now }
+    ensures before { length result.0.now ≡ min (length frame.now) TAG_PLACE }
+    ensures behind { length result.1.now ≡ length frame.now - min (length frame.now) (TAG_PLACE + TAG_OCTETS) }
 {
     let before = frame.len().min(TAG_PLACE);
     let behind = frame.len().min(TAG_PLACE + TAG_OCTETS);

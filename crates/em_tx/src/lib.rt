@@ -15,7 +15,7 @@ mod ring;
 mod undo;
 mod wire;
 
-pub use answer::{TxAnswer, TxStep};
+pub use answer::{SentFrame, TxAnswer, TxStep};
 pub use change::{Change, MOST_COST, Sent};
 pub use descriptor::TxDescriptor;
 pub use engine::{step, transmit};

@@ -17,13 +17,13 @@ returns-then-count-from-gt0-clause-reverses c =
     let same : c.new.result ≡ record {
       count = c.len-count.result;
       cost = c.from.result + c.from-2.result + sent.result.octets;
-      status = status.result;
       sent = sent_with sent.result.tagged;
+      status = status.result;
     } = c.new.ensures ∙ ap (λ s. record {
       count = c.len-count.result;
       cost = c.from.result + c.from-2.result + sent.result.octets;
-      status = status.result;
       sent = s;
+      status = status.result;
     }) c.with-frame.ensures in
     subst (λ x. Reverses old new (Step x)) (sym same)
     (Reverses-send c.args.setup.now c.args.descriptor.now _ sent.new.octets.items c.args.memory.now status.new.memory _

@@ -1,17 +1,13 @@
-use Rattle.std.proofs.Common.{◌∙◌, ◌++◌, ◌-◌, ◌+◌, ap, arith, drop, take}
-use Rattle.em_tx.proofs.FrameLaws.{beside_tag_few, beside_tag_more}
+use Rattle.std.proofs.Common.{◌∙◌, ◌++◌, ◌-◌, ap, take}
+use Rattle.em_tx.proofs.FrameLaws.{take_of_both}
 use Rattle.em_tx.proofs.frame.gather_beside_tag.Goals as goal
 
-pub returns-then-count-le-TAG_PLACE-clause-items : goal.returns-then-count-le-TAG_PLACE-clause-items
-returns-then-count-le-TAG_PLACE-clause-items c =
-    let f = c.args.frame.now in
-    c.gather.ensures.items ∙ ap (λ o. o ++ take c.args.count f) c.requires.empty
-    ∙ beside_tag_few f c.args.count c.requires.tagged (omega arith)
-
-pub returns-else-count-le-TAG_PLACE-clause-items : goal.returns-else-count-le-TAG_PLACE-clause-items
-returns-else-count-le-TAG_PLACE-clause-items c =
-    let f = c.args.frame.now in
-    let front = c.gather-else-count-le-TAG_PLACE.ensures.items ∙ ap (λ o. o ++ take 12 f) c.requires.empty in
-    c.gather-else-count-le-TAG_PLACE-2.ensures.items
-    ∙ ap (λ o. o ++ take (c.args.count + 4 - 16) (drop 16 f)) front
-    ∙ beside_tag_more f c.args.count c.requires.tagged (omega arith)
+pub returns-clause-items : goal.returns-clause-items
+returns-clause-items c =
+    let before = c.beside_tag.result.0.now in
+    let behind = c.beside_tag.result.1.now in
+    let n = c.args.count in
+    c.gather-2.ensures.items
+    ∙ ap (λ o. o ++ take (n - c.min-first.result) behind)
+    (c.gather.ensures.items ∙ ap (λ o. o ++ take c.min-first.result before) c.requires.empty)
+    ∙ take_of_both n c.min-first.result before behind c.min-first.ensures ∙ ap (take n) c.beside_tag.ensures.octets
