@@ -301,13 +301,16 @@ def transmit(s: State) -> tuple[str, int]:
     return answer, cost
 
 
+# the options of a machine, and what each is where none is given
+OPTIONS = {"memory": 65_536, "budget": 1_048_576, "mac": "525400123456"}
+
+
 class Session:
     """A machine, run line by line."""
 
-    def __init__(
-        self, memory: int = 65536, budget: int = 1_048_576, mac: str = "525400123456", refused: tuple[int, int] = (0, 0)
-    ) -> None:
-        self.now, self.budget = State(memory, bytes.fromhex(mac)), budget
+    def __init__(self, refused: tuple[int, int] = (0, 0), **settings) -> None:
+        settings = OPTIONS | settings
+        self.now, self.budget = State(settings["memory"], bytes.fromhex(settings["mac"])), settings["budget"]
         self.past, self.held, self.performed = [], 0, 0
         # memory is refused in the line of a number, where that line takes memory for the nth time
         self.refused, self.number, self.taken = refused, 0, 0
@@ -638,20 +641,20 @@ class BadWords(Exception):
 def options(words: list[str]) -> dict[str, int | str]:
     """What a command line of options sets, each with its value in the same word, behind `=`, or in the next."""
     parts = [part for word in words for part in (word.split("=", 1) if word.startswith("--") else [word])]
-    given = dict(zip(parts[::2], parts[1::2]))
-    mac = given.get("--mac", "525400123456")
-    numbers = given.get("--memory", "65536"), given.get("--budget", "1048576")
-    for number in numbers:
-        if not re.fullmatch(r"\+?[0-9]+", number) or int(number) >= 2**64:
+    given, settings = dict(zip(parts[::2], parts[1::2])), {}
+    for name, default in OPTIONS.items():
+        text = given.get(f"--{name}", str(default))
+        if isinstance(default, int) and (not re.fullmatch(r"\+?[0-9]+", text) or int(text) >= 2**64):
             raise BadWords("error")
-    memory, budget = map(int, numbers)
+        settings[name] = type(default)(text)
+    memory, budget, mac = settings["memory"], settings["budget"], settings["mac"]
     if not re.fullmatch(f"{HEX}{{12}}", mac):
         raise BadWords("em_bench: Mac")
     if memory % PAGE or not PAGE <= memory <= 16_777_216:
         raise BadWords("em_bench: Size")
     if not 65_536 <= budget <= 16_777_216:
         raise BadWords("em_bench: Budget")
-    return {"memory": memory, "budget": budget, "mac": mac}
+    return settings
 
 
 def answers(script: str, **settings) -> list[tuple[int, str, list[str]]]:

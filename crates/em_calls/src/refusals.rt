@@ -14,7 +14,7 @@ use crate::same::same;
 use crate::setup::{LAYOUT, arrival, linked_machine};
 use em_driver::{Cause, Stopped, Turn};
 use em_eeprom::Eeprom;
-use em_journal::{JournalRefusal, Machine, Settings};
+use em_journal::{JournalRefusal, LEAST_BUDGET, Machine, Settings};
 use em_mem::MemRefusal;
 use em_regs::Reg;
 use em_step::{Adapter, Answer, Event, Refusal};
@@ -23,11 +23,11 @@ use std::collections::VecDeque;
 use std::test::Fail;
 
 /// What an adapter with its journal is made of.
-const SETTINGS: Settings = Settings {
-    memory: 65_536,
-    budget: 65_536,
-    mac: [0x52, 0x54, 0x00, 0x12, 0x34, 0x56],
-};
+fn small_settings() -> Settings {
+    let mut settings = Settings::default();
+    settings.budget = LEAST_BUDGET;
+    settings
+}
 
 /// Rings of eight descriptors at 0 and at 80h: two receive descriptors from the second one on are the adapter's,
 /// and two transmit descriptors.
@@ -90,7 +90,8 @@ pub fn case(alloc: Global, name: &str) -> Result<(), Fail> {
 }
 
 fn a_refused_machine_is_named(alloc: Global) -> Result<(), Fail> {
-    match Adapter::new(alloc, SETTINGS.memory, Eeprom::of_mac(SETTINGS.mac)) {
+    let settings = small_settings();
+    match Adapter::new(alloc, settings.memory, Eeprom::of_mac(settings.mac)) {
         Ok(adapter) => has_a_journal(alloc, adapter),
         Err(refusal) => {
             same("refusal", refusal, MemRefusal::Memory)?;
@@ -102,7 +103,7 @@ fn a_refused_machine_is_named(alloc: Global) -> Result<(), Fail> {
 /// With memory it has a journal; without, it comes back as it was.
 fn has_a_journal(alloc: Global, adapter: Adapter) -> Result<(), Fail> {
     let before = digest_of(&adapter);
-    match Machine::new(alloc, adapter, SETTINGS.budget) {
+    match Machine::new(alloc, adapter, small_settings().budget) {
         Ok(machine) => same("state", digest_of(&machine), before),
         Err((adapter, refusal)) => comes_back(refusal, digest_of(&adapter), before),
     }
