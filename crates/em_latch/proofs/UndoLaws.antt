@@ -1,104 +1,82 @@
--- Records of several words.
-use Rattle.std.proofs.Common.{◌≡◌, ◌≢◌, ℕ, ◌+◌, ◌-◌, ◌*◌, ◌/◌, ◌%◌, ◌^◌, ◌<◌, ◌≤◌, zero, suc, List, [], ◌∷◌, ◌++◌, length}
-use Rattle.std.proofs.Common.{refl, sym, ap, ◌∙◌, arith, add-one, subst}
-use Rattle.std.specs.Prelude.{slice_index, slice_set}
-use Rattle.std.proofs.lemmas.List.{get_or-set_other, get_or-set_same}
-use Rattle.std.proofs.Math.Nat.{pow-le-pow_right, pow-suc}
-use Rattle.em_latch.specs.declared.undo.TheConstants.{MOST_WORDS}
-use Rattle.em_latch.specs.Storage.{offsets}
+-- Reversed changes, one after another, and how many octets they take.
+use Rattle.std.proofs.Common.{◌≡◌, ℕ, ◌^◌, ◌<◌, ◌≤◌, true, false, inl, inr, Some, IsTrue, List, [], ◌∷◌}
+use Rattle.std.proofs.Common.{refl, sym, ap, ◌∙◌, arith, subst}
+use Rattle.std.specs.Prelude.{nat_lt}
+use Rattle.std.specs.FinMap as map
+use Rattle.std.proofs.lemmas.Bool.{cases_lt}
+use Rattle.std.proofs.lemmas.Bool.Decides.{nat_tests}
 use Rattle.em_regs.specs.Storage.{Registers}
-use Rattle.em_regs.specs.RegFile as registers
-use Rattle.em_regs.specs.RegFile.{OldWord}
-use Rattle.em_latch.specs.Latches.{Fits, undo, Reverses}
-use Rattle.em_latch.specs.Undo.{words_of, ArePlaces}
+use Rattle.em_regs.specs.RegFile.{at}
+use Rattle.em_regs.proofs.Entries.{at-insert_same, is_there, put_back}
+use Rattle.em_latch.specs.Latches.{Growth, IsThere, Fits, Reverses, grown, shrink, shrunk, undo}
+use Rattle.em_latch.specs.Undo.{octets_for}
 
--- ---- reversed changes, one after another
+-- ---- reversed changes
 -- no change
 pub nothing_reversed : (m : Registers) → Reverses m m []
 nothing_reversed m = record { fits = tt; restores = refl }
 
+-- a word grew, and nothing else changed
+pub record Grows (old new : Registers) (g : Growth) : Type 0 where
+  pub there : IsThere new g
+  pub restores : shrink new g ≡ old
+
+shrunk-grown : (w by : ℕ) → w < 2 ^ 32 → by < 2 ^ 32 → shrunk (grown w by) by ≡ w
+shrunk-grown w by h l = omega arith
+
+pub grows : {old new : Registers} {o : ℕ} (w by : ℕ) → map.get old o ≡ Some w → w < 2 ^ 32 → by < 2 ^ 32
+    → new ≡ map.insert old o (grown w by) → Grows old new record { at = o; by = by }
+grows {old} {new} {o} w by had h l is =
+    let now : at new o ≡ grown w by = ap (λ m. at m o) is ∙ at-insert_same old o (grown w by) in
+    record {
+      there = subst (λ m. IsTrue (map.contains_key m o)) (sym is) (is_there old o (grown w by));
+      restores =
+          ap (λ v. map.insert new o (shrunk v by)) now ∙ ap (map.insert new o) (shrunk-grown w by h l)
+          ∙ ap (λ m. map.insert m o w) is ∙ put_back old o (grown w by) w had;
+    }
+
 -- a newer change of one word
-pub newer_word : {a b c : Registers} {ws : List OldWord} {w : OldWord} → Reverses a b ws → registers.Reverses b c w
-    → Reverses a c (w ∷ ws)
-newer_word {ws = ws} older newer = record {
-  fits = (newer.fits, subst (λ m. Fits m ws) (sym newer.restores) older.fits);
-  restores = ap (λ m. undo m ws) newer.restores ∙ older.restores;
+pub newer_growth : {a b c : Registers} {gs : List Growth} {g : Growth} → Reverses a b gs → Grows b c g
+    → Reverses a c (g ∷ gs)
+newer_growth {gs = gs} older newer = record {
+  fits = (newer.there, subst (λ m. Fits m gs) (sym newer.restores) older.fits);
+  restores = ap (λ m. undo m gs) newer.restores ∙ older.restores;
 }
 
-undo-append : (m : Registers) (vs ws : List OldWord) → undo m (vs ++ ws) ≡ undo (undo m vs) ws
-undo-append m [] ws = refl
-undo-append m (v ∷ vs) ws = undo-append (registers.undo m v) vs ws
+-- ---- how many octets a growth takes
+pub octets_for-one : (by : ℕ) → by < 0x100 → octets_for by ≡ 1
+octets_for-one by h = let t : nat_lt by 0x100 ≡ true = grind (arith, nat_tests) in rw t refl
 
-Fits-append : (m : Registers) (vs ws : List OldWord) → Fits m vs → Fits (undo m vs) ws → Fits m (vs ++ ws)
-Fits-append m [] ws f g = g
-Fits-append m (v ∷ vs) ws f g = (f.0, Fits-append (registers.undo m v) vs ws f.1 g)
+pub octets_for-two : (by : ℕ) → 0x100 ≤ by → by < 0x1_0000 → octets_for by ≡ 2
+octets_for-two by h l =
+    let t : nat_lt by 0x100 ≡ false = grind (arith, nat_tests) in
+    let u : nat_lt by 0x1_0000 ≡ true = grind (arith, nat_tests) in
+    rw (t, u) refl
 
--- newer changes of several words
-pub newer_words : {a b c : Registers} {vs ws : List OldWord} → Reverses a b ws → Reverses b c vs
-    → Reverses a c (vs ++ ws)
-newer_words {c = c} {vs = vs} {ws = ws} older newer = record {
-  fits = Fits-append c vs ws newer.fits (subst (λ m. Fits m ws) (sym newer.restores) older.fits);
-  restores = undo-append c vs ws ∙ ap (λ m. undo m ws) newer.restores ∙ older.restores;
-}
+pub octets_for-four : (by : ℕ) → 0x1_0000 ≤ by → octets_for by ≡ 4
+octets_for-four by h =
+    let t : nat_lt by 0x100 ≡ false = grind (arith, nat_tests) in
+    let u : nat_lt by 0x1_0000 ≡ false = grind (arith, nat_tests) in
+    rw (t, u) refl
 
--- ---- how a record keeps them
-pub length-words_of : (n ps : ℕ) (vs : List ℕ) → length (words_of n ps vs) ≡ n
-length-words_of zero ps vs = refl
-length-words_of (suc n) ps vs = ap suc (length-words_of n (ps / 256) vs)
+pub octets_for-bounds : (by : ℕ) → (1 ≤ octets_for by) × (octets_for by ≤ 4)
+octets_for-bounds by = elim (cases_lt by 0x100) [
+  | inl h ↦ (omega (arith, octets_for-one by h), omega (arith, octets_for-one by h))
+  | inr h ↦ elim (cases_lt by 0x1_0000) [
+    | inl l ↦ (omega (arith, octets_for-two by h l), omega (arith, octets_for-two by h l))
+    | inr l ↦ (omega (arith, octets_for-four by l), omega (arith, octets_for-four by l))
+  ]
+]
 
--- a word that is not among the first ones
-words_of-set : (n ps : ℕ) (vs : List ℕ) (at v : ℕ) → n ≤ at → words_of n ps (slice_set vs at v) ≡ words_of n ps vs
-words_of-set zero ps vs at v le = refl
-words_of-set (suc n) ps vs at v le =
-    let other : n ≢ at = λ same. absurd (omega arith) in
-    rw (get_or-set_other vs at n v 0 other, words_of-set n (ps / 256) vs at v (omega arith)) refl
-
--- a word more, whose place is the lowest octet
-words_of-more : (n ps : ℕ) (vs : List ℕ) (place v : ℕ) → n < length vs → place < 256
-    → words_of (n + 1) (256 * ps + place) (slice_set vs n v)
-    ≡ record { at = slice_index offsets place; old = v } ∷ words_of n ps vs
-words_of-more n ps vs place v room small =
-    let lowest : (256 * ps + place) % 256 ≡ place = omega arith in
-    let above : (256 * ps + place) / 256 ≡ ps = omega arith in
-    rw (add-one, lowest, above, get_or-set_same vs n v 0 room, words_of-set n ps vs n v (omega arith)) refl
-
--- the newest word, and the others
-pub words_of-less : (n ps : ℕ) (vs : List ℕ) → 0 < n
-    → words_of n ps vs
-    ≡ record { at = slice_index offsets (ps % 256); old = slice_index vs (n - 1) } ∷ words_of (n - 1) (ps / 256) vs
-words_of-less zero ps vs some = absurd (omega arith)
-words_of-less (suc n) ps vs some = let rest : suc n - 1 ≡ n = omega arith in rw rest refl
-
--- so many octets are a number below this
-places_below : (n ps : ℕ) → ArePlaces n ps → ps < 256 ^ n
-places_below zero ps none = rw none (omega arith)
-places_below (suc n) ps places =
-    let power : 256 ^ (suc n) ≡ 256 ^ n * 256 = pow-suc 256 n in
-    omega (arith, power, places_below n (ps / 256) places.1)
-
--- where there is room for one more
-pub places_fit : (n ps : ℕ) → n < MOST_WORDS → ArePlaces n ps → ps < 0x100_0000_0000
-places_fit n ps less places =
-    let most : 256 ^ n ≤ 256 ^ 5 = pow-le-pow_right {n = 256} (omega arith) {i = n} {j = 5} (omega arith) in
-    omega (arith, most, places_below n ps places)
-
--- ---- a record's number: in the lowest octet how many words there are, and above it their places
--- a word more
-pub pushed : (number place v : ℕ) (vs : List ℕ) → number % 256 < MOST_WORDS → number % 256 < length vs → place < 256
-    → (new : ℕ) → new ≡ 256 * (256 * (number / 256) + place) + (number % 256 + 1)
-    → words_of (new % 256) (new / 256) (slice_set vs (number % 256) v)
-    ≡ record { at = slice_index offsets place; old = v } ∷ words_of (number % 256) (number / 256) vs
-pushed number place v vs few room small new is =
-    let count : new % 256 ≡ number % 256 + 1 = omega (arith, is, few) in
-    let places : new / 256 ≡ 256 * (number / 256) + place = omega (arith, is, few) in
-    rw (count, places) (words_of-more (number % 256) (number / 256) vs place v room small)
-
--- a word less
-pub popped : (number : ℕ) (vs : List ℕ) → 0 < number % 256
-    → (new : ℕ) → new ≡ number / 256 / 256 * 256 + (number % 256 - 1) → words_of (number % 256) (number / 256) vs
-    ≡ record { at = slice_index offsets (number / 256 % 256); old = slice_index vs (number % 256 - 1) }
-    ∷ words_of (new % 256) (new / 256) vs
-popped number vs some new is =
-    let count : new % 256 ≡ number % 256 - 1 = omega (arith, is, some) in
-    let places : new / 256 ≡ number / 256 / 256 = omega (arith, is, some) in
-    rw (count, places) (words_of-less (number % 256) (number / 256) vs some)
+-- a lesser growth takes no more
+pub octets_for-le : (by most : ℕ) → by ≤ most → octets_for by ≤ octets_for most
+octets_for-le by most le = elim (cases_lt most 0x100) [
+  | inl h ↦ omega (arith, octets_for-one most h, octets_for-one by (omega arith))
+  | inr h ↦ elim (cases_lt most 0x1_0000) [
+    | inl l ↦ elim (cases_lt by 0x100) [
+      | inl k ↦ omega (arith, octets_for-two most h l, octets_for-one by k)
+      | inr k ↦ omega (arith, octets_for-two most h l, octets_for-two by k (omega arith))
+    ]
+    | inr l ↦ omega (arith, octets_for-four most l, (octets_for-bounds by).1)
+  ]
+]

@@ -3,7 +3,12 @@ use Rattle.std.specs.Prelude.{
   ◌≡◌,
   ◌≢◌,
   ℕ,
+  ◌+◌,
   ◌-◌,
+  ◌%◌,
+  ◌^◌,
+  ◌==◌,
+  if◌then◌else◌,
   Bool,
   true,
   false,
@@ -11,22 +16,18 @@ use Rattle.std.specs.Prelude.{
   [],
   ◌∷◌,
   IsTrue,
-  Option,
-  None,
   bit_and,
   bit_or,
   length,
   replicate,
 }
-use Rattle.std.specs.Option.{option_or}
 use Rattle.std.specs.FinMap as map
 use Rattle.em_regs.specs.declared.reg.Reg.{Reg}
 use Rattle.em_regs.specs.declared.reg.Reg.TheVariants.{Icr, Ics, Ims, Imc, Gorcl, Gorch, Gotcl, Gotch}
 use Rattle.em_regs.specs.declared.table.Kind.{Kind}
 use Rattle.em_regs.specs.declared.table.Kind.TheVariants.{Interrupt, Counter}
 use Rattle.em_regs.specs.Table.{row_of, offset_of, is_counter}
-use Rattle.em_regs.specs.RegFile as registers
-use Rattle.em_regs.specs.RegFile.{OldWord, at}
+use Rattle.em_regs.specs.RegFile.{at}
 use Rattle.em_regs.specs.Storage.{Registers, words_at}
 use Rattle.em_latch.specs.Storage.{offsets}
 
@@ -112,23 +113,43 @@ after_write m reg v = m
 abbrev pub IsAsserted : Registers → Type 0
 IsAsserted m = bit_and (causes m) (mask m) ≢ 0
 
--- ---- what takes changes back: old words, the newest first
+-- ---- what takes changes back: growths, the newest first
+-- by how much the word at an offset grew, modulo 2^32
+pub record Growth : Type 0 where
+  pub at : ℕ
+  pub by : ℕ
+
+-- a word that grows by some number, and what it was where it is v now
+abbrev pub grown : ℕ → ℕ → ℕ
+grown v by = (v + by) % 2 ^ 32
+
+abbrev pub shrunk : ℕ → ℕ → ℕ
+shrunk v by = (v + (2 ^ 32 - by)) % 2 ^ 32
+
+-- the word is there
+abbrev pub IsThere : Registers → Growth → Type 0
+IsThere m g = IsTrue (map.contains_key m g.at)
+
+-- the word holds what it held
+abbrev pub shrink : Registers → Growth → Registers
+shrink m g = map.insert m g.at (shrunk (at m g.at) g.by)
+
 -- each word is there
-abbrev pub Fits : Registers → List OldWord → Type 0
+abbrev pub Fits : Registers → List Growth → Type 0
 Fits m [] = Unit {0}
-Fits m (w ∷ ws) = registers.Fits m w × Fits (registers.undo m w) ws
+Fits m (g ∷ gs) = IsThere m g × Fits (shrink m g) gs
 
 -- the words hold what they held
-abbrev pub undo : Registers → List OldWord → Registers
+abbrev pub undo : Registers → List Growth → Registers
 undo m [] = m
-undo m (w ∷ ws) = undo (registers.undo m w) ws
+undo m (g ∷ gs) = undo (shrink m g) gs
 
--- what they put back at an offset: of several words there the oldest, which is put back last; none where there is none
-abbrev pub oldest_at : List OldWord → ℕ → Option ℕ
-oldest_at [] o = None
-oldest_at (w ∷ ws) o = option_or (oldest_at ws o) (registers.old_at w o)
+-- what the word at an offset was that is v now: all its growths count
+abbrev pub before_at : List Growth → ℕ → ℕ → ℕ
+before_at [] o v = v
+before_at (g ∷ gs) o v = before_at gs o (if g.at == o then shrunk v g.by else v)
 
--- the words take the changes from the old registers to the new ones back
-pub record Reverses (old new : Registers) (ws : List OldWord) : Type 0 where
-  pub fits : Fits new ws
-  pub restores : undo new ws ≡ old
+-- the growths take the changes from the old registers to the new ones back
+pub record Reverses (old new : Registers) (gs : List Growth) : Type 0 where
+  pub fits : Fits new gs
+  pub restores : undo new gs ≡ old

@@ -1,16 +1,17 @@
 //! The interrupt causes, their mask and the counters.
-ghost use Rattle.std.specs.Prelude.{◌≡◌, ◌+◌, ◌≤◌, ◌<◌, ℕ, ◌↔◌, IsTrue, Some, slice_index, length};
+ghost use Rattle.std.specs.Prelude.{◌≡◌, ◌≢◌, ◌+◌, ◌≤◌, ◌<◌, ◌↔◌, IsTrue, Some, slice_index};
 ghost use Rattle.std.specs.FinMap as map;
 ghost use Rattle.em_regs.specs.Table.{offset_of};
 ghost use Rattle.em_regs.specs.Storage.{Registers};
 ghost use Rattle.em_regs.specs.RegFile as registers;
 ghost use Rattle.em_latch.specs.Storage.{offsets};
 ghost use Rattle.em_latch.specs.Latches.{fresh, is_latched, IsLatched, IsWord, gives, after_read, after_write};
-ghost use Rattle.em_latch.specs.Latches.{after_raise, after_pair_clear, after_pair_write, IsAsserted, Fits, undo, Reverses};
-ghost use Rattle.em_latch.specs.Counter.{after_count, after_pair_count, width_of};
+ghost use Rattle.em_latch.specs.Latches.{after_raise, after_pair_clear, IsAsserted, grown, shrink, undo, Reverses};
+ghost use Rattle.em_latch.specs.Counter.{after_count, after_pair_count, octets_for_count};
+ghost use Rattle.em_latch.specs.Undo.{octets_for, octets_of};
 
 use crate::counter::Counter;
-use crate::undo::{LatchUndo, MOST_WORDS, OldWord, WORDS};
+use crate::undo::{Growth, LatchUndo, MOST_OCTETS, WORDS};
 use em_mem::Reversible;
 use em_regs::{Kind, Reg};
 use std::marker::Model;
@@ -18,7 +19,7 @@ use std::marker::Model;
 /// The causes that ICS and IMS can set: bits 16 to 0 (this project's profile).
 const CAUSE_BITS: u32 = 0x0001_FFFF;
 
-/// The places of the causes, of their mask and of the first counter, as an old word names them.
+/// The places of the causes, of their mask and of the first counter, as a growth names them.
 const CAUSES: u8 = 0;
 
 const MASK: u8 = 1;
@@ -93,7 +94,6 @@ impl Latches {
         requires { IsLatched reg }
         ensures value { result.0 ≡ gives self.old reg }
         ensures state { self.new ≡ after_read self.old reg }
-        ensures words { length result.1 ≤ 2 }
         ensures reverses { Reverses self.old self.new result.1 }
     {
         let mut undo = LatchUndo::none();
@@ -112,7 +112,6 @@ impl Latches {
     pub fn write(&mut self, reg: Reg, value: u32) -> LatchUndo
         requires { IsLatched reg }
         ensures state { self.new ≡ after_write self.old reg value }
-        ensures words { length result ≤ 1 }
         ensures reverses { Reverses self.old self.new result }
     {
         let causes = self.word(Reg::Icr);
@@ -132,7 +131,7 @@ impl Latches {
     #[inline(always)]
     pub fn raise(&mut self, causes: u32) -> LatchUndo
         ensures state { self.new ≡ after_raise self.old causes }
-        ensures words { length result ≡ 1 }
+        ensures octets { octets_of result ≤ octets_for causes }
         ensures reverses { Reverses self.old self.new result }
     {
         let mut undo = LatchUndo::none();
@@ -144,7 +143,7 @@ impl Latches {
     #[inline(always)]
     pub fn count(&mut self, counter: Counter, by: u32) -> LatchUndo
         ensures state { self.new ≡ after_count self.old counter by }
-        ensures words { length result ≡ width_of counter }
+        ensures octets { octets_of result ≤ octets_for_count counter by }
         ensures reverses { Reverses self.old self.new result }
     {
         let mut undo = LatchUndo::none();
@@ -152,26 +151,26 @@ impl Latches {
         undo
     }
 
-    // What a frame does to the latches goes into one record: each change adds its old words to it.
+    // What a frame does to the latches goes into one record: each change adds its growths to it.
 
-    /// Sets causes in ICR, and adds the old word to a record.
+    /// Sets causes in ICR, and adds the growth to a record.
     #[inline(always)]
     pub fn raise_into(&mut self, causes: u32, undo: &mut LatchUndo)
-        requires { length undo.old + 1 ≤ MOST_WORDS }
+        requires { octets_of undo.old + octets_for causes ≤ MOST_OCTETS }
         ensures state { self.new ≡ after_raise self.old causes }
-        ensures words { length undo.new ≡ length undo.old + 1 }
+        ensures octets { octets_of undo.new ≤ octets_of undo.old + octets_for causes }
         ensures reverses { (base : Registers) → Reverses base self.old undo.old → Reverses base self.new undo.new }
     {
         let set = self.word(Reg::Icr);
-        self.replace(Reg::Icr, set | causes, undo);
+        self.grow(Reg::Icr, causes - (set & causes), undo);
     }
 
-    /// Steps a counter by some number, and adds the old words to a record.
+    /// Steps a counter by some number, and adds the growths to a record.
     #[inline(always)]
     pub fn count_into(&mut self, counter: Counter, by: u32, undo: &mut LatchUndo)
-        requires { length undo.old + width_of counter ≤ MOST_WORDS }
+        requires { octets_of undo.old + octets_for_count counter by ≤ MOST_OCTETS }
         ensures state { self.new ≡ after_count self.old counter by }
-        ensures words { length undo.new ≡ length undo.old + width_of counter }
+        ensures octets { octets_of undo.new ≤ octets_of undo.old + octets_for_count counter by }
         ensures reverses { (base : Registers) → Reverses base self.old undo.old → Reverses base self.new undo.new }
     {
         match counter {
@@ -179,8 +178,8 @@ impl Latches {
             Counter::Gotc => self.count_pair(Reg::Gotcl, Reg::Gotch, by, undo),
             _ => {
                 let reg = counter.reg();
-                let sum = self.word(reg).saturating_add(by);
-                self.replace(reg, sum, undo);
+                let step = by.min(u32::MAX - self.word(reg));
+                self.grow(reg, step, undo);
             }
         }
     }
@@ -198,8 +197,8 @@ impl Latches {
         ensures { self.new ≡ undo self.old taken }
     {
         let mut left = taken;
-        while let Some(OldWord { place, old }) = left.pop() {
-            let _ = self.swap(place, old);
+        while let Some(Growth { place, by }) = left.pop() {
+            self.shrink(place, by);
         }
     }
 
@@ -222,34 +221,57 @@ impl Latches {
         std::mem::replace(&mut self.words[usize::from(place)], value)
     }
 
-    /// Stores a word, and adds the old one to a record.
+    /// Makes the word at a place what it was before it grew.
+    #[inline(always)]
+    fn shrink(&mut self, place: u8, by: u32)
+        requires { place < WORDS }
+        ensures { self.new ≡ shrink self.old (record { at = slice_index offsets place; by = by }) }
+    {
+        let now = self.words[usize::from(place)];
+        let _ = self.swap(place, now.wrapping_sub(by));
+    }
+
+    /// Lets a word grow, modulo 2^32, and adds that to a record.
+    #[inline(always)]
+    fn grow(&mut self, reg: Reg, by: u32, undo: &mut LatchUndo)
+        requires word { IsWord reg }
+        requires room { octets_of undo.old + octets_for by ≤ MOST_OCTETS }
+        ensures state { self.new
+            ≡ map.insert self.old (offset_of reg) (grown (registers.at self.old (offset_of reg)) by) }
+        ensures octets { octets_of undo.new ≡ octets_of undo.old + octets_for by }
+        ensures reverses { (base : Registers) → Reverses base self.old undo.old → Reverses base self.new undo.new }
+    {
+        let place = place_of(reg);
+        let value = self.word(reg).wrapping_add(by);
+        let _ = self.swap(place, value);
+        undo.push(Growth { place, by });
+    }
+
+    /// Stores a word, and adds its growth to a record: four octets at most.
     #[inline(always)]
     fn replace(&mut self, reg: Reg, value: u32, undo: &mut LatchUndo)
         requires word { IsWord reg }
-        requires room { length undo.old + 1 ≤ MOST_WORDS }
+        requires room { octets_of undo.old + 4 ≤ MOST_OCTETS }
         ensures state { self.new ≡ map.insert self.old (offset_of reg) value }
-        ensures words { length undo.new ≡ length undo.old + 1 }
+        ensures octets { octets_of undo.new ≤ octets_of undo.old + 4 }
         ensures reverses { (base : Registers) → Reverses base self.old undo.old → Reverses base self.new undo.new }
     {
-        let place = place_of(reg);
-        let old = self.swap(place, value);
-        undo.push(OldWord { place, old });
+        let by = value.wrapping_sub(self.word(reg));
+        self.grow(reg, by, undo);
     }
 
-    /// Clears a word, adds it to a record, and gives it.
+    /// Clears a word, adds its growth to a record, and gives what it was.
     #[inline(always)]
     fn clear(&mut self, reg: Reg, undo: &mut LatchUndo) -> u32
         requires word { IsWord reg }
-        requires room { length undo.old + 1 ≤ MOST_WORDS }
+        requires room { octets_of undo.old + 4 ≤ MOST_OCTETS }
         ensures value { result ≡ registers.at self.old (offset_of reg) }
         ensures state { self.new ≡ map.insert self.old (offset_of reg) 0 }
-        ensures words { length undo.new ≡ length undo.old + 1 }
         ensures reverses { (base : Registers) → Reverses base self.old undo.old → Reverses base self.new undo.new }
     {
-        let place = place_of(reg);
-        let old = self.swap(place, 0);
-        undo.push(OldWord { place, old });
-        old
+        let value = self.word(reg);
+        self.replace(reg, 0, undo);
+        value
     }
 
     /// Clears both words of a pair, and gives the high one.
@@ -257,36 +279,15 @@ impl Latches {
     fn clear_both(&mut self, low: Reg, high: Reg, undo: &mut LatchUndo) -> u32
         requires low { IsWord low }
         requires high { IsWord high }
-        requires room { length undo.old + 2 ≤ MOST_WORDS }
+        requires room { octets_of undo.old ≡ 0 }
         ensures value { result ≡ registers.at self.old (offset_of high) }
         ensures state { self.new ≡ after_pair_clear self.old low high }
-        ensures words { length undo.new ≡ length undo.old + 2 }
         ensures reverses { (base : Registers) → Reverses base self.old undo.old → Reverses base self.new undo.new }
     {
         let value = self.word(high);
-        self.replace_both(low, high, 0, 0, undo);
+        self.replace(low, 0, undo);
+        self.replace(high, 0, undo);
         value
-    }
-
-    /// Stores two words, the low half of a pair and the high one.
-    #[inline(always)]
-    fn replace_both(
-        &mut self,
-        low: Reg,
-        high: Reg,
-        low_value: u32,
-        high_value: u32,
-        undo: &mut LatchUndo,
-    )
-        requires low { IsWord low }
-        requires high { IsWord high }
-        requires room { length undo.old + 2 ≤ MOST_WORDS }
-        ensures state { self.new ≡ after_pair_write self.old low high low_value high_value }
-        ensures words { length undo.new ≡ length undo.old + 2 }
-        ensures reverses { (base : Registers) → Reverses base self.old undo.old → Reverses base self.new undo.new }
-    {
-        self.replace(low, low_value, undo);
-        self.replace(high, high_value, undo);
     }
 
     /// Steps a pair as one number.
@@ -294,15 +295,18 @@ impl Latches {
     fn count_pair(&mut self, low: Reg, high: Reg, by: u32, undo: &mut LatchUndo)
         requires low { IsWord low }
         requires high { IsWord high }
-        requires room { length undo.old + 2 ≤ MOST_WORDS }
+        requires apart { offset_of high ≢ offset_of low }
+        requires room { octets_of undo.old + (octets_for by + 1) ≤ MOST_OCTETS }
         ensures state { self.new ≡ after_pair_count self.old low high by }
-        ensures words { length undo.new ≡ length undo.old + 2 }
+        ensures octets { octets_of undo.new ≤ octets_of undo.old + (octets_for by + 1) }
         ensures reverses { (base : Registers) → Reverses base self.old undo.old → Reverses base self.new undo.new }
     {
-        let old = u64::from(self.word(low)) + WORD_RANGE * u64::from(self.word(high));
-        let sum = old.saturating_add(u64::from(by));
-        let (low_value, high_value) = ((sum % WORD_RANGE) as u32, (sum / WORD_RANGE) as u32);
-        self.replace_both(low, high, low_value, high_value, undo);
+        let low_word = u64::from(self.word(low));
+        let old = low_word + WORD_RANGE * u64::from(self.word(high));
+        let step = u64::from(by).min(u64::MAX - old);
+        let carry = (low_word + step) / WORD_RANGE;
+        self.grow(low, step as u32, undo);
+        self.grow(high, carry as u32, undo);
     }
 }
 
@@ -320,7 +324,7 @@ impl Reversible for Latches {
     }
 }
 
-/// The place of the register's word, as an old word names it.
+/// The place of the register's word, as a growth names it.
 #[inline(always)]
 pub(crate) fn place_of(reg: Reg) -> u8
     requires { IsWord reg }

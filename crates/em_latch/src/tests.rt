@@ -61,15 +61,49 @@ fn a_record_tells_the_old_words(rt: HostRuntime) -> Result<(), Fail> {
         return Err(Fail::from("IMS is not among the latches"));
     }
     let mask = latches.write(Reg::Ims, 0x40);
-    assert_eq!(rt; mask.old_of(Reg::Ims), Some(0));
-    assert_eq!(rt; mask.old_of(Reg::Icr), None);
+    assert_eq!(rt; mask.before(Reg::Ims, 0x40), 0);
+    assert_eq!(rt; mask.before(Reg::Icr, 0x80), 0x80);
 
-    // two causes and a counter in one record: of the causes the oldest word counts
+    // two causes and a counter in one record: both growths of the causes count
     let mut undo = latches.raise(0x40);
     latches.count_into(Counter::Mpc, 1, &mut undo);
     latches.raise_into(0x80, &mut undo);
-    assert_eq!(rt; undo.old_of(Reg::Icr), Some(0));
-    assert_eq!(rt; undo.old_of(Reg::Mpc), Some(7));
-    assert_eq!(rt; undo.old_of(Reg::Gorcl), None);
+    assert_eq!(rt; undo.before(Reg::Icr, 0xC0), 0);
+    assert_eq!(rt; undo.before(Reg::Mpc, 8), 7);
+    assert_eq!(rt; undo.before(Reg::Gorcl, 7), 7);
+    Ok(())
+}
+
+#[test]
+fn large_words_are_taken_back(rt: HostRuntime) -> Result<(), Fail> {
+    let mut latches = Latches::with_counters(u32::MAX - 1);
+    if !latches.holds(Reg::Mpc) || !latches.holds(Reg::Gorcl) || !latches.holds(Reg::Gorch) {
+        return Err(Fail::from("a counter is not among the latches"));
+    }
+    let first = latches.count(Counter::Mpc, 1);
+    // MPC stays at its greatest value, and GORC carries from its low half to its high one
+    let second = latches.count(Counter::Mpc, 1);
+    let third = latches.count(Counter::Gorc, 0x1_2345);
+    assert_eq!(rt; latches.look(Reg::Mpc), u32::MAX);
+    assert_eq!(rt; latches.look(Reg::Gorcl), 0x1_2343);
+    assert_eq!(rt; latches.look(Reg::Gorch), u32::MAX);
+    assert_eq!(rt; second.before(Reg::Mpc, u32::MAX), u32::MAX);
+    assert_eq!(rt; third.before(Reg::Gorcl, 0x1_2343), u32::MAX - 1);
+
+    // and the reads clear them
+    let (_value, fourth) = latches.read(Reg::Gorch);
+    let (value, fifth) = latches.read(Reg::Mpc);
+    assert_eq!(rt; value, u32::MAX);
+    latches.take_back(fifth);
+    latches.take_back(fourth);
+    latches.take_back(third);
+    latches.take_back(second);
+    latches.take_back(first);
+    for reg in [Reg::Mpc, Reg::Gorcl, Reg::Gorch] {
+        if !latches.holds(reg) {
+            return Err(Fail::from("a counter is not among the latches"));
+        }
+        assert_eq!(rt; latches.look(reg), u32::MAX - 1);
+    }
     Ok(())
 }

@@ -13,9 +13,9 @@ use Rattle.em_regs.specs.declared.table.Kind.TheVariants.{Interrupt, Counter, St
 use Rattle.em_regs.specs.Table.{offset_of}
 use Rattle.em_regs.specs.Storage.{Registers}
 use Rattle.em_regs.specs.RegFile as registers
-use Rattle.em_regs.specs.RegFile.{OldWord}
 use Rattle.em_regs.proofs.Entries.{at-undo}
 use Rattle.em_latch.specs.Latches as latches
+use Rattle.em_latch.specs.Latches.{Growth}
 use Rattle.em_latch.proofs.BeforeLaws.{at-undone}
 use Rattle.em_rx.specs.Before as rx_before
 use Rattle.em_rx.specs.Fifo as rx
@@ -55,28 +55,28 @@ stored_undone c (TxStep old head) reg = at-undo c.registers (word Tdh head) (off
 stored_undone c (Link old) reg = refl
 stored_undone c (Reset old) reg = refl
 
-latch_undone : (m : Registers) (words : List OldWord) (reg : Reg)
-    → latches.gives (latches.undo m words) reg ≡ latch_before words reg (latches.gives m reg)
-latch_undone m words Ics = refl
-latch_undone m words Imc = refl
-latch_undone m words reg = at-undone m words (offset_of reg)
+latch_undone : (m : Registers) (growths : List Growth) (reg : Reg)
+    → latches.gives (latches.undo m growths) reg ≡ latch_before growths reg (latches.gives m reg)
+latch_undone m growths Ics = refl
+latch_undone m growths Imc = refl
+latch_undone m growths reg = at-undone m growths (offset_of reg)
 
 -- the cells with the words of the latches put back
-abbrev pub with_words : Cells → List OldWord → Cells
-with_words c words = record c { latches = latches.undo c.latches words }
+abbrev pub with_words : Cells → List Growth → Cells
+with_words c growths = record c { latches = latches.undo c.latches growths }
 
-latched_undone : (c : Cells) (words : List OldWord) (e : Effect) (reg : Reg)
-    → latches.gives (undo_effect (with_words c words) e).latches reg
-    ≡ latched_before words e reg (latches.gives c.latches reg)
-latched_undone c words Nothing reg = latch_undone c.latches words reg
-latched_undone c words (Register old) reg = latch_undone c.latches words reg
-latched_undone c words (Octets old) reg = latch_undone c.latches words reg
-latched_undone c words (FewOctets old) reg = latch_undone c.latches words reg
-latched_undone c words (Arrival old) reg = latch_undone c.latches words reg
-latched_undone c words (RxStep head old) reg = latch_undone c.latches words reg
-latched_undone c words (TxStep old head) reg = latch_undone c.latches words reg
-latched_undone c words (Link old) reg = latch_undone c.latches words reg
-latched_undone c words (Reset old) reg = refl
+latched_undone : (c : Cells) (growths : List Growth) (e : Effect) (reg : Reg)
+    → latches.gives (undo_effect (with_words c growths) e).latches reg
+    ≡ latched_before growths e reg (latches.gives c.latches reg)
+latched_undone c growths Nothing reg = latch_undone c.latches growths reg
+latched_undone c growths (Register old) reg = latch_undone c.latches growths reg
+latched_undone c growths (Octets old) reg = latch_undone c.latches growths reg
+latched_undone c growths (FewOctets old) reg = latch_undone c.latches growths reg
+latched_undone c growths (Arrival old) reg = latch_undone c.latches growths reg
+latched_undone c growths (RxStep head old) reg = latch_undone c.latches growths reg
+latched_undone c growths (TxStep old head) reg = latch_undone c.latches growths reg
+latched_undone c growths (Link old) reg = latch_undone c.latches growths reg
+latched_undone c growths (Reset old) reg = refl
 
 pub link_undone : (c : Cells) (e : Effect) → (undo_effect c e).link ≡ link_before e c.link
 link_undone c Nothing = refl
@@ -117,16 +117,16 @@ fifo_undone c m (rx_variant.Frame patch) fits = length-frames (rx_undo.with_patc
 fifo_undone c m (rx_variant.Step patch) fits = length-frames (record c { places = patch.value.places }) fits.sound
 
 -- the effect fits whatever the latches hold
-fits_with : (c : Cells) (words : List OldWord) (e : Effect) → EffectFits c e → EffectFits (with_words c words) e
-fits_with c words Nothing fits = fits
-fits_with c words (Register old) fits = fits
-fits_with c words (Octets old) fits = fits
-fits_with c words (FewOctets old) fits = fits
-fits_with c words (Arrival old) fits = fits
-fits_with c words (RxStep head old) fits = fits
-fits_with c words (TxStep old head) fits = fits
-fits_with c words (Link old) fits = fits
-fits_with c words (Reset old) fits = fits
+fits_with : (c : Cells) (growths : List Growth) (e : Effect) → EffectFits c e → EffectFits (with_words c growths) e
+fits_with c growths Nothing fits = fits
+fits_with c growths (Register old) fits = fits
+fits_with c growths (Octets old) fits = fits
+fits_with c growths (FewOctets old) fits = fits
+fits_with c growths (Arrival old) fits = fits
+fits_with c growths (RxStep head old) fits = fits
+fits_with c growths (TxStep old head) fits = fits
+fits_with c growths (Link old) fits = fits
+fits_with c growths (Reset old) fits = fits
 
 frames_undone : (c : Cells) (e : Effect) → EffectFits c e
     → length (rx.shows (undo_effect c e).fifo).frames ≡ frames_before e (length (rx.shows c.fifo).frames)

@@ -1,8 +1,8 @@
 -- How the steps of the two engines come out.
 use Rattle.std.proofs.Common.{◌≡◌, inl, inr, Bool, true, false, cond, IsTrue, List, length, ℕ, Option, Some, None}
 use Rattle.std.proofs.Common.{Result, Ok, Err}
-use Rattle.std.proofs.Common.{refl, sym, ap, ◌∙◌, subst}
-use Rattle.std.specs.Prelude.{IsOk, not, nat_lt, ◌+◌}
+use Rattle.std.proofs.Common.{refl, sym, ap, ◌∙◌, arith, subst}
+use Rattle.std.specs.Prelude.{IsOk, not, nat_lt, ◌+◌, ◌≤◌, ◌==◌, if◌then◌else◌}
 use Rattle.em_mem.specs.Memory.{part}
 use Rattle.em_regs.specs.declared.reg.Reg.TheVariants.{Rdh}
 use Rattle.em_regs.specs.declared.setup.RxSetup.{RxSetup}
@@ -17,7 +17,8 @@ use Rattle.em_tx.specs.Cells.{Shown}
 use Rattle.em_tx.specs.Engine.{gather, handle, refusal, sends, transmit, unless}
 use Rattle.em_tx.specs.Engine as tx
 use Rattle.em_tx.specs.Frame.{frame}
-use Rattle.em_tx.specs.Ring.{is_idle, place}
+use Rattle.em_tx.specs.Descriptor.{rs}
+use Rattle.em_tx.specs.Ring.{causes, is_idle, next, place}
 use Rattle.em_tx.specs.Engine.{IsHandled}
 use Rattle.em_tx.specs.declared.answer.TxAnswer.{TxAnswer}
 use Rattle.em_tx.specs.declared.answer.TxAnswer.TheVariants as tx_answer
@@ -57,22 +58,22 @@ rx_wrote s t {q = q} {a = a} {index = index} {next = next} {causes = causes}
     ap (rx_stepped s) by_setup ∙ ap (λ x. Ok (Wrote index, x)) same
 
 -- ---- sending
--- a descriptor that is handled is fetched, or its frame sent
-of_sends : (b : Bool) (q : TxSetup) (d : List ℕ) (s : Shown) (f octets : List ℕ)
-    → IsHandled (cond b (tx.send q d s f) (tx.fetch q d s octets)).0
-of_sends true q d s f octets = tt
-of_sends false q d s f octets = tt
+-- what holds of both answers to a descriptor that is handled: it is fetched, or its frame sent
+of_sends : (P : TxAnswer → Type 0) (b : Bool) (q : TxSetup) (d : List ℕ) (s : Shown) (f octets : List ℕ)
+    → P (tx.send q d s f).0 → P (tx.fetch q d s octets).0 → P (cond b (tx.send q d s f) (tx.fetch q d s octets)).0
+of_sends P true q d s f octets sent fetched = sent
+of_sends P false q d s f octets sent fetched = fetched
 
 handled : (q : TxSetup) (d : List ℕ) (s : Shown) → IsHandled (handle q d s).0
 unfolding handle
 handled q d s =
-    let octets = gather s d in of_sends (sends d (length octets)) q d s (frame q d octets) octets
+    let octets = gather s d in of_sends IsHandled (sends d (length octets)) q d s (frame q d octets) octets tt tt
 
-by_tests : (range : Bool) (why : Option TxRefusal) (x r : TxAnswer × Shown) → IsHandled x.0
-    → cond range (Err tx_refusal.DmaRange) (unless why x) ≡ Ok r → IsHandled r.0
-by_tests true why x r is same = cc
-by_tests false None x r is same = let found : x ≡ r = cc in subst (λ y. IsHandled y.0) found is
-by_tests false (Some refused) x r is same = cc
+by_tests : (P : TxAnswer → Type 0) (range : Bool) (why : Option TxRefusal) (x r : TxAnswer × Shown) → P x.0
+    → cond range (Err tx_refusal.DmaRange) (unless why x) ≡ Ok r → P r.0
+by_tests P true why x r is same = cc
+by_tests P false None x r is same = let found : x ≡ r = cc in subst (λ y. P y.0) found is
+by_tests P false (Some refused) x r is same = cc
 
 busy_step : (idle : Bool) (x : Result (TxAnswer × Shown) TxRefusal) (s : Shown) (r : TxAnswer × Shown) → idle ≡ false
     → cond idle (Ok (tx_answer.Idle, s)) x ≡ Ok r → x ≡ Ok r
@@ -85,8 +86,44 @@ transmit_handles : (q : TxSetup) (s : Shown) (r : TxAnswer × Shown) → is_idle
 unfolding transmit
 transmit_handles q s r busy is =
     let d = part s.memory (place q) 16 in
-    by_tests (nat_lt (length s.memory) (place q + 16)) (refusal s.gathered s.memory d) (handle q d s) r (handled q d s)
-    (busy_step (is_idle q) _ s r busy is)
+    by_tests IsHandled (nat_lt (length s.memory) (place q + 16)) (refusal s.gathered s.memory d) (handle q d s) r
+    (handled q d s) (busy_step (is_idle q) _ s r busy is)
+
+-- the causes that a step raises: two at most
+abbrev pub causes_raised : TxAnswer → ℕ
+causes_raised tx_answer.Idle = 0
+causes_raised (tx_answer.Fetched index next causes) = causes
+causes_raised (tx_answer.Sent index next causes octets kind) = causes
+
+abbrev RaisesFew : TxAnswer → Type 0
+RaisesFew a = causes_raised a ≤ 3
+
+both_causes : (a b : Bool) → (if a then 1 else 0) + (if b then 2 else 0) ≤ 3
+both_causes true true = omega arith
+both_causes true false = omega arith
+both_causes false true = omega arith
+both_causes false false = omega arith
+
+handled_few : (q : TxSetup) (d : List ℕ) (s : Shown) → RaisesFew (handle q d s).0
+unfolding handle
+handled_few q d s =
+    let octets = gather s d in
+    let few : causes q d ≤ 3 = both_causes (rs d) (next q == q.tail) in
+    of_sends RaisesFew (sends d (length octets)) q d s (frame q d octets) octets few few
+
+idle_step : (P : TxAnswer → Type 0) (idle : Bool) (x : Result (TxAnswer × Shown) TxRefusal) (s : Shown)
+    (r : TxAnswer × Shown) → P tx_answer.Idle → (x ≡ Ok r → P r.0) → cond idle (Ok (tx_answer.Idle, s)) x ≡ Ok r → P r.0
+idle_step P true x s r rests handles is =
+    let found : (tx_answer.Idle, s) ≡ r = cc in subst (λ (y : TxAnswer × Shown). P y.0) found rests
+idle_step P false x s r rests handles is = handles is
+
+pub raises_few : (q : TxSetup) (s : Shown) (r : TxAnswer × Shown) → transmit q s ≡ Ok r → causes_raised r.0 ≤ 3
+unfolding transmit
+raises_few q s r is =
+    let d = part s.memory (place q) 16 in
+    idle_step RaisesFew (is_idle q) _ s r (omega arith)
+    (by_tests RaisesFew (nat_lt (length s.memory) (place q + 16)) (refusal s.gathered s.memory d) (handle q d s) r
+    (handled_few q d s)) is
 
 needs_answer : (s : State) (a : TxAnswer) → IsHandled a → IsTrue (not (takes_none (after_tx_answer s a).0))
 needs_answer s tx_answer.Idle is = absurd is

@@ -2,8 +2,8 @@
 use Rattle.std.proofs.Common.{◌≡◌, ap, sym, subst}
 use Rattle.em_mem.specs.Memory as memory
 use Rattle.em_latch.specs.Latches as latches
+use Rattle.em_latch.specs.Latches.{Growth}
 use Rattle.em_regs.specs.Storage.{Registers}
-use Rattle.em_regs.specs.RegFile.{OldWord}
 use Rattle.em_latch.proofs.UndoLaws.{nothing_reversed}
 use Rattle.em_tx.specs.Cells.{Gathered, MoreRoom}
 use Rattle.std.specs.Prelude.{IsTrue, List, []}
@@ -29,11 +29,11 @@ pages_from {c = c} same = subst (λ x. memory.MorePages x c) same
 pub room_from : {g h k : Gathered} → g ≡ h → MoreRoom g k → MoreRoom h k
 room_from {k = k} same = subst (λ x. MoreRoom x k) same
 
--- old words of the latches that are known to be others
-pub reversed_words : {old new : Registers} {us ws : List OldWord} → us ≡ ws → latches.Reverses old new ws
-    → latches.Reverses old new us
-reversed_words {old = old} {new = new} same reverses = subst (λ vs. latches.Reverses old new vs) (sym same) reverses
+-- growths of the latches that are known to be others
+pub reversed_growths : {old new : Registers} {fs gs : List Growth} → fs ≡ gs → latches.Reverses old new gs
+    → latches.Reverses old new fs
+reversed_growths {old = old} {new = new} same reverses = subst (λ hs. latches.Reverses old new hs) (sym same) reverses
 
--- a record of no words takes no change back
-pub nothing_done : {m : Registers} {ws : List OldWord} → ws ≡ [] → latches.Reverses m m ws
-nothing_done {m = m} empty = reversed_words empty (nothing_reversed m)
+-- a record of no growths takes no change back
+pub nothing_done : {m : Registers} {gs : List Growth} → gs ≡ [] → latches.Reverses m m gs
+nothing_done {m = m} empty = reversed_growths empty (nothing_reversed m)

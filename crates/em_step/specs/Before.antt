@@ -9,8 +9,8 @@ use Rattle.em_regs.specs.declared.table.Kind.{Kind}
 use Rattle.em_regs.specs.declared.table.Kind.TheVariants.{Interrupt, Counter, Status}
 use Rattle.em_regs.specs.Table.{row_of, offset_of}
 use Rattle.em_regs.specs.RegFile as registers
-use Rattle.em_regs.specs.RegFile.{OldWord}
 use Rattle.em_latch.specs.Latches as latches
+use Rattle.em_latch.specs.Latches.{Growth}
 use Rattle.em_rx.specs.Before as rx
 use Rattle.em_tx.specs.Before as tx
 use Rattle.em_tx.specs.Undo.{gathered_of, last_of}
@@ -56,14 +56,14 @@ stored_before (Reset old) reg now = registers.at old.value.registers.value (offs
 stored_before effect reg now = now
 
 -- of an interrupt register or a counter: ICS and IMC always read as 0
-abbrev pub latch_before : List OldWord → Reg → ℕ → ℕ
-latch_before words Ics now = now
-latch_before words Imc now = now
-latch_before words reg now = unwrap_or (latches.oldest_at words (offset_of reg)) now
+abbrev pub latch_before : List Growth → Reg → ℕ → ℕ
+latch_before growths Ics now = now
+latch_before growths Imc now = now
+latch_before growths reg now = latches.before_at growths (offset_of reg) now
 
-abbrev pub latched_before : List OldWord → Effect → Reg → ℕ → ℕ
-latched_before words (Reset old) reg now = latches.gives old.value.latches reg
-latched_before words effect reg now = latch_before words reg now
+abbrev pub latched_before : List Growth → Effect → Reg → ℕ → ℕ
+latched_before growths (Reset old) reg now = latches.gives old.value.latches reg
+latched_before growths effect reg now = latch_before growths reg now
 
 abbrev pub link_before : Effect → Bool → Bool
 link_before (Link old) now = old

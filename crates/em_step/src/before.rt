@@ -111,7 +111,7 @@ impl Undo {
         }
         match reg {
             Reg::Ics | Reg::Imc => now,
-            _ => self.latches.old_of(reg).unwrap_or(now),
+            _ => self.latches.before(reg, now),
         }
     }
 }

@@ -1,8 +1,9 @@
 //! How the latches count frames that arrive and frames that are sent (manual, chapter on statistics registers).
-ghost use Rattle.std.specs.Prelude.{◌≡◌, ◌≤◌, length};
+ghost use Rattle.std.specs.Prelude.{◌≡◌, ◌<◌, ◌≤◌};
 ghost use Rattle.em_regs.specs.Storage.{Registers};
 ghost use Rattle.em_latch.specs.Latches.{Reverses, after_raise};
-ghost use Rattle.em_latch.specs.Counter.{width_of};
+ghost use Rattle.em_latch.specs.Counter.{octets_for_count};
+ghost use Rattle.em_latch.specs.Undo.{octets_of};
 ghost use Rattle.em_step.specs.Counts.{after_buffer_count, after_frame_count, after_kind_count, after_miss_count};
 ghost use Rattle.em_step.specs.Counts.{after_sent_count, after_sent_kind, after_sent_sizes, after_size_count};
 ghost use Rattle.em_step.specs.Counts.{class_of, sent_counter, stored_counter};
@@ -43,6 +44,7 @@ pub(crate) fn count_frame(
     broadcasts: bool,
     lacks_buffer: bool,
 ) -> LatchUndo
+    requires { octets < 65_536 }
     ensures state { latches.new
         ≡ after_buffer_count lacks_buffer (after_frame_count octets broadcasts kind latches.old) }
     ensures reverses { Reverses latches.old latches.new result }
@@ -56,9 +58,10 @@ pub(crate) fn count_frame(
 
 /// Counts a frame, its class and its octets.
 fn count_sizes(latches: &mut Latches, octets: u32, undo: &mut LatchUndo)
-    requires { length undo.old ≡ 0 }
+    requires size { octets < 65_536 }
+    requires room { octets_of undo.old ≡ 0 }
     ensures state { latches.new ≡ after_size_count octets latches.old }
-    ensures words { length undo.new ≡ 4 }
+    ensures octets { octets_of undo.new ≤ 5 }
     ensures reverses { (base : Registers) → Reverses base latches.old undo.old → Reverses base latches.new undo.new }
 {
     latches.count_into(Counter::Gprc, 1, undo);
@@ -93,7 +96,7 @@ fn class_of(octets: u32) -> SizeClass
 /// The counter of the frames of a class that are stored.
 fn stored_counter(class: SizeClass) -> Counter
     ensures counter { result ≡ stored_counter class }
-    ensures word { width_of result ≡ 1 }
+    ensures octets { octets_for_count result 1 ≡ 1 }
 {
     match class {
         SizeClass::Upto64 => Counter::Prc64,
@@ -108,7 +111,7 @@ fn stored_counter(class: SizeClass) -> Counter
 /// The counter of the frames of a class that are sent.
 fn sent_counter(class: SizeClass) -> Counter
     ensures counter { result ≡ sent_counter class }
-    ensures word { width_of result ≡ 1 }
+    ensures octets { octets_for_count result 1 ≡ 1 }
 {
     match class {
         SizeClass::Upto64 => Counter::Ptc64,
@@ -122,9 +125,9 @@ fn sent_counter(class: SizeClass) -> Counter
 
 /// Counts a broadcast where broadcasts are received, and a frame to another group address.
 fn count_kind(latches: &mut Latches, kind: Kind, broadcasts: bool, undo: &mut LatchUndo)
-    requires { length undo.old ≤ 4 }
+    requires { octets_of undo.old ≤ 5 }
     ensures state { latches.new ≡ after_kind_count broadcasts kind latches.old }
-    ensures words { length undo.new ≤ 5 }
+    ensures octets { octets_of undo.new ≤ 6 }
     ensures reverses { (base : Registers) → Reverses base latches.old undo.old → Reverses base latches.new undo.new }
 {
     match kind {
@@ -136,7 +139,7 @@ fn count_kind(latches: &mut Latches, kind: Kind, broadcasts: bool, undo: &mut La
 
 /// Counts a frame for which no buffer is there.
 fn count_buffer(latches: &mut Latches, lacks_buffer: bool, undo: &mut LatchUndo)
-    requires { length undo.old ≤ 5 }
+    requires { octets_of undo.old ≤ 6 }
     ensures state { latches.new ≡ after_buffer_count lacks_buffer latches.old }
     ensures reverses { (base : Registers) → Reverses base latches.old undo.old → Reverses base latches.new undo.new }
 {
@@ -147,6 +150,8 @@ fn count_buffer(latches: &mut Latches, lacks_buffer: bool, undo: &mut LatchUndo)
 
 /// Counts a frame that was sent, of so many octets on the wire, and raises causes.
 pub(crate) fn count_sent(latches: &mut Latches, octets: u32, kind: Kind, causes: u32) -> LatchUndo
+    requires size { octets < 65_536 }
+    requires causes { causes < 256 }
     ensures state { latches.new ≡ after_raise (after_sent_count octets kind latches.old) causes }
     ensures reverses { Reverses latches.old latches.new result }
 {
@@ -159,9 +164,10 @@ pub(crate) fn count_sent(latches: &mut Latches, octets: u32, kind: Kind, causes:
 
 /// Counts a frame that was sent, its class and its octets, if it is not too short to be counted.
 fn count_sent_sizes(latches: &mut Latches, octets: u32, undo: &mut LatchUndo)
-    requires { length undo.old ≡ 0 }
+    requires size { octets < 65_536 }
+    requires room { octets_of undo.old ≡ 0 }
     ensures state { latches.new ≡ after_sent_sizes octets latches.old }
-    ensures words { length undo.new ≤ 4 }
+    ensures octets { octets_of undo.new ≤ 5 }
     ensures reverses { (base : Registers) → Reverses base latches.old undo.old → Reverses base latches.new undo.new }
 {
     if octets < LEAST {
@@ -174,9 +180,9 @@ fn count_sent_sizes(latches: &mut Latches, octets: u32, undo: &mut LatchUndo)
 
 /// Counts a broadcast that was sent, or a frame to another group address.
 fn count_sent_kind(latches: &mut Latches, kind: Kind, undo: &mut LatchUndo)
-    requires { length undo.old ≤ 4 }
+    requires { octets_of undo.old ≤ 5 }
     ensures state { latches.new ≡ after_sent_kind kind latches.old }
-    ensures words { length undo.new ≤ 5 }
+    ensures octets { octets_of undo.new ≤ 6 }
     ensures reverses { (base : Registers) → Reverses base latches.old undo.old → Reverses base latches.new undo.new }
 {
     match kind {

@@ -15,8 +15,7 @@ pub const LEAST_COST: u32 = 32;
 /// The most that a record costs: that of a reset.
 pub const MOST_COST: u32 = 65_536;
 
-/// What takes one event back: the words of the latches that it changed, as they were, and what else
-/// it changed.
+/// What takes one event back: by how much words of the latches grew, and what else it changed.
 #[derive(Drop)]
 pub struct Undo {
     pub latches: LatchUndo,
@@ -99,4 +98,4 @@ impl Undo {
 }
 
 // A journal makes a place for each 32 octets of its budget, so a record may not grow unseen.
-const _: () = prove!(size_of::<Undo>() == 48);
+const _: () = prove!(size_of::<Undo>() == 32);
