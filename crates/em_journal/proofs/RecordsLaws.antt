@@ -1,21 +1,25 @@
 -- A chain of records that is cut, or that grows.
 use Rattle.std.proofs.Common.{◌≡◌, ℕ, ◌≤◌, ◌<◌, zero, suc, List, [], ◌∷◌, length, take}
-use Rattle.std.proofs.Common.{refl, ap, ◌∙◌, sym, subst}
-use Rattle.std.specs.Prelude.{Result, Ok, Err, IfErr, sum}
+use Rattle.std.proofs.Common.{refl, ap, ◌∙◌, sym, subst, arith}
+use Rattle.std.specs.Prelude.{Result, Ok, Err, IfErr, Some, drop, slice_get, sum, ◌+◌}
+use Rattle.em_step.proofs.CostLaws.{cost_as}
 use Rattle.em_step.proofs.MadePages.{fits_after, undo_after, shows_after}
 use Rattle.em_step.specs.Cells.{Cells, shows, MorePages}
-use Rattle.em_step.specs.Cost.{cost, cost_of}
+use Rattle.em_step.specs.Cost.{cost, cost_by, cost_of}
 use Rattle.em_step.specs.Event.{Event}
-use Rattle.em_step.specs.Performed.{WasPerformed}
+use Rattle.em_step.specs.Performed.{PerformedPlainly, WasPerformed}
 use Rattle.em_step.specs.Step.{step, Refuses}
-use Rattle.em_step.specs.Undo.{undo, Reverses}
+use Rattle.em_step.specs.Undo.{Fits, IsPlain, KeepsFor, Undo, held, undo, undo_of, Reverses}
 use Rattle.em_step.specs.declared.event.Answer.{Answer}
 use Rattle.em_step.specs.declared.refusal.Refusal.{Refusal}
-use Rattle.em_step.specs.declared.undo.Undo.{Undo}
-use Rattle.em_journal.specs.History.{refuses, Does, WasJournalled}
-use Rattle.em_journal.specs.Records.{back_through, AllFit, costs_of, view_of, IsJournal}
+use Rattle.em_journal.specs.History.{goes_back, refuses, Does, WasJournalled}
+use Rattle.em_mem.specs.OldOctets.{OldOctets, Saves, given_up}
+use Rattle.em_mem.proofs.OldOctetsLaws.{saved_nothing}
+use Rattle.em_step.specs.declared.undo.Record.{Record}
+use Rattle.em_journal.specs.Records.{back_through, AllFit, AreSaved, costs_by, costs_of, held_by, undos_of, view_of, IsJournal}
+use Rattle.em_journal.proofs.SavedLaws.{Kept, costs_as, kept_saved, kept_undos, older_saved}
 use Rattle.em_journal.specs.View.{View, reach, after_event}
-use Rattle.em_journal.proofs.BudgetLaws.{costs_of-take}
+use Rattle.em_journal.proofs.BudgetLaws.{costs_of-take, sum_cons}
 
 -- ---- more made pages
 
@@ -138,3 +142,117 @@ pub refusal_does : {v w : View} (e : Event) (r : Result Answer Refusal)
     → IfErr r (Refuses v.present e) → w ≡ v → IfErr r (λ refusal. Does v (refuses e refusal) w)
 refusal_does e (Ok answer) why same = tt
 refusal_does e (Err refusal) why same = (why, same)
+
+-- ---- the same by the records, whose octets lie in one ring
+
+pub length-undos_of : (rs : List Record) (o : OldOctets) → length (undos_of rs o) ≡ length rs
+length-undos_of [] o = refl
+length-undos_of (r ∷ rs) o = ap suc (length-undos_of rs (given_up (held r) o))
+
+-- what the fields of a machine have together
+abbrev pub AreFields : Cells → List Record → OldOctets → ℕ → ℕ → ℕ → Type 0
+AreFields c rs o capacity budget used =
+    IsJournal c (undos_of rs o) capacity budget used × AreSaved rs o budget used
+
+-- the record of an event that saved octets
+pub saved_kept : {budget used : ℕ} {rs new : List Record} {o q : OldOctets} {r : Record}
+    → new ≡ take (reach budget (cost_by r ∷ costs_by rs)) (r ∷ rs) → KeepsFor r o q → AreSaved rs o budget used
+    → Kept budget rs o r new q
+saved_kept items keeps all = record {
+  items = items;
+  saves = keeps.keeps.saves (omega (arith, keeps.few, all.room));
+  few = keeps.few;
+  at = keeps.at;
+}
+
+-- and of one that saved none
+pub plain_kept : {budget : ℕ} {rs new : List Record} (o : OldOctets) {r : Record}
+    → new ≡ take (reach budget (cost_by r ∷ costs_by rs)) (r ∷ rs) → IsPlain r → Kept budget rs o r new o
+plain_kept o {r} items plain = record {
+  items = items;
+  saves = subst (λ n. Saves n o o) (sym plain.held) (record { room = omega arith; saved = saved_nothing [] 0 o });
+  few = omega (arith, plain.held);
+  at = plain.at o;
+}
+
+pub entered : {budget used capacity : ℕ} {c d left : Cells} {rs new : List Record} {o p q : OldOctets} {r : Record}
+    {e : Event} {answer : Answer} → left ≡ d → p ≡ q → WasPerformed c e d answer (undo_of r q)
+    → Kept budget rs o r new q → AreFields c rs o capacity budget used → {places now : ℕ} → places ≡ capacity
+    → now ≡ sum (costs_by new) → now ≤ budget → AreFields left new p places budget now
+entered {budget} {left = left} {new = new} {q = q} is octets done kept old {places} {now} same counted held =
+    let saved = kept_saved kept old.1 counted in
+    let costs = costs_as new q (omega (arith, saved.held, saved.room)) in
+    let fields : AreFields left new q places budget now = (
+      journal_event is old.0 done.reverses (kept_undos kept old.1) same (counted ∙ ap sum (sym costs)) held,
+      saved,
+    ) in
+    subst (λ x. AreFields left new x places budget now) (sym octets) fields
+
+pub entry_does : {budget used capacity : ℕ} {c d left : Cells} {rs new : List Record} {o p q : OldOctets} {r : Record}
+    {old : View} (e : Event) {answer : Answer} → left ≡ d → p ≡ q → WasPerformed c e d answer (undo_of r q)
+    → Kept budget rs o r new q → AreFields c rs o capacity budget used → 0 < length new
+    → view_of budget c (undos_of rs o) ≡ old → WasJournalled old e answer (view_of budget left (undos_of new p))
+entry_does {budget} {left = left} {rs} {new} {o} {q = q} {old = old} e {answer} is octets done kept fields some view =
+    subst (λ x. WasJournalled old e answer (view_of budget left (undos_of new x))) (sym octets)
+    (event_does (undos_of rs o) e is done (kept_undos kept fields.1) (omega (arith, some, length-undos_of new q)) view)
+
+-- a refused event saved none
+pub fields_same : {budget used capacity : ℕ} {c d : Cells} {rs : List Record} {o p : OldOctets} → p ≡ o
+    → MorePages c d → AreFields c rs o capacity budget used → AreFields d rs p capacity budget used
+fields_same {budget} {used} {capacity} {d = d} {rs} octets more old =
+    subst (λ x. AreFields d rs x capacity budget used) (sym octets) (journal_same more old.0, old.1)
+
+pub shown_same : {budget : ℕ} {c d : Cells} (rs : List Record) {o p : OldOctets} {old : View} → p ≡ o
+    → MorePages c d → view_of budget c (undos_of rs o) ≡ old → view_of budget d (undos_of rs p) ≡ old
+shown_same {budget} {d = d} rs {o} octets more view =
+    ap (λ x. view_of budget d (undos_of rs x)) octets ∙ view_same (undos_of rs o) more view
+
+-- ---- the newest record takes its event back
+
+pub newest_is : (rs : List Record) (r : Record) → slice_get rs 0 ≡ Some r → rs ≡ r ∷ drop 1 rs
+newest_is [] r is = cc
+newest_is (q ∷ rs) r is = let same : q ≡ r = cc in ap (λ x. x ∷ rs) same
+
+pub newest_fits : {c : Cells} {r : Record} {rs : List Record} {o : OldOctets} {capacity budget used : ℕ}
+    → AreFields c (r ∷ rs) o capacity budget used
+    → (held r ≤ length o.octets) × (Fits c (undo_of r o) × (used ≡ cost_by r + sum (costs_by rs)))
+newest_fits {r = r} {rs} {o} old = (
+  omega (arith, old.1.held, old.1.room),
+  (old.0.fit.0, old.1.counted ∙ sum_cons (cost_by r) (costs_by rs)),
+)
+
+pub newest_of : {c : Cells} {rs : List Record} {o : OldOctets} {capacity budget used : ℕ} (r : Record)
+    → slice_get rs 0 ≡ Some r → AreFields c rs o capacity budget used
+    → AreFields c (r ∷ drop 1 rs) o capacity budget used
+newest_of {c} {rs} {o} {capacity} {budget} {used} r is =
+    subst (λ xs. AreFields c xs o capacity budget used) (newest_is rs r is)
+
+pub gone_back : {c d : Cells} {r : Record} {rs : List Record} {o p : OldOctets} {capacity budget used now : ℕ}
+    → AreFields c (r ∷ rs) o capacity budget used → d ≡ undo c (undo_of r o) → p ≡ given_up (held r) o
+    → now + cost_by r ≡ used → AreFields d rs p capacity budget now
+gone_back {c} {d} {r} {rs} {o} {p} {capacity} {budget} {used} {now} old back given left =
+    let saved : AreSaved rs (given_up (held r) o) budget now = older_saved r rs o old.1 left in
+    let costs = costs_as rs (given_up (held r) o) (omega (arith, saved.held, saved.room)) in
+    let journal : IsJournal (undo c (undo_of r o)) (undos_of rs (given_up (held r) o)) capacity budget now = record {
+      fit = old.0.fit.1;
+      counted = saved.counted ∙ ap sum (sym costs);
+      held = omega (arith, left, old.0.held);
+      places = old.0.places;
+      allowed = old.0.allowed;
+    } in
+    let fields : AreFields (undo c (undo_of r o)) rs (given_up (held r) o) capacity budget now = (journal, saved) in
+    subst (λ x. AreFields x rs p capacity budget now) (sym back)
+    (subst (λ x. AreFields (undo c (undo_of r o)) rs x capacity budget now) (sym given) fields)
+
+pub back_does : (c d : Cells) (r : Record) (rs : List Record) (o p : OldOctets) (budget : ℕ) {old : View}
+    → d ≡ undo c (undo_of r o) → p ≡ given_up (held r) o → view_of budget c (undos_of (r ∷ rs) o) ≡ old
+    → Does old goes_back (view_of budget d (undos_of rs p))
+back_does c d r rs o p budget back given view =
+    let made : view_of budget d (undos_of rs p) ≡ view_of budget (undo c (undo_of r o)) (undos_of rs (given_up (held r) o))
+    = λ i. view_of budget (back i) (undos_of rs (given i)) in
+    subst (λ v. Does v goes_back (view_of budget d (undos_of rs p))) view (omega arith, made)
+
+-- ---- what an event costs whose record holds no octets
+pub plain_cost : {c d : Cells} {e : Event} {answer : Answer} {r : Record} (o : OldOctets)
+    → PerformedPlainly c e d answer r → cost_by r ≡ cost (shows c) e
+plain_cost {r = r} o done = sym (cost_as r o (omega (arith, done.plain.held))) ∙ (done.performed o).cost
