@@ -117,7 +117,8 @@ typedef struct em_note {
 /* Makes a machine as after a reset: `memory` octets of guest memory, all zero; the link down; this Ethernet address in
    the EEPROM, with its checksum; a journal that holds as many of the latest events as `budget` octets of cost allow
    (each costs at least 32). Refused as EM_MADE_ALREADY, EM_SIZE, EM_BUDGET or EM_MEMORY, the first that holds. It takes
-   two and a half times the budget of memory, and guest memory by pages, as they are written. */
+   three and a half times the budget of memory and 150 KB, which the host's system gives by pages, as they are used;
+   and guest memory by pages, as they are written. */
 uint32_t em_make(em_machine *machine, uint64_t memory, uint64_t budget, const uint8_t mac[6]);
 
 /* The same with the 64 words of the EEPROM. */

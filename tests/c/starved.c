@@ -46,13 +46,13 @@ static bool is_as(em_machine *machine, const struct seen *wanted) {
 
 /* ---- the calls: each tells how many events of it went well */
 
-static uint8_t frame[1500], ram[MEMORY];
+static uint8_t frame[1500], tagged[1500], ram[MEMORY];
 static em_note event;
 
 static uint32_t pokes(em_machine *m, size_t *done) { return (void)done, em_poke(m, 0x8000, frame, 60); }
 static uint32_t pokes_over_pages(em_machine *m, size_t *done) { return (void)done, em_poke(m, 0x7FFF, frame, 1500); }
 static uint32_t resets(em_machine *m, size_t *done) { return (void)done, em_write(m, CTRL, RST); }
-static uint32_t arrives(em_machine *m, size_t *done) { return (void)done, em_arrive(m, frame, 1500, &event); }
+static uint32_t arrives(em_machine *m, size_t *done) { return (void)done, em_arrive(m, tagged, 1500, &event); }
 static uint32_t receives(em_machine *m, size_t *done) { return (void)done, em_rx_step(m, &event); }
 static uint32_t sends(em_machine *m, size_t *done) { return (void)done, em_tx_step(m, &event); }
 static uint32_t syncs_in(em_machine *m, size_t *done) { return em_sync_in(m, ram, MEMORY, done); }
@@ -66,6 +66,13 @@ static void as_made(em_machine *machine) { OK(em_write(machine, IMS, RXT0)); }
 static void with_frames(em_machine *machine) {
   set_receiving(machine);
   for (int i = 0; i < 3; i++) OK(em_arrive(machine, frame, 700, &event));
+}
+
+/* of a frame with a tag its octets without the tag are copied */
+static void with_tags_taken_out(em_machine *machine) {
+  with_frames(machine);
+  OK(em_write(machine, VET, 0x8100));
+  OK(em_write(machine, CTRL, CTRL_VME));
 }
 
 static void with_packets(em_machine *machine) {
@@ -86,7 +93,7 @@ static const struct {
   {"em_poke", as_made, pokes},
   {"em_poke over pages", as_made, pokes_over_pages},
   {"em_write that resets", with_frames, resets},
-  {"em_arrive", with_frames, arrives},
+  {"em_arrive of a tagged frame", with_tags_taken_out, arrives},
   {"em_rx_step", with_frames, receives},
   {"em_tx_step", with_packets, sends},
   {"em_sync_in", as_made, syncs_in},
@@ -193,6 +200,7 @@ static void asks_for_none(void) {
   once = false;
   granted = 0;
   requests = 0;
+  OK(em_arrive(&machine, frame, 1500, &event));
   for (uint32_t offset = 0; offset < 0x6000; offset += 4) {
     code = em_read(&machine, offset, &value);
     MUST(code == EM_OK || code == EM_NO_REGISTER);
@@ -231,6 +239,8 @@ static void asks_for_none(void) {
 
 int main(void) {
   fill(frame, sizeof frame);
+  memcpy(tagged, frame, sizeof tagged);
+  memcpy(tagged + 12, (uint8_t[]){0x81, 0x00, 0x01, 0x23}, 4);
   memset(ram, 9, sizeof ram);
   is_not_made();
   is_refused_memory();

@@ -31,7 +31,7 @@ fn small_settings() -> Settings {
 
 /// Rings of eight descriptors at 0 and at 80h: two receive descriptors from the second one on are the adapter's,
 /// and two transmit descriptors.
-const RINGS: [(Reg, u32); 8] = [
+const RINGS: [(Reg, u32); 10] = [
     (Reg::Rdlen, 0x80),
     (Reg::Rdh, 1),
     (Reg::Rdt, 3),
@@ -42,6 +42,9 @@ const RINGS: [(Reg, u32); 8] = [
     (Reg::Tdt, 2),
     // EN, PSP
     (Reg::Tctl, 0x0000_000A),
+    // VME, and the type of a tag that the broadcasts here have: only a tagged frame takes memory as it arrives
+    (Reg::Ctrl, 0x4000_0000),
+    (Reg::Vet, 0xFFFF),
 ];
 
 /// CTRL.RST.
@@ -61,19 +64,13 @@ const BROADCAST: [u8; 60] = [0xFF; 60];
 /// How a call that receives two packets can stop: its count, its events, the packets received.
 const RECEIVED: [(u32, u32, usize); 2] = [(0, 1, 0), (1, 3, 1)];
 
-/// How a call that sends three packets can stop: its count, its events, the packets left.
-const SENT: [(u32, u32, usize); 6] = [
-    (0, 2, 3),
-    (0, 3, 3),
-    (1, 5, 2),
-    (1, 6, 2),
-    (2, 8, 1),
-    (2, 9, 1),
-];
+/// How a call that sends three packets can stop: its count, its events, the packets left. The first two buffers lie in
+/// one page and the third in the next, and memory is taken to make a page.
+const SENT: [(u32, u32, usize); 2] = [(0, 2, 3), (2, 8, 1)];
 
-/// How a list of an arrival, a receive step and a transmit step can stop: the turns performed, those refused,
-/// the frames stored, and that memory was refused.
-const STARVED: [(u32, u32, usize, bool); 3] = [(0, 0, 0, true), (1, 0, 1, true), (2, 0, 1, true)];
+/// How a list of a transmit step, an arrival and a receive step can stop: the turns performed, those refused,
+/// the frames stored, and that memory was refused. An arrival without a tag takes none.
+const STARVED: [(u32, u32, usize, bool); 2] = [(0, 0, 0, true), (2, 0, 1, true)];
 
 /// One of the cases below, by its name.
 pub fn case(alloc: Global, name: &str) -> Result<(), Fail> {
@@ -290,7 +287,7 @@ fn a_refused_turn_is_not_counted(alloc: Global) -> Result<(), Fail> {
             return driven.counted((3, 0, 1, false));
         }
         same("a way to stop", STARVED.contains(&counts), true)?;
-        same("frames sent", driven.wire_len(), 0)?;
+        same("frames sent", driven.wire_len(), usize::from(counts.0 > 0))?;
         driven.goes_back(counts.0.saturating_add(1), before)?;
         Err(met("a turn", counts.0, 0))
     })
@@ -331,12 +328,12 @@ fn give_three(driven: &mut Driven) -> Result<(), Fail> {
     Ok(())
 }
 
-/// A plan of an arrival, a receive step and a transmit step before the first access.
+/// A plan of a transmit step, an arrival and a receive step before the first access.
 fn one_list(alloc: Global) -> Result<Plan, Fail> {
     let mut turns = Vec::new(alloc);
+    turns.push(Turn::TxStep)?;
     turns.push(arrival(alloc, 5, 60)?)?;
     turns.push(Turn::RxStep)?;
-    turns.push(Turn::TxStep)?;
     Ok(Plan::new(alloc).after(turns)?)
 }
 

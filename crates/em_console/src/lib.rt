@@ -10,8 +10,6 @@ mod lines;
 mod reading;
 mod serving;
 mod session;
-#[cfg(test)]
-mod tests;
 
 pub use console::Console;
 pub use fault::ConsoleFault;

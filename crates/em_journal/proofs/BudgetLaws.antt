@@ -6,10 +6,11 @@ use Rattle.std.proofs.lemmas.Bool.Decides.{nat_tests}
 use Rattle.std.proofs.lemmas.List.{length-take-le, take-take}
 use Rattle.std.proofs.lemmas.List.Sums.{sum_by-cons}
 use Rattle.circular_buffer.specs.Buffer.{last_item}
-use Rattle.em_step.specs.Cost.{least_cost, cost_of}
-use Rattle.em_step.specs.declared.undo.Undo.{Undo}
-use Rattle.em_step.proofs.CostLaws.{cost_of_least}
-use Rattle.em_journal.specs.Records.{costs_of}
+use Rattle.em_step.specs.Undo.{Undo}
+use Rattle.em_step.specs.Cost.{least_cost, cost_by, cost_of}
+use Rattle.em_step.specs.declared.undo.Record.{Record}
+use Rattle.em_step.proofs.CostLaws.{cost_by_least}
+use Rattle.em_journal.specs.Records.{costs_by, costs_of}
 use Rattle.em_journal.specs.View.{reach}
 
 pub sum_cons : (c : ℕ) (cs : List ℕ) → sum (c ∷ cs) ≡ c + sum cs
@@ -23,6 +24,15 @@ pub costs_of-take : (n : ℕ) (rs : List Undo) → costs_of (take n rs) ≡ take
 costs_of-take zero rs = refl
 costs_of-take (suc n) [] = refl
 costs_of-take (suc n) (r ∷ rs) = ap (λ costs. cost_of r ∷ costs) (costs_of-take n rs)
+
+pub length-costs_by : (rs : List Record) → length (costs_by rs) ≡ length rs
+length-costs_by [] = refl
+length-costs_by (r ∷ rs) = ap suc (length-costs_by rs)
+
+pub costs_by-take : (n : ℕ) (rs : List Record) → costs_by (take n rs) ≡ take n (costs_by rs)
+costs_by-take zero rs = refl
+costs_by-take (suc n) [] = refl
+costs_by-take (suc n) (r ∷ rs) = ap (λ costs. cost_by r ∷ costs) (costs_by-take n rs)
 
 -- ---- what a budget holds
 
@@ -63,28 +73,28 @@ reach_most b (suc k) (c ∷ cs) short h =
 
 -- ---- the sum of the records' costs
 
-sum_without_last_at : (rs : List Undo) (k : ℕ) (r : Undo)
-    → k + 1 ≡ length rs → slice_get rs k ≡ Some r → sum (costs_of (take k rs)) + cost_of r ≡ sum (costs_of rs)
+sum_without_last_at : (rs : List Record) (k : ℕ) (r : Record)
+    → k + 1 ≡ length rs → slice_get rs k ≡ Some r → sum (costs_by (take k rs)) + cost_by r ≡ sum (costs_by rs)
 sum_without_last_at [] k r len is = absurd (omega arith)
 sum_without_last_at (q ∷ []) zero r len is =
     let e : q ≡ r = cc in
-    let f : cost_of q ≡ cost_of r = ap (λ x. cost_of x) e in
-    omega (arith, f, sum_cons (cost_of q) [])
+    let f : cost_by q ≡ cost_by r = ap (λ x. cost_by x) e in
+    omega (arith, f, sum_cons (cost_by q) [])
 sum_without_last_at (q ∷ (p ∷ rs)) zero r len is = absurd (omega arith)
 sum_without_last_at (q ∷ rs) (suc k) r len is =
     let h = sum_without_last_at rs k r (omega arith) is in
-    omega (arith, h, sum_cons (cost_of q) (costs_of rs), sum_cons (cost_of q) (costs_of (take k rs)))
+    omega (arith, h, sum_cons (cost_by q) (costs_by rs), sum_cons (cost_by q) (costs_by (take k rs)))
 
-pub sum_without_last : (rs : List Undo) (r : Undo)
-    → 0 < length rs → last_item rs ≡ Some r → sum (costs_of (take (length rs - 1) rs)) + cost_of r ≡ sum (costs_of rs)
+pub sum_without_last : (rs : List Record) (r : Record)
+    → 0 < length rs → last_item rs ≡ Some r → sum (costs_by (take (length rs - 1) rs)) + cost_by r ≡ sum (costs_by rs)
 sum_without_last rs r some is = sum_without_last_at rs (length rs - 1) r (omega arith) is
 
 -- no record costs less than the least
-pub sum_least : (rs : List Undo) → least_cost * length rs ≤ sum (costs_of rs)
+pub sum_least : (rs : List Record) → least_cost * length rs ≤ sum (costs_by rs)
 sum_least [] = omega arith
-sum_least (r ∷ rs) = omega (arith, cost_of_least r, sum_least rs, sum_cons (cost_of r) (costs_of rs))
+sum_least (r ∷ rs) = omega (arith, cost_by_least r, sum_least rs, sum_cons (cost_by r) (costs_by rs))
 
-pub sum_some : (rs : List Undo) (n : ℕ) → n < sum (costs_of rs) → 0 < length rs
+pub sum_some : (rs : List Record) (n : ℕ) → n < sum (costs_by rs) → 0 < length rs
 sum_some [] n h = absurd (omega arith)
 sum_some (r ∷ rs) n h = omega arith
 
@@ -93,15 +103,15 @@ sum_some (r ∷ rs) n h = omega arith
 less_or_same : {a b : ℕ} → a ≤ b → (a < b) ⊎ (a ≡ b)
 less_or_same {a} {b} h = grind (arith, nat_tests)
 
-pub left_after_drop : (xs ys : List Undo) {zs : List Undo}
+pub left_after_drop : (xs ys : List Record) {zs : List Record}
     → ys ≡ take (length ys) xs → zs ≡ take (length ys - 1) ys → zs ≡ take (length zs) xs
 left_after_drop xs ys {zs} are is =
     let n : length zs ≡ length ys - 1 = ap length is ∙ length-take-le (length ys - 1) ys (omega arith) in
     is ∙ ap (take (length ys - 1)) are ∙ take-take (length ys - 1) (length ys) xs (omega arith)
     ∙ ap (λ k. take k xs) (sym n)
 
-left_cost : (xs ys : List Undo) → ys ≡ take (length ys) xs → sum (costs_of ys) ≡ sum (take (length ys) (costs_of xs))
-left_cost xs ys are = ap (λ rs. sum (costs_of rs)) are ∙ ap sum (costs_of-take (length ys) xs)
+left_cost : (xs ys : List Record) → ys ≡ take (length ys) xs → sum (costs_by ys) ≡ sum (take (length ys) (costs_by xs))
+left_cost xs ys are = ap (λ rs. sum (costs_by rs)) are ∙ ap sum (costs_by-take (length ys) xs)
 
 reach_less_by : (room r n : ℕ) (cs : List ℕ)
     → sum (take r cs) ≤ room → (r < n) ⊎ (r ≡ n) → room < sum (take n cs) → r < n
@@ -109,33 +119,33 @@ reach_less_by room r n cs h (inl less) over = less
 reach_less_by room r n cs h (inr e) over = absurd (omega (arith, h, over, ap (λ k. sum (take k cs)) e))
 
 -- while what is left costs more than the room, the reach lies below it
-pub reach_less : (room : ℕ) (xs ys : List Undo)
-    → ys ≡ take (length ys) xs → reach room (costs_of xs) ≤ length ys → room < sum (costs_of ys)
-    → reach room (costs_of xs) < length ys
+pub reach_less : (room : ℕ) (xs ys : List Record)
+    → ys ≡ take (length ys) xs → reach room (costs_by xs) ≤ length ys → room < sum (costs_by ys)
+    → reach room (costs_by xs) < length ys
 reach_less room xs ys are l over =
-    reach_less_by room (reach room (costs_of xs)) (length ys) (costs_of xs)
-    (reach_within room (costs_of xs)) (less_or_same l) (omega (arith, over, left_cost xs ys are))
+    reach_less_by room (reach room (costs_by xs)) (length ys) (costs_by xs)
+    (reach_within room (costs_by xs)) (less_or_same l) (omega (arith, over, left_cost xs ys are))
 
 -- once it costs no more, it is the reach
-pub left_is_reach : (room : ℕ) (xs ys : List Undo)
-    → ys ≡ take (length ys) xs → reach room (costs_of xs) ≤ length ys → length ys ≤ length xs
-    → sum (costs_of ys) ≤ room → ys ≡ take (reach room (costs_of xs)) xs
+pub left_is_reach : (room : ℕ) (xs ys : List Record)
+    → ys ≡ take (length ys) xs → reach room (costs_by xs) ≤ length ys → length ys ≤ length xs
+    → sum (costs_by ys) ≤ room → ys ≡ take (reach room (costs_by xs)) xs
 left_is_reach room xs ys are l short within =
-    let short_costs : length ys ≤ length (costs_of xs) = omega (arith, length-costs_of xs) in
-    let most : length ys ≤ reach room (costs_of xs)
-    = reach_most room (length ys) (costs_of xs) short_costs (omega (arith, within, left_cost xs ys are)) in
-    let e : length ys ≡ reach room (costs_of xs) = omega arith in
+    let short_costs : length ys ≤ length (costs_by xs) = omega (arith, length-costs_by xs) in
+    let most : length ys ≤ reach room (costs_by xs)
+    = reach_most room (length ys) (costs_by xs) short_costs (omega (arith, within, left_cost xs ys are)) in
+    let e : length ys ≡ reach room (costs_by xs) = omega arith in
     are ∙ ap (λ k. take k xs) e
 
 -- ---- a record that comes first, once those have gone whose room it needs
 
-pub has_place : {budget capacity cost : ℕ} (mid : List Undo) → least_cost ≤ cost → cost ≤ budget
-    → sum (costs_of mid) ≤ budget - cost → capacity ≡ budget / least_cost → length mid < capacity
+pub has_place : {budget capacity cost : ℕ} (mid : List Record) → least_cost ≤ cost → cost ≤ budget
+    → sum (costs_by mid) ≤ budget - cost → capacity ≡ budget / least_cost → length mid < capacity
 has_place mid least l within places = omega (arith, sum_least mid)
 
-pub newest_first : {budget cost : ℕ} (rs : List Undo) {mid new : List Undo} {r : Undo}
-    → cost ≡ cost_of r → cost ≤ budget → mid ≡ take (reach (budget - cost) (costs_of rs)) rs → new ≡ r ∷ mid
-    → new ≡ take (reach budget (cost_of r ∷ costs_of rs)) (r ∷ rs)
+pub newest_first : {budget cost : ℕ} (rs : List Record) {mid new : List Record} {r : Record}
+    → cost ≡ cost_by r → cost ≤ budget → mid ≡ take (reach (budget - cost) (costs_by rs)) rs → new ≡ r ∷ mid
+    → new ≡ take (reach budget (cost_by r ∷ costs_by rs)) (r ∷ rs)
 newest_first {budget} {cost} rs {r = r} same l kept is =
-    is ∙ ap (λ xs. r ∷ xs) kept ∙ ap (λ n. take n (r ∷ rs)) (sym (reach_first budget cost (costs_of rs) l))
-    ∙ ap (λ n. take (reach budget (n ∷ costs_of rs)) (r ∷ rs)) same
+    is ∙ ap (λ xs. r ∷ xs) kept ∙ ap (λ n. take n (r ∷ rs)) (sym (reach_first budget cost (costs_by rs) l))
+    ∙ ap (λ n. take (reach budget (n ∷ costs_by rs)) (r ∷ rs)) same

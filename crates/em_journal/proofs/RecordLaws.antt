@@ -4,9 +4,8 @@ use Rattle.std.specs.Prelude.{IfSome, IsNone, slice_get, ◌↔◌}
 use Rattle.std.specs.Option.{option_map}
 use Rattle.std.proofs.lemmas.Option.{slice_get_cases, slice_get_past}
 use Rattle.em_step.specs.Cells.{Cells, shows}
-use Rattle.em_step.specs.Undo.{Fits, undo}
+use Rattle.em_step.specs.Undo.{Undo, Fits, undo}
 use Rattle.em_step.specs.State.{State}
-use Rattle.em_step.specs.declared.undo.Undo.{Undo}
 use Rattle.em_step.proofs.SizeLaws.{memory_size}
 use Rattle.em_journal.specs.Record.{IsRecordAt}
 use Rattle.em_journal.specs.Records.{AllFit, back_through, view_of}

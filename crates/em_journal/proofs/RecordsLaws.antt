@@ -1,21 +1,28 @@
 -- A chain of records that is cut, or that grows.
 use Rattle.std.proofs.Common.{◌≡◌, ℕ, ◌≤◌, ◌<◌, zero, suc, List, [], ◌∷◌, length, take}
-use Rattle.std.proofs.Common.{refl, ap, ◌∙◌, sym, subst}
-use Rattle.std.specs.Prelude.{Result, Ok, Err, IfErr, sum}
+use Rattle.std.proofs.Common.{refl, ap, ◌∙◌, sym, subst, arith}
+use Rattle.std.specs.Prelude.{Result, Ok, Err, IfErr, Some, Vec, drop, replicate, slice_get, sum, vec_capacity, ◌+◌, ◌-◌, ◌/◌}
+use Rattle.std.specs.Global.{Global}
+use Rattle.std.proofs.lemmas.List.{length-replicate}
+use Rattle.em_step.proofs.CostLaws.{cost_as}
 use Rattle.em_step.proofs.MadePages.{fits_after, undo_after, shows_after}
 use Rattle.em_step.specs.Cells.{Cells, shows, MorePages}
-use Rattle.em_step.specs.Cost.{cost, cost_of}
+use Rattle.em_step.specs.Cost.{cost, cost_by, cost_of, least_cost}
+use Rattle.em_journal.specs.Budget.{IsBudget}
 use Rattle.em_step.specs.Event.{Event}
-use Rattle.em_step.specs.Performed.{WasPerformed}
+use Rattle.em_step.specs.Performed.{PerformedPlainly, WasPerformed}
 use Rattle.em_step.specs.Step.{step, Refuses}
-use Rattle.em_step.specs.Undo.{undo, Reverses}
+use Rattle.em_step.specs.Undo.{Fits, IsPlain, KeepsFor, Undo, held, undo, undo_of, Reverses}
 use Rattle.em_step.specs.declared.event.Answer.{Answer}
 use Rattle.em_step.specs.declared.refusal.Refusal.{Refusal}
-use Rattle.em_step.specs.declared.undo.Undo.{Undo}
-use Rattle.em_journal.specs.History.{refuses, Does, WasJournalled}
-use Rattle.em_journal.specs.Records.{back_through, AllFit, costs_of, view_of, IsJournal}
+use Rattle.em_journal.specs.History.{goes_back, refuses, Does, WasJournalled}
+use Rattle.em_mem.specs.OldOctets.{OldOctets, Saves, given_up}
+use Rattle.em_mem.proofs.OldOctetsLaws.{saved_nothing}
+use Rattle.em_step.specs.declared.undo.Record.{Record}
+use Rattle.em_journal.specs.Records.{back_through, AllFit, AreSaved, HasRoom, costs_by, costs_of, undos_of, view_of, IsJournal}
+use Rattle.em_journal.proofs.SavedLaws.{Kept, costs_as, inside, kept_saved, kept_undos, less_room, older_saved, room_before, room_in_ring, waiting}
 use Rattle.em_journal.specs.View.{View, reach, after_event}
-use Rattle.em_journal.proofs.BudgetLaws.{costs_of-take}
+use Rattle.em_journal.proofs.BudgetLaws.{costs_of-take, sum_cons}
 
 -- ---- more made pages
 
@@ -138,3 +145,158 @@ pub refusal_does : {v w : View} (e : Event) (r : Result Answer Refusal)
     → IfErr r (Refuses v.present e) → w ≡ v → IfErr r (λ refusal. Does v (refuses e refusal) w)
 refusal_does e (Ok answer) why same = tt
 refusal_does e (Err refusal) why same = (why, same)
+
+-- ---- the same by the records, whose octets lie in one ring
+
+pub length-undos_of : (rs : List Record) (o : OldOctets) → length (undos_of rs o) ≡ length rs
+length-undos_of [] o = refl
+length-undos_of (r ∷ rs) o = ap suc (length-undos_of rs (given_up (held r) o))
+
+-- what the fields of a machine have together
+abbrev pub AreFields : Cells → List Record → OldOctets → waiting → ℕ → ℕ → ℕ → Type 0
+AreFields c rs o w capacity budget used =
+    IsJournal c (undos_of rs o) capacity budget used × AreSaved rs o w budget used
+
+-- none yet, over a short ring
+pub opened : {c : Cells} {rs : List Record} {o : OldOctets} {v : Vec ℕ Global} {capacity budget room : ℕ} → rs ≡ []
+    → capacity ≡ budget / least_cost → IsBudget budget → o ≡ record { top = room - 1; octets = replicate room 0 }
+    → 0 < room → room ≤ budget + 16_396 → budget + 16_396 ≤ vec_capacity v → AreFields c rs o (Some v) capacity budget 0
+opened {c} {rs} {o} {v} {capacity} {budget} {room} none places allowed is some less memory =
+    let top : o.top ≡ room - 1 = ap (λ (x : OldOctets). x.top) is in
+    let size : length o.octets ≡ room = ap (λ (x : OldOctets). length x.octets) is ∙ length-replicate {A = ℕ} room 0 in
+    subst (λ xs. AreFields c xs o (Some v) capacity budget 0) (sym none) (
+      record { fit = tt; counted = refl; held = omega arith; places = places; allowed = allowed },
+      record {
+        at = tt;
+        counted = refl;
+        held = omega arith;
+        size = record { before = omega (arith, top, size, some); shorter = omega (arith, size, less); memory = memory };
+        top = omega (arith, top, size, some);
+      },
+    )
+
+-- the record of an event that saved octets
+pub saved_kept : {budget used : ℕ} {rs new : List Record} {o q : OldOctets} {w : waiting} {r : Record}
+    → new ≡ take (reach budget (cost_by r ∷ costs_by rs)) (r ∷ rs) → KeepsFor r o q → HasRoom o w 16_396
+    → AreSaved rs o w budget used → Kept budget rs o w r new q
+saved_kept {budget} {rs = rs} {o = o} {w = w} {r = r} items keeps room all =
+    let fits = less_room w o 16_396 (held r) keeps.few room in
+    record {
+      items = items;
+      saves = keeps.keeps.saves
+          (omega (arith, room_in_ring w rs o budget (held r) all.size all.held keeps.few fits));
+      few = keeps.few;
+      room = fits;
+      at = keeps.at;
+    }
+
+-- and of one that saved none
+pub plain_kept : {budget : ℕ} {rs new : List Record} (o : OldOctets) {w : waiting} {r : Record}
+    → new ≡ take (reach budget (cost_by r ∷ costs_by rs)) (r ∷ rs) → IsPlain r → Kept budget rs o w r new o
+plain_kept o {w} {r} items plain = record {
+  items = items;
+  saves = subst (λ n. Saves n o o) (sym plain.held) (record { room = omega arith; saved = saved_nothing [] 0 o });
+  few = omega (arith, plain.held);
+  room = room_before w o (held r) (omega (arith, plain.held));
+  at = plain.at o;
+}
+
+pub entered : {budget used capacity : ℕ} {c d left : Cells} {rs new : List Record} {o p q : OldOctets} {v w : waiting}
+    {r : Record} {e : Event} {answer : Answer} → left ≡ d → p ≡ q → v ≡ w → WasPerformed c e d answer (undo_of r q)
+    → Kept budget rs o w r new q → AreFields c rs o w capacity budget used → {places now : ℕ} → places ≡ capacity
+    → now ≡ sum (costs_by new) → now ≤ budget → AreFields left new p v places budget now
+entered {budget} {left = left} {new = new} {p = p} {q = q} {w = w} is octets waits done kept old {places} {now} same
+    counted held =
+    let saved = kept_saved kept old.1 counted in
+    let costs = costs_as new q (omega (arith, inside saved)) in
+    let fields : AreFields left new q w places budget now = (
+      journal_event is old.0 done.reverses (kept_undos kept old.1) same (counted ∙ ap sum (sym costs)) held,
+      saved,
+    ) in
+    subst (λ x. AreFields left new p x places budget now) (sym waits)
+    (subst (λ x. AreFields left new x w places budget now) (sym octets) fields)
+
+pub entry_does : {budget used capacity : ℕ} {c d left : Cells} {rs new : List Record} {o p q : OldOctets} {w : waiting}
+    {r : Record} {old : View} (e : Event) {answer : Answer} → left ≡ d → p ≡ q
+    → WasPerformed c e d answer (undo_of r q)
+    → Kept budget rs o w r new q → AreFields c rs o w capacity budget used → 0 < length new
+    → view_of budget c (undos_of rs o) ≡ old → WasJournalled old e answer (view_of budget left (undos_of new p))
+entry_does {budget} {left = left} {rs} {new} {o} {q = q} {old = old} e {answer} is octets done kept fields some view =
+    subst (λ x. WasJournalled old e answer (view_of budget left (undos_of new x))) (sym octets)
+    (event_does (undos_of rs o) e is done (kept_undos kept fields.1) (omega (arith, some, length-undos_of new q)) view)
+
+-- a refused event saved none
+pub fields_same : {budget used capacity : ℕ} {c d : Cells} {rs : List Record} {o p : OldOctets} {w : waiting} → p ≡ o
+    → MorePages c d → AreFields c rs o w capacity budget used → AreFields d rs p w capacity budget used
+fields_same {budget} {used} {capacity} {d = d} {rs} {w = w} octets more old =
+    subst (λ x. AreFields d rs x w capacity budget used) (sym octets) (journal_same more old.0, old.1)
+
+-- nor does a ring of octets that is made ready for an event change what the records mean
+pub ready_fields : {budget used now places capacity : ℕ} {c : Cells} {rs new : List Record} {o p : OldOctets}
+    {v w : waiting} → undos_of new p ≡ undos_of rs o → places ≡ capacity → now ≡ used → AreSaved new p v budget now
+    → AreFields c rs o w capacity budget used → AreFields c new p v places budget now
+ready_fields {c = c} undos places used saved old = (
+  record {
+    fit = subst (AllFit c) (sym undos) old.0.fit;
+    counted = used ∙ old.0.counted ∙ ap (λ us. sum (costs_of us)) (sym undos);
+    held = omega (arith, used, old.0.held);
+    places = places ∙ old.0.places;
+    allowed = old.0.allowed;
+  },
+  saved,
+)
+
+pub shown_same : {budget : ℕ} {c d : Cells} (rs : List Record) {o p : OldOctets} {old : View} → p ≡ o
+    → MorePages c d → view_of budget c (undos_of rs o) ≡ old → view_of budget d (undos_of rs p) ≡ old
+shown_same {budget} {d = d} rs {o} octets more view =
+    ap (λ x. view_of budget d (undos_of rs x)) octets ∙ view_same (undos_of rs o) more view
+
+-- ---- the newest record takes its event back
+
+pub newest_is : (rs : List Record) (r : Record) → slice_get rs 0 ≡ Some r → rs ≡ r ∷ drop 1 rs
+newest_is [] r is = cc
+newest_is (q ∷ rs) r is = let same : q ≡ r = cc in ap (λ x. x ∷ rs) same
+
+pub newest_fits : {c : Cells} {r : Record} {rs : List Record} {o : OldOctets} {w : waiting} {capacity budget used : ℕ}
+    → AreFields c (r ∷ rs) o w capacity budget used
+    → (held r ≤ length o.octets) × (Fits c (undo_of r o) × (used ≡ cost_by r + sum (costs_by rs)))
+newest_fits {r = r} {rs} {o} old = (
+  omega (arith, inside old.1),
+  (old.0.fit.0, old.1.counted ∙ sum_cons (cost_by r) (costs_by rs)),
+)
+
+pub newest_of : {c : Cells} {rs : List Record} {o : OldOctets} {w : waiting} {capacity budget used : ℕ} (r : Record)
+    → slice_get rs 0 ≡ Some r → AreFields c rs o w capacity budget used
+    → AreFields c (r ∷ drop 1 rs) o w capacity budget used
+newest_of {c} {rs} {o} {w} {capacity} {budget} {used} r is =
+    subst (λ xs. AreFields c xs o w capacity budget used) (newest_is rs r is)
+
+pub gone_back : {c d : Cells} {r : Record} {rs : List Record} {o p : OldOctets} {w : waiting}
+    {capacity budget used now : ℕ} → AreFields c (r ∷ rs) o w capacity budget used → d ≡ undo c (undo_of r o)
+    → p ≡ given_up (held r) o → now + cost_by r ≡ used → AreFields d rs p w capacity budget now
+gone_back {c} {d} {r} {rs} {o} {p} {w} {capacity} {budget} {used} {now} old back given left =
+    let saved : AreSaved rs (given_up (held r) o) w budget now = older_saved r rs o w old.1 left in
+    let costs = costs_as rs (given_up (held r) o) (omega (arith, inside saved)) in
+    let journal : IsJournal (undo c (undo_of r o)) (undos_of rs (given_up (held r) o)) capacity budget now = record {
+      fit = old.0.fit.1;
+      counted = saved.counted ∙ ap sum (sym costs);
+      held = omega (arith, left, old.0.held);
+      places = old.0.places;
+      allowed = old.0.allowed;
+    } in
+    let fields : AreFields (undo c (undo_of r o)) rs (given_up (held r) o) w capacity budget now = (journal, saved) in
+    subst (λ x. AreFields x rs p w capacity budget now) (sym back)
+    (subst (λ x. AreFields (undo c (undo_of r o)) rs x w capacity budget now) (sym given) fields)
+
+pub back_does : (c d : Cells) (r : Record) (rs : List Record) (o p : OldOctets) (budget : ℕ) {old : View}
+    → d ≡ undo c (undo_of r o) → p ≡ given_up (held r) o → view_of budget c (undos_of (r ∷ rs) o) ≡ old
+    → Does old goes_back (view_of budget d (undos_of rs p))
+back_does c d r rs o p budget back given view =
+    let made : view_of budget d (undos_of rs p) ≡ view_of budget (undo c (undo_of r o)) (undos_of rs (given_up (held r) o))
+    = λ i. view_of budget (back i) (undos_of rs (given i)) in
+    subst (λ v. Does v goes_back (view_of budget d (undos_of rs p))) view (omega arith, made)
+
+-- ---- what an event costs whose record holds no octets
+pub plain_cost : {c d : Cells} {e : Event} {answer : Answer} {r : Record} (o : OldOctets)
+    → PerformedPlainly c e d answer r → cost_by r ≡ cost (shows c) e
+plain_cost {r = r} o done = sym (cost_as r o (omega (arith, done.plain.held))) ∙ (done.performed o).cost

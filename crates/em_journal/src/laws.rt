@@ -6,7 +6,7 @@ ghost use Rattle.em_step.specs.Step.{step, Refuses};
 ghost use Rattle.em_step.specs.Cells.{Cells, MorePages};
 ghost use Rattle.em_step.specs.declared.event.Answer.{Answer};
 ghost use Rattle.em_step.specs.declared.refusal.Refusal.{Refusal};
-ghost use Rattle.em_step.specs.declared.undo.Undo.{Undo};
+ghost use Rattle.em_step.specs.Undo.{Undo};
 ghost use Rattle.em_journal.specs.Records.{back_through, AllFit};
 ghost use Rattle.em_journal.specs.View.{View, states, reach};
 ghost use Rattle.em_journal.specs.History.{Call, performs, refuses, Run, Leads};

@@ -7,13 +7,14 @@
 //!   - an interrupt register, a counter: `read_latched`, `write_latched`; the same; `Latches::read`, `write`
 //!   - STATUS, and a write of CTRL or EERD: `read_other`, `write_other`; `read_register`, `write_register`;
 //!     `status`, `write_control`, `write_eerd`
-//! - a memory write: `poke`; `poke`; `GuestMemory::write_few`, `write_keeping`
+//! - a memory write: `poke`; `poke`; `GuestMemory::write_saving`
 //! - an arriving frame: `arrive`; `arrive`, `dispose`, `judge`, `admit`, `accept`; em_filter, `Fifo::accept`
 //! - a change of the link: `set_link`; `set_link`; `Latches::raise`
 //! - a step of an engine: `receive_step`, `transmit_step`; the same; `Fifo::receive`, em_tx's `transmit`
 //!
-//! Each function of `Adapter` gives an `Undo` too. `Records::keep` puts it first in the journal, and `back` gives
-//! it to `Adapter::take_back`: the words of the latches by `Latches::put_back`, and then its effect.
+//! Each function of `Adapter` gives a `Record` too, and saves the octets that go with it in the journal's ring of octets,
+//! which `Records::make_ready` sees to. `Records::keep` puts the record first in the journal, and `back` gives it to
+//! `Adapter::put_back` with those octets: the words of the latches by `Latches::put_back`, and then its effect.
 ghost use Rattle.std.specs.Prelude.{◌≡◌, ◌+◌, ◌<◌, ◌≤◌, ◌↔◌, IfOk, IfErr, OnOk, OnErr, IsErrOf, IsTrue};
 ghost use Rattle.std.specs.Prelude.{◌/◌, IfSome, IsNone};
 ghost use Rattle.std.specs.Prelude.{length, min, replicate, slice_get};
@@ -33,12 +34,13 @@ ghost use Rattle.em_journal.specs.History.{refuses, goes_back, is_empty, Does, R
 ghost use Rattle.em_journal.specs.Record.{IsRecordAt};
 ghost use Rattle.em_journal.specs.View.{HaveMemoryOf, opening, after_backs};
 
-use crate::records::Records;
+use crate::records::{FIRST_ROOM, MOST_SAVED, Records, most_records};
 use crate::refusal::{Empty, JournalRefusal};
 use circular_buffer::HeapCircularBuffer;
+use em_mem::OldOctets;
 use em_regs::{Kind, Reg};
 use em_rx::StoredFrame;
-use em_step::{Adapter, Answer, Event, LEAST_COST, Refusal, Undo};
+use em_step::{Adapter, Answer, Event, LEAST_COST, Past, Refusal};
 use std::alloc::Global;
 use std::marker::Model;
 
@@ -58,21 +60,23 @@ pub struct Machine {
 }
 
 impl Model for Machine {
-    ghost use Rattle.em_journal.specs.Records.{view_of, IsJournal};
+    ghost use Rattle.em_journal.specs.Records.{places_in, view_of, undos_of, AreSaved, IsJournal};
     ghost use Rattle.em_journal.specs.View.{View, view_code};
 
     ghost Value = { View };
 
     ghost coded = { view_code };
 
-    ghost view = { λ m. view_of m.budget m.adapter m.records.ring.items };
+    ghost view = { λ m. view_of m.budget m.adapter (undos_of m.records.ring.items m.records.octets) };
 
     ghost invariant = { λ m.
-        IsJournal m.adapter m.records.ring.items m.records.ring.capacity m.budget m.records.used };
+        IsJournal m.adapter (undos_of m.records.ring.items m.records.octets)
+        (places_in m.records.ring.capacity m.records.larger) m.budget m.records.used × AreSaved m.records.ring.items m.records.octets m.records.waits m.budget m.records.used };
 }
 
 impl Machine {
-    /// A machine over an adapter, with an empty journal; all places of its records are made here.
+    /// A machine over an adapter, with an empty journal; all places of its records are made here, and the room for
+    /// the octets that they save.
     ///
     /// The budget is counted in octets of cost. It is refused as Budget outside 65,536 to
     /// 16,777,216, before any memory is taken. With a refusal the adapter comes back as it was.
@@ -90,16 +94,33 @@ impl Machine {
         if !is_budget(budget) {
             return Err((adapter, JournalRefusal::Budget));
         }
-        // No record costs less, so the places are never too few.
-        let places = (budget / u64::from(LEAST_COST)) as usize;
-        match HeapCircularBuffer::with_capacity(alloc, places) {
-            Ok(ring) => Ok(Machine {
-                adapter,
-                records: Records { ring, used: 0 },
-                budget,
-            }),
-            Err(_) => Err((adapter, JournalRefusal::Memory)),
-        }
+        // Half of the places at first, so that a machine of few records uses little memory.
+        let places = most_records(budget);
+        let Ok(ring) = HeapCircularBuffer::with_capacity(alloc, places / 2) else {
+            return Err((adapter, JournalRefusal::Memory));
+        };
+        let Ok(larger) = HeapCircularBuffer::with_capacity(alloc, places) else {
+            return Err((adapter, JournalRefusal::Memory));
+        };
+        let room = budget as usize + MOST_SAVED;
+        let Ok(octets) = OldOctets::with_room(alloc, FIRST_ROOM.min(room)) else {
+            return Err((adapter, JournalRefusal::Memory));
+        };
+        let Ok(waits) = Vec::with_capacity(alloc, room) else {
+            return Err((adapter, JournalRefusal::Memory));
+        };
+        let records = Records {
+            ring,
+            larger: Some(larger),
+            octets,
+            waits: Some(waits),
+            used: 0,
+        };
+        Ok(Machine {
+            adapter,
+            records,
+            budget,
+        })
     }
 
     /// Performs one event and journals it; the oldest records go that the budget no longer holds.
@@ -193,9 +214,9 @@ impl Machine {
         requires { IsStored reg }
         ensures { WasJournalled self.old (reads (offset_of reg)) (Answer.Value result) self.new }
     {
-        let (value, undo) = self.adapter.read_stored(reg);
+        let (value, newest) = self.adapter.read_stored(reg);
         self.records
-            .keep(&mut self.adapter, self.budget, LEAST_COST, undo);
+            .keep(&mut self.adapter, self.budget, LEAST_COST, newest);
         value
     }
 
@@ -205,9 +226,9 @@ impl Machine {
         requires latched { IsLatched reg }
         ensures { WasJournalled self.old (reads (offset_of reg)) (Answer.Value result) self.new }
     {
-        let (value, undo) = self.adapter.read_latched(reg);
+        let (value, newest) = self.adapter.read_latched(reg);
         self.records
-            .keep(&mut self.adapter, self.budget, LEAST_COST, undo);
+            .keep(&mut self.adapter, self.budget, LEAST_COST, newest);
         value
     }
 
@@ -216,9 +237,9 @@ impl Machine {
         requires { IsReg reg }
         ensures { WasJournalled self.old (reads (offset_of reg)) (Answer.Value result) self.new }
     {
-        let (value, undo) = self.adapter.read_register(reg);
+        let (value, newest) = self.adapter.read_register(reg);
         self.records
-            .keep(&mut self.adapter, self.budget, LEAST_COST, undo);
+            .keep(&mut self.adapter, self.budget, LEAST_COST, newest);
         value
     }
 
@@ -227,9 +248,9 @@ impl Machine {
         requires { OnlyStores reg }
         ensures { WasJournalled self.old (writes (offset_of reg) value) Answer.Done self.new }
     {
-        let undo = self.adapter.write_stored(reg, value);
+        let newest = self.adapter.write_stored(reg, value);
         self.records
-            .keep(&mut self.adapter, self.budget, LEAST_COST, undo);
+            .keep(&mut self.adapter, self.budget, LEAST_COST, newest);
     }
 
     #[inline(never)]
@@ -238,9 +259,9 @@ impl Machine {
         requires latched { IsLatched reg }
         ensures { WasJournalled self.old (writes (offset_of reg) value) Answer.Done self.new }
     {
-        let undo = self.adapter.write_latched(reg, value);
+        let newest = self.adapter.write_latched(reg, value);
         self.records
-            .keep(&mut self.adapter, self.budget, LEAST_COST, undo);
+            .keep(&mut self.adapter, self.budget, LEAST_COST, newest);
     }
 
     #[inline(never)]
@@ -250,10 +271,10 @@ impl Machine {
         ensures err { IfErr result (λ refusal.
             Does self.old (refuses (writes (offset_of reg) value) refusal) self.new) }
     {
-        let undo = self.adapter.write_register(reg, value)?;
-        let cost = undo.cost();
+        let newest = self.adapter.write_register(reg, value)?;
+        let cost = newest.cost();
         self.records
-            .keep(&mut self.adapter, self.budget, cost, undo);
+            .keep(&mut self.adapter, self.budget, cost, newest);
         Ok(())
     }
 
@@ -263,10 +284,11 @@ impl Machine {
         ensures ok { IfOk result (λ answer. WasJournalled self.old (pokes addr octets.now) answer self.new) }
         ensures err { IfErr result (λ refusal. Does self.old (refuses (pokes addr octets.now) refusal) self.new) }
     {
-        let (answer, undo) = self.adapter.poke(addr, octets)?;
-        let cost = undo.cost();
+        self.records.make_ready(self.budget);
+        let (answer, newest) = self.adapter.poke(addr, octets, &mut self.records.octets)?;
+        let cost = newest.cost();
         self.records
-            .keep(&mut self.adapter, self.budget, cost, undo);
+            .keep(&mut self.adapter, self.budget, cost, newest);
         Ok(answer)
     }
 
@@ -276,10 +298,11 @@ impl Machine {
         ensures ok { IfOk result (λ answer. WasJournalled self.old (arrives frame.now) answer self.new) }
         ensures err { IfErr result (λ refusal. Does self.old (refuses (arrives frame.now) refusal) self.new) }
     {
-        let (answer, undo) = self.adapter.arrive(frame)?;
-        let cost = undo.cost();
+        self.records.make_ready(self.budget);
+        let (answer, newest) = self.adapter.arrive(frame, &mut self.records.octets)?;
+        let cost = newest.cost();
         self.records
-            .keep(&mut self.adapter, self.budget, cost, undo);
+            .keep(&mut self.adapter, self.budget, cost, newest);
         Ok(answer)
     }
 
@@ -289,9 +312,9 @@ impl Machine {
         ensures ok { IfOk result (λ answer. WasJournalled self.old (links up) answer self.new) }
         ensures err { IfErr result (λ refusal. Does self.old (refuses (links up) refusal) self.new) }
     {
-        let (answer, undo) = self.adapter.set_link(up)?;
+        let (answer, newest) = self.adapter.set_link(up)?;
         self.records
-            .keep(&mut self.adapter, self.budget, LEAST_COST, undo);
+            .keep(&mut self.adapter, self.budget, LEAST_COST, newest);
         Ok(answer)
     }
 
@@ -301,10 +324,11 @@ impl Machine {
         ensures ok { IfOk result (λ answer. WasJournalled self.old receives answer self.new) }
         ensures err { IfErr result (λ refusal. Does self.old (refuses receives refusal) self.new) }
     {
-        let (answer, undo) = self.adapter.receive_step()?;
-        let cost = undo.cost();
+        self.records.make_ready(self.budget);
+        let (answer, newest) = self.adapter.receive_step(&mut self.records.octets)?;
+        let cost = newest.cost();
         self.records
-            .keep(&mut self.adapter, self.budget, cost, undo);
+            .keep(&mut self.adapter, self.budget, cost, newest);
         Ok(answer)
     }
 
@@ -314,10 +338,10 @@ impl Machine {
         ensures ok { IfOk result (λ answer. WasJournalled self.old transmits answer self.new) }
         ensures err { IfErr result (λ refusal. Does self.old (refuses transmits refusal) self.new) }
     {
-        let (answer, undo) = self.adapter.transmit_step()?;
-        let cost = undo.cost();
+        let (answer, newest) = self.adapter.transmit_step()?;
+        let cost = newest.cost();
         self.records
-            .keep(&mut self.adapter, self.budget, cost, undo);
+            .keep(&mut self.adapter, self.budget, cost, newest);
         Ok(answer)
     }
 
@@ -328,9 +352,10 @@ impl Machine {
         ensures empty { OnErr result (Does self.old is_empty self.new) }
     {
         match self.records.ring.pop_front() {
-            Some(undo) => {
-                let cost = undo.cost();
-                self.adapter.take_back(undo);
+            Some(newest) => {
+                let (cost, held) = (newest.cost(), newest.held());
+                self.adapter.put_back(newest, &self.records.octets.newest());
+                self.records.octets.give_up(held);
                 self.records.used -= u64::from(cost);
                 Ok(())
             }
@@ -367,17 +392,18 @@ impl Machine {
     pub fn places(&self) -> usize
         ensures { result ≡ self.now.budget / least_cost }
     {
-        self.records.ring.capacity()
+        most_records(self.budget)
     }
 
     /// The record of the event that step back number `k` from here takes back, the newest one's at 0; none where the
     /// journal has no such event. The machine stays where it is.
     #[inline(always)]
-    pub fn record(&self, k: usize) -> Option<&Undo>
-        ensures found { IfSome result (λ undo. IsRecordAt self.now k undo.now) }
+    pub fn record(&self, k: usize) -> Option<Past<'_>>
+        ensures found { IfSome result (λ past. IsRecordAt self.now k past) }
         ensures none { IsNone result ↔ length self.now.past ≤ k }
     {
-        self.records.ring.get(k)
+        let found = self.records.ring.get(k)?;
+        Some(Past::new(found, &self.records.octets))
     }
 
     /// What a read of the register at an offset (octets) would give, with nothing cleared; none

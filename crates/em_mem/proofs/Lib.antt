@@ -7,3 +7,5 @@ pub mod MadePages
 pub mod WriteLaws
 pub mod WindowLaws
 pub mod ExtentLaws
+pub mod RingLaws
+pub mod OldOctetsLaws

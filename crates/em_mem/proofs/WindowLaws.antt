@@ -1,5 +1,6 @@
 -- A window of memory with a patch laid over it is that window with the patch put back.
-use Rattle.std.proofs.Common.{◌≡◌, ℕ, ◌+◌, ◌-◌, ◌<◌, ◌≤◌, List, [], ◌++◌, length, take, drop, get_or, inl, inr, refl, sym, ap, ◌∙◌, arith, length-append, length-drop}
+use Rattle.std.proofs.Common.{◌≡◌, ℕ, ◌+◌, ◌-◌, ◌<◌, ◌≤◌, ◌⊎◌, List, [], ◌++◌, length, take, drop, get_or, inl, inr}
+use Rattle.std.proofs.Common.{refl, sym, ap, ◌∙◌, arith, length-append, length-drop}
 use Rattle.std.proofs.lemmas.List.{
   ext_get_or,
   get_or_append_left,
@@ -111,6 +112,75 @@ pub window-undone : (a : ℕ) (w new : List ℕ) (p : Patch) → new ≡ lay_ove
 window-undone a w new p laid m fits is =
     ap (part (undo m p).octets a) (ap length laid ∙ length-lay_over a w p) ∙ part-undone m.octets a w p fits.held is
     ∙ sym laid
+
+-- ---- one octet of a window with a patch laid over it
+laid_beside : (a : ℕ) (w : List ℕ) (p : Patch) (i : ℕ) → i < length w
+    → (a + i < p.at) ⊎ (p.at + length p.octets ≤ a + i) → get_or (lay_over a w p) i 0 ≡ get_or w i 0
+laid_beside a w p i l (inl before) =
+    get_or-take (length w) (put w (p.at - a) (drop (a - p.at) p.octets)) i 0 l
+    ∙ before_put w (p.at - a) (drop (a - p.at) p.octets) i (omega arith) l
+laid_beside a w p i l (inr past) =
+    get_or-take (length w) (put w (p.at - a) (drop (a - p.at) p.octets)) i 0 l
+    ∙ past_put w (p.at - a) (drop (a - p.at) p.octets) i (omega (arith, past))
+    (omega (arith, past, length-drop (a - p.at) p.octets))
+
+laid_within : (a : ℕ) (w : List ℕ) (p : Patch) (i : ℕ) → i < length w → p.at ≤ a + i
+    → a + i < p.at + length p.octets
+    → get_or (lay_over a w p) i 0 ≡ get_or p.octets (a + i - p.at) 0
+laid_within a w p i l from to =
+    let k : ℕ = p.at - a in
+    let place : a - p.at + (i - k) ≡ a + i - p.at = omega arith in
+    get_or-take (length w) (put w k (drop (a - p.at) p.octets)) i 0 l
+    ∙ within_put w k (drop (a - p.at) p.octets) i (omega arith) (omega arith)
+    (omega (arith, length-drop (a - p.at) p.octets))
+    ∙ get_or-drop (a - p.at) p.octets (i - k) 0
+    ∙ ap (λ j. get_or p.octets j 0) place
+
+-- octets laid over a window in two pieces, one behind the other, are laid over it at once
+module _ (a : ℕ) (w : List ℕ) (at : ℕ) (d e : List ℕ) where
+  abbrev front : Patch
+  front = record { at = at; octets = d }
+
+  abbrev back : Patch
+  back = record { at = at + length d; octets = e }
+
+  abbrev whole : Patch
+  whole = record { at = at; octets = d ++ e }
+
+  laid_twice : (i : ℕ) → i < length w
+      → get_or (lay_over a (lay_over a w front) back) i 0 ≡ get_or (lay_over a w whole) i 0
+  laid_twice i l =
+      let both = length-append d e in
+      let size = length-lay_over a w front in
+      let here : i < length (lay_over a w front) = omega (arith, size, l) in
+      elim (cases_lt (a + i) at) [
+        | inl before ↦ laid_beside a (lay_over a w front) back i here (inl (omega arith))
+            ∙ laid_beside a w front i l (inl before) ∙ sym (laid_beside a w whole i l (inl before))
+        | inr from ↦ elim (cases_lt (a + i) (at + length d)) [
+          | inl to ↦ laid_beside a (lay_over a w front) back i here (inl to)
+              ∙ laid_within a w front i l from to
+              ∙ sym (laid_within a w whole i l from (omega (arith, both))
+              ∙ get_or_append_left d e 0 (a + i - at) (omega arith))
+          | inr behind ↦ elim (cases_lt (a + i) (at + length d + length e)) [
+            | inl to ↦
+                let place : a + i - at - length d ≡ a + i - (at + length d) = omega arith in
+                laid_within a (lay_over a w front) back i here behind to
+                ∙ sym (laid_within a w whole i l from (omega (arith, both))
+                ∙ get_or-append_right d e (length d) (a + i - at) 0 refl (omega arith)
+                ∙ ap (λ j. get_or e j 0) place)
+            | inr past ↦ laid_beside a (lay_over a w front) back i here (inr past)
+                ∙ laid_beside a w front i l (inr behind)
+                ∙ sym (laid_beside a w whole i l (inr (omega (arith, both))))
+          ]
+        ]
+      ]
+
+  pub lay_over-append : lay_over a (lay_over a w front) back ≡ lay_over a w whole
+  lay_over-append =
+      let size = length-lay_over a w front in
+      let sizes = length-lay_over a (lay_over a w front) back in
+      ext_get_or 0 (lay_over a (lay_over a w front) back) (lay_over a w whole)
+      (sizes ∙ size ∙ sym (length-lay_over a w whole)) (λ i l. laid_twice i (omega (arith, size, sizes, l)))
 
 -- octets laid over the end of a window, from place k on
 pub cover_end : (w d new : List ℕ) (k : ℕ) → k ≤ length w → new ≡ take (length (take (length w - k) (drop k w)))

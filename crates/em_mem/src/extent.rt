@@ -1,34 +1,7 @@
 //! Where a record puts octets back: who asks what it changed goes there, and not over all of memory.
-ghost use Rattle.std.specs.Prelude.{◌≡◌};
+ghost use Rattle.std.specs.Prelude.{◌≡◌, ℕ, List, length};
 ghost use Rattle.em_mem.specs.Memory.{Cells, Fits, undo};
 ghost use Rattle.em_mem.specs.Extent.{SameUpTo, least, next_octet};
-
-use crate::{FewOctets, MemUndo};
-
-impl MemUndo {
-    /// The least address from `addr` on where it has an octet. Up to there, or to the end of memory where there is
-    /// none, memory stays as it is when `put_back` puts the octets back.
-    #[inline(always)]
-    pub fn next_octet(&self, addr: u64) -> Option<u64>
-        ensures next { result ≡ next_octet addr self.now }
-        ensures same { (m : Cells) → Fits m self.now → SameUpTo m.octets (undo m self.now).octets addr result }
-    {
-        next_octet(self.addr, self.octets.as_slice(), addr)
-    }
-}
-
-impl FewOctets {
-    /// The least address from `addr` on where it has an octet. Up to there, or to the end of memory where there is
-    /// none, memory stays as it is when `put_back_few` puts the octets back.
-    #[inline(always)]
-    pub fn next_octet(&self, addr: u64) -> Option<u64>
-        ensures next { result ≡ next_octet addr self.now }
-        ensures same { (m : Cells) → Fits m self.now → SameUpTo m.octets (undo m self.now).octets addr result }
-    {
-        let (at, octets) = self.parts();
-        next_octet(at, octets, addr)
-    }
-}
 
 /// Of octets that lay from `at` on, the least address from `addr` on where one lay. Up to there, or to the end of
 /// memory where there is none, memory stays as it is when they are put back.
@@ -38,8 +11,17 @@ pub fn next_octet(at: u64, octets: &[u8], addr: u64) -> Option<u64>
     ensures same { (m : Cells) → Fits m (record { at = at; octets = octets.now })
         → SameUpTo m.octets (undo m (record { at = at; octets = octets.now })).octets addr result }
 {
+    next_in(at, octets.len(), addr)
+}
+
+/// The same of so many octets, whatever they are.
+#[inline(always)]
+pub fn next_in(at: u64, len: usize, addr: u64) -> Option<u64>
+    ensures { (octets : List ℕ) → length octets ≡ len
+        → result ≡ next_octet addr (record { at = at; octets = octets }) }
+{
     let next = at.max(addr);
-    if next - at < octets.len() as u64 {
+    if next - at < len as u64 {
         Some(next)
     } else {
         None

@@ -2,24 +2,25 @@
 //! they are about to be written, and what it means to take a change back.
 #![tactic(auto)]
 
-pub use extent::{least, next_octet};
-pub use few_octets::{FEW, FewOctets};
+pub use extent::{least, next_in, next_octet};
 pub use memory::GuestMemory;
+pub use old_octets::{MOST_ROOM, OldOctets, Saved};
 pub use place::Place;
 pub use refusal::MemRefusal;
 pub use reversible::Reversible;
-pub use spares::{Spares, SparesByLen, empty_for, refill};
+pub use spares::Spares;
 pub use undo::MemUndo;
-pub use window::lay_over;
+pub use window::{lay_both_over, lay_over};
 
 mod extent;
-mod few_octets;
 pub mod laws;
 mod memory;
+mod old_octets;
 mod page;
 mod place;
 mod refusal;
 mod reversible;
+pub mod ring;
 mod spares;
 mod table;
 mod undo;

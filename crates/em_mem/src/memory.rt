@@ -1,15 +1,16 @@
 //! Guest memory: the octets of the guest, and which of its pages are made.
-ghost use Rattle.std.specs.Prelude.{◌≡◌, ◌+◌, ◌%◌, ◌≤◌, ◌<◌, ◌↔◌, length};
-ghost use Rattle.std.specs.Prelude.{IfOk, IfErr, IsErrOf, IsOk, IsTrue, IsSome, IfSome, OnErr, OnOk, []};
+ghost use Rattle.std.specs.Prelude.{◌≡◌, ◌+◌, ◌%◌, ◌≤◌, ◌<◌, ◌↔◌, ◌++◌, length, take};
+ghost use Rattle.std.specs.Prelude.{IfOk, IfErr, IsErrOf, IsOk, IsTrue, IsSome, IfSome, OnOk};
 ghost use Rattle.em_mem.specs.Memory.{IsHeld, IsInOnePage, IsMade, IsMemorySize, MakesOnly, MorePages};
 ghost use Rattle.em_mem.specs.Memory.{fresh, part, put, Fits, undo, Reverses};
+ghost use Rattle.em_mem.specs.OldOctets.{saved};
 
 use crate::laws::places_are_small;
 use crate::page::Page;
 use crate::{
-    MOST_MEMORY, MOST_RECORD, MemRefusal, MemUndo, PAGE_OCTETS, Reversible, empty_for, page, table,
+    MOST_MEMORY, MemRefusal, MemUndo, OldOctets, PAGE_OCTETS, Reversible, Saved, page, table,
 };
-use std::alloc::{AllocError, Global};
+use std::alloc::Global;
 use std::marker::Model;
 
 /// How many octets `swap` reads out before it writes over them.
@@ -194,34 +195,66 @@ impl GuestMemory {
         octets
     }
 
-    /// Makes `kept` a record of the `len` octets from `addr` on. The range may cross page ends. Where memory is
-    /// refused `kept` holds no octets, and its address stays.
+    /// Saves the `len` octets from `addr` on before the old octets of other records. The range may cross page ends.
     #[inline(always)]
-    pub fn keep(&self, addr: u64, len: usize, kept: &mut MemUndo) -> Result<(), AllocError>
+    pub fn save(&self, addr: u64, len: usize, old: &mut OldOctets)
         requires held { IsHeld self.now.octets addr len }
-        requires most { len ≤ MOST_RECORD }
-        ensures ok { OnOk result (kept.new ≡ record { at = addr; octets = part self.now.octets addr len }) }
-        ensures err { OnErr result (kept.new ≡ record kept.old { octets = [] }) }
+        requires room { len ≤ length old.old.octets }
+        ensures { old.new ≡ saved (part self.now.octets addr len) old.old }
     {
         match self.piece(addr, len) {
-            Some(octets) => kept.fill(addr, octets),
-            None => self.keep_pieces(addr, len, kept),
+            Some(octets) => old.save(octets),
+            None => self.save_pieces(addr, len, old),
         }
     }
 
-    /// Makes `kept` a record of the `len` octets from `addr` on, page by page.
+    /// Saves the `len` octets from `addr` on, page by page: those of the last page first, since what is saved later
+    /// comes before them.
     #[inline(never)]
-    fn keep_pieces(&self, addr: u64, len: usize, kept: &mut MemUndo) -> Result<(), AllocError>
+    fn save_pieces(&self, addr: u64, len: usize, old: &mut OldOctets)
         requires held { IsHeld self.now.octets addr len }
-        requires most { len ≤ MOST_RECORD }
-        ensures ok { OnOk result (kept.new ≡ record { at = addr; octets = part self.now.octets addr len }) }
-        ensures err { OnErr result (kept.new ≡ record kept.old { octets = [] }) }
+        requires room { len ≤ length old.old.octets }
+        ensures { old.new ≡ saved (part self.now.octets addr len) old.old }
     {
-        empty_for(&mut kept.octets, len);
-        kept.octets.resize(len, 0)?;
-        self.read_pieces(addr, kept.octets.as_mut_slice());
-        kept.addr = addr;
-        Ok(())
+        places_are_small(self);
+        let mut left = len;
+        while left > 0 {
+            let last = addr + (left as u64 - 1);
+            let count = (last as usize % PAGE_OCTETS + 1).min(left);
+            left -= count;
+            let Some(octets) = self.piece(addr + left as u64, count) else {
+                unreachable!();
+            };
+            old.save(octets);
+        }
+    }
+
+    /// Writes octets from `addr` on, and saves the old ones first. The range may cross page ends. It takes no memory:
+    /// `touch` made the pages.
+    #[inline(always)]
+    pub fn write_saving(&mut self, addr: u64, written: &[u8], old: &mut OldOctets)
+        requires held { IsHeld self.old.octets addr (length written.now) }
+        requires made { IsMade self.old addr (length written.now) }
+        requires room { length written.now ≤ length old.old.octets }
+        ensures octets { self.new.octets ≡ put self.old.octets addr written.now }
+        ensures made { self.new.made ≡ self.old.made }
+        ensures saved { old.new ≡ saved (part self.old.octets addr (length written.now)) old.old }
+        ensures reverses { Reverses self.old self.new
+            (record { at = addr; octets = take (length written.now) old.new.octets }) }
+    {
+        self.save(addr, written.len(), old);
+        self.write(addr, written);
+    }
+
+    /// Takes back the write that saved the first `len` of these octets, which lay from `addr` on. It takes no memory.
+    #[inline(always)]
+    pub fn put_saved_back(&mut self, addr: u64, len: usize, old: &Saved<'_>)
+        requires room { len ≤ length old.now.octets }
+        requires fits { Fits self.old (record { at = addr; octets = take len old.now.octets }) }
+        ensures { self.new ≡ undo self.old (record { at = addr; octets = take len old.now.octets }) }
+    {
+        let (front, back) = old.first(len);
+        self.write_both(addr, front, back);
     }
 
     /// Writes the octets from `addr` on. The range may cross page ends. It takes no memory: `touch` made
@@ -237,6 +270,22 @@ impl GuestMemory {
             self.write_piece(addr, written);
         } else {
             self.write_pieces(addr, written);
+        }
+    }
+
+    /// Writes two parts from `addr` on, one behind the other. The range may cross page ends. It takes no memory:
+    /// `touch` made the pages.
+    #[inline(always)]
+    pub fn write_both(&mut self, addr: u64, first: &[u8], second: &[u8])
+        requires held { IsHeld self.old.octets addr (length first.now + length second.now) }
+        requires made { IsMade self.old addr (length first.now + length second.now) }
+        ensures octets { self.new.octets ≡ put self.old.octets addr (first.now ++ second.now) }
+        ensures made { self.new.made ≡ self.old.made }
+    {
+        self.write(addr, first);
+        if !second.is_empty() {
+            places_are_small(self);
+            self.write(addr + first.len() as u64, second);
         }
     }
 
@@ -256,28 +305,6 @@ impl GuestMemory {
             self.write_piece(from, &written[done..done + count]);
             done += count;
         }
-    }
-
-    /// Writes octets from `addr` on, and makes `kept` a record of the old ones first. The range may cross page
-    /// ends. Where memory is refused for the record nothing is written; `touch` made the pages.
-    pub fn write_keeping(
-        &mut self,
-        addr: u64,
-        written: &[u8],
-        kept: &mut MemUndo,
-    ) -> Result<(), AllocError>
-        requires held { IsHeld self.old.octets addr (length written.now) }
-        requires made { IsMade self.old addr (length written.now) }
-        requires most { length written.now ≤ MOST_RECORD }
-        ensures octets { OnOk result (self.new.octets ≡ put self.old.octets addr written.now) }
-        ensures made { self.new.made ≡ self.old.made }
-        ensures len { OnOk result (length kept.new.octets ≡ length written.now) }
-        ensures reverses { OnOk result (Reverses self.old self.new kept.new) }
-        ensures same { OnErr result (self.new ≡ self.old) }
-    {
-        self.keep(addr, written.len(), kept)?;
-        self.write(addr, written);
-        Ok(())
     }
 
     /// Writes octets from `addr` on, and gives the old ones. The range may cross page ends. It takes no
@@ -350,7 +377,7 @@ impl GuestMemory {
     }
 
     /// Takes back the write that gave out this record. It takes no memory.
-    pub fn put_back(&mut self, taken: &MemUndo)
+    fn put_back(&mut self, taken: &MemUndo)
         requires { Fits self.old taken.now }
         ensures { self.new ≡ undo self.old taken.now }
     {

@@ -1,36 +1,7 @@
 //! Guest memory as it was before a write, seen through a window: memory itself is neither copied nor changed.
-ghost use Rattle.std.specs.Prelude.{◌≡◌, ◌++◌, length, take, drop};
+ghost use Rattle.std.specs.Prelude.{◌≡◌, ◌^◌, ◌<◌, ◌++◌, length, take, drop};
 ghost use Rattle.em_mem.specs.Memory.{Cells, Fits, undo};
 ghost use Rattle.em_mem.specs.Window.{IsWindow, lay_over};
-
-use crate::{FewOctets, MemUndo};
-
-impl MemUndo {
-    /// Lays its octets over a window of memory from `addr` on, where they overlap. The window is then what it is once
-    /// `put_back` has put the octets back.
-    #[inline(always)]
-    pub fn lay_over(&self, addr: u64, window: &mut [u8])
-        ensures octets { window.new ≡ lay_over addr window.old self.now }
-        ensures before { (m : Cells) → Fits m self.now → IsWindow m.octets addr window.old
-            → IsWindow (undo m self.now).octets addr window.new }
-    {
-        lay_over(self.addr, self.octets.as_slice(), addr, window);
-    }
-}
-
-impl FewOctets {
-    /// Lays its octets over a window of memory from `addr` on, where they overlap. The window is then what it is once
-    /// `put_back_few` has put the octets back.
-    #[inline(always)]
-    pub fn lay_over(&self, addr: u64, window: &mut [u8])
-        ensures octets { window.new ≡ lay_over addr window.old self.now }
-        ensures before { (m : Cells) → Fits m self.now → IsWindow m.octets addr window.old
-            → IsWindow (undo m self.now).octets addr window.new }
-    {
-        let (at, octets) = self.parts();
-        lay_over(at, octets, addr, window);
-    }
-}
 
 /// Lays the octets that lay from `at` on over a window of memory from `addr` on. The window is then what it is once
 /// they are put back.
@@ -42,6 +13,19 @@ pub fn lay_over(at: u64, octets: &[u8], addr: u64, window: &mut [u8])
         → IsWindow (undo m (record { at = at; octets = octets.now })).octets addr window.new }
 {
     lay(at, octets, addr, window);
+}
+
+/// Lays two parts, which lay one behind the other from `at` on, over a window of memory from `addr` on, as `lay_over`
+/// does with octets in one piece.
+#[inline(always)]
+pub fn lay_both_over(at: u64, first: &[u8], second: &[u8], addr: u64, window: &mut [u8])
+    requires { at < 2 ^ 32 }
+    ensures { window.new ≡ lay_over addr window.old (record { at = at; octets = first.now ++ second.now }) }
+{
+    lay(at, first, addr, window);
+    if !second.is_empty() {
+        lay(at + first.len() as u64, second, addr, window);
+    }
 }
 
 /// Lays the octets over the window. Most records have none of it, so that is asked first.

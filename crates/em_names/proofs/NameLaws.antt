@@ -1,18 +1,14 @@
 -- No two registers have one name.
-use Rattle.std.proofs.Common.{◌≡◌, ℕ, ◌+◌, ◌*◌, ◌-◌, ◌<◌, Bool, true, false, ◌&&◌, ◌==◌, nat_lt, nat_le, if◌then◌else◌}
-use Rattle.std.proofs.Common.{◌/◌, suc, length, take, get_or, arith}
-use Rattle.std.proofs.Common.{◌⊎◌, inl, inr, List, [], ◌∷◌, ◌++◌, Option, Some, None, refl, sym, ap, ◌∙◌, map}
+use Rattle.std.proofs.Common.{◌≡◌, ℕ, ◌+◌, ◌*◌, ◌-◌, ◌<◌, ◌%◌, ◌&&◌, ◌==◌, nat_lt, nat_le, if◌then◌else◌}
+use Rattle.std.proofs.Common.{inl, inr, List, [], ◌∷◌, Option, Some, None, refl, sym, ap, ◌∙◌, map, arith}
+use Rattle.std.proofs.lemmas.Bool.{cases_lt}
 use Rattle.std.specs.Char.{to_ascii_lowercase}
 use Rattle.std.specs.Fmt.{digits}
 use Rattle.em_regs.specs.declared.reg.Reg.{Reg}
 use Rattle.em_regs.specs.declared.reg.Reg.TheVariants.{Ctrl, Mta, Ral, Rah, Vfta}
-use Rattle.em_regs.specs.Table.{IsReg, row_of, index_of, with_index, offset_of, registers, reg_in, reg_at, has_word_at}
-use Rattle.em_regs.proofs.TableLaws.{same_below, indexed, reg_at-offset_of}
-use Rattle.em_names.specs.Names.{stem_of, name_of, SameLetters, IsNamed}
-
-truth : (b : Bool) → (b ≡ true) ⊎ (b ≡ false)
-truth true = inl refl
-truth false = inr refl
+use Rattle.em_regs.specs.Table.{IsReg, stem_of, offset_of, registers, reg_at}
+use Rattle.em_regs.proofs.TableLaws.{same_below, whole_word, reg_at-offset_of}
+use Rattle.em_names.specs.Names.{name_of, IsNamed}
 
 abbrev pub lowered : List ℕ → List ℕ
 lowered word = map to_ascii_lowercase word
@@ -69,54 +65,16 @@ names_apart a b word ha hb na nb =
     let same : Some a ≡ Some b = ea ∙ sym eb in
     cc
 
--- ---- where a word begins with a stem
+-- the word names no register that lies below an offset
+abbrev pub NoneNamedBelow : List ℕ → ℕ → Type 0
+NoneNamedBelow word end = (reg : Reg) → IsReg reg → offset_of reg < end → IsNamed word reg → ⊥
 
-pub front_same : (word stem rest : List ℕ) → SameLetters word (stem ++ rest)
-    → SameLetters (take (length stem) word) stem
-front_same word [] rest e = refl
-front_same [] (s ∷ ss) rest e = cc
-front_same (w ∷ ws) (s ∷ ss) rest e =
-    let first : to_ascii_lowercase w ≡ to_ascii_lowercase s = cc in
-    let others : SameLetters ws (ss ++ rest) = cc in
-    let behind_it = front_same ws ss rest others in
-    cc
-
--- ---- the registers of a row
-
-pub is_reg-with_index : (row : Reg) (i : ℕ) → i < (row_of row).words → IsReg (with_index row i)
-is_reg-with_index row i h = let x = indexed row i h in rw (x.row, x.index) h
-
--- the word names no register of the row
-abbrev pub NamesNone : List ℕ → Reg → Type 0
-NamesNone word row = (i : ℕ) → i < (row_of row).words → IsNamed word (with_index row i) → ⊥
-
-pub record HasOwnIndex (row reg : Reg) : Type 0 where
-  pub within : index_of reg < (row_of row).words
-  pub same : with_index row (index_of reg) ≡ reg
-
--- a register of the row is the one with its index
-own_index : (row : Reg) (i : ℕ) → IsReg (with_index row i) → HasOwnIndex row (with_index row i)
-own_index (Mta _) i h = record { within = h; same = refl }
-own_index (Ral _) i h = record { within = h; same = refl }
-own_index (Rah _) i h = record { within = h; same = refl }
-own_index (Vfta _) i h = record { within = h; same = refl }
-own_index Ctrl i h = record { within = h; same = refl }
-own_index _ i h = record { within = h; same = refl }
-
-none_in : (word : List ℕ) (rows : List Reg) → ((k : ℕ) → k < length rows → NamesNone word (get_or rows k Ctrl))
-    → (o : ℕ) (reg : Reg) → reg_in rows o ≡ Some reg → IsReg reg → IsNamed word reg → ⊥
-none_in word [] none o reg is h n = cc
-none_in word (row ∷ rows) none o reg is h n = elim (truth (has_word_at (row_of row) o)) [
-  | inl t ↦
-      let i = (o - (row_of row).offset) / (row_of row).spacing in
-      let here : with_index row i ≡ reg = let e : Some (with_index row i) ≡ Some reg = rw t at is in cc in
-      let own = own_index row i (rw here h) in
-      none 0 (omega arith) (index_of (with_index row i)) own.within (rw (own.same, here) n)
-  | inr t ↦ none_in word rows (λ k lt. none (suc k) (omega arith)) o reg (rw t at is) h n
+-- nor one below the next word, where what lies at the offset is not named either
+pub none_named_next : (word : List ℕ) (o : ℕ) → NoneNamedBelow word o
+    → ((reg : Reg) → reg_at o ≡ Some reg → IsNamed word reg → ⊥) → o % 4 ≡ 0 → NoneNamedBelow word (o + 4)
+none_named_next word o none here whole reg h lt n = elim (cases_lt (offset_of reg) o) [
+  | inl before ↦ none reg h before n
+  | inr from ↦
+      let at : offset_of reg ≡ o = omega (arith, whole_word reg) in
+      here reg (ap reg_at (sym at) ∙ reg_at-offset_of reg h) n
 ]
-
--- where the word names no register of any row, it names none
-pub names_none : (word : List ℕ) → ((k : ℕ) → k < length registers → NamesNone word (get_or registers k Ctrl))
-    → (reg : Reg) → IsReg reg → IsNamed word reg → ⊥
-unfolding reg_at
-names_none word none reg h n = none_in word registers none (offset_of reg) reg (reg_at-offset_of reg h) h n

@@ -2,16 +2,13 @@
 ghost use Rattle.std.specs.Prelude.{◌≡◌, IfOk};
 ghost use Rattle.em_names.specs.Near.{AreRegs, distance_of};
 
-use crate::names::name;
+use crate::names::{WORD, name};
 use em_regs::{Reg, SPACE};
 use std::alloc::{AllocError, Global};
 use strsim::generic_levenshtein;
 
 /// How many letters of a word count: the longest name has 9.
 const LETTERS: usize = 16;
-
-/// How many octets a register has.
-const WORD: u32 = 4;
 
 /// Three registers with their distances, the nearest first.
 #[derive(Clone, Copy)]

@@ -1,5 +1,5 @@
 -- The register that a word names.
-use Rattle.std.proofs.Common.{◌≡◌, ◌≤◌, ℕ, ◌+◌, ◌<◌, Bool, true, false, cond, List, [], ◌∷◌, length, get_or, map, zero, suc}
+use Rattle.std.proofs.Common.{◌≡◌, ◌≤◌, ℕ, ◌+◌, ◌-◌, ◌/◌, ◌<◌, Bool, true, false, cond, List, [], ◌∷◌, length, get_or, map, zero, suc}
 use Rattle.std.proofs.Common.{Option, Some, None, IfSome, find, refl, sym, ◌∙◌, subst, arith}
 use Rattle.std.specs.Option.{option_map}
 use Rattle.std.specs.List.{range_with_len}
@@ -8,10 +8,10 @@ use Rattle.std.proofs.lemmas.Bool.{cases_lt}
 use Rattle.std.specs.Char.{to_ascii_lowercase}
 use Rattle.std.proofs.lemmas.Slice.Eq.{bytes_eq-Decides}
 use Rattle.em_regs.specs.declared.reg.Reg.{Reg}
-use Rattle.em_regs.specs.declared.reg.Reg.TheVariants.{Ctrl}
-use Rattle.em_regs.specs.Table.{IsReg, row_of, with_index, registers}
+use Rattle.em_regs.specs.declared.reg.Reg.TheVariants.{Ctrl, Mta, Ral, Rah, Vfta}
+use Rattle.em_regs.specs.Table.{IsReg, row_of, index_of, with_index, offset_of, registers, reg_in, reg_at, has_word_at}
+use Rattle.em_regs.proofs.TableLaws.{indexed, reg_at-offset_of}
 use Rattle.em_names.specs.Names.{name_of, IsNamed, SameLetters}
-use Rattle.em_names.proofs.NameLaws.{NamesNone, is_reg-with_index, names_none}
 use Rattle.em_prompt.specs.Register.{same_letters, or_else, index_named, named_among, named}
 
 -- ---- the test of letters
@@ -49,6 +49,50 @@ none_passes p a (suc n) e k from to = by_first (p a) refl e (none_passes p (a + 
   by_first true t e more at = cc
   by_first false t e more (inl same) = subst (λ j. p j ≡ false) (sym same) t
   by_first false t e more (inr above) = more e k above (omega arith)
+
+truth : (b : Bool) → (b ≡ true) ⊎ (b ≡ false)
+truth true = inl refl
+truth false = inr refl
+
+-- ---- the registers of a row
+
+pub is_reg-with_index : (row : Reg) (i : ℕ) → i < (row_of row).words → IsReg (with_index row i)
+is_reg-with_index row i h = let x = indexed row i h in rw (x.row, x.index) h
+
+-- the word names no register of the row
+abbrev pub NamesNone : List ℕ → Reg → Type 0
+NamesNone word row = (i : ℕ) → i < (row_of row).words → IsNamed word (with_index row i) → ⊥
+
+pub record HasOwnIndex (row reg : Reg) : Type 0 where
+  pub within : index_of reg < (row_of row).words
+  pub same : with_index row (index_of reg) ≡ reg
+
+-- a register of the row is the one with its index
+own_index : (row : Reg) (i : ℕ) → IsReg (with_index row i) → HasOwnIndex row (with_index row i)
+own_index (Mta _) i h = record { within = h; same = refl }
+own_index (Ral _) i h = record { within = h; same = refl }
+own_index (Rah _) i h = record { within = h; same = refl }
+own_index (Vfta _) i h = record { within = h; same = refl }
+own_index Ctrl i h = record { within = h; same = refl }
+own_index _ i h = record { within = h; same = refl }
+
+none_in : (word : List ℕ) (rows : List Reg) → ((k : ℕ) → k < length rows → NamesNone word (get_or rows k Ctrl))
+    → (o : ℕ) (reg : Reg) → reg_in rows o ≡ Some reg → IsReg reg → IsNamed word reg → ⊥
+none_in word [] none o reg is h n = cc
+none_in word (row ∷ rows) none o reg is h n = elim (truth (has_word_at (row_of row) o)) [
+  | inl t ↦
+      let i = (o - (row_of row).offset) / (row_of row).spacing in
+      let here : with_index row i ≡ reg = let e : Some (with_index row i) ≡ Some reg = rw t at is in cc in
+      let own = own_index row i (rw here h) in
+      none 0 (omega arith) (index_of (with_index row i)) own.within (rw (own.same, here) n)
+  | inr t ↦ none_in word rows (λ k lt. none (suc k) (omega arith)) o reg (rw t at is) h n
+]
+
+-- where the word names no register of any row, it names none
+pub names_none : (word : List ℕ) → ((k : ℕ) → k < length registers → NamesNone word (get_or registers k Ctrl))
+    → (reg : Reg) → IsReg reg → IsNamed word reg → ⊥
+unfolding reg_at
+names_none word none reg h n = none_in word registers none (offset_of reg) reg (reg_at-offset_of reg h) h n
 
 -- ---- the rows
 

@@ -9,8 +9,7 @@ use Rattle.em_tx.specs.Undo.{last_of}
 use Rattle.em_step.specs.Before.{PutsBackGathered}
 use Rattle.em_step.specs.Cells.{Cells, shows}
 use Rattle.em_step.specs.State.{State}
-use Rattle.em_step.specs.Undo.{undo}
-use Rattle.em_step.specs.declared.undo.Undo.{Undo}
+use Rattle.em_step.specs.Undo.{Undo, undo}
 use Rattle.em_journal.specs.Record.{IsRecordAt}
 use Rattle.em_journal.specs.View.{View}
 use Rattle.em_watch.proofs.TracedLaws.{some_is}

@@ -16,11 +16,8 @@ use Rattle.em_tx.specs.declared.undo.TxUndo.TheVariants as tx
 use Rattle.em_step.specs.Before.{TakesOffWire}
 use Rattle.em_step.specs.Cells.{Cells, shows}
 use Rattle.em_step.specs.State.{State}
-use Rattle.em_step.specs.Undo.{undo}
-use Rattle.em_step.specs.declared.undo.Undo.{Undo}
-use Rattle.em_step.specs.declared.undo.Effect.{Effect}
-use Rattle.em_step.specs.declared.undo.Effect.TheVariants.{Nothing, Register, Octets, FewOctets, Arrival}
-use Rattle.em_step.specs.declared.undo.Effect.TheVariants.{RxStep, TxStep, Link, Reset}
+use Rattle.em_step.specs.Undo.{Undo, undo}
+use Rattle.em_step.specs.Undo.{Changed, Nothing, Register, Octets, Arrival, RxStep, TxStep, Link, Reset}
 use Rattle.em_step.specs.Undo.{tx_cells_of, undo_effect, undo_register, word}
 use Rattle.em_journal.specs.Record.{IsRecordAt}
 use Rattle.em_journal.specs.View.{View, states}
@@ -39,12 +36,11 @@ transmit_stays c (tx.Step change) = sent_stays c.wire change.sent
 transmit_stays c (tx.Cleared old) = inl refl
 
 -- an effect leaves the frames that were sent, or takes the last one off
-effect_stays : (c : Cells) (effect : Effect)
+effect_stays : (c : Cells) (effect : Changed)
     → ((undo_effect c effect).wire ≡ c.wire) ⊎ ((undo_effect c effect).wire ≡ front_of c.wire)
 effect_stays c Nothing = inl refl
 effect_stays c (Register old) = inl refl
 effect_stays c (Octets old) = inl refl
-effect_stays c (FewOctets old) = inl refl
 effect_stays c (Arrival old) = inl refl
 effect_stays c (RxStep head old) = inl refl
 effect_stays c (TxStep old head) =
@@ -52,7 +48,7 @@ effect_stays c (TxStep old head) =
 effect_stays c (Link old) = inl refl
 effect_stays c (Reset old) =
     transmit_stays
-    (tx_cells_of (record c { registers = old.value.registers.value; latches = old.value.latches })) old.value.gathered
+    (tx_cells_of (record c { registers = old.registers; latches = old.latches })) old.gathered
 
 front_is_all : (before after : List (List ℕ)) → before ≡ front_of after → length after ≡ length before → before ≡ after
 front_is_all before after front size =

@@ -148,7 +148,7 @@ fn has_sent(machine: &Machine, k: usize) -> bool
     ensures { SentAt machine.now k result }
 {
     match machine.record(k) {
-        Some(record) => record.takes_off_wire(),
+        Some(past) => past.takes_off_wire(),
         None => unreachable!(),
     }
 }

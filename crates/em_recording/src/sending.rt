@@ -43,11 +43,11 @@ impl Sending {
         ensures ok { OnOk result (IsSending machine.now (k + 1) self.new) }
     {
         let last = last_sent(machine, self.sent, k);
-        let Some(record) = machine.record(k) else {
+        let Some(past) = machine.record(k) else {
             unreachable!();
         };
-        record.gathered_before(&mut self.gathered, last)?;
-        if record.takes_off_wire() {
+        past.gathered_before(&mut self.gathered, last)?;
+        if past.takes_off_wire() {
             self.sent -= 1;
         }
         Ok(())

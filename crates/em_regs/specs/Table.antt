@@ -18,7 +18,7 @@ use Rattle.std.specs.Prelude.{
   nat_lt,
   if◌then◌else◌,
 }
-use Rattle.std.specs.Prelude.{List, [], ◌∷◌, Option, Some, None}
+use Rattle.std.specs.Prelude.{List, [], ◌∷◌, Option, Some, None, codes}
 use Rattle.em_regs.specs.declared.reg.Reg.{Reg}
 use Rattle.em_regs.specs.declared.reg.Reg.TheVariants as named
 use Rattle.em_regs.specs.declared.table.Row.{Row}
@@ -42,74 +42,89 @@ acting kind offset mask place = record (word offset mask place) { kind = kind }
 abbrev pub other : ℕ → Kind → ℕ → Row
 other offset kind place = acting kind offset 0xFFFF_FFFF place
 
--- the table: offset, mask or kind, and the place: among the words of a register file, or among the counters
+-- a row with the register's name, of an array the array's name
+pub record NamedRow : Type 0 where
+  pub name : List ℕ
+  pub row : Row
+
+abbrev pub called : List ℕ → Row → NamedRow
+called name row = record { name = name; row = row }
+
+-- the table: name, offset, mask or kind, and the place: among the words of a register file, or among the counters
+abbrev pub named_row_of : Reg → NamedRow
+named_row_of named.Ctrl = called (codes "CTRL") (acting Control 0x00000 0xFFFF_FFFF 0)
+named_row_of named.Status = called (codes "STATUS") (other 0x00008 Status 0)
+named_row_of named.Eerd = called (codes "EERD") (acting EepromRead 0x00014 0x0000_FF00 1)
+named_row_of named.CtrlExt = called (codes "CTRL_EXT") (word 0x00018 0xFFFF_FFFF 2)
+named_row_of named.Fcal = called (codes "FCAL") (word 0x00028 0xFFFF_FFFF 3)
+named_row_of named.Fcah = called (codes "FCAH") (word 0x0002C 0xFFFF_FFFF 4)
+named_row_of named.Fct = called (codes "FCT") (word 0x00030 0xFFFF_FFFF 5)
+named_row_of named.Vet = called (codes "VET") (word 0x00038 0x0000_FFFF 6)
+named_row_of named.Icr = called (codes "ICR") (other 0x000C0 Interrupt 0)
+named_row_of named.Itr = called (codes "ITR") (word 0x000C4 0xFFFF_FFFF 7)
+named_row_of named.Ics = called (codes "ICS") (other 0x000C8 Interrupt 0)
+named_row_of named.Ims = called (codes "IMS") (other 0x000D0 Interrupt 0)
+named_row_of named.Imc = called (codes "IMC") (other 0x000D8 Interrupt 0)
+named_row_of named.Rctl = called (codes "RCTL") (word 0x00100 0xFFFF_FFFF 8)
+named_row_of named.Fcttv = called (codes "FCTTV") (word 0x00170 0xFFFF_FFFF 9)
+named_row_of named.Tctl = called (codes "TCTL") (word 0x00400 0xFFFF_FFFF 10)
+named_row_of named.Tipg = called (codes "TIPG") (word 0x00410 0xFFFF_FFFF 11)
+named_row_of named.Ledctl = called (codes "LEDCTL") (word 0x00E00 0xFFFF_FFFF 12)
+named_row_of named.Pba = called (codes "PBA") (word 0x01000 0xFFFF_FFFF 13)
+named_row_of named.Rdbal = called (codes "RDBAL") (word 0x02800 0xFFFF_FFF0 14)
+named_row_of named.Rdbah = called (codes "RDBAH") (word 0x02804 0xFFFF_FFFF 15)
+named_row_of named.Rdlen = called (codes "RDLEN") (word 0x02808 0x000F_FF80 16)
+named_row_of named.Rdh = called (codes "RDH") (word 0x02810 0x0000_FFFF 17)
+named_row_of named.Rdt = called (codes "RDT") (word 0x02818 0x0000_FFFF 18)
+named_row_of named.Rdtr = called (codes "RDTR") (word 0x02820 0xFFFF_FFFF 19)
+named_row_of named.Rxdctl = called (codes "RXDCTL") (word 0x02828 0xFFFF_FFFF 20)
+named_row_of named.Radv = called (codes "RADV") (word 0x0282C 0xFFFF_FFFF 21)
+named_row_of named.Tdbal = called (codes "TDBAL") (word 0x03800 0xFFFF_FFF0 22)
+named_row_of named.Tdbah = called (codes "TDBAH") (word 0x03804 0xFFFF_FFFF 23)
+named_row_of named.Tdlen = called (codes "TDLEN") (word 0x03808 0x000F_FF80 24)
+named_row_of named.Tdh = called (codes "TDH") (word 0x03810 0x0000_FFFF 25)
+named_row_of named.Tdt = called (codes "TDT") (word 0x03818 0x0000_FFFF 26)
+named_row_of named.Tidv = called (codes "TIDV") (word 0x03820 0xFFFF_FFFF 27)
+named_row_of named.Txdctl = called (codes "TXDCTL") (word 0x03828 0xFFFF_FFFF 28)
+named_row_of named.Tadv = called (codes "TADV") (word 0x0382C 0xFFFF_FFFF 29)
+named_row_of named.Mpc = called (codes "MPC") (other 0x04010 Counter 0)
+named_row_of named.Prc64 = called (codes "PRC64") (other 0x0405C Counter 1)
+named_row_of named.Prc127 = called (codes "PRC127") (other 0x04060 Counter 2)
+named_row_of named.Prc255 = called (codes "PRC255") (other 0x04064 Counter 3)
+named_row_of named.Prc511 = called (codes "PRC511") (other 0x04068 Counter 4)
+named_row_of named.Prc1023 = called (codes "PRC1023") (other 0x0406C Counter 5)
+named_row_of named.Prc1522 = called (codes "PRC1522") (other 0x04070 Counter 6)
+named_row_of named.Gprc = called (codes "GPRC") (other 0x04074 Counter 7)
+named_row_of named.Bprc = called (codes "BPRC") (other 0x04078 Counter 8)
+named_row_of named.Mprc = called (codes "MPRC") (other 0x0407C Counter 9)
+named_row_of named.Gptc = called (codes "GPTC") (other 0x04080 Counter 10)
+named_row_of named.Gorcl = called (codes "GORCL") (other 0x04088 Counter 11)
+named_row_of named.Gorch = called (codes "GORCH") (other 0x0408C Counter 12)
+named_row_of named.Gotcl = called (codes "GOTCL") (other 0x04090 Counter 13)
+named_row_of named.Gotch = called (codes "GOTCH") (other 0x04094 Counter 14)
+named_row_of named.Rnbc = called (codes "RNBC") (other 0x040A0 Counter 15)
+named_row_of named.Ruc = called (codes "RUC") (other 0x040A4 Counter 16)
+named_row_of named.Roc = called (codes "ROC") (other 0x040AC Counter 17)
+named_row_of named.Ptc64 = called (codes "PTC64") (other 0x040D8 Counter 18)
+named_row_of named.Ptc127 = called (codes "PTC127") (other 0x040DC Counter 19)
+named_row_of named.Ptc255 = called (codes "PTC255") (other 0x040E0 Counter 20)
+named_row_of named.Ptc511 = called (codes "PTC511") (other 0x040E4 Counter 21)
+named_row_of named.Ptc1023 = called (codes "PTC1023") (other 0x040E8 Counter 22)
+named_row_of named.Ptc1522 = called (codes "PTC1522") (other 0x040EC Counter 23)
+named_row_of named.Mptc = called (codes "MPTC") (other 0x040F0 Counter 24)
+named_row_of named.Bptc = called (codes "BPTC") (other 0x040F4 Counter 25)
+named_row_of named.Rxcsum = called (codes "RXCSUM") (word 0x05000 0xFFFF_FFFF 30)
+named_row_of (named.Mta _) = called (codes "MTA") (array 0x05200 128 4 0xFFFF_FFFF 31)
+named_row_of (named.Ral _) = called (codes "RAL") (array 0x05400 16 8 0xFFFF_FFFF 159)
+named_row_of (named.Rah _) = called (codes "RAH") (array 0x05404 16 8 0x8003_FFFF 175)
+named_row_of (named.Vfta _) = called (codes "VFTA") (array 0x05600 128 4 0xFFFF_FFFF 191)
+
 abbrev pub row_of : Reg → Row
-row_of named.Ctrl = acting Control 0x00000 0xFFFF_FFFF 0
-row_of named.Status = other 0x00008 Status 0
-row_of named.Eerd = acting EepromRead 0x00014 0x0000_FF00 1
-row_of named.CtrlExt = word 0x00018 0xFFFF_FFFF 2
-row_of named.Fcal = word 0x00028 0xFFFF_FFFF 3
-row_of named.Fcah = word 0x0002C 0xFFFF_FFFF 4
-row_of named.Fct = word 0x00030 0xFFFF_FFFF 5
-row_of named.Vet = word 0x00038 0x0000_FFFF 6
-row_of named.Icr = other 0x000C0 Interrupt 0
-row_of named.Itr = word 0x000C4 0xFFFF_FFFF 7
-row_of named.Ics = other 0x000C8 Interrupt 0
-row_of named.Ims = other 0x000D0 Interrupt 0
-row_of named.Imc = other 0x000D8 Interrupt 0
-row_of named.Rctl = word 0x00100 0xFFFF_FFFF 8
-row_of named.Fcttv = word 0x00170 0xFFFF_FFFF 9
-row_of named.Tctl = word 0x00400 0xFFFF_FFFF 10
-row_of named.Tipg = word 0x00410 0xFFFF_FFFF 11
-row_of named.Ledctl = word 0x00E00 0xFFFF_FFFF 12
-row_of named.Pba = word 0x01000 0xFFFF_FFFF 13
-row_of named.Rdbal = word 0x02800 0xFFFF_FFF0 14
-row_of named.Rdbah = word 0x02804 0xFFFF_FFFF 15
-row_of named.Rdlen = word 0x02808 0x000F_FF80 16
-row_of named.Rdh = word 0x02810 0x0000_FFFF 17
-row_of named.Rdt = word 0x02818 0x0000_FFFF 18
-row_of named.Rdtr = word 0x02820 0xFFFF_FFFF 19
-row_of named.Rxdctl = word 0x02828 0xFFFF_FFFF 20
-row_of named.Radv = word 0x0282C 0xFFFF_FFFF 21
-row_of named.Tdbal = word 0x03800 0xFFFF_FFF0 22
-row_of named.Tdbah = word 0x03804 0xFFFF_FFFF 23
-row_of named.Tdlen = word 0x03808 0x000F_FF80 24
-row_of named.Tdh = word 0x03810 0x0000_FFFF 25
-row_of named.Tdt = word 0x03818 0x0000_FFFF 26
-row_of named.Tidv = word 0x03820 0xFFFF_FFFF 27
-row_of named.Txdctl = word 0x03828 0xFFFF_FFFF 28
-row_of named.Tadv = word 0x0382C 0xFFFF_FFFF 29
-row_of named.Mpc = other 0x04010 Counter 0
-row_of named.Prc64 = other 0x0405C Counter 1
-row_of named.Prc127 = other 0x04060 Counter 2
-row_of named.Prc255 = other 0x04064 Counter 3
-row_of named.Prc511 = other 0x04068 Counter 4
-row_of named.Prc1023 = other 0x0406C Counter 5
-row_of named.Prc1522 = other 0x04070 Counter 6
-row_of named.Gprc = other 0x04074 Counter 7
-row_of named.Bprc = other 0x04078 Counter 8
-row_of named.Mprc = other 0x0407C Counter 9
-row_of named.Gptc = other 0x04080 Counter 10
-row_of named.Gorcl = other 0x04088 Counter 11
-row_of named.Gorch = other 0x0408C Counter 12
-row_of named.Gotcl = other 0x04090 Counter 13
-row_of named.Gotch = other 0x04094 Counter 14
-row_of named.Rnbc = other 0x040A0 Counter 15
-row_of named.Ruc = other 0x040A4 Counter 16
-row_of named.Roc = other 0x040AC Counter 17
-row_of named.Ptc64 = other 0x040D8 Counter 18
-row_of named.Ptc127 = other 0x040DC Counter 19
-row_of named.Ptc255 = other 0x040E0 Counter 20
-row_of named.Ptc511 = other 0x040E4 Counter 21
-row_of named.Ptc1023 = other 0x040E8 Counter 22
-row_of named.Ptc1522 = other 0x040EC Counter 23
-row_of named.Mptc = other 0x040F0 Counter 24
-row_of named.Bptc = other 0x040F4 Counter 25
-row_of named.Rxcsum = word 0x05000 0xFFFF_FFFF 30
-row_of (named.Mta _) = array 0x05200 128 4 0xFFFF_FFFF 31
-row_of (named.Ral _) = array 0x05400 16 8 0xFFFF_FFFF 159
-row_of (named.Rah _) = array 0x05404 16 8 0x8003_FFFF 175
-row_of (named.Vfta _) = array 0x05600 128 4 0xFFFF_FFFF 191
+row_of reg = (named_row_of reg).row
+
+-- the manual's name, of an array the array's name
+abbrev pub stem_of : Reg → List ℕ
+stem_of reg = (named_row_of reg).name
 
 -- which of its row's words a register is
 abbrev pub index_of : Reg → ℕ

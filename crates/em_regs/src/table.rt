@@ -1,7 +1,7 @@
 //! The table of the registers: where each lies, what an access does, and which word keeps it.
 ghost use Rattle.std.specs.Prelude.{◌≡◌, ◌<◌, ◌+◌, ◌*◌, ◌/◌, ◌%◌, IsTrue};
 ghost use Rattle.em_regs.specs.declared.reg.Reg.{Reg};
-ghost use Rattle.em_regs.specs.Table.{is_stored_kind, row_of, reg_at, NoneFrom};
+ghost use Rattle.em_regs.specs.Table.{is_stored_kind, row_of, stem_of, reg_at, NoneFrom};
 
 use crate::reg::Reg;
 
@@ -50,6 +50,13 @@ pub struct Row {
     pub place: usize,
 }
 
+/// A row of the table with the manual's name: of an array, the array's name.
+#[derive(Clone, Copy)]
+struct NamedRow {
+    name: &'static str,
+    row: Row,
+}
+
 /// The registers lie below this offset, each at a multiple of 4 octets.
 pub const SPACE: u32 = 0x05800;
 
@@ -83,19 +90,22 @@ const INDEX_BITS: u32 = 0x0000_FFFF;
 /// RAH: two octets of the address, AS and AV.
 const RAH_BITS: u32 = 0x8003_FFFF;
 
-/// One register: offset, kind, mask, place. An array: offset; words, spacing, and then the same.
+/// One register: name, offset, kind, mask, place. An array: name, offset; words, spacing, and then the same.
 macro_rules! row {
-    ($offset:literal, $kind:ident, $mask:ident, $place:literal) => {
-        row!($offset; 1, 4, $kind, $mask, $place)
+    ($name:literal, $offset:literal, $kind:ident, $mask:ident, $place:literal) => {
+        row!($name, $offset; 1, 4, $kind, $mask, $place)
     };
-    ($offset:literal; $words:literal, $spacing:literal, $kind:ident, $mask:ident, $place:literal) => {
-        &Row {
-            offset: $offset,
-            words: $words,
-            spacing: $spacing,
-            kind: Kind::$kind,
-            mask: $mask,
-            place: $place,
+    ($name:literal, $offset:literal; $words:literal, $spacing:literal, $kind:ident, $mask:ident, $place:literal) => {
+        &NamedRow {
+            name: $name,
+            row: Row {
+                offset: $offset,
+                words: $words,
+                spacing: $spacing,
+                kind: Kind::$kind,
+                mask: $mask,
+                place: $place,
+            },
         }
     };
 }
@@ -103,77 +113,93 @@ macro_rules! row {
 impl Reg {
     /// The register's row of the table (manual, chapter on register descriptions).
     #[inline(always)]
-    #[rattlefmt::skip]
     pub fn row(self) -> &'static Row
         ensures { result.now ≡ row_of self }
     {
+        &self.named_row().row
+    }
+
+    /// The manual's name of the register: of an array's, the array's name, as `MTA`.
+    pub fn stem(self) -> &'static str
+        ensures { result.now ≡ stem_of self }
+    {
+        self.named_row().name
+    }
+
+    /// The table.
+    #[inline(always)]
+    #[rattlefmt::skip]
+    fn named_row(self) -> &'static NamedRow
+        ensures row { result.now.row ≡ row_of self }
+        ensures name { result.now.name.now ≡ stem_of self }
+    {
         match self {
-            Reg::Ctrl =>        row!(0x00000,          Control,    EVERY_BIT,   0),
-            Reg::Status =>      row!(0x00008,          Status,     EVERY_BIT,   0),
-            Reg::Eerd =>        row!(0x00014,          EepromRead, EERD_BITS,   1),
-            Reg::CtrlExt =>     row!(0x00018,          Stored,     EVERY_BIT,   2),
-            Reg::Fcal =>        row!(0x00028,          Stored,     EVERY_BIT,   3),
-            Reg::Fcah =>        row!(0x0002C,          Stored,     EVERY_BIT,   4),
-            Reg::Fct =>         row!(0x00030,          Stored,     EVERY_BIT,   5),
-            Reg::Vet =>         row!(0x00038,          Stored,     INDEX_BITS,  6),
-            Reg::Icr =>         row!(0x000C0,          Interrupt,  EVERY_BIT,   0),
-            Reg::Itr =>         row!(0x000C4,          Stored,     EVERY_BIT,   7),
-            Reg::Ics =>         row!(0x000C8,          Interrupt,  EVERY_BIT,   0),
-            Reg::Ims =>         row!(0x000D0,          Interrupt,  EVERY_BIT,   0),
-            Reg::Imc =>         row!(0x000D8,          Interrupt,  EVERY_BIT,   0),
-            Reg::Rctl =>        row!(0x00100,          Stored,     EVERY_BIT,   8),
-            Reg::Fcttv =>       row!(0x00170,          Stored,     EVERY_BIT,   9),
-            Reg::Tctl =>        row!(0x00400,          Stored,     EVERY_BIT,   10),
-            Reg::Tipg =>        row!(0x00410,          Stored,     EVERY_BIT,   11),
-            Reg::Ledctl =>      row!(0x00E00,          Stored,     EVERY_BIT,   12),
-            Reg::Pba =>         row!(0x01000,          Stored,     EVERY_BIT,   13),
-            Reg::Rdbal =>       row!(0x02800,          Stored,     BASE_BITS,   14),
-            Reg::Rdbah =>       row!(0x02804,          Stored,     EVERY_BIT,   15),
-            Reg::Rdlen =>       row!(0x02808,          Stored,     LENGTH_BITS, 16),
-            Reg::Rdh =>         row!(0x02810,          Stored,     INDEX_BITS,  17),
-            Reg::Rdt =>         row!(0x02818,          Stored,     INDEX_BITS,  18),
-            Reg::Rdtr =>        row!(0x02820,          Stored,     EVERY_BIT,   19),
-            Reg::Rxdctl =>      row!(0x02828,          Stored,     EVERY_BIT,   20),
-            Reg::Radv =>        row!(0x0282C,          Stored,     EVERY_BIT,   21),
-            Reg::Tdbal =>       row!(0x03800,          Stored,     BASE_BITS,   22),
-            Reg::Tdbah =>       row!(0x03804,          Stored,     EVERY_BIT,   23),
-            Reg::Tdlen =>       row!(0x03808,          Stored,     LENGTH_BITS, 24),
-            Reg::Tdh =>         row!(0x03810,          Stored,     INDEX_BITS,  25),
-            Reg::Tdt =>         row!(0x03818,          Stored,     INDEX_BITS,  26),
-            Reg::Tidv =>        row!(0x03820,          Stored,     EVERY_BIT,   27),
-            Reg::Txdctl =>      row!(0x03828,          Stored,     EVERY_BIT,   28),
-            Reg::Tadv =>        row!(0x0382C,          Stored,     EVERY_BIT,   29),
-            Reg::Mpc =>         row!(0x04010,          Counter,    EVERY_BIT,   0),
-            Reg::Prc64 =>       row!(0x0405C,          Counter,    EVERY_BIT,   1),
-            Reg::Prc127 =>      row!(0x04060,          Counter,    EVERY_BIT,   2),
-            Reg::Prc255 =>      row!(0x04064,          Counter,    EVERY_BIT,   3),
-            Reg::Prc511 =>      row!(0x04068,          Counter,    EVERY_BIT,   4),
-            Reg::Prc1023 =>     row!(0x0406C,          Counter,    EVERY_BIT,   5),
-            Reg::Prc1522 =>     row!(0x04070,          Counter,    EVERY_BIT,   6),
-            Reg::Gprc =>        row!(0x04074,          Counter,    EVERY_BIT,   7),
-            Reg::Bprc =>        row!(0x04078,          Counter,    EVERY_BIT,   8),
-            Reg::Mprc =>        row!(0x0407C,          Counter,    EVERY_BIT,   9),
-            Reg::Gptc =>        row!(0x04080,          Counter,    EVERY_BIT,   10),
-            Reg::Gorcl =>       row!(0x04088,          Counter,    EVERY_BIT,   11),
-            Reg::Gorch =>       row!(0x0408C,          Counter,    EVERY_BIT,   12),
-            Reg::Gotcl =>       row!(0x04090,          Counter,    EVERY_BIT,   13),
-            Reg::Gotch =>       row!(0x04094,          Counter,    EVERY_BIT,   14),
-            Reg::Rnbc =>        row!(0x040A0,          Counter,    EVERY_BIT,   15),
-            Reg::Ruc =>         row!(0x040A4,          Counter,    EVERY_BIT,   16),
-            Reg::Roc =>         row!(0x040AC,          Counter,    EVERY_BIT,   17),
-            Reg::Ptc64 =>       row!(0x040D8,          Counter,    EVERY_BIT,   18),
-            Reg::Ptc127 =>      row!(0x040DC,          Counter,    EVERY_BIT,   19),
-            Reg::Ptc255 =>      row!(0x040E0,          Counter,    EVERY_BIT,   20),
-            Reg::Ptc511 =>      row!(0x040E4,          Counter,    EVERY_BIT,   21),
-            Reg::Ptc1023 =>     row!(0x040E8,          Counter,    EVERY_BIT,   22),
-            Reg::Ptc1522 =>     row!(0x040EC,          Counter,    EVERY_BIT,   23),
-            Reg::Mptc =>        row!(0x040F0,          Counter,    EVERY_BIT,   24),
-            Reg::Bptc =>        row!(0x040F4,          Counter,    EVERY_BIT,   25),
-            Reg::Rxcsum =>      row!(0x05000,          Stored,     EVERY_BIT,   30),
-            Reg::Mta(_) =>      row!(0x05200; 128, 4,  Stored,     EVERY_BIT,   31),
-            Reg::Ral(_) =>      row!(0x05400; 16, 8,   Stored,     EVERY_BIT,   159),
-            Reg::Rah(_) =>      row!(0x05404; 16, 8,   Stored,     RAH_BITS,    175),
-            Reg::Vfta(_) =>     row!(0x05600; 128, 4,  Stored,     EVERY_BIT,   191),
+            Reg::Ctrl =>     row!("CTRL",     0x00000,          Control,    EVERY_BIT,   0),
+            Reg::Status =>   row!("STATUS",   0x00008,          Status,     EVERY_BIT,   0),
+            Reg::Eerd =>     row!("EERD",     0x00014,          EepromRead, EERD_BITS,   1),
+            Reg::CtrlExt =>  row!("CTRL_EXT", 0x00018,          Stored,     EVERY_BIT,   2),
+            Reg::Fcal =>     row!("FCAL",     0x00028,          Stored,     EVERY_BIT,   3),
+            Reg::Fcah =>     row!("FCAH",     0x0002C,          Stored,     EVERY_BIT,   4),
+            Reg::Fct =>      row!("FCT",      0x00030,          Stored,     EVERY_BIT,   5),
+            Reg::Vet =>      row!("VET",      0x00038,          Stored,     INDEX_BITS,  6),
+            Reg::Icr =>      row!("ICR",      0x000C0,          Interrupt,  EVERY_BIT,   0),
+            Reg::Itr =>      row!("ITR",      0x000C4,          Stored,     EVERY_BIT,   7),
+            Reg::Ics =>      row!("ICS",      0x000C8,          Interrupt,  EVERY_BIT,   0),
+            Reg::Ims =>      row!("IMS",      0x000D0,          Interrupt,  EVERY_BIT,   0),
+            Reg::Imc =>      row!("IMC",      0x000D8,          Interrupt,  EVERY_BIT,   0),
+            Reg::Rctl =>     row!("RCTL",     0x00100,          Stored,     EVERY_BIT,   8),
+            Reg::Fcttv =>    row!("FCTTV",    0x00170,          Stored,     EVERY_BIT,   9),
+            Reg::Tctl =>     row!("TCTL",     0x00400,          Stored,     EVERY_BIT,   10),
+            Reg::Tipg =>     row!("TIPG",     0x00410,          Stored,     EVERY_BIT,   11),
+            Reg::Ledctl =>   row!("LEDCTL",   0x00E00,          Stored,     EVERY_BIT,   12),
+            Reg::Pba =>      row!("PBA",      0x01000,          Stored,     EVERY_BIT,   13),
+            Reg::Rdbal =>    row!("RDBAL",    0x02800,          Stored,     BASE_BITS,   14),
+            Reg::Rdbah =>    row!("RDBAH",    0x02804,          Stored,     EVERY_BIT,   15),
+            Reg::Rdlen =>    row!("RDLEN",    0x02808,          Stored,     LENGTH_BITS, 16),
+            Reg::Rdh =>      row!("RDH",      0x02810,          Stored,     INDEX_BITS,  17),
+            Reg::Rdt =>      row!("RDT",      0x02818,          Stored,     INDEX_BITS,  18),
+            Reg::Rdtr =>     row!("RDTR",     0x02820,          Stored,     EVERY_BIT,   19),
+            Reg::Rxdctl =>   row!("RXDCTL",   0x02828,          Stored,     EVERY_BIT,   20),
+            Reg::Radv =>     row!("RADV",     0x0282C,          Stored,     EVERY_BIT,   21),
+            Reg::Tdbal =>    row!("TDBAL",    0x03800,          Stored,     BASE_BITS,   22),
+            Reg::Tdbah =>    row!("TDBAH",    0x03804,          Stored,     EVERY_BIT,   23),
+            Reg::Tdlen =>    row!("TDLEN",    0x03808,          Stored,     LENGTH_BITS, 24),
+            Reg::Tdh =>      row!("TDH",      0x03810,          Stored,     INDEX_BITS,  25),
+            Reg::Tdt =>      row!("TDT",      0x03818,          Stored,     INDEX_BITS,  26),
+            Reg::Tidv =>     row!("TIDV",     0x03820,          Stored,     EVERY_BIT,   27),
+            Reg::Txdctl =>   row!("TXDCTL",   0x03828,          Stored,     EVERY_BIT,   28),
+            Reg::Tadv =>     row!("TADV",     0x0382C,          Stored,     EVERY_BIT,   29),
+            Reg::Mpc =>      row!("MPC",      0x04010,          Counter,    EVERY_BIT,   0),
+            Reg::Prc64 =>    row!("PRC64",    0x0405C,          Counter,    EVERY_BIT,   1),
+            Reg::Prc127 =>   row!("PRC127",   0x04060,          Counter,    EVERY_BIT,   2),
+            Reg::Prc255 =>   row!("PRC255",   0x04064,          Counter,    EVERY_BIT,   3),
+            Reg::Prc511 =>   row!("PRC511",   0x04068,          Counter,    EVERY_BIT,   4),
+            Reg::Prc1023 =>  row!("PRC1023",  0x0406C,          Counter,    EVERY_BIT,   5),
+            Reg::Prc1522 =>  row!("PRC1522",  0x04070,          Counter,    EVERY_BIT,   6),
+            Reg::Gprc =>     row!("GPRC",     0x04074,          Counter,    EVERY_BIT,   7),
+            Reg::Bprc =>     row!("BPRC",     0x04078,          Counter,    EVERY_BIT,   8),
+            Reg::Mprc =>     row!("MPRC",     0x0407C,          Counter,    EVERY_BIT,   9),
+            Reg::Gptc =>     row!("GPTC",     0x04080,          Counter,    EVERY_BIT,   10),
+            Reg::Gorcl =>    row!("GORCL",    0x04088,          Counter,    EVERY_BIT,   11),
+            Reg::Gorch =>    row!("GORCH",    0x0408C,          Counter,    EVERY_BIT,   12),
+            Reg::Gotcl =>    row!("GOTCL",    0x04090,          Counter,    EVERY_BIT,   13),
+            Reg::Gotch =>    row!("GOTCH",    0x04094,          Counter,    EVERY_BIT,   14),
+            Reg::Rnbc =>     row!("RNBC",     0x040A0,          Counter,    EVERY_BIT,   15),
+            Reg::Ruc =>      row!("RUC",      0x040A4,          Counter,    EVERY_BIT,   16),
+            Reg::Roc =>      row!("ROC",      0x040AC,          Counter,    EVERY_BIT,   17),
+            Reg::Ptc64 =>    row!("PTC64",    0x040D8,          Counter,    EVERY_BIT,   18),
+            Reg::Ptc127 =>   row!("PTC127",   0x040DC,          Counter,    EVERY_BIT,   19),
+            Reg::Ptc255 =>   row!("PTC255",   0x040E0,          Counter,    EVERY_BIT,   20),
+            Reg::Ptc511 =>   row!("PTC511",   0x040E4,          Counter,    EVERY_BIT,   21),
+            Reg::Ptc1023 =>  row!("PTC1023",  0x040E8,          Counter,    EVERY_BIT,   22),
+            Reg::Ptc1522 =>  row!("PTC1522",  0x040EC,          Counter,    EVERY_BIT,   23),
+            Reg::Mptc =>     row!("MPTC",     0x040F0,          Counter,    EVERY_BIT,   24),
+            Reg::Bptc =>     row!("BPTC",     0x040F4,          Counter,    EVERY_BIT,   25),
+            Reg::Rxcsum =>   row!("RXCSUM",   0x05000,          Stored,     EVERY_BIT,   30),
+            Reg::Mta(_) =>   row!("MTA",      0x05200; 128, 4,  Stored,     EVERY_BIT,   31),
+            Reg::Ral(_) =>   row!("RAL",      0x05400; 16, 8,   Stored,     EVERY_BIT,   159),
+            Reg::Rah(_) =>   row!("RAH",      0x05404; 16, 8,   Stored,     RAH_BITS,    175),
+            Reg::Vfta(_) =>  row!("VFTA",     0x05600; 128, 4,  Stored,     EVERY_BIT,   191),
         }
     }
 }

@@ -5,13 +5,11 @@ use Rattle.std.proofs.lemmas.List.{take_at, drop_at, length-take-le, take_more_s
 use Rattle.std.proofs.lemmas.List.Sums.{sum_by_push}
 use Rattle.std.proofs.lemmas.List.Elements.{All-push, All-same}
 use Rattle.em_mem.specs.Memory.{put}
-use Rattle.em_rx.specs.Ring.{turn, wrap}
+use Rattle.em_mem.specs.Ring.{ring_put, turn, wrap}
 use Rattle.em_rx.specs.Frame.{Frame}
 use Rattle.em_rx.specs.Fifo.{Cells, IsSound, IsWithin, HasRoom, after_arrival, cut, live, octets_in, shows, total}
-use Rattle.em_rx.specs.FramePatch.{FramePatch}
-use Rattle.em_rx.specs.Undo.{FitsFrame, with_patch}
 use Rattle.em_rx.specs.declared.places.Entry.{Entry}
-use Rattle.em_rx.proofs.RingLaws.{length-ring_put, length-turn, turn-ring_put, turn-set, wrap-below}
+use Rattle.em_mem.proofs.RingLaws.{length-ring_put, length-turn, turn-ring_put, turn-set, wrap-below}
 use Rattle.em_rx.proofs.CutLaws.{IsLong, cut_push, cut_same, few, octets_in-cut, within_push}
 
 -- the octets that the places count are those of the frames
@@ -25,13 +23,11 @@ octets_in-shows c sound =
 pub octets_in_at : (c v : Cells) → IsSound c → c ≡ v → octets_in (shows v) ≡ c.places.used
 octets_in_at c v sound is = ap (λ (x : Cells). octets_in (shows x)) (sym is) ∙ octets_in-shows c sound
 
--- what puts the octets d and the entry e behind the last frame
-abbrev pub arrival : Cells → List ℕ → Entry → FramePatch
-arrival c d e = record {
-  octets = d;
-  at = wrap 49_152 (c.places.head + c.places.used);
-  entry = e;
-  index = wrap 877 (c.places.first + c.places.count);
+-- the cells with the octets d and the entry e behind the last frame
+abbrev pub with_arrival : Cells → List ℕ → Entry → Cells
+with_arrival c d e = record {
+  octets = ring_put c.octets (wrap 49_152 (c.places.head + c.places.used)) d;
+  entries = set c.entries (wrap 877 (c.places.first + c.places.count)) e;
   places = record c.places { count = c.places.count + 1; used = c.places.used + length d };
 }
 
@@ -50,14 +46,14 @@ module _ (c : Cells) (d : List ℕ) (e : Entry) (sound : IsSound c) (is : length
   length-E = length-turn c.places.first c.entries ∙ sound.entries
 
   -- the ring of entries has a place
-  has_place : c.places.count < 877
+  pub has_place : c.places.count < 877
   has_place =
       let n : length (live c) ≡ c.places.count
       = length-take-le c.places.count E (omega (arith, length-E, sound.count)) in
       omega (arith, few (live c) sound.least, sound.used, room, long)
 
   abbrev after : Cells
-  after = with_patch c (arrival c d e)
+  after = with_arrival c d e
 
   octets_seen : turn c.places.head after.octets ≡ put T c.places.used d
   octets_seen =
@@ -99,7 +95,7 @@ module _ (c : Cells) (d : List ℕ) (e : Entry) (sound : IsSound c) (is : length
       ∙ ap₂ (λ (fs : List Frame) (o : List ℕ). fs ++ record { octets = o; tag = e.tag } ∷ []) others_stay last_is in
       λ i. record { frames = frames i; taken = c.places.taken }
 
-  arrival_sound : IsSound after
+  pub arrival_sound : IsSound after
   arrival_sound = record {
     octets =
         length-ring_put c.octets (wrap 49_152 (c.places.head + c.places.used)) d (omega (arith, sound.octets, room))
@@ -118,29 +114,31 @@ module _ (c : Cells) (d : List ℕ) (e : Entry) (sound : IsSound c) (is : length
         (within_push c.places.taken (live c) e sound.within (omega (arith, is, long)));
   }
 
-  pub arrival_fits : FitsFrame c (arrival c d e)
-  arrival_fits = record {
-    at =
-        let inside : c.places.head + c.places.used < 49_152 + 49_152 = omega (arith, sound.head, room, long) in
-        omega (arith, sound.octets, wrap-below 49_152 (c.places.head + c.places.used) inside (omega arith));
-    size = omega (arith, sound.octets, room);
-    index =
-        let inside : c.places.first + c.places.count < 877 + 877 = omega (arith, sound.first, has_place) in
-        omega (arith, sound.entries, wrap-below 877 (c.places.first + c.places.count) inside (omega arith));
-    sound = arrival_sound;
-  }
+  -- where the frame and its entry lie
+  pub frame_at : wrap 49_152 (c.places.head + c.places.used) < 49_152
+  frame_at = wrap-below 49_152 (c.places.head + c.places.used) (omega (arith, sound.head, room, long)) (omega arith)
 
--- both, of cells and a patch that are known to be these
-pub arrival_at : (c v : Cells) (d : List ℕ) (e : Entry) (p : FramePatch) →
-    IsSound c → c ≡ v → length d ≡ e.len → HasRoom (shows v) (length d) → 56 ≤ length d → p ≡ arrival c d e →
-    FitsFrame v p × (shows (with_patch v p) ≡ after_arrival (shows v) (record { octets = d; tag = e.tag }))
-arrival_at c v d e p sound is len room long patch =
-    let used : c.places.used + length d ≤ 49_152 = omega (arith, octets_in_at c v sound is, room) in
-    subst
-    (
-    λ (x : Cells × FramePatch).
-    FitsFrame x.0 x.1
-    × (shows (with_patch x.0 x.1) ≡ after_arrival (shows x.0) (record { octets = d; tag = e.tag }))
+  pub entry_at : wrap 877 (c.places.first + c.places.count) < 877
+  entry_at = wrap-below 877 (c.places.first + c.places.count) (omega (arith, sound.first, has_place)) (omega arith)
+
+-- a frame that has room at the value that the cells are
+pub room_at : (c v : Cells) (n : ℕ) → IsSound c → c ≡ v → HasRoom (shows v) n → c.places.used + n ≤ 49_152
+room_at c v n sound is room = omega (arith, octets_in_at c v sound is, room)
+
+-- the cells are those, written one part after the other
+pub arrived : (c : Cells) (d : List ℕ) (e : Entry) (k j : ℕ) (octets : List ℕ) →
+    k ≡ wrap 49_152 (c.places.head + c.places.used) → j ≡ wrap 877 (c.places.first + c.places.count) →
+    octets ≡ ring_put c.octets k d → (new : Cells) → new ≡ record {
+      octets = octets;
+      entries = set c.entries j e;
+      places = record c.places { count = c.places.count + 1; used = c.places.used + length d };
+    } → new ≡ with_arrival c d e
+arrived c d e k j octets at index wrote new is =
+    is
+    ∙ (
+    λ i. record {
+      octets = (wrote ∙ ap (λ (n : ℕ). ring_put c.octets n d) at) i;
+      entries = set c.entries (index i) e;
+      places = record c.places { count = c.places.count + 1; used = c.places.used + length d };
+    }
     )
-    (λ i. (is i, sym patch i))
-    (arrival_fits c d e sound len used long, arrival_shows c d e sound len used long)

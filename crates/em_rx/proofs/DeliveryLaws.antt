@@ -1,20 +1,22 @@
 -- What cells show after octets of the first frame went into guest memory, and that they are sound.
-use Rattle.std.proofs.Common.{◌≡◌, ℕ, ◌+◌, ◌-◌, ◌≤◌, ◌<◌, Bool, true, false, nat_lt, if◌then◌else◌, List, [], ◌∷◌}
-use Rattle.std.proofs.Common.{length, take, drop, get_or, refl, sym, ap, subst, ◌∙◌, arith, length-drop}
+use Rattle.std.proofs.Common.{◌≡◌, ℕ, ◌+◌, ◌-◌, ◌≤◌, ◌<◌, Bool, true, false, nat_le, nat_lt, List, [], ◌∷◌}
+use Rattle.std.proofs.Common.{if◌then◌else◌, inl, inr, length, take, drop, get_or, refl, sym, ap, subst, ◌∙◌, arith, length-drop}
 use Rattle.std.proofs.lemmas.List.{length-take-le, take-append-le, take-take, drop-take, drop_more, get_or-take}
 use Rattle.std.proofs.lemmas.List.{get_or_append_left, get_or-drop}
 use Rattle.std.proofs.lemmas.List.Sums.{sum_by-cons}
 use Rattle.std.proofs.lemmas.List.Elements.{All-head, All-same, All-tail}
+use Rattle.std.proofs.lemmas.Bool.{cases_lt}
 use Rattle.std.proofs.lemmas.Bool.Decides.{nat_tests}
 use Rattle.std.specs.Prelude.{All, None}
 use Rattle.em_mem.specs.Memory.{part}
-use Rattle.em_rx.specs.Ring.{ring_part, turn, wrap}
+use Rattle.em_mem.specs.Ring.{ring_part, turn, wrap}
 use Rattle.em_rx.specs.Frame.{Frame}
 use Rattle.em_rx.specs.Fifo.{Cells, Fifo, IsFirst, IsSound, IsWithin, cut, first, live, next, rest, shows, total}
-use Rattle.em_rx.specs.Undo.{IsMove}
+use Rattle.em_rx.specs.Undo.{IsMove, entry_left, moved_back, places_with_first}
+use Rattle.em_mem.specs.OldOctets.{back_by}
 use Rattle.em_rx.specs.declared.places.Entry.{Entry}
 use Rattle.em_rx.specs.declared.places.Places.{Places}
-use Rattle.em_rx.proofs.RingLaws.{length-turn, turn-wrap, wrap-below}
+use Rattle.em_mem.proofs.RingLaws.{length-turn, turn-wrap, wrap-below}
 use Rattle.em_rx.proofs.CutLaws.{IsLong, cut_same, length-cut}
 
 -- the places with the first frame gone, which has n octets
@@ -26,6 +28,19 @@ places_left p n = record {
   taken = 0;
   used = p.used - n;
 }
+
+-- a place, and then the place before it
+back_by-wrap : (size k n : ℕ) → k < size → n ≤ size → back_by size n (wrap size (k + n)) ≡ k
+back_by-wrap size k n inside less = elim (cases_lt (k + n) size) [
+  | inl low ↦
+      let w : wrap size (k + n) ≡ k + n = grind (arith, nat_tests) in
+      let b : back_by size n (k + n) ≡ k + n - n = grind (arith, nat_tests) in
+      ap (back_by size n) w ∙ b ∙ omega arith
+  | inr high ↦
+      let w : wrap size (k + n) ≡ k + n - size = grind (arith, nat_tests) in
+      let b : back_by size n (k + n - size) ≡ k + n - size + size - n = grind (arith, nat_tests) in
+      ap (back_by size n) w ∙ b ∙ omega arith
+]
 
 -- frames are as many as the places count
 pub frames_are : (c : Cells) → IsSound c → length (shows c).frames ≡ c.places.count
@@ -258,3 +273,47 @@ module _ (c v : Cells) (sound : IsSound c) (is : c ≡ v) (frames : 0 < length (
   last_at n len whole h =
       subst (λ (x : Cells × ℕ). IsMove x.0 (places_left c.places x.1) n) (λ i. (is i, (len_here ∙ sym whole) i))
       (gone_moves c sound e (drop 1 (live c)) live_is n (omega (arith, len_here)) some)
+
+  -- the octets of a step that are taken back
+  pub more_back : (n len : ℕ) → len ≡ length (first (shows v)).octets → c.places.taken + n < len →
+      moved_back (record v { places = record c.places { taken = c.places.taken + n } }) n (nat_le (rest (shows v)) n)
+      ≡ v.places
+  more_back n len whole h =
+      let test : nat_le (rest (shows v)) n ≡ false
+      = let over : n < rest (shows v) = omega (arith, whole, taken_here) in grind (arith, nat_tests, over) in
+      let less : c.places.taken + n - n ≡ c.places.taken = omega arith in
+      let back : moved_back (record v { places = record c.places { taken = c.places.taken + n } }) n false ≡ c.places
+      = λ i. record c.places { taken = less i } in
+      ap (moved_back (record v { places = record c.places { taken = c.places.taken + n } }) n) test
+      ∙ back
+      ∙ ap (λ (x : Cells). x.places) is
+
+  pub last_back : (n len : ℕ) → len ≡ length (first (shows v)).octets → len ≤ c.places.taken + n →
+      n ≤ rest (shows v) →
+      moved_back (record v { places = places_left c.places len }) n (nat_le (rest (shows v)) n) ≡ v.places
+  last_back n len whole h most =
+      let q : Places = c.places in
+      let test : nat_le (rest (shows v)) n ≡ true
+      = let all : rest (shows v) ≤ n = omega (arith, whole, taken_here) in grind (arith, nat_tests, all) in
+      let was_first : back_by 877 1 (wrap 877 (q.first + 1)) ≡ q.first
+      = back_by-wrap 877 q.first 1 sound.first (omega arith) in
+      let entry : (entry_left (record v { places = places_left q len })).len ≡ len
+      = (λ i. (get_or (sym is i).entries (was_first i) (record { len = 0; tag = None })).len) ∙ len_here ∙ sym whole in
+      let used : len ≤ q.used = omega (arith, used_is c sound e (drop 1 (live c)) live_is, len_here, whole) in
+      let was_head : back_by 49_152 len (wrap 49_152 (q.head + len)) ≡ q.head
+      = back_by-wrap 49_152 q.head len sound.head (omega (arith, used, sound.room)) in
+      let count : q.count - 1 + 1 ≡ q.count = omega (arith, some) in
+      let taken : len - n ≡ q.taken = omega (arith, whole, taken_here, most, h, below, len_here) in
+      let sum : q.used - len + len ≡ q.used = omega (arith, used) in
+      let back : places_with_first (record v { places = places_left q len }) n ≡ q
+      = (
+      λ i. record {
+        head = back_by 49_152 (entry i) (wrap 49_152 (q.head + len));
+        first = was_first i;
+        count = count i;
+        taken = entry i - n;
+        used = q.used - len + entry i;
+      }
+      )
+      ∙ (λ i. record { head = was_head i; first = q.first; count = q.count; taken = taken i; used = sum i }) in
+      ap (moved_back (record v { places = places_left q len }) n) test ∙ back ∙ ap (λ (x : Cells). x.places) is

@@ -4,11 +4,11 @@ use Rattle.std.proofs.Common.{refl, sym, ap, subst, ◌∙◌, arith, length-app
 use Rattle.std.proofs.Math.Seq.{take-suc}
 use Rattle.std.proofs.lemmas.List.{get_or_append_left, get_or-append_right, get_or-drop, take-append-le}
 use Rattle.std.proofs.lemmas.List.Sums.{sum_by-append, sum_by-cons}
-use Rattle.em_rx.specs.Ring.{ring_part, turn, wrap}
+use Rattle.em_mem.specs.Ring.{ring_part, turn, wrap}
 use Rattle.em_rx.specs.Frame.{Frame}
 use Rattle.em_rx.specs.Fifo.{Cells, IsLast, IsSound, cut, last, live, shows, total}
 use Rattle.em_rx.specs.declared.places.Entry.{Entry}
-use Rattle.em_rx.proofs.RingLaws.{length-turn, turn-wrap, wrap-below}
+use Rattle.em_mem.proofs.RingLaws.{length-turn, turn-wrap, wrap-below}
 use Rattle.em_rx.proofs.CutLaws.{cut_push}
 use Rattle.em_rx.proofs.DeliveryLaws.{frames_are}
 

@@ -1,4 +1,5 @@
-pub mod RingLaws
+pub mod HeldLaws
+pub mod PutBothLaws
 pub mod PatchLaws
 pub mod CutLaws
 pub mod ArrivalLaws

@@ -1,50 +1,79 @@
--- A patch that is put in twice.
-use Rattle.std.proofs.Common.{◌≡◌, length, get_or, sym, ap, ap₂, subst, ◌∙◌, arith, length-set}
+-- An arrival is taken back by what it replaced.
+use Rattle.std.proofs.Common.{◌≡◌, ℕ, ◌+◌, ◌-◌, ◌≤◌, List, length, set, get_or, sym, ap, subst, ◌∙◌, arith}
 use Rattle.std.proofs.lemmas.List.{set-set, set-get_or}
-use Rattle.em_rx.specs.Ring.{ring_part}
+use Rattle.em_mem.specs.Ring.{ring_part, ring_put, wrap}
+use Rattle.em_mem.proofs.RingLaws.{length-ring_part, ring_put-ring_put}
 use Rattle.em_rx.specs.Fifo.{Cells, IsSound}
 use Rattle.em_rx.specs.FramePatch.{FramePatch}
-use Rattle.em_rx.specs.Undo.{FitsFrame, with_patch}
-use Rattle.em_rx.proofs.RingLaws.{length-ring_part, length-ring_put, ring_put-ring_put}
+use Rattle.em_rx.specs.Undo.{FitsFrame, places_without, with_patch}
+use Rattle.em_rx.specs.declared.places.Entry.{Entry}
+use Rattle.em_rx.specs.declared.places.Places.{Places}
+use Rattle.em_rx.proofs.ArrivalLaws.{frame_at, has_place, with_arrival}
 
--- what a patch replaces in cells
-abbrev pub replaced : Cells → FramePatch → FramePatch
-replaced c p = record {
-  octets = ring_part c.octets p.at (length p.octets);
-  at = p.at;
-  entry = get_or c.entries p.index p.entry;
-  index = p.index;
-  places = c.places;
+-- what an arrival of n octets replaces in cells
+abbrev pub replaced : Cells → ℕ → Entry → FramePatch
+replaced c n e = record {
+  octets = ring_part c.octets (wrap 49_152 (c.places.head + c.places.used)) n;
+  entry = get_or c.entries (wrap 877 (c.places.first + c.places.count)) e;
 }
 
--- put back, it restores them
-with_patch-replaced : (c : Cells) (p : FramePatch) → FitsFrame c p → with_patch (with_patch c p) (replaced c p) ≡ c
-with_patch-replaced c p fits =
-    let octets = ring_put-ring_put c.octets p.at p.octets fits.at fits.size in
-    let entries =
-    set-set c.entries p.index p.entry (get_or c.entries p.index p.entry) ∙ set-get_or c.entries p.index p.entry in
-    λ i. record { octets = octets i; entries = entries i; places = c.places }
+module _ (c : Cells) (d : List ℕ) (e f : Entry) (sound : IsSound c) (is : length d ≡ e.len)
+    (room : c.places.used + length d ≤ 49_152) (long : 56 ≤ length d) where
+  abbrev after : Cells
+  after = with_arrival c d e
 
--- the same of cells and patches that are known to be these
-pub patch_reverses : (c v new : Cells) (p q r : FramePatch) → c ≡ v → p ≡ q → IsSound c → FitsFrame v q →
-    new ≡ with_patch c p → r ≡ replaced c p → FitsFrame new r × (with_patch new r ≡ v)
-patch_reverses c v new p q r is patch sound fits_v left gives =
-    let fits : FitsFrame c p
-    = subst (λ (x : Cells × FramePatch). FitsFrame x.0 x.1) (λ i. (sym is i, sym patch i)) fits_v in
-    let back : with_patch new r ≡ c = ap₂ with_patch left gives ∙ with_patch-replaced c p fits in
-    let octets : length new.octets ≡ length c.octets
-    = ap (λ (x : Cells). length x.octets) left ∙ length-ring_put c.octets p.at p.octets fits.size in
-    let entries : length new.entries ≡ length c.entries
-    = ap (λ (x : Cells). length x.entries) left ∙ length-set c.entries p.index p.entry in
-    let size : length r.octets ≡ length p.octets
-    = ap (λ (x : FramePatch). length x.octets) gives ∙ length-ring_part c.octets p.at (length p.octets) fits.size in
-    let at : r.at ≡ p.at = ap (λ (x : FramePatch). x.at) gives in
-    let index : r.index ≡ p.index = ap (λ (x : FramePatch). x.index) gives in (
-      record {
-        at = omega (arith, fits.at);
-        size = omega (arith, fits.size);
-        index = omega (arith, fits.index);
-        sound = subst IsSound (sym back) sound;
-      },
-      back ∙ is,
-    )
+  abbrev p : FramePatch
+  p = replaced c (length d) f
+
+  size : length p.octets ≡ length d
+  size =
+      length-ring_part c.octets (wrap 49_152 (c.places.head + c.places.used)) (length d)
+      (omega (arith, room, sound.octets))
+
+  places_are : places_without after.places (length p.octets) ≡ c.places
+  places_are =
+      let count : c.places.count + 1 - 1 ≡ c.places.count = omega arith in
+      let used : c.places.used + length d - length p.octets ≡ c.places.used = omega (arith, size) in
+      λ i. record {
+        head = c.places.head;
+        first = c.places.first;
+        count = count i;
+        taken = c.places.taken;
+        used = used i;
+      }
+
+  arrival_back : with_patch after p ≡ c
+  arrival_back =
+      let k : ℕ = wrap 49_152 (c.places.head + c.places.used) in
+      let j : ℕ = wrap 877 (c.places.first + c.places.count) in
+      let octets : ring_put after.octets k p.octets ≡ c.octets
+      = ring_put-ring_put c.octets k d
+      (omega (arith, frame_at c d e sound is room long, sound.octets)) (omega (arith, room, sound.octets)) in
+      let entries : set after.entries j p.entry ≡ c.entries
+      = set-set c.entries j e (get_or c.entries j f) ∙ set-get_or c.entries j f in
+      let at : Places → Cells
+      = λ q. record {
+        octets = ring_put after.octets (wrap 49_152 (q.head + q.used)) p.octets;
+        entries = set after.entries (wrap 877 (q.first + q.count)) p.entry;
+        places = q;
+      } in
+      ap at places_are ∙ (λ i. record { octets = octets i; entries = entries i; places = c.places })
+
+  pub arrival_reverses : FitsFrame after p × (with_patch after p ≡ c)
+  arrival_reverses = (
+    record {
+      some = omega arith;
+      count = omega (arith, has_place c d e sound is room long);
+      used = omega (arith, size);
+      sound = subst IsSound (sym arrival_back) sound;
+    },
+    arrival_back,
+  )
+
+-- the same of cells and a patch that are known to be these
+pub reverses_at : (c v new : Cells) (d : List ℕ) (e : Entry) (p : FramePatch) → IsSound c → c ≡ v → length d ≡ e.len
+    → c.places.used + length d ≤ 49_152 → 56 ≤ length d → new ≡ with_arrival c d e → p ≡ replaced c (length d) p.entry
+    → FitsFrame new p × (with_patch new p ≡ v)
+reverses_at c v new d e p sound is len room long left gives =
+    subst (λ (x : Cells × FramePatch × Cells). FitsFrame x.0 x.1 × (with_patch x.0 x.1 ≡ x.2))
+    (λ i. (sym left i, sym gives i, is i)) (arrival_reverses c d e p.entry sound len room long)

@@ -10,7 +10,7 @@ use Rattle.em_mem.specs.Memory.{IsHeld, part, put}
 use Rattle.em_mem.proofs.PutLaws.{drop_past-put, length-part, length-put, part-put}
 use Rattle.em_regs.specs.declared.setup.RxSetup.{RxSetup}
 use Rattle.em_regs.specs.Ring.{following}
-use Rattle.em_rx.specs.Ring.{wrap}
+use Rattle.em_mem.specs.Ring.{wrap}
 use Rattle.em_rx.specs.Frame.{Frame}
 use Rattle.em_rx.specs.Fifo.{Fifo, after_delivery}
 use Rattle.em_rx.specs.Descriptor.{descriptor_of, written_back}
@@ -19,7 +19,7 @@ use Rattle.em_rx.specs.Pieces.{AreApart, Engine, GoesInPieces, IsDelivered, afte
 use Rattle.em_rx.specs.Pieces.{piece_len, place, place_at, with_outcome}
 use Rattle.em_rx.specs.declared.refusal.RxRefusal.{RxRefusal}
 use Rattle.em_rx.specs.declared.refusal.RxRefusal.TheVariants.{DmaRange}
-use Rattle.em_rx.proofs.RingLaws.{wrap-below}
+use Rattle.em_mem.proofs.RingLaws.{wrap-below}
 
 -- a range apart from what is written stays
 part-put_apart : (m : List ℕ) (a n b : ℕ) (d : List ℕ) → IsHeld m b (length d) → AreApart a n b (length d) →

@@ -4,7 +4,7 @@ use Rattle.std.specs.Prelude.{drop, replicate, slice_index_or, sum_by, Option, N
 use Rattle.std.specs.Coded.{Coded, code_by, coded×, coded_list, coded_ℕ, coded_option}
 use Rattle.em_mem.specs.Memory.{part}
 use Rattle.em_rx.specs.Frame.{Frame, len_of}
-use Rattle.em_rx.specs.Ring.{ring_part, turn, wrap}
+use Rattle.em_mem.specs.Ring.{ring_part, turn, wrap}
 use Rattle.em_rx.specs.declared.places.Entry.{Entry}
 use Rattle.em_rx.specs.declared.places.Places.{Places}
 

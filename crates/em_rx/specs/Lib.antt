@@ -1,10 +1,11 @@
 pub mod Refusal
-pub mod Ring
 pub mod Frame
 pub mod Fifo
 pub mod StoredFrame
 pub mod FramePatch
 pub mod StepPatch
+pub mod RxUndo
+pub mod Records
 pub mod RxStep
 pub mod Undo
 pub mod Descriptor

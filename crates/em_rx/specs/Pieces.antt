@@ -3,7 +3,7 @@ use Rattle.std.specs.Prelude.{◌≡◌, ℕ, suc, zero, ◌+◌, ◌-◌, ◌*�
 use Rattle.std.specs.Prelude.{Ok, Err}
 use Rattle.em_mem.specs.Memory.{IsHeld, part}
 use Rattle.em_regs.specs.declared.setup.RxSetup.{RxSetup}
-use Rattle.em_rx.specs.Ring.{wrap}
+use Rattle.em_mem.specs.Ring.{wrap}
 use Rattle.em_rx.specs.Frame.{Frame}
 use Rattle.em_rx.specs.Fifo.{Fifo}
 use Rattle.em_rx.specs.Descriptor.{descriptor_of, written_back}

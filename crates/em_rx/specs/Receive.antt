@@ -1,7 +1,7 @@
 -- The receive engine's step, over what the registers set up, the octets of guest memory and what the FIFO shows.
-use Rattle.std.specs.Prelude.{◌≡◌, ℕ, ◌+◌, ◌-◌, ◌%◌, ◌==◌, ◌||◌, min, nat_lt, nat_le, if◌then◌else◌, Bool}
+use Rattle.std.specs.Prelude.{◌≡◌, ℕ, ◌+◌, ◌-◌, ◌%◌, ◌==◌, ◌||◌, min, nat_lt, nat_le, if◌then◌else◌, Bool, false}
 use Rattle.std.specs.Prelude.{List, length, Result, Ok, Err}
-use Rattle.em_mem.specs.Memory.{part, put}
+use Rattle.em_mem.specs.Memory.{IsHeld, part, put}
 use Rattle.em_regs.specs.declared.setup.RxSetup.{RxSetup}
 use Rattle.em_regs.specs.Ring as ring
 use Rattle.em_regs.specs.Ring.{rx_ring}
@@ -9,6 +9,7 @@ use Rattle.em_rx.specs.Descriptor.{descriptor_of, written_back}
 use Rattle.em_rx.specs.Fifo.{Fifo, after_delivery, first, next, rest}
 use Rattle.em_rx.specs.declared.step.RxAnswer.{RxAnswer}
 use Rattle.em_rx.specs.declared.step.RxAnswer.TheVariants.{Idle, Wrote}
+use Rattle.em_rx.specs.declared.undo.OldPiece.{OldPiece}
 use Rattle.em_rx.specs.declared.refusal.RxRefusal.{RxRefusal}
 use Rattle.em_rx.specs.declared.refusal.RxRefusal.TheVariants.{DmaRange, Memory}
 
@@ -82,3 +83,14 @@ Refuses q memory fifo Memory = receive q memory fifo ≡ Ok (delivery q memory f
 -- how many octets of memory the step writes: those of the piece, and 8 of the descriptor
 abbrev pub octets_written : RxSetup → Fifo → ℕ
 octets_written q fifo = if is_idle q fifo then 0 else count_of q fifo + 8
+
+-- the step writes this piece: there its buffer and the end of its descriptor lie, and the frame leaves with it or stays
+pub record IsNextPiece (q : RxSetup) (memory : List ℕ) (fifo : Fifo) (p : OldPiece) : Type 0 where
+  pub writes : is_idle q fifo ≡ false
+  pub delivers : receive q memory fifo ≡ Ok (delivery q memory fifo)
+  pub buffer : p.buffer ≡ buffer_at q memory
+  pub end_at : p.end_at ≡ descriptor_at q + 8
+  pub len : p.len ≡ count_of q fifo
+  pub left : p.left ≡ is_last q fifo
+  pub held : IsHeld memory p.buffer p.len
+  pub end_held : IsHeld memory p.end_at 8

@@ -1,17 +1,31 @@
 -- The two parts of what a step of the receive engine gives.
+use Rattle.std.specs.Prelude.{◌≡◌, ◌≤◌, ◌+◌, ℕ, length}
+use Rattle.em_mem.specs.OldOctets.{OldOctets, Saves}
+use Rattle.em_rx.specs.Records.{saved_of, step_patch}
+use Rattle.em_rx.specs.RxUndo.{RxUndo, Nothing, Step}
 use Rattle.em_rx.specs.declared.step.RxAnswer.{RxAnswer}
 use Rattle.em_rx.specs.declared.step.RxAnswer.TheVariants as answer
 use Rattle.em_rx.specs.declared.step.RxStep.{RxStep}
 use Rattle.em_rx.specs.declared.step.RxStep.TheVariants.{Idle, Wrote}
-use Rattle.em_rx.specs.declared.undo.RxUndo.{RxUndo}
-use Rattle.em_rx.specs.declared.undo.RxUndo.TheVariants.{Nothing, Step}
 
 -- what it answers
 abbrev pub answer_of : RxStep → RxAnswer
 answer_of Idle = answer.Idle
-answer_of (Wrote index next causes patch) = answer.Wrote index next causes
+answer_of (Wrote index next causes piece) = answer.Wrote index next causes
 
--- what takes it back
-abbrev pub undo_of : RxStep → RxUndo
-undo_of Idle = Nothing
-undo_of (Wrote index next causes patch) = Step patch
+-- what takes it back, with the octets that it saved
+abbrev pub undo_of : RxStep → OldOctets → RxUndo
+undo_of Idle old = Nothing
+undo_of (Wrote index next causes piece) old = Step (step_patch piece old)
+
+-- how many octets it saved
+abbrev pub saved_by : RxStep → ℕ
+saved_by Idle = 0
+saved_by (Wrote index next causes piece) = saved_of piece
+
+-- an idle step saves none; where there was room for more than a step saves, it saved them before the others
+abbrev pub KeepsStep : RxStep → ℕ → OldOctets → OldOctets → Type 0
+KeepsStep Idle more old new = new ≡ old
+KeepsStep (Wrote index next causes piece) more old new =
+    (saved_of piece + more ≤ length new.octets)
+    × (saved_of piece + more ≤ length old.octets → Saves (saved_of piece) old new)

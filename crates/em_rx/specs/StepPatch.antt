@@ -1,9 +1,9 @@
--- What a receive step exchanges with guest memory and with the FIFO's places.
+-- What a receive step replaced in guest memory, and what it did to the FIFO.
+use Rattle.std.specs.Prelude.{Bool}
 use Rattle.em_mem.specs.Memory.{Patch}
-use Rattle.em_rx.specs.declared.places.Places.{Places}
 
--- the octets that are put in first, those that are put in after them, and the places
+-- the octets that are put in first, those that are put in after them, and whether the frame left
 pub record StepPatch : Type 0 where
   pub first : Patch
   pub second : Patch
-  pub places : Places
+  pub left : Bool

@@ -1,24 +1,26 @@
 //! The FIFO: frames that lie end to end in one packet buffer.
-ghost use Rattle.std.specs.Prelude.{◌≡◌, ◌↔◌, ◌+◌, ◌<◌, ◌≤◌, IfOk, IfErr, IfSome, IsNone, IsTrue, OnOk, OnErr, List, ℕ};
-ghost use Rattle.std.specs.Prelude.{length, true};
+ghost use Rattle.std.specs.Prelude.{◌≡◌, ◌↔◌, ◌+◌, ◌<◌, ◌≤◌, IfOk, IfErr, IfSome, IsNone, IsTrue, OnOk, OnErr};
+ghost use Rattle.std.specs.Prelude.{length, nat_le, true};
 ghost use Rattle.em_mem.specs.Memory as memory;
-ghost use Rattle.em_mem.specs.Memory.{IsHeld, IsMade, part, put};
+ghost use Rattle.em_mem.specs.Memory.{IsHeld, IsMade, put};
+ghost use Rattle.em_mem.specs.OldOctets.{Keeps, Saves};
 ghost use Rattle.em_rx.specs.Frame.{stored_frame};
 ghost use Rattle.em_rx.specs.StoredFrame.{LiesSo};
-ghost use Rattle.em_rx.specs.Fifo.{after_arrival, empty, first, fresh, HasRoom, IsFirst, IsLast, IsSound, last, next, rest};
-ghost use Rattle.em_rx.specs.Fifo.{shows};
-ghost use Rattle.em_rx.specs.Undo.{Fits, FitsFrame, FitsStep, IsMove, Reverses, ReversesStep, octets_held, undo_fifo};
-ghost use Rattle.em_rx.specs.Undo.{IsOverwritten, delivered, undo_memory, with_both, with_patch};
-ghost use Rattle.em_rx.specs.Ring.{ring_part};
-ghost use Rattle.em_rx.specs.declared.undo.RxUndo.TheVariants.{Frame};
+ghost use Rattle.em_rx.specs.Fifo.{after_arrival, after_delivery, empty, first, fresh, HasRoom, IsFirst, IsLast};
+ghost use Rattle.em_rx.specs.Fifo.{IsSound, last, next, rest, shows};
+ghost use Rattle.em_rx.specs.Records.{IsWhole, frame_patch, record_of, saved_of, step_patch};
+ghost use Rattle.em_rx.specs.RxUndo.{Frame};
+ghost use Rattle.em_rx.specs.Undo.{Fits, FitsFrame, FitsStep, IsMove, Reverses, ReversesStep, delivered, moved_back};
+ghost use Rattle.em_rx.specs.Undo.{octets_held, places_before, undo_fifo, undo_memory, with_both, with_patch};
 
 use crate::descriptor::{WRITTEN_OCTETS, written_back};
 use crate::frame::{stored_octets, tag_of};
 use crate::places::{Entry, Places};
-use crate::ring::{copy_into, exchange_entry, pieces, put_octets, wrap, write_out};
-use crate::{FramePatch, RxRefusal, RxUndo, StepPatch, StoredFrame};
-use em_mem::{GuestMemory, SparesByLen};
-use std::alloc::{AllocError, Global};
+use crate::ring::{back, put_both, save_part};
+use crate::{MOST_HELD, OldFrame, OldPiece, RxRefusal, RxUndo, StoredFrame};
+use em_mem::ring::{pieces, put_octets, wrap};
+use em_mem::{GuestMemory, OldOctets, Saved};
+use std::alloc::Global;
 use std::marker::Model;
 
 /// How many octets the packet buffer has: the 48 KB that PBA gives to receiving after a reset (manual,
@@ -35,9 +37,6 @@ pub struct Fifo {
     octets: Vec<u8>,
     entries: Vec<Entry>,
     places: Places,
-    // what was let go serves the next record
-    spare_frames: SparesByLen<FramePatch>,
-    spare_steps: SparesByLen<StepPatch>,
 }
 
 impl Model for Fifo {
@@ -65,8 +64,6 @@ impl Fifo {
     {
         let octets = vec![in alloc; 0; OCTETS as usize]?;
         let entries = vec![in alloc; Entry { len: 0, tag: None }; ENTRIES as usize]?;
-        let spare_frames = SparesByLen::new(alloc)?;
-        let spare_steps = SparesByLen::new(alloc)?;
         let places = Places {
             head: 0,
             first: 0,
@@ -79,9 +76,12 @@ impl Fifo {
             octets,
             entries,
             places,
-            spare_frames,
-            spare_steps,
         })
+    }
+
+    /// Where it takes memory.
+    pub(crate) fn alloc(&self) -> Global {
+        self.alloc
     }
 
     /// How many frames lie in it.
@@ -98,101 +98,149 @@ impl Fifo {
         len <= (OCTETS - self.places.used) as usize
     }
 
-    /// Stores a frame, which comes last: a tagged one without its octets 12 to 15. Refused for
-    /// `Memory` alone, where the record of what it overwrites finds none; the FIFO then stays.
-    pub fn accept(&mut self, frame: &[u8], tagged: bool) -> Result<Box<FramePatch>, RxRefusal>
+    /// Stores a frame, which comes last: a tagged one without its octets 12 to 15. What it overwrites is
+    /// saved before other old octets. Refused for `Memory` alone, where a tagged frame's copy finds none, or
+    /// old octets no room; the FIFO and the old octets then stay.
+    pub fn store(
+        &mut self,
+        frame: &[u8],
+        tagged: bool,
+        old: &mut OldOctets,
+    ) -> Result<OldFrame, RxRefusal>
         requires least { 60 ≤ length frame.now }
         requires most { length (stored_frame frame.now tagged).octets ≤ 16_384 }
         requires room { HasRoom (shows self.old) (length (stored_frame frame.now tagged).octets) }
         ensures ok { OnOk result (shows self.new ≡ after_arrival (shows self.old) (stored_frame frame.now tagged)) }
-        ensures held { IfOk result (λ r. octets_held (Frame r) ≡ length (stored_frame frame.now tagged).octets) }
-        ensures reverses { IfOk result (λ r. (m : memory.Cells) → Reverses self.old self.new m m (Frame r)) }
+        ensures held { IfOk result (λ r. r.len ≡ length (stored_frame frame.now tagged).octets) }
+        ensures keeps { IfOk result (λ r. Keeps r.len old.old old.new) }
+        ensures reverses { IfOk result (λ r. (m : memory.Cells) →
+            Reverses self.old self.new m m (Frame (frame_patch r old.new))) }
         ensures refused { IfErr result (λ refusal. refusal ≡ RxRefusal.Memory) }
         ensures same { OnErr result (self.new ≡ self.old) }
+        ensures kept { OnErr result (old.new ≡ old.old) }
     {
         if tagged {
-            self.accept_tagged(frame)
+            self.store_tagged(frame, old)
         } else {
-            self.store(frame, None)
+            self.store_octets(frame, None, old)
         }
     }
 
     /// Stores a tagged frame, which comes last, without its octets 12 to 15.
     #[inline(never)]
-    fn accept_tagged(&mut self, frame: &[u8]) -> Result<Box<FramePatch>, RxRefusal>
+    fn store_tagged(&mut self, frame: &[u8], old: &mut OldOctets) -> Result<OldFrame, RxRefusal>
         requires least { 60 ≤ length frame.now }
         requires most { length (stored_frame frame.now true).octets ≤ 16_384 }
         requires room { HasRoom (shows self.old) (length (stored_frame frame.now true).octets) }
         ensures ok { OnOk result (shows self.new ≡ after_arrival (shows self.old) (stored_frame frame.now true)) }
-        ensures held { IfOk result (λ r. octets_held (Frame r) ≡ length (stored_frame frame.now true).octets) }
-        ensures reverses { IfOk result (λ r. (m : memory.Cells) → Reverses self.old self.new m m (Frame r)) }
+        ensures held { IfOk result (λ r. r.len ≡ length (stored_frame frame.now true).octets) }
+        ensures keeps { IfOk result (λ r. Keeps r.len old.old old.new) }
+        ensures reverses { IfOk result (λ r. (m : memory.Cells) →
+            Reverses self.old self.new m m (Frame (frame_patch r old.new))) }
         ensures refused { IfErr result (λ refusal. refusal ≡ RxRefusal.Memory) }
         ensures same { OnErr result (self.new ≡ self.old) }
+        ensures kept { OnErr result (old.new ≡ old.old) }
     {
         let octets = stored_octets(self.alloc, frame)?;
-        self.store(octets.as_slice(), Some(tag_of(frame)))
+        self.store_octets(octets.as_slice(), Some(tag_of(frame)), old)
     }
 
-    /// Stores the octets and the tag of a frame, which comes last.
+    /// Stores the octets and the tag of a frame, which comes last, once there is room for what they overwrite.
     #[inline(always)]
-    fn store(&mut self, octets: &[u8], tag: Option<u16>) -> Result<Box<FramePatch>, RxRefusal>
+    fn store_octets(
+        &mut self,
+        octets: &[u8],
+        tag: Option<u16>,
+        old: &mut OldOctets,
+    ) -> Result<OldFrame, RxRefusal>
         requires least { 56 ≤ length octets.now }
         requires most { length octets.now ≤ 16_384 }
         requires room { HasRoom (shows self.old) (length octets.now) }
         ensures ok { OnOk result (shows self.new
             ≡ after_arrival (shows self.old) (record { octets = octets.now; tag = tag })) }
-        ensures held { IfOk result (λ r. octets_held (Frame r) ≡ length octets.now) }
-        ensures reverses { IfOk result (λ r. (m : memory.Cells) → Reverses self.old self.new m m (Frame r)) }
+        ensures held { IfOk result (λ r. r.len ≡ length octets.now) }
+        ensures keeps { IfOk result (λ r. Keeps r.len old.old old.new) }
+        ensures reverses { IfOk result (λ r. (m : memory.Cells) →
+            Reverses self.old self.new m m (Frame (frame_patch r old.new))) }
+        ensures refused { IfErr result (λ refusal. refusal ≡ RxRefusal.Memory) }
+        ensures same { OnErr result (self.new ≡ self.old) }
+        ensures kept { OnErr result (old.new ≡ old.old) }
+    {
+        old.make_room(octets.len())?;
+        Ok(self.put_last(octets, tag, old))
+    }
+
+    /// Puts the octets and the tag of a frame behind the others, and saves what they overwrite.
+    #[inline(always)]
+    fn put_last(&mut self, octets: &[u8], tag: Option<u16>, old: &mut OldOctets) -> OldFrame
+        requires least { 56 ≤ length octets.now }
+        requires most { length octets.now ≤ 16_384 }
+        requires room { HasRoom (shows self.old) (length octets.now) }
+        requires old_room { length octets.now ≤ length old.old.octets }
+        ensures shown { shows self.new
+            ≡ after_arrival (shows self.old) (record { octets = octets.now; tag = tag }) }
+        ensures held { result.len ≡ length octets.now }
+        ensures saves { Saves result.len old.old old.new }
+        ensures reverses { (m : memory.Cells) →
+            Reverses self.old self.new m m (Frame (frame_patch result old.new)) }
+    {
+        let places = self.places;
+        let len = octets.len();
+        let at = wrap(OCTETS, places.head + places.used) as usize;
+        save_part(self.octets.as_slice(), at, len, old);
+        put_octets(&mut self.octets, at, octets);
+        let index = wrap(ENTRIES, places.first + places.count) as usize;
+        let entry = self.entries[index];
+        self.entries[index] = Entry {
+            len: len as u16,
+            tag,
+        };
+        self.places = Places {
+            count: places.count + 1,
+            used: places.used + len as u32,
+            ..places
+        };
+        OldFrame {
+            entry,
+            len: len as u16,
+        }
+    }
+
+    /// Stores a frame as `store` does, with a record that stands by itself. Refused for `Memory` alone; the
+    /// FIFO then stays.
+    pub fn accept(&mut self, frame: &[u8], tagged: bool) -> Result<RxUndo, RxRefusal>
+        requires least { 60 ≤ length frame.now }
+        requires most { length (stored_frame frame.now tagged).octets ≤ 16_384 }
+        requires room { HasRoom (shows self.old) (length (stored_frame frame.now tagged).octets) }
+        ensures ok { OnOk result (shows self.new ≡ after_arrival (shows self.old) (stored_frame frame.now tagged)) }
+        ensures held { IfOk result (λ r.
+            octets_held (record_of r) ≡ length (stored_frame frame.now tagged).octets) }
+        ensures most { IfOk result (λ r. octets_held (record_of r) ≤ MOST_HELD) }
+        ensures whole { IfOk result IsWhole }
+        ensures reverses { IfOk result (λ r. (m : memory.Cells) → Reverses self.old self.new m m (record_of r)) }
         ensures refused { IfErr result (λ refusal. refusal ≡ RxRefusal.Memory) }
         ensures same { OnErr result (self.new ≡ self.old) }
     {
-        let mut patch = self.room_for_frame(octets.len())?;
-        self.arrival(octets.len(), tag, &mut patch)?;
-        self.put_frame(octets, &mut patch);
-        Ok(patch)
-    }
-
-    /// A patch for a frame of so many octets, to be filled: one that was let go, if there is one.
-    #[inline(always)]
-    fn room_for_frame(&mut self, len: usize) -> Result<Box<FramePatch>, AllocError>
-        ensures { self.new ≡ self.old }
-    {
-        match self.spare_frames.take(len) {
-            Some(patch) => Ok(patch),
-            None => Ok(Box::new(self.alloc, FramePatch::empty(self.alloc))?),
-        }
-    }
-
-    /// A patch for a receive step of so many octets, to be filled, in the same way.
-    #[inline(always)]
-    fn room_for_step(&mut self, len: usize) -> Result<Box<StepPatch>, AllocError>
-        ensures { self.new ≡ self.old }
-    {
-        match self.spare_steps.take(len) {
-            Some(patch) => Ok(patch),
-            None => Ok(Box::new(self.alloc, StepPatch::empty(self.alloc))?),
-        }
-    }
-
-    /// Lets the record of an arrival go; its memory serves a later one.
-    pub fn let_frame_go(&mut self, patch: Box<FramePatch>)
-        ensures { self.new ≡ self.old }
-    {
-        self.spare_frames.put(patch.octets.len(), patch);
-    }
-
-    /// Lets the record of a receive step go; its memory serves a later one.
-    pub fn let_step_go(&mut self, patch: Box<StepPatch>)
-        ensures { self.new ≡ self.old }
-    {
-        self.spare_steps.put(patch.piece.len() as usize, patch);
+        let mut old = OldOctets::none(self.alloc);
+        let stored = self.store(frame, tagged, &mut old)?;
+        Ok(RxUndo::Frame(stored, old))
     }
 
     /// All frames leave. Their octets stay in the buffer until arrivals overwrite them.
     pub fn clear(&mut self) -> RxUndo
         ensures shown { shows self.new ≡ empty }
-        ensures held { octets_held result ≡ 0 }
-        ensures reverses { (m : memory.Cells) → Reverses self.old self.new m m result }
+        ensures held { octets_held (record_of result) ≡ 0 }
+        ensures whole { IsWhole result }
+        ensures reverses { (m : memory.Cells) → Reverses self.old self.new m m (record_of result) }
+    {
+        RxUndo::Places(self.empty_out())
+    }
+
+    /// All frames leave, and the places where they lay come out.
+    pub fn empty_out(&mut self) -> Places
+        ensures shown { shows self.new ≡ empty }
+        ensures sound { IsSound (record self.new { places = result }) }
+        ensures restores { record self.new { places = result } ≡ self.old }
     {
         let places = self.places;
         self.places = Places {
@@ -201,58 +249,15 @@ impl Fifo {
             used: 0,
             ..places
         };
-        RxUndo::Places(places)
+        places
     }
 
-    /// Makes a patch what puts so many octets behind the last frame, but that it has those which they
-    /// overwrite.
-    #[inline(always)]
-    fn arrival(
-        &self,
-        len: usize,
-        tag: Option<u16>,
-        patch: &mut FramePatch,
-    ) -> Result<(), AllocError>
-        requires least { 56 ≤ len }
-        requires most { len ≤ 16_384 }
-        requires room { HasRoom (shows self.now) len }
-        ensures arrives { OnOk result ((octets : List ℕ) → length octets ≡ len
-            → FitsFrame self.now (record patch.new { octets = octets })
-            × (shows (with_patch self.now (record patch.new { octets = octets }))
-            ≡ after_arrival (shows self.now) (record { octets = octets; tag = tag }))) }
-        ensures octets { OnOk result (patch.new.octets ≡ ring_part self.now.octets patch.new.at len) }
-        ensures held { OnOk result (length patch.new.octets ≡ len) }
+    /// Puts places back that came out.
+    pub fn put_places_back(&mut self, places: Places)
+        requires { IsSound (record self.old { places = places }) }
+        ensures { self.new ≡ record self.old { places = places } }
     {
-        let places = self.places;
-        let at = wrap(OCTETS, places.head + places.used);
-        copy_into(&mut patch.octets, self.octets.as_slice(), at as usize, len)?;
-        patch.at = at;
-        patch.entry = Entry {
-            len: len as u16,
-            tag,
-        };
-        patch.index = wrap(ENTRIES, places.first + places.count);
-        patch.places = Places {
-            count: places.count + 1,
-            used: places.used + len as u32,
-            ..places
-        };
-        Ok(())
-    }
-
-    /// Puts a frame in where a patch says, and leaves what it replaced in the patch, whose octets are
-    /// those that the frame overwrites.
-    #[inline(always)]
-    fn put_frame(&mut self, octets: &[u8], patch: &mut FramePatch)
-        requires fits { FitsFrame self.old (record patch.old { octets = octets.now }) }
-        requires old { patch.old.octets ≡ ring_part self.old.octets patch.old.at (length octets.now) }
-        ensures state { self.new ≡ with_patch self.old (record patch.old { octets = octets.now }) }
-        ensures held { patch.new.octets ≡ patch.old.octets }
-        ensures reverses { FitsFrame self.new patch.new × (with_patch self.new patch.new ≡ self.old) }
-    {
-        exchange_entry(&mut self.entries, patch.index as usize, &mut patch.entry);
-        std::mem::swap(&mut self.places, &mut patch.places);
-        put_octets(&mut self.octets, patch.at as usize, octets);
+        self.places = places;
     }
 
     /// The first frame, as it lies in the packet buffer; none where no frame waits.
@@ -332,7 +337,9 @@ impl Fifo {
     fn places_after(&self, count: u32) -> Places
         requires some { 0 < length (shows self.now).frames }
         requires count { count ≤ rest (shows self.now) }
-        ensures { IsMove self.now result count }
+        ensures moves { IsMove self.now result count }
+        ensures back { moved_back (record self.now { places = result }) count (nat_le (rest (shows self.now)) count)
+            ≡ self.now.places }
     {
         let places = self.places;
         let len = self.first_entry().len as u32;
@@ -351,59 +358,59 @@ impl Fifo {
         }
     }
 
-    /// What takes back the next octets of the first frame in a buffer, with the end of a descriptor written
-    /// back, but that it has the places after them.
+    /// The places with `count` octets less in guest memory, with which the first frame left or did not.
     #[inline(always)]
-    pub(crate) fn delivery(
-        &mut self,
-        memory: &GuestMemory,
-        buffer: u64,
-        count: u32,
-        end_at: u64,
-        end: [u8; WRITTEN_OCTETS],
-    ) -> Result<Box<StepPatch>, RxRefusal>
-        requires some { 0 < length (shows self.old).frames }
-        requires count { count ≤ rest (shows self.old) }
-        requires most { count ≤ 16_384 }
-        requires buffer { IsHeld memory.now.octets buffer count }
-        requires end { end ≡ part memory.now.octets end_at 8 }
-        ensures first { IfOk result (λ patch.
-            patch.value.first ≡ record { at = buffer; octets = part memory.now.octets buffer count }) }
-        ensures second { IfOk result (λ patch.
-            patch.value.second ≡ record { at = end_at; octets = part memory.now.octets end_at 8 }) }
-        ensures count { IfOk result (λ patch. length patch.value.first.octets ≡ count) }
-        ensures eight { IfOk result (λ patch. length patch.value.second.octets ≡ 8) }
-        ensures moves { IfOk result (λ patch. IsMove self.old patch.value.places count) }
-        ensures refused { IfErr result (λ refusal. refusal ≡ RxRefusal.Memory) }
-        ensures same { self.new ≡ self.old }
+    fn places_before(&self, count: u32, left: bool) -> Places
+        requires { IsSound (record self.now { places = moved_back self.now count left }) }
+        ensures { result ≡ moved_back self.now count left }
     {
-        let mut patch = self.room_for_step(count as usize)?;
-        memory.keep(buffer, count as usize, &mut patch.piece)?;
-        patch.end = end;
-        patch.end_at = end_at;
-        patch.places = self.places_after(count);
-        Ok(patch)
+        let places = self.places;
+        if !left {
+            return Places {
+                taken: places.taken.saturating_sub(count),
+                ..places
+            };
+        }
+        let first = back(ENTRIES, 1, places.first);
+        let len = self.entries[first as usize].len as u32;
+        Places {
+            head: back(OCTETS, len, places.head),
+            first,
+            count: places.count + 1,
+            taken: len.saturating_sub(count),
+            used: places.used + len,
+        }
     }
 
-    /// Puts the next octets of the first frame over those of a step's patch, and then writes the descriptor
-    /// back.
+    /// Writes the piece of the first frame, and then its descriptor back. What they overwrite is saved before other old
+    /// octets: both are read before either is written, since they may lie over each other.
     #[inline(always)]
-    pub(crate) fn deliver(&mut self, memory: &mut GuestMemory, patch: &mut StepPatch, last: bool)
+    pub(crate) fn deliver(
+        &mut self,
+        memory: &mut GuestMemory,
+        piece: &OldPiece,
+        old: &mut OldOctets,
+    )
         requires some { 0 < length (shows self.old).frames }
-        requires count { length patch.old.first.octets ≤ rest (shows self.old) }
-        requires fits { FitsStep self.old memory.old patch.old }
-        requires overwritten { IsOverwritten memory.old.octets patch.old }
-        ensures fifo { self.new ≡ record self.old { places = patch.old.places } }
-        ensures memory { memory.new.octets ≡ delivered (shows self.old) memory.old.octets patch.old last }
-        ensures first { length patch.new.first.octets ≡ length patch.old.first.octets }
-        ensures second { length patch.new.second.octets ≡ length patch.old.second.octets }
-        ensures reverses { ReversesStep self.old self.new memory.old memory.new patch.new }
+        requires count { piece.now.len ≤ rest (shows self.old) }
+        requires left { piece.now.left ≡ nat_le (rest (shows self.old)) piece.now.len }
+        requires held { IsHeld memory.old.octets piece.now.buffer piece.now.len }
+        requires end_held { IsHeld memory.old.octets piece.now.end_at 8 }
+        requires made { IsMade memory.old piece.now.buffer piece.now.len }
+        requires end_made { IsMade memory.old piece.now.end_at 8 }
+        requires old_room { saved_of piece.now ≤ length old.old.octets }
+        ensures shown { shows self.new ≡ after_delivery (shows self.old) piece.now.len }
+        ensures octets { memory.new.octets ≡ delivered (shows self.old) memory.old.octets piece.now }
+        ensures saves { Saves (saved_of piece.now) old.old old.new }
+        ensures reverses { ReversesStep self.old self.new memory.old memory.new (step_patch piece.now old.new) }
     {
-        let count = patch.piece.len();
-        let end = written_back(count as u16, last, self.first_entry().tag);
-        self.write_next(memory, patch.piece.addr(), count);
-        memory.write(patch.end_at, &end);
-        std::mem::swap(&mut self.places, &mut patch.places);
+        let (buffer, end_at) = (piece.buffer as u64, piece.end_at as u64);
+        let end = written_back(piece.len, piece.left, self.first_entry().tag);
+        memory.save(end_at, WRITTEN_OCTETS, old);
+        memory.save(buffer, piece.len as usize, old);
+        self.write_next(memory, buffer, piece.len as u32);
+        memory.write(end_at, &end);
+        self.places = self.places_after(piece.len as u32);
     }
 
     /// Writes the next octets of the first frame into guest memory, from `addr` on.
@@ -417,48 +424,58 @@ impl Fifo {
         ensures made { memory.new.made ≡ memory.old.made }
     {
         let at = wrap(OCTETS, self.places.head + self.places.taken);
-        let ring = self.octets.as_slice();
-        write_out(memory, addr, ring, at as usize, count as usize);
+        let (front, back) = pieces(self.octets.as_slice(), at as usize, count as usize);
+        memory.write_both(addr, front, back);
     }
 
     /// Takes back the change that gave out this record. It takes no memory.
     pub fn take_back(&mut self, memory: &mut GuestMemory, taken: RxUndo)
-        requires { Fits self.old memory.old taken }
-        ensures fifo { self.new ≡ undo_fifo self.old taken }
-        ensures memory { memory.new ≡ undo_memory memory.old taken }
+        requires whole { IsWhole taken }
+        requires fits { Fits self.old memory.old (record_of taken) }
+        ensures fifo { self.new ≡ undo_fifo self.old (record_of taken) }
+        ensures memory { memory.new ≡ undo_memory memory.old (record_of taken) }
     {
         match taken {
             RxUndo::Nothing => {}
-            RxUndo::Places(places) => self.places = places,
-            RxUndo::Frame(patch) => {
-                self.put_back_frame(&patch);
-                self.let_frame_go(patch);
-            }
-            RxUndo::Step(patch) => {
-                self.put_back_step(memory, &patch);
-                self.let_step_go(patch);
-            }
+            RxUndo::Places(places) => self.put_places_back(places),
+            RxUndo::Frame(frame, old) => self.put_frame_back(&frame, &old.newest()),
+            RxUndo::Step(piece, old) => self.put_step_back(memory, &piece, &old.newest()),
         }
     }
 
-    /// Puts back what an arrival replaced.
-    fn put_back_frame(&mut self, patch: &FramePatch)
-        requires { FitsFrame self.old patch.now }
-        ensures { self.new ≡ with_patch self.old patch.now }
+    /// Takes back the arrival that saved the first of these octets, as many as were stored. It takes no memory.
+    pub fn put_frame_back(&mut self, taken: &OldFrame, old: &Saved<'_>)
+        requires whole { taken.now.len ≤ length old.now.octets }
+        requires fits { FitsFrame self.old (frame_patch taken.now old.now) }
+        ensures { self.new ≡ with_patch self.old (frame_patch taken.now old.now) }
     {
-        put_octets(&mut self.octets, patch.at as usize, patch.octets.as_slice());
-        self.entries[patch.index as usize] = patch.entry;
-        self.places = patch.places;
+        let places = self.places;
+        let count = places.count - 1;
+        let used = places.used - taken.len as u32;
+        let at = wrap(OCTETS, places.head + used);
+        let (front, back) = old.first(taken.len as usize);
+        put_both(&mut self.octets, at as usize, front, back);
+        let index = wrap(ENTRIES, places.first + count);
+        self.entries[index as usize] = taken.entry;
+        self.places = Places {
+            count,
+            used,
+            ..places
+        };
     }
 
-    /// Puts back what a receive step replaced: the octets of its buffer, and then the end of its descriptor.
-    fn put_back_step(&mut self, memory: &mut GuestMemory, patch: &StepPatch)
-        requires { FitsStep self.old memory.old patch.now }
-        ensures fifo { self.new ≡ record self.old { places = patch.now.places } }
-        ensures memory { memory.new ≡ with_both memory.old patch.now }
+    /// Takes back the step that saved the first of these octets: those of its buffer are put back, and then those of
+    /// the end of its descriptor. It takes no memory.
+    pub fn put_step_back(&mut self, memory: &mut GuestMemory, taken: &OldPiece, old: &Saved<'_>)
+        requires whole { saved_of taken.now ≤ length old.now.octets }
+        requires fits { FitsStep self.old memory.old (step_patch taken.now old.now) }
+        ensures fifo { self.new
+            ≡ record self.old { places = places_before self.old (step_patch taken.now old.now) } }
+        ensures memory { memory.new ≡ with_both memory.old (step_patch taken.now old.now) }
     {
-        memory.put_back(&patch.piece);
-        memory.write(patch.end_at, &patch.end);
-        self.places = patch.places;
+        let len = taken.len as usize;
+        memory.put_saved_back(taken.buffer as u64, len, old);
+        memory.put_saved_back(taken.end_at as u64, WRITTEN_OCTETS, &old.behind(len));
+        self.places = self.places_before(taken.len as u32, taken.left);
     }
 }

@@ -6,7 +6,7 @@ ghost use Rattle.em_rx.specs.Frame.{Frame};
 ghost use Rattle.em_rx.specs.Fifo.{Cells, Fifo};
 ghost use Rattle.em_rx.specs.Pieces.{Engine, GoesInPieces, IsDelivered, after_steps};
 ghost use Rattle.em_rx.specs.Undo.{Fits, undo_memory};
-ghost use Rattle.em_rx.specs.declared.undo.RxUndo.{RxUndo};
+ghost use Rattle.em_rx.specs.RxUndo.{RxUndo};
 
 /// More made pages of guest memory leave each record fitting.
 pub fn made_pages()

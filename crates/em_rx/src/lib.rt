@@ -8,7 +8,7 @@ pub use places::{Entry, Places};
 pub use refusal::RxRefusal;
 pub use step::{RxAnswer, RxStep};
 pub use stored::StoredFrame;
-pub use undo::{FramePatch, MOST_HELD, RxUndo, StepPatch};
+pub use undo::{MOST_HELD, OldFrame, OldPiece, RxUndo};
 
 mod before;
 mod descriptor;

@@ -24,7 +24,7 @@ pub struct Places {
 
 impl Places {
     /// No frame, and the next one at the beginning.
-    pub(crate) fn none() -> Places {
+    pub fn none() -> Places {
         Places {
             head: 0,
             first: 0,

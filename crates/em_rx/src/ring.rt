@@ -1,129 +1,47 @@
-//! Slices whose end is followed by their beginning.
-ghost use Rattle.std.specs.Prelude.{◌≡◌, ◌+◌, ◌<◌, ◌≤◌, ◌++◌, OnOk, length, take, drop, set, get_or};
-ghost use Rattle.em_mem.specs.Memory.{IsHeld, IsMade, put};
-ghost use Rattle.em_rx.specs.Ring.{ring_part, ring_put, wrap as place_in};
+//! Places before others in a ring, and octets in two pieces.
+ghost use Rattle.std.specs.Prelude.{◌≡◌, ◌+◌, ◌^◌, ◌<◌, ◌≤◌, ◌++◌, length};
+ghost use Rattle.em_mem.specs.Ring.{ring_part, ring_put};
+ghost use Rattle.em_mem.specs.OldOctets.{back_by, saved};
 
-use crate::places::Entry;
-use em_mem::laws::places_are_small;
-use em_mem::{GuestMemory, empty_for, refill};
-use std::alloc::AllocError;
+use em_mem::OldOctets;
+use em_mem::ring::{pieces, put_octets, wrap};
 
-/// The place `n` in a ring of the given size, where `n` may be past the end once.
-pub(crate) fn wrap(size: u32, n: u32) -> u32
-    ensures { result ≡ place_in size n }
-{
-    if n < size { n } else { n - size }
-}
-
-/// Copies the `len` octets that lie in the ring from `at` on, in place of what `octets` held. Where memory
-/// is refused, `octets` holds no more of them than asked.
+/// The place `n` before place `k` in a ring of the given size, where what is before the beginning is the end.
 #[inline(always)]
-pub(crate) fn copy_into(
-    octets: &mut Vec<u8>,
-    ring: &[u8],
-    at: usize,
-    len: usize,
-) -> Result<(), AllocError>
-    requires at { at ≤ length ring.now }
-    requires size { len ≤ length ring.now }
-    ensures octets { OnOk result (octets.new.items ≡ ring_part ring.now at len) }
-    ensures most { length octets.new.items ≤ len }
+pub(crate) fn back(size: u32, n: u32, k: u32) -> u32
+    requires size { n ≤ size }
+    requires small { k + size < 2 ^ 32 }
+    ensures { result ≡ back_by size n k }
 {
-    let (low, high) = ring.split_at(at);
-    if len <= high.len() {
-        return refill(octets, &high[..len]);
-    }
-    copy_parts_into(octets, high, &low[..len - high.len()])
+    if n <= k { k - n } else { k + size - n }
 }
 
-/// Copies two parts, one behind the other, in place of what `octets` held.
-#[inline(never)]
-fn copy_parts_into(octets: &mut Vec<u8>, first: &[u8], second: &[u8]) -> Result<(), AllocError>
-    ensures octets { OnOk result (octets.new.items ≡ first.now ++ second.now) }
-    ensures most { length octets.new.items ≤ length first.now + length second.now }
-{
-    let len = first.len() + second.len();
-    empty_for(octets, len);
-    octets.reserve(len)?;
-    octets.extend_from_slice(first)?;
-    octets.extend_from_slice(second)?;
-    Ok(())
-}
-
-/// Writes the `len` octets that lie in the ring from `at` on into guest memory, from `addr` on.
+/// Saves the `len` octets that lie in the ring from `at` on before other old octets: what is saved later comes first.
 #[inline(always)]
-pub(crate) fn write_out(memory: &mut GuestMemory, addr: u64, ring: &[u8], at: usize, len: usize)
+pub(crate) fn save_part(ring: &[u8], at: usize, len: usize, old: &mut OldOctets)
     requires at { at ≤ length ring.now }
     requires size { len ≤ length ring.now }
-    requires held { IsHeld memory.old.octets addr len }
-    requires made { IsMade memory.old addr len }
-    ensures octets { memory.new.octets ≡ put memory.old.octets addr (ring_part ring.now at len) }
-    ensures made { memory.new.made ≡ memory.old.made }
+    requires old_room { len ≤ length old.old.octets }
+    ensures { old.new ≡ saved (ring_part ring.now at len) old.old }
 {
-    let (low, high) = ring.split_at(at);
-    if len <= high.len() {
-        memory.write(addr, &high[..len]);
-        return;
+    let (front, back) = pieces(ring, at, len);
+    if !back.is_empty() {
+        old.save(back);
     }
-    places_are_small(memory);
-    memory.write(addr, high);
-    memory.write(addr + high.len() as u64, &low[..len - high.len()]);
+    old.save(front);
 }
 
-/// The `len` octets that lie in the ring from `at` on, in the two pieces in which they lie. The second is
-/// empty where they end before the ring does.
-pub(crate) fn pieces(ring: &[u8], at: usize, len: usize) -> (&[u8], &[u8])
-    requires at { at ≤ length ring.now }
-    requires size { len ≤ length ring.now }
-    ensures { result.0.now ++ result.1.now ≡ ring_part ring.now at len }
+/// Writes two pieces over the octets that lie in the ring from `at` on, one behind the other.
+#[inline(always)]
+pub(crate) fn put_both(ring: &mut Vec<u8>, at: usize, front: &[u8], back: &[u8])
+    requires at { at < length ring.old.items }
+    requires size { length front.now + length back.now ≤ length ring.old.items }
+    requires small { length ring.old.items < 2 ^ 31 }
+    ensures { ring.new.items ≡ ring_put ring.old.items at (front.now ++ back.now) }
 {
-    let (low, high) = ring.split_at(at);
-    if len <= high.len() {
-        (&high[..len], &low[..0])
-    } else {
-        (high, &low[..len - high.len()])
+    put_octets(ring, at, front);
+    if !back.is_empty() {
+        let behind = wrap(ring.len() as u32, (at + front.len()) as u32);
+        put_octets(ring, behind as usize, back);
     }
-}
-
-/// Writes the octets over those that lie in the ring from `at` on.
-pub(crate) fn put_octets(ring: &mut Vec<u8>, at: usize, octets: &[u8])
-    requires at { at ≤ length ring.old.items }
-    requires size { length octets.now ≤ length ring.old.items }
-    ensures ring { ring.new.items ≡ ring_put ring.old.items at octets.now }
-{
-    let (low, high) = ring.as_mut_slice().split_at_mut(at);
-    put_over(high, low, octets);
-}
-
-/// Writes the octets over those of a ring that is given in two parts, the one that comes first before the other.
-fn put_over(first: &mut [u8], second: &mut [u8], octets: &[u8])
-    requires size { length octets.now ≤ length first.old + length second.old }
-    ensures parts { first.new ++ second.new ≡ octets.now ++ drop (length octets.now) (first.old ++ second.old) }
-    ensures first { length first.new ≡ length first.old }
-{
-    let size = first.len();
-    if octets.len() <= size {
-        put_front(first, octets);
-    } else {
-        let (before, after) = octets.split_at(size);
-        first.copy_from_slice(before);
-        put_front(second, after);
-    }
-}
-
-/// Writes the octets over those at the front of the slice.
-fn put_front(slice: &mut [u8], octets: &[u8])
-    requires size { length octets.now ≤ length slice.old }
-    ensures slice { slice.new ≡ octets.now ++ drop (length octets.now) slice.old }
-{
-    slice[..octets.len()].copy_from_slice(octets);
-}
-
-/// Exchanges the entry with the one that lies at its place in the ring.
-pub(crate) fn exchange_entry(ring: &mut Vec<Entry>, index: usize, entry: &mut Entry)
-    requires { index < length ring.old.items }
-    ensures ring { ring.new.items ≡ set ring.old.items index entry.old }
-    ensures entry { entry.new ≡ get_or ring.old.items index entry.old }
-{
-    std::mem::swap(&mut ring[index], entry);
 }

@@ -1,8 +1,10 @@
 //! What a step of the receive engine did, and what takes it back.
-ghost use Rattle.std.specs.Prelude.{◌≡◌};
-ghost use Rattle.em_rx.specs.RxStep.{answer_of, undo_of};
+ghost use Rattle.std.specs.Prelude.{◌≡◌, ◌≤◌, length};
+ghost use Rattle.em_rx.specs.Records.{IsWhole, record_of};
+ghost use Rattle.em_rx.specs.RxStep.{answer_of, saved_by, undo_of};
 
-use crate::undo::{RxUndo, StepPatch};
+use crate::undo::{OldPiece, RxUndo};
+use em_mem::OldOctets;
 
 /// What a receive step did.
 #[derive(Clone, Copy, Debug, PartialEq, Eq)]
@@ -14,24 +16,26 @@ pub enum RxAnswer {
     Wrote { index: u32, next: u32, causes: u32 },
 }
 
-/// What a receive step did, with the record that takes it back.
-#[derive(Drop)]
+/// What a receive step did, with what takes it back beside the octets that it saved.
+#[derive(Clone, Copy)]
 pub enum RxStep {
     /// It was idle, and nothing changed.
     Idle,
-    /// It wrote, as `RxAnswer::Wrote` says; the patch holds what it overwrote.
+    /// It wrote, as `RxAnswer::Wrote` says, and replaced what the piece says.
     Wrote {
         index: u32,
         next: u32,
         causes: u32,
-        patch: Box<StepPatch>,
+        piece: OldPiece,
     },
 }
 
 impl RxStep {
-    /// The answer, and the record by itself.
-    pub(crate) fn into_parts(self) -> (RxAnswer, RxUndo)
-        ensures { result ≡ (answer_of self, undo_of self) }
+    /// The answer, and the record by itself, which takes the octets that the step saved.
+    pub(crate) fn into_parts(self, old: OldOctets) -> (RxAnswer, RxUndo)
+        ensures answer { result.0 ≡ answer_of self }
+        ensures undo { record_of result.1 ≡ undo_of self old }
+        ensures whole { saved_by self ≤ length old.octets → IsWhole result.1 }
     {
         match self {
             RxStep::Idle => (RxAnswer::Idle, RxUndo::Nothing),
@@ -39,14 +43,14 @@ impl RxStep {
                 index,
                 next,
                 causes,
-                patch,
+                piece,
             } => {
                 let answer = RxAnswer::Wrote {
                     index,
                     next,
                     causes,
                 };
-                (answer, RxUndo::Step(patch))
+                (answer, RxUndo::Step(piece, old))
             }
         }
     }

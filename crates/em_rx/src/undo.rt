@@ -1,146 +1,82 @@
 //! The record of a change of the FIFO.
-ghost use Rattle.std.specs.Prelude.{◌≡◌, ◌+◌, ◌≤◌, length};
-ghost use Rattle.em_rx.specs.Fifo.{Cells, shows};
-ghost use Rattle.em_rx.specs.Undo.{FitsFrame, octets_held, with_patch};
+ghost use Rattle.std.specs.Prelude.{◌≡◌, ◌<◌};
+ghost use Rattle.em_rx.specs.Records.{record_of, saved_of};
+ghost use Rattle.em_rx.specs.Undo.{octets_held};
 
 use crate::descriptor::WRITTEN_OCTETS;
 use crate::places::{Entry, Places};
-use em_mem::MemUndo;
-use std::alloc::Global;
-use std::marker::Model;
+use em_mem::OldOctets;
 
-/// What an arrival exchanges with the FIFO: octets of the packet buffer, an entry of the ring, and the
-/// places.
-#[derive(Drop)]
-pub struct FramePatch {
-    pub(crate) octets: Vec<u8>,
-    pub(crate) at: u32,
+/// What an arrival replaced beside octets, which lie first among old octets.
+#[derive(Clone, Copy)]
+pub struct OldFrame {
+    /// The entry that lay at its index.
     pub(crate) entry: Entry,
-    pub(crate) index: u32,
-    pub(crate) places: Places,
+    /// How many octets lay under the frame.
+    pub(crate) len: u16,
 }
 
-impl Model for FramePatch {
-    ghost use Rattle.std.specs.Prelude.{◌≤◌, length};
-    ghost use Rattle.em_rx.specs.FramePatch.{FramePatch};
-
-    ghost Value = { FramePatch };
-
-    ghost view = { λ p. record {
-      octets = p.octets.items;
-      at = p.at;
-      entry = p.entry;
-      index = p.index;
-      places = p.places;
-    } };
-
-    ghost invariant = { λ p. length p.octets.items ≤ 16_384 };
-}
-
-impl FramePatch {
-    /// A patch of no octets, to be filled. It takes no memory.
-    pub(crate) fn empty(alloc: Global) -> FramePatch {
-        FramePatch {
-            octets: Vec::new(alloc),
-            at: 0,
-            entry: Entry { len: 0, tag: None },
-            index: 0,
-            places: Places::none(),
-        }
-    }
-
-    /// How many octets it holds.
-    pub fn len(&self) -> u32
-        ensures len { result ≡ length self.now.octets }
-        ensures most { result ≤ MOST_HELD }
-    {
-        self.octets.len() as u32
-    }
-
-    /// How many frames lay in the FIFO before the arrival.
+impl OldFrame {
+    /// How many old octets are its own.
     #[inline(always)]
-    pub fn frames(&self) -> usize
-        ensures count { result ≡ self.now.places.count }
-        ensures before { (c : Cells) → FitsFrame c self.now → length (shows (with_patch c self.now)).frames ≡ result }
+    pub fn len(&self) -> usize
+        ensures len { result ≡ self.now.len }
+        ensures few { result < 65_536 }
     {
-        self.places.count as usize
+        self.len as usize
     }
 }
 
-/// What a receive step exchanges with guest memory and the FIFO's places: octets of a buffer and the end
-/// of a descriptor, as they were together, since they may lie over each other.
-#[derive(Drop)]
-pub struct StepPatch {
-    pub(crate) piece: MemUndo,
-    /// Where the end of the descriptor lies.
-    pub(crate) end_at: u64,
-    pub(crate) end: [u8; WRITTEN_OCTETS],
-    pub(crate) places: Places,
+/// What a receive step replaced beside octets. Those of its piece lie first among old octets, and behind them those of
+/// the descriptor's end.
+#[derive(Clone, Copy)]
+pub struct OldPiece {
+    /// Where the piece lies in guest memory.
+    pub buffer: u32,
+    /// Where the end of its descriptor lies.
+    pub end_at: u32,
+    /// How many octets the piece has.
+    pub len: u16,
+    /// Whether the frame left the FIFO with it.
+    pub left: bool,
 }
 
-impl Model for StepPatch {
-    ghost use Rattle.std.specs.Prelude.{◌≡◌, length};
-    ghost use Rattle.em_rx.specs.StepPatch.{StepPatch};
-
-    ghost Value = { StepPatch };
-
-    ghost view = { λ p. record {
-      first = p.piece;
-      second = record { at = p.end_at; octets = p.end };
-      places = p.places;
-    } };
-
-    ghost invariant = { λ p. length p.end ≡ 8 };
-}
-
-impl StepPatch {
-    /// A patch of no piece, to be filled. It takes no memory.
-    pub(crate) fn empty(alloc: Global) -> StepPatch {
-        StepPatch {
-            piece: MemUndo::new(0, Vec::new(alloc)),
-            end_at: 0,
-            end: [0; WRITTEN_OCTETS],
-            places: Places::none(),
-        }
-    }
-
-    /// How many octets it holds.
-    pub fn len(&self) -> u32
-        ensures len { result ≡ length self.now.first.octets + length self.now.second.octets }
-        ensures most { result ≤ MOST_HELD }
+impl OldPiece {
+    /// How many old octets are its own: those of the piece, and 8 of the descriptor.
+    #[inline(always)]
+    pub fn len(&self) -> usize
+        ensures { result ≡ saved_of self.now }
     {
-        self.piece.len() + self.end.len() as u32
+        self.len as usize + WRITTEN_OCTETS
     }
 }
 
-/// The most octets that a record holds: a piece of a frame, and 8 octets of a descriptor.
+/// The most octets that a record has: a piece of a frame, and 8 octets of a descriptor.
 pub const MOST_HELD: u32 = 16_392;
 
-/// What takes a change of the receive side back: the cells that it changed, as they were.
+/// What takes a change of the receive side back by itself, with old octets of its own.
 #[derive(Drop)]
 pub enum RxUndo {
     /// Nothing changed.
     Nothing,
     /// The places, of a FIFO that was cleared.
     Places(Places),
-    /// What an arrival overwrote, and the places before it: in a box, as the next, so that records stay
-    /// small.
-    Frame(Box<FramePatch>),
-    /// What a receive step overwrote in guest memory, and the places before it.
-    Step(Box<StepPatch>),
+    /// What an arrival replaced.
+    Frame(OldFrame, OldOctets),
+    /// What a receive step replaced.
+    Step(OldPiece, OldOctets),
 }
 
 impl RxUndo {
     /// How many octets it holds: those that an arrival stored, or those that a receive step wrote, 8
-    /// of the descriptor among them. At most 16,392.
+    /// of the descriptor among them.
     pub fn len(&self) -> u32
-        ensures len { result ≡ octets_held self.now }
-        ensures most { result ≤ MOST_HELD }
+        ensures { result ≡ octets_held (record_of self.now) }
     {
         match self {
             RxUndo::Nothing | RxUndo::Places(_) => 0,
-            RxUndo::Frame(patch) => patch.len(),
-            RxUndo::Step(patch) => patch.len(),
+            RxUndo::Frame(frame, old) => frame.len().min(old.room()) as u32,
+            RxUndo::Step(piece, old) => piece.len().min(old.room()) as u32,
         }
     }
 }

@@ -23,19 +23,25 @@ use Rattle.em_step.proofs.ArrivalLaws.{stored_most}
 use Rattle.em_step.specs.declared.refusal.Refusal.TheVariants.{Length}
 use Rattle.em_step.specs.Event.{Event, reads, writes, pokes, arrives, links, receives, transmits}
 use Rattle.em_step.specs.Step.{resets, step}
-use Rattle.em_step.specs.Cost.{least_cost, most_cost, cost, cost_of_effect, cost_of}
+use Rattle.em_step.specs.Cost.{least_cost, most_cost, cost, cost_by, cost_by_effect, cost_of_effect, cost_of}
+use Rattle.em_step.specs.Cells.{Cells, shows}
+use Rattle.em_step.specs.Performed.{WasPerformed}
+use Rattle.em_step.specs.declared.undo.Record.{Record}
+use Rattle.em_step.specs.declared.undo.Effect.{Effect}
+use Rattle.em_step.specs.declared.undo.Effect.TheVariants as effect
+use Rattle.em_mem.specs.OldOctets.{OldOctets, given_up}
+use Rattle.em_mem.proofs.PutLaws.{length-part}
+use Rattle.em_mem.proofs.RingLaws.{length-turn}
+use Rattle.std.proofs.lemmas.List.{length-take-le}
+use Rattle.em_step.specs.Undo.{changed, held, held_by, undo_of}
 use Rattle.em_step.specs.declared.event.Answer.{Answer}
 use Rattle.em_step.specs.declared.event.Answer.TheVariants.{Stored}
-use Rattle.em_step.specs.declared.undo.Undo.{Undo}
-use Rattle.em_step.specs.declared.undo.Effect.{Effect}
-use Rattle.em_step.specs.declared.undo.Effect.TheVariants.{Nothing, Register, Octets, FewOctets, Arrival}
-use Rattle.em_step.specs.declared.undo.Effect.TheVariants.{RxStep, TxStep, Link, Reset}
+use Rattle.em_step.specs.Undo.{Changed, Undo, Nothing, Register, Octets, Arrival, RxStep, TxStep, Link, Reset}
 
-effect_least : (p : Effect) → least_cost ≤ cost_of_effect p
+effect_least : (p : Changed) → least_cost ≤ cost_of_effect p
 effect_least Nothing = omega arith
 effect_least (Register old) = omega arith
 effect_least (Octets old) = omega arith
-effect_least (FewOctets old) = omega arith
 effect_least (Arrival old) = omega arith
 effect_least (RxStep head old) = omega arith
 effect_least (TxStep old head) = omega arith
@@ -112,3 +118,42 @@ cost_most s transmits r is =
     let q = tx_setup s.registers in
     let most = sent_by_engine s (transmitted s) r (tx.cost q (sending s)) (tx_laws.cost_most q (sending s)) is in
     omega (arith, most)
+
+by_effect_least : (e : Effect) → least_cost ≤ cost_by_effect e
+by_effect_least effect.Nothing = omega arith
+by_effect_least (effect.Register old) = omega arith
+by_effect_least (effect.Octets at len place) = omega arith
+by_effect_least (effect.Arrival old place) = omega arith
+by_effect_least (effect.RxStep left len buffer end_at place) = omega arith
+by_effect_least (effect.TxStep old head) = omega arith
+by_effect_least (effect.Link old) = omega arith
+by_effect_least (effect.Reset old) = omega arith
+
+pub cost_by_least : (r : Record) → least_cost ≤ cost_by r
+cost_by_least r = by_effect_least r.effect
+
+-- ---- of a record, with the octets that were saved for it
+cost_as_effect : (e : Effect) (o : OldOctets) → held_by e ≤ length o.octets
+    → cost_of_effect (changed e o) ≡ cost_by_effect e
+cost_as_effect effect.Nothing o room = refl
+cost_as_effect (effect.Register old) o room = refl
+cost_as_effect (effect.Octets at len place) o room = omega (arith, length-take-le len o.octets room)
+cost_as_effect (effect.Arrival old place) o room = omega (arith, length-take-le old.len o.octets room)
+cost_as_effect (effect.RxStep left len buffer end_at place) o room =
+    let g = given_up 4 o in
+    let size : length g.octets ≡ length o.octets = length-turn 4 o.octets in
+    omega (
+      arith,
+      length-take-le len g.octets (omega (arith, size, room)),
+      length-part g.octets len 8 (omega (arith, size, room)),
+    )
+cost_as_effect (effect.TxStep old head) o room = refl
+cost_as_effect (effect.Link old) o room = refl
+cost_as_effect (effect.Reset old) o room = refl
+
+pub cost_as : (r : Record) (o : OldOctets) → held r ≤ length o.octets → cost_of (undo_of r o) ≡ cost_by r
+cost_as r o room = cost_as_effect r.effect o room
+
+pub performed_most : {old new : Cells} {e : Event} {answer : Answer} {r : Undo} → WasPerformed old e new answer r
+    → cost_of r ≤ most_cost
+performed_most {old} {e = e} done = omega (arith, done.cost, cost_most (shows old) e _ done.ok)

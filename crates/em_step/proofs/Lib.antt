@@ -10,3 +10,4 @@ pub mod SetupLaws
 pub mod WholeLaws
 pub mod BeforeLaws
 pub mod SizeLaws
+pub mod SavedLaws

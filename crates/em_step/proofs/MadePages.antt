@@ -7,21 +7,17 @@ use Rattle.em_regs.specs.RegFile as registers
 use Rattle.em_latch.specs.Latches as latches
 use Rattle.em_rx.specs.Fifo as rx
 use Rattle.em_rx.specs.Undo as rx_undo
-use Rattle.em_rx.specs.declared.undo.RxUndo.{RxUndo}
-use Rattle.em_rx.specs.declared.undo.RxUndo.TheVariants as rx_record
-use Rattle.em_rx.specs.declared.undo.RxUndo.TheVariants.{Frame}
+use Rattle.em_rx.specs.StepPatch.{StepPatch}
+use Rattle.em_rx.specs.RxUndo as rx_record
 use Rattle.em_rx.proofs.MadePages as rx_laws
 use Rattle.em_tx.specs.Cells as tx_cells
 use Rattle.em_tx.specs.declared.undo.TxUndo.{TxUndo}
 use Rattle.em_tx.specs.declared.undo.TxUndo.TheVariants as tx_record
 use Rattle.em_tx.proofs.MadePages as tx_laws
 use Rattle.em_step.specs.Cells.{Cells, shows, MorePages}
-use Rattle.em_step.specs.Undo.{Fits, EffectFits, tx_cells_of, undo, undo_octets, undo_effect, undo_receive}
+use Rattle.em_step.specs.Undo.{Fits, EffectFits, tx_cells_of, undo, undo_octets, undo_effect, undo_piece}
 use Rattle.em_step.specs.Undo.{undo_register, undo_transmit, word}
-use Rattle.em_step.specs.declared.undo.Undo.{Undo}
-use Rattle.em_step.specs.declared.undo.Effect.{Effect}
-use Rattle.em_step.specs.declared.undo.Effect.TheVariants.{Nothing, Register, Octets, FewOctets, Arrival}
-use Rattle.em_step.specs.declared.undo.Effect.TheVariants.{RxStep, TxStep, Link, Reset}
+use Rattle.em_step.specs.Undo.{Changed, Undo, Nothing, Register, Octets, Arrival, RxStep, TxStep, Link, Reset}
 
 pub shows_after : (c d : Cells) → MorePages c d → shows d ≡ shows c
 shows_after c d more = λ i. record {
@@ -35,19 +31,32 @@ shows_after c d more = λ i. record {
   link = more.link i;
 }
 
--- a record of the receive side
-receive_fits_after :
-    (c d : Cells) (r : RxUndo) → MorePages c d → rx_undo.Fits c.fifo c.memory r → rx_undo.Fits d.fifo d.memory r
-receive_fits_after c d r more fits =
-    subst (λ f. rx_undo.Fits f d.memory r) (sym more.fifo)
-    (rx_laws.fits_after c.fifo c.memory d.memory r more.memory fits)
-
-receive_after : (c d : Cells) (r : RxUndo) → MorePages c d → MorePages (undo_receive c r) (undo_receive d r)
-receive_after c d r more = record {
+-- the FIFO with other cells
+with_fifo : (c d : Cells) (f g : rx.Cells) → MorePages c d → g ≡ f → MorePages (record c { fifo = f }) (record d { fifo = g })
+with_fifo c d f g more same = record {
   registers = more.registers;
   latches = more.latches;
-  fifo = ap (λ f. rx_undo.undo_fifo f r) more.fifo;
-  memory = rx_laws.undo_after c.memory d.memory r more.memory;
+  fifo = same;
+  memory = more.memory;
+  gathered = more.gathered;
+  wire = more.wire;
+  eeprom = more.eeprom;
+  link = more.link;
+}
+
+-- what a receive step replaced
+piece_fits_after : (c d : Cells) (p : StepPatch) → MorePages c d → rx_undo.FitsStep c.fifo c.memory p
+    → rx_undo.FitsStep d.fifo d.memory p
+piece_fits_after c d p more fits =
+    subst (λ f. rx_undo.FitsStep f d.memory p) (sym more.fifo)
+    (rx_laws.fits_after c.fifo c.memory d.memory (rx_record.Step p) more.memory fits)
+
+piece_after : (c d : Cells) (p : StepPatch) → MorePages c d → MorePages (undo_piece c p) (undo_piece d p)
+piece_after c d p more = record {
+  registers = more.registers;
+  latches = more.latches;
+  fifo = ap (λ (f : rx.Cells). record f { places = rx_undo.places_before f p }) more.fifo;
+  memory = rx_laws.undo_after c.memory d.memory (rx_record.Step p) more.memory;
   gathered = more.gathered;
   wire = more.wire;
   eeprom = more.eeprom;
@@ -90,22 +99,21 @@ transmit_after c d r more =
       link = more.link;
     }
 
-effect_fits_after : (c d : Cells) (p : Effect) → MorePages c d → EffectFits c p → EffectFits d p
+effect_fits_after : (c d : Cells) (p : Changed) → MorePages c d → EffectFits c p → EffectFits d p
 effect_fits_after c d Nothing more fits = tt
 effect_fits_after c d (Register old) more fits = register_fits_after c d old more fits
-effect_fits_after c d (Octets old) more fits = memory.fits_after c.memory d.memory old.value more.memory fits
-effect_fits_after c d (FewOctets old) more fits = memory.fits_after c.memory d.memory old more.memory fits
-effect_fits_after c d (Arrival old) more fits = receive_fits_after c d (Frame old) more fits
+effect_fits_after c d (Octets old) more fits = memory.fits_after c.memory d.memory old more.memory fits
+effect_fits_after c d (Arrival old) more fits = subst (λ f. rx_undo.FitsFrame f old) (sym more.fifo) fits
 effect_fits_after c d (RxStep head old) more fits =
-    (register_fits_after c d (word Rdh head) more fits.0, receive_fits_after c d (rx_record.Step old) more fits.1)
+    (register_fits_after c d (word Rdh head) more fits.0, piece_fits_after c d old more fits.1)
 effect_fits_after c d (TxStep old head) more fits = (
   register_fits_after c d (word Tdh head) more fits.0,
   tx_laws.fits_after (tx_cells_of c) (tx_cells_of d) (tx_record.Step old) (sending_cells c d more) fits.1,
 )
 effect_fits_after c d (Link old) more fits = tt
 effect_fits_after c d (Reset old) more fits = (
-  tx_laws.fits_after (tx_cells_of c) (tx_cells_of d) old.value.gathered (sending_cells c d more) fits.0,
-  receive_fits_after _ _ old.value.fifo (transmit_after c d old.value.gathered more) fits.1,
+  tx_laws.fits_after (tx_cells_of c) (tx_cells_of d) old.gathered (sending_cells c d more) fits.0,
+  subst (λ (f : rx.Cells). rx.IsSound (record f { places = old.places })) (sym more.fifo) fits.1,
 )
 
 pub fits_after : (c d : Cells) (r : Undo) → MorePages c d → Fits c r → Fits d r
@@ -127,14 +135,14 @@ octets_after c d old more = record {
   link = more.link;
 }
 
-effect_after : (c d : Cells) (p : Effect) → MorePages c d → MorePages (undo_effect c p) (undo_effect d p)
+effect_after : (c d : Cells) (p : Changed) → MorePages c d → MorePages (undo_effect c p) (undo_effect d p)
 effect_after c d Nothing more = more
 effect_after c d (Register old) more = register_after c d old more
-effect_after c d (Octets old) more = octets_after c d old.value more
-effect_after c d (FewOctets old) more = octets_after c d old more
-effect_after c d (Arrival old) more = receive_after c d (Frame old) more
+effect_after c d (Octets old) more = octets_after c d old more
+effect_after c d (Arrival old) more =
+    with_fifo c d _ _ more (ap (λ f. rx_undo.with_patch f old) more.fifo)
 effect_after c d (RxStep head old) more =
-    receive_after (undo_register c (word Rdh head)) (undo_register d (word Rdh head)) (rx_record.Step old)
+    piece_after (undo_register c (word Rdh head)) (undo_register d (word Rdh head)) old
     (register_after c d (word Rdh head) more)
 effect_after c d (TxStep old head) more =
     transmit_after (undo_register c (word Tdh head)) (undo_register d (word Tdh head)) (tx_record.Step old)
@@ -150,7 +158,7 @@ effect_after c d (Link old) more = record {
   link = refl;
 }
 effect_after c d (Reset old) more =
-    receive_after _ _ old.value.fifo (transmit_after _ _ old.value.gathered record {
+    with_fifo _ _ _ _ (transmit_after _ _ old.gathered record {
       registers = refl;
       latches = refl;
       fifo = more.fifo;
@@ -159,7 +167,7 @@ effect_after c d (Reset old) more =
       wire = more.wire;
       eeprom = more.eeprom;
       link = more.link;
-    })
+    }) (ap (λ (f : rx.Cells). record f { places = old.places }) more.fifo)
 
 pub undo_after : (c d : Cells) (r : Undo) → MorePages c d → MorePages (undo c r) (undo d r)
 undo_after c d r more = effect_after _ _ r.effect record {

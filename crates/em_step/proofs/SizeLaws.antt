@@ -8,18 +8,13 @@ use Rattle.em_latch.specs.Latches as latches
 use Rattle.em_rx.specs.Fifo as fifo
 use Rattle.em_rx.specs.StepPatch.{StepPatch}
 use Rattle.em_rx.specs.Undo as rx
-use Rattle.em_rx.specs.declared.undo.RxUndo.{RxUndo}
-use Rattle.em_rx.specs.declared.undo.RxUndo.TheVariants as rx_undo
 use Rattle.em_tx.specs.Cells as tx_cells
 use Rattle.em_tx.specs.Undo as tx
 use Rattle.em_tx.specs.declared.undo.TxUndo.{TxUndo}
 use Rattle.em_tx.specs.declared.undo.TxUndo.TheVariants as tx_undo
 use Rattle.em_step.specs.Cells.{Cells, shows}
 use Rattle.em_step.specs.Undo.{EffectFits, Fits, tx_cells_of, undo, undo_effect}
-use Rattle.em_step.specs.declared.undo.Undo.{Undo}
-use Rattle.em_step.specs.declared.undo.Effect.{Effect}
-use Rattle.em_step.specs.declared.undo.Effect.TheVariants.{Nothing, Register, Octets, FewOctets, Arrival}
-use Rattle.em_step.specs.declared.undo.Effect.TheVariants.{RxStep, TxStep, Link, Reset}
+use Rattle.em_step.specs.Undo.{Changed, Undo, Nothing, Register, Octets, Arrival, RxStep, TxStep, Link, Reset}
 
 size_patch : (m : memory.Cells) (p : memory.Patch) → memory.Fits m p
     → length (memory.undo m p).octets ≡ length m.octets
@@ -29,13 +24,6 @@ size_both : (c : fifo.Cells) (m : memory.Cells) (p : StepPatch) → rx.FitsStep 
     → length (rx.with_both m p).octets ≡ length m.octets
 size_both c m p fits =
     size_patch (memory.undo m p.first) p.second fits.second ∙ size_patch m p.first fits.first
-
-size_receive : (c : fifo.Cells) (m : memory.Cells) (r : RxUndo) → rx.Fits c m r
-    → length (rx.undo_memory m r).octets ≡ length m.octets
-size_receive c m rx_undo.Nothing fits = refl
-size_receive c m (rx_undo.Places places) fits = refl
-size_receive c m (rx_undo.Frame patch) fits = refl
-size_receive c m (rx_undo.Step patch) fits = size_both c m patch.value fits
 
 size_status : (m : memory.Cells) (status : Option memory.Patch) → tx.StatusFits m status
     → length (tx.status_undo m status).octets ≡ length m.octets
@@ -48,19 +36,16 @@ size_transmit c tx_undo.Nothing fits = refl
 size_transmit c (tx_undo.Step change) fits = size_status c.memory change.status fits.1
 size_transmit c (tx_undo.Cleared old) fits = refl
 
-size_effect : (c : Cells) (l : Registers) (e : Effect) → EffectFits c e
+size_effect : (c : Cells) (l : Registers) (e : Changed) → EffectFits c e
     → length (undo_effect (record c { latches = l }) e).memory.octets ≡ length c.memory.octets
 size_effect c l Nothing fits = refl
 size_effect c l (Register old) fits = refl
-size_effect c l (Octets old) fits = size_patch c.memory old.value fits
-size_effect c l (FewOctets old) fits = size_patch c.memory old fits
+size_effect c l (Octets old) fits = size_patch c.memory old fits
 size_effect c l (Arrival old) fits = refl
-size_effect c l (RxStep head old) fits = size_both c.fifo c.memory old.value fits.1
+size_effect c l (RxStep head old) fits = size_both c.fifo c.memory old fits.1
 size_effect c l (TxStep old head) fits = size_status c.memory old.status fits.1.1
 size_effect c l (Link old) fits = refl
-size_effect c l (Reset old) fits =
-    size_receive c.fifo (tx.undo (tx_cells_of c) old.value.gathered).memory old.value.fifo fits.1
-    ∙ size_transmit (tx_cells_of c) old.value.gathered fits.0
+size_effect c l (Reset old) fits = size_transmit (tx_cells_of c) old.gathered fits.0
 
 -- before an event memory was as large as after it
 pub memory_size : (c : Cells) (r : Undo) → Fits c r

@@ -1,7 +1,7 @@
 -- What a record tells of the state before the event, without being put back.
-use Rattle.std.specs.Prelude.{◌≡◌, ℕ, ◌+◌, Bool, false, if◌then◌else◌, List, length, unwrap_or, Option, None}
+use Rattle.std.specs.Prelude.{◌≡◌, ℕ, ◌+◌, ◌-◌, Bool, false, if◌then◌else◌, List, length, unwrap_or, Option, None}
 use Rattle.em_mem.specs.Extent as extent
-use Rattle.em_mem.specs.Extent.{SameUpTo, least}
+use Rattle.em_mem.specs.Extent.{SameUpTo}
 use Rattle.em_mem.specs.Window.{IsWindow, lay_over}
 use Rattle.em_regs.specs.declared.reg.Reg.{Reg}
 use Rattle.em_regs.specs.declared.reg.Reg.TheVariants.{Ics, Imc, Rdh, Tdh}
@@ -16,11 +16,8 @@ use Rattle.em_tx.specs.Before as tx
 use Rattle.em_tx.specs.Undo.{gathered_of, last_of}
 use Rattle.em_step.specs.Cells.{Cells, shows}
 use Rattle.em_step.specs.State.{State}
-use Rattle.em_step.specs.Undo.{Fits, undo, word}
-use Rattle.em_step.specs.declared.undo.Undo.{Undo}
-use Rattle.em_step.specs.declared.undo.Effect.{Effect}
-use Rattle.em_step.specs.declared.undo.Effect.TheVariants.{Register, Octets, FewOctets, Arrival}
-use Rattle.em_step.specs.declared.undo.Effect.TheVariants.{RxStep, TxStep, Link, Reset}
+use Rattle.em_step.specs.Undo.{Changed, Fits, Undo, undo, word}
+use Rattle.em_step.specs.Undo.{Register, Octets, Arrival, RxStep, TxStep, Link, Reset}
 
 -- ---- what an answer about a record means: in any cells that the record fits
 -- what reads so now reads so once the record is put back
@@ -48,11 +45,11 @@ PutsBackGathered r last now before = (c : Cells) → Fits c r → last_of (shows
 
 -- ---- what each effect tells, where it is so much now
 -- of a register that keeps what software writes
-abbrev pub stored_before : Effect → Reg → ℕ → ℕ
+abbrev pub stored_before : Changed → Reg → ℕ → ℕ
 stored_before (Register old) reg now = unwrap_or (registers.old_at old (offset_of reg)) now
 stored_before (RxStep head old) reg now = unwrap_or (registers.old_at (word Rdh head) (offset_of reg)) now
 stored_before (TxStep old head) reg now = unwrap_or (registers.old_at (word Tdh head) (offset_of reg)) now
-stored_before (Reset old) reg now = registers.at old.value.registers.value (offset_of reg)
+stored_before (Reset old) reg now = registers.at old.registers (offset_of reg)
 stored_before effect reg now = now
 
 -- of an interrupt register or a counter: ICS and IMC always read as 0
@@ -61,16 +58,16 @@ latch_before growths Ics now = now
 latch_before growths Imc now = now
 latch_before growths reg now = latches.before_at growths (offset_of reg) now
 
-abbrev pub latched_before : List Growth → Effect → Reg → ℕ → ℕ
-latched_before growths (Reset old) reg now = latches.gives old.value.latches reg
+abbrev pub latched_before : List Growth → Changed → Reg → ℕ → ℕ
+latched_before growths (Reset old) reg now = latches.gives old.latches reg
 latched_before growths effect reg now = latch_before growths reg now
 
-abbrev pub link_before : Effect → Bool → Bool
+abbrev pub link_before : Changed → Bool → Bool
 link_before (Link old) now = old
 link_before effect now = now
 
 -- of STATUS, which follows the link
-abbrev pub status_before : Effect → ℕ → ℕ
+abbrev pub status_before : Changed → ℕ → ℕ
 status_before (Link old) now = if old then 0x83 else 0x81
 status_before effect now = now
 
@@ -85,38 +82,36 @@ abbrev pub register_before : Undo → Reg → ℕ → ℕ
 register_before r reg now = register_before_by (row_of reg).kind r reg now
 
 -- of a window of memory from address a on
-abbrev pub octets_before : Effect → ℕ → List ℕ → List ℕ
-octets_before (Octets old) a now = lay_over a now old.value
-octets_before (FewOctets old) a now = lay_over a now old
-octets_before (RxStep head old) a now = rx.laid_step old.value a now
+abbrev pub octets_before : Changed → ℕ → List ℕ → List ℕ
+octets_before (Octets old) a now = lay_over a now old
+octets_before (RxStep head old) a now = rx.laid_step old a now
 octets_before (TxStep old head) a now = tx.laid_status old.status a now
-octets_before (Reset old) a now = rx.laid old.value.fifo a (tx.laid old.value.gathered a now)
+octets_before (Reset old) a now = tx.laid old.gathered a now
 octets_before effect a now = now
 
 -- the least address from a on where it has an octet of memory
-abbrev pub next_octet : Effect → ℕ → Option ℕ
-next_octet (Octets old) a = extent.next_octet a old.value
-next_octet (FewOctets old) a = extent.next_octet a old
-next_octet (RxStep head old) a = rx.next_of_step old.value a
+abbrev pub next_octet : Changed → ℕ → Option ℕ
+next_octet (Octets old) a = extent.next_octet a old
+next_octet (RxStep head old) a = rx.next_of_step old a
 next_octet (TxStep old head) a = tx.next_of_status old.status a
-next_octet (Reset old) a = least (tx.next_of old.value.gathered a) (rx.next_of old.value.fifo a)
+next_octet (Reset old) a = tx.next_of old.gathered a
 next_octet effect a = None
 
 -- of the number of frames in the FIFO
-abbrev pub frames_before : Effect → ℕ → ℕ
-frames_before (Arrival old) now = old.value.places.count
-frames_before (RxStep head old) now = old.value.places.count
-frames_before (Reset old) now = unwrap_or (rx.frames_of old.value.fifo) now
+abbrev pub frames_before : Changed → ℕ → ℕ
+frames_before (Arrival old) now = now - 1
+frames_before (RxStep head old) now = rx.frames_before_step old.left now
+frames_before (Reset old) now = old.places.count
 frames_before effect now = now
 
 -- of the gathered octets, where that frame went last to the wire
-abbrev pub gathered_before : Effect → List ℕ → List ℕ → List ℕ
+abbrev pub gathered_before : Changed → List ℕ → List ℕ → List ℕ
 gathered_before (TxStep old head) now last = gathered_of old.count old.sent now last
-gathered_before (Reset old) now last = tx.gathered_by old.value.gathered now last
+gathered_before (Reset old) now last = tx.gathered_by old.gathered now last
 gathered_before effect now last = now
 
 -- whether it sent a frame
-abbrev pub has_sent : Effect → Bool
+abbrev pub has_sent : Changed → Bool
 has_sent (TxStep old head) = tx.has_sent old.sent
-has_sent (Reset old) = tx.has_sent_by old.value.gathered
+has_sent (Reset old) = tx.has_sent_by old.gathered
 has_sent effect = false

@@ -5,16 +5,14 @@ use Rattle.em_step.specs.State.{State}
 use Rattle.em_step.specs.Event.{Event, reads, writes, pokes, arrives, links, receives, transmits}
 use Rattle.em_regs.specs.Setup.{rx_setup, tx_setup}
 use Rattle.em_rx.specs.Receive.{octets_written}
-use Rattle.em_rx.specs.Undo.{octets_held}
 use Rattle.em_tx.specs.Engine as tx
-use Rattle.em_rx.specs.declared.undo.RxUndo.TheVariants.{Frame, Step}
 use Rattle.em_step.specs.Engines.{sending}
 use Rattle.em_step.specs.Arrival.{arrival, octets_stored}
 use Rattle.em_step.specs.Step.{resets}
-use Rattle.em_step.specs.declared.undo.Undo.{Undo}
+use Rattle.em_step.specs.declared.undo.Record.{Record}
 use Rattle.em_step.specs.declared.undo.Effect.{Effect}
-use Rattle.em_step.specs.declared.undo.Effect.TheVariants.{Nothing, Register, Octets, FewOctets, Arrival}
-use Rattle.em_step.specs.declared.undo.Effect.TheVariants.{RxStep, TxStep, Link, Reset}
+use Rattle.em_step.specs.declared.undo.Effect.TheVariants as effect
+use Rattle.em_step.specs.Undo.{Changed, Undo, Nothing, Register, Octets, Arrival, RxStep, TxStep, Link, Reset}
 
 -- of an event whose record holds no octets
 abbrev pub least_cost : ℕ
@@ -35,16 +33,29 @@ cost s receives = least_cost + octets_written (rx_setup s.registers) s.fifo
 cost s transmits = least_cost + tx.cost (tx_setup s.registers) (sending s)
 
 -- of the record that the event left
-abbrev pub cost_of_effect : Effect → ℕ
+abbrev pub cost_of_effect : Changed → ℕ
 cost_of_effect Nothing = least_cost
 cost_of_effect (Register old) = least_cost
-cost_of_effect (Octets old) = least_cost + length old.value.octets
-cost_of_effect (FewOctets old) = least_cost + length old.octets
-cost_of_effect (Arrival old) = least_cost + octets_held (Frame old)
-cost_of_effect (RxStep head old) = least_cost + octets_held (Step old)
+cost_of_effect (Octets old) = least_cost + length old.octets
+cost_of_effect (Arrival old) = least_cost + length old.octets
+cost_of_effect (RxStep head old) = least_cost + (length old.first.octets + length old.second.octets)
 cost_of_effect (TxStep old head) = least_cost + old.cost
 cost_of_effect (Link old) = least_cost
 cost_of_effect (Reset old) = most_cost
 
 abbrev pub cost_of : Undo → ℕ
 cost_of r = cost_of_effect r.effect
+
+-- the same of a record, wherever its octets lie
+abbrev pub cost_by_effect : Effect → ℕ
+cost_by_effect effect.Nothing = least_cost
+cost_by_effect (effect.Register old) = least_cost
+cost_by_effect (effect.Octets at len place) = least_cost + len
+cost_by_effect (effect.Arrival old place) = least_cost + old.len
+cost_by_effect (effect.RxStep left len buffer end_at place) = least_cost + (len + 8)
+cost_by_effect (effect.TxStep old head) = least_cost + old.cost
+cost_by_effect (effect.Link old) = least_cost
+cost_by_effect (effect.Reset old) = most_cost
+
+abbrev pub cost_by : Record → ℕ
+cost_by r = cost_by_effect r.effect

@@ -1,17 +1,18 @@
 -- What performing an event leaves, and what refusing it leaves.
 use Rattle.std.specs.Prelude.{◌≡◌, ℕ, ◌+◌, List, Ok}
+use Rattle.em_mem.specs.OldOctets.{OldOctets}
 use Rattle.em_step.specs.Arrival.{octets_stored}
 use Rattle.em_step.specs.Cells.{Cells, MorePages, shows}
 use Rattle.em_step.specs.Cost.{cost, cost_of, least_cost}
 use Rattle.em_step.specs.Event.{Event}
 use Rattle.em_step.specs.State.{State}
 use Rattle.em_step.specs.Step.{Refuses, step}
-use Rattle.em_step.specs.Undo.{Reverses}
+use Rattle.em_step.specs.Undo.{IsPlain, Reverses, Undo, undo_of}
+use Rattle.em_step.specs.declared.undo.Record.{Record}
 use Rattle.em_step.specs.declared.event.Answer.{Answer}
 use Rattle.em_step.specs.declared.event.Answer.TheVariants.{Stored}
 use Rattle.em_step.specs.declared.refusal.Refusal.{Refusal}
 use Rattle.em_step.specs.declared.refusal.Refusal.TheVariants.{Memory}
-use Rattle.em_step.specs.declared.undo.Undo.{Undo}
 
 -- the event answered so, and led from the old cells to the new ones; the record costs what the event does, and takes
 -- it back
@@ -19,6 +20,11 @@ pub record WasPerformed (old : Cells) (e : Event) (new : Cells) (answer : Answer
   pub ok : step (shows old) e ≡ Ok (answer, shows new)
   pub cost : cost_of r ≡ cost (shows old) e
   pub reverses : Reverses old new r
+
+-- the same by its record, for which no octets were saved, so that it means the same whatever others were
+pub record PerformedPlainly (old : Cells) (e : Event) (new : Cells) (answer : Answer) (r : Record) : Type 0 where
+  pub plain : IsPlain r
+  pub performed : (o : OldOctets) → WasPerformed old e new answer (undo_of r o)
 
 -- the event was refused so, and nothing changed that is shown
 pub record WasRefused (old : Cells) (e : Event) (new : Cells) (refusal : Refusal) : Type 0 where

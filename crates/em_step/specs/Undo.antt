@@ -1,24 +1,138 @@
 -- What a record puts back, and when it can be put back into an adapter.
-use Rattle.std.specs.Prelude.{ℕ}
+use Rattle.std.specs.Prelude.{◌≡◌, ℕ, ◌+◌, ◌≤◌, Bool, List, length, take}
+use Rattle.std.specs.Int.{w32, from_le_bytes}
 use Rattle.em_mem.specs.Memory as memory
+use Rattle.em_mem.specs.OldOctets.{Keeps, OldOctets, given_up, seen_from}
 use Rattle.em_regs.specs.declared.reg.Reg.{Reg}
 use Rattle.em_regs.specs.declared.reg.Reg.TheVariants.{Rdh, Tdh}
 use Rattle.em_regs.specs.Table.{offset_of}
 use Rattle.em_regs.specs.RegFile as registers
+use Rattle.em_regs.specs.Storage.{Registers}
 use Rattle.em_latch.specs.Latches as latches
+use Rattle.em_latch.specs.Latches.{Growth}
+use Rattle.em_rx.specs.FramePatch.{FramePatch}
+use Rattle.em_rx.specs.StepPatch.{StepPatch}
 use Rattle.em_rx.specs.Undo as rx
-use Rattle.em_rx.specs.declared.undo.RxUndo.{RxUndo}
-use Rattle.em_rx.specs.declared.undo.RxUndo.TheVariants as rx_undo
-use Rattle.em_rx.specs.declared.undo.RxUndo.TheVariants.{Frame}
+use Rattle.em_rx.specs.Records.{frame_patch, step_patch}
+use Rattle.em_rx.specs.declared.undo.OldPiece.{OldPiece}
+use Rattle.em_rx.specs.Fifo.{IsSound}
+use Rattle.em_rx.specs.declared.places.Places.{Places}
+use Rattle.em_tx.specs.Change.{Change}
 use Rattle.em_tx.specs.Cells as tx_cells
 use Rattle.em_tx.specs.Undo as tx
 use Rattle.em_tx.specs.declared.undo.TxUndo.{TxUndo}
 use Rattle.em_tx.specs.declared.undo.TxUndo.TheVariants as tx_undo
 use Rattle.em_step.specs.Cells.{Cells, MorePages}
-use Rattle.em_step.specs.declared.undo.Undo.{Undo}
+use Rattle.em_step.specs.declared.undo.BeforeReset.{BeforeReset}
+use Rattle.em_step.specs.declared.undo.Record.{Record}
 use Rattle.em_step.specs.declared.undo.Effect.{Effect}
-use Rattle.em_step.specs.declared.undo.Effect.TheVariants.{Nothing, Register, Octets, FewOctets, Arrival}
-use Rattle.em_step.specs.declared.undo.Effect.TheVariants.{RxStep, TxStep, Link, Reset}
+use Rattle.em_step.specs.declared.undo.Effect.TheVariants as effect
+
+-- what a reset put aside: the registers and latches, where the frames of the FIFO lay, and what was gathered
+pub record Aside : Type 0 where
+  pub registers : Registers
+  pub latches : Registers
+  pub places : Places
+  pub gathered : TxUndo
+
+-- what an event changed beside words of the latches, as it was
+pub data Changed : Type 0 where
+  -- nothing else
+  Nothing : Changed
+  Register : registers.OldWord → Changed
+  -- octets of guest memory
+  Octets : memory.Patch → Changed
+  -- what a frame that arrived replaced in the FIFO
+  Arrival : FramePatch → Changed
+  -- RDH, and what a receive step replaced
+  RxStep : ℕ → StepPatch → Changed
+  -- what a transmit step changed, and TDH
+  TxStep : Change → ℕ → Changed
+  Link : Bool → Changed
+  Reset : Aside → Changed
+
+-- what takes an event back: by how much words of the latches grew, and what else it changed
+pub record Undo : Type 0 where
+  pub latches : List Growth
+  pub effect : Changed
+
+-- a receive step's record, by its parts
+abbrev pub piece : Bool → ℕ → ℕ → ℕ → OldPiece
+piece left len buffer end_at = record { buffer = buffer; end_at = end_at; len = len; left = left }
+
+-- with its octets, of which those of RDH come first
+abbrev pub receiving : OldPiece → OldOctets → Changed
+receiving p o = RxStep (from_le_bytes w32 (take 4 o.octets)) (step_patch p (given_up 4 o))
+
+abbrev pub aside : BeforeReset → Aside
+aside b = record { registers = b.registers.value; latches = b.latches; places = b.places; gathered = b.gathered }
+
+-- what an effect means, with the old octets that were saved for it
+abbrev pub changed : Effect → OldOctets → Changed
+changed effect.Nothing o = Nothing
+changed (effect.Register old) o = Register old
+changed (effect.Octets at len place) o = Octets (record { at = at; octets = take len o.octets })
+changed (effect.Arrival old place) o = Arrival (frame_patch old o)
+changed (effect.RxStep left len buffer end_at place) o = receiving (piece left len buffer end_at) o
+changed (effect.TxStep old head) o = TxStep old head
+changed (effect.Link old) o = Link old
+changed (effect.Reset old) o = Reset (aside old.value)
+
+-- what a record means
+abbrev pub undo_of : Record → OldOctets → Undo
+undo_of r o = record { latches = r.latches; effect = changed r.effect o }
+
+-- how many octets were saved for it
+abbrev pub held_by : Effect → ℕ
+held_by (effect.Octets at len place) = len
+held_by (effect.Arrival old place) = old.len
+held_by (effect.RxStep left len buffer end_at place) = len + 12
+held_by effect = 0
+
+abbrev pub held : Record → ℕ
+held r = held_by r.effect
+
+-- its octets were saved at a place of the ring
+abbrev pub IsPlacedBy : Effect → OldOctets → Type 0
+IsPlacedBy (effect.Octets at len place) o = place ≤ length o.octets
+IsPlacedBy (effect.Arrival old place) o = place ≤ length o.octets
+IsPlacedBy (effect.RxStep left len buffer end_at place) o = place ≤ length o.octets
+IsPlacedBy effect o = Unit {0}
+
+abbrev pub IsPlaced : Record → OldOctets → Type 0
+IsPlaced r o = IsPlacedBy r.effect o
+
+-- there they come first
+abbrev pub IsAtBy : Effect → OldOctets → Type 0
+IsAtBy (effect.Octets at len place) o = place ≡ o.top
+IsAtBy (effect.Arrival old place) o = place ≡ o.top
+IsAtBy (effect.RxStep left len buffer end_at place) o = place ≡ o.top
+IsAtBy effect o = Unit {0}
+
+abbrev pub IsAt : Record → OldOctets → Type 0
+IsAt r o = IsAtBy r.effect o
+
+-- no octets were saved for it
+pub record IsPlain (r : Record) : Type 0 where
+  pub held : held r ≡ 0
+  pub at : (o : OldOctets) → IsAt r o
+
+-- its octets were saved, which are not many, and it says where
+pub record KeepsFor (r : Record) (old new : OldOctets) : Type 0 where
+  pub keeps : Keeps (held r) old new
+  pub few : held r ≤ 16_396
+  pub at : IsAt r new
+
+-- the octets from its own on
+abbrev pub octets_from : Effect → OldOctets → OldOctets
+octets_from (effect.Octets at len place) o = seen_from place o
+octets_from (effect.Arrival old place) o = seen_from place o
+octets_from (effect.RxStep left len buffer end_at place) o = seen_from place o
+octets_from effect o = o
+
+-- what it means, wherever its octets lie among these
+abbrev pub past_of : Record → OldOctets → Undo
+past_of r o = undo_of r (octets_from r.effect o)
 
 -- a register that held so much
 abbrev pub word : Reg → ℕ → registers.OldWord
@@ -28,28 +142,26 @@ word reg old = record { at = offset_of reg; old = old }
 abbrev pub tx_cells_of : Cells → tx_cells.Cells
 tx_cells_of c = tx_cells.cells c.gathered c.wire c.memory
 
--- what the effect names is in the cells
-abbrev pub EffectFits : Cells → Effect → Type 0
+-- what was changed is in the cells
+abbrev pub EffectFits : Cells → Changed → Type 0
 EffectFits c Nothing = Unit {0}
 EffectFits c (Register old) = registers.Fits c.registers old
-EffectFits c (Octets old) = memory.Fits c.memory old.value
-EffectFits c (FewOctets old) = memory.Fits c.memory old
-EffectFits c (Arrival old) = rx.Fits c.fifo c.memory (Frame old)
-EffectFits c (RxStep head old) = registers.Fits c.registers (word Rdh head) × rx.Fits c.fifo c.memory (rx_undo.Step old)
+EffectFits c (Octets old) = memory.Fits c.memory old
+EffectFits c (Arrival old) = rx.FitsFrame c.fifo old
+EffectFits c (RxStep head old) = registers.Fits c.registers (word Rdh head) × rx.FitsStep c.fifo c.memory old
 EffectFits c (TxStep old head) = registers.Fits c.registers (word Tdh head) × tx.Fits (tx_cells_of c) (tx_undo.Step old)
 EffectFits c (Link old) = Unit {0}
 EffectFits c (Reset old) =
-    tx.Fits (tx_cells_of c) old.value.gathered
-    × rx.Fits c.fifo (tx.undo (tx_cells_of c) old.value.gathered).memory old.value.fifo
+    tx.Fits (tx_cells_of c) old.gathered × IsSound (record c.fifo { places = old.places })
 
 -- what the record names is in the cells
 pub record Fits (c : Cells) (r : Undo) : Type 0 where
   pub latches : latches.Fits c.latches r.latches
   pub effect : EffectFits c r.effect
 
--- the cells with a record of the receive side put back
-abbrev pub undo_receive : Cells → RxUndo → Cells
-undo_receive c r = record c { fifo = rx.undo_fifo c.fifo r; memory = rx.undo_memory c.memory r }
+-- the cells with the places of the FIFO's frames put back
+abbrev pub undo_places : Cells → Places → Cells
+undo_places c places = record c { fifo = record c.fifo { places = places } }
 
 -- the cells with a record of the transmit side put back
 abbrev pub with_tx_cells : Cells → tx_cells.Cells → Cells
@@ -66,20 +178,25 @@ undo_register c old = record c { registers = registers.undo c.registers old }
 abbrev pub undo_octets : Cells → memory.Patch → Cells
 undo_octets c old = record c { memory = memory.undo c.memory old }
 
--- the cells with the effect put back
-abbrev pub undo_effect : Cells → Effect → Cells
+-- the cells with what an arrival or a receive step replaced put back
+abbrev pub undo_arrival : Cells → FramePatch → Cells
+undo_arrival c old = record c { fifo = rx.with_patch c.fifo old }
+
+abbrev pub undo_piece : Cells → StepPatch → Cells
+undo_piece c old =
+    record c { fifo = record c.fifo { places = rx.places_before c.fifo old }; memory = rx.with_both c.memory old }
+
+-- the cells with what was changed put back
+abbrev pub undo_effect : Cells → Changed → Cells
 undo_effect c Nothing = c
 undo_effect c (Register old) = undo_register c old
-undo_effect c (Octets old) = undo_octets c old.value
-undo_effect c (FewOctets old) = undo_octets c old
-undo_effect c (Arrival old) = undo_receive c (Frame old)
-undo_effect c (RxStep head old) = undo_receive (undo_register c (word Rdh head)) (rx_undo.Step old)
+undo_effect c (Octets old) = undo_octets c old
+undo_effect c (Arrival old) = undo_arrival c old
+undo_effect c (RxStep head old) = undo_piece (undo_register c (word Rdh head)) old
 undo_effect c (TxStep old head) = undo_transmit (undo_register c (word Tdh head)) (tx_undo.Step old)
 undo_effect c (Link old) = record c { link = old }
-undo_effect c (Reset old) =
-    undo_receive
-    (undo_transmit (record c { registers = old.value.registers.value; latches = old.value.latches }) old.value.gathered)
-    old.value.fifo
+undo_effect c (Reset old) = undo_places
+    (undo_transmit (record c { registers = old.registers; latches = old.latches }) old.gathered) old.places
 
 -- the cells with the record put back: the words of the latches, and then the effect
 abbrev pub undo : Cells → Undo → Cells
@@ -89,3 +206,8 @@ undo c r = undo_effect (record c { latches = latches.undo c.latches r.latches })
 pub record Reverses (old new : Cells) (r : Undo) : Type 0 where
   pub fits : Fits new r
   pub restores : MorePages old (undo new r)
+
+-- the same of a record for which no octets were saved
+pub record ReversesPlainly (old new : Cells) (r : Record) : Type 0 where
+  pub plain : IsPlain r
+  pub takes_back : (o : OldOctets) → Reverses old new (undo_of r o)

@@ -15,19 +15,21 @@ ghost use Rattle.em_step.specs.Access.{gives, after_write_by, after_eerd_write};
 ghost use Rattle.em_step.specs.Access.{is_reset_by, reset};
 ghost use Rattle.em_step.specs.Cells.{fresh, shows, MorePages};
 ghost use Rattle.em_step.specs.Event.{links, plain, pokes, reads, writes};
-ghost use Rattle.em_step.specs.Performed.{WasPerformed, WasRefused};
-ghost use Rattle.em_step.specs.Undo.{Fits, EffectFits, Reverses, undo, undo_effect};
-ghost use Rattle.em_step.specs.Cost.{cost_of, least_cost, most_cost};
+ghost use Rattle.em_mem.specs.OldOctets.{OldOctets};
+ghost use Rattle.em_step.specs.Performed.{PerformedPlainly, WasPerformed, WasRefused};
+ghost use Rattle.em_step.specs.Undo.{Fits, EffectFits, Reverses, ReversesPlainly, held, undo, undo_effect, undo_of};
+ghost use Rattle.em_step.specs.Undo.{Register, Reset, TxStep, aside};
+ghost use Rattle.em_step.specs.Cost.{cost_by, cost_of, least_cost, most_cost};
 
 use crate::event::{Answer, Event};
 use crate::refusal::Refusal;
-use crate::undo::{BeforeReset, Effect, LEAST_COST, MOST_COST, Undo};
+use crate::undo::{BeforeReset, Effect, LEAST_COST, MOST_COST, Record, Undo};
 use bitflags::Flags;
 use em_eeprom::Eeprom;
 use em_latch::Latches;
-use em_mem::{GuestMemory, MemRefusal, MemUndo, Reversible, Spares, SparesByLen};
+use em_mem::{GuestMemory, MemRefusal, OldOctets, Reversible, Saved, Spares};
 use em_regs::{Causes, Ctrl, Eerd, Kind, Reg, RegFile, RegUndo, Status};
-use em_rx::{Fifo, FramePatch, RxUndo, StepPatch, StoredFrame};
+use em_rx::{Fifo, OldPiece, Places, StoredFrame};
 use em_tx::{Change, Gather, TxUndo, Wire, take_back};
 use std::alloc::{AllocError, Global};
 use std::marker::Model;
@@ -46,7 +48,6 @@ pub struct Adapter {
     eeprom: Eeprom,
     pub(crate) link: bool,
     // what was let go serves the next record
-    pub(crate) spare_octets: SparesByLen<MemUndo>,
     spare_resets: Spares<BeforeReset>,
 }
 
@@ -89,7 +90,6 @@ impl Adapter {
         let Ok(registers) = Box::new(alloc, RegFile::reset(eeprom.mac())) else {
             return Err(MemRefusal::Memory);
         };
-        let spare_octets = SparesByLen::new(alloc)?;
         let spare_resets = Spares::new(alloc)?;
         Ok(Adapter {
             alloc,
@@ -101,7 +101,6 @@ impl Adapter {
             wire: Wire::new(alloc),
             eeprom,
             link: false,
-            spare_octets,
             spare_resets,
         })
     }
@@ -209,123 +208,139 @@ impl Adapter {
         ensures ok { IfOk result (λ r. WasPerformed self.old (plain event.entry) self.new r.0 r.1) }
         ensures err { IfErr result (WasRefused self.old (plain event.entry) self.new) }
     {
+        let mut old = OldOctets::none(self.alloc);
+        let (answer, record) = self.perform(event, &mut old)?;
+        Ok((answer, Undo { record, old }))
+    }
+
+    /// Performs one event, saves the octets that it overwrites, and gives the record that takes it back with them.
+    fn perform(
+        &mut self,
+        event: Event<'_>,
+        old: &mut OldOctets,
+    ) -> Result<(Answer, Record), Refusal>
+        ensures ok { IfOk result (λ r.
+            WasPerformed self.old (plain event.entry) self.new r.0 (undo_of r.1 old.new)) }
+        ensures room { IfOk result (λ r. held r.1 ≤ length old.new.octets) }
+        ensures err { IfErr result (WasRefused self.old (plain event.entry) self.new) }
+    {
         match event {
             Event::Read(offset) => {
                 let Some(reg) = Reg::of_offset(offset) else {
                     return Err(Refusal::NoRegister);
                 };
-                let (value, undo) = self.read_register(reg);
-                Ok((Answer::Value(value), undo))
+                let (value, record) = self.read_register(reg);
+                Ok((Answer::Value(value), record))
             }
             Event::Write(offset, value) => {
                 let Some(reg) = Reg::of_offset(offset) else {
                     return Err(Refusal::NoRegister);
                 };
-                let undo = self.write_register(reg, value)?;
-                Ok((Answer::Done, undo))
+                let record = self.write_register(reg, value)?;
+                Ok((Answer::Done, record))
             }
-            Event::Poke(addr, octets) => self.poke(addr, octets),
-            Event::Arrive(frame) => self.arrive(frame),
+            Event::Poke(addr, octets) => self.poke(addr, octets, old),
+            Event::Arrive(frame) => self.arrive(frame, old),
             Event::Link(up) => self.set_link(up),
-            Event::RxStep => self.receive_step(),
+            Event::RxStep => self.receive_step(old),
             Event::TxStep => self.transmit_step(),
         }
     }
 
     /// Software reads a register: the event of a read at its offset.
     #[inline(always)]
-    pub fn read_register(&mut self, reg: Reg) -> (u32, Undo)
+    pub fn read_register(&mut self, reg: Reg) -> (u32, Record)
         requires { IsReg reg }
-        ensures { WasPerformed self.old (reads (offset_of reg)) self.new (Answer.Value result.0) result.1 }
+        ensures { PerformedPlainly self.old (reads (offset_of reg)) self.new (Answer.Value result.0) result.1 }
     {
         match reg.row().kind {
             Kind::Stored | Kind::Control | Kind::EepromRead => self.read_stored(reg),
             Kind::Interrupt | Kind::Counter => self.read_latched(reg),
-            Kind::Status => (self.status(), Undo::of_effect(Effect::Nothing)),
+            Kind::Status => (self.status(), Record::of_effect(Effect::Nothing)),
         }
     }
 
     /// Software writes a value to a register: the event of a write at its offset. Refused as Memory,
     /// where it is a reset.
     #[inline(always)]
-    pub fn write_register(&mut self, reg: Reg, value: u32) -> Result<Undo, Refusal>
+    pub fn write_register(&mut self, reg: Reg, value: u32) -> Result<Record, Refusal>
         requires { IsReg reg }
-        ensures ok { IfOk result (WasPerformed self.old (writes (offset_of reg) value) self.new Answer.Done) }
+        ensures ok { IfOk result (PerformedPlainly self.old (writes (offset_of reg) value) self.new Answer.Done) }
         ensures err { IfErr result (WasRefused self.old (writes (offset_of reg) value) self.new) }
         ensures same { OnErr result (self.new ≡ self.old) }
     {
         match reg.row().kind {
             Kind::Stored => Ok(self.write_stored(reg, value)),
             Kind::Control => self.write_control(reg, value),
-            Kind::EepromRead => Ok(Undo::of_effect(Effect::Register(self.write_eerd(value)))),
+            Kind::EepromRead => Ok(Record::of_effect(Effect::Register(self.write_eerd(value)))),
             Kind::Interrupt | Kind::Counter => Ok(self.write_latched(reg, value)),
-            Kind::Status => Ok(Undo::of_effect(Effect::Nothing)),
+            Kind::Status => Ok(Record::of_effect(Effect::Nothing)),
         }
     }
 
     /// Software reads a register that stores what is written: nothing changes.
     #[inline(always)]
-    pub fn read_stored(&mut self, reg: Reg) -> (u32, Undo)
+    pub fn read_stored(&mut self, reg: Reg) -> (u32, Record)
         requires { IsStored reg }
-        ensures { WasPerformed self.old (reads (offset_of reg)) self.new (Answer.Value result.0) result.1 }
+        ensures { PerformedPlainly self.old (reads (offset_of reg)) self.new (Answer.Value result.0) result.1 }
     {
-        (self.registers.look(reg), Undo::of_effect(Effect::Nothing))
+        (self.registers.look(reg), Record::of_effect(Effect::Nothing))
     }
 
     /// Software writes a value to a register that stores it and does nothing else.
     #[inline(always)]
-    pub fn write_stored(&mut self, reg: Reg, value: u32) -> Undo
+    pub fn write_stored(&mut self, reg: Reg, value: u32) -> Record
         requires { OnlyStores reg }
-        ensures { WasPerformed self.old (writes (offset_of reg) value) self.new Answer.Done result }
+        ensures { PerformedPlainly self.old (writes (offset_of reg) value) self.new Answer.Done result }
     {
-        Undo::of_effect(Effect::Register(self.registers.put(reg, value)))
+        Record::of_effect(Effect::Register(self.registers.put(reg, value)))
     }
 
     /// Software reads an interrupt register or a counter.
     #[inline(always)]
-    pub fn read_latched(&mut self, reg: Reg) -> (u32, Undo)
+    pub fn read_latched(&mut self, reg: Reg) -> (u32, Record)
         requires reg { IsReg reg }
         requires latched { IsLatched reg }
-        ensures { WasPerformed self.old (reads (offset_of reg)) self.new (Answer.Value result.0) result.1 }
+        ensures { PerformedPlainly self.old (reads (offset_of reg)) self.new (Answer.Value result.0) result.1 }
     {
         let (value, words) = self.latches.read(reg);
-        (value, Undo::of_latches(words))
+        (value, Record::of_latches(words))
     }
 
     /// Software writes a value to an interrupt register or a counter.
     #[inline(always)]
-    pub fn write_latched(&mut self, reg: Reg, value: u32) -> Undo
+    pub fn write_latched(&mut self, reg: Reg, value: u32) -> Record
         requires reg { IsReg reg }
         requires latched { IsLatched reg }
-        ensures { WasPerformed self.old (writes (offset_of reg) value) self.new Answer.Done result }
+        ensures { PerformedPlainly self.old (writes (offset_of reg) value) self.new Answer.Done result }
     {
-        Undo::of_latches(self.latches.write(reg, value))
+        Record::of_latches(self.latches.write(reg, value))
     }
 
     /// Writes CTRL: with RST the adapter is reset, which is refused as Memory where there is none for what
     /// it puts aside.
     #[inline(always)]
-    fn write_control(&mut self, reg: Reg, value: u32) -> Result<Undo, Refusal>
+    fn write_control(&mut self, reg: Reg, value: u32) -> Result<Record, Refusal>
         requires { IsStored reg }
         ensures state { OnOk result (shows self.new ≡ after_write_by Kind.Control (shows self.old) reg value) }
-        ensures cost { IfOk result (λ r. cost_of r
+        ensures cost { IfOk result (λ r. (o : OldOctets) → cost_of (undo_of r o)
             ≡ (if is_reset_by Kind.Control value then most_cost else least_cost)) }
-        ensures reverses { IfOk result (λ r. Reverses self.old self.new r) }
+        ensures reverses { IfOk result (λ r. ReversesPlainly self.old self.new r) }
         ensures err { IfErr result (λ e. (e ≡ Refusal.Memory) × IsTrue (is_reset_by Kind.Control value)) }
         ensures same { OnErr result (self.new ≡ self.old) }
     {
         if Ctrl::from_bits_retain(value).contains(Ctrl::RST) {
             let before = self.reset()?;
-            Ok(Undo::of_effect(Effect::Reset(before)))
+            Ok(Record::of_effect(Effect::Reset(before)))
         } else {
-            Ok(Undo::of_effect(Effect::Register(self.registers.put(reg, value))))
+            Ok(Record::of_effect(Effect::Register(self.registers.put(reg, value))))
         }
     }
 
     /// Writes EERD: with START the word at the address is there at once.
     fn write_eerd(&mut self, value: u32) -> RegUndo
         ensures state { shows self.new ≡ after_eerd_write (shows self.old) value }
-        ensures reverses { Reverses self.old self.new (record { latches = []; effect = Effect.Register result }) }
+        ensures reverses { Reverses self.old self.new (record { latches = []; effect = Register result }) }
     {
         if Eerd::from_bits_retain(value).contains(Eerd::START) {
             let [_, address, _, _] = value.to_le_bytes();
@@ -336,21 +351,45 @@ impl Adapter {
         }
     }
 
-    /// Takes an event back by its record. It takes no memory.
-    #[inline(always)]
+    /// Takes an event back. It takes no memory.
     pub fn take_back(&mut self, taken: Undo)
         requires { Fits self.old taken }
         ensures { self.new ≡ undo self.old taken }
     {
-        let Undo { latches, effect } = taken;
+        let Undo { record, old } = taken;
+        self.put_back(record, &old.newest());
+    }
+
+    /// Takes an event back by its record and the old octets that were saved for it, which come first among these. It
+    /// takes no memory.
+    #[inline(always)]
+    pub fn put_back(&mut self, taken: Record, old: &Saved<'_>)
+        requires room { held taken ≤ length old.now.octets }
+        requires fits { Fits self.old (undo_of taken old.now) }
+        ensures { self.new ≡ undo self.old (undo_of taken old.now) }
+    {
+        let Record { latches, effect } = taken;
         self.latches.put_back(latches);
         match effect {
             Effect::Nothing => {}
             Effect::Register(old) => self.registers.take_back(old),
-            Effect::Octets(octets) => self.take_back_octets(octets),
-            Effect::FewOctets(octets) => self.take_back_few_octets(octets),
-            Effect::Arrival(frame) => self.take_back_arrival(frame),
-            Effect::RxStep(head, piece) => self.take_back_receiving(head, piece),
+            Effect::Octets { at, len, .. } => self.take_back_octets(at, len, old),
+            Effect::Arrival(frame, _) => self.take_back_arrival(&frame, old),
+            Effect::RxStep {
+                left,
+                len,
+                buffer,
+                end_at,
+                ..
+            } => {
+                let piece = OldPiece {
+                    buffer,
+                    end_at,
+                    len,
+                    left,
+                };
+                self.take_back_receiving(&piece, old)
+            }
             Effect::TxStep(change, head) => self.take_back_sending(change, head),
             Effect::Link(old) => self.link = old,
             // what it put aside has every word of the latches
@@ -361,41 +400,15 @@ impl Adapter {
     /// Lets the record of an event go, which then can't be taken back, and gives what it cost. Its memory
     /// serves a later record.
     #[inline(always)]
-    pub fn let_go(&mut self, undo: Undo) -> u32
-        ensures cost { result ≡ cost_of undo }
+    pub fn let_go(&mut self, gone: Record) -> u32
+        ensures cost { result ≡ cost_by gone }
         ensures same { self.new ≡ self.old }
     {
-        let cost = undo.cost();
-        match undo.effect {
-            Effect::Nothing
-            | Effect::Register(_)
-            | Effect::FewOctets(_)
-            | Effect::Link(_)
-            | Effect::TxStep(..) => {}
-            Effect::Octets(octets) => self.let_octets_go(octets),
-            Effect::Arrival(frame) => self.let_frame_go(frame),
-            Effect::RxStep(_, piece) => self.let_piece_go(piece),
-            Effect::Reset(kept) => self.let_reset_go(kept),
+        let cost = gone.cost();
+        if let Effect::Reset(kept) = gone.effect {
+            self.let_reset_go(kept);
         }
         cost
-    }
-
-    // Each of these stands apart, so that a record which owns no memory makes no room for what they keep.
-
-    /// Lets the record of an arrival go.
-    #[inline(never)]
-    fn let_frame_go(&mut self, frame: Box<FramePatch>)
-        ensures { self.new ≡ self.old }
-    {
-        self.fifo.let_frame_go(frame);
-    }
-
-    /// Lets the record of a step of the receive engine go.
-    #[inline(never)]
-    fn let_piece_go(&mut self, piece: Box<StepPatch>)
-        ensures { self.new ≡ self.old }
-    {
-        self.fifo.let_step_go(piece);
     }
 
     /// Lets what a reset put aside go.
@@ -409,8 +422,8 @@ impl Adapter {
     /// Takes a step of the transmit engine back.
     #[inline(never)]
     fn take_back_sending(&mut self, change: Change, head: u32)
-        requires { EffectFits self.old (Effect.TxStep change head) }
-        ensures { self.new ≡ undo_effect self.old (Effect.TxStep change head) }
+        requires { EffectFits self.old (TxStep change head) }
+        ensures { self.new ≡ undo_effect self.old (TxStep change head) }
     {
         self.registers.restore(Reg::Tdh, head);
         take_back(
@@ -424,16 +437,15 @@ impl Adapter {
     /// Takes a reset back: what it put aside changes places with what the adapter holds, which is let go.
     #[inline(never)]
     fn take_back_reset(&mut self, mut old: Box<BeforeReset>)
-        requires { EffectFits self.old (Effect.Reset old) }
-        ensures { self.new ≡ undo_effect self.old (Effect.Reset old) }
+        requires { EffectFits self.old (Reset (aside old.value)) }
+        ensures { self.new ≡ undo_effect self.old (Reset (aside old.value)) }
     {
         let before = &mut *old;
         std::mem::swap(&mut self.registers, &mut before.registers);
         std::mem::swap(&mut self.latches, &mut before.latches);
         let gathered = std::mem::replace(&mut before.gathered, TxUndo::Nothing);
         take_back(&mut self.gather, &mut self.wire, &mut self.memory, gathered);
-        let frames = std::mem::replace(&mut before.fifo, RxUndo::Nothing);
-        self.fifo.take_back(&mut self.memory, frames);
+        self.fifo.put_places_back(before.places);
         self.let_reset_go(old);
     }
 
@@ -462,7 +474,7 @@ impl Adapter {
     fn reset(&mut self) -> Result<Box<BeforeReset>, Refusal>
         ensures state { OnOk result (shows self.new ≡ reset (shows self.old)) }
         ensures reverses { IfOk result (λ before.
-            Reverses self.old self.new (record { latches = []; effect = Effect.Reset before })) }
+            Reverses self.old self.new (record { latches = []; effect = Reset (aside before.value) })) }
         ensures err { IfErr result (λ e. e ≡ Refusal.Memory) }
         ensures same { OnErr result (self.new ≡ self.old) }
     {
@@ -473,14 +485,14 @@ impl Adapter {
     /// Puts what a reset changes aside, and resets it.
     fn put_aside(&mut self, place: Box<BeforeReset>) -> Box<BeforeReset>
         ensures state { shows self.new ≡ reset (shows self.old) }
-        ensures reverses { Reverses self.old self.new (record { latches = []; effect = Effect.Reset result }) }
+        ensures reverses { Reverses self.old self.new (record { latches = []; effect = Reset (aside result.value) }) }
     {
         let mut kept = place;
         let before = &mut *kept;
         before.registers.reset_in_place(self.eeprom.mac());
         std::mem::swap(&mut self.registers, &mut before.registers);
         before.latches = std::mem::replace(&mut self.latches, Latches::new());
-        before.fifo = self.fifo.clear();
+        before.places = self.fifo.empty_out();
         before.gathered = self.gather.clear();
         kept
     }
@@ -496,7 +508,7 @@ impl Adapter {
         let fresh = BeforeReset {
             registers: Box::new(self.alloc, RegFile::reset(self.eeprom.mac()))?,
             latches: Latches::new(),
-            fifo: RxUndo::Nothing,
+            places: Places::none(),
             gathered: TxUndo::Nothing,
         };
         Ok(Box::new(self.alloc, fresh)?)
@@ -504,17 +516,17 @@ impl Adapter {
 
     /// The link goes up or down; a change raises LSC. It is never refused.
     #[inline(always)]
-    pub fn set_link(&mut self, up: bool) -> Result<(Answer, Undo), Refusal>
-        ensures ok { IfOk result (λ r. WasPerformed self.old (links up) self.new r.0 r.1) }
+    pub fn set_link(&mut self, up: bool) -> Result<(Answer, Record), Refusal>
+        ensures ok { IfOk result (λ r. PerformedPlainly self.old (links up) self.new r.0 r.1) }
         ensures err { IfErr result (WasRefused self.old (links up) self.new) }
         ensures same { OnErr result (self.new ≡ self.old) }
     {
         if up == self.link {
-            return Ok((Answer::Done, Undo::of_effect(Effect::Nothing)));
+            return Ok((Answer::Done, Record::of_effect(Effect::Nothing)));
         }
         let latches = self.latches.raise(Causes::LSC.bits());
         let effect = Effect::Link(std::mem::replace(&mut self.link, up));
-        Ok((Answer::Done, Undo { latches, effect }))
+        Ok((Answer::Done, Record { latches, effect }))
     }
 }
 

@@ -1,6 +1,8 @@
 //! What becomes of a frame that arrives (manual, chapter on receive description).
 ghost use Rattle.std.specs.Prelude.{◌≡◌, ◌+◌, ◌≤◌, IfOk, IfErr, OnOk, OnErr, Ok, length, not, false, []};
+ghost use Rattle.em_mem.specs.OldOctets.{Keeps, OldOctets as Octets};
 ghost use Rattle.em_rx.specs.Frame.{len_of};
+ghost use Rattle.em_rx.specs.Records.{frame_patch};
 ghost use Rattle.em_step.specs.Arrival.{after_accept, after_miss, after_one_more, admission, arrival, judged};
 ghost use Rattle.em_step.specs.Arrival.{is_enabled, kept_frame, lacks_buffer, lacks_room, octets_stored};
 ghost use Rattle.em_step.specs.Arrival.{takes_broadcasts};
@@ -8,19 +10,20 @@ ghost use Rattle.em_step.specs.Cells.{shows};
 ghost use Rattle.em_step.specs.Cost.{cost_of, least_cost};
 ghost use Rattle.em_step.specs.Event.{arrives};
 ghost use Rattle.em_step.specs.Performed.{BecameOf, LacksMemory, WasPerformed, WasRefused};
-ghost use Rattle.em_step.specs.Undo.{EffectFits, Reverses, undo_effect};
+ghost use Rattle.em_step.specs.Undo.{Arrival, EffectFits, KeepsFor, ReversesPlainly, undo_effect, undo_of};
 
 use crate::adapter::Adapter;
 use crate::counts::{count_frame, count_miss};
 use crate::event::{Answer, Reason};
 use crate::refusal::Refusal;
-use crate::undo::{Effect, Undo};
+use crate::undo::{Effect, Record};
 use bitflags::Flags;
 use em_address::Kind;
 use em_filter::{CHECK_OCTETS, Verdict, tagged, verdict};
 use em_latch::Counter;
+use em_mem::{OldOctets, Saved};
 use em_regs::{Rctl, Reg};
-use em_rx::{FramePatch, RxUndo};
+use em_rx::OldFrame;
 
 /// The fewest octets that a frame can arrive with, and the most.
 const LEAST_FRAME: usize = 14;
@@ -33,25 +36,30 @@ const TAG_OCTETS: usize = 4;
 impl Adapter {
     /// A frame arrives. It is refused for its length alone, and for memory where it would be stored.
     #[inline(always)]
-    pub fn arrive(&mut self, frame: &[u8]) -> Result<(Answer, Undo), Refusal>
-        ensures ok { IfOk result (λ r. WasPerformed self.old (arrives frame.now) self.new r.0 r.1) }
+    pub fn arrive(&mut self, frame: &[u8], old: &mut OldOctets) -> Result<(Answer, Record), Refusal>
+        ensures ok { IfOk result (λ r.
+            WasPerformed self.old (arrives frame.now) self.new r.0 (undo_of r.1 old.new)) }
+        ensures keeps { IfOk result (λ r. KeepsFor r.1 old.old old.new) }
         ensures err { IfErr result (WasRefused self.old (arrives frame.now) self.new) }
         ensures same { OnErr result (self.new ≡ self.old) }
+        ensures saved { OnErr result (old.new ≡ old.old) }
     {
         if frame.len() < LEAST_FRAME || frame.len() > MOST_FRAME {
             return Err(Refusal::Length);
         }
-        self.dispose(frame)
+        self.dispose(frame, old)
     }
 
     /// What becomes of a frame: the first test that fails drops it.
-    fn dispose(&mut self, frame: &[u8]) -> Result<(Answer, Undo), Refusal>
+    fn dispose(&mut self, frame: &[u8], old: &mut OldOctets) -> Result<(Answer, Record), Refusal>
         requires least { 14 ≤ length frame.now }
         requires most { length frame.now ≤ 20_000 }
         ensures ok { IfOk result (λ r.
-            BecameOf self.old frame.now (arrival (shows self.old) frame.now) self.new r.0 r.1) }
+            BecameOf self.old frame.now (arrival (shows self.old) frame.now) self.new r.0 (undo_of r.1 old.new)) }
+        ensures keeps { IfOk result (λ r. KeepsFor r.1 old.old old.new) }
         ensures err { IfErr result (LacksMemory (arrival (shows self.old) frame.now)) }
         ensures same { OnErr result (self.new ≡ self.old) }
+        ensures saved { OnErr result (old.new ≡ old.old) }
     {
         if !self.link {
             return Ok(unchanged(Reason::Down));
@@ -59,17 +67,19 @@ impl Adapter {
         if !self.is_enabled() {
             return Ok(unchanged(Reason::Disabled));
         }
-        self.judge(frame)
+        self.judge(frame, old)
     }
 
     /// What becomes of a frame by the verdict of the filters.
-    fn judge(&mut self, frame: &[u8]) -> Result<(Answer, Undo), Refusal>
+    fn judge(&mut self, frame: &[u8], old: &mut OldOctets) -> Result<(Answer, Record), Refusal>
         requires least { 14 ≤ length frame.now }
         requires most { length frame.now ≤ 20_000 }
         ensures ok { IfOk result (λ r.
-            BecameOf self.old frame.now (judged (shows self.old) frame.now) self.new r.0 r.1) }
+            BecameOf self.old frame.now (judged (shows self.old) frame.now) self.new r.0 (undo_of r.1 old.new)) }
+        ensures keeps { IfOk result (λ r. KeepsFor r.1 old.old old.new) }
         ensures err { IfErr result (LacksMemory (judged (shows self.old) frame.now)) }
         ensures same { OnErr result (self.new ≡ self.old) }
+        ensures saved { OnErr result (old.new ≡ old.old) }
     {
         match verdict(&self.registers, frame) {
             Verdict::Reject => Ok(unchanged(Reason::Rejected)),
@@ -78,21 +88,28 @@ impl Adapter {
                 self.count(Counter::Ruc),
             )),
             Verdict::Oversize => Ok((Answer::Dropped(Reason::Oversize), self.count(Counter::Roc))),
-            Verdict::Accept(kind) => self.admit(frame, kind),
+            Verdict::Accept(kind) => self.admit(frame, kind, old),
         }
     }
 
     /// Stores an accepted frame, or misses it where the FIFO has no room.
-    fn admit(&mut self, frame: &[u8], kind: Kind) -> Result<(Answer, Undo), Refusal>
+    fn admit(
+        &mut self,
+        frame: &[u8],
+        kind: Kind,
+        old: &mut OldOctets,
+    ) -> Result<(Answer, Record), Refusal>
         requires least { 60 ≤ length frame.now }
         requires most { length frame.now ≤ 16_380 }
         ensures ok { IfOk result (λ r.
-            BecameOf self.old frame.now (admission (shows self.old) frame.now kind) self.new r.0 r.1) }
+            BecameOf self.old frame.now (admission (shows self.old) frame.now kind) self.new r.0 (undo_of r.1 old.new)) }
+        ensures keeps { IfOk result (λ r. KeepsFor r.1 old.old old.new) }
         ensures err { IfErr result (LacksMemory (admission (shows self.old) frame.now kind)) }
         ensures same { OnErr result (self.new ≡ self.old) }
+        ensures saved { OnErr result (old.new ≡ old.old) }
     {
         if self.has_room(frame) {
-            self.accept(frame, kind)
+            self.accept(frame, kind, old)
         } else {
             Ok((Answer::Dropped(Reason::Missed), self.miss()))
         }
@@ -133,63 +150,71 @@ impl Adapter {
     }
 
     /// Steps a counter by one.
-    fn count(&mut self, counter: Counter) -> Undo
+    fn count(&mut self, counter: Counter) -> Record
         ensures state { shows self.new ≡ after_one_more (shows self.old) counter }
-        ensures cost { cost_of result ≡ least_cost }
-        ensures reverses { Reverses self.old self.new result }
+        ensures cost { (o : Octets) → cost_of (undo_of result o) ≡ least_cost }
+        ensures reverses { ReversesPlainly self.old self.new result }
     {
-        Undo::of_latches(self.latches.count(counter, 1))
+        Record::of_latches(self.latches.count(counter, 1))
     }
 
     /// Misses a frame.
-    fn miss(&mut self) -> Undo
+    fn miss(&mut self) -> Record
         ensures state { shows self.new ≡ after_miss (shows self.old) }
-        ensures cost { cost_of result ≡ least_cost }
-        ensures reverses { Reverses self.old self.new result }
+        ensures cost { (o : Octets) → cost_of (undo_of result o) ≡ least_cost }
+        ensures reverses { ReversesPlainly self.old self.new result }
     {
         let lacks = self.lacks_buffer();
-        Undo::of_latches(count_miss(&mut self.latches, lacks))
+        Record::of_latches(count_miss(&mut self.latches, lacks))
     }
 
     /// Stores a frame, and counts it.
-    fn accept(&mut self, frame: &[u8], kind: Kind) -> Result<(Answer, Undo), Refusal>
+    fn accept(
+        &mut self,
+        frame: &[u8],
+        kind: Kind,
+        old: &mut OldOctets,
+    ) -> Result<(Answer, Record), Refusal>
         requires least { 60 ≤ length frame.now }
         requires most { length frame.now ≤ 16_380 }
         requires room { lacks_room (shows self.old) frame.now ≡ false }
         ensures ok { IfOk result (λ r.
             BecameOf self.old frame.now (Answer.Stored, after_accept (shows self.old) frame.now kind)
-            self.new r.0 r.1) }
+            self.new r.0 (undo_of r.1 old.new)) }
+        ensures keeps { IfOk result (λ r. KeepsFor r.1 old.old old.new) }
         ensures err { IfErr result (λ e. e ≡ Refusal.Memory) }
         ensures same { OnErr result (self.new ≡ self.old) }
+        ensures saved { OnErr result (old.new ≡ old.old) }
     {
         let is_tagged = tagged(&self.registers, frame);
-        let Ok(kept) = self.fifo.accept(frame, is_tagged) else {
+        let Ok(replaced) = self.fifo.store(frame, is_tagged, old) else {
             return Err(Refusal::Memory);
         };
         let broadcasts = self.takes_broadcasts();
         let lacks = self.lacks_buffer();
         let octets = frame.len() as u32 + CHECK_OCTETS as u32;
         let latches = count_frame(&mut self.latches, octets, kind, broadcasts, lacks);
-        let effect = Effect::Arrival(kept);
-        Ok((Answer::Stored, Undo { latches, effect }))
+        let effect = Effect::Arrival(replaced, old.place() as u32);
+        Ok((Answer::Stored, Record { latches, effect }))
     }
 }
 
 impl Adapter {
     /// Takes a frame that was stored back.
     #[inline(never)]
-    pub(crate) fn take_back_arrival(&mut self, frame: Box<FramePatch>)
-        requires { EffectFits self.old (Effect.Arrival frame) }
-        ensures { self.new ≡ undo_effect self.old (Effect.Arrival frame) }
+    pub(crate) fn take_back_arrival(&mut self, frame: &OldFrame, old: &Saved<'_>)
+        requires room { frame.now.len ≤ length old.now.octets }
+        requires fits { EffectFits self.old (Arrival (frame_patch frame.now old.now)) }
+        ensures { self.new ≡ undo_effect self.old (Arrival (frame_patch frame.now old.now)) }
     {
-        self.fifo.take_back(&mut self.memory, RxUndo::Frame(frame));
+        self.fifo.put_frame_back(frame, old);
     }
 }
 
 /// A frame was dropped that left no trace.
-fn unchanged(reason: Reason) -> (Answer, Undo)
+fn unchanged(reason: Reason) -> (Answer, Record)
     ensures answer { result.0 ≡ Answer.Dropped reason }
     ensures undo { result.1 ≡ record { latches = []; effect = Effect.Nothing } }
 {
-    (Answer::Dropped(reason), Undo::of_effect(Effect::Nothing))
+    (Answer::Dropped(reason), Record::of_effect(Effect::Nothing))
 }

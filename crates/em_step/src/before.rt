@@ -1,7 +1,7 @@
 //! What a record tells of the state before its event, without being put back: who changed something last is found by
 //! asking each record of a journal, the newest first. A record that has nothing to do with the question takes a few
 //! instructions.
-ghost use Rattle.std.specs.Prelude.{◌≡◌, OnOk, length, unwrap_or};
+ghost use Rattle.std.specs.Prelude.{◌≡◌, ◌≤◌, OnOk, length, min, unwrap_or};
 ghost use Rattle.em_regs.specs.Table.{IsReg, offset_of};
 ghost use Rattle.em_regs.specs.RegFile as registers;
 ghost use Rattle.em_regs.specs.RegFile.{IsStored};
@@ -11,15 +11,55 @@ ghost use Rattle.em_step.specs.Before.{LeavesUpTo, PutsBack, PutsBackGathered, P
 ghost use Rattle.em_step.specs.Before.{frames_before, gathered_before, has_sent};
 ghost use Rattle.em_step.specs.Before.{latched_before, link_before, next_octet, octets_before, register_before};
 ghost use Rattle.em_step.specs.Before.{status_before, stored_before};
-ghost use Rattle.em_step.specs.Undo.{word};
+ghost use Rattle.em_step.specs.Undo.{IsPlaced, held, past_of, piece, word};
 
 use crate::adapter::status_of;
-use crate::undo::{Effect, Undo};
-use em_mem::least;
+use crate::undo::{Effect, HEAD_OCTETS, Record};
+use em_mem::{OldOctets, Saved, lay_both_over, next_in};
 use em_regs::{Kind, Reg};
+use em_rx::OldPiece;
 use std::alloc::AllocError;
+use std::marker::Model;
 
-impl Undo {
+/// The record of an event in the past, with the octets that were saved for it.
+#[derive(Drop)]
+pub struct Past<'a> {
+    record: &'a Record,
+    old: Saved<'a>,
+}
+
+impl<'a> Model for Past<'a> {
+    ghost use Rattle.std.specs.Prelude.{◌≤◌, length};
+    ghost use Rattle.em_step.specs.Undo.{Undo, held, undo_of};
+    ghost use Rattle.std.specs.Coded.{codes};
+    ghost use Rattle.em_regs.specs.RegFile.{registers_code};
+
+    ghost Value = { Undo };
+
+    ghost coded = { Prim.hlevel (codes, registers_code) };
+
+    ghost view = { λ p. undo_of p.record.now p.old };
+
+    ghost invariant = { λ p. held p.record.now ≤ length p.old.octets };
+}
+
+impl<'a> Past<'a> {
+    /// A record whose octets lie among these, where it says.
+    #[inline(always)]
+    pub fn new(record: &'a Record, old: &'a OldOctets) -> Past<'a>
+        requires held { held record.now ≤ length old.now.octets }
+        requires placed { IsPlaced record.now old.now }
+        ensures { result ≡ past_of record.now old.now }
+    {
+        let old = match &record.effect {
+            Effect::Octets { place, .. }
+            | Effect::Arrival(_, place)
+            | Effect::RxStep { place, .. } => old.from(*place as usize),
+            _ => old.newest(),
+        };
+        Past { record, old }
+    }
+
     /// What a look at a register gave before the event, where it gives `now` after it.
     #[inline(always)]
     pub fn register_before(&self, reg: Reg, now: u32) -> u32
@@ -36,7 +76,7 @@ impl Undo {
         ensures octets { window.new ≡ octets_before self.now.effect addr window.old }
         ensures before { PutsBackWindow self.now addr window.old window.new }
     {
-        self.effect.octets_before(addr, window);
+        self.lay_over(addr, window);
     }
 
     /// The least address from `addr` on where the record has an octet of guest memory. Up to there, or to the end of
@@ -46,7 +86,7 @@ impl Undo {
         ensures next { result ≡ next_octet self.now.effect addr }
         ensures before { LeavesUpTo self.now addr result }
     {
-        self.effect.next_octet(addr)
+        self.next_told(addr)
     }
 
     /// Whether the link was up before the event, where it is `now` after it.
@@ -55,16 +95,16 @@ impl Undo {
         ensures value { result ≡ link_before self.now.effect now }
         ensures before { PutsBack self.now (λ s. s.link) now result }
     {
-        self.effect.link_before(now)
+        self.link_told(now)
     }
 
     /// How many frames lay in the FIFO before the event, where there are `now` after it.
     #[inline(always)]
     pub fn frames_before(&self, now: usize) -> usize
-        ensures value { result ≡ frames_before self.now.effect now }
+        ensures value { result ≡ min (frames_before self.now.effect now) usize.MAX }
         ensures before { PutsBack self.now (λ s. length s.fifo.frames) now result }
     {
-        self.effect.frames_before(now)
+        self.frames_told(now)
     }
 
     /// Makes gathered octets those of before the event, where `last` is the frame that went last to the wire, or
@@ -75,7 +115,7 @@ impl Undo {
         ensures before { OnOk result
             (PutsBackGathered self.now last.now gathered.old.items gathered.new.items) }
     {
-        self.effect.gathered_before(gathered, last)
+        self.gather_told(gathered, last)
     }
 
     /// Whether the event put a frame on the wire, which comes off when it is taken back.
@@ -84,7 +124,7 @@ impl Undo {
         ensures value { result ≡ has_sent self.now.effect }
         ensures before { TakesOffWire self.now result }
     {
-        self.effect.has_sent()
+        self.has_sent()
     }
 
     /// What a register was, by the kind of its row.
@@ -94,50 +134,51 @@ impl Undo {
         ensures { result ≡ register_before self.now reg now }
     {
         match reg.row().kind {
-            Kind::Stored | Kind::Control | Kind::EepromRead => self.effect.stored_before(reg, now),
-            Kind::Interrupt | Kind::Counter => self.latched_before(reg, now),
-            Kind::Status => self.effect.status_before(now),
+            Kind::Stored | Kind::Control | Kind::EepromRead => self.stored_told(reg, now),
+            Kind::Interrupt | Kind::Counter => self.latched_told(reg, now),
+            Kind::Status => self.status_told(now),
         }
     }
 
     /// What an interrupt register or a counter was.
     #[inline(always)]
-    fn latched_before(&self, reg: Reg, now: u32) -> u32
+    fn latched_told(&self, reg: Reg, now: u32) -> u32
         requires { IsLatched reg }
         ensures { result ≡ latched_before self.now.latches self.now.effect reg now }
     {
-        if let Effect::Reset(old) = &self.effect {
+        if let Effect::Reset(old) = &self.record.effect {
             return old.latches.look(reg);
         }
         match reg {
             Reg::Ics | Reg::Imc => now,
-            _ => self.latches.before(reg, now),
+            _ => self.record.latches.before(reg, now),
         }
     }
-}
 
-impl Effect {
     /// What a register that keeps what software writes was.
     #[inline(always)]
-    fn stored_before(&self, reg: Reg, now: u32) -> u32
+    fn stored_told(&self, reg: Reg, now: u32) -> u32
         requires { IsStored reg }
-        ensures { result ≡ stored_before self.now reg now }
+        ensures { result ≡ stored_before self.now.effect reg now }
     {
-        match self {
+        match &self.record.effect {
             Effect::Register(old) => old.old_of(reg).unwrap_or(now),
-            Effect::RxStep(head, _) => head_before(reg, Reg::Rdh, *head, now),
+            Effect::RxStep { .. } => {
+                let head = u32::from_le_bytes(self.old.read_array());
+                head_before(reg, Reg::Rdh, head, now)
+            }
             Effect::TxStep(_, head) => head_before(reg, Reg::Tdh, *head, now),
             Effect::Reset(old) => old.registers.look(reg),
-            _ => now,
+            Effect::Nothing | Effect::Octets { .. } | Effect::Arrival(..) | Effect::Link(_) => now,
         }
     }
 
     /// What STATUS was.
     #[inline(always)]
-    fn status_before(&self, now: u32) -> u32
-        ensures { result ≡ status_before self.now now }
+    fn status_told(&self, now: u32) -> u32
+        ensures { result ≡ status_before self.now.effect now }
     {
-        match self {
+        match &self.record.effect {
             Effect::Link(up) => status_of(*up),
             _ => now,
         }
@@ -145,43 +186,57 @@ impl Effect {
 
     /// Makes a window what it was.
     #[inline(always)]
-    fn octets_before(&self, addr: u64, window: &mut [u8])
-        ensures { window.new ≡ octets_before self.now addr window.old }
+    fn lay_over(&self, addr: u64, window: &mut [u8])
+        ensures { window.new ≡ octets_before self.now.effect addr window.old }
     {
-        match self {
-            Effect::Octets(old) => old.lay_over(addr, window),
-            Effect::FewOctets(old) => old.lay_over(addr, window),
-            Effect::RxStep(_, old) => old.lay_over(addr, window),
-            Effect::TxStep(old, _) => old.lay_over(addr, window),
-            Effect::Reset(old) => {
-                old.gathered.lay_over(addr, window);
-                old.fifo.lay_over(addr, window);
+        match &self.record.effect {
+            Effect::Octets { at, len, .. } => {
+                let (front, back) = self.old.first(usize::from(*len));
+                lay_both_over(u64::from(*at), front, back, addr, window);
             }
+            Effect::RxStep {
+                left,
+                len,
+                buffer,
+                end_at,
+                ..
+            } => piece_of(*left, *len, *buffer, *end_at).lay_over(
+                &self.old.behind(HEAD_OCTETS),
+                addr,
+                window,
+            ),
+            Effect::TxStep(old, _) => old.lay_over(addr, window),
+            Effect::Reset(old) => old.gathered.lay_over(addr, window),
             _ => {}
         }
     }
 
     /// The least address from `addr` on where there is an octet of memory.
     #[inline(always)]
-    fn next_octet(&self, addr: u64) -> Option<u64>
-        ensures { result ≡ next_octet self.now addr }
+    fn next_told(&self, addr: u64) -> Option<u64>
+        ensures { result ≡ next_octet self.now.effect addr }
     {
-        match self {
-            Effect::Octets(old) => old.next_octet(addr),
-            Effect::FewOctets(old) => old.next_octet(addr),
-            Effect::RxStep(_, old) => old.next_octet(addr),
+        match &self.record.effect {
+            Effect::Octets { at, len, .. } => { next_in(u64::from(*at), usize::from(*len), addr) }
+            Effect::RxStep {
+                left,
+                len,
+                buffer,
+                end_at,
+                ..
+            } => piece_of(*left, *len, *buffer, *end_at).next_octet(addr),
             Effect::TxStep(old, _) => old.next_octet(addr),
-            Effect::Reset(old) => least(old.gathered.next_octet(addr), old.fifo.next_octet(addr)),
+            Effect::Reset(old) => old.gathered.next_octet(addr),
             _ => None,
         }
     }
 
     /// What the link was.
     #[inline(always)]
-    fn link_before(&self, now: bool) -> bool
-        ensures { result ≡ link_before self.now now }
+    fn link_told(&self, now: bool) -> bool
+        ensures { result ≡ link_before self.now.effect now }
     {
-        match self {
+        match &self.record.effect {
             Effect::Link(old) => *old,
             _ => now,
         }
@@ -189,22 +244,28 @@ impl Effect {
 
     /// How many frames lay in the FIFO.
     #[inline(always)]
-    fn frames_before(&self, now: usize) -> usize
-        ensures { result ≡ frames_before self.now now }
+    fn frames_told(&self, now: usize) -> usize
+        ensures { result ≡ min (frames_before self.now.effect now) usize.MAX }
     {
-        match self {
-            Effect::Arrival(old) => old.frames(),
-            Effect::RxStep(_, old) => old.frames(),
-            Effect::Reset(old) => old.fifo.frames().unwrap_or(now),
+        match &self.record.effect {
+            Effect::Arrival(old, _) => old.frames_before(now),
+            Effect::RxStep {
+                left,
+                len,
+                buffer,
+                end_at,
+                ..
+            } => piece_of(*left, *len, *buffer, *end_at).frames_before(now),
+            Effect::Reset(old) => old.places.count as usize,
             _ => now,
         }
     }
 
     /// Makes gathered octets what they were.
-    fn gathered_before(&self, gathered: &mut Vec<u8>, last: &[u8]) -> Result<(), AllocError>
-        ensures { OnOk result (gathered.new.items ≡ gathered_before self.now gathered.old.items last.now) }
+    fn gather_told(&self, gathered: &mut Vec<u8>, last: &[u8]) -> Result<(), AllocError>
+        ensures { OnOk result (gathered.new.items ≡ gathered_before self.now.effect gathered.old.items last.now) }
     {
-        match self {
+        match &self.record.effect {
             Effect::TxStep(old, _) => old.gathered_before(gathered, last),
             Effect::Reset(old) => old.gathered.gathered_before(gathered, last),
             _ => Ok(()),
@@ -214,13 +275,26 @@ impl Effect {
     /// Whether a frame was sent.
     #[inline(always)]
     fn has_sent(&self) -> bool
-        ensures { result ≡ has_sent self.now }
+        ensures { result ≡ has_sent self.now.effect }
     {
-        match self {
+        match &self.record.effect {
             Effect::TxStep(old, _) => old.has_sent(),
             Effect::Reset(old) => old.gathered.has_sent(),
             _ => false,
         }
+    }
+}
+
+/// A receive step's record, by its parts.
+#[inline(always)]
+fn piece_of(left: bool, len: u16, buffer: u32, end_at: u32) -> OldPiece
+    ensures { result ≡ piece left len buffer end_at }
+{
+    OldPiece {
+        buffer,
+        end_at,
+        len,
+        left,
     }
 }
 

@@ -10,13 +10,12 @@ ghost use Rattle.em_rx.specs.Frame.{Frame};
 ghost use Rattle.em_step.specs.State.{State, status};
 ghost use Rattle.em_step.specs.Access.{gives, reset, after_eeprom_read};
 ghost use Rattle.em_step.specs.Cells.{Cells, fresh, shows, MorePages};
-ghost use Rattle.em_step.specs.Undo.{Fits, undo};
+ghost use Rattle.em_step.specs.Undo.{Fits, Undo, undo};
 ghost use Rattle.em_step.specs.Event.{Event, arrives, receives, transmits};
 ghost use Rattle.em_step.specs.Step.{step};
 ghost use Rattle.em_step.specs.Whole.{Admits, IsPlain, IsWhole, KeepsAllButFifo, ReceivesWhole, SendsWhole};
 ghost use Rattle.em_step.specs.Cost.{cost, most_cost};
 ghost use Rattle.em_step.specs.declared.event.Answer.{Answer};
-ghost use Rattle.em_step.specs.declared.undo.Undo.{Undo};
 
 use crate::adapter::Adapter;
 use em_regs::Reg;

@@ -14,6 +14,7 @@ mod rings;
 mod undo;
 
 pub use adapter::Adapter;
+pub use before::Past;
 pub use event::{Answer, Event, Reason};
 pub use refusal::Refusal;
-pub use undo::{BeforeReset, Effect, LEAST_COST, MOST_COST, Undo};
+pub use undo::{BeforeReset, Effect, LEAST_COST, MOST_COST, Record, Undo};

@@ -1,12 +1,14 @@
 //! What takes an event back.
 ghost use Rattle.std.specs.Prelude.{◌≡◌, ◌≤◌, []};
-ghost use Rattle.em_step.specs.Cost.{least_cost, most_cost, cost_of};
+ghost use Rattle.em_step.specs.Cost.{cost_by, cost_of, least_cost, most_cost};
+ghost use Rattle.em_step.specs.Undo.{held};
 
 use em_latch::{LatchUndo, Latches};
-use em_mem::{FewOctets, MemUndo};
+use em_mem::OldOctets;
 use em_regs::{RegFile, RegUndo};
-use em_rx::{FramePatch, RxUndo, StepPatch};
+use em_rx::{OldFrame, Places};
 use em_tx::{Change, TxUndo};
+use std::marker::Model;
 use std::mem::size_of;
 
 /// What a record costs that holds no octets.
@@ -15,9 +17,16 @@ pub const LEAST_COST: u32 = 32;
 /// The most that a record costs: that of a reset.
 pub const MOST_COST: u32 = 65_536;
 
-/// What takes one event back: by how much words of the latches grew, and what else it changed.
+/// How many octets RDH has among those that a receive step saves.
+pub(crate) const HEAD_OCTETS: usize = 4;
+
+/// How many octets it saves beside those of its piece: RDH, and 8 of the end of the descriptor.
+const STEP_OCTETS: usize = 12;
+
+/// What takes one event back: by how much words of the latches grew, and what else it changed. Old octets lie where the
+/// event saved them.
 #[derive(Drop)]
-pub struct Undo {
+pub struct Record {
     pub latches: LatchUndo,
     pub effect: Effect,
 }
@@ -29,14 +38,23 @@ pub enum Effect {
     Nothing,
     /// A register.
     Register(RegUndo),
-    /// Octets of guest memory, in a box, so that records stay small: a journal has a place for each.
-    Octets(Box<MemUndo>),
-    /// A few octets of guest memory, which lie in the record itself.
-    FewOctets(FewOctets),
-    /// What a frame overwrote in the FIFO, in a box like the octets.
-    Arrival(Box<FramePatch>),
-    /// RDH, and what a step of the receive engine overwrote in guest memory and in the FIFO.
-    RxStep(u32, Box<StepPatch>),
+    /// Octets of guest memory: where they lay, how many, and the place where they were saved.
+    Octets {
+        at: u32,
+        len: u16,
+        place: u32,
+    },
+    /// What a frame replaced in the FIFO, and the place where its octets were saved.
+    Arrival(OldFrame, u32),
+    /// What a step of the receive engine replaced in guest memory: the parts of an `OldPiece`, and the place where its
+    /// octets were saved, those of RDH before them.
+    RxStep {
+        left: bool,
+        len: u16,
+        buffer: u32,
+        end_at: u32,
+        place: u32,
+    },
     /// What a step of the transmit engine gathered, sent and overwrote in guest memory, and TDH.
     TxStep(Change, u32),
     /// The link.
@@ -51,17 +69,17 @@ pub enum Effect {
 pub struct BeforeReset {
     pub registers: Box<RegFile>,
     pub latches: Latches,
-    pub fifo: RxUndo,
+    pub places: Places,
     pub gathered: TxUndo,
 }
 
-impl Undo {
+impl Record {
     /// The record of an event that changed words of the latches alone.
     #[inline(always)]
-    pub(crate) fn of_latches(latches: LatchUndo) -> Undo
+    pub(crate) fn of_latches(latches: LatchUndo) -> Record
         ensures { result ≡ record { latches = latches; effect = Effect.Nothing } }
     {
-        Undo {
+        Record {
             latches,
             effect: Effect::Nothing,
         }
@@ -69,10 +87,10 @@ impl Undo {
 
     /// The record of an event that changed no word of the latches.
     #[inline(always)]
-    pub(crate) fn of_effect(effect: Effect) -> Undo
+    pub(crate) fn of_effect(effect: Effect) -> Record
         ensures { result ≡ record { latches = []; effect = effect } }
     {
-        Undo {
+        Record {
             latches: LatchUndo::none(),
             effect,
         }
@@ -81,21 +99,67 @@ impl Undo {
     /// What the record counts for in a journal's budget, in octets of cost.
     #[inline(always)]
     pub fn cost(&self) -> u32
-        ensures cost { result ≡ cost_of self.now }
+        ensures cost { result ≡ cost_by self.now }
         ensures least { least_cost ≤ result }
-        ensures most { result ≤ most_cost }
     {
         match &self.effect {
             Effect::Nothing | Effect::Register(_) | Effect::Link(_) => LEAST_COST,
-            Effect::Octets(octets) => LEAST_COST + octets.len(),
-            Effect::FewOctets(octets) => LEAST_COST + octets.len(),
-            Effect::Arrival(frame) => LEAST_COST + frame.len(),
-            Effect::RxStep(_, piece) => LEAST_COST + piece.len(),
+            Effect::Octets { len, .. } => LEAST_COST + u32::from(*len),
+            Effect::Arrival(frame, _) => LEAST_COST + frame.len() as u32,
+            Effect::RxStep { len, .. } => LEAST_COST + (u32::from(*len) + 8),
             Effect::TxStep(change, _) => LEAST_COST + change.cost(),
             Effect::Reset(_) => MOST_COST,
+        }
+    }
+
+    /// How many octets were saved for it: at most 16,384, and no more than it costs beyond the least.
+    #[inline(always)]
+    pub fn held(&self) -> usize
+        ensures held { result ≡ held self.now }
+    {
+        match &self.effect {
+            Effect::Octets { len, .. } => usize::from(*len),
+            Effect::Arrival(frame, _) => frame.len(),
+            Effect::RxStep { len, .. } => usize::from(*len) + STEP_OCTETS,
+            _ => 0,
         }
     }
 }
 
 // A journal makes a place for each 32 octets of its budget, so a record may not grow unseen.
-const _: () = prove!(size_of::<Undo>() == 32);
+const _: () = prove!(size_of::<Record>() == 32);
+
+/// What takes one event back, of an adapter by itself: a record, with the octets that were saved for it.
+#[derive(Drop)]
+pub struct Undo {
+    pub(crate) record: Record,
+    pub(crate) old: OldOctets,
+}
+
+impl Model for Undo {
+    ghost use Rattle.std.specs.Prelude.{◌≤◌, length};
+    ghost use Rattle.std.specs.Coded.{codes};
+    ghost use Rattle.em_regs.specs.RegFile.{registers_code};
+    ghost use Rattle.em_step.specs.Cost.{cost_of, most_cost};
+    ghost use Rattle.em_step.specs.Undo.{Undo, held, undo_of};
+
+    ghost Value = { Undo };
+
+    ghost coded = { Prim.hlevel (codes, registers_code) };
+
+    ghost view = { λ u. undo_of u.record u.old };
+
+    ghost invariant = { λ u.
+        (held u.record ≤ length u.old.octets) × (cost_of (undo_of u.record u.old) ≤ most_cost) };
+}
+
+impl Undo {
+    /// What the event counts for in a journal's budget, in octets of cost.
+    pub fn cost(&self) -> u32
+        ensures cost { result ≡ cost_of self.now }
+        ensures least { least_cost ≤ result }
+        ensures most { result ≤ most_cost }
+    {
+        self.record.cost()
+    }
+}

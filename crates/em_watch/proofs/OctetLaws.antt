@@ -13,8 +13,7 @@ use Rattle.em_mem.proofs.PutLaws.{length-part}
 use Rattle.em_step.specs.Before.{LeavesUpTo}
 use Rattle.em_step.specs.Cells.{shows}
 use Rattle.em_step.specs.State.{State}
-use Rattle.em_step.specs.Undo.{undo}
-use Rattle.em_step.specs.declared.undo.Undo.{Undo}
+use Rattle.em_step.specs.Undo.{Undo, undo}
 use Rattle.em_journal.specs.Record.{IsRecordAt}
 use Rattle.em_journal.specs.View.{HaveMemoryOf, View, states}
 use Rattle.em_watch.specs.MemoryChange.{ChangesOctet, HasRange, IsMemoryChange, LeavesOctet, LeavesOctets, LeavesRest}

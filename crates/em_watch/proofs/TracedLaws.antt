@@ -14,9 +14,8 @@ use Rattle.em_regs.specs.declared.reg.Reg.TheVariants.{Icr, Ims}
 use Rattle.em_regs.specs.Table.{index_of, row_of}
 use Rattle.em_step.specs.Cells.{Cells, shows}
 use Rattle.em_step.specs.State.{State}
-use Rattle.em_step.specs.Undo.{Fits, undo}
+use Rattle.em_step.specs.Undo.{Undo, Fits, undo}
 use Rattle.em_step.specs.Access.{gives}
-use Rattle.em_step.specs.declared.undo.Undo.{Undo}
 use Rattle.em_step.proofs.SizeLaws.{memory_size}
 use Rattle.em_journal.specs.View.{View, states}
 use Rattle.em_mem.specs.Window.{IsWindow}

@@ -8,8 +8,7 @@ use Rattle.em_latch.specs.Latches.{causes, mask}
 use Rattle.em_step.specs.State.{State}
 use Rattle.em_step.specs.Access.{gives}
 use Rattle.em_step.specs.Cells.{Cells, shows}
-use Rattle.em_step.specs.Undo.{Fits, undo}
-use Rattle.em_step.specs.declared.undo.Undo.{Undo}
+use Rattle.em_step.specs.Undo.{Undo, Fits, undo}
 use Rattle.em_journal.specs.View.{View, states}
 use Rattle.em_step.specs.Before.{PutsBackWindow}
 use Rattle.em_watch.specs.Change.{IsNextChange, NeverDiffers}

@@ -122,7 +122,7 @@ fn next_place(machine: &Machine, back: usize, from: u64) -> Option<u64>
     ensures none { IfNone result (LeavesRest machine.now back from) }
 {
     match machine.record(back - 1) {
-        Some(record) => record.next_octet(from),
+        Some(past) => past.next_octet(from),
         None => unreachable!(),
     }
 }

@@ -166,7 +166,7 @@ pub(crate) fn step_back(machine: &Machine, k: usize, traced: Traced) -> Traced
     ensures register { IsTraceable result }
 {
     match machine.record(k) {
-        Some(record) => traced.before(record),
+        Some(past) => traced.before(&past),
         None => unreachable!(),
     }
 }

@@ -10,7 +10,7 @@ use crate::range::{MOST_WATCHED, MemoryRange};
 use crate::watch::{Sight, Watch};
 use em_journal::Machine;
 use em_regs::Reg;
-use em_step::Undo;
+use em_step::Past;
 
 /// What has to be known of a state to see a watched thing in it, and in those before it.
 #[derive(Clone, Copy)]
@@ -74,25 +74,25 @@ impl Traced {
 
     /// The watched thing as it was before the event of a record.
     #[inline(always)]
-    pub(crate) fn before(self, undo: &Undo) -> Traced
+    pub(crate) fn before(self, past: &Past<'_>) -> Traced
         requires { IsTraceable self }
-        ensures before { TakesBack undo.now self result }
+        ensures before { TakesBack past.now self result }
         ensures register { IsTraceable result }
     {
         match self {
             Traced::Nothing => Traced::Nothing,
-            Traced::Register(reg, value) => Traced::Register(reg, undo.register_before(reg, value)),
+            Traced::Register(reg, value) => Traced::Register(reg, past.register_before(reg, value)),
             Traced::Octets(range, octets) => Traced::Octets(
                 range,
-                octets_before(undo, range, octets),
+                octets_before(past, range, octets),
             ),
             Traced::Line(causes, mask) => Traced::Line(
-                undo.register_before(Reg::Icr, causes),
-                undo.register_before(Reg::Ims, mask),
+                past.register_before(Reg::Icr, causes),
+                past.register_before(Reg::Ims, mask),
             ),
-            Traced::Link(up) => Traced::Link(undo.link_before(up)),
-            Traced::Frames(count) => Traced::Frames(undo.frames_before(count)),
-            Traced::Sent(count) => Traced::Sent(sent_before(undo, count)),
+            Traced::Link(up) => Traced::Link(past.link_before(up)),
+            Traced::Frames(count) => Traced::Frames(past.frames_before(count)),
+            Traced::Sent(count) => Traced::Sent(sent_before(past, count)),
         }
     }
 }
@@ -130,20 +130,24 @@ fn traced_octets(machine: &Machine, range: MemoryRange) -> Traced
 
 /// The octets of a range, with zeros behind them, before the event of a record.
 #[inline(always)]
-fn octets_before(undo: &Undo, range: MemoryRange, octets: [u8; MOST_WATCHED]) -> [u8; MOST_WATCHED]
-    ensures { OctetsGoBack undo.now range.addr range.len octets result }
+fn octets_before(
+    past: &Past<'_>,
+    range: MemoryRange,
+    octets: [u8; MOST_WATCHED],
+) -> [u8; MOST_WATCHED]
+    ensures { OctetsGoBack past.now range.addr range.len octets result }
 {
     let mut window = octets;
-    undo.octets_before(range.addr(), &mut window[..range.len()]);
+    past.octets_before(range.addr(), &mut window[..range.len()]);
     window
 }
 
 /// How many frames were sent before the event of a record.
 #[inline(always)]
-fn sent_before(undo: &Undo, now: usize) -> usize
-    ensures { PutsBack undo.now (λ s. length s.wire) now result }
+fn sent_before(past: &Past<'_>, now: usize) -> usize
+    ensures { PutsBack past.now (λ s. length s.wire) now result }
 {
-    if undo.takes_off_wire() {
+    if past.takes_off_wire() {
         now.saturating_sub(1)
     } else {
         now

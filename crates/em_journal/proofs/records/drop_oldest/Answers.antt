@@ -2,8 +2,8 @@ use Rattle.std.proofs.Common.{◌-◌, length, refl, sym, ap, ◌∙◌, arith}
 use Rattle.std.proofs.lemmas.List.{length-take-le}
 use Rattle.std.proofs.Math.Seq.{take-length}
 use Rattle.circular_buffer.specs.Buffer.{buffer}
-use Rattle.em_journal.specs.Records.{costs_of}
-use Rattle.em_journal.proofs.BudgetLaws.{sum_some, length-costs_of, reach_length, reach_less}
+use Rattle.em_journal.specs.Records.{costs_by}
+use Rattle.em_journal.proofs.BudgetLaws.{sum_some, length-costs_by, reach_length, reach_less}
 use Rattle.em_journal.proofs.BudgetLaws.{left_after_drop, left_is_reach}
 use Rattle.em_journal.proofs.records.drop_oldest.Goals as goal
 
@@ -16,7 +16,7 @@ loop-used-init c =
     record {
       kept = sym (take-length rs);
       places = refl;
-      reached = omega (arith, reach_length c.args.room (costs_of rs), length-costs_of rs);
+      reached = omega (arith, reach_length c.args.room (costs_by rs), length-costs_by rs);
       short = omega arith;
       counted = c.requires;
       same = refl;

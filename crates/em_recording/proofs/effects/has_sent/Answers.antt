@@ -3,5 +3,5 @@ use Rattle.em_recording.proofs.effects.has_sent.Goals as goal
 
 pub returns : goal.returns
 returns c =
-    sent_at c.args.machine.now c.args.k c.in-Some.record.now c.takes_off_wire.result c.in-Some.ensures.found
+    sent_at c.args.machine.now c.args.k c.in-Some.past c.takes_off_wire.result c.in-Some.ensures.found
     c.takes_off_wire.ensures.before

@@ -4,15 +4,15 @@ use Rattle.em_watch.proofs.octets.next_place.Goals as goal
 
 pub returns-clause-from : goal.returns-clause-from
 returns-clause-from c =
-    place_from c.args.machine.now c.args.back c.args.from c.in-Some.record.now c.next_octet.result
+    place_from c.args.machine.now c.args.back c.args.from c.in-Some.past c.next_octet.result
     c.in-Some.ensures.found c.next_octet.ensures.before
 
 pub returns-clause-left : goal.returns-clause-left
 returns-clause-left c =
-    left_to c.args.machine.now c.args.back c.args.from c.in-Some.record.now c.next_octet.result
+    left_to c.args.machine.now c.args.back c.args.from c.in-Some.past c.next_octet.result
     c.requires.some c.in-Some.ensures.found c.next_octet.ensures.before
 
 pub returns-clause-none : goal.returns-clause-none
 returns-clause-none c =
-    left_to_end c.args.machine.now c.args.back c.args.from c.in-Some.record.now c.next_octet.result
+    left_to_end c.args.machine.now c.args.back c.args.from c.in-Some.past c.next_octet.result
     c.requires.some c.in-Some.ensures.found c.next_octet.ensures.before

@@ -1,14 +1,23 @@
+use Rattle.std.proofs.Common.{sym}
 use Rattle.em_step.specs.Event.{links}
-use Rattle.em_journal.proofs.RecordsLaws.{event_does, journal_event}
+use Rattle.em_journal.proofs.RecordsLaws.{entered, entry_does, plain_cost, plain_kept}
 use Rattle.em_journal.proofs.machine.Machine.set_link.Goals as goal
 
 pub invariant_of-self-2 : goal.invariant_of-self-2
 invariant_of-self-2 c =
     let kept = c.keep.ensures in
-    journal_event kept.same c.self.invariant c.in_ok-answer.ensures.ok.reverses kept.items kept.capacity kept.counted kept.held
+    let done = c.in_ok-answer.ensures.ok in
+    let octets = c.self.inside.records.octets in
+    entered kept.same kept.octets kept.waits (done.performed octets) (plain_kept octets kept.items done.plain) c.self.invariant
+    kept.places kept.counted kept.held
 
 pub returns-clause-ok : goal.returns-clause-ok
 returns-clause-ok c =
+    let kept = c.keep.ensures in
     let done = c.in_ok-answer.ensures.ok in
-    event_does c.self.inside.records.ring.items (links c.args.up)
-    c.keep.ensures.same done c.keep.ensures.items c.keep.ensures.some c.self.view_is
+    let octets = c.self.inside.records.octets in
+    entry_does (links c.args.up) kept.same kept.octets (done.performed octets)
+    (plain_kept octets kept.items done.plain) c.self.invariant kept.some c.self.view_is
+
+pub keep-requires-clause-cost : goal.keep-requires-clause-cost
+keep-requires-clause-cost c = sym (plain_cost c.self.inside.records.octets c.in_ok-answer.ensures.ok)

@@ -1,56 +1,70 @@
--- What the patch says lay there before both writes.
-use Rattle.std.proofs.Common.{rules, ◌≡◌, ℕ, ◌≤◌, List, length, sym, ap, subst, ◌∙◌, arith}
+-- What lay there before both writes was saved.
+use Rattle.std.proofs.Common.{◌≡◌, ℕ, List, length, take, sym, ap, subst, ◌∙◌, arith}
 use Rattle.em_mem.specs.Memory as memory
-use Rattle.em_mem.proofs.PutLaws.{length-put}
-use Rattle.em_rx.specs.Fifo.{Cells, next, rest, shows}
+use Rattle.em_mem.specs.Memory.{part}
+use Rattle.em_mem.specs.OldOctets.{OldOctets}
+use Rattle.em_mem.proofs.OldOctetsLaws.{first-saved, length-saves, saves, saves_more, second-saved}
+use Rattle.em_mem.proofs.PutLaws.{length-part}
+use Rattle.em_rx.specs.Fifo.{Cells, IsSound, next, shows}
+use Rattle.em_rx.specs.Records.{step_patch}
 use Rattle.em_rx.specs.StepPatch.{StepPatch}
-use Rattle.em_rx.specs.Undo.{FitsStep, IsOverwritten}
+use Rattle.em_rx.specs.Undo.{moved_back}
 use Rattle.em_rx.proofs.StepLaws.{length-next, step_reverses}
 use Rattle.em_rx.proofs.fifo.Fifo.deliver.Goals as goal
+
+pub returns-clause-saves : goal.returns-clause-saves
+returns-clause-saves c =
+    let m = c.args.memory.now.octets in
+    let r = c.args.piece.now in
+    let older = saves (part m r.end_at 8) 8 c.args.old.now c.save.new.old (length-part m r.end_at 8 c.requires.end_held)
+    (omega (arith, c.requires.old_room)) c.save.ensures in
+    let size = length-saves older in
+    let newer = saves (part m r.buffer r.len) r.len c.save.new.old c.save-2.new.old
+    (length-part m r.buffer r.len c.requires.held) (omega (arith, size, c.requires.old_room)) c.save-2.ensures in
+    saves_more older newer c.requires.old_room
 
 pub returns-clause-reverses : goal.returns-clause-reverses
 returns-clause-reverses c =
     let f = c.self.inside in
-    let q = c.patch.inside in
     let v = c.args.self.now in
     let m = c.args.memory.now in
+    let r = c.args.piece.now in
+    let o : OldOctets = c.save-2.new.old in
     let cells : Cells = record { octets = f.octets.items; entries = f.entries.items; places = f.places } in
-    let old : StepPatch
-    = record { first = q.piece; second = record { at = q.end_at; octets = q.end }; places = q.places } in
-    let p : StepPatch = record old { places = c.swap.new.y } in
-    let fits : FitsStep v m old = subst (FitsStep v m) (sym c.patch.view_is) c.requires.fits in
-    let was : IsOverwritten m.octets old
-    = subst (IsOverwritten m.octets) (sym c.patch.view_is) c.requires.overwritten in
-    let n = c.len-count.result in
-    let d = next (shows v) n in
+    let new : Cells = record cells { places = c.places_after-self-inside.result } in
+    let p : StepPatch = step_patch r o in
+    let under : List ℕ = part m.octets r.buffer r.len in
+    let end : List ℕ = part m.octets r.end_at 8 in
+    let size : length under ≡ r.len = length-part m.octets r.buffer r.len c.requires.held in
+    let eight : length end ≡ 8 = length-part m.octets r.end_at 8 c.requires.end_held in
+    let first : take r.len o.octets ≡ under
+    = ap (λ (n : ℕ). take n o.octets) (sym size) ∙ first-saved under c.save.new.old o c.save-2.ensures in
+    let second : part o.octets r.len 8 ≡ end
+    = (λ i. part o.octets (sym size i) (sym eight i))
+    ∙ second-saved under end c.args.old.now c.save.new.old o c.save.ensures c.save-2.ensures
+    (omega (arith, size, eight, c.requires.old_room)) in
+    let d = next (shows v) r.len in
     let e = c.written_back-end.result in
-    let held : n ≤ rest (shows v)
-    = omega (
-      arith,
-      c.len-count.ensures.len,
-      ap (λ (x : StepPatch). length x.first.octets) c.patch.view_is,
-      c.requires.count,
-    ) in
-    let size_d : length d ≡ length q.piece.octets = length-next (shows v) n held ∙ c.len-count.ensures.len in
-    let eight : length q.end ≡ 8 = search rules in
-    let size_e : length e ≡ length q.end = ap length c.written_back-end.ensures ∙ sym eight in
-    let one_size = length-put m.octets q.piece.at q.piece.octets fits.first.held in
-    let wrote : c.write.new.self.octets ≡ memory.put (memory.put m.octets q.piece.at d) q.end_at e
-    = c.write.ensures.octets
-    ∙ ap (λ (x : List ℕ). memory.put x q.end_at e) c.write_next.ensures.octets
-    ∙ ap (λ (k : ℕ). memory.put (memory.put m.octets k d) q.end_at e) c.addr.ensures in
-    let fits_d : memory.Fits m (record { at = q.piece.at; octets = d })
+    let size_d : length d ≡ r.len = length-next (shows v) r.len c.requires.count in
+    let size_e : length e ≡ 8 = ap length c.written_back-end.ensures in
+    let count : length p.first.octets ≡ r.len = ap length first ∙ size in
+    let same : new ≡ record v { places = c.places_after-self-inside.result }
+    = ap (λ (x : Cells). let s : Cells = record x { places = c.places_after-self-inside.result } in s) c.self.view_is in
+    let places : moved_back new (length p.first.octets) r.left ≡ v.places
+    = (λ i. moved_back (same i) (count i) (c.requires.left i)) ∙ c.places_after-self-inside.ensures.back in
+    let wrote : c.write.new.self.octets ≡ memory.put (memory.put m.octets r.buffer d) r.end_at e
+    = c.write.ensures.octets ∙ ap (λ (x : List ℕ). memory.put x r.end_at e) c.write_next.ensures.octets in
+    let fits_d : memory.Fits m (record { at = r.buffer; octets = d })
     = record {
-      held = omega (arith, fits.first.held, size_d);
-      made = λ i l. fits.first.made i (omega (arith, l, size_d));
+      held = omega (arith, c.requires.held, size_d);
+      made = λ i l. c.requires.made i (omega (arith, l, size_d));
     } in
-    let fits_e : memory.Fits m (record { at = q.end_at; octets = e })
+    let fits_e : memory.Fits m (record { at = r.end_at; octets = e })
     = record {
-      held = omega (arith, fits.second.held, size_e, one_size);
-      made = λ i l. fits.second.made i (omega (arith, l, size_e));
+      held = omega (arith, c.requires.end_held, size_e);
+      made = λ i l. c.requires.end_made i (omega (arith, l, size_e));
     } in
-    let back = step_reverses cells v c.swap.new.x m c.write.new.self p d e c.self.view_is c.self.invariant
-    c.swap.ensures.y_after wrote (c.write.ensures.made ∙ c.write_next.ensures.made) fits_d fits_e
-    (was.first ∙ ap (memory.part m.octets q.piece.at) (sym size_d))
-    (was.second ∙ ap (memory.part m.octets q.end_at) (sym size_e)) in
-    back
+    step_reverses v new m c.write.new.self p d e (subst IsSound c.self.view_is c.self.invariant) places
+    (ap (λ (x : Cells). x.octets) c.self.view_is) (ap (λ (x : Cells). x.entries) c.self.view_is)
+    wrote (c.write.ensures.made ∙ c.write_next.ensures.made) fits_d fits_e
+    (first ∙ ap (part m.octets r.buffer) (sym size_d)) (second ∙ ap (part m.octets r.end_at) (sym size_e))

@@ -3,9 +3,11 @@ use Rattle.em_regs.specs.declared.table.Row.{Row}
 use Rattle.em_regs.specs.declared.table.Kind.TheVariants.{Control, EepromRead, Status}
 use Rattle.em_step.specs.Access.{is_reset_by}
 use Rattle.em_step.specs.Cost.{cost_of}
+use Rattle.em_step.specs.Undo.{undo_of}
 use Rattle.em_step.specs.Cells.{shows}
 use Rattle.em_step.proofs.Registers.{costs_by, write_refuses, writes_by}
 use Rattle.em_step.proofs.ResultLaws.{if_all, refused_so}
+use Rattle.em_step.proofs.ReversalLaws.{plain_of}
 use Rattle.em_step.proofs.adapter.Adapter.write_register.Goals as goal
 
 pub returns-in-Control-clause-ok : goal.returns-in-Control-clause-ok
@@ -15,9 +17,12 @@ returns-in-Control-clause-ok c =
     let did = c.write_control.ensures in
     if_all c.write_control.result
     (λ state undo cost reverses. record {
-      ok = writes_by Control s c.args.reg c.args.value c.requires kind state;
-      cost = cost ∙ sym (costs_by Control s c.args.reg c.args.value c.requires kind);
-      reverses = reverses;
+      plain = reverses.plain;
+      performed = λ o. record {
+        ok = writes_by Control s c.args.reg c.args.value c.requires kind state;
+        cost = cost o ∙ sym (costs_by Control s c.args.reg c.args.value c.requires kind);
+        reverses = reverses.takes_back o;
+      };
     })
     did.state did.cost did.reverses
 
@@ -34,9 +39,12 @@ returns-in-EepromRead-clause-ok c =
     let s = shows c.args.self.now in
     let kind = ap (λ (row : Row). row.kind) (sym c.row.ensures) ∙ c.in-EepromRead.is in
     record {
-      ok = writes_by EepromRead s c.args.reg c.args.value c.requires kind c.write_eerd.ensures.state;
-      cost = ap cost_of c.of_effect.ensures ∙ sym (costs_by EepromRead s c.args.reg c.args.value c.requires kind);
-      reverses = search rules;
+      plain = plain_of c.of_effect.ensures refl (λ o. tt);
+      performed = λ o. record {
+        ok = writes_by EepromRead s c.args.reg c.args.value c.requires kind c.write_eerd.ensures.state;
+        cost = ap (λ r. cost_of (undo_of r o)) c.of_effect.ensures ∙ sym (costs_by EepromRead s c.args.reg c.args.value c.requires kind);
+        reverses = search rules;
+      };
     }
 
 pub returns-in-Status-clause-ok : goal.returns-in-Status-clause-ok
@@ -44,8 +52,11 @@ returns-in-Status-clause-ok c =
     let s = shows c.args.self.now in
     let kind = ap (λ (row : Row). row.kind) (sym c.row.ensures) ∙ c.in-Status.is in
     record {
-      ok = writes_by Status s c.args.reg c.args.value c.requires kind refl;
-      cost = ap cost_of c.of_effect-in-Status.ensures
-          ∙ sym (costs_by Status s c.args.reg c.args.value c.requires kind);
-      reverses = search rules;
+      plain = plain_of c.of_effect-in-Status.ensures refl (λ o. tt);
+      performed = λ o. record {
+        ok = writes_by Status s c.args.reg c.args.value c.requires kind refl;
+        cost = ap (λ r. cost_of (undo_of r o)) c.of_effect-in-Status.ensures
+            ∙ sym (costs_by Status s c.args.reg c.args.value c.requires kind);
+        reverses = search rules;
+      };
     }

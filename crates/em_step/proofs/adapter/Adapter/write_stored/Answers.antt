@@ -1,9 +1,11 @@
-use Rattle.std.proofs.Common.{ap, rules, sym, ◌∙◌}
+use Rattle.std.proofs.Common.{refl, ap, rules, sym, ◌∙◌}
 use Rattle.em_regs.specs.declared.table.Kind.TheVariants.{Stored}
 use Rattle.em_regs.specs.RegFile.{put}
 use Rattle.em_step.specs.Cells.{shows}
 use Rattle.em_step.specs.Cost.{cost_of}
+use Rattle.em_step.specs.Undo.{undo_of}
 use Rattle.em_step.proofs.Registers.{costs_by, only_stored, writes_stored}
+use Rattle.em_step.proofs.ReversalLaws.{plain_of}
 use Rattle.em_step.proofs.adapter.Adapter.write_stored.Goals as goal
 
 pub put-requires : goal.put-requires
@@ -11,9 +13,12 @@ put-requires c = only_stored c.args.reg c.requires
 
 pub returns : goal.returns
 returns c = record {
-  ok = writes_stored _ c.args.self.now c.args.reg c.args.value c.self.view_is c.requires
-      (c.put.ensures.state ∙ ap (λ file. put file c.args.reg c.args.value) c.deref_mut.ensures.value);
-  cost = ap cost_of c.of_effect.ensures
-      ∙ sym (costs_by Stored (shows c.args.self.now) c.args.reg c.args.value c.requires.0 c.requires.1);
-  reverses = search rules;
+  plain = plain_of c.of_effect.ensures refl (λ o. tt);
+  performed = λ o. record {
+    ok = writes_stored _ c.args.self.now c.args.reg c.args.value c.self.view_is c.requires
+        (c.put.ensures.state ∙ ap (λ file. put file c.args.reg c.args.value) c.deref_mut.ensures.value);
+    cost = ap (λ r. cost_of (undo_of r o)) c.of_effect.ensures
+        ∙ sym (costs_by Stored (shows c.args.self.now) c.args.reg c.args.value c.requires.0 c.requires.1);
+    reverses = search rules;
+  };
 }
