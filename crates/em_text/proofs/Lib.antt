@@ -4,4 +4,5 @@ pub mod WordsLemmas
 pub mod NumbersLemmas
 pub mod OctetsLemmas
 pub mod FrontLemmas
+pub mod ReadingLemmas
 pub mod WritingLemmas
