@@ -13,26 +13,41 @@ system=${BASH_VERSINFO[5]}
 [[ $system != *-linux-gnu ]] || system=${system%%-*}-linux
 given=$top/dist/$system/$me
 seen_file=$top/dist/.seen-$me
+# of these files it was seen that they are as dist/SOURCES has them
+well_file=$seen_file.well
 
 # What stat says of a file; a change of it that keeps all this stays unseen (docs/dist.md says when that can be).
-LOOK='%i %s %.Y %.Z %n'
+LOOK='%i %s %.Y %.Z'
 # dist or own, the program to run; and why it is not that of dist/
 chosen='' why=''
 
-# Looks at these files, named from the top. It ends its shell, so it is called in one of its own.
+# Looks at these files, named from the top: a line for each that is there, with its name behind. It ends its shell, so
+# it is called in one of its own.
 look() {
-  CDPATH='' cd -- "$top/" && exec stat --format="$LOOK" -- "$@" 2>/dev/null
+  CDPATH='' cd -- "$top/" && exec stat --format="$LOOK %n" -- "$@" 2>/dev/null
 }
 
-# Sets `chosen` to what an earlier run chose, where nothing has changed since. That file has, line by line, the names
-# of all that this rests on, the sum of what `look` said of them, what was chosen (dist or own), and then what `look`
-# said of those files that have the sum of dist/SOURCES.
+# Sets `chosen` to what an earlier run chose, where nothing has changed since. The file has a line with what was chosen
+# (dist or own), a line with the sum of what stat said of all that this rests on, and the names of that, each with a NUL.
 recall() {
-  local names='' sum='' what=''
-  { read -r names && read -r sum && read -r what; } 2>/dev/null <"$seen_file" || :
-  # (b2sum starts faster than sha256sum, which loads a large library on some systems)
-  # shellcheck disable=SC2086
-  [ -n "$what" ] && [ "$(look $names | exec b2sum)" = "$sum" ] && chosen=$what
+  local what='' sum=''
+  {
+    read -r what && read -r sum && [[ $what == @(dist|own) && $sum ]] && [ "$(sum_of_looks)" = "$sum" ] && chosen=$what
+  } 2>/dev/null <"$seen_file"
+}
+
+# The sum of what stat says of the files whose names are on standard input. (xargs, which coreutils has not, takes names a
+# few milliseconds faster than this shell does. b2sum starts faster than sha256sum, which loads a large library on some
+# systems.)
+sum_of_looks() {
+  local names
+  CDPATH='' cd -- "$top/" || return
+  if command -v xargs >/dev/null; then
+    xargs -0 stat --format="$LOOK" -- 2>/dev/null | exec b2sum
+  else
+    mapfile -t -d '' names
+    stat --format="$LOOK" -- "${names[@]}" 2>/dev/null | exec b2sum
+  fi
 }
 
 # Chooses the program of dist/ where it is made of these sources, or else the one built here where it is newer than
@@ -40,11 +55,11 @@ recall() {
 choose() {
   local names=(dist/SOURCES) found=() seen=()
   local -A is_well=()
+  . "$top/crates.bash"
   if sums_stand; then
     chosen=dist
     keep_seen
   else
-    . "$top/crates.bash"
     find_files "$me"
     names=(dist/SOURCES "${files[@]}" "${folders[@]}" "${own#"$top/"}")
     look "${names[@]}" | mapfile -t found || :
@@ -53,24 +68,30 @@ choose() {
   fi
 }
 
-# Whether each file of dist/SOURCES has the sum that it says; if not, why. Of those that are as they were seen none is
-# taken.
+# Whether each file of dist/SOURCES that this program is made of has the sum given there; if not, why. Of those that
+# are as they were seen none is taken.
 sums_stand() {
-  local line name listed=(dist/SOURCES) changed=()
-  local -A is_listed=() is_seen=()
+  local line name listed=(dist/SOURCES) changed=() order=()
+  local -A is_listed=() is_seen=() is_below=()
   is_well[dist/SOURCES]=yes
+  put_in_order "$me"
+  for name in "${order[@]}"; do
+    is_below[_$name]=yes
+  done
   [ -r "$top/dist/SOURCES" ] || {
     why="there is no dist/SOURCES"
     return 1
   }
   while read -r line; do
     [[ $line != \#* ]] || continue
+    name=${line#*  crates/}
+    [[ $line == *"  crates.txt" || ${is_below[_${name%%/*}]-} ]] || continue
     is_listed[_$line]=yes
     listed+=("${line#*  }")
   done <"$top/dist/SOURCES"
   names=("${listed[@]}")
   look "${names[@]}" | mapfile -t found || :
-  mapfile -t -s 3 seen 2>/dev/null <"$seen_file" || :
+  mapfile -t seen 2>/dev/null <"$well_file" || :
   for line in "${seen[@]}"; do
     is_seen[_$line]=yes
   done
@@ -96,23 +117,33 @@ sums_stand() {
 # Keeps for the next run what was chosen and what has its sum, if the folder can be written. A file that changed in the
 # last two seconds could change again and keep its times, so it is left out, and then there is no sum of all.
 keep_seen() {
-  local line rest written sum='' before=$(($(printf '%(%s)T' -1) - 2)) new=$seen_file.$$
-  [[ -w $top/dist && "${names[*]}" != *[^[:alnum:]_/.\ -]* ]] || return 0
+  local line rest name written sum='' looks=() before=$(($(printf '%(%s)T' -1) - 2))
+  [ -w "$top/dist" ] || return 0
   seen=()
   for line in "${found[@]}"; do
-    rest=${line#* * } written=${rest%%.*} rest=${rest#* }
+    rest=${line#* * } written=${rest%%.*} rest=${rest#* } name=${rest#* }
+    looks+=("${line%" $name"}")
     if [[ $written -ge $before || ${rest%%.*} -ge $before ]]; then
       sum=-
-    elif [[ ${is_well[${rest#* }]-} ]]; then
+    elif [[ ${is_well[$name]-} ]]; then
       seen+=("$line")
     fi
   done
-  [ -n "$sum" ] || sum=$(printf '%s\n' "${found[@]}" | b2sum)
-  # no half-made file: a new one takes the old one's place
+  [ -n "$sum" ] || sum=$(printf '%s\n' "${looks[@]}" | b2sum)
+  keep "$well_file" printf '%s\n' "${seen[@]}"
+  keep "$seen_file" write_seen
+}
+
+write_seen() {
+  printf '%s\n' "$chosen" "$sum" && printf '%s\0' "${names[@]}"
+}
+
+# Writes a file anew by a command. None is half made: a new one takes the old one's place.
+keep() {
+  local file=$1 new=$1.$$
+  shift
   trap 'rm -f -- "$new"; exit 130' HUP INT TERM
-  {
-    printf '%s\n' "${names[*]}" "$sum" "$chosen" "${seen[@]}" >"$new" && mv -f -- "$new" "$seen_file"
-  } 2>/dev/null || rm -f -- "$new"
+  { "$@" >"$new" && mv -f -- "$new" "$file"; } 2>/dev/null || rm -f -- "$new"
   trap - HUP INT TERM
 }
 
@@ -123,6 +154,13 @@ is_newer() {
   for file in "${files[@]}" "${folders[@]}"; do
     [ ! "$top/$file" -nt "$own" ] || return 1
   done
+}
+
+# The program of dist/ is there and may not be run, as where an archive has dropped the modes of files.
+stop_where_none_runs() {
+  local it=dist/$system
+  . "$top/crates.bash"
+  stop 69 "$it/$me may not be run here: chmod +x $it/* mends it (archives as ZIP drop that mode)"
 }
 
 # Where there is no rt, it says what to do.
@@ -157,6 +195,7 @@ run_program() {
     [ "$chosen" != own ] || run "$own" "$@"
     if [ "$chosen" = dist ]; then
       [ ! -x "$given" ] || run "$given" "$@"
+      [ ! -f "$given" ] || stop_where_none_runs
       why=other
     fi
   else

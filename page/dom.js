@@ -134,9 +134,14 @@ function shortened(text, most) {
   return `${text.slice(0, most)}… (${text.length.toLocaleString("en")} characters)`;
 }
 
-/** A text whose control characters can be seen. */
+// what is no letter, and can hide others or put them in another order: separators, marks that take no room, and those
+// that turn the direction of writing
+const UNSEEN = /[\u0080-\u009F\u00AD\u061C\u180E\u200B\u200E\u200F\u2028-\u202E\u2060-\u206F\uFEFF\uFFF9-\uFFFB]/g;
+
+/** A text whose control characters can be seen: no line looks like another one. */
 function visible(text) {
   // eslint-disable-next-line no-control-regex
   return text.replace(/[\u0000-\u001F\u007F]/g, (mark) =>
-    mark === "\u007F" ? "\u2421" : String.fromCharCode(0x2400 + mark.charCodeAt(0)));
+    mark === "\u007F" ? "\u2421" : String.fromCharCode(0x2400 + mark.charCodeAt(0)))
+    .replace(UNSEEN, (mark) => `\u27E8U+${hex(mark.charCodeAt(0), 4)}\u27E9`);
 }

@@ -1,7 +1,7 @@
 // Reads a record of a run. A record is data, whoever made it: what contradicts the format or itself is named.
 
 const FORMAT = "bunjelav recording";
-const VERSION = 1;
+const VERSION = 2;
 const MOST_MEMORY = 16_777_216;
 /** The bit of STATUS that says that the link is up. */
 const LINK_UP = 1;
@@ -134,10 +134,12 @@ class Reader {
     const registers = startRegisters(start);
     /** @type {Place} */
     const root = {
-      number: 0, before: null, step: 0, line: 0, takenBack: Infinity, registers: [], memory: [], framesChange: null,
+      number: 0, depth: 0, before: null, step: 0, line: 0, takenBack: Infinity, registers: [], memory: [], framesChange: null,
       gatheredChange: null, sent: null, linkChange: null, interruptChange: null, frames: 0, gathered: "", link: false,
       interrupt: false, arrival: null, sending: null, snapshot: null,
     };
+    /** How many events the lines so far performed, those taken back since among them. */
+    this.performed = 0;
     /** @type {Run} */
     this.run = {
       settings, script, lines: [], root, state: new State(root, registers, settings.memory), ended: false,
@@ -160,8 +162,8 @@ class Reader {
     want(end !== undefined, "it was cut off: it has no end");
     const { state, lines } = this.run;
     want(isObject(end) && isNumber(end.events, Infinity) && isNumber(end.lines, Infinity), "its end can’t be read");
-    want(end.events === state.place.number,
-      `its end says ${counted(end.events, "event")}, and ${state.place.number} stand there`);
+    want(end.events === state.place.depth,
+      `its end says ${counted(end.events, "event")}, and ${state.place.depth} stand there`);
     const played = lines.reduce((count) => count + 1, 0);
     want(end.lines === played, `its end says ${counted(end.lines, "line")}, and ${played} are there`);
     this.run.ended = true;
@@ -178,7 +180,7 @@ class Reader {
     if (line.back !== undefined) this.back(line, name);
     for (const event of line.events) {
       want(isObject(event), `an event of ${name} is no object`);
-      this.event(event, line, word, `event ${run.state.place.number + 1}, of ${name},`);
+      this.event(event, line, word, `event ${this.performed + 1}, of ${name},`);
     }
     const has_step = run.steps.length > played.first;
     if (!has_step && word !== "" && !word.startsWith("#")) {
@@ -193,7 +195,7 @@ class Reader {
   /** @private */
   back(line, name) {
     const { state } = this.run;
-    want(isNumber(line.back, state.place.number), `${name} takes back more events than stand there`);
+    want(isNumber(line.back, state.place.depth), `${name} takes back more events than stand there`);
     const step = this.run.steps.length;
     for (let i = 0; i < line.back; i++) {
       state.place.takenBack = step;
@@ -206,10 +208,11 @@ class Reader {
   event(event, line, word, name) {
     const { run } = this;
     const before = run.state.place;
-    want(event.event === before.number + 1, `${name} has another number`);
+    this.performed += 1;
+    want(event.event === this.performed, `${name} has another number`);
     /** @type {Place} */
     const place = {
-      number: before.number + 1, before, step: run.steps.length, line: line.line, takenBack: Infinity,
+      number: this.performed, depth: before.depth + 1, before, step: run.steps.length, line: line.line, takenBack: Infinity,
       registers: this.registers(event, name), memory: this.memory(event, name),
       framesChange: this.frames(event, name), gatheredChange: this.gathered(event, name), sent: sentOf(event, name),
       linkChange: this.flag(event, "link", name), interruptChange: this.flag(event, "interrupt", name),
@@ -229,7 +232,7 @@ class Reader {
     }
     run.state.forward(place);
     this.agrees(place, name);
-    if (place.number % SNAPSHOT_EVERY === 0) run.state.keep();
+    if (place.depth % SNAPSHOT_EVERY === 0) run.state.keep();
     this.add({ kind: kindOf(word, place), mark: markOf(line), line: line.line, performs: true, back: 0 });
   }
 

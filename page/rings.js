@@ -127,7 +127,11 @@ function troubleOf(state, ring, descriptor, claims) {
   if (at + BigInt(size) > BigInt(state.memory.size)) return "its buffer lies outside memory";
   if (overlap(at, size, ring.base, DESCRIPTOR_OCTETS * ring.count)) return "its buffer lies over the ring";
   const [from, end] = [Number(at), Number(at) + size];
-  const other = claims.find(([one, first, count]) => one !== index && count > 0 && first < end && from < first + count);
+  // the driver took the frame of one, and posted its buffer again as the other's
+  const isPostedAgain = (one, first) =>
+    first === from && !(descriptor.owner === "adapter" && ownerOf(ring, one) === "adapter");
+  const other = claims.find(([one, first, count]) =>
+    one !== index && count > 0 && first < end && from < first + count && !isPostedAgain(one, first));
   return other ? `its buffer lies over that of ${other[0]}` : "";
 }
 

@@ -2,6 +2,7 @@
 
 const LINE_HEIGHT = 22;
 const SPARE_LINES = 10;
+const LEAST_DIGITS = 4;
 const MOST_LETTERS = 300;
 
 class ScriptPanel {
@@ -10,6 +11,8 @@ class ScriptPanel {
     this.element = byId("script");
     this.room = byId("script-room");
     this.room.style.setProperty("height", `${LINE_HEIGHT * app.run.script.length}px`);
+    const digits = String(app.run.script.length).length;
+    this.room.style.setProperty("--digits", String(Math.max(LEAST_DIGITS, digits)));
     this.made = new Map();
     // where it is scrolled to and how tall it is: to ask for it at each step would lay the page out again
     this.top = 0;
@@ -96,6 +99,8 @@ class ScriptPanel {
     }, make("span", { class: "number" }, String(number)), make("span", { class: "text" }, text),
     make("span", { class: `answer${sign ? ` mark-${mark}` : ""}` }, sign + answer));
     option.style.setProperty("top", `${(number - 1) * LINE_HEIGHT}px`);
+    // (on paper they lie one below the other, in this order)
+    option.style.setProperty("order", String(number));
     return option;
   }
 

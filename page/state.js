@@ -10,7 +10,8 @@ const SNAPSHOT_EVERY = 256;
 /**
  * An event that was performed, and so the state behind it. The root, number 0, is the state at the start.
  * @typedef {Object} Place
- * @property {number} number of the event among those that stand
+ * @property {number} number of the event among all that were performed
+ * @property {number} depth how many events stand there
  * @property {Place|null} before the event before it
  * @property {number} step the step of the run that performed it
  * @property {number} line
@@ -137,7 +138,7 @@ class State {
   /** Goes to any place: step by step where it is near, and else from the snapshot before it. @param {Place} target */
   goTo(target) {
     const common = lastCommon(this.place, target);
-    const far = this.place.number - common.number + target.number - common.number;
+    const far = this.place.depth - common.depth + target.depth - common.depth;
     if (far > 2 * SNAPSHOT_EVERY) {
       this.restoreBefore(target);
     } else {

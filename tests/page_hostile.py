@@ -5,6 +5,7 @@ import random
 import re
 import shutil
 import subprocess
+import unicodedata
 from pathlib import Path
 
 from page_tools import EXAMPLES, Frame, page_of, record_of
@@ -12,6 +13,9 @@ from tally import TOP, Tally
 
 CUTS, MUTATIONS = 200, 500
 MOST_LETTERS = 300
+# these two stand within words of some scripts; the others of their kind are marks of Arabic and Syriac numbers
+JOINERS = {0x200C, 0x200D, *range(0x600, 0x606), 0x6DD, 0x70F, 0x890, 0x891, 0x8E2}
+TITLE = b"A run of the 82540EM"
 RUNS = "window.ran = 1"
 HOSTILE_LINES = [
     f"</script><script>{RUNS}</script>", f"<!--<script>{RUNS}",
@@ -20,6 +24,9 @@ HOSTILE_LINES = [
     "@SCRIPT@ @RECORD@ @STYLE@",
     "w 0 " + "".join(map(chr, [*range(1, 9), *range(11, 32), 127])), "\0 nul", "# " + "x" * 1_000_000,
     "# \u202e right to left, \u2028 a separator, \ufeff a mark, \U0001f600".encode().decode("latin-1"),
+    "w 00100 0 # \u202e 8002 w 00100".encode().decode("latin-1"),
+    "# \u2066 \u2067 \u2068 \u2069 \u200e \u200f \u061c \u200b \u202a \u202b \u202c \u202d \u2060 \u2029".encode().decode("latin-1"),
+    "# \u00ad \u0085 \u0093, \u05e9\u05dc\u05d5\u05dd \u0645\u0631\u062d\u0628\u0627 \u200d".encode().decode("latin-1"),
     "# no UTF-8: \xff\xfe\xc0\x80 \xed\xa0\x80",
     "link up", "w D0 4", "&", "", " ", "back 3", "__proto__", "r constructor",
 ]
@@ -146,7 +153,7 @@ def hostile_records(seed: int = 82540) -> list[tuple[str, bytes, bool]]:
         made.append((f"{name}, mutation {number}", change(r, record), False))
     name, record = records[0]
     made += [
-        ("another version", record.replace(b'"version":1', b'"version":2'), True),
+        ("another version", record.replace(b'"version":2', b'"version":1'), True),
         ("another format", record.replace(b"bunjelav recording", b"a recording"), True),
         ("no record", b"", True), ("no object", b"[]", True), ("null", b"null", True), ("text", b"not JSON", True),
         ("no end", re.sub(rb',\s*"end":\{[^}]*\}', b"", record), True),
@@ -156,9 +163,18 @@ def hostile_records(seed: int = 82540) -> list[tuple[str, bytes, bool]]:
     return made
 
 
+def shown_as(letter: str) -> str:
+    """A control character has its picture; what takes no room, or turns the direction of writing, its number."""
+    code = ord(letter)
+    if code < 32 or code == 127:
+        return chr(0x2400 + code) if code < 32 else "\u2421"
+    is_unseen = unicodedata.category(letter) in ("Cc", "Cf", "Zl", "Zp") and code not in JOINERS
+    return f"\u27e8U+{code:04X}\u27e9" if is_unseen and code < 0x10000 else letter
+
+
 def visible(text: str) -> str:
     text = text if len(text) <= MOST_LETTERS else f"{text[:MOST_LETTERS]}… ({len(text):,} characters)"
-    return "".join(chr(0x2400 + ord(one)) if ord(one) < 32 else "\u2421" if ord(one) == 127 else one for one in text)
+    return "".join(map(shown_as, text))
 
 
 def hostile_scripts(tally: Tally, browser, room: Path) -> None:
@@ -197,6 +213,7 @@ def played(tally: Tally, room: Path, record: Path, whole: bytes) -> None:
     shutil.copytree(TOP / "page", top / "page")
     shutil.copy(TOP / "em_page", top)
     (room / "link").symlink_to(top / "em_page")
+    whole = titled(whole, b"script.em")
     for name, command, written, status, out in (
         ("a script", top / "em_page", f'cat "{record}"; [ "$*" = "--memory 4096 script.em" ]', 0, whole),
         ("by a link", room / "link", f'cat "{record}"', 0, whole), ("a bad line", top / "em_page",
@@ -214,6 +231,36 @@ def played(tally: Tally, room: Path, record: Path, whole: bytes) -> None:
         tally.check(f"em_page, {name}", faults + ([] if ran.stdout == out else ["it writes something else"]))
 
 
+def titled(page: bytes, name: bytes) -> bytes:
+    """The page of a record that came without a name, with this one in its title and its heading."""
+    assert page.count(TITLE) == 2
+    return page.replace(TITLE, name + b": a" + TITLE[1:])
+
+
+def titles(tally: Tally, room: Path) -> None:
+    """The title names the file; no name of one breaks the page, or is shown in another order than it has."""
+    record = record_of(EXAMPLES[0].read_bytes())
+    for name, shown in (
+        ("two words.em", b"two words.em"), ("a&b<c>.em", b"a&amp;b&lt;c&gt;.em"), ("a|b\\1.em", b"a|b\\1.em"),
+        ("@RECORD@.em", b"&#64;RECORD&#64;.em"), ("\u202eme.exe", b"?me.exe"), ("line\nend", b"line?end"),
+        ("\u00e4.em", "\u00e4.em".encode()),
+    ):
+        file = room / name
+        file.write_bytes(record)
+        ran = subprocess.run([TOP / "em_page", "--record", file], stdout=subprocess.PIPE, check=False)
+        is_so = ran.stdout == titled(page_of(record), shown)
+        tally.check(f"em_page, a file called {name!r}", [] if is_so else [f"its title is {ran.stdout[:900]!r}"])
+    for words, shown in ((["--memory", "4096", "a.em"], b"a.em"), (["b/a.em", "--mac=525400123456"], b"a.em"),
+                         (["--", "-x.em"], b"-x.em"), (["--budget", "65536"], None), (["-"], None)):
+        ran = subprocess.run([room / "top" / "em_page", *words], stdout=subprocess.PIPE, check=False)
+        title = re.search(rb"<title>(.*)</title>", ran.stdout)
+        is_so = title and title[1] == (shown + b": a" + TITLE[1:] if shown else TITLE)
+        tally.check(f"em_page {' '.join(words)}", [] if is_so else [f"its title is {title and title[1]}"])
+    ran = subprocess.run([TOP / "em_page", "--version"], stdout=subprocess.PIPE, check=False)
+    version = re.search(rb"^em_page (\d+\.\d+\.\d+)\n\Z", ran.stdout)
+    tally.check("em_page --version", [] if ran.returncode == 0 and version else [f"it says {ran.stdout[:200]!r}"])
+
+
 def command_line(tally: Tally, room: Path) -> None:
     """em_page itself: its statuses, and that it takes no more than it says."""
     record = room / "record.json"
@@ -225,8 +272,8 @@ def command_line(tally: Tally, room: Path) -> None:
             check=True).stdout.decode().strip())
     whole = page_of(record.read_bytes())
     for name, words, env, status, out in (
-        ("bare", ["--record", record], {"PATH": str(tools)}, 0, whole), ("a file", ["--record", record], None, 0,
-            whole),
+        ("bare", ["--record", record], {"PATH": str(tools)}, 0, titled(whole, b"record.json")), ("a file", ["--record", record], None, 0,
+            titled(whole, b"record.json")),
         ("no file", ["--record", room / "none"], None, 3, b""), ("a folder", ["--record", room], None, 3, b""),
         ("no word behind it", ["--record"], None, 2, b""),
     ):
@@ -236,5 +283,8 @@ def command_line(tally: Tally, room: Path) -> None:
         faults += [] if ran.stdout == out else ["it writes something else"]
         tally.check(f"em_page, {name}", faults)
     played(tally, room, record, whole)
+    program = room / "top" / "em_record"
+    program.write_text(f'cat "{record}"\n')
+    titles(tally, room)
     tally.check("one file", [] if not re.search(rb"(?:src|href)\s*=|@import|https?://(?!www\.w3\.org)", whole)
         else ["it names others"])

@@ -1,3 +1,4 @@
+#!/usr/bin/env python3
 """Writes page/names.js: the registers by offset with their bits and fields, out of the tables of crates/em_names.
 
     tests/page_names.py > page/names.js

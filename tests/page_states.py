@@ -253,7 +253,7 @@ def who_of_debugger(tally: Tally, browser, name: str, script: str, steps: list, 
                                 + [("interrupt", "line"), ("link", "link"), (f"octets {octet} 1", f"{octet:X} 1")])
         browser.run(LOOK, at_event[number], [octet & ~15])
         told = by_debugger(script, [f"goto {number}", f"who {words}", "who again"], room)
-        named = re.findall(r"line (\d+), event (\d+):", "\n".join(told[2:]))
+        named = re.findall(r"line (\d+), event (\d+)(?: \(\d+ of \d+\))?:", "\n".join(told[2:]))
         asked = [browser.run(ASK, watch) for _ in range(2 if named else 1)]
         shown = [(one["line"], one["event"]) for one in asked if one and one["event"] != "none"]
         tally.check(f"{name}, event {number}, who {words}",

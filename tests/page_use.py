@@ -58,6 +58,8 @@ for (const [ink, ground] of [['--adapter-ink', '--adapter'], ['--driver-ink', '-
 return [...new Set(faults)].slice(0, 12);
 """
 STEPS_TIMED = 40
+# (the numbers of its last lines have six digits)
+LONG_SCRIPT = b"#\n" * 99_980 + b"r 00008\n" * 60
 # each in a frame of its own
 STEPS_ON = """
 return new Promise((done) => {
@@ -176,6 +178,41 @@ def widths(tally: Tally, browser, room: Path) -> None:
     browser.size(1280, 900)
 
 
+def paper(tally: Tally, browser, room: Path) -> None:
+    """Printed from somewhere in a long run, the script shows the present line, and its lines in their order; the number of
+    a line stands beside its text."""
+    page = room / "paper.html"
+    page.write_bytes(page_of(record_of(LONG_SCRIPT)))
+    browser.open(page)
+    for part in (0.5, 0.2, 0.7):
+        browser.run("""
+          const slider = document.getElementById('slider');
+          slider.value = String(Math.floor(arguments[0] * Number(slider.max)));
+          slider.dispatchEvent(new Event('input'));
+          return new Promise((done) => requestAnimationFrame(() => setTimeout(() => done(true), 50)));""", part)
+        beside = browser.run("""
+          return [...document.querySelectorAll('#script .script-line')].filter((line) =>
+            line.querySelector('.number').scrollWidth > line.querySelector('.number').clientWidth
+            || line.querySelector('.number').getBoundingClientRect().right
+              > line.querySelector('.text').getBoundingClientRect().left).map((line) => line.dataset.line)""")
+        tally.check(f"line numbers at {part}", [f"that of line {line} touches its text" for line in beside[:3]])
+        browser.command("Emulation.setEmulatedMedia", media="print")
+        shown = browser.run("""
+          const box = document.getElementById('script').getBoundingClientRect();
+          document.getElementById('script').scrollTop = 0;
+          return { present: document.getElementById('run').dataset.line, lines:
+            [...document.querySelectorAll('#script .script-line')].map((line) => [line.getBoundingClientRect().top,
+              Number(line.dataset.line), line.getAttribute('aria-selected') === 'true'])
+              .filter(([top]) => top >= box.top && top < box.bottom).sort((a, b) => a[0] - b[0]) };""")
+        browser.command("Emulation.setEmulatedMedia", media="")
+        numbers = [number for _, number, _ in shown["lines"]]
+        faults = [] if numbers == sorted(numbers) and len({top for top, _, _ in shown["lines"]}) == len(numbers) else [
+            f"the lines stand so: {shown['lines'][:9]}"]
+        lit = [number for _, number, selected in shown["lines"] if selected]
+        faults += [] if lit == [int(shown["present"])] else [f"{lit} is lit, and not line {shown['present']}: {numbers}"]
+        tally.check(f"on paper at {part}", faults)
+
+
 def schemes(tally: Tally, browser, room: Path) -> None:
     for dark in (False, True):
         browser.scheme(dark)
@@ -230,6 +267,6 @@ def timing(tally: Tally, browser, room: Path) -> None:
 
 
 def check_use(tally: Tally, browser, room: Path) -> None:
-    for part in (keyboard, labels, widths, schemes):
+    for part in (keyboard, labels, widths, paper, schemes):
         part(tally, browser, room)
     tally.check("the console", browser.told())

@@ -67,11 +67,12 @@ def effect(number: int, before: State, after: State) -> dict:
 
 
 class Event:
-    """An event that was performed: the state behind it, and the event before it; the root, number 0, is the start."""
+    """An event that was performed: the state behind it, and the event before it; the root, number 0, is the start. Events
+    are numbered as they are performed, and so many stand behind one as its depth says."""
 
-    def __init__(self, state: State, before: "Event | None", line: int) -> None:
-        self.state, self.before, self.line = state, before, line
-        self.number = before.number + 1 if before else 0
+    def __init__(self, state: State, before: "Event | None", line: int, number: int) -> None:
+        self.state, self.before, self.line, self.number = state, before, line, number
+        self.depth = before.depth + 1 if before else 0
 
 
 class Played:
@@ -86,11 +87,12 @@ class Played:
 def walk(script: str, **settings) -> tuple[Event, list[Played]]:
     """Plays a script by the second reading: the start, and each line."""
     session, lines, played = Session(**settings), script.split("\n"), []
-    root = newest = Event(session.now, None, 0)
-    for number, text in enumerate(lines if lines[-1] else lines[:-1], 1):
-        line = Played(number, [word for word in re.split("[ \t\r]+", text) if word])
+    root = newest = Event(session.now, None, 0, 0)
+    number = 0
+    for at, text in enumerate(lines if lines[-1] else lines[:-1], 1):
+        line = Played(at, [word for word in re.split("[ \t\r]+", text) if word])
         if line.words and not line.words[0].startswith("#"):
-            session.begins(number)
+            session.begins(at)
             performed, held = session.performed, len(session.past)
             line.said = session.line(line.words)
             if line.said is not None and line.words[0] == "back" and not line.said[0].startswith("refused"):
@@ -101,7 +103,8 @@ def walk(script: str, **settings) -> tuple[Event, list[Played]]:
             assert count <= len(session.past), "the journal dropped an event of this line"
             states = [state for state, _ in session.past[len(session.past) - count :]] + [session.now]
             for state in states[1:]:
-                newest = Event(state, newest, number)
+                number += 1
+                newest = Event(state, newest, at, number)
                 line.events.append(newest)
         line.newest = newest
         played.append(line)
@@ -127,9 +130,9 @@ def record(script: str, memory: int = 65536, budget: int = 1_048_576, mac: str =
     lines = script.split("\n")
     texts = [line.encode("latin-1").decode(errors="replace") for line in (lines if lines[-1] else lines[:-1])]
     return {
-        "format": "bunjelav recording", "version": 1, "settings": settings, "script": texts,
+        "format": "bunjelav recording", "version": 2, "settings": settings, "script": texts,
         "start": {"registers": shown(root.state)}, "lines": [told(line) for line in played],
-        "end": {"events": played[-1].newest.number if played else 0, "lines": len(played)},
+        "end": {"events": played[-1].newest.depth if played else 0, "lines": len(played)},
     }
 
 

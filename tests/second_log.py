@@ -4,6 +4,8 @@ It is written from the formats' documentation and from docs/traces.md, not from 
 """
 import re
 
+from second_reading import IN_WORDS as REGISTERS
+
 SPACE = 0x20000
 HEX = re.compile(rb"0[xX]([0-9a-fA-F]{1,16})")
 DECIMAL = re.compile(rb"[0-9]{1,7}")
@@ -11,26 +13,6 @@ EVENT = re.compile(rb"(?:.*:)?memory_region_ops_(read|write)", re.DOTALL)
 PRINTED = re.compile(rb"(?:.*[^a-zA-Z])?(read|write)", re.DOTALL | re.IGNORECASE)
 NOTHING, ELSEWHERE, FAULT = "nothing", "elsewhere", "fault"
 MOST_KEPT = 4_096
-
-# docs/device.md's table, and its offsets
-REGISTERS = {
-    **{offset: name for name, offset in {
-        "CTRL": 0x0, "STATUS": 0x8, "EERD": 0x14, "CTRL_EXT": 0x18, "FCAL": 0x28, "FCAH": 0x2C, "FCT": 0x30,
-        "VET": 0x38, "ICR": 0xC0, "ITR": 0xC4, "ICS": 0xC8, "IMS": 0xD0, "IMC": 0xD8, "RCTL": 0x100, "FCTTV": 0x170, "TCTL": 0x400,
-        "TIPG": 0x410, "LEDCTL": 0xE00, "PBA": 0x1000, "RDBAL": 0x2800, "RDBAH": 0x2804, "RDLEN": 0x2808, "RDH": 0x2810,
-        "RDT": 0x2818, "RDTR": 0x2820, "RXDCTL": 0x2828, "RADV": 0x282C, "TDBAL": 0x3800, "TDBAH": 0x3804,
-        "TDLEN": 0x3808, "TDH": 0x3810, "TDT": 0x3818, "TIDV": 0x3820, "TXDCTL": 0x3828, "TADV": 0x382C, "MPC": 0x4010,
-        "PRC64": 0x405C, "PRC127": 0x4060, "PRC255": 0x4064, "PRC511": 0x4068, "PRC1023": 0x406C, "PRC1522": 0x4070,
-        "GPRC": 0x4074, "BPRC": 0x4078, "MPRC": 0x407C, "GPTC": 0x4080, "GORCL": 0x4088, "GORCH": 0x408C,
-        "GOTCL": 0x4090, "GOTCH": 0x4094, "RNBC": 0x40A0, "RUC": 0x40A4, "ROC": 0x40AC, "PTC64": 0x40D8,
-        "PTC127": 0x40DC, "PTC255": 0x40E0, "PTC511": 0x40E4, "PTC1023": 0x40E8, "PTC1522": 0x40EC, "MPTC": 0x40F0,
-        "BPTC": 0x40F4, "RXCSUM": 0x5000,
-    }.items()},
-    **{0x5200 + 4 * k: f"MTA[{k}]" for k in range(128)},
-    **{0x5400 + 8 * k: f"RAL{k}" for k in range(16)},
-    **{0x5404 + 8 * k: f"RAH{k}" for k in range(16)},
-    **{0x5600 + 4 * k: f"VFTA[{k}]" for k in range(128)},
-}
 
 
 def number(word):
@@ -163,23 +145,56 @@ def lines_of(log):
     return [line[:MOST_KEPT] for line in (lines if lines[-1] else lines[:-1])]
 
 
-def script_of(log, reader, missing, frames=(), at=None, link=True, others=True):
+class Poll:
+    """A read that is repeated with the same answer: its first line stands for all of them. Of a register that a read
+    clears, only reads that gave 0 are the same."""
+
+    def __init__(self, keeps):
+        self.keeps, self.read, self.more, self.last = keeps, None, 0, 0
+
+    def takes(self, count, said):
+        if said != self.read:
+            return False
+        self.more, self.last = self.more + 1, count
+        return True
+
+    def ended(self):
+        """The comment that tells of the reads that were left out, if some were."""
+        more, self.more, self.read = self.more, 0, None
+        return [f"# {more} more read{'s' * (more > 1)} gave the same, the last in line {self.last}"] if more else []
+
+    def begin(self, said):
+        way, offset, value, _ = said
+        if not self.keeps and way == "read" and value is not None and not (value and cleared_by_a_read(offset)):
+            self.read = said
+
+
+def cleared_by_a_read(offset):
+    return REGISTERS.get(offset) == "ICR" or 0x4000 <= offset < 0x4100 and offset in REGISTERS
+
+
+def script_of(log, reader, missing, frames=(), at=None, link=True, others=True, polls=False):
     """The script of a log, as octets. `missing` has the names of registers that the model lacks; without `others`, accesses
-    of something else are no comments."""
+    of something else are no comments; with `polls`, each read of a poll has its line."""
     script, frames, rctl, head = [], [*frames], 0, ["link up", "w 000C0 00000004"] if link else []
-    accesses = 0
+    accesses, poll = 0, Poll(polls)
     for count, line in enumerate(lines_of(log), 1):
         if count == at:
-            script += head + [text for frame in frames for text in arrival(frame, rctl)]
+            script += head + poll.ended() + [text for frame in frames for text in arrival(frame, rctl)]
             frames, head = [], []
         said = reader.read(line)
         if said == FAULT or said == ELSEWHERE and others:
+            script += poll.ended()
             script.append(f"# line {count}: ".encode() + line)
         if isinstance(said, str):
             continue
         way, offset, value, size = said
         script += head
         head, accesses = [], accesses + 1
+        if poll.takes(count, said):
+            continue
+        script += poll.ended()
+        poll.begin(said)
         is_read = way == "read" and size == 4
         if at is None and is_read and offset == 0xC0 and value is not None and value & 0x80 and frames:
             script += arrival(frames.pop(0), rctl)
@@ -192,5 +207,5 @@ def script_of(log, reader, missing, frames=(), at=None, link=True, others=True):
             script.append(text)
             if REGISTERS[offset] == "RCTL" and way == "write":
                 rctl = value
-    script += [text for frame in frames for text in arrival(frame, rctl)] if accesses else []
+    script += poll.ended() + ([text for frame in frames for text in arrival(frame, rctl)] if accesses else [])
     return b"".join((text if isinstance(text, bytes) else text.encode()) + b"\n" for text in script)

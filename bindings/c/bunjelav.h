@@ -25,6 +25,8 @@
      its copy is used, or written by hand; it may be moved as a whole, where its old place is then not used again.
    - One call at a time is made with a handle. Another thread may make the next one, where a lock, a start, a join or
      the like orders the two. Machines share nothing: each may have a thread of its own, and there may be any number.
+   - A call that takes a `const em_machine *` leaves the machine as it was. While it lasts it writes the handle all the
+     same: it is a call like any other to what stands above, and a handle is no object that was defined const.
    - No call is made from a signal handler, or in a forked child of a process with threads.
    - malloc, realloc and free of the process are one allocator's, and align a block of n octets to each power of two up
      to 16 that divides n. (Each C library's are.)
@@ -42,6 +44,10 @@
 #ifdef __cplusplus
 extern "C" {
 #endif
+
+/* The version, as text, and as a number that grows: 0x010203 is 1.2.3. docs/CHANGELOG.md says what each changed. */
+#define EM_VERSION "0.1.0"
+#define EM_VERSION_NUMBER 0x000100
 
 /* A handle: it holds a machine, or none. Its fields are the library's own. */
 typedef struct em_machine {
@@ -137,7 +143,7 @@ uint32_t em_read(em_machine *machine, uint32_t offset, uint32_t *value);
 uint32_t em_write(em_machine *machine, uint32_t offset, uint32_t value);
 
 /* What a read would give. It is no event, and clears nothing. */
-uint32_t em_look(em_machine *machine, uint32_t offset, uint32_t *value);
+uint32_t em_look(const em_machine *machine, uint32_t offset, uint32_t *value);
 
 /* A register, and what a read of it would give. */
 typedef struct em_register {
@@ -148,7 +154,7 @@ typedef struct em_register {
 /* All registers that are not zero, by offset: at most EM_REGISTERS of them. Where `room` is too small it is refused as
    EM_ROOM, and `count` tells how much is needed. It is no event. The cost is that of some thousand looks. */
 #define EM_REGISTERS 350
-uint32_t em_registers(em_machine *machine, em_register *out, size_t room, size_t *count);
+uint32_t em_registers(const em_machine *machine, em_register *out, size_t room, size_t *count);
 
 /* ---- guest memory; the cost is that of copying the octets */
 
@@ -156,23 +162,25 @@ uint32_t em_registers(em_machine *machine, em_register *out, size_t room, size_t
 uint32_t em_poke(em_machine *machine, uint64_t address, const uint8_t *octets, size_t length);
 
 /* Copies octets out; any number of them. It is no event. */
-uint32_t em_peek(em_machine *machine, uint64_t address, uint8_t *out, size_t length);
+uint32_t em_peek(const em_machine *machine, uint64_t address, uint8_t *out, size_t length);
 
-/* Makes `ram` what guest memory is, after events and after steps back, whatever `ram` held. An octet that is the same
-   already is not written. Refused as EM_LENGTH where `size` is not the size of guest memory. The cost is that of
-   copying and comparing all pages, and in each page of 4,096 octets that differs of comparing its octets one by one. */
-uint32_t em_sync_out(em_machine *machine, uint8_t *ram, size_t size);
+/* Makes `ram` what guest memory is, after events and after steps back, whatever `ram` held: what a driver wrote there
+   and em_sync_in has not brought in since is written over. An octet that is the same already is not written. Refused as
+   EM_LENGTH where `size` is not the size of guest memory. The cost is that of copying and comparing all pages, and in
+   each page of 4,096 octets that differs of comparing its octets one by one. */
+uint32_t em_sync_out(const em_machine *machine, uint8_t *ram, size_t size);
 
 /* Makes guest memory what `ram` is, by one memory write in each page of 4,096 octets that differs, the lowest address
    first: from the page's first octet that differs to its last, and so also what is the same between them. Each write is
-   an event. What the adapter wrote and em_sync_out has not copied since is written over. `writes` tells how many were
-   made. Refused as EM_LENGTH where `size` is not the size of guest memory: nothing is done, nor told. Refused as
+   an event. What the adapter wrote and em_sync_out has not copied since is written over. So a driver with memory of its
+   own wants this before whatever the adapter does, an arrival too, and em_sync_out behind it. `writes` tells how many
+   were made. Refused as EM_LENGTH where `size` is not the size of guest memory: nothing is done, nor told. Refused as
    EM_MEMORY where the host has no memory for a write: those before it stay, and are told. The cost is that of copying
    and comparing all pages, and of the writes. */
 uint32_t em_sync_in(em_machine *machine, const uint8_t *ram, size_t size, size_t *writes);
 
 /* How many octets guest memory has. Constant. */
-uint32_t em_memory_size(em_machine *machine, uint64_t *size);
+uint32_t em_memory_size(const em_machine *machine, uint64_t *size);
 
 /* ---- the wire, the link, and the engines; the cost is that of copying the frame, or its piece */
 
@@ -195,14 +203,14 @@ uint32_t em_run_rx(em_machine *machine, size_t n, size_t *done);
 uint32_t em_run_tx(em_machine *machine, size_t n, size_t *done);
 
 /* The interrupt line: 1 where it is asserted, else 0. Constant. */
-uint32_t em_line(em_machine *machine, uint32_t *level);
+uint32_t em_line(const em_machine *machine, uint32_t *level);
 
 /* How many frames were sent since the machine was made. Constant. */
-uint32_t em_wire_count(em_machine *machine, size_t *count);
+uint32_t em_wire_count(const em_machine *machine, size_t *count);
 
 /* Copies a frame that was sent, the first one at 0, to the head of `out`, and tells its length. Where `room` is too
    small it is refused as EM_ROOM, and `length` tells how much is needed; EM_MOST_SENT is always enough. */
-uint32_t em_wire_frame(em_machine *machine, size_t index, uint8_t *out, size_t room, size_t *length);
+uint32_t em_wire_frame(const em_machine *machine, size_t index, uint8_t *out, size_t room, size_t *length);
 
 /* ---- back */
 
@@ -211,7 +219,7 @@ uint32_t em_wire_frame(em_machine *machine, size_t index, uint8_t *out, size_t r
 uint32_t em_back(em_machine *machine, size_t n, size_t *done);
 
 /* How many events can be taken back. Constant. */
-uint32_t em_can_go_back(em_machine *machine, size_t *count);
+uint32_t em_can_go_back(const em_machine *machine, size_t *count);
 
 /* ---- what happened, and who did it */
 
@@ -219,7 +227,7 @@ uint32_t em_can_go_back(em_machine *machine, size_t *count);
 uint32_t em_tag(em_machine *machine, uint64_t tag);
 
 /* What an event of the journal was: the newest at k = 0, as many as em_can_go_back tells. Constant. */
-uint32_t em_event(em_machine *machine, size_t k, em_note *event);
+uint32_t em_event(const em_machine *machine, size_t k, em_note *event);
 
 /* What is watched. */
 typedef struct em_watch {
@@ -245,9 +253,9 @@ typedef struct em_change {
   uint8_t before[16]; /* the octets that were seen before it, and zeros behind them */
 } em_change;
 
-/* The newest change of what is watched, with nothing taken back; refused as EM_NO_CHANGE where the journal has none.
-   The cost is that of a look into each record back to there. */
-uint32_t em_last_change(em_machine *machine, const em_watch *watch, em_change *change);
+/* The newest change of what is watched, with nothing taken back; refused as EM_NO_CHANGE where the journal has none, and
+   as EM_RANGE where the octets leave guest memory. The cost is that of a look into each record back to there. */
+uint32_t em_last_change(const em_machine *machine, const em_watch *watch, em_change *change);
 
 /* ---- names; no machine is needed */
 

@@ -2,9 +2,14 @@
 
        cc -Idist/x86_64-linux examples/c/driver.c dist/x86_64-linux/libbunjelav.a -o driver && ./driver
 
-   The driver is plain C over registers and memory of its own. Around each access of a register the harness brings both
-   memories together: before it, what the driver wrote becomes writes of guest memory, which are events; after it, what
-   the adapter wrote is copied out. Each event has the line of the access as its tag. */
+   The driver is plain C over registers and memory of its own. Around whatever the adapter does, an access of a
+   register or a frame that arrives, the harness brings both memories together: before it, what the driver wrote
+   becomes writes of guest memory, which are events; after it, what the adapter wrote is copied out. Each event has the
+   line of the access, or of the arrival, as its tag.
+
+   A driver may write to its memory where it makes no access, as one that gives buffers back four at a time. So memory
+   is brought in before an arrival too: without that, what the adapter has not seen would be undone when it is copied
+   out. */
 #include "bunjelav.h"
 
 #include <stdio.h>
@@ -32,6 +37,7 @@ static uint32_t bus_read(int line, uint32_t offset);
 
 #define WRITE(offset, value) bus_write(__LINE__, offset, value)
 #define READ(offset) bus_read(__LINE__, offset)
+#define ARRIVE(frame, length) bus_arrive(__LINE__, frame, length)
 
 static void start(void) {
   for (unsigned i = 0; i < COUNT; i++) ring[i].buffer = BUFFERS_AT + SIZE * i;
@@ -72,7 +78,7 @@ static void before(int line) {
   must(em_sync_in(&machine, ram, sizeof ram, &writes));
 }
 
-/* The adapter acts, and the driver sees it. */
+/* The adapter acts, and the driver sees it. From `before` to here the driver does not run. */
 static void after(void) {
   size_t steps;
   must(em_run_rx(&machine, SIZE_MAX, &steps));
@@ -91,6 +97,13 @@ static uint32_t bus_read(int line, uint32_t offset) {
   must(em_read(&machine, offset, &value));
   after();
   return value;
+}
+
+static void bus_arrive(int line, const uint8_t *frame, size_t length) {
+  em_note event;
+  before(line);
+  must(em_arrive(&machine, frame, length, &event));
+  after();
 }
 
 /* The line behind which this descriptor got its buffer. What the adapter wrote over it since is taken back. */
@@ -114,14 +127,13 @@ static void who_gave(unsigned index) {
 int main(void) {
   static const uint8_t mac[6] = {0x52, 0x54, 0x00, 0x12, 0x34, 0x56};
   uint8_t frame[60] = {0xFF, 0xFF, 0xFF, 0xFF, 0xFF, 0xFF};
-  em_note note;
   must(em_make(&machine, MEMORY, 1048576, mac));
   must(em_set_link(&machine, true));
   start();
   for (unsigned number = 0; number < 20; number++) {
     unsigned length = 0;
     frame[59] = (uint8_t)number;
-    must(em_arrive(&machine, frame, sizeof frame, &note));
+    ARRIVE(frame, sizeof frame);
     const uint8_t *packet = receive(&length);
     if (packet && length == sizeof frame && !memcmp(packet, frame, length)) continue;
     printf("frame %u did not come as it was sent\n", number);

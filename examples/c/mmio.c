@@ -105,6 +105,7 @@ int main(int count, char **words) {
   size_t length, done, back = 0;
   FILE *file = count > 1 ? fopen(words[1], "r") : stdin;
   if (!file) return perror(words[1]), 1;
+  if (count < 2) fputs("mmio: reads frames from standard input, each a line of hexadecimal digits\n", stderr);
   must(em_make(&n.machine, 65536, 1048576, mac), "a machine");
   must(em_set_link(&n.machine, true), "the link");
   start_driver(&n);

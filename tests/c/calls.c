@@ -413,6 +413,15 @@ static void tells_who_did_it(void) {
   REFUSED(em_last_change(&machine, &watch, &change), EM_LENGTH);
   watch.octets = 0;
   REFUSED(em_last_change(&machine, &watch, &change), EM_LENGTH);
+  /* octets outside guest memory: nobody can have changed them, and a mistyped address is told as one */
+  memset(&change, 7, sizeof change);
+  watch.octets = 2, watch.address = MEMORY - 2;
+  REFUSED(em_last_change(&machine, &watch, &change), EM_NO_CHANGE);
+  watch.address = MEMORY - 1;
+  REFUSED(em_last_change(&machine, &watch, &change), EM_RANGE);
+  watch.address = UINT64_MAX;
+  REFUSED(em_last_change(&machine, &watch, &change), EM_RANGE);
+  CHECK(change.back == 0x0707070707070707 && change.before[0] == 7);
   em_free(&machine);
 }
 

@@ -1,10 +1,12 @@
 """Each call of the Python binding once, and each refusal: what they give was worked out from the manual's tables."""
+import array
 import copy
 import doctest
 import unittest
+from pathlib import Path
 
 import bunjelav
-from bunjelav import Machine, name_of, offset_of
+from bunjelav import Machine, _tables, name_of, offset_of
 
 RING, BUFFER = 0x1000, 0x4000
 FRAME = bytes.fromhex("ffffffffffff525400999999") + bytes(48)
@@ -84,13 +86,21 @@ class MemoryAndFrames(unittest.TestCase):
         self.assertRaises(bunjelav.Range, m.poke, 65535, b"12")
         self.assertRaises(bunjelav.Length, m.poke, 0, b"")
         self.assertRaises(ValueError, m.memory.__setitem__, slice(0, 4), b"12345")
-        self.assertRaises(bunjelav.Range, m.memory.__getitem__, 65536)
+        self.assertRaises(IndexError, m.memory.__getitem__, 65536)
+        self.assertRaises(IndexError, m.memory.__setitem__, -65537, 1)
+        self.assertRaises(TypeError, m.memory.__setitem__, slice(0, 4), 4)
+        self.assertEqual(list(m.memory), [1] * 40000 + [0] * 25536)
+        self.assertIsInstance(m.memory, bunjelav.GuestMemory)
 
     def test_copied_out(self):
         m, ram = Machine(), bytearray(65536)
         m.memory[4094:4099] = b"hello"
         m.sync_out(ram)
         self.assertEqual(ram[4093:4100], b"\0hello\0")
+        words = array.array("I", bytes([7]) * 65536)
+        m.sync_out(words)
+        self.assertEqual(words.tobytes(), bytes(ram))
+        self.assertRaises(TypeError, m.sync_out, bytes(65536))
         self.assertRaises(bunjelav.Length, m.sync_out, bytearray(4096))
 
     def test_copied_in(self):
@@ -102,10 +112,13 @@ class MemoryAndFrames(unittest.TestCase):
         self.assertEqual(m.memory[0:65536], bytes(ram))
         self.assertRaises(bunjelav.Length, m.sync_in, bytearray(4096))
         self.assertEqual(m.reach, 2)
+        self.assertEqual(m.sync_in(array.array("I", bytes([7]) * 65536)), 16)
+        self.assertEqual(m.sync_in(bytes(65536)), 16)
 
     def test_receiving(self):
         m = receiving()
         self.assertTrue(m.arrive(FRAME).is_stored)
+        self.assertEqual((m.last_change("frames")[:2], m.last_change("sent")), ((1, 0), None))
         self.assertRaises(bunjelav.Length, m.arrive, b"short")
         self.assertEqual(m.rx_step()[:4], ("wrote", 0, 0, 0))
         self.assertTrue(m.rx_step().is_idle)
@@ -122,15 +135,174 @@ class MemoryAndFrames(unittest.TestCase):
         m.TDBAL, m.TDLEN, m.TCTL, m.TDT = 0x2000, 128, 2, 1
         self.assertEqual(m.tx_step()[:4], ("sent", 0, 60, 0))
         self.assertEqual(m.wire, [FRAME])
+        self.assertEqual((m.last_change("sent")[:2], m.last_change("frames")), ((1, 0), None))
         m.TDT = 2
         self.assertRaises(bunjelav.Extended, m.tx_step)
         self.assertEqual([d.owned for d in m.ring("tx")][:3], [False, True, False])
+
+    def test_a_descriptor(self):
+        m = Machine()
+        # EOP and RS, so that the adapter sets DD
+        m.memory[0x2000:0x2010] = BUFFER.to_bytes(8, "little") + bytes([60, 0, 0, 0x09, 0, 0, 0x34, 0x12])
+        m.TDBAL, m.TDLEN, m.TCTL, m.TDT = 0x2000, 128, 2, 1
+        m.tx_step()
+        sent = m.ring("tx")[0]
+        self.assertEqual(sent, (0, False, BUFFER, 60, 0x09, 1, 0x1234))
+        self.assertEqual((sent.length, sent.command, sent.status, sent.special), (60, 0x09, 1, 0x1234))
+        m = receiving()
+        m.memory[RING : RING + 16] = BUFFER.to_bytes(8, "little") + bytes([60, 0, 7, 8, 0x03, 0x05, 0x34, 0x12])
+        given = m.ring("rx")[0]
+        self.assertEqual((given.length, given.status, given.errors, given.special), (60, 3, 5, 0x1234))
 
     def test_running(self):
         m = receiving()
         for _ in range(3):
             m.arrive(FRAME)
         self.assertEqual((m.run(), m.run(), m.RDH), (3, 0, 3))
+
+    def test_what_a_refused_run_did(self):
+        m = receiving()
+        for _ in range(3):
+            m.arrive(FRAME)
+        m.memory[RING + 32 : RING + 40] = (2**63).to_bytes(8, "little")
+        with self.assertRaises(bunjelav.DmaRange) as told:
+            m.run()
+        self.assertEqual((told.exception.done, m.RDH), (2, 2))
+        # the other engine's steps count too
+        m = receiving()
+        m.arrive(FRAME)
+        m.memory[0x2000:0x2010] = (2**63).to_bytes(8, "little") + bytes([60, 0, 0, 1, 0, 0, 0, 0])
+        m.TDBAL, m.TDLEN, m.TCTL, m.TDT = 0x2000, 128, 2, 1
+        with self.assertRaises(bunjelav.DmaRange) as told:
+            m.run()
+        self.assertEqual((told.exception.done, m.RDH, m.TDH), (1, 1, 0))
+
+
+class Numbers(unittest.TestCase):
+    """No number is cut to the bits that the library's call has for it."""
+
+    LONG = (-1, 2**64, -(2**64), 2**64 + 0x1000)
+    LONGER_THAN_A_WORD = (*LONG, 2**32, 2**32 + 8)
+
+    def is_refused(self, refusal, numbers, call, *words):
+        m = receiving()
+        m.tag(5)
+        before = m.registers(), m.memory[:], m.reach
+        for number in numbers:
+            with self.subTest(call=call, number=number):
+                self.assertRaises(refusal, getattr(m, call), *(number if it is None else it for it in words or [None]))
+        self.assertEqual((m.registers(), m.memory[:], m.reach), before)
+
+    def test_a_machine(self):
+        for number in (*self.LONG, 2**64 + 65536):
+            self.assertRaises(bunjelav.Size, Machine, memory=number)
+            self.assertRaises(bunjelav.Budget, Machine, budget=number)
+        for number in (2**32, 2**32 + 65536):
+            self.assertRaises(bunjelav.Size, Machine, memory=number)
+            self.assertRaises(bunjelav.Budget, Machine, budget=number)
+        for number in (-1, 70000, 2**16, 2**32, 2**64):
+            self.assertRaises(ValueError, Machine, eeprom=[number] * 64)
+            self.assertRaises(ValueError, Machine, mac=[number] * 6)
+        self.assertRaises(TypeError, Machine, mac=6)
+        self.assertRaises(TypeError, Machine, memory=65536.0)
+
+    def test_offsets(self):
+        for call in ("read", "look"):
+            self.is_refused(bunjelav.NoRegister, self.LONGER_THAN_A_WORD, call)
+        self.is_refused(bunjelav.NoRegister, self.LONGER_THAN_A_WORD, "__getitem__")
+        self.is_refused(bunjelav.NoRegister, self.LONGER_THAN_A_WORD, "write", None, 2)
+        self.is_refused(bunjelav.NoRegister, self.LONGER_THAN_A_WORD, "last_change")
+        for number in self.LONGER_THAN_A_WORD:
+            self.assertRaises(bunjelav.NoRegister, name_of, number)
+            self.assertRaises(bunjelav.NoRegister, offset_of, number)
+
+    def test_values_and_tags(self):
+        self.is_refused(ValueError, self.LONGER_THAN_A_WORD, "write", "RDT", None)
+        self.is_refused(ValueError, self.LONGER_THAN_A_WORD, "__setitem__", "RDT", None)
+        self.is_refused(ValueError, self.LONGER_THAN_A_WORD, "__setattr__", "RDT", None)
+        self.is_refused(ValueError, self.LONG, "tag")
+        m = Machine()
+        m.tag(2**32)
+        m.RDT = 1
+        self.assertEqual(m.event().tag, 2**32)
+
+    def test_addresses(self):
+        self.is_refused(bunjelav.Range, self.LONGER_THAN_A_WORD, "poke", None, b"x")
+        m = receiving()
+        for number in (-65537, 65536, 2**32, 2**64, 2**64 + 0x1000):
+            self.assertRaises(IndexError, m.memory.__getitem__, number)
+            self.assertRaises(IndexError, m.memory.__setitem__, number, 1)
+        for where in (slice(2**64, 2**64 + 4), slice(65534, 65537), slice(-65537, -65535), slice(2**32, 2**32 + 1)):
+            self.assertRaises(bunjelav.Range, m.last_change, where)
+        for number in (-1, 256, 2**32, 2**64):
+            self.assertRaises(ValueError, m.memory.__setitem__, 0, number)
+
+    def test_counts(self):
+        self.is_refused(ValueError, self.LONG, "back")
+        self.is_refused(ValueError, self.LONG, "run")
+        self.is_refused(bunjelav.NoEvent, (*self.LONG, 2**32), "event")
+        m = receiving()
+        m.arrive(FRAME)
+        self.assertEqual((m.run(2**32), m.back(2**32) > 0, m.reach), (1, True, 0))
+
+    def test_octets(self):
+        m = Machine()
+        self.assertRaises(TypeError, m.poke, 0, 5)
+        self.assertRaises(TypeError, m.poke, 0, "text")
+        self.assertRaises(TypeError, m.arrive, 60)
+        m.poke(0, array.array("I", [0x04030201, 0x08070605]))
+        self.assertEqual((m.memory[0:9], m.event().length), (b"\1\2\3\4\5\6\7\x08\0", 8))
+
+
+class Names(unittest.TestCase):
+    def test_refusals_have_their_names(self):
+        """Each of the library's refusals is an exception of the module, whatever else the module has."""
+        self.assertEqual(len(_tables.REFUSALS), 18)
+        for name, number in _tables.REFUSALS.items():
+            refusal = getattr(bunjelav, name)
+            self.assertTrue(issubclass(refusal, bunjelav.Refused) and issubclass(refusal, Exception), name)
+            self.assertEqual((refusal.number, name in bunjelav.__all__), (number, True))
+        try:
+            raise bunjelav.Memory("none is left")
+        except bunjelav.Memory as told:
+            self.assertEqual(str(told), "none is left")
+
+    def test_kinds_that_are_unknown(self):
+        self.assertEqual(bunjelav._event(_tables.Note(0, 0, 0, 0, 99)).kind, "unknown kind 99")
+
+    def test_the_version(self):
+        self.assertEqual(bunjelav.__version__, _tables.VERSION)
+        self.assertTrue((Path(bunjelav.__file__).parent / "py.typed").is_file())
+
+
+class OwnMemory(unittest.TestCase):
+    def test_a_driver_that_gives_buffers_back_in_batches(self):
+        """What it writes where it makes no access is not undone: each of 2,000 frames comes once."""
+        m, ram, next_one, wanted = Machine(), bytearray(65536), 0, 0
+        m.link = True
+
+        def acts(call, *words):
+            m.sync_in(ram)
+            call(*words)
+            m.run()
+            m.sync_out(ram)
+
+        for i in range(8):
+            ram[RING + 16 * i : RING + 16 * i + 8] = (BUFFER + 0x800 * i).to_bytes(8, "little")
+        for register, value in ("RDBAL", RING), ("RDLEN", 128), ("RDT", 7), ("RCTL", 0x8002):
+            acts(m.write, register, value)
+        for number in range(2000):
+            acts(m.arrive, FRAME[:56] + number.to_bytes(4, "little"))
+            at = RING + 16 * next_one
+            while number % 3 == 0 and ram[at + 12] & 1:
+                buffer = BUFFER + 0x800 * next_one
+                self.assertEqual(int.from_bytes(ram[buffer + 56 : buffer + 60], "little"), wanted)
+                wanted, ram[at + 12] = wanted + 1, 0
+                if wanted % 4 == 0:
+                    acts(m.write, "RDT", next_one)
+                next_one = (next_one + 1) % 8
+                at = RING + 16 * next_one
+        self.assertEqual(wanted, 1999)
 
 
 class Docs(unittest.TestCase):
@@ -154,6 +326,10 @@ class Back(unittest.TestCase):
         self.assertEqual(m.last_change("link")[:2], (1, 0))
         self.assertIsNone(m.last_change("line"))
         self.assertRaises(bunjelav.Length, m.last_change, slice(0, 17))
+        self.assertRaises(bunjelav.Length, m.last_change, slice(4, 4))
+        m.memory[65533] = 9
+        self.assertEqual(m.last_change(slice(-4, -1))[:2], (1, b"\0\0\0"))
+        m.back()
         self.assertEqual([e.kind for e in m.events()], ["link up", "poke", "write"])
         self.assertEqual((m.back(2), m.link, m.RDT, m.back(9), m.RDT), (2, False, 5, 1, 0))
 

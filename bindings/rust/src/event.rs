@@ -1,50 +1,8 @@
 //! What an event was, and what is watched.
 use crate::raw;
-use crate::Refusal;
+use crate::tables::{KINDS, WATCH_FRAMES, WATCH_LINE, WATCH_LINK, WATCH_OCTETS, WATCH_REGISTER, WATCH_SENT};
+use crate::{Kind, Refusal};
 use core::fmt;
-
-/// What kind of event it was, with what came of it.
-#[derive(Clone, Copy, PartialEq, Eq, Hash, Debug)]
-pub enum Kind {
-    Read,
-    Write,
-    Poke,
-    LinkUp,
-    LinkDown,
-    RxIdle,
-    Wrote,
-    TxIdle,
-    Fetched,
-    Sent,
-    Stored,
-    Down,
-    Disabled,
-    Rejected,
-    Undersize,
-    Oversize,
-    Missed,
-}
-
-/// Each kind at its number in bunjelav.h, less one, with what it is called.
-const KINDS: [(Kind, &str); 17] = [
-    (Kind::Read, "read"),
-    (Kind::Write, "write"),
-    (Kind::Poke, "poke"),
-    (Kind::LinkUp, "link up"),
-    (Kind::LinkDown, "link down"),
-    (Kind::RxIdle, "receive idle"),
-    (Kind::Wrote, "wrote"),
-    (Kind::TxIdle, "transmit idle"),
-    (Kind::Fetched, "fetched"),
-    (Kind::Sent, "sent"),
-    (Kind::Stored, "stored"),
-    (Kind::Down, "dropped: the link is down"),
-    (Kind::Disabled, "dropped: RCTL.EN is clear"),
-    (Kind::Rejected, "dropped: no filter accepts it"),
-    (Kind::Undersize, "dropped: too short"),
-    (Kind::Oversize, "dropped: too long"),
-    (Kind::Missed, "dropped: the FIFO has no room"),
-];
 
 /// An event that was performed.
 #[derive(Clone, Copy, PartialEq, Eq, Hash, Debug)]
@@ -62,14 +20,17 @@ pub struct Event {
 
 impl Event {
     pub(crate) fn of(note: raw::Note) -> Event {
-        let kind = KINDS[(note.kind as usize).clamp(1, KINDS.len()) - 1].0;
+        let kind = KINDS.iter().find(|it| it.1 == note.kind).map_or(Kind::Other(note.kind), |it| it.0);
         Event { kind, at: note.at, length: note.length, value: note.value, tag: note.tag }
     }
 }
 
 impl fmt::Display for Kind {
     fn fmt(&self, f: &mut fmt::Formatter<'_>) -> fmt::Result {
-        f.write_str(KINDS[*self as usize].1)
+        match (self, KINDS.iter().find(|it| it.0 == *self)) {
+            (Kind::Other(number), _) => write!(f, "unknown kind {number}"),
+            (_, known) => f.write_str(known.map_or("", |it| it.2)),
+        }
     }
 }
 
@@ -105,12 +66,12 @@ pub enum Watch {
 impl Watch {
     pub(crate) fn raw(self) -> raw::Watch {
         let (kind, offset, address, octets) = match self {
-            Watch::Register(offset) => (1, offset, 0, 0),
-            Watch::Octets(address, octets) => (2, 0, address, octets),
-            Watch::Line => (3, 0, 0, 0),
-            Watch::Link => (4, 0, 0, 0),
-            Watch::Frames => (5, 0, 0, 0),
-            Watch::Sent => (6, 0, 0, 0),
+            Watch::Register(offset) => (WATCH_REGISTER, offset, 0, 0),
+            Watch::Octets(address, octets) => (WATCH_OCTETS, 0, address, octets),
+            Watch::Line => (WATCH_LINE, 0, 0, 0),
+            Watch::Link => (WATCH_LINK, 0, 0, 0),
+            Watch::Frames => (WATCH_FRAMES, 0, 0, 0),
+            Watch::Sent => (WATCH_SENT, 0, 0, 0),
         };
         raw::Watch { kind, offset, address, octets }
     }

@@ -25,14 +25,22 @@
 //!
 //! The model is proved; this binding is not. `unsafe` stands only at the calls of the library, whose header says what
 //! must hold of pointers.
+//!
+//! Without its feature `std`, which is there by default, it takes `core` alone, and a [`Refusal`] is no
+//! `std::error::Error`.
 #![no_std]
+
+#[cfg(feature = "std")]
+extern crate std;
 
 mod event;
 mod machine;
 mod raw;
 mod refusal;
+mod tables;
 
-pub use event::{offset_of, Change, Event, Kind, Name, Watch};
-pub use machine::{Events, Frame, Frames, Machine, MOST_SENT, REGISTERS};
+pub use event::{offset_of, Change, Event, Name, Watch};
+pub use machine::{Events, Frame, Frames, Machine};
 pub use raw::Register;
-pub use refusal::Refusal;
+pub use refusal::Stopped;
+pub use tables::{Kind, Refusal, MOST_SENT, REGISTERS};

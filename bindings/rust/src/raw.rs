@@ -1,4 +1,6 @@
-//! The calls of bunjelav.h.
+//! The layouts and the calls of bunjelav.h.
+//!
+//! Written by bindings/tables.py, of the crate em_c: change it there, and run that.
 use core::ffi::c_void;
 
 #[repr(C)]
@@ -7,7 +9,15 @@ pub(crate) struct Handle {
     pub held: *mut c_void,
 }
 
-/// An event that was performed (`em_note`).
+/// A register, and what a read of it would give.
+#[repr(C)]
+#[derive(Clone, Copy, PartialEq, Eq, Hash, Debug, Default)]
+pub struct Register {
+    pub offset: u32,
+    pub value: u32,
+}
+
+/// An event that was performed.
 #[repr(C)]
 #[derive(Clone, Copy, Default)]
 pub(crate) struct Note {
@@ -18,15 +28,7 @@ pub(crate) struct Note {
     pub kind: u32,
 }
 
-/// A register, and what a read of it would give (`em_register`).
-#[repr(C)]
-#[derive(Clone, Copy, PartialEq, Eq, Hash, Debug, Default)]
-pub struct Register {
-    pub offset: u32,
-    pub value: u32,
-}
-
-/// What is watched (`em_watch`).
+/// What is watched.
 #[repr(C)]
 #[derive(Clone, Copy, Default)]
 pub(crate) struct Watch {
@@ -36,7 +38,7 @@ pub(crate) struct Watch {
     pub octets: usize,
 }
 
-/// A change of what is watched (`em_change`).
+/// A change of what is watched.
 #[repr(C)]
 #[derive(Clone, Copy, Default)]
 pub(crate) struct Change {
@@ -46,32 +48,39 @@ pub(crate) struct Change {
 }
 
 extern "C" {
-    pub(crate) fn em_make(m: *mut Handle, memory: u64, budget: u64, mac: *const u8) -> u32;
-    pub(crate) fn em_make_with_eeprom(m: *mut Handle, memory: u64, budget: u64, words: *const u16) -> u32;
-    pub(crate) fn em_free(m: *mut Handle);
-    pub(crate) fn em_read(m: *mut Handle, offset: u32, value: *mut u32) -> u32;
-    pub(crate) fn em_write(m: *mut Handle, offset: u32, value: u32) -> u32;
-    pub(crate) fn em_look(m: *mut Handle, offset: u32, value: *mut u32) -> u32;
-    pub(crate) fn em_registers(m: *mut Handle, out: *mut Register, room: usize, count: *mut usize) -> u32;
-    pub(crate) fn em_poke(m: *mut Handle, address: u64, octets: *const u8, length: usize) -> u32;
-    pub(crate) fn em_peek(m: *mut Handle, address: u64, out: *mut u8, length: usize) -> u32;
-    pub(crate) fn em_sync_out(m: *mut Handle, ram: *mut u8, size: usize) -> u32;
-    pub(crate) fn em_sync_in(m: *mut Handle, ram: *const u8, size: usize, writes: *mut usize) -> u32;
-    pub(crate) fn em_memory_size(m: *mut Handle, size: *mut u64) -> u32;
-    pub(crate) fn em_arrive(m: *mut Handle, frame: *const u8, length: usize, note: *mut Note) -> u32;
-    pub(crate) fn em_set_link(m: *mut Handle, up: bool) -> u32;
-    pub(crate) fn em_rx_step(m: *mut Handle, note: *mut Note) -> u32;
-    pub(crate) fn em_tx_step(m: *mut Handle, note: *mut Note) -> u32;
-    pub(crate) fn em_run_rx(m: *mut Handle, n: usize, done: *mut usize) -> u32;
-    pub(crate) fn em_run_tx(m: *mut Handle, n: usize, done: *mut usize) -> u32;
-    pub(crate) fn em_line(m: *mut Handle, level: *mut u32) -> u32;
-    pub(crate) fn em_wire_count(m: *mut Handle, count: *mut usize) -> u32;
-    pub(crate) fn em_wire_frame(m: *mut Handle, index: usize, out: *mut u8, room: usize, length: *mut usize) -> u32;
-    pub(crate) fn em_back(m: *mut Handle, n: usize, done: *mut usize) -> u32;
-    pub(crate) fn em_can_go_back(m: *mut Handle, count: *mut usize) -> u32;
-    pub(crate) fn em_tag(m: *mut Handle, tag: u64) -> u32;
-    pub(crate) fn em_event(m: *mut Handle, k: usize, note: *mut Note) -> u32;
-    pub(crate) fn em_last_change(m: *mut Handle, watch: *const Watch, change: *mut Change) -> u32;
-    pub(crate) fn em_name(offset: u32, out: *mut u8, room: usize, length: *mut usize) -> u32;
-    pub(crate) fn em_find(name: *const u8, length: usize, offset: *mut u32) -> u32;
+    pub(crate) fn em_registers(machine: *mut Handle, out: *mut Register, room: usize, count: *mut usize) -> u32;
+    pub(crate) fn em_back(machine: *mut Handle, n: usize, done: *mut usize) -> u32;
+    pub(crate) fn em_can_go_back(machine: *mut Handle, count: *mut usize) -> u32;
+    pub(crate) fn em_make(machine: *mut Handle, memory: u64, budget: u64, mac: *const u8) -> u32;
+    pub(crate) fn em_make_with_eeprom(machine: *mut Handle, memory: u64, budget: u64, words: *const u16) -> u32;
+    pub(crate) fn em_free(machine: *mut Handle);
+    pub(crate) fn em_poke(machine: *mut Handle, addr: u64, octets: *const u8, length: usize) -> u32;
+    pub(crate) fn em_peek(machine: *mut Handle, addr: u64, out: *mut u8, room: usize) -> u32;
+    pub(crate) fn em_memory_size(machine: *mut Handle, size: *mut u64) -> u32;
+    pub(crate) fn em_name(offset: u32, out: *mut u8, room: usize, octets: *mut usize) -> u32;
+    pub(crate) fn em_find(word: *const u8, length: usize, offset: *mut u32) -> u32;
+    pub(crate) fn em_tag(machine: *mut Handle, tag: u64) -> u32;
+    pub(crate) fn em_event(machine: *mut Handle, k: usize, event: *mut Note) -> u32;
+    pub(crate) fn em_refusal(code: u32, out: *mut u8, room: usize, octets: *mut usize) -> u32;
+    pub(crate) fn em_read(machine: *mut Handle, offset: u32, value: *mut u32) -> u32;
+    pub(crate) fn em_write(machine: *mut Handle, offset: u32, value: u32) -> u32;
+    pub(crate) fn em_look(machine: *mut Handle, offset: u32, value: *mut u32) -> u32;
+    pub(crate) fn em_run_rx(machine: *mut Handle, n: usize, done: *mut usize) -> u32;
+    pub(crate) fn em_run_tx(machine: *mut Handle, n: usize, done: *mut usize) -> u32;
+    pub(crate) fn em_sync_out(machine: *mut Handle, ram: *mut u8, room: usize) -> u32;
+    pub(crate) fn em_sync_in(machine: *mut Handle, ram: *const u8, length: usize, writes: *mut usize) -> u32;
+    pub(crate) fn em_last_change(machine: *mut Handle, watch: *const Watch, change: *mut Change) -> u32;
+    pub(crate) fn em_arrive(machine: *mut Handle, frame: *const u8, length: usize, event: *mut Note) -> u32;
+    pub(crate) fn em_set_link(machine: *mut Handle, up: bool) -> u32;
+    pub(crate) fn em_rx_step(machine: *mut Handle, event: *mut Note) -> u32;
+    pub(crate) fn em_tx_step(machine: *mut Handle, event: *mut Note) -> u32;
+    pub(crate) fn em_line(machine: *mut Handle, level: *mut u32) -> u32;
+    pub(crate) fn em_wire_count(machine: *mut Handle, count: *mut usize) -> u32;
+    pub(crate) fn em_wire_frame(
+        machine: *mut Handle,
+        index: usize,
+        out: *mut u8,
+        room: usize,
+        octets: *mut usize,
+    ) -> u32;
 }

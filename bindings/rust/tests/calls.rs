@@ -1,5 +1,5 @@
 //! Each call of the binding once, and each refusal: what they give was worked out from the manual's tables.
-use bunjelav::{offset_of, Kind, Machine, Name, Refusal, Register, Watch, REGISTERS};
+use bunjelav::{offset_of, Kind, Machine, Name, Refusal, Register, Stopped, Watch, MOST_SENT, REGISTERS};
 
 const MAC: [u8; 6] = [0x52, 0x54, 0x00, 0x12, 0x34, 0x56];
 const STATUS: u32 = 0x0008;
@@ -45,7 +45,7 @@ fn makes() {
     assert_eq!(Machine::new(4_096, 1, MAC).err(), Some(Refusal::Budget));
     let mut words = [0; 64];
     words[0] = 0x1234;
-    let mut m = Machine::with_eeprom(4_096, 65_536, &words).unwrap();
+    let m = Machine::with_eeprom(4_096, 65_536, &words).unwrap();
     assert_eq!((m.look(0x5400), m.memory_size()), (Ok(0x1234), 4_096));
 }
 
@@ -94,7 +94,7 @@ fn copies_memory_in() {
     assert_eq!((event.kind, event.at, event.length), (Kind::Poke, 4_096, 3));
     let mut out = vec![9; 65_536];
     assert_eq!((m.sync_out(&mut out), out == ram), (Ok(()), true));
-    assert_eq!(m.sync_in(&ram[1..]), Err(Refusal::Length));
+    assert_eq!(m.sync_in(&ram[1..]), Err(Stopped { refusal: Refusal::Length, done: 0 }));
     assert_eq!(m.can_go_back(), 2);
 }
 
@@ -105,12 +105,53 @@ fn receives() {
     for _ in 0..3 {
         assert_eq!(m.arrive(&frame()).unwrap().kind, Kind::Stored);
     }
+    assert_eq!(m.last_change(Watch::Frames).unwrap().map(|it| (it.back, it.value)), Some((1, 2)));
+    assert_eq!(m.last_change(Watch::Sent), Ok(None));
     let event = m.rx_step().unwrap();
     assert_eq!((event.kind, event.value), (Kind::Wrote, 0));
     assert_eq!((m.run_rx(9), m.run_rx(9), m.look(RDH)), (Ok(2), Ok(0), Ok(3)));
     m.write(0x2800, 65_536).unwrap();
     m.arrive(&frame()).unwrap();
     assert_eq!(m.rx_step(), Err(Refusal::DmaRange));
+}
+
+#[test]
+fn tells_what_was_done_before_a_refusal() {
+    let mut m = receiving();
+    for _ in 0..3 {
+        m.arrive(&frame()).unwrap();
+    }
+    m.poke(0x1020, &(1u64 << 63).to_le_bytes()).unwrap();
+    let stopped = m.run_rx(9).unwrap_err();
+    assert_eq!((stopped, m.look(RDH)), (Stopped { refusal: Refusal::DmaRange, done: 2 }, Ok(2)));
+    assert_eq!(stopped.to_string(), "a descriptor or its buffer leaves guest memory, after 2");
+    // the refusal alone is what `?` gives where a Refusal is wanted
+    fn run(m: &mut Machine) -> Result<usize, Refusal> {
+        Ok(m.run_rx(9)?)
+    }
+    assert_eq!(run(&mut m), Err(Refusal::DmaRange));
+}
+
+#[test]
+fn refusals_are_errors() {
+    fn read(m: &mut Machine) -> Result<u32, Box<dyn std::error::Error>> {
+        m.run_rx(1)?;
+        Ok(m.read(4)?)
+    }
+    assert_eq!(read(&mut made()).unwrap_err().to_string(), "no register lies at the offset");
+}
+
+#[test]
+fn looks_while_events_are_gone_through() {
+    let mut m = receiving();
+    m.arrive(&frame()).unwrap();
+    let m = &m;
+    for event in m.events() {
+        assert_eq!((m.look(STATUS), m.line(), m.can_go_back() > 0), (Ok(0x83), false, true));
+        for other in m.events() {
+            assert_ne!(other.kind, Kind::Other(0), "{event}");
+        }
+    }
 }
 
 #[test]
@@ -127,11 +168,13 @@ fn sends() {
     let event = m.tx_step().unwrap();
     assert_eq!((event.kind, event.value, event.length), (Kind::Sent, 0, 60));
     assert_eq!(event.to_string(), "sent 0 60");
+    assert_eq!(m.last_change(Watch::Sent).unwrap().map(|it| (it.back, it.value)), Some((1, 0)));
+    assert_eq!(m.last_change(Watch::Frames), Ok(None));
     assert_eq!((m.wire_count(), m.wire_frame(0, &mut out[..59])), (1, Err(Refusal::Room)));
     assert_eq!((m.wire_frame(0, &mut out), out), (Ok(60), frame()));
     assert!(m.frames().map(|it| it.to_vec()).eq([frame().to_vec()]));
     m.write(0x3818, 2).unwrap();
-    assert_eq!(m.run_tx(9), Err(Refusal::Extended));
+    assert_eq!(m.run_tx(9), Err(Stopped { refusal: Refusal::Extended, done: 0 }));
 }
 
 #[test]
@@ -154,6 +197,7 @@ fn goes_back_and_tells_who() {
         assert_eq!(m.last_change(watch), Ok(None));
     }
     assert_eq!(m.last_change(Watch::Octets(0, 17)), Err(Refusal::Length));
+    assert_eq!(m.last_change(Watch::Octets(1 << 40, 1)), Err(Refusal::Range));
     let kinds: Vec<_> = m.events().map(|it| it.kind).collect();
     assert_eq!(kinds, [Kind::LinkUp, Kind::Poke, Kind::Write]);
     assert_eq!((m.back(2), m.look(RDT), m.back(9), m.look(RDT)), (2, Ok(5), 1, Ok(0)));
@@ -165,6 +209,11 @@ fn names() {
     assert_eq!(Name::of(0x5200 + 4 * 127).unwrap().to_string(), "MTA[127]");
     assert_eq!(Name::of(4), Err(Refusal::NoRegister));
     assert_eq!((Refusal::Range.number(), Refusal::Range.to_string()), (2, "the octets leave guest memory".into()));
+    assert_eq!(Refusal::NotMade.to_string(), "the handle holds no machine");
+    assert_eq!((Refusal::Other(99).number(), Refusal::Other(99).to_string()), (99, "refusal 99".into()));
+    assert_eq!(Kind::Other(99).to_string(), "unknown kind 99");
+    assert_eq!((Kind::Undersize.to_string(), Kind::LinkUp.to_string()), ("dropped: undersize".into(), "link up".into()));
+    assert_eq!((REGISTERS, MOST_SENT), (350, 16_384));
 }
 
 #[test]

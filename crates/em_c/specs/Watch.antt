@@ -1,5 +1,5 @@
 -- What C watches, and the change that it is told.
-use Rattle.std.specs.Prelude.{◌≡◌, ◌⊎◌, ℕ, ◌<◌, List, replicate, if◌then◌else◌, Option, Some, None}
+use Rattle.std.specs.Prelude.{◌≡◌, ◌⊎◌, ℕ, ◌+◌, ◌<◌, ◌≤◌, List, length, replicate, if◌then◌else◌, Option, Some, None}
 use Rattle.em_regs.specs.Table.{reg_at}
 use Rattle.em_journal.specs.View.{View}
 use Rattle.em_watch.specs.Change.{IsNextChange, NeverDiffers}
@@ -9,26 +9,29 @@ use Rattle.em_watch.specs.declared.watch.Sight.TheVariants as sight
 use Rattle.em_watch.specs.declared.watch.Watch.{Watch}
 use Rattle.em_watch.specs.declared.watch.Watch.TheVariants as watch
 use Rattle.em_c.specs.declared.refused.Refused.{Refused}
-use Rattle.em_c.specs.declared.refused.Refused.TheVariants.{NoMachine, NoRegister, Length, NoWatch, NoChange}
+use Rattle.em_c.specs.declared.refused.Refused.TheVariants.{NoMachine, NoRegister, Range, Length, NoWatch, NoChange}
 use Rattle.em_c.specs.declared.tagged.Tagged.{Tagged}
 use Rattle.em_c.specs.declared.watch.EmChange.{EmChange}
 use Rattle.em_c.specs.declared.watch.EmWatch.{EmWatch}
 use Rattle.em_c.specs.Refused.{number_of}
 
-abbrev pub IsWatch : EmWatch → Watch → Type 0
-IsWatch w (watch.Register reg) = (w.kind ≡ 1) × (reg_at w.offset ≡ Some reg)
-IsWatch w (watch.Octets range) = (w.kind ≡ 2) × (range.addr ≡ w.address) × (range.len ≡ w.octets)
-IsWatch w watch.Line = w.kind ≡ 3
-IsWatch w watch.Link = w.kind ≡ 4
-IsWatch w watch.Frames = w.kind ≡ 5
-IsWatch w watch.Sent = w.kind ≡ 6
+-- of a guest memory of so many octets
+abbrev pub IsWatch : EmWatch → ℕ → Watch → Type 0
+IsWatch w size (watch.Register reg) = (w.kind ≡ 1) × (reg_at w.offset ≡ Some reg)
+IsWatch w size (watch.Octets range) =
+    (w.kind ≡ 2) × (range.addr ≡ w.address) × (range.len ≡ w.octets) × (range.addr + range.len ≤ size)
+IsWatch w size watch.Line = w.kind ≡ 3
+IsWatch w size watch.Link = w.kind ≡ 4
+IsWatch w size watch.Frames = w.kind ≡ 5
+IsWatch w size watch.Sent = w.kind ≡ 6
 
--- an offset without a register, no octet or more than 16, or a kind that there is not
-abbrev pub IsNoWatch : EmWatch → Refused → Type 0
-IsNoWatch w NoRegister = (w.kind ≡ 1) × (reg_at w.offset ≡ None)
-IsNoWatch w Length = (w.kind ≡ 2) × ((w.octets ≡ 0) ⊎ (16 < w.octets))
-IsNoWatch w NoWatch = (w.kind ≡ 0) ⊎ (6 < w.kind)
-IsNoWatch w refused = ⊥
+-- an offset without a register, no octet or more than 16, octets that leave guest memory, or a kind that there is not
+abbrev pub IsNoWatch : EmWatch → ℕ → Refused → Type 0
+IsNoWatch w size NoRegister = (w.kind ≡ 1) × (reg_at w.offset ≡ None)
+IsNoWatch w size Length = (w.kind ≡ 2) × ((w.octets ≡ 0) ⊎ (16 < w.octets))
+IsNoWatch w size Range = (w.kind ≡ 2) × (0 < w.octets) × (w.octets ≤ 16) × (size < w.address + w.octets)
+IsNoWatch w size NoWatch = (w.kind ≡ 0) ⊎ (6 < w.kind)
+IsNoWatch w size refused = ⊥
 
 -- what was seen, as a number
 abbrev pub value_of : Sight → ℕ
@@ -56,5 +59,6 @@ ToldChange w v old code new =
 abbrev pub FindsChange : Option Tagged → EmWatch → EmChange → ℕ → EmChange → Type 0
 FindsChange None w old code new = (code ≡ number_of NoMachine) × (new ≡ old)
 FindsChange (Some t) w old code new =
-    ((watched : Watch) × IsWatch w watched × ToldChange watched t.traced.view old code new)
-    ⊎ ((refused : Refused) × IsNoWatch w refused × (code ≡ number_of refused) × (new ≡ old))
+    let size = length t.traced.view.present.memory in
+    ((watched : Watch) × IsWatch w size watched × ToldChange watched t.traced.view old code new)
+    ⊎ ((refused : Refused) × IsNoWatch w size refused × (code ≡ number_of refused) × (new ≡ old))

@@ -1,5 +1,5 @@
 //! Who changed this last?
-ghost use Rattle.std.specs.Prelude.{◌≡◌, IfOk, IfErr};
+ghost use Rattle.std.specs.Prelude.{◌≡◌, ◌⊎◌, ◌+◌, ◌<◌, ◌≤◌, IfOk, IfErr};
 ghost use Rattle.em_c.specs.Watch.{IsWatch, IsNoWatch, change_of, octets_of, value_of, FindsChange};
 
 use crate::handle::EmMachine;
@@ -53,7 +53,7 @@ pub extern "C" fn em_last_change(
         Ok(held) => held,
         Err(refused) => return refused.number(),
     };
-    let watched = watch_of(*watch);
+    let watched = watch_of(*watch, held.traced.machine().memory_size());
     let found = match watched {
         Ok(watch) => em_watch::last_change(held.traced.machine(), watch),
         Err(_) => None,
@@ -69,26 +69,40 @@ pub extern "C" fn em_last_change(
     }
 }
 
-/// What a caller watches, or why it is nothing.
-fn watch_of(watch: EmWatch) -> Result<Watch, Refused>
-    ensures ok { IfOk result (IsWatch watch) }
-    ensures err { IfErr result (IsNoWatch watch) }
+/// What a caller watches in guest memory of so many octets, or why it is nothing.
+fn watch_of(watch: EmWatch, size: u64) -> Result<Watch, Refused>
+    ensures ok { IfOk result (IsWatch watch size) }
+    ensures err { IfErr result (IsNoWatch watch size) }
 {
     match watch.kind {
         1 => match Reg::of_offset(watch.offset) {
             Some(reg) => Ok(Watch::Register(reg)),
             None => Err(Refused::NoRegister),
         },
-        2 => match MemoryRange::new(watch.address, watch.octets) {
-            Some(range) => Ok(Watch::Octets(range)),
-            None => Err(Refused::Length),
-        },
+        2 => octets_watch(watch.address, watch.octets, size),
         3 => Ok(Watch::Line),
         4 => Ok(Watch::Link),
         5 => Ok(Watch::Frames),
         6 => Ok(Watch::Sent),
         _ => Err(Refused::NoWatch),
     }
+}
+
+/// So many octets from an address on, in guest memory of that size.
+fn octets_watch(address: u64, octets: usize, size: u64) -> Result<Watch, Refused>
+    ensures ok { IfOk result (λ watch. (range : MemoryRange) × (watch ≡ Watch.Octets range) × (range.addr ≡ address)
+        × (range.len ≡ octets) × (range.addr + range.len ≤ size)) }
+    ensures err { IfErr result (λ refused.
+        ((refused ≡ Refused.Length) × ((octets ≡ 0) ⊎ (16 < octets)))
+        ⊎ ((refused ≡ Refused.Range) × (0 < octets) × (octets ≤ 16) × (size < address + octets))) }
+{
+    let Some(range) = MemoryRange::new(address, octets) else {
+        return Err(Refused::Length);
+    };
+    if address > size || octets as u64 > size - address {
+        return Err(Refused::Range);
+    }
+    Ok(Watch::Octets(range))
 }
 
 /// A change, as C sees it.

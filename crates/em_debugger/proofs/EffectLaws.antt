@@ -1,16 +1,19 @@
 -- What is told of an event.
-use Rattle.std.proofs.Common.{◌≡◌, ℕ, ◌+◌, ◌-◌, ◌<◌, ◌≤◌, true, false, List, ◌++◌, codes, Option, Result, Ok, Err, refl}
-use Rattle.std.proofs.Common.{sym, subst}
-use Rattle.std.specs.Prelude.{OnOk}
+use Rattle.std.proofs.Common.{◌≡◌, ℕ, ◌+◌, ◌<◌, ◌≤◌, Bool, true, false, ltb, eqb, List, ◌++◌, codes, length, Option, Result, Ok}
+use Rattle.std.proofs.Common.{Err, refl, sym, subst, arith}
+use Rattle.std.specs.Prelude.{OnOk, ◌&&◌}
+use Rattle.std.proofs.lemmas.Bool.{ltb-true, eqb-true}
 use Rattle.std.specs.Io.KnownBytes.{Appends}
 use Rattle.em_journal.specs.View.{View}
-use Rattle.em_tape.specs.Tape.{Tape, event_of}
+use Rattle.em_named.specs.Numbers.{end_of}
+use Rattle.em_tape.specs.Tape.{Tape, behind, event_at}
 use Rattle.em_text.proofs.WritingLemmas.{Appends-more}
 use Rattle.em_looks.specs.Effects.{TellsEffect, WritesSuch}
 use Rattle.em_debugger.specs.declared.debugger.Debugger.{Debugger}
-use Rattle.em_debugger.specs.Deeper.{IsAgain, lines_here, oldest}
+use Rattle.em_debugger.specs.Deeper.{IsAgain, IsSeen}
 use Rattle.em_debugger.specs.Who.{event_text}
 use Rattle.em_debugger.specs.Effect.{stands, none_text, TellsChanged, TellsEvent, Answers, AnswersEffect, held, again}
+use Rattle.em_debugger.proofs.NumberLaws.{event_at-most}
 
 pub answers_none : (d : Debugger) (event : ℕ) → stands event d.tape ≡ false
     → AnswersEffect d event (none_text d.tape)
@@ -54,15 +57,28 @@ told_effect first last result machine same back steps p q h =
     (subst (λ n. OnOk result (WritesSuch (TellsEffect machine n) first last)) q h)
 
 pub told_held : {T E : Type 0} (first last : Option (List ℕ)) (result : Result T E) (d : Debugger) (event : ℕ)
-    → oldest d.tape < event
-    → OnOk result (WritesSuch (TellsEffect d.tape.session.machine ((event_of d.tape - event) + 1)) first last)
+    → behind event d.tape < length d.tape.session.machine.past
+    → OnOk result (WritesSuch (TellsEffect d.tape.session.machine (behind event d.tape + 1)) first last)
     → OnOk result ((text : List ℕ) × Appends first last text × TellsChanged d event text)
 told_held first last (Ok x) d event lt p = (p.text, p.written, held lt p.such)
 told_held first last (Err x) d event lt p = tt
 
 pub told_again : {T E : Type 0} (first last : Option (List ℕ)) (result : Result T E) (d : Debugger) (event : ℕ)
-    (deep : Tape) → event ≤ oldest d.tape → IsAgain d.settings (lines_here d.tape) deep → event_of deep ≡ event
-    → OnOk result (WritesSuch (TellsEffect deep.session.machine 1) first last)
+    (deep : Tape) → length d.tape.session.machine.past ≤ behind event d.tape → IsAgain d.settings d.tape deep
+    → IsSeen event deep → OnOk result (WritesSuch (TellsEffect deep.session.machine 1) first last)
     → OnOk result ((text : List ℕ) × Appends first last text × TellsChanged d event text)
-told_again first last (Ok x) d event deep le is at p = (p.text, p.written, again deep le is at p.such)
-told_again first last (Err x) d event deep le is at p = tt
+told_again first last (Ok x) d event deep le is seen p = (p.text, p.written, again deep le is seen p.such)
+told_again first last (Err x) d event deep le is seen p = tt
+
+some_by : (event : ℕ) (some same : Bool) → ltb 0 event ≡ some → (some && same) ≡ true
+    → (0 < event) × (same ≡ true)
+some_by event true same is h = (ltb-true 0 event is, h)
+some_by event false same is h = absurd (cc)
+
+-- an event that stands is one that was performed
+pub stands_some : (event : ℕ) (tape : Tape) → stands event tape ≡ true
+    → (0 < event) × (event ≤ end_of (length tape.did) tape.did)
+stands_some event tape is =
+    let newest = event_at (behind event tape) tape in
+    let h = some_by event (ltb 0 event) (eqb newest event) refl is in
+    (h.0, omega (arith, eqb-true newest event h.1, event_at-most tape (behind event tape)))

@@ -1,12 +1,16 @@
 pub mod AddingLaws
 pub mod AnsweringLaws
+pub mod DeeperLaws
 pub mod EffectLaws
 pub mod ExpectingLaws
 pub mod FilesLaws
 pub mod HistoryLaws
+pub mod LedLaws
 pub mod ListingLaws
 pub mod MovesLaws
 pub mod NextLaws
+pub mod NotedLaws
+pub mod NumberLaws
 pub mod OffersLaws
 pub mod PerformingLaws
 pub mod PlaceLaws

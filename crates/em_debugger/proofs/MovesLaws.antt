@@ -1,37 +1,42 @@
 -- The text of events that were taken back.
-use Rattle.std.proofs.Common.{◌≡◌, ℕ, ◌++◌, List, Option, Result, length, true, subst, sym, ap, ◌∙◌}
+use Rattle.std.proofs.Common.{◌≡◌, ℕ, ◌-◌, ◌<◌, ◌++◌, ltb, List, Option, Result, length, true, subst, sym, ap, ◌∙◌}
 use Rattle.std.specs.Prelude.{min}
 use Rattle.em_text.specs.Writer.{Writes}
 use Rattle.em_debugger.specs.declared.debugger.Debugger.{Debugger}
-use Rattle.em_tape.specs.Tape.{Tape}
-use Rattle.em_debugger.specs.Moves.{taken_text, budget_text, Goes, IsBehind}
+use Rattle.em_named.specs.declared.did.Did.{Did}
+use Rattle.em_tape.specs.Tape.{Tape, event_at, event_of}
+use Rattle.em_debugger.specs.Moves.{back_text, budget_text, taken, taken_text, Goes, IsBehind}
+use Rattle.em_debugger.proofs.TextLaws.{Writes-some}
 
--- behind the events that were taken, that there were fewer than asked for
+-- what is said of the events that were taken, and of why they are no more
 abbrev pub more_text : Debugger → ℕ → ℕ → ℕ → ℕ → List ℕ
-more_text d most newest line n = taken_text d newest line n ++ budget_text n (min most newest)
+more_text d most n last newest = taken_text d n last ++ budget_text (ltb n most) newest
 
-pub Writes-taken : {T E : Type 0} (old new : Option (List ℕ)) (result : Result T E) (d : Debugger)
-    (most newest event line here n taken : ℕ) → newest ≡ event → line ≡ here → n ≡ taken
-    → Writes old new result (more_text d most newest line n)
-    → Writes old new result (more_text d most event here taken)
-Writes-taken old new result d most newest event line here n taken p q r h =
-    subst (λ x. Writes old new result (more_text d most x here taken)) p
-    (subst (λ x. Writes old new result (more_text d most newest x taken)) q
-    (subst (λ x. Writes old new result (more_text d most newest line x)) r h))
+-- by what is known of them
+pub Writes-back : {T E : Type 0} (old new : Option (List ℕ)) (result : Result T E) (d : Debugger) (tape : Tape)
+    (most n last newest : ℕ) → n ≡ taken most tape → last ≡ event_at (taken most tape - 1) tape
+    → newest ≡ event_of d.tape → 0 < event_of tape
+    → Writes old new result (more_text d most n last newest)
+    → Writes old new result (back_text most tape d)
+Writes-back old new result d tape most n last newest p q r some h =
+    Writes-some old new result (event_of tape) _ _ some
+    (subst (λ x. Writes old new result (more_text d most (taken most tape) x (event_of d.tape))) q
+    (subst (λ x. Writes old new result (more_text d most (taken most tape) last x)) r
+    (subst (λ x. Writes old new result (more_text d most x last newest)) p h)))
 
 -- before a line
 pub goes_behind : (old new : Tape) (before lines : ℕ) → lines ≡ before
-    → new ≡ record old { whole = min lines (length old.ends); back = 0; session = new.session }
+    → new ≡ record old { whole = min lines (length old.did); back = 0; session = new.session }
     → Goes (IsBehind before) old new true
 goes_behind old new before lines same is =
-    let whole : new.whole ≡ min lines (length old.ends) = ap (λ (t : Tape). t.whole) is in
+    let whole : new.whole ≡ min lines (length old.did) = ap (λ (t : Tape). t.whole) is in
     let back : new.back ≡ 0 = ap (λ (t : Tape). t.back) is in
-    let ends : old.ends ≡ new.ends = sym (ap (λ (t : Tape). t.ends) is) in (
+    let did : old.did ≡ new.did = sym (ap (λ (t : Tape). t.did) is) in (
       is ∙ ap (λ (k : ℕ). record old { whole = k; back = 0; session = new.session }) (sym whole)
           ∙ ap (λ (k : ℕ). record old { whole = new.whole; back = k; session = new.session }) (sym back),
       record {
-        whole = whole ∙ ap (λ (k : ℕ). min k (length old.ends)) same
-            ∙ ap (λ (es : List ℕ). min before (length es)) ends;
+        whole = whole ∙ ap (λ (k : ℕ). min k (length old.did)) same
+            ∙ ap (λ (ds : List Did). min before (length ds)) did;
         back = back;
       },
     )

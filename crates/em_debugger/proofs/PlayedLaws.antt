@@ -1,5 +1,5 @@
 -- Lines that are played, and how they are counted.
-use Rattle.std.proofs.Common.{◌≡◌, ℕ, ◌+◌, ◌-◌, ◌<◌, ◌≤◌, Bool, true, false, cond, eqb, List, [], ◌∷◌, ◌++◌}
+use Rattle.std.proofs.Common.{◌≡◌, ℕ, ◌+◌, ◌-◌, ◌<◌, ◌≤◌, Bool, true, false, cond, List, [], ◌∷◌, ◌++◌}
 use Rattle.std.proofs.Common.{length}
 use Rattle.std.proofs.Common.{Option, Some, None, refl, sym, ap, ◌∙◌, arith, append-nil}
 use Rattle.std.specs.Prelude.{slice_get}
@@ -10,6 +10,7 @@ use Rattle.std.proofs.lemmas.Option.{slice_get_within}
 use Rattle.em_console.specs.Turns.{Leads}
 use Rattle.em_console.proofs.ServingLaws.{Leads-append}
 use Rattle.em_script.specs.declared.runner.BenchFault.{BenchFault}
+use Rattle.em_tape.specs.Moves.{noted}
 use Rattle.em_tape.specs.Tape.{Tape, event_of}
 use Rattle.em_debugger.specs.declared.debugger.Debugger.{Debugger}
 use Rattle.em_debugger.specs.declared.performing.Performed.{Performed}
@@ -17,9 +18,11 @@ use Rattle.em_debugger.specs.declared.played.Played.{Played}
 use Rattle.em_prompt.specs.declared.typed.Side.{Side}
 use Rattle.em_debugger.specs.Engines.{EngagesBy, engine_behind, step_line}
 use Rattle.em_debugger.specs.Performing.{Performs, PerformsNext}
-use Rattle.em_debugger.specs.Place.{line_of, line_here}
+use Rattle.em_debugger.specs.Place.{line_here}
 use Rattle.em_debugger.specs.Counted.{counted}
 use Rattle.em_debugger.specs.Played.{is_wrong, wrong_ones, CountsUp, PlayedTo, PlaysAll}
+use Rattle.em_debugger.proofs.NotedLaws.{noted_within}
+use Rattle.em_debugger.proofs.PlaceLaws.{line_here-whole, line_here-within}
 
 -- ---- counting
 
@@ -89,10 +92,6 @@ counts_more lines p first old new wrong h some count same others =
 
 -- ---- playing
 
--- fewer lines lie ahead
-here_whole : (tape : Tape) → tape.back ≡ 0 → line_here tape ≡ tape.whole
-here_whole tape none = ap (λ b. cond (eqb b 0) tape.whole (line_of (event_of tape) tape.ends)) none
-
 -- a line that is performed is the next one, and none is added or lost
 pub record Goes (old new : Debugger) : Type 0 where
   pub here : line_here new.tape ≡ line_here old.tape + 1
@@ -103,15 +102,20 @@ pub record Goes (old new : Debugger) : Type 0 where
 pub performs_next : (old new : Debugger) (p : Performed) → Performs old new p → Goes old new
 performs_next old new p h =
     let before = h.before in
+    let whole_is : before.whole ≡ line_here old.tape = ap (λ (t : Tape). t.whole) h.whole.tape in
     let new_lines : length new.tape.lines ≡ length before.lines = ap (λ (t : Tape). length t.lines) h.plays.tape in
     let new_whole : new.tape.whole ≡ before.whole + 1 = ap (λ (t : Tape). t.whole) h.plays.tape in
+    let within : line_here old.tape ≤ length old.tape.did = (line_here-within old.tape).0 in
+    let known : length before.did ≡ length old.tape.did = ap (λ (t : Tape). length t.did) h.whole.tape in
+    let noted_now : length new.tape.did ≡ length (noted before.whole h.plays.did before.did) =
+    ap (λ (t : Tape). length t.did) h.plays.tape in
+    let more = noted_within before.whole h.plays.did before.did (omega (arith, whole_is, known, within)) in
     let new_here : line_here new.tape ≡ new.tape.whole =
-    here_whole new.tape (ap (λ (t : Tape). t.back) h.plays.tape) in
+    line_here-whole new.tape (omega (arith, new_whole, noted_now, more)) (ap (λ (t : Tape). t.back) h.plays.tape) in
     let lines : length before.lines ≡ length old.tape.lines = ap (λ (t : Tape). length t.lines) h.whole.tape in
-    let whole : before.whole ≡ line_here old.tape = ap (λ (t : Tape). t.whole) h.whole.tape in
-    let within : before.whole < length before.lines =
+    let ahead : before.whole < length before.lines =
     slice_get_within before.lines before.whole h.plays.line h.plays.next in
-    record { here = omega arith; lines = new_lines ∙ lines; ahead = omega arith; whole = omega arith }
+    record { here = omega arith; lines = new_lines ∙ lines; ahead = omega (arith, ahead); whole = omega (arith, ahead) }
 
 -- how much there is to do: lines that lie ahead, and steps that engines may make
 abbrev pub to_do : Debugger → ℕ

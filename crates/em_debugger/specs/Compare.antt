@@ -3,7 +3,8 @@ use Rattle.std.specs.Prelude.{◌≡◌, ℕ, ◌-◌, min, List, [], ◌++◌, 
 use Rattle.em_regs.specs.declared.reg.Reg.{Reg}
 use Rattle.em_text.specs.Words.{words_of}
 use Rattle.em_expect.specs.Difference.{register_read}
-use Rattle.em_tape.specs.Ends.{end_of}
+use Rattle.em_named.specs.Numbers.{end_of}
+use Rattle.em_tape.specs.Tape.{behind}
 use Rattle.em_watch.specs.declared.watch.Watch.TheVariants.{Register}
 use Rattle.em_debugger.specs.declared.compare.Compared.{Compared}
 use Rattle.em_debugger.specs.declared.compare.Compared.TheVariants.{Agrees, Differs, Stopped}
@@ -22,26 +23,26 @@ use Rattle.em_debugger.specs.Who.{TellsNewest}
 abbrev pub register_in : Performed → Debugger → Option Reg
 register_in p d = register_read (words_of (text_of p.line d.tape))
 
--- how many events stood before it
-abbrev pub events_before : Performed → Debugger → ℕ
-events_before p d = end_of (min (p.line - 1) (length d.tape.ends)) d.tape.ends
+-- how many steps back lead before it
+abbrev pub before_line : Performed → Debugger → ℕ
+before_line p d = behind (end_of (min (p.line - 1) (length d.tape.did)) d.tape.did) d.tape
 
--- what is known of a register's differences, and who changed it last among the first n events
-pub record TellsRegister (old new : Debugger) (reg : Reg) (n : ℕ) (text : List ℕ) : Type 0 where
+-- what is known of a register's differences, and who changed it last, from so many steps back on
+pub record TellsRegister (old new : Debugger) (reg : Reg) (back : ℕ) (text : List ℕ) : Type 0 where
   pub who : List ℕ
-  pub newest : TellsNewest old new (Register reg) n who
+  pub newest : TellsNewest old new (Register reg) back who
   pub told : text ≡ departure_text reg ++ who
 
 abbrev pub TellsIfRead : Option Reg → Debugger → Debugger → ℕ → List ℕ → Type 0
-TellsIfRead None old new n text = (new ≡ old) × (text ≡ [])
-TellsIfRead (Some reg) old new n text = TellsRegister old new reg n text
+TellsIfRead None old new back text = (new ≡ old) × (text ≡ [])
+TellsIfRead (Some reg) old new back text = TellsRegister old new reg back text
 
 -- the line with its answer, and then that
 pub record TellsDiffers (old new : Debugger) (p : Performed) (reg : Option Reg) (text : List ℕ) : Type 0 where
   pub line : List ℕ
   pub shows : ShowsPerformed old p line
   pub rest : List ℕ
-  pub tells : TellsIfRead reg old new (events_before p old) rest
+  pub tells : TellsIfRead reg old new (before_line p old) rest
   pub told : text ≡ line ++ rest
 
 abbrev pub TellsCompared : Debugger → Debugger → Ran → Compared → List ℕ → Type 0

@@ -1,12 +1,11 @@
 -- Engines that run by themselves.
-use Rattle.std.specs.Prelude.{◌≡◌, ℕ, ◌+◌, ◌-◌, ◌<◌, ◌≤◌, ◌==◌, ◌||◌, nat_lt, Bool, true, false, if◌then◌else◌}
-use Rattle.std.specs.Prelude.{List, [], ◌++◌, codes, insert, length, Option, Some, None}
+use Rattle.std.specs.Prelude.{◌≡◌, ℕ, ◌+◌, ◌==◌, ◌||◌, nat_lt, Bool, true, false, if◌then◌else◌}
+use Rattle.std.specs.Prelude.{List, codes, insert, length, Option, Some, None}
 use Rattle.std.specs.Str.{bytes_eq}
 use Rattle.em_tape.specs.Texts.{texts}
 use Rattle.em_step.specs.State.{State}
 use Rattle.em_output.specs.declared.outcome.Outcome.{Outcome}
 use Rattle.em_output.specs.declared.outcome.Outcome.TheVariants.{Refused}
-use Rattle.em_script.specs.declared.runner.BenchFault.{BenchFault}
 use Rattle.em_tape.specs.Tape.{event_of}
 use Rattle.em_prompt.specs.declared.typed.Side.{Side}
 use Rattle.em_prompt.specs.declared.typed.Side.TheVariants.{Receive, Transmit}
@@ -71,11 +70,11 @@ abbrev pub is_refused : Outcome → Bool
 is_refused Refused = true
 is_refused _ = false
 
--- behind a line that was performed, before which so many events stood: none where engines stand still, or lines that lie
+-- behind a line that was performed, before which this event was the newest: none where engines stand still, or lines that lie
 -- ahead were performed already, or the line did no event
 abbrev pub engine_behind : ℕ → Performed → Debugger → Option Side
 engine_behind before p d =
-    if d.engines == 0 || nat_lt d.tape.whole (length d.tape.ends) then None else
+    if d.engines == 0 || nat_lt d.tape.whole (length d.tape.did) then None else
     if is_refused p.outcome then behind_refused d.tape.session.machine.present (step_of (text_of p.line d.tape)) else
     if nat_lt before (event_of d.tape) then behind_step d.tape.session.machine.present (step_of (text_of p.line d.tape))
     else None

@@ -1,25 +1,36 @@
 -- The lines that did something, and how they are shown.
-use Rattle.std.specs.Prelude.{ℕ, zero, suc, ◌+◌, ◌-◌, ◌==◌, nat_lt, Bool, not, if◌then◌else◌, Option, Some, None}
+use Rattle.std.specs.Prelude.{ℕ, zero, suc, ◌+◌, ◌-◌, ◌==◌, nat_lt, Bool, false, if◌then◌else◌, Option, Some, None}
 use Rattle.std.specs.Prelude.{List, [], ◌++◌, codes, decimal, length, take, drop, filter}
 use Rattle.std.specs.List.{flat_map, range_with_len}
-use Rattle.em_tape.specs.Ends.{end_of}
+use Rattle.em_named.specs.Numbers.{end_of}
+use Rattle.em_named.specs.declared.did.Did.{Did}
+use Rattle.em_named.specs.declared.did.Did.TheVariants.{Performed, TookBack}
+use Rattle.em_tape.specs.Tape.{line_at}
 use Rattle.em_looks.specs.Numbers.{short_text}
 use Rattle.em_debugger.specs.declared.debugger.Debugger.{Debugger}
 use Rattle.em_debugger.specs.Debugger.{told}
 use Rattle.em_debugger.specs.Place.{line_here, text_of}
 
--- more or fewer events stand after the line than before it
-abbrev pub did_something : List ℕ → ℕ → Bool
-did_something ends line = not (end_of line ends == end_of (line - 1) ends)
+abbrev pub is_something : Did → Bool
+is_something (Performed events) = nat_lt 0 events
+is_something (TookBack events) = nat_lt 0 events
+
+abbrev pub is_some_something : Option Did → Bool
+is_some_something None = false
+is_some_something (Some did) = is_something did
+
+-- the line performed events, or took some back
+abbrev pub did_something : List Did → ℕ → Bool
+did_something did line = is_some_something (line_at line did)
 
 -- of the first k lines the last that did something; 0 where none did
-abbrev pub newest_line : List ℕ → ℕ → ℕ
-newest_line ends zero = 0
-newest_line ends (suc k) = if did_something ends (suc k) then suc k else newest_line ends k
+abbrev pub newest_line : List Did → ℕ → ℕ
+newest_line did zero = 0
+newest_line did (suc k) = if did_something did (suc k) then suc k else newest_line did k
 
 -- those that did something, from behind one line up to another
-abbrev pub lines_between : List ℕ → ℕ → ℕ → List ℕ
-lines_between ends before last = filter (did_something ends) (range_with_len (before + 1) (last - before))
+abbrev pub lines_between : List Did → ℕ → ℕ → List ℕ
+lines_between did before last = filter (did_something did) (range_with_len (before + 1) (last - before))
 
 -- the last n of them
 abbrev pub last_of : ℕ → List ℕ → List ℕ
@@ -27,13 +38,13 @@ last_of n lines = drop (length lines - n) lines
 
 -- ---- texts
 
--- some events that a line added, up to this one
+-- some events that a line performed, up to this one
 abbrev pub added_text : ℕ → ℕ → List ℕ
 added_text first last =
     if first == last then codes ", event " ++ decimal last else
     codes ", events " ++ (decimal first ++ (codes " to " ++ decimal last))
 
--- those of a line before which so many stood, and after which so many do; none where it took some back
+-- those of a line before which so many were performed, and after which so many were
 abbrev pub events_text : ℕ → ℕ → List ℕ
 events_text before after = if nat_lt before after then added_text (before + 1) after else []
 
@@ -45,8 +56,8 @@ mark_text here line = if line == here then codes "> " else codes "  "
 abbrev pub number_of_line_text : ℕ → ℕ → List ℕ
 number_of_line_text here line = mark_text here line ++ (codes "line " ++ decimal line)
 
-abbrev pub events_of_text : List ℕ → ℕ → List ℕ
-events_of_text ends line = events_text (end_of (line - 1) ends) (end_of line ends)
+abbrev pub events_of_text : List Did → ℕ → List ℕ
+events_of_text did line = events_text (end_of (line - 1) did) (end_of line did)
 
 -- a line and its answer
 abbrev pub answer_text : Debugger → ℕ → List ℕ
@@ -55,7 +66,7 @@ answer_text d line =
 
 -- a line with its events and its answer
 abbrev pub line_text : Debugger → ℕ → ℕ → List ℕ
-line_text d here line = number_of_line_text here line ++ (events_of_text d.tape.ends line ++ answer_text d line)
+line_text d here line = number_of_line_text here line ++ (events_of_text d.tape.did line ++ answer_text d line)
 
 abbrev pub lines_text : Debugger → ℕ → List ℕ → List ℕ
 lines_text d here lines = flat_map (line_text d here) lines
@@ -67,10 +78,10 @@ start_text here = if here == 0 then codes "> at the start\n" else []
 -- the newest lines up to the place, at most so many, and so many that were performed and lie ahead
 abbrev pub around_text : Debugger → ℕ → ℕ → List ℕ
 around_text d most here =
-    let ends = d.tape.ends in
+    let did = d.tape.did in
     start_text here
-    ++ (lines_text d here (last_of most (lines_between ends 0 here))
-    ++ lines_text d here (take most (lines_between ends here (length ends))))
+    ++ (lines_text d here (last_of most (lines_between did 0 here))
+    ++ lines_text d here (take most (lines_between did here (length did))))
 
 -- 16 where it is not said how many
 abbrev pub most_of : Option ℕ → ℕ
@@ -78,4 +89,4 @@ most_of None = 16
 most_of (Some most) = most
 
 abbrev pub history_text : Debugger → Option ℕ → List ℕ
-history_text d asked = around_text d (most_of asked) (newest_line d.tape.ends (line_here d.tape))
+history_text d asked = around_text d (most_of asked) (newest_line d.tape.did (line_here d.tape))

@@ -10,6 +10,7 @@ pub mod Engines
 pub mod Expected
 pub mod Files
 pub mod History
+pub mod Led
 pub mod Listing
 pub mod Moves
 pub mod Next

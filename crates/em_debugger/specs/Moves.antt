@@ -1,11 +1,12 @@
 -- Going to another place on the tape.
-use Rattle.std.specs.Prelude.{◌≡◌, ℕ, ◌+◌, ◌-◌, ◌==◌, min, nat_lt, if◌then◌else◌, Bool, true, false}
+use Rattle.std.specs.Prelude.{◌≡◌, ℕ, ◌+◌, ◌-◌, ◌==◌, min, nat_lt, if◌then◌else◌, ◌&&◌, Bool, true, false}
 use Rattle.std.specs.Prelude.{List, [], ◌++◌, codes, length}
-use Rattle.em_tape.specs.Tape.{IsNear, Tape, event_of, taken_back}
+use Rattle.em_named.specs.Numbers.{line_of}
+use Rattle.em_tape.specs.Tape.{IsNear, Tape, event_at, event_of, taken_back}
 use Rattle.em_looks.specs.Numbers.{number_text, short_text}
 use Rattle.em_debugger.specs.declared.debugger.Debugger.{Debugger}
 use Rattle.em_debugger.specs.Debugger.{KeepsRest, told}
-use Rattle.em_debugger.specs.Place.{line_of, line_here, text_of}
+use Rattle.em_debugger.specs.Place.{line_here, text_of}
 
 -- ---- back
 
@@ -27,9 +28,10 @@ line_told d line =
     number_text (codes "(line ") line (codes ", ")
     ++ (short_text (text_of line d.tape) ++ (codes ": " ++ (told line d ++ codes ")\n")))
 
--- one event was taken back, of this line
-abbrev pub one_back_text : Debugger → ℕ → ℕ → List ℕ
-one_back_text d event line = number_text (codes "took back event ") event (codes " ") ++ line_told d line
+-- one event was taken back
+abbrev pub one_back_text : Debugger → ℕ → List ℕ
+one_back_text d event =
+    number_text (codes "took back event ") event (codes " ") ++ line_told d (line_of event d.tape.did)
 
 -- a line
 abbrev pub line_text : Tape → ℕ → List ℕ
@@ -39,30 +41,30 @@ line_text tape line = number_text (codes "(line ") line (codes ", ") ++ (short_t
 abbrev pub down_to_text : Tape → ℕ → ℕ → List ℕ
 down_to_text tape n last =
     number_text (codes "took back ") n (codes " events, ")
-    ++ (number_text (codes "down to event ") last (codes " ") ++ line_text tape (line_of last tape.ends))
+    ++ (number_text (codes "down to event ") last (codes " ") ++ line_text tape (line_of last tape.did))
 
--- n events were taken back from the newest one on, which was of this line
-abbrev pub taken_text : Debugger → ℕ → ℕ → ℕ → List ℕ
-taken_text d newest line n =
+-- n events were taken back, the last of them this one
+abbrev pub taken_text : Debugger → ℕ → ℕ → List ℕ
+taken_text d n last =
     if n == 0 then [] else
-    if n == 1 then one_back_text d newest line else
-    down_to_text d.tape n (newest - (n - 1))
+    if n == 1 then one_back_text d last else
+    down_to_text d.tape n last
 
--- fewer were taken than asked for and stood
-abbrev pub budget_text : ℕ → ℕ → List ℕ
-budget_text n wanted =
-    if nat_lt n wanted then codes "the journal's budget dropped the older records: goto EVENT still gets there\n" else
-    []
+-- fewer were taken than asked for, and one still stands
+abbrev pub budget_text : Bool → ℕ → List ℕ
+budget_text fewer newest =
+    if fewer && nat_lt 0 newest then
+    codes "the journal's budget dropped the older records: goto EVENT still gets there\n"
+    else []
 
--- what is said where n events were taken back, of so many that stood and with the place at this line
-abbrev pub stood_text : Debugger → ℕ → ℕ → ℕ → ℕ → List ℕ
-stood_text d most newest line n =
-    if newest == 0 then codes "no event stands here\n" else
-    taken_text d newest line n ++ budget_text n (min most newest)
+-- from a tape, where n events were taken back; the new debugger has its lines, and what was told of them
+abbrev pub stood_text : ℕ → ℕ → Tape → Debugger → List ℕ
+stood_text most n tape new =
+    if event_of tape == 0 then codes "no event stands here\n" else
+    taken_text new n (event_at (n - 1) tape) ++ budget_text (nat_lt n most) (event_of new.tape)
 
--- from a tape; the new debugger has its lines, and what was told of them
 abbrev pub back_text : ℕ → Tape → Debugger → List ℕ
-back_text most tape new = stood_text new most (event_of tape) (line_here tape) (taken most tape)
+back_text most tape new = stood_text most (taken most tape) tape new
 
 -- ---- to an event, or before a line
 
@@ -77,7 +79,7 @@ Goes IsThere old new false = new ≡ old
 
 -- behind so many whole lines, or behind the last
 pub record IsBehind (lines : ℕ) (tape : Tape) : Type 0 where
-  pub whole : tape.whole ≡ min lines (length tape.ends)
+  pub whole : tape.whole ≡ min lines (length tape.did)
   pub back : tape.back ≡ 0
 
 -- where the place is

@@ -1,10 +1,9 @@
 -- Performing the line behind the place.
-use Rattle.std.specs.Prelude.{◌≡◌, ℕ, ◌+◌, ◌==◌, ◌<◌, ◌≤◌, nat_lt, Bool, true, false, not, ◌&&◌, ◌||◌, if◌then◌else◌}
+use Rattle.std.specs.Prelude.{◌≡◌, ℕ, ◌+◌, ◌==◌, ◌<◌, ◌≤◌, nat_lt, Bool, true, false, ◌&&◌, ◌||◌, if◌then◌else◌}
 use Rattle.std.specs.Prelude.{List, [], ◌∷◌, ◌++◌, codes, length, take, Some, None, Ok}
 use Rattle.em_tape.specs.Texts.{texts}
 use Rattle.em_script.specs.Runner.{name_of}
 use Rattle.em_script.specs.declared.runner.BenchFault.{BenchFault}
-use Rattle.em_tape.specs.Ends.{end_of}
 use Rattle.em_tape.specs.Tape.{Tape, event_of}
 use Rattle.em_tape.specs.Moves.{Plays, IsCut}
 use Rattle.em_prompt.specs.BenchLine.{BenchLine, text_of as text_of_line}
@@ -75,10 +74,9 @@ fault_text fault = codes "stopped: " ++ (name_of fault ++ codes "\n")
 
 -- ---- a line that is typed
 
--- lines lie ahead of the place, or events of the line at the place do
+-- lines lie ahead of the place, or events do
 abbrev pub is_among_lines : Tape → Bool
-is_among_lines tape =
-    nat_lt (line_here tape) (length tape.lines) || not (event_of tape == end_of (line_here tape) tape.ends)
+is_among_lines tape = nat_lt tape.whole (length tape.lines) || nat_lt 0 tape.back
 
 -- the lines ahead of the place were dropped, so many of them, and what was told of them and asked for
 pub record Cuts (old new : Debugger) (dropped : ℕ) : Type 0 where

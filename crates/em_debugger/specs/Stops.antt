@@ -1,8 +1,8 @@
 -- Running until something happens.
-use Rattle.std.specs.Prelude.{◌≡◌, ℕ, ◌+◌, ◌-◌, ◌<◌, ◌≤◌, ◌==◌, suc, List, ◌++◌, codes, take, length, Bool, true, false}
+use Rattle.std.specs.Prelude.{◌≡◌, ℕ, ◌+◌, ◌<◌, ◌≤◌, ◌==◌, suc, List, ◌++◌, codes, take, length, Bool, true, false}
 use Rattle.std.specs.Str.{bytes_eq}
 use Rattle.em_output.specs.declared.outcome.Outcome.TheVariants.{Refused}
-use Rattle.em_tape.specs.Tape.{event_of}
+use Rattle.em_tape.specs.Tape.{behind, event_of}
 use Rattle.em_watch.specs.Change.{IsNextChange}
 use Rattle.em_watch.specs.declared.change.Change.{Change}
 use Rattle.em_watch.specs.declared.watch.Watch.{Watch}
@@ -34,19 +34,19 @@ EndsBefore s d = (is_before s (line_here d.tape + 1) ≡ true) × (line_here d.t
 abbrev pub says_dropped : List ℕ → Bool
 says_dropped answer = bytes_eq (take 7 answer) (codes "dropped")
 
--- since so many events stood, one changed this
-pub record ChangedSince (watch : Watch) (events : ℕ) (d : Debugger) : Type 0 where
+-- since an event was the newest, one changed this
+pub record ChangedSince (watch : Watch) (event : ℕ) (d : Debugger) : Type 0 where
   pub change : Change
   pub next : IsNextChange watch d.tape.session.machine 0 change
-  pub within : change.back ≤ event_of d.tape - events
+  pub within : change.back ≤ behind event d.tape
 
--- the run ends behind a line, before which so many events stood
+-- the run ends behind a line, before which this event was the newest
 abbrev pub EndsSince : Stop → ℕ → Debugger → Performed → Type 0
-EndsSince stop.Refused events d performed = performed.outcome ≡ Refused
-EndsSince stop.Dropped events d performed = says_dropped d.answer.items ≡ true
-EndsSince stop.Differs events d performed = answers_otherwise d performed.line ≡ true
-EndsSince (stop.Line n) events d performed = ⊥
-EndsSince (stop.Changes watch) events d performed = ChangedSince watch events d
+EndsSince stop.Refused event d performed = performed.outcome ≡ Refused
+EndsSince stop.Dropped event d performed = says_dropped d.answer.items ≡ true
+EndsSince stop.Differs event d performed = answers_otherwise d performed.line ≡ true
+EndsSince (stop.Line n) event d performed = ⊥
+EndsSince (stop.Changes watch) event d performed = ChangedSince watch event d
 
 abbrev pub EndsBehind : Stop → Debugger → Debugger → Performed → Type 0
 EndsBehind s before after performed = EndsSince s (event_of before.tape) after performed
@@ -105,7 +105,7 @@ RanSo s first new n (ran.Fault fault) = RanShort s first new n
 
 -- what is said where a line ended the run: who changed it, or the line and its answer
 abbrev pub TellsStopped : Stop → Debugger → Debugger → Performed → List ℕ → Type 0
-TellsStopped (stop.Changes watch) old new performed text = TellsNewest old new watch (event_of old.tape) text
+TellsStopped (stop.Changes watch) old new performed text = TellsNewest old new watch 0 text
 TellsStopped _ old new performed text = ShowsPerformed old performed text × (new ≡ old)
 
 -- what is said of how a run ended

@@ -1,8 +1,9 @@
 -- Which event changed it.
-use Rattle.std.specs.Prelude.{◌≡◌, ◌⊎◌, ℕ, ◌-◌, min, nat_lt, Bool, true, false, if◌then◌else◌}
-use Rattle.std.specs.Prelude.{List, [], ◌∷◌, ◌++◌, codes, length, Option, Some, None}
+use Rattle.std.specs.Prelude.{◌≡◌, ◌⊎◌, ℕ, ◌+◌, ◌-◌, max, nat_lt, Bool, false, if◌then◌else◌}
+use Rattle.std.specs.Prelude.{List, [], ◌∷◌, ◌++◌, codes, decimal, length, Option, Some, None}
 use Rattle.std.specs.List.{flat_map}
-use Rattle.em_tape.specs.Tape.{Tape, event_of}
+use Rattle.em_named.specs.Numbers.{end_of, line_of}
+use Rattle.em_tape.specs.Tape.{Tape, behind, event_at}
 use Rattle.em_watch.specs.declared.watch.Watch.{Watch}
 use Rattle.em_prompt.specs.declared.watch.Watch.{Watch as TypedWatch}
 use Rattle.em_prompt.specs.declared.typed.Which.{Which}
@@ -14,18 +15,34 @@ use Rattle.em_debugger.specs.declared.search.Found.{Found}
 use Rattle.em_debugger.specs.declared.search.Sought.{Sought}
 use Rattle.em_debugger.specs.declared.search.Sought.TheVariants as sought
 use Rattle.em_debugger.specs.declared.who.Asked.{Asked}
-use Rattle.em_debugger.specs.Deeper.{lines_here}
-use Rattle.em_debugger.specs.Place.{line_of, text_of}
+use Rattle.em_debugger.specs.declared.deeper.Unseen.{Unseen}
+use Rattle.em_debugger.specs.declared.deeper.Unseen.TheVariants.{Memory, TooLong}
+use Rattle.em_debugger.specs.Deeper.{too_long_text}
+use Rattle.em_debugger.specs.Place.{text_of}
 use Rattle.em_debugger.specs.Search.{Seeks}
 
 -- ---- texts
 
+-- which of so many, if they are more than one
+abbrev pub which_text : ℕ → ℕ → List ℕ
+which_text which count =
+    if nat_lt 1 count then
+    codes " (" ++ (decimal which ++ (codes " of " ++ (decimal count ++ codes "): ")))
+    else codes ": "
+
+-- which of its line's events one is
+abbrev pub access_text : Tape → ℕ → ℕ → List ℕ
+access_text tape event line =
+    let before = end_of (line - 1) tape.did in which_text (event - before) (end_of line tape.did - before)
+
 -- an event: its line, its number, and the line's text
-abbrev pub event_text : Tape → ℕ → List ℕ
-event_text tape event =
-    let line = line_of event tape.ends in
+abbrev pub event_of_text : Tape → ℕ → ℕ → List ℕ
+event_of_text tape event line =
     number_text (codes "line ") line (codes ", ")
-    ++ (number_text (codes "event ") event (codes ": ") ++ short_text (text_of line tape))
+    ++ (number_text (codes "event ") event [] ++ (access_text tape event line ++ short_text (text_of line tape)))
+
+abbrev pub event_text : Tape → ℕ → List ℕ
+event_text tape event = event_of_text tape event (line_of event tape.did)
 
 -- a change: the event, and what it did
 abbrev pub found_text : Tape → Watch → Found → List ℕ
@@ -40,15 +57,20 @@ abbrev pub never_text : Watch → Bool → List ℕ
 never_text watch is_before =
     if is_before then unchanged_and watch (codes " before that\n") else unchanged_and watch (codes "\n")
 
-abbrev pub unreached_text : Watch → ℕ → List ℕ
-unreached_text watch event =
+abbrev pub no_memory_text : Watch → ℕ → List ℕ
+no_memory_text watch event =
     codes "no memory to see what changed " ++ (watch_text watch ++ number_text (codes " up to event ") event (codes "\n"))
 
--- what a search among the first n events gave
+-- up to an event no change was found, and then one was not seen
+abbrev pub unreached_text : Watch → ℕ → Unseen → List ℕ
+unreached_text watch event (Memory refused) = no_memory_text watch event
+unreached_text watch event (TooLong line) = too_long_text (codes "line ") line
+
+-- what a search from so many steps back on gave
 abbrev pub sought_text : Tape → Watch → ℕ → Sought → List ℕ
-sought_text tape watch n (sought.Found found) = found_text tape watch found
-sought_text tape watch n sought.Never = never_text watch (nat_lt n (event_of tape))
-sought_text tape watch n sought.Unreached = unreached_text watch n
+sought_text tape watch back (sought.Found found) = found_text tape watch found
+sought_text tape watch back sought.Never = never_text watch (nat_lt 0 back)
+sought_text tape watch back (sought.Unreached why) = unreached_text watch (event_at back tape) why
 
 -- so many events changed it
 abbrev pub changes_text : Watch → ℕ → List ℕ
@@ -60,54 +82,59 @@ length_text = codes "who: LEN is 1 to 16\n"
 
 -- ---- what is answered
 
--- a search over all that the session performed
+-- a search among the events that stand at the place, from so many steps back on
 abbrev pub SeeksHere : Debugger → Watch → ℕ → Sought → Type 0
-SeeksHere d watch n s = Seeks d.settings (lines_here d.tape) watch d.tape n s
+SeeksHere d watch back s = Seeks d.settings d.tape watch d.tape back s
 
 -- what was asked for last, once a search has given this
 abbrev pub asked_after : Option Asked → Watch → Sought → Option Asked
 asked_after asked watch (sought.Found found) = Some (record { watch = watch; event = found.event })
 asked_after asked watch _ = asked
 
--- the newest change among the first n events was told, and is what was asked for last
-pub record TellsNewest (old new : Debugger) (watch : Watch) (n : ℕ) (text : List ℕ) : Type 0 where
+-- the newest change from so many steps back on was told, and is what was asked for last
+pub record TellsNewest (old new : Debugger) (watch : Watch) (back : ℕ) (text : List ℕ) : Type 0 where
   pub given : Sought
-  pub sought : SeeksHere old watch n given
-  pub said : text ≡ sought_text old.tape watch n given
+  pub sought : SeeksHere old watch back given
+  pub said : text ≡ sought_text old.tape watch back given
   pub asked : new.asked ≡ asked_after old.asked watch given
   pub tape : new.tape ≡ old.tape
 
--- how many events stand before the one that was told last; up to the place, where none was
+-- how many steps back lead before an event
+abbrev pub before : ℕ → Tape → ℕ
+before event tape = behind (event - 1) tape
+
+-- before the one that was told last; to the place, where none was
 abbrev pub before_told : Tape → Option Asked → ℕ
-before_told tape None = event_of tape
-before_told tape (Some asked) = min (asked.event - 1) (event_of tape)
+before_told tape None = 0
+before_told tape (Some asked) = before asked.event tape
 
 -- ---- all changes
 
 -- how a list of changes ends: none is older, or the search went no further
-abbrev pub end_text : Watch → ℕ → ℕ → Bool → List ℕ
-end_text watch count n false = unreached_text watch n
-end_text watch count n true = changes_text watch count
+abbrev pub end_text : Tape → Watch → ℕ → ℕ → Option Unseen → List ℕ
+end_text tape watch count last None = changes_text watch count
+end_text tape watch count last (Some why) = unreached_text watch (event_at last tape) why
 
--- each is the newest change among the events before the one that was told before it
+-- each is the newest change before the event that was told before it; the next is sought from `last` steps back on
 abbrev pub AreNext : Debugger → Watch → ℕ → List Found → ℕ → Type 0
-AreNext d watch n [] last = last ≡ n
-AreNext d watch n (found ∷ more) last =
-    SeeksHere d watch n (sought.Found found) × AreNext d watch (min (found.event - 1) (n - 1)) more last
+AreNext d watch back [] last = last ≡ back
+AreNext d watch back (found ∷ more) last =
+    SeeksHere d watch back (sought.Found found)
+    × AreNext d watch (max (before found.event d.tape) (back + 1)) more last
 
--- none is left, or the search went no further
-abbrev pub EndsSo : Debugger → Watch → ℕ → Bool → Type 0
-EndsSo d watch last true = (last ≡ 0) ⊎ SeeksHere d watch last sought.Never
-EndsSo d watch last false = SeeksHere d watch last sought.Unreached
+-- no event or no change is left, or the search went no further
+abbrev pub EndsSo : Debugger → Watch → ℕ → Option Unseen → Type 0
+EndsSo d watch last None = (event_at last d.tape ≡ 0) ⊎ SeeksHere d watch last sought.Never
+EndsSo d watch last (Some why) = SeeksHere d watch last (sought.Unreached why)
 
 -- all changes, the newest first
 pub record TellsAll (d : Debugger) (watch : Watch) (text : List ℕ) : Type 0 where
   pub found : List Found
   pub last : ℕ
-  pub next : AreNext d watch (event_of d.tape) found last
-  pub ended : Bool
+  pub next : AreNext d watch 0 found last
+  pub ended : Option Unseen
   pub end : EndsSo d watch last ended
-  pub said : text ≡ flat_map (found_text d.tape watch) found ++ end_text watch (length found) last ended
+  pub said : text ≡ flat_map (found_text d.tape watch) found ++ end_text d.tape watch (length found) last ended
 
 -- ---- by what was typed
 
@@ -119,7 +146,7 @@ TellsAgain old new (Some asked) text =
 
 -- by what was typed: the newest change, the newest before the event that was told last, or all
 abbrev pub AnswersWatch : Which → Debugger → Debugger → Watch → List ℕ → Type 0
-AnswersWatch Newest old new watch text = TellsNewest old new watch (event_of old.tape) text
+AnswersWatch Newest old new watch text = TellsNewest old new watch 0 text
 AnswersWatch Again old new watch text = TellsNewest old new watch (before_told old.tape old.asked) text
 AnswersWatch All old new watch text = TellsAll old watch text × (new ≡ old)
 

@@ -1,5 +1,5 @@
 -- Why an event did nothing, and which events set what decided that.
-use Rattle.std.specs.Prelude.{◌≡◌, ℕ, zero, suc, Bool, ◌||◌, if◌then◌else◌, List, [], ◌∷◌, ◌++◌, codes, take, length}
+use Rattle.std.specs.Prelude.{◌≡◌, ℕ, zero, suc, Bool, ◌||◌, if◌then◌else◌, List, [], ◌∷◌, ◌++◌, codes, take}
 use Rattle.std.specs.Prelude.{Option, Some, None}
 use Rattle.std.specs.Str.{bytes_eq}
 use Rattle.em_explain.specs.Explain.{Explains}
@@ -7,15 +7,15 @@ use Rattle.em_explain.specs.Looked.{LookedAt}
 use Rattle.em_explain.specs.LookText.{look_text}
 use Rattle.em_explain.specs.Watched.{IsWatchOf}
 use Rattle.em_reasons.specs.declared.look.Look.{Look}
-use Rattle.em_tape.specs.Ends.{end_of}
-use Rattle.em_tape.specs.Tape.{Tape, event_of}
+use Rattle.em_tape.specs.Tape.{Tape}
 use Rattle.em_watch.specs.declared.watch.Watch.{Watch}
 use Rattle.em_debugger.specs.declared.debugger.Debugger.{Debugger}
 use Rattle.em_debugger.specs.declared.search.Sought.{Sought}
 use Rattle.em_debugger.specs.declared.search.Sought.TheVariants as sought
 use Rattle.em_debugger.specs.Debugger.{told}
-use Rattle.em_debugger.specs.Deeper.{IsAgain, lines_here}
-use Rattle.em_debugger.specs.Moves.{IsBehind}
+use Rattle.em_debugger.specs.declared.deeper.Unseen.{Unseen}
+use Rattle.em_debugger.specs.declared.deeper.Unseen.TheVariants.{Memory, TooLong}
+use Rattle.em_debugger.specs.Deeper.{IsAgainTo, StandsBehind, too_long_text}
 use Rattle.em_debugger.specs.Performing.{heading_text}
 use Rattle.em_debugger.specs.Place.{line_here, text_of}
 use Rattle.em_debugger.specs.Search.{Seeks}
@@ -41,11 +41,16 @@ newest_undone d (suc k) = if is_undone (told (suc k) d) then suc k else newest_u
 abbrev pub found_setter : Tape → ℕ → List ℕ
 found_setter tape event = codes "    " ++ (event_text tape event ++ codes "\n")
 
+-- why an event was not seen, up to which none had set it
+abbrev pub unseen_setter : Unseen → List ℕ
+unseen_setter (Memory refused) = codes "    no memory to see what changed it\n"
+unseen_setter (TooLong line) = too_long_text (codes "    line ") line
+
 -- the event that set it
 abbrev pub setter_text : Tape → Sought → List ℕ
 setter_text tape (sought.Found found) = found_setter tape found.event
 setter_text tape sought.Never = codes "    no event changed it\n"
-setter_text tape sought.Unreached = codes "    no memory to see what changed it\n"
+setter_text tape (sought.Unreached why) = unseen_setter why
 
 -- what was looked at, and its value
 abbrev pub look_line : Tape → Look → List ℕ
@@ -60,7 +65,7 @@ front_text d line = heading_text d line ++ codes "  "
 -- the newest change up to the place of a tape
 pub record TellsSetter (d : Debugger) (tape : Tape) (watch : Watch) (text : List ℕ) : Type 0 where
   pub given : Sought
-  pub sought : Seeks d.settings (lines_here tape) watch tape (event_of tape) given
+  pub sought : Seeks d.settings tape watch tape 0 given
   pub told : text ≡ setter_text tape given
 
 abbrev pub TellsWatch : Debugger → Tape → Option Watch → List ℕ → Type 0
@@ -97,13 +102,11 @@ pub record TellsWhyAt (d : Debugger) (tape : Tape) (line : ℕ) (text : List ℕ
   pub tells : TellsLooks d tape looks rest
   pub said : text ≡ reason ++ rest
 
--- over the session's own tape, where it stands behind the line; or over a second one of the first lines, which does;
--- or there was no memory for that
+-- over the session's own tape, where it stands behind the line; or over a second one, which stands behind the line, and on
+-- which the lines up to it did the same; or there was no memory for that
 pub data TellsWhyOf (d : Debugger) (line : ℕ) (text : List ℕ) : Type 0 where
-  here : line ≡ line_here d.tape → event_of d.tape ≡ end_of line d.tape.ends → TellsWhyAt d d.tape line text
-      → TellsWhyOf d line text
-  again : (deep : Tape) → IsAgain d.settings (take line d.tape.lines) deep → IsBehind line deep
-      → TellsWhyAt d deep line text → TellsWhyOf d line text
+  here : StandsBehind line d.tape → TellsWhyAt d d.tape line text → TellsWhyOf d line text
+  again : (deep : Tape) → IsAgainTo d.settings d.tape line deep → TellsWhyAt d deep line text → TellsWhyOf d line text
   unreached : text ≡ heading_text d line ++ codes "  no memory to play it again\n" → TellsWhyOf d line text
 
 -- by the newest such line up to the place

@@ -1,7 +1,7 @@
 //! Comparing the answers of a script with those that its lines expect.
 ghost use Rattle.std.specs.Prelude.{◌≡◌, ◌≤◌, ℕ, List, IfOk, OnOk, length};
 ghost use Rattle.std.specs.Io.KnownBytes.{Appends};
-ghost use Rattle.em_debugger.specs.Compare.{Compares, TellsDiffers, TellsRegister, events_before, register_in};
+ghost use Rattle.em_debugger.specs.Compare.{Compares, TellsDiffers, TellsRegister, before_line, register_in};
 
 use crate::debugger::Debugger;
 use crate::departures::write_departure;
@@ -68,27 +68,27 @@ impl Debugger {
             × TellsDiffers self.old self.new performed reg text) }
     {
         self.write_performed(writer, performed)?;
-        let before = self.events_before(performed);
+        let before = self.before_line(performed);
         match reg {
             Some(reg) => self.tell_register(writer, reg, before),
             None => Ok(()),
         }
     }
 
-    /// How many events stood before a line.
-    fn events_before(&self, performed: Performed) -> u64
-        ensures { result ≡ events_before performed self.now }
+    /// How many steps back lead before a line.
+    fn before_line(&self, performed: Performed) -> usize
+        ensures { result ≡ before_line performed self.now }
     {
         let lines = performed.line.saturating_sub(1).min(self.tape.performed());
-        self.tape.end_of(lines)
+        self.tape.behind(self.tape.end_of(lines))
     }
 
-    /// Tells what is known of a register's differences, and who changed it last among so many events.
+    /// Tells what is known of a register's differences, and who changed it last, from so many steps back on.
     fn tell_register<W: Write>(
         &mut self,
         writer: &mut W,
         reg: Reg,
-        before: u64,
+        before: usize,
     ) -> Result<(), WriteFailed>
         ensures ok { OnOk result ((text : List ℕ) × Appends (W.contents writer.old) (W.contents writer.new) text
             × TellsRegister self.old self.new reg before text) }

@@ -1,13 +1,11 @@
 //! What an event changed.
-ghost use Rattle.std.specs.Prelude.{◌≡◌, ◌+◌, ◌-◌, ◌<◌, List, ℕ, OnOk};
+ghost use Rattle.std.specs.Prelude.{◌≡◌, List, ℕ, OnOk, true};
 ghost use Rattle.std.specs.Io.KnownBytes.{Appends};
-ghost use Rattle.em_tape.specs.Tape.{event_of};
 ghost use Rattle.em_text.specs.Writer.{Writes};
-ghost use Rattle.em_looks.specs.Effects.{TellsEffect, WritesSuch};
-ghost use Rattle.em_debugger.specs.Effect.{asked_event, none_text, stands, AnswersEffect, TellsChanged, TellsEvent};
+ghost use Rattle.em_debugger.specs.Effect.{asked_event, none_text, stands, unseen_text, AnswersEffect, TellsChanged, TellsEvent};
 
 use crate::debugger::Debugger;
-use crate::deeper::{deeper, oldest};
+use crate::deeper::{Unseen, deeper, write_too_long};
 use crate::who::write_event;
 use em_looks::{write_effect, write_number};
 use em_tape::Tape;
@@ -34,6 +32,7 @@ impl Debugger {
 
     /// Writes an event, and what it changed.
     fn write_standing<W: Write>(&self, writer: &mut W, event: u64) -> Result<(), WriteFailed>
+        requires { stands event self.now.tape ≡ true }
         ensures ok { OnOk result ((text : List ℕ) × Appends (W.contents writer.old) (W.contents writer.new) text
             × TellsEvent self.now event text) }
     {
@@ -44,15 +43,17 @@ impl Debugger {
 
     /// Writes what an event changed.
     fn write_changed<W: Write>(&self, writer: &mut W, event: u64) -> Result<(), WriteFailed>
+        requires { stands event self.now.tape ≡ true }
         ensures ok { OnOk result ((text : List ℕ) × Appends (W.contents writer.old) (W.contents writer.new) text
             × TellsChanged self.now event text) }
     {
-        if event > oldest(&self.tape) {
-            return write_held(writer, &self.tape, event);
+        let behind = self.tape.behind(event);
+        if behind < self.tape.machine().can_go_back() {
+            return write_effect(writer, self.tape.machine(), behind + 1);
         }
         match deeper(self.alloc, self.settings, &self.tape, event) {
-            Some(deep) => write_effect(writer, deep.machine(), 1),
-            None => write_whole(writer, b"  no memory to play it again\n"),
+            Ok(deep) => write_effect(writer, deep.machine(), 1),
+            Err(why) => write_unseen(writer, why),
         }
     }
 }
@@ -71,22 +72,31 @@ fn asked_event(typed: Option<u32>, tape: &Tape) -> u64
 fn stands(event: u64, tape: &Tape) -> bool
     ensures { result ≡ stands event tape.now }
 {
-    0 < event && event <= tape.event()
+    0 < event && tape.event_back(tape.behind(event)) == event
 }
 
-/// Writes what an event changed that the journal holds.
-fn write_held<W: Write>(writer: &mut W, tape: &Tape, event: u64) -> Result<(), WriteFailed>
-    requires { 0 < event }
-    ensures ok { OnOk result (WritesSuch (TellsEffect tape.now.session.machine ((event_of tape.now - event) + 1))
-        (W.contents writer.old) (W.contents writer.new)) }
-{
-    let behind = tape.event().saturating_sub(event) as usize;
-    write_effect(writer, tape.machine(), behind + 1)
-}
-
-/// Writes that there is no such event.
+/// Writes that no such event stands.
 fn write_none<W: Write>(writer: &mut W, tape: &Tape) -> Result<(), WriteFailed>
     ensures writes { Writes (W.contents writer.old) (W.contents writer.new) result (none_text tape.now) }
 {
-    write_number(writer, b"no such event: ", tape.event(), b" stand here\n")
+    let newest = tape.event();
+    if newest == 0 {
+        return write_whole(writer, b"no event stands here\n");
+    }
+    write_number(
+        writer,
+        b"no such event stands here: the newest is ",
+        newest,
+        b"\n",
+    )
+}
+
+/// Writes why an event was not seen.
+fn write_unseen<W: Write>(writer: &mut W, why: Unseen) -> Result<(), WriteFailed>
+    ensures writes { Writes (W.contents writer.old) (W.contents writer.new) result (unseen_text why) }
+{
+    match why {
+        Unseen::Memory(_) => write_whole(writer, b"  no memory to play it again\n"),
+        Unseen::TooLong(line) => write_too_long(writer, b"  line ", line),
+    }
 }

@@ -66,7 +66,7 @@ impl Debugger {
     fn engine_behind(&self, performed: Performed, before: u64) -> Option<Side>
         ensures engine { result ≡ engine_behind before performed self.now }
         ensures left { IfSome result (λ side. 0 < self.now.engines) }
-        ensures newest { IfSome result (λ side. length self.now.tape.ends ≤ self.now.tape.whole) }
+        ensures newest { IfSome result (λ side. length self.now.tape.did ≤ self.now.tape.whole) }
     {
         if self.engines == 0 || self.tape.was_performed_ahead() {
             return None;
@@ -85,7 +85,7 @@ impl Debugger {
     /// Puts a step of an engine behind the lines that stand whole.
     fn put_step(&mut self, side: Side) -> Result<(), BenchFault>
         requires left { 0 < self.old.engines }
-        requires newest { length self.old.tape.ends ≤ self.old.tape.whole }
+        requires newest { length self.old.tape.did ≤ self.old.tape.whole }
         ensures ok { OnOk result (PutsStep side self.old self.new) }
         ensures err { OnErr result (self.new.tape.lines ≡ self.old.tape.lines) }
         ensures settings { self.new.settings ≡ self.old.settings }

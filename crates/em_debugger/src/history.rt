@@ -2,13 +2,14 @@
 ghost use Rattle.std.specs.Prelude.{◌≡◌, ◌≤◌, length, take, if◌then◌else◌, []};
 ghost use Rattle.em_text.specs.Writer.{Writes};
 ghost use Rattle.em_debugger.specs.History.{added_text, answer_text, around_text, did_something, events_of_text};
-ghost use Rattle.em_debugger.specs.History.{events_text, history_text, last_of};
+ghost use Rattle.em_debugger.specs.History.{events_text, history_text, is_something, last_of};
 ghost use Rattle.em_debugger.specs.History.{line_text, lines_between, lines_text, most_of, newest_line};
 ghost use Rattle.em_debugger.specs.History.{mark_text, number_of_line_text, start_text};
 
 use crate::debugger::Debugger;
 use crate::place::{line_here, text_of};
 use em_looks::write_short;
+use em_named::Did;
 use em_text::{WriteFailed, write_pieces, write_whole};
 use itoa::Buffer;
 use std::io::Write;
@@ -17,7 +18,7 @@ use std::io::Write;
 const SHOWN: usize = 16;
 
 impl Debugger {
-    /// Shows lines after which more or fewer events stand than before: the newest up to the place, the last of them
+    /// Shows lines that performed events or took some back: the newest up to the place, the last of them
     /// marked, and those that were performed and lie ahead.
     pub(crate) fn history<W: Write>(
         &self,
@@ -37,7 +38,7 @@ impl Debugger {
         most: usize,
         here: usize,
     ) -> Result<(), WriteFailed>
-        requires { here ≤ length self.now.tape.ends }
+        requires { here ≤ length self.now.tape.did }
         ensures writes { Writes (W.contents writer.old) (W.contents writer.new) result
             (around_text self.now most here) }
     {
@@ -52,9 +53,9 @@ impl Debugger {
         most: usize,
         here: usize,
     ) -> Result<(), WriteFailed>
-        requires { here ≤ length self.now.tape.ends }
+        requires { here ≤ length self.now.tape.did }
         ensures writes { Writes (W.contents writer.old) (W.contents writer.new) result
-            (lines_text self.now here (last_of most (lines_between self.now.tape.ends 0 here))) }
+            (lines_text self.now here (last_of most (lines_between self.now.tape.did 0 here))) }
     {
         let before = self.before_shown(most, here);
         self.write_lines_between(writer, before, here, here)
@@ -66,26 +67,28 @@ impl Debugger {
         most: usize,
         here: usize,
     ) -> Result<(), WriteFailed>
-        requires { here ≤ length self.now.tape.ends }
+        requires { here ≤ length self.now.tape.did }
         ensures writes { Writes (W.contents writer.old) (W.contents writer.new) result (lines_text self.now here
-            (take most (lines_between self.now.tape.ends here (length self.now.tape.ends)))) }
+            (take most (lines_between self.now.tape.did here (length self.now.tape.did)))) }
     {
         let last = self.last_shown(most, here);
         self.write_lines_between(writer, here, last, here)
     }
 
-    /// Whether more or fewer events stand after a line than before it.
+    /// Whether a line performed events, or took some back.
     fn did_something(&self, line: usize) -> bool
-        requires { line ≤ length self.now.tape.ends }
-        ensures { result ≡ did_something self.now.tape.ends line }
+        ensures { result ≡ did_something self.now.tape.did line }
     {
-        self.tape.end_of(line) != self.tape.end_of(line.saturating_sub(1))
+        match self.tape.performed_by(line) {
+            Some(did) => is_something(did),
+            None => false,
+        }
     }
 
     /// The last of the first lines that did something; 0 where none did.
     fn newest_line(&self, last: usize) -> usize
-        requires { last ≤ length self.now.tape.ends }
-        ensures newest { result ≡ newest_line self.now.tape.ends last }
+        requires { last ≤ length self.now.tape.did }
+        ensures newest { result ≡ newest_line self.now.tape.did last }
         ensures within { result ≤ last }
     {
         let mut line = last;
@@ -100,9 +103,9 @@ impl Debugger {
 
     /// Behind which line the newest lines begin that did something, so many up to this one, or all.
     fn before_shown(&self, most: usize, here: usize) -> usize
-        requires { here ≤ length self.now.tape.ends }
-        ensures lines { lines_between self.now.tape.ends result here
-            ≡ last_of most (lines_between self.now.tape.ends 0 here) }
+        requires { here ≤ length self.now.tape.did }
+        ensures lines { lines_between self.now.tape.did result here
+            ≡ last_of most (lines_between self.now.tape.did 0 here) }
         ensures within { result ≤ here }
     {
         let mut before = here;
@@ -121,11 +124,11 @@ impl Debugger {
 
     /// The last of so many lines that did something behind this one, or of all that were performed.
     fn last_shown(&self, most: usize, here: usize) -> usize
-        requires { here ≤ length self.now.tape.ends }
-        ensures lines { lines_between self.now.tape.ends here result
-            ≡ take most (lines_between self.now.tape.ends here (length self.now.tape.ends)) }
+        requires { here ≤ length self.now.tape.did }
+        ensures lines { lines_between self.now.tape.did here result
+            ≡ take most (lines_between self.now.tape.did here (length self.now.tape.did)) }
         ensures behind { here ≤ result }
-        ensures known { result ≤ length self.now.tape.ends }
+        ensures known { result ≤ length self.now.tape.did }
     {
         let performed = self.tape.performed();
         let mut last = here;
@@ -151,9 +154,9 @@ impl Debugger {
         here: usize,
     ) -> Result<(), WriteFailed>
         requires order { before ≤ last }
-        requires known { last ≤ length self.now.tape.ends }
+        requires known { last ≤ length self.now.tape.did }
         ensures writes { Writes (W.contents writer.old) (W.contents writer.new) result
-            (lines_text self.now here (lines_between self.now.tape.ends before last)) }
+            (lines_text self.now here (lines_between self.now.tape.did before last)) }
     {
         for passed in before..last {
             self.write_if_did(writer, passed + 1, here)?;
@@ -168,9 +171,9 @@ impl Debugger {
         line: usize,
         here: usize,
     ) -> Result<(), WriteFailed>
-        requires { line ≤ length self.now.tape.ends }
+        requires { line ≤ length self.now.tape.did }
         ensures writes { Writes (W.contents writer.old) (W.contents writer.new) result
-            (if did_something self.now.tape.ends line then line_text self.now here line else []) }
+            (if did_something self.now.tape.did line then line_text self.now here line else []) }
     {
         if self.did_something(line) {
             self.write_line(writer, line, here)
@@ -186,7 +189,7 @@ impl Debugger {
         line: usize,
         here: usize,
     ) -> Result<(), WriteFailed>
-        requires { line ≤ length self.now.tape.ends }
+        requires { line ≤ length self.now.tape.did }
         ensures writes { Writes (W.contents writer.old) (W.contents writer.new) result (line_text self.now here line) }
     {
         write_number_of_line(writer, line, here)?;
@@ -194,11 +197,11 @@ impl Debugger {
         self.write_answer(writer, line)
     }
 
-    /// Writes the events of a line, if it added some.
+    /// Writes the events of a line, if it performed some.
     fn write_events_of<W: Write>(&self, writer: &mut W, line: usize) -> Result<(), WriteFailed>
-        requires { line ≤ length self.now.tape.ends }
+        requires { line ≤ length self.now.tape.did }
         ensures writes { Writes (W.contents writer.old) (W.contents writer.new) result
-            (events_of_text self.now.tape.ends line) }
+            (events_of_text self.now.tape.did line) }
     {
         let before = self.tape.end_of(line.saturating_sub(1));
         let after = self.tape.end_of(line);
@@ -213,6 +216,16 @@ impl Debugger {
         write_whole(writer, b": ")?;
         write_short(writer, text_of(&self.tape, line))?;
         write_pieces(writer, &[b": ", self.told.of(line), b"\n"])
+    }
+}
+
+/// Whether events were performed or taken back.
+fn is_something(did: Did) -> bool
+    ensures { result ≡ is_something did }
+{
+    match did {
+        Did::Performed(events) => events > 0,
+        Did::TookBack(events) => events > 0,
     }
 }
 
@@ -258,7 +271,7 @@ fn mark(line: usize, here: usize) -> &'static [u8]
     if line == here { b"> " } else { b"  " }
 }
 
-/// Writes the events of a line before which so many stood, and after which so many do, if it added some.
+/// Writes the events of a line before which so many were performed, and after which so many were, if it performed some.
 fn write_events<W: Write>(writer: &mut W, before: u64, after: u64) -> Result<(), WriteFailed>
     ensures writes { Writes (W.contents writer.old) (W.contents writer.new) result (events_text before after) }
 {
@@ -269,7 +282,7 @@ fn write_events<W: Write>(writer: &mut W, before: u64, after: u64) -> Result<(),
     }
 }
 
-/// Writes the events that a line added, up to the last.
+/// Writes the events that a line performed, up to the last.
 fn write_added<W: Write>(writer: &mut W, first: u64, last: u64) -> Result<(), WriteFailed>
     ensures writes { Writes (W.contents writer.old) (W.contents writer.new) result (added_text first last) }
 {

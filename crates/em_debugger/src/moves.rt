@@ -5,11 +5,11 @@ ghost use Rattle.em_text.specs.Writer.{Writes};
 ghost use Rattle.em_debugger.specs.Debugger.{KeepsRest};
 ghost use Rattle.em_debugger.specs.Place.{line_here};
 ghost use Rattle.em_debugger.specs.Moves.{after_back, back_text, behind_text, budget_text, down_to_text, forward_by};
-ghost use Rattle.em_debugger.specs.Moves.{gone_text, line_text, near_text, one_back_text, place_text, taken_text};
+ghost use Rattle.em_debugger.specs.Moves.{gone_text, line_text, line_told, near_text, one_back_text, place_text, taken_text};
 ghost use Rattle.em_debugger.specs.Moves.{Goes, IsBehind};
 
 use crate::debugger::Debugger;
-use crate::place::{line_here, line_of, text_of};
+use crate::place::{line_here, text_of};
 use em_looks::{write_number, write_short};
 use em_tape::Tape;
 use em_text::{WriteFailed, write_pieces, write_whole};
@@ -27,41 +27,44 @@ impl Debugger {
         if newest == 0 {
             return write_whole(writer, b"no event stands here\n");
         }
-        let line = line_here(&self.tape);
-        let taken = self.tape.back(most as usize) as u64;
-        self.write_taken(writer, newest, line, taken)?;
-        write_budget(writer, taken, u64::from(most).min(newest))
+        let most = most as usize;
+        let least = most.min(self.tape.machine().can_go_back());
+        let last = self.tape.event_back(least.saturating_sub(1));
+        let taken = self.tape.back(most);
+        self.write_taken(writer, taken, last)?;
+        write_budget(writer, taken < most, self.tape.event())
     }
 
-    /// Writes which events were taken back, from the newest one on, where the place was at this line.
+    /// Writes which events were taken back, the last of them this one.
     fn write_taken<W: Write>(
         &self,
         writer: &mut W,
-        newest: u64,
-        line: usize,
-        taken: u64,
+        taken: usize,
+        last: u64,
     ) -> Result<(), WriteFailed>
         ensures writes { Writes (W.contents writer.old) (W.contents writer.new) result
-            (taken_text self.now newest line taken) }
+            (taken_text self.now taken last) }
     {
         match taken {
             0 => Ok(()),
-            1 => self.write_one_back(writer, newest, line),
-            _ => write_down_to(writer, &self.tape, taken, newest.saturating_sub(taken - 1)),
+            1 => self.write_one_back(writer, last),
+            _ => write_down_to(writer, &self.tape, taken, last),
         }
     }
 
     /// Writes which event was taken back: `took back event 22 (line 18, rx: wrote 1)`.
-    fn write_one_back<W: Write>(
-        &self,
-        writer: &mut W,
-        event: u64,
-        line: usize,
-    ) -> Result<(), WriteFailed>
+    fn write_one_back<W: Write>(&self, writer: &mut W, event: u64) -> Result<(), WriteFailed>
         ensures writes { Writes (W.contents writer.old) (W.contents writer.new) result
-            (one_back_text self.now event line) }
+            (one_back_text self.now event) }
     {
         write_number(writer, b"took back event ", event, b" ")?;
+        self.write_line_told(writer, self.tape.line_of(event))
+    }
+
+    /// Writes a line in parentheses, and what was told of it.
+    fn write_line_told<W: Write>(&self, writer: &mut W, line: usize) -> Result<(), WriteFailed>
+        ensures writes { Writes (W.contents writer.old) (W.contents writer.new) result (line_told self.now line) }
+    {
         write_number(writer, b"(line ", line as u64, b", ")?;
         write_short(writer, text_of(&self.tape, line))?;
         write_pieces(writer, &[b": ", self.told.of(line), b")\n"])
@@ -118,14 +121,14 @@ impl Debugger {
 fn write_down_to<W: Write>(
     writer: &mut W,
     tape: &Tape,
-    taken: u64,
+    taken: usize,
     last: u64,
 ) -> Result<(), WriteFailed>
     ensures writes { Writes (W.contents writer.old) (W.contents writer.new) result (down_to_text tape.now taken last) }
 {
-    write_number(writer, b"took back ", taken, b" events, ")?;
+    write_number(writer, b"took back ", taken as u64, b" events, ")?;
     write_number(writer, b"down to event ", last, b" ")?;
-    write_line(writer, tape, line_of(tape, last))
+    write_line(writer, tape, tape.line_of(last))
 }
 
 /// Writes a line, in parentheses.
@@ -137,11 +140,11 @@ fn write_line<W: Write>(writer: &mut W, tape: &Tape, line: usize) -> Result<(), 
     write_whole(writer, b")\n")
 }
 
-/// Writes how one gets further back, where fewer events were taken back than could be.
-fn write_budget<W: Write>(writer: &mut W, taken: u64, wanted: u64) -> Result<(), WriteFailed>
-    ensures writes { Writes (W.contents writer.old) (W.contents writer.new) result (budget_text taken wanted) }
+/// Writes how one gets further back, where fewer events were taken back than were asked for, and one still stands.
+fn write_budget<W: Write>(writer: &mut W, fewer: bool, newest: u64) -> Result<(), WriteFailed>
+    ensures writes { Writes (W.contents writer.old) (W.contents writer.new) result (budget_text fewer newest) }
 {
-    if taken < wanted {
+    if fewer && newest > 0 {
         return write_whole(
             writer,
             b"the journal's budget dropped the older records: goto EVENT still gets there\n",

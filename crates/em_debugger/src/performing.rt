@@ -84,12 +84,11 @@ impl Debugger {
         is_look(line.command()) && self.is_among_lines()
     }
 
-    /// Whether lines lie ahead of the place, or events of the line at the place.
+    /// Whether lines lie ahead of the place, or events.
     fn is_among_lines(&self) -> bool
         ensures { result ≡ is_among_lines self.now.tape }
     {
-        let line = line_here(&self.tape);
-        line < self.tape.len() || self.tape.event() != self.tape.end_of(line)
+        self.tape.whole() < self.tape.len() || !self.tape.is_whole()
     }
 
     /// Puts a line behind the place, which expects an answer or none, and gives how many lines it dropped there.

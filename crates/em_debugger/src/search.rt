@@ -1,11 +1,11 @@
-//! The newest change of a watched thing, over all events of a tape.
-ghost use Rattle.std.specs.Prelude.{◌≡◌, ℕ, List, IfSome, IfNone, IsTrue};
-ghost use Rattle.em_journal.specs.declared.settings.Settings.{Settings};
-ghost use Rattle.em_tape.specs.Tape.{event_of};
-ghost use Rattle.em_debugger.specs.Deeper.{IsAgain, lines_here};
-ghost use Rattle.em_debugger.specs.Search.{IsFoundIn, HoldsNone, Seeks};
+//! The newest change of a watched thing, over all events that stand at the place of a tape.
+ghost use Rattle.std.specs.Prelude.{◌≡◌, ◌<◌, ℕ, IfSome, IfNone};
+ghost use Rattle.em_journal.specs.declared.settings.Settings.{Settings as Given};
+ghost use Rattle.em_tape.specs.declared.tape.Tape.{Tape as Lines};
+ghost use Rattle.em_debugger.specs.Deeper.{IsAgain, IsSeen};
+ghost use Rattle.em_debugger.specs.Search.{IsFoundIn, HoldsNone, Seeks, next_unseen};
 
-use crate::deeper::{deeper, goes_to, oldest};
+use crate::deeper::{Unseen, deeper, see};
 use em_journal::Settings;
 use em_tape::Tape;
 use em_watch::{Difference, Watch, change_before, seen_back};
@@ -24,77 +24,73 @@ pub(crate) enum Sought {
     Found(Found),
     /// No event changed it.
     Never,
-    /// No memory for a second machine, or one line has more events than its journal holds.
-    Unreached,
+    /// An event was not seen.
+    Unreached(Unseen),
 }
 
-/// The newest change of a watched thing among the first so many events.
+/// The newest change of a watched thing that is older than so many of the events that stand at the place.
 pub(crate) fn search(
     alloc: Global,
     settings: Settings,
     tape: &Tape,
     watch: Watch,
-    event: u64,
+    back: usize,
 ) -> Sought
-    ensures { Seeks settings (lines_here tape.now) watch tape.now event result }
+    ensures { Seeks settings tape.now watch tape.now back result }
 {
-    if let Some(found) = in_journal(tape, watch, event) {
+    if let Some(found) = in_journal(tape, watch, back) {
         return Sought::Found(found);
     }
-    let reached = oldest(tape).min(event);
-    if reached == 0 {
+    let next = next_unseen(tape, back);
+    if next == 0 {
         return Sought::Never;
     }
-    match deeper(alloc, settings, tape, reached) {
-        Some(mut deep) => in_deeper(&mut deep, watch, reached),
-        None => Sought::Unreached,
+    match deeper(alloc, settings, tape, next) {
+        Ok(mut deep) => in_deeper(&mut deep, watch),
+        Err(why) => Sought::Unreached(why),
     }
 }
 
-/// The same on a tape of its own, from its place on, which may go from window to window.
-fn in_deeper(deep: &mut Tape, watch: Watch, event: u64) -> Sought
-    ensures { (settings : Settings) (lines : List (List ℕ)) → IsAgain settings lines deep.old
-        → Seeks settings lines watch deep.old event result }
+/// The same on a second tape, from its place on, which goes from window to window.
+fn in_deeper(deep: &mut Tape, watch: Watch) -> Sought
+    requires { (event : ℕ) × IsSeen event deep.old }
+    ensures { (settings : Given) (tape : Lines) → IsAgain settings tape deep.old
+        → Seeks settings tape watch deep.old 0 result }
 {
-    let mut reached = event;
     loop {
-        if let Some(found) = in_journal(deep, watch, reached) {
+        if let Some(found) = in_journal(deep, watch, 0) {
             return Sought::Found(found);
         }
-        let next = oldest(deep).min(reached);
+        let next = next_unseen(deep, 0);
         if next == 0 {
             return Sought::Never;
         }
-        if next == reached || !goes_anew_to(deep, next) {
-            return Sought::Unreached;
+        if let Err(why) = see(deep, next) {
+            return Sought::Unreached(why);
         }
-        reached = next;
     }
 }
 
-/// Goes to an event from a new machine on, so that the journal reaches back from there.
-fn goes_anew_to(tape: &mut Tape, event: u64) -> bool
-    ensures event { IsTrue result → event_of tape.new ≡ event }
-    ensures first { tape.new.first ≡ tape.old.first }
-    ensures lines { tape.new.lines ≡ tape.old.lines }
+/// The number of the newest event that a journal does not hold, from so many steps back on; 0 where it holds all.
+fn next_unseen(tape: &Tape, back: usize) -> u64
+    ensures { result ≡ next_unseen tape.now back }
 {
-    tape.to_line(0).is_ok() && goes_to(tape, event)
+    tape.event_back(tape.machine().can_go_back().max(back))
 }
 
-/// The newest change among the first so many events, as far as the journal reaches.
-fn in_journal(tape: &Tape, watch: Watch, event: u64) -> Option<Found>
-    ensures some { IfSome result (IsFoundIn tape.now watch event) }
-    ensures none { IfNone result (HoldsNone tape.now watch event) }
+/// The newest change from so many steps back on, as far as the journal reaches.
+fn in_journal(tape: &Tape, watch: Watch, back: usize) -> Option<Found>
+    ensures some { IfSome result (IsFoundIn tape.now watch back) }
+    ensures none { IfNone result (HoldsNone tape.now watch back) }
 {
     let machine = tape.machine();
-    let behind = tape.event().saturating_sub(event) as usize;
-    if behind > machine.can_go_back() {
+    if back > machine.can_go_back() {
         return None;
     }
-    let change = change_before(machine, watch, behind)?;
+    let change = change_before(machine, watch, back)?;
     match seen_back(machine, watch, change.back - 1) {
         Some(after) => Some(Found {
-            event: tape.event().saturating_sub(change.back as u64 - 1),
+            event: tape.event_back(change.back - 1),
             difference: Difference {
                 before: change.before,
                 after,

@@ -132,7 +132,7 @@ impl Debugger {
         (most, Ran::End)
     }
 
-    /// Whether a run ends behind a line, before which so many events stood.
+    /// Whether a run ends behind a line, before which this event was the newest.
     fn stops_here(&self, stop: Stop, performed: Performed, before: u64) -> bool
         ensures { IsTrue result ↔ EndsSince stop before self.now performed }
     {
@@ -145,13 +145,12 @@ impl Debugger {
         }
     }
 
-    /// Whether something was changed since so many events stood.
+    /// Whether something was changed since this event was the newest.
     fn is_changed(&self, watch: Watch, before: u64) -> bool
         ensures { IsTrue result ↔ ChangedSince watch before self.now }
     {
-        let events = self.tape.event().saturating_sub(before);
         match last_change(self.tape.machine(), watch) {
-            Some(change) => change.back as u64 <= events,
+            Some(change) => change.back <= self.tape.behind(before),
             None => false,
         }
     }

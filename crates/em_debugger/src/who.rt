@@ -1,20 +1,21 @@
 //! Who changed it.
-ghost use Rattle.std.specs.Prelude.{◌≡◌, ℕ, List, OnOk};
-ghost use Rattle.em_tape.specs.Tape.{event_of};
+ghost use Rattle.std.specs.Prelude.{◌≡◌, ◌≤◌, ℕ, List, OnOk, length};
 ghost use Rattle.std.specs.Io.KnownBytes.{Appends};
 ghost use Rattle.em_text.specs.Writer.{Writes};
-ghost use Rattle.em_debugger.specs.Who.{AnswersWatch, AnswersWho, TellsNewest, TellsAll, TellsAgain, before_told};
-ghost use Rattle.em_debugger.specs.Who.{changes_text, event_text, found_text, never_text, sought_text};
-ghost use Rattle.em_debugger.specs.Who.{unchanged_and, unreached_text};
+ghost use Rattle.em_debugger.specs.Who.{AnswersWatch, AnswersWho, TellsNewest, TellsAll, TellsAgain, access_text, before};
+ghost use Rattle.em_debugger.specs.Who.{before_told, changes_text, event_of_text, event_text, found_text, never_text, no_memory_text};
+ghost use Rattle.em_debugger.specs.Who.{sought_text, unchanged_and, unreached_text, which_text};
 
 use crate::debugger::Debugger;
-use crate::place::{line_of, text_of};
+use crate::deeper::{Unseen, write_too_long};
+use crate::place::text_of;
 use crate::search::{Found, Sought, search};
 use em_looks::{watch_of, write_difference, write_number, write_short, write_watch};
 use em_prompt::Which;
 use em_tape::Tape;
-use em_text::{WriteFailed, write_whole};
+use em_text::{WriteFailed, write_pieces, write_whole};
 use em_watch::Watch;
+use itoa::Buffer;
 use std::io::Write;
 
 /// What was asked for last, and the event that was told.
@@ -64,10 +65,9 @@ impl Debugger {
         watch: Watch,
     ) -> Result<(), WriteFailed>
         ensures ok { OnOk result ((text : List ℕ) × Appends (W.contents writer.old) (W.contents writer.new) text
-            × TellsNewest self.old self.new watch (event_of self.old.tape) text) }
+            × TellsNewest self.old self.new watch 0 text) }
     {
-        let event = self.tape.event();
-        self.who_before(writer, watch, event)
+        self.who_before(writer, watch, 0)
     }
 
     /// Tells the newest change before the event that was told last; up to the place, where none was.
@@ -79,13 +79,13 @@ impl Debugger {
         self.who_before(writer, watch, before)
     }
 
-    /// How many events stand before the one that was told last; up to the place, where none was.
-    fn before_told(&self) -> u64
+    /// How many steps back lead before the event that was told last; none, where none was.
+    fn before_told(&self) -> usize
         ensures { result ≡ before_told self.now.tape self.now.asked }
     {
         match self.asked {
-            Some(asked) => asked.event.saturating_sub(1).min(self.tape.event()),
-            None => self.tape.event(),
+            Some(asked) => steps_before(&self.tape, asked.event),
+            None => 0,
         }
     }
 
@@ -100,24 +100,24 @@ impl Debugger {
         }
     }
 
-    /// Tells the newest change among the first so many events.
+    /// Tells the newest change from so many steps back on.
     pub(crate) fn who_before<W: Write>(
         &mut self,
         writer: &mut W,
         watch: Watch,
-        event: u64,
+        back: usize,
     ) -> Result<(), WriteFailed>
         ensures ok { OnOk result ((text : List ℕ) × Appends (W.contents writer.old) (W.contents writer.new) text
-            × TellsNewest self.old self.new watch event text) }
+            × TellsNewest self.old self.new watch back text) }
     {
-        let sought = search(self.alloc, self.settings, &self.tape, watch, event);
+        let sought = search(self.alloc, self.settings, &self.tape, watch, back);
         if let Sought::Found(found) = sought {
             self.asked = Some(Asked {
                 watch,
                 event: found.event,
             });
         }
-        write_sought(writer, &self.tape, watch, event, sought)
+        write_sought(writer, &self.tape, watch, back, sought)
     }
 
     /// Tells all changes, the newest first.
@@ -126,20 +126,29 @@ impl Debugger {
             × TellsAll self.now watch text) }
     {
         let mut event = self.tape.event();
+        let mut back = 0;
         let mut count = 0u64;
         while event > 0 {
-            match search(self.alloc, self.settings, &self.tape, watch, event) {
+            match search(self.alloc, self.settings, &self.tape, watch, back) {
                 Sought::Found(found) => {
                     write_found(writer, &self.tape, watch, found)?;
-                    event = found.event.saturating_sub(1).min(event - 1);
-                    count = count.saturating_add(1);
+                    back = steps_before(&self.tape, found.event).max(back + 1);
+                    event = self.tape.event_back(back);
+                    count += 1;
                 }
                 Sought::Never => return write_changes(writer, watch, count),
-                Sought::Unreached => return write_unreached(writer, watch, event),
+                Sought::Unreached(why) => return write_unreached(writer, watch, event, why),
             }
         }
         write_changes(writer, watch, count)
     }
+}
+
+/// How many steps back lead before an event.
+fn steps_before(tape: &Tape, event: u64) -> usize
+    ensures { result ≡ before event tape.now }
+{
+    tape.behind(event.saturating_sub(1))
 }
 
 /// Writes how many changes there were, where none is older.
@@ -153,25 +162,26 @@ fn write_changes<W: Write>(writer: &mut W, watch: Watch, count: u64) -> Result<(
     }
 }
 
-/// Writes what a search among the first so many events gave.
+/// Writes what a search from so many steps back on gave.
 fn write_sought<W: Write>(
     writer: &mut W,
     tape: &Tape,
     watch: Watch,
-    event: u64,
+    back: usize,
     sought: Sought,
 ) -> Result<(), WriteFailed>
     ensures writes { Writes (W.contents writer.old) (W.contents writer.new) result
-        (sought_text tape.now watch event sought) }
+        (sought_text tape.now watch back sought) }
 {
     match sought {
         Sought::Found(found) => write_found(writer, tape, watch, found),
-        Sought::Never => write_never(writer, watch, event < tape.event()),
-        Sought::Unreached => write_unreached(writer, watch, event),
+        Sought::Never => write_never(writer, watch, back > 0),
+        Sought::Unreached(why) => write_unreached(writer, watch, tape.event_back(back), why),
     }
 }
 
-/// Writes an event: its line, its number, and the text of the line.
+/// Writes an event: its line, its number, which of the line's events it is, if that has more than one, and the text of the
+/// line.
 pub(crate) fn write_event<W: Write>(
     writer: &mut W,
     tape: &Tape,
@@ -179,10 +189,54 @@ pub(crate) fn write_event<W: Write>(
 ) -> Result<(), WriteFailed>
     ensures writes { Writes (W.contents writer.old) (W.contents writer.new) result (event_text tape.now event) }
 {
-    let line = line_of(tape, event);
+    write_event_of(writer, tape, event, tape.line_of(event))
+}
+
+fn write_event_of<W: Write>(
+    writer: &mut W,
+    tape: &Tape,
+    event: u64,
+    line: usize,
+) -> Result<(), WriteFailed>
+    requires { line ≤ length tape.now.did }
+    ensures writes { Writes (W.contents writer.old) (W.contents writer.new) result
+        (event_of_text tape.now event line) }
+{
     write_number(writer, b"line ", line as u64, b", ")?;
-    write_number(writer, b"event ", event, b": ")?;
+    write_number(writer, b"event ", event, b"")?;
+    write_access(writer, tape, event, line)?;
     write_short(writer, text_of(tape, line))
+}
+
+/// Writes which of its line's events one is, if the line has more than one, and a colon.
+fn write_access<W: Write>(
+    writer: &mut W,
+    tape: &Tape,
+    event: u64,
+    line: usize,
+) -> Result<(), WriteFailed>
+    requires { line ≤ length tape.now.did }
+    ensures writes { Writes (W.contents writer.old) (W.contents writer.new) result (access_text tape.now event line) }
+{
+    let before = tape.end_of(line.saturating_sub(1));
+    let count = tape.end_of(line).saturating_sub(before);
+    write_which(writer, event.saturating_sub(before), count)
+}
+
+fn write_which<W: Write>(writer: &mut W, which: u64, count: u64) -> Result<(), WriteFailed>
+    ensures writes { Writes (W.contents writer.old) (W.contents writer.new) result (which_text which count) }
+{
+    if count <= 1 {
+        return write_whole(writer, b": ");
+    }
+    let mut digits = Buffer::new();
+    let which_digits = digits.format(which).as_bytes();
+    let mut digits = Buffer::new();
+    let count_digits = digits.format(count).as_bytes();
+    write_pieces(
+        writer,
+        &[b" (", which_digits, b" of ", count_digits, b"): "],
+    )
 }
 
 /// Writes a change: the event, and what it did.
@@ -222,8 +276,23 @@ fn write_unchanged_and<W: Write>(
     write_whole(writer, end)
 }
 
-fn write_unreached<W: Write>(writer: &mut W, watch: Watch, event: u64) -> Result<(), WriteFailed>
-    ensures writes { Writes (W.contents writer.old) (W.contents writer.new) result (unreached_text watch event) }
+/// Writes that an event was not seen, up to which no change was found.
+fn write_unreached<W: Write>(
+    writer: &mut W,
+    watch: Watch,
+    event: u64,
+    why: Unseen,
+) -> Result<(), WriteFailed>
+    ensures writes { Writes (W.contents writer.old) (W.contents writer.new) result (unreached_text watch event why) }
+{
+    match why {
+        Unseen::Memory(_) => write_no_memory(writer, watch, event),
+        Unseen::TooLong(line) => write_too_long(writer, b"line ", line),
+    }
+}
+
+fn write_no_memory<W: Write>(writer: &mut W, watch: Watch, event: u64) -> Result<(), WriteFailed>
+    ensures writes { Writes (W.contents writer.old) (W.contents writer.new) result (no_memory_text watch event) }
 {
     write_whole(writer, b"no memory to see what changed ")?;
     write_watch(writer, watch)?;

@@ -1,17 +1,14 @@
 //! Why an event did nothing, and who set what decided that.
-ghost use Rattle.std.specs.Prelude.{◌≡◌, ◌≤◌, ◌++◌, ℕ, List, OnOk, IfSome, codes, length, take};
+ghost use Rattle.std.specs.Prelude.{◌≡◌, ◌≤◌, ◌++◌, ℕ, List, OnOk, codes, length};
 ghost use Rattle.std.specs.Io.KnownBytes.{Appends};
 ghost use Rattle.em_text.specs.Writer.{Writes};
-ghost use Rattle.em_debugger.specs.Deeper.{IsAgain};
-ghost use Rattle.em_debugger.specs.Moves.{IsBehind};
-ghost use Rattle.em_debugger.specs.Place.{line_here};
 ghost use Rattle.em_debugger.specs.Performing.{heading_text};
 ghost use Rattle.em_debugger.specs.Why.{TellsLook, TellsLooks, TellsReason, TellsSetter, TellsWatch, TellsWhy};
 ghost use Rattle.em_debugger.specs.Why.{TellsWhyAt, TellsWhyOf, begins_with, found_setter, front_text, is_undone};
-ghost use Rattle.em_debugger.specs.Why.{look_line, newest_undone, setter_text};
+ghost use Rattle.em_debugger.specs.Why.{look_line, newest_undone, setter_text, unseen_setter};
 
 use crate::debugger::Debugger;
-use crate::deeper::behind;
+use crate::deeper::{Unseen, behind, write_too_long};
 use crate::place::{line_here, text_of};
 use crate::search::{Sought, search};
 use crate::who::write_event;
@@ -56,16 +53,17 @@ impl Debugger {
 
     /// Tells of a line, over the session's machine where the place is behind that line, or over another one.
     fn why_of<W: Write>(&self, writer: &mut W, line: usize) -> Result<(), WriteFailed>
-        requires { line ≤ length self.now.tape.lines }
+        requires known { line ≤ length self.now.tape.did }
+        requires there { line ≤ length self.now.tape.lines }
         ensures ok { OnOk result ((text : List ℕ) × Appends (W.contents writer.old) (W.contents writer.new) text
             × TellsWhyOf self.now line text) }
     {
-        if line == line_here(&self.tape) && self.tape.event() == self.tape.end_of(line) {
+        if line == self.tape.whole() && self.tape.is_whole() {
             return self.why_at(writer, &self.tape, line);
         }
         match behind(self.alloc, self.settings, &self.tape, line) {
-            Some(deep) => self.why_at(writer, &deep, line),
-            None => self.write_unseen(writer, line),
+            Ok(deep) => self.why_at(writer, &deep, line),
+            Err(_) => self.write_unseen(writer, line),
         }
     }
 
@@ -178,7 +176,7 @@ impl Debugger {
         ensures ok { OnOk result ((text : List ℕ) × Appends (W.contents writer.old) (W.contents writer.new) text
             × TellsSetter self.now tape.now watch text) }
     {
-        let sought = search(self.alloc, self.settings, tape, watch, tape.event());
+        let sought = search(self.alloc, self.settings, tape, watch, 0);
         write_sought_setter(writer, tape, sought)
     }
 }
@@ -203,7 +201,17 @@ fn write_sought_setter<W: Write>(
     match sought {
         Sought::Found(found) => write_found_setter(writer, tape, found.event),
         Sought::Never => write_whole(writer, b"    no event changed it\n"),
-        Sought::Unreached => write_whole(writer, b"    no memory to see what changed it\n"),
+        Sought::Unreached(why) => write_unseen_setter(writer, why),
+    }
+}
+
+/// Writes why an event was not seen, up to which none had set it.
+fn write_unseen_setter<W: Write>(writer: &mut W, why: Unseen) -> Result<(), WriteFailed>
+    ensures writes { Writes (W.contents writer.old) (W.contents writer.new) result (unseen_setter why) }
+{
+    match why {
+        Unseen::Memory(_) => write_whole(writer, b"    no memory to see what changed it\n"),
+        Unseen::TooLong(line) => write_too_long(writer, b"    line ", line),
     }
 }
 

@@ -5,16 +5,13 @@ use crate::bus::Bus;
 use crate::layout::Layout;
 use std::alloc::Global;
 
-/// A polled driver over a bus. It stores its bus and its layout; where its rings stand it reads from
-/// the device at each call. Beside them it stores only the allocator, and the memory of the last packet
-/// that it sent, whose octets are never read: the next one that comes is written over them.
+/// A polled driver over a bus. It stores its bus and its layout, and the allocator for packets that
+/// come; where its rings stand it reads from the device at each call.
 #[derive(Drop)]
 pub struct E1000<B> {
     pub(crate) bus: B,
     pub(crate) layout: Layout,
     pub(crate) alloc: Global,
-    // the memory of the last packet that was sent, for one that comes
-    pub(crate) spare: Vec<u8>,
     // so that no address of a descriptor or a buffer exceeds 64 bits
     ghost placed: { IsPlaced layout },
 }

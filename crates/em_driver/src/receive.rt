@@ -58,7 +58,7 @@ impl<B: Bus> E1000<B> {
             (B.world self.new.bus) (lists buffer.old.items) (lists buffer.new.items)) }
         ensures layout { self.new.layout ≡ self.old.layout }
     {
-        let Ok(mut packet) = packet_of(self.alloc, &mut self.spare, length) else {
+        let Ok(mut packet) = packet_of(self.alloc, length) else {
             return Err(Cause::Memory);
         };
         let Ok(()) = buffer.reserve(1) else {

@@ -36,12 +36,7 @@ impl<B: Bus> E1000<B> {
             → Follows (B.world bus) (start_of layout) refused.events (Some refused.cause) (B.world refused.bus)) }
     {
         if layout.is_good(bus.size()) {
-            let driver = E1000 {
-                bus,
-                layout,
-                alloc,
-                spare: Vec::new(alloc),
-            };
+            let driver = E1000 { bus, layout, alloc };
             let mut starting = Starting { driver, events: 0 };
             match starting.initialize() {
                 Ok(()) => Ok((starting.driver, starting.events)),

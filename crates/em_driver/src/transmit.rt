@@ -41,10 +41,9 @@ impl<B: Bus> E1000<B> {
         if let Err(stopped) = self.transmit_packet(index, count, packet.as_slice()) {
             return Err(stopped);
         }
-        let Some(sent) = buffer.pop_front() else {
+        let Some(_) = buffer.pop_front() else {
             unreachable!();
         };
-        self.spare = sent;
         Ok(true)
     }
 

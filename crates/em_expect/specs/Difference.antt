@@ -1,34 +1,31 @@
 -- How an answer differs from the one that was expected.
-use Rattle.std.specs.Prelude.{ℕ, ◌==◌, ◌&&◌, if◌then◌else◌, List, [], ◌∷◌, ◌++◌, codes, length, map, slice_index}
+use Rattle.std.specs.Prelude.{ℕ, ◌==◌, if◌then◌else◌, List, [], ◌++◌, codes, length, map, slice_index}
 use Rattle.std.specs.Prelude.{Option, Some, None, option_map}
 use Rattle.std.specs.Int.{w32, from_be_bytes}
 use Rattle.std.specs.List.{flat_map, range_with_len}
 use Rattle.std.specs.Result.{result_ok}
-use Rattle.std.specs.Str.{bytes_eq}
 use Rattle.hex.specs.Hex.{decode_sized}
 use Rattle.em_regs.specs.Table.{reg_at}
 use Rattle.em_regs.specs.declared.reg.Reg.{Reg}
-use Rattle.em_step.specs.Event.{reads}
+use Rattle.em_step.specs.Event.{Event, reads}
 use Rattle.em_text.specs.Words.{words_of}
-use Rattle.em_line.specs.Arguments.{arguments_of}
-use Rattle.em_line.specs.Command.{event}
-use Rattle.em_line.specs.Grammar.{read_form}
-use Rattle.em_line.specs.ParsedLine.{ParsedLine, says}
+use Rattle.em_line.specs.Grammar.{words_form}
+use Rattle.em_line.specs.ParsedLine.{access_in}
 use Rattle.em_names.specs.Bits.{Row, four_digits, number_in, table_of}
 use Rattle.em_names.specs.declared.field.Form.{Form}
 use Rattle.em_names.specs.declared.field.Form.TheVariants.{Bit}
-use Rattle.em_expect.specs.Agreement.{first_line}
+use Rattle.em_expect.specs.Agreement.{eight_digits, first_line}
 
 -- ---- the register
 
-abbrev pub register_in : ParsedLine → Option Reg
-register_in (says (event (reads offset))) = reg_at offset
-register_in _ = None
+-- the register that an event reads
+abbrev pub register_of : Option Event → Option Reg
+register_of (Some (reads offset)) = reg_at offset
+register_of _ = None
 
--- the register that a line reads: r OFF
+-- the register that a line of these words reads: r OFF
 abbrev pub register_read : List (List ℕ) → Option Reg
-register_read [] = None
-register_read (name ∷ words) = if bytes_eq name (codes "r") then register_in (read_form (arguments_of words)) else None
+register_read words = register_of (access_in (words_form words))
 
 -- ---- values
 
@@ -44,10 +41,13 @@ wanted_digit expected there at =
 abbrev pub wanted_digits : List ℕ → List ℕ → List ℕ
 wanted_digits expected there = map (wanted_digit expected there) (range_with_len 0 8)
 
--- the value that is wanted, where both texts are 8 digits
+-- the value that is wanted, where a number is expected and a value is there
+abbrev pub wanted_of : Option (List ℕ) → List ℕ → Option ℕ
+wanted_of None there = None
+wanted_of (Some digits) there = value_in (wanted_digits digits there)
+
 abbrev pub wanted_value : List ℕ → List ℕ → Option ℕ
-wanted_value expected there =
-    if length expected == 8 && length there == 8 then value_in (wanted_digits expected there) else None
+wanted_value expected there = if length there == 8 then wanted_of (eight_digits expected) there else None
 
 -- ---- what is written
 
@@ -70,11 +70,14 @@ abbrev pub fields_text : Option Reg → Option ℕ → Option ℕ → List ℕ
 fields_text (Some reg) (Some wanted) (Some value) = flat_map (field_text wanted value) (table_of reg)
 fields_text _ _ _ = []
 
-abbrev pub told_text : List ℕ → List ℕ → List ℕ → List ℕ
-told_text line expected there =
-    fields_text (register_read (words_of line)) (wanted_value expected there) (value_in there)
+abbrev pub told_text : Option Reg → List ℕ → List ℕ → List ℕ
+told_text read expected there = fields_text read (wanted_value expected there) (value_in there)
 
--- how an answer differs from the expected one
+-- how an answer differs from the expected one, where this register was read
+abbrev pub difference_text : Option Reg → List ℕ → List ℕ → List ℕ
+difference_text read expected answer =
+    (codes "differs: " ++ (expected ++ codes " wanted")) ++ (told_text read expected (first_line answer) ++ codes "\n")
+
+-- the same of a line
 abbrev pub differs_text : List ℕ → List ℕ → List ℕ → List ℕ
-differs_text line expected answer =
-    (codes "differs: " ++ (expected ++ codes " wanted")) ++ (told_text line expected (first_line answer) ++ codes "\n")
+differs_text line expected answer = difference_text (register_read (words_of line)) expected answer

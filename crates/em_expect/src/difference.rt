@@ -1,31 +1,43 @@
 //! How an answer differs from the one that was expected.
 ghost use Rattle.std.specs.Prelude.{◌≡◌, ◌<◌, length};
 ghost use Rattle.std.specs.List.{flat_map};
+ghost use Rattle.std.specs.Option.{option_map};
+ghost use Rattle.em_step.specs.Event.{plain};
 ghost use Rattle.em_text.specs.Words.{words_of};
 ghost use Rattle.em_text.specs.Writer.{Writes};
 ghost use Rattle.em_names.specs.Bits.{four_digits, row_of_field};
 ghost use Rattle.em_expect.specs.Agreement.{first_line};
-ghost use Rattle.em_expect.specs.Difference.{differs_text, field_text, fields_text, holds_text};
-ghost use Rattle.em_expect.specs.Difference.{register_read, value_in, wanted_digit, wanted_digits};
+ghost use Rattle.em_expect.specs.Difference.{difference_text, differs_text, field_text, fields_text, holds_text};
+ghost use Rattle.em_expect.specs.Difference.{register_of, register_read, value_in, wanted_digit, wanted_digits};
 ghost use Rattle.em_expect.specs.Difference.{wanted_value};
 
-use crate::agreement::{DASH, first_line};
-use em_line::{Command, read_form};
+use crate::agreement::{DASH, DIGITS, eight_digits, first_line};
+use em_line::accessed;
 use em_names::{Field, Form, fields, number_in, write_low};
 use em_regs::Reg;
 use em_step::Event;
-use em_text::{Words, WriteFailed, is_name, write_pieces, write_whole};
+use em_text::{WriteFailed, write_pieces, write_whole};
 use hex::FromHex;
 use std::io::Write;
 
-/// How many digits a register's value has.
-const DIGITS: usize = 8;
-
 /// Writes how an answer differs from the expected one: `differs: 00000004 wanted, LSC is clear` and a newline.
 ///
-/// Only the first line of the answer counts. Where `line` reads a register (`r OFF`, and no word behind it) and both texts
-/// are 8 hexadecimal digits, or `-` in the expected one, each bit and each field of the register comes that differs in a
-/// digit that matters, as the answer has it: a field in 4 digits.
+/// Only the first line of the answer counts. Where the event reads a register, the answer is its value, and a number is
+/// expected, each bit and each field of the register comes that differs in a digit that matters, as the answer has it: a
+/// field in 4 digits.
+pub fn write_difference<W: Write>(
+    writer: &mut W,
+    event: Option<Event<'_>>,
+    expected: &[u8],
+    answer: &[u8],
+) -> Result<(), WriteFailed>
+    ensures writes { Writes (W.contents writer.old) (W.contents writer.new) result
+        (difference_text (register_of (option_map plain event.entry)) expected.now answer.now) }
+{
+    write_of_register(writer, register_of(event), expected, answer)
+}
+
+/// The same of a line that says the event: `r OFF`.
 pub fn write_differs<W: Write>(
     writer: &mut W,
     line: &[u8],
@@ -35,22 +47,35 @@ pub fn write_differs<W: Write>(
     ensures writes { Writes (W.contents writer.old) (W.contents writer.new) result
         (differs_text line.now expected.now answer.now) }
 {
+    write_of_register(writer, register_read(line), expected, answer)
+}
+
+/// Writes how an answer differs, where this register was read.
+fn write_of_register<W: Write>(
+    writer: &mut W,
+    read: Option<Reg>,
+    expected: &[u8],
+    answer: &[u8],
+) -> Result<(), WriteFailed>
+    ensures writes { Writes (W.contents writer.old) (W.contents writer.new) result
+        (difference_text read expected.now answer.now) }
+{
     write_pieces(writer, &[b"differs: ", expected, b" wanted"])?;
-    write_told(writer, line, expected, first_line(answer))?;
+    write_told(writer, read, expected, first_line(answer))?;
     write_whole(writer, b"\n")
 }
 
 /// Writes the bits and fields in which a register's value differs from the one that was expected.
 fn write_told<W: Write>(
     writer: &mut W,
-    line: &[u8],
+    read: Option<Reg>,
     expected: &[u8],
     there: &[u8],
 ) -> Result<(), WriteFailed>
     ensures writes { Writes (W.contents writer.old) (W.contents writer.new) result
-        (fields_text (register_read (words_of line.now)) (wanted_value expected.now there.now) (value_in there.now)) }
+        (fields_text read (wanted_value expected.now there.now) (value_in there.now)) }
 {
-    let Some(reg) = register_read(line) else {
+    let Some(reg) = read else {
         return Ok(());
     };
     let Some(wanted) = wanted_value(expected, there) else {
@@ -63,18 +88,19 @@ fn write_told<W: Write>(
 }
 
 /// The register that a line reads: of `r OFF` with no word behind it, where a register lies at the offset; else none.
+#[tactic(auto, unfolding(em_line::specs::Grammar::parsed_line))]
 pub fn register_read(line: &[u8]) -> Option<Reg>
     ensures { result ≡ register_read (words_of line.now) }
 {
-    let mut words = Words(line);
-    let Some(name) = words.next_short() else {
-        return None;
-    };
-    if !is_name(name, b"r") {
-        return None;
-    }
-    match read_form(words) {
-        Some(Command::Event(Event::Read(offset))) => Reg::of_offset(offset),
+    register_of(accessed(line))
+}
+
+/// The register that an event reads, if it reads one that is there.
+pub fn register_of(event: Option<Event<'_>>) -> Option<Reg>
+    ensures { result ≡ register_of (option_map plain event.entry) }
+{
+    match event {
+        Some(Event::Read(offset)) => Reg::of_offset(offset),
         _ => None,
     }
 }
@@ -89,14 +115,17 @@ fn value_in(digits: &[u8]) -> Option<u32>
     }
 }
 
-/// The value that is wanted: of a digit that does not matter, the one that is there.
+/// The value that is wanted, where a number is expected: of a digit that does not matter, the one that is there.
 fn wanted_value(expected: &[u8], there: &[u8]) -> Option<u32>
     ensures { result ≡ wanted_value expected.now there.now }
 {
-    if expected.len() != DIGITS || there.len() != DIGITS {
+    if there.len() != DIGITS {
         return None;
     }
-    value_in(&wanted_digits(expected, there))
+    match eight_digits(expected) {
+        Some(digits) => value_in(&wanted_digits(&digits, there)),
+        None => None,
+    }
 }
 
 /// The digits of that value.

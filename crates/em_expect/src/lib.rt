@@ -1,5 +1,5 @@
-//! Answers that a line expects: ` = 00000004` behind `r 000C0`. What stands behind the first word `=` of a line is the
-//! answer that it expects; a `-` in it stands for a digit that does not matter.
+//! Answers that a line expects: ` = 4` behind `r 000C0`. em_line takes the line apart; here an answer is compared with the
+//! expected one. The value of a register is compared as a number, and a `-` stands for a digit that does not matter.
 //!
 //! Texts are octets; a line has no newline at its end. Nothing here takes memory.
 #![tactic(auto)]
@@ -9,7 +9,7 @@ mod asking;
 mod difference;
 mod parts;
 
-pub use agreement::agrees;
+pub use agreement::{agrees, agrees_of};
 pub use asking::expectation;
-pub use difference::{register_read, write_differs};
+pub use difference::{register_of, register_read, write_difference, write_differs};
 pub use parts::Expectation;

@@ -1,14 +1,15 @@
 -- An answer, and why an event did nothing.
 use Rattle.std.specs.Prelude.{◌≡◌, ℕ, ◌-◌, List, [], ◌∷◌, ◌++◌, codes, length, take, Option, Some, None}
 use Rattle.em_step.specs.State.{State}
-use Rattle.em_text.specs.Words.{words_of}
+use Rattle.em_line.specs.Grammar.{parsed_line}
+use Rattle.em_line.specs.ParsedLine.{event_in}
+use Rattle.em_line.specs.Parts.{said_in}
 use Rattle.em_reasons.specs.DroppedText.{dropped_text}
 use Rattle.em_reasons.specs.RefusedText.{refused_text}
 use Rattle.em_reasons.specs.RxIdleText.{rx_idle_text}
 use Rattle.em_reasons.specs.TxIdleText.{tx_idle_text}
 use Rattle.em_explain.specs.declared.why.Why.{Why}
 use Rattle.em_explain.specs.declared.why.Why.TheVariants.{RxIdle, TxIdle, Dropped, Refused}
-use Rattle.em_explain.specs.EventLine.{event_in, event_line}
 use Rattle.em_explain.specs.Undone.{undone_of}
 use Rattle.em_explain.specs.Why.{IsWhyOf}
 
@@ -29,5 +30,5 @@ with_reason answer (octet ∷ octets) =
 -- the answer to a line, and why its event did nothing, in the state that it left
 pub record Explains (s : State) (line answer text : List ℕ) : Type 0 where
   pub why : Option Why
-  pub because : IsWhyOf s (event_in (event_line (words_of line))) (undone_of answer) why
+  pub because : IsWhyOf s (event_in (parsed_line (said_in line))) (undone_of answer) why
   pub told : text ≡ with_reason answer (why_text why)

@@ -1,4 +1,3 @@
-pub mod EventLine
 pub mod Explain
 pub mod LookText
 pub mod Looked

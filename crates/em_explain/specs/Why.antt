@@ -6,7 +6,6 @@ use Rattle.em_step.specs.Step.{step}
 use Rattle.em_step.specs.declared.event.Reason.{Reason}
 use Rattle.em_step.specs.declared.refusal.Refusal.{Refusal}
 use Rattle.em_step.specs.declared.refusal.Refusal.TheVariants as refusal
-use Rattle.em_line.specs.Command.{Command, event}
 use Rattle.em_reasons.specs.declared.dropped.Dropped.{Dropped as WhyDropped}
 use Rattle.em_reasons.specs.declared.look.Look.{Look}
 use Rattle.em_reasons.specs.declared.refused.Refused.{Refused as WhyRefused}
@@ -49,10 +48,6 @@ abbrev pub IsWhy : State → Event → Undone → Option Why → Type 0
 IsWhy s e undone.Idle why = why ≡ idle_why s e
 IsWhy s e (undone.Dropped r) why = IsLost s e r why
 IsWhy s e (undone.Refused r) why = IsRefused s e r why
-
-abbrev pub IsOfCommand : State → Command → Undone → Option Why → Type 0
-IsOfCommand s (event e) undone why = IsWhy s e undone why
-IsOfCommand s _ undone why = why ≡ None
 
 -- why an event did nothing; of anything else there is no reason
 abbrev pub IsWhyOf : State → Option Event → Option Undone → Option Why → Type 0

@@ -4,9 +4,8 @@ ghost use Rattle.em_text.specs.Writer.{Writes};
 ghost use Rattle.em_looks.specs.Effects.{WritesSuch};
 ghost use Rattle.em_explain.specs.Explain.{Explains, why_text, with_reason};
 
-use crate::why::{Why, why_of};
+use crate::why::{Why, why_of_line};
 use em_journal::Machine;
-use em_reasons::{write_dropped, write_refused, write_rx_idle, write_tx_idle};
 use em_text::{WriteFailed, write_pieces, write_whole};
 use std::alloc::Global;
 use std::io::Write;
@@ -23,7 +22,7 @@ pub fn write_explained<W: Write>(
     ensures ok { OnOk result (WritesSuch (Explains machine.now.present line.now answer.now)
         (W.contents writer.old) (W.contents writer.new)) }
 {
-    let Ok(why) = why_of(alloc, machine, line, answer) else {
+    let Ok(why) = why_of_line(alloc, machine, line, answer) else {
         return Err(WriteFailed);
     };
     let mut reason = Vec::new(alloc);
@@ -49,9 +48,6 @@ fn write_why<W: Write>(writer: &mut W, why: Option<Why>) -> Result<(), WriteFail
 {
     match why {
         None => Ok(()),
-        Some(Why::RxIdle(reason)) => write_rx_idle(writer, reason),
-        Some(Why::TxIdle(reason)) => write_tx_idle(writer, reason),
-        Some(Why::Dropped(reason)) => write_dropped(writer, reason),
-        Some(Why::Refused(reason)) => write_refused(writer, reason),
+        Some(why) => why.write(writer),
     }
 }

@@ -1,7 +1,6 @@
 //! What stands behind an answer: why an event did nothing, and what to look at then.
 #![tactic(auto)]
 
-mod event_line;
 mod explain;
 mod look_text;
 mod looked;
@@ -15,3 +14,4 @@ pub use explain::write_explained;
 pub use look_text::write_look;
 pub use looked::looked_at;
 pub use watched::watch_of;
+pub use why::{Why, why_of};

@@ -2,7 +2,7 @@
 ghost use Rattle.std.specs.Prelude.{IfOk};
 ghost use Rattle.em_explain.specs.Looked.{LookedAt};
 
-use crate::why::why_of;
+use crate::why::why_of_line;
 use em_journal::Machine;
 use em_reasons::Look;
 use std::alloc::{AllocError, Global};
@@ -20,7 +20,7 @@ pub fn looked_at(
 ) -> Result<Vec<Look>, AllocError>
     ensures { IfOk result (λ looks. LookedAt machine.now.present line.now answer.now looks.items) }
 {
-    match why_of(alloc, machine, line, answer)? {
+    match why_of_line(alloc, machine, line, answer)? {
         Some(why) => why.looked_at(alloc),
         None => Ok(Vec::new(alloc)),
     }

@@ -1,11 +1,11 @@
-//! Answers that say that an event did nothing.
+//! Outcomes of events that did nothing.
 ghost use Rattle.std.specs.Prelude.{◌≡◌};
-ghost use Rattle.em_explain.specs.Undone.{dropped_of, refused_of, undone_of};
+ghost use Rattle.em_explain.specs.Undone.{undone_by, undone_of};
 
-use em_step::{Reason, Refusal};
-use em_text::is_name;
+use em_output::told;
+use em_step::{Answer, Reason, Refusal};
 
-/// What an answer says of an event that did nothing.
+/// How an event did nothing.
 #[derive(Clone, Copy, PartialEq, Eq, Debug)]
 pub(crate) enum Undone {
     /// A step was idle.
@@ -16,71 +16,24 @@ pub(crate) enum Undone {
     Refused(Refusal),
 }
 
-/// What an answer says, if it says that an event did nothing.
+/// How an event did nothing, if it did nothing.
+pub(crate) fn undone_by(outcome: Result<Answer, Refusal>) -> Option<Undone>
+    ensures { result ≡ undone_by outcome }
+{
+    match outcome {
+        Ok(Answer::Idle) => Some(Undone::Idle),
+        Ok(Answer::Dropped(reason)) => Some(Undone::Dropped(reason)),
+        Ok(_) => None,
+        Err(refusal) => Some(Undone::Refused(refusal)),
+    }
+}
+
+/// The same by the answer that was printed.
 pub(crate) fn undone_of(answer: &[u8]) -> Option<Undone>
     ensures { result ≡ undone_of answer.now }
 {
-    if is_name(answer, b"idle\n") {
-        return Some(Undone::Idle);
-    }
-    if let Some(reason) = dropped_of(answer) {
-        return Some(Undone::Dropped(reason));
-    }
-    match refused_of(answer) {
-        Some(refusal) => Some(Undone::Refused(refusal)),
+    match told(answer) {
+        Some(outcome) => undone_by(outcome),
         None => None,
     }
-}
-
-/// Why a frame was dropped, if an answer says that.
-fn dropped_of(answer: &[u8]) -> Option<Reason>
-    ensures { result ≡ dropped_of answer.now }
-{
-    if is_name(answer, b"dropped down\n") {
-        return Some(Reason::Down);
-    }
-    if is_name(answer, b"dropped disabled\n") {
-        return Some(Reason::Disabled);
-    }
-    if is_name(answer, b"dropped rejected\n") {
-        return Some(Reason::Rejected);
-    }
-    if is_name(answer, b"dropped undersize\n") {
-        return Some(Reason::Undersize);
-    }
-    if is_name(answer, b"dropped oversize\n") {
-        return Some(Reason::Oversize);
-    }
-    if is_name(answer, b"dropped missed\n") {
-        return Some(Reason::Missed);
-    }
-    None
-}
-
-/// What refused an event, if an answer says that.
-fn refused_of(answer: &[u8]) -> Option<Refusal>
-    ensures { result ≡ refused_of answer.now }
-{
-    if is_name(answer, b"refused NoRegister\n") {
-        return Some(Refusal::NoRegister);
-    }
-    if is_name(answer, b"refused Range\n") {
-        return Some(Refusal::Range);
-    }
-    if is_name(answer, b"refused Length\n") {
-        return Some(Refusal::Length);
-    }
-    if is_name(answer, b"refused DmaRange\n") {
-        return Some(Refusal::DmaRange);
-    }
-    if is_name(answer, b"refused Extended\n") {
-        return Some(Refusal::Extended);
-    }
-    if is_name(answer, b"refused TooLong\n") {
-        return Some(Refusal::TooLong);
-    }
-    if is_name(answer, b"refused Memory\n") {
-        return Some(Refusal::Memory);
-    }
-    None
 }

@@ -1,25 +1,27 @@
 //! Why the event of a line did nothing.
-ghost use Rattle.std.specs.Prelude.{◌≡◌, IfOk};
+ghost use Rattle.std.specs.Prelude.{◌≡◌, IfOk, Some};
 ghost use Rattle.em_step.specs.Event.{plain};
-ghost use Rattle.em_text.specs.Words.{words_of};
-ghost use Rattle.em_line.specs.Command.{plain as plain_command};
-ghost use Rattle.em_explain.specs.EventLine.{event_in, event_line};
-ghost use Rattle.em_explain.specs.Undone.{undone_of};
-ghost use Rattle.em_explain.specs.Why.{IsLost, IsOfCommand, IsRefused, IsWhy, idle_why, IsWhyOf, why_looks};
+ghost use Rattle.em_line.specs.Grammar.{parsed_line};
+ghost use Rattle.em_line.specs.ParsedLine.{event_in};
+ghost use Rattle.em_line.specs.Parts.{said_in};
+ghost use Rattle.em_explain.specs.Undone.{undone_by, undone_of};
+ghost use Rattle.em_explain.specs.Why.{IsLost, IsRefused, IsWhy, idle_why, IsWhyOf};
 
-use crate::event_line::event_of;
-use crate::undone::{Undone, undone_of};
+use crate::undone::{Undone, undone_by, undone_of};
 use em_journal::Machine;
-use em_line::Command;
+use em_line::Line;
 use em_reasons::{
     Dropped, Look, Refused, RxIdle, TxIdle, why_dropped, why_refused, why_rx_idle, why_tx_idle,
+    write_dropped, write_refused, write_rx_idle, write_tx_idle,
 };
-use em_step::{Event, Reason, Refusal};
+use em_step::{Answer, Event, Reason, Refusal};
+use em_text::WriteFailed;
 use std::alloc::{AllocError, Global};
+use std::io::Write;
 
 /// Why an event did nothing.
 #[derive(Clone, Copy, Debug)]
-pub(crate) enum Why {
+pub enum Why {
     /// A receive step was idle.
     RxIdle(RxIdle),
     /// A transmit step was idle.
@@ -31,8 +33,25 @@ pub(crate) enum Why {
 }
 
 impl Why {
+    ghost use Rattle.std.specs.Prelude.{◌≡◌, IfOk, Some};
+    ghost use Rattle.em_text.specs.Writer.{Writes};
+    ghost use Rattle.em_explain.specs.Explain.{why_text};
+    ghost use Rattle.em_explain.specs.Why.{why_looks};
+
+    /// Writes it: `the ring is empty (RDH = RDT = 3)`.
+    pub fn write<W: Write>(self, writer: &mut W) -> Result<(), WriteFailed>
+        ensures writes { Writes (W.contents writer.old) (W.contents writer.new) result (why_text (Some self)) }
+    {
+        match self {
+            Why::RxIdle(reason) => write_rx_idle(writer, reason),
+            Why::TxIdle(reason) => write_tx_idle(writer, reason),
+            Why::Dropped(reason) => write_dropped(writer, reason),
+            Why::Refused(reason) => write_refused(writer, reason),
+        }
+    }
+
     /// What the test looked at that is the reason.
-    pub(crate) fn looked_at(self, alloc: Global) -> Result<Vec<Look>, AllocError>
+    pub fn looked_at(self, alloc: Global) -> Result<Vec<Look>, AllocError>
         ensures { IfOk result (λ looks. looks.items ≡ why_looks (Some self)) }
     {
         match self {
@@ -44,43 +63,38 @@ impl Why {
     }
 }
 
+/// Why an event did nothing, if its outcome says that it did nothing. The machine is as the event left it.
+pub fn why_of(machine: &Machine, event: Event<'_>, outcome: Result<Answer, Refusal>) -> Option<Why>
+    ensures { IsWhyOf machine.now.present (Some (plain event.entry)) (undone_by outcome) result }
+{
+    match undone_by(outcome) {
+        Some(undone) => why_undone(machine, event, undone),
+        None => None,
+    }
+}
+
 /// Why the event of a line did nothing, if its answer says so. The machine is as the line left it.
-pub(crate) fn why_of(
+pub(crate) fn why_of_line(
     alloc: Global,
     machine: &Machine,
     line: &[u8],
     answer: &[u8],
 ) -> Result<Option<Why>, AllocError>
     ensures { IfOk result
-        (IsWhyOf machine.now.present (event_in (event_line (words_of line.now))) (undone_of answer.now)) }
+        (IsWhyOf machine.now.present (event_in (parsed_line (said_in line.now))) (undone_of answer.now)) }
 {
     let Some(undone) = undone_of(answer) else {
         return Ok(None);
     };
-    let mut octets = Vec::new(alloc);
-    match event_of(line, &mut octets)? {
-        Some(command) => Ok(why_of_command(machine, command, undone)),
+    let line = Line::read(alloc, line)?;
+    match line.event() {
+        Some(event) => Ok(why_undone(machine, event, undone)),
         None => Ok(None),
     }
 }
 
-/// Why a command did nothing, if it is an event.
-fn why_of_command(machine: &Machine, command: Command<'_>, undone: Undone) -> Option<Why>
-    ensures { IsOfCommand machine.now.present (plain_command command.entry) undone result }
-{
-    match command {
-        Command::Event(event) => why_of_event(machine, event, undone),
-        Command::Peek(..)
-        | Command::InterruptLine
-        | Command::Back
-        | Command::BackBy(_)
-        | Command::Registers
-        | Command::Wire => None,
-    }
-}
-
 /// Why an event did nothing.
-fn why_of_event(machine: &Machine, event: Event<'_>, undone: Undone) -> Option<Why>
+fn why_undone(machine: &Machine, event: Event<'_>, undone: Undone) -> Option<Why>
     ensures { IsWhy machine.now.present (plain event.entry) undone result }
 {
     match undone {

@@ -3,6 +3,7 @@ use Rattle.std.specs.Prelude.{ℕ, ◌+◌, ◌==◌, ◌&&◌, nat_lt, not, if�
 use Rattle.std.specs.Prelude.{Option, Some, None}
 use Rattle.std.specs.Option.{option_map, option_map_or}
 use Rattle.std.specs.List.{range_with_len}
+use Rattle.em_regs.specs.declared.ring.Ring.{Ring}
 use Rattle.em_regs.specs.Setup.{bit}
 use Rattle.em_inspect.specs.declared.ring.Side.{Side}
 use Rattle.em_inspect.specs.declared.ring.Side.TheVariants.{Receive, Transmit}
@@ -26,7 +27,7 @@ use Rattle.em_inspect.specs.declared.trouble.Trouble.TheVariants.{
 }
 use Rattle.em_inspect.specs.Extent.{overlaps}
 use Rattle.em_regs.specs.Ring.{descriptor_at}
-use Rattle.em_inspect.specs.Ring.{extent_of, fields_at, owner_of}
+use Rattle.em_inspect.specs.Ring.{extent_of, fields_at, is_adapters, owner_of}
 
 -- DEXT, bit 5 of a transmit descriptor's command: the extended format
 abbrev pub is_extended : Bits → Bool
@@ -60,10 +61,19 @@ claim_in r i (Some f) = claimed r i f
 abbrev pub claim_of : SidedRing → List ℕ → ℕ → Option Extent
 claim_of r memory i = claim_in r i (fields_at r memory i)
 
+-- the driver has taken the frame of one of descriptors i and j, and posted its buffer again as the other's: they name
+-- the same buffer, and not both are the adapter's
+abbrev pub is_posted_again : Ring → ℕ → Extent → ℕ → Extent → Bool
+is_posted_again r i a j b = a.at == b.at && not (is_adapters r i && is_adapters r j)
+
+-- their buffers have an octet in common, and not since one was posted again
+abbrev pub clash : Ring → ℕ → Extent → ℕ → Extent → Bool
+clash r i a j b = overlaps a b && not (is_posted_again r i a j b)
+
 -- descriptor j is another one than i, whose buffer lies over this one
 abbrev pub is_over : SidedRing → List ℕ → ℕ → Extent → ℕ → Bool
 is_over r memory i buffer j =
-    if j == i then false else option_map_or (overlaps buffer) (claim_of r memory j) false
+    if j == i then false else option_map_or (clash r.setup i buffer j) (claim_of r memory j) false
 
 -- the lowest such
 abbrev pub lowest_over : SidedRing → List ℕ → ℕ → Extent → Option ℕ

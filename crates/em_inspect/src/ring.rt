@@ -68,7 +68,8 @@ pub fn owner_of(ring: &Ring, index: u32) -> Owner
     }
 }
 
-fn is_adapters(ring: &Ring, index: u32) -> bool
+/// Whether it is the adapter's.
+pub(crate) fn is_adapters(ring: &Ring, index: u32) -> bool
     ensures { result ≡ is_adapters ring.now index }
 {
     let stand_within = ring.head < ring.count && ring.tail < ring.count && index < ring.count;

@@ -3,11 +3,12 @@ ghost use Rattle.std.specs.Prelude.{◌≡◌, find};
 ghost use Rattle.std.specs.List.{range_with_len};
 ghost use Rattle.em_inspect.specs.Ring.{extent_of};
 ghost use Rattle.em_inspect.specs.Trouble.{buffer_trouble, claim_of, descriptor_in, format_trouble, is_extended};
-ghost use Rattle.em_inspect.specs.Trouble.{buffer_of, is_live, is_over, live_trouble, lowest_over, trouble_of};
+ghost use Rattle.em_inspect.specs.Trouble.{buffer_of, clash, is_live, is_over, is_posted_again, live_trouble};
+ghost use Rattle.em_inspect.specs.Trouble.{lowest_over, trouble_of};
 
 use crate::descriptor::{Bits, Descriptor, Fields};
 use crate::extent::Extent;
-use crate::ring::{Owner, Side, SidedRing, owner_of};
+use crate::ring::{Owner, Side, SidedRing, is_adapters, owner_of};
 use em_journal::Machine;
 use em_rx::RxDescriptor;
 use em_tx::TxDescriptor;
@@ -31,7 +32,8 @@ pub enum Trouble {
     BufferOutside,
     /// Its buffer lies over the ring's own descriptors.
     OverRing,
-    /// Its buffer lies over that of another descriptor of the ring, which has this index, the lowest such.
+    /// Its buffer lies over that of another descriptor of the ring, which has this index, the lowest such. It does not
+    /// where the driver has posted the one's buffer again as the other's.
     OverBuffer(u32),
 }
 
@@ -117,9 +119,24 @@ impl SidedRing {
             return false;
         }
         match self.claim(machine, other) {
-            Some(claim) => buffer.overlaps(&claim),
+            Some(claim) => self.clash(index, buffer, other, &claim),
             None => false,
         }
+    }
+
+    /// Whether the buffers of two descriptors have an octet in common, and not since one of them was posted again.
+    fn clash(&self, index: u32, buffer: &Extent, other: u32, claim: &Extent) -> bool
+        ensures { result ≡ clash self.now.setup index buffer.now other claim.now }
+    {
+        buffer.overlaps(claim) && !self.is_posted_again(index, buffer, other, claim)
+    }
+
+    /// Whether the driver has taken the frame of one of two descriptors, and posted its buffer again as the other's.
+    fn is_posted_again(&self, index: u32, buffer: &Extent, other: u32, claim: &Extent) -> bool
+        ensures { result ≡ is_posted_again self.now.setup index buffer.now other claim.now }
+    {
+        buffer.at == claim.at
+            && !(is_adapters(&self.setup, index) && is_adapters(&self.setup, other))
     }
 
     /// The buffer of a live descriptor; none where it is not live, or has none.

@@ -1,4 +1,5 @@
 pub mod Arguments
+pub mod Digits
 pub mod Command
 pub mod Frame
 pub mod Request
@@ -6,3 +7,7 @@ pub mod TurnWord
 pub mod Plan
 pub mod ParsedLine
 pub mod Grammar
+pub mod Form
+pub mod Said
+pub mod Parts
+pub mod Line

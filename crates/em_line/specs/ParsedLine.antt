@@ -1,6 +1,6 @@
 -- What a line says, as data.
 use Rattle.std.specs.Prelude.{Bool, true, false, List, Option, Some, None}
-use Rattle.em_step.specs.Event.{pokes, arrives}
+use Rattle.em_step.specs.Event.{Event, reads, writes, pokes, arrives}
 use Rattle.em_turn.specs.declared.turn.Turn.{Turn}
 use Rattle.em_line.specs.Command.{Command, event}
 use Rattle.em_line.specs.Request.{Request, sends, sets_address}
@@ -36,3 +36,19 @@ brings_octets (says (event (arrives octets))) = true
 brings_octets (asks (sends packets)) = true
 brings_octets (asks (sets_address octets)) = true
 brings_octets _ = false
+
+-- the lines that take memory where they are read whole: the same, and plans
+abbrev pub takes_memory : ParsedLine → Bool
+takes_memory (plans plan) = true
+takes_memory line = brings_octets line
+
+-- the event that a line says
+abbrev pub event_in : ParsedLine → Option Event
+event_in (says (event e)) = Some e
+event_in _ = None
+
+-- the access to a register that a line says
+abbrev pub access_in : ParsedLine → Option Event
+access_in (says (event (reads o))) = Some (reads o)
+access_in (says (event (writes o v))) = Some (writes o v)
+access_in _ = None

@@ -21,7 +21,7 @@ use em_text::Words;
 use std::alloc::AllocError;
 
 /// What a comment begins with.
-const HASH: u8 = b'#';
+pub(crate) const HASH: u8 = b'#';
 
 /// The most events that one `back` takes back.
 const MOST_BACK: u32 = 65_536;

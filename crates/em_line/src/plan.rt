@@ -1,5 +1,5 @@
 //! The plan that the words of a line say.
-ghost use Rattle.std.specs.Prelude.{◌≡◌, ◌<◌, ◌↔◌, length, Some, IfOk, IfSome, IsSome, IsTrue};
+ghost use Rattle.std.specs.Prelude.{◌≡◌, ◌<◌, ◌≤◌, ◌↔◌, length, Some, IfOk, IfSome, IsSome, IsTrue};
 ghost use Rattle.em_text.specs.Words.{words_of};
 ghost use Rattle.em_turn.specs.Planned.{planned};
 ghost use Rattle.em_turn.specs.Turn.{plan_turns};
@@ -27,12 +27,23 @@ pub fn plan_words(words: Words<'_>) -> Option<PlanWords<'_>>
     ensures some { IsSome result ↔ IsSome (plan_of (words_of words.entry.0.now)) }
     ensures same { IfSome result (λ plan. plan.words.0.now ≡ words.entry.0.now) }
 {
+    if are_turns(words) {
+        Some(PlanWords { words })
+    } else {
+        None
+    }
+}
+
+/// Whether words say a plan. It takes no memory.
+pub(crate) fn are_turns(words: Words<'_>) -> bool
+    ensures { IsTrue result ↔ IsSome (plan_of (words_of words.entry.0.now)) }
+{
     for word in words {
         if !is_turn(word) {
-            return None;
+            return false;
         }
     }
-    Some(PlanWords { words })
+    true
 }
 
 /// Whether a word says a turn, or the end of those before an access.
@@ -51,9 +62,18 @@ pub fn plan_of(alloc: Global, plan: PlanWords<'_>) -> Result<VecDeque<Vec<Turn>>
     ensures value { IfOk result (λ made. plan_of (words_of plan.entry.words.0.now) ≡ Some (planned made.items)) }
     ensures few { IfOk result (λ made. plan_turns (planned made.items) < 0x1_0000_0000) }
 {
+    made_of(alloc, plan.words)
+}
+
+/// The same, of however many words: it has at most as many turns.
+pub(crate) fn made_of(alloc: Global, words: Words<'_>) -> Result<VecDeque<Vec<Turn>>, AllocError>
+    requires { IsSome (plan_of (words_of words.0.now)) }
+    ensures value { IfOk result (λ made. plan_of (words_of words.entry.0.now) ≡ Some (planned made.items)) }
+    ensures few { IfOk result (λ made. plan_turns (planned made.items) ≤ length (words_of words.entry.0.now)) }
+{
     let mut made = VecDeque::new(alloc);
     let mut turns = Vec::new(alloc);
-    for word in plan.words {
+    for word in words {
         match turn_in(alloc, word)? {
             Some(turn) => turns.push(turn)?,
             None => made.push_back(mem::replace(&mut turns, Vec::new(alloc)))?,

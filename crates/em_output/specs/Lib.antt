@@ -1,3 +1,4 @@
 pub mod Registers
 pub mod Wire
 pub mod Output
+pub mod ReadBack

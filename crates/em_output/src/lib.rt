@@ -3,6 +3,7 @@
 
 mod outcome;
 mod output;
+mod read_back;
 mod registers;
 mod wire;
 
@@ -11,5 +12,6 @@ pub use output::{
     write_answer, write_back, write_bad_line, write_bit, write_count, write_done, write_empty,
     write_octets, write_refusal,
 };
+pub use read_back::told;
 pub use registers::write_registers;
 pub use wire::write_wire;

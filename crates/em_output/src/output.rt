@@ -87,7 +87,7 @@ fn write_dropped<W: Write>(writer: &mut W, reason: Reason) -> Result<Outcome, Wr
 }
 
 /// Why a frame was dropped, as it is printed.
-fn reason_name(reason: Reason) -> &'static str
+pub(crate) fn reason_name(reason: Reason) -> &'static str
     ensures { result.now ≡ reason_text reason }
 {
     match reason {

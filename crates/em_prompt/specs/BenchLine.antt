@@ -13,7 +13,8 @@ use Rattle.em_prompt.specs.Bits.{bits_of}
 use Rattle.em_prompt.specs.Command.{name_of}
 use Rattle.em_prompt.specs.Form.{Form, of_kinds, plan, file, form_of, is_there}
 use Rattle.em_prompt.specs.Register.{named, known}
-use Rattle.em_prompt.specs.Word.{bare, hex_number_in, data_digits}
+use Rattle.em_line.specs.Digits.{bare}
+use Rattle.em_prompt.specs.Word.{hex_number_in, data_digits}
 
 pub record BenchLine : Type 0 where
   pub command : Command

@@ -1,13 +1,9 @@
 -- What a word writes.
-use Rattle.std.specs.Prelude.{ℕ, Bool, ◌==◌, ◌&&◌, ◌||◌, if◌then◌else◌, List, [], ◌∷◌, length, slice_index}
+use Rattle.std.specs.Prelude.{ℕ, Bool, ◌==◌, ◌&&◌, if◌then◌else◌, List, [], ◌∷◌, length, slice_index}
 use Rattle.std.specs.Prelude.{Option, option_map}
 use Rattle.em_text.specs.Words.{words_of, read_first}
 use Rattle.em_text.specs.Numbers.{hex_number, hex_address}
-
--- a word without the `0x` before its digits
-abbrev pub bare : List ℕ → List ℕ
-bare (a ∷ b ∷ digits) = if a == 48 && (b == 120 || b == 88) then digits else a ∷ b ∷ digits
-bare word = word
+use Rattle.em_line.specs.Digits.{bare}
 
 -- the number that 1 to 8 hexadecimal digits write, with `0x` before them or without
 abbrev pub hex_number_in : List ℕ → Option ℕ

@@ -1,8 +1,9 @@
 //! What a word writes.
 ghost use Rattle.std.specs.Prelude.{◌≡◌, ◌↔◌, IsTrue, IsSome, length};
 ghost use Rattle.em_text.specs.Numbers.{octets_of};
-ghost use Rattle.em_prompt.specs.Word.{bare, hex_number_in, hex_address_in, is_address, address_digits, data_digits};
+ghost use Rattle.em_prompt.specs.Word.{hex_number_in, hex_address_in, is_address, address_digits, data_digits};
 
+use em_line::bare;
 use em_text::{Words, is_octets};
 
 /// How many octets an Ethernet address has with its colons.
@@ -12,16 +13,6 @@ const ADDRESS_LEN: usize = 17;
 pub(crate) const ADDRESS_DIGITS: usize = 12;
 
 const COLON: u8 = b':';
-
-/// A word without the `0x` before its digits.
-pub(crate) fn bare(word: &[u8]) -> &[u8]
-    ensures { result.now ≡ bare word.now }
-{
-    match word {
-        [b'0', b'x' | b'X', digits @ ..] => digits,
-        _ => word,
-    }
-}
 
 /// The number that 1 to 8 hexadecimal digits write, with `0x` before them or without.
 pub(crate) fn hex_number_in(word: &[u8]) -> Option<u32>

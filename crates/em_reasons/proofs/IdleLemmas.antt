@@ -52,7 +52,7 @@ six true false false false true n r1 r2 r3 r4 r5 r6 less = refl
 six true false false false false true r1 r2 r3 r4 r5 r6 less = refl
 six true false false false false false r1 r2 r3 r4 r5 r6 less = refl
 
-rx_tests : (q : RxSetup) (fifo : Fifo) → is_some (first_of (rx_idle_table q (length fifo.frames))) ≡ rx.is_idle q fifo
+pub rx_tests : (q : RxSetup) (fifo : Fifo) → is_some (first_of (rx_idle_table q (length fifo.frames))) ≡ rx.is_idle q fifo
 rx_tests q fifo =
     six q.enabled (q.count == 0) (nat_le q.count q.head) (nat_le q.count q.tail) (q.head == q.tail)
     (length fifo.frames == 0) _ _ _ _ _ _ (none_within q.count q.head)
@@ -102,7 +102,7 @@ five true false false true e r1 r2 r3 r4 r5 less = refl
 five true false false false true r1 r2 r3 r4 r5 less = refl
 five true false false false false r1 r2 r3 r4 r5 less = refl
 
-tx_tests : (q : TxSetup) → is_some (first_of (tx_idle_table q)) ≡ tx.is_idle q
+pub tx_tests : (q : TxSetup) → is_some (first_of (tx_idle_table q)) ≡ tx.is_idle q
 tx_tests q =
     five q.enabled (q.count == 0) (nat_le q.count q.head) (nat_le q.count q.tail) (q.head == q.tail)
     _ _ _ _ _ (none_within q.count q.head)

@@ -4,3 +4,6 @@ pub mod DropLemmas
 pub mod RefusalLemmas
 pub mod StayLemmas
 pub mod LostLemmas
+pub mod BitLemmas
+pub mod RefusedStay
+pub mod TroubleLemmas

@@ -2,7 +2,7 @@
 use Rattle.std.proofs.Common.{◌≡◌, ◌∙◌, ◌+◌, ◌*◌, ◌/◌, ◌%◌, ◌^◌, ◌<◌, ◌≤◌, ℕ, zero, suc, Bool, true, false, List, []}
 use Rattle.std.proofs.Common.{◌∷◌, Option, Some, None, refl, length, sym, ap, subst, arith}
 use Rattle.std.specs.Prelude.{◌==◌, ◌&&◌, ◌||◌, nat_le, nat_lt, not, is_some, slice_get, slice_index, option_map}
-use Rattle.std.specs.Prelude.{if◌then◌else◌}
+use Rattle.std.specs.Prelude.{if◌then◌else◌, bit_and}
 use Rattle.std.specs.List.{list_any, range_with_len}
 use Rattle.em_address.specs.declared.kind.Kind.{Kind}
 use Rattle.em_address.specs.declared.kind.Kind.TheVariants as kind
@@ -18,21 +18,22 @@ use Rattle.em_rx.specs.Fifo.{Fifo, octets_in}
 use Rattle.em_rx.specs.Frame.{len_of, stored_frame}
 use Rattle.em_step.specs.State.{State}
 use Rattle.em_step.specs.declared.event.Reason.{Reason}
-use Rattle.em_reasons.specs.Bits.{word_of}
+use Rattle.em_reasons.specs.Bits.{bit_of, word_of}
 use Rattle.em_reasons.specs.Dropped.{IsDropped, drop_table, reason_of, to_of, unfiltered_by, why}
 use Rattle.em_reasons.specs.Looks.{dropped_looks}
 use Rattle.em_reasons.specs.SameLooks.{SameEntry, SameLooks}
 use Rattle.em_reasons.specs.declared.dropped.Dropped.{Dropped}
+use Rattle.em_reasons.proofs.BitLemmas.{bit_same, bits_by, bits_within, field_same, has_same}
 use Rattle.em_reasons.proofs.TableLemmas.{gives_first}
 use Rattle.em_reasons.proofs.StayLemmas.{row, row_is, some_where}
 use Rattle.em_reasons.proofs.DropLemmas.{destination_to, drops_with_reason}
 
 -- ---- the tests, where what they look at is the same
--- STATUS tells the link
-abbrev status_by : Bool → ℕ
-status_by up = if up then 0x83 else 0x81
+-- LU of STATUS tells the link
+abbrev up_by : Bool → ℕ
+up_by up = bit_and (if up then 0x83 else 0x81) 0x2
 
-link_same : (a b : Bool) → status_by a ≡ status_by b → a ≡ b
+link_same : (a b : Bool) → up_by a ≡ up_by b → a ≡ b
 link_same true true h = refl
 link_same true false h = absurd (omega arith)
 link_same false true h = absurd (omega arith)
@@ -84,22 +85,28 @@ accepts_cases : (m : Registers) (a : ℕ)
 unfolding accepts
 accepts_cases m a = cases (kind_of a) m a
 
--- the hash by RCTL
+-- the hash by MO
 abbrev hash_by : ℕ → ℕ → ℕ
-hash_by v a = a / 2 ^ (slice_index (36 ∷ 35 ∷ 34 ∷ 32 ∷ []) (v / 2 ^ 12 % 4)) % 4096
+hash_by mo a = a / 2 ^ (slice_index (36 ∷ 35 ∷ 34 ∷ 32 ∷ []) mo) % 4096
 
 word_is : (x : ℕ) → x % 4096 / 32 % 128 ≡ x % 4096 / 32
 word_is x = omega arith
 
-hash_same : (m n : Registers) (a : ℕ) → value_of n Rctl ≡ value_of m Rctl
-    → value_of n (Mta (word_of (hash_of m a))) ≡ value_of m (Mta (word_of (hash_of m a)))
+hash_same : (m n : Registers) (a : ℕ) → value_of n Rctl / 2 ^ 12 % 4 ≡ value_of m Rctl / 2 ^ 12 % 4
+    → bit_and (value_of n (Mta (word_of (hash_of m a)))) (2 ^ bit_of (hash_of m a))
+    ≡ bit_and (value_of m (Mta (word_of (hash_of m a)))) (2 ^ bit_of (hash_of m a))
     → has_hash n (hash_of n a) ≡ has_hash m (hash_of m a)
-hash_same m n a rctl word =
+hash_same m n a mo word =
     let number = a / 2 ^ (slice_index (36 ∷ 35 ∷ 34 ∷ 32 ∷ []) (value_of m Rctl / 2 ^ 12 % 4)) in
+    let k = bit_of (hash_of m a) in
     let at : word_of (hash_of m a) ≡ hash_of m a / 32 = word_is number in
-    let here : value_of n (Mta (hash_of m a / 32)) ≡ value_of m (Mta (hash_of m a / 32))
-    = subst (λ (w : ℕ). value_of n (Mta w) ≡ value_of m (Mta w)) at word in
-    ap (λ (v : ℕ). has_hash n (hash_by v a)) rctl ∙ ap (λ (v : ℕ). bit v (hash_of m a % 32)) here
+    let here : bit (value_of n (Mta (hash_of m a / 32))) k ≡ bit (value_of m (Mta (hash_of m a / 32))) k
+    = subst (λ (w : ℕ). bit (value_of n (Mta w)) k ≡ bit (value_of m (Mta w)) k) at (bit_same k _ _ word) in
+    ap (λ (v : ℕ). has_hash n (hash_by v a)) mo ∙ here
+
+-- of RCTL the multicast filter looks at MPE and MO, and of a broadcast at BAM too
+group_mo : (x y : ℕ) → bit_and x 0x3010 ≡ bit_and y 0x3010 → x / 2 ^ 12 % 4 ≡ y / 2 ^ 12 % 4
+group_mo x y same = field_same 2 12 x y (bits_within 0x3000 0x3010 x y refl same)
 
 -- no filter has an address of this kind then either
 address_same : (k : Kind) (s t : State) (to : List ℕ)
@@ -110,25 +117,34 @@ address_same : (k : Kind) (s t : State) (to : List ℕ)
     (has_hash s.registers (hash_of s.registers (destination to)))
 address_same kind.Unicast s t to looks =
     let a = destination to in
-    let set = has_hash s.registers (hash_of s.registers a) in
-    ap (λ (b : Bool). accepts_by kind.Unicast b (value_of t.registers Rctl) set) (table_same s t a looks.1.0)
-    ∙ ap (λ (v : ℕ). accepts_by kind.Unicast (is_in_table s.registers a) v set) looks.0
+    let v = value_of t.registers Rctl in
+    ap (λ (b : Bool). (((b || has v (2 ^ 3)) || false) || false) || false) (table_same s t a looks.1.0)
+    ∙ ap (λ (b : Bool). (((is_in_table s.registers a || b) || false) || false) || false) (has_same (2 ^ 3) _ _ looks.0)
 address_same kind.Multicast s t to looks =
     let a = destination to in
-    ap (λ (b : Bool). accepts_by kind.Multicast b (value_of t.registers Rctl)
-    (has_hash t.registers (hash_of t.registers a))) (table_same s t a looks.1.1.0)
-    ∙ ap (λ (v : ℕ). accepts_by kind.Multicast (is_in_table s.registers a) v
-    (has_hash t.registers (hash_of t.registers a))) looks.0
-    ∙ ap (λ (b : Bool). accepts_by kind.Multicast (is_in_table s.registers a) (value_of s.registers Rctl) b)
-    (hash_same s.registers t.registers a looks.0 looks.1.0)
+    let v = value_of t.registers Rctl in
+    let w = value_of s.registers Rctl in
+    let set = has_hash t.registers (hash_of t.registers a) in
+    let word = bits_by _ (2 ^ bit_of (hash_of s.registers a)) _ _ looks.1.0 in
+    ap (λ (b : Bool). (((b || false) || has v (2 ^ 4)) || false) || set) (table_same s t a looks.1.1.0)
+    ∙ ap (λ (b : Bool). (((is_in_table s.registers a || false) || b) || false) || set)
+    (has_same (2 ^ 4) v w (bits_within (2 ^ 4) 0x3010 v w refl looks.0))
+    ∙ ap (λ (b : Bool). (((is_in_table s.registers a || false) || has w (2 ^ 4)) || false) || b)
+    (hash_same s.registers t.registers a (group_mo v w looks.0) word)
 address_same kind.Broadcast s t to looks =
     let a = destination to in
-    ap (λ (b : Bool). accepts_by kind.Broadcast b (value_of t.registers Rctl)
-    (has_hash t.registers (hash_of t.registers a))) (table_same s t a looks.1.1.0)
-    ∙ ap (λ (v : ℕ). accepts_by kind.Broadcast (is_in_table s.registers a) v
-    (has_hash t.registers (hash_of t.registers a))) looks.0
-    ∙ ap (λ (b : Bool). accepts_by kind.Broadcast (is_in_table s.registers a) (value_of s.registers Rctl) b)
-    (hash_same s.registers t.registers a looks.0 looks.1.0)
+    let v = value_of t.registers Rctl in
+    let w = value_of s.registers Rctl in
+    let set = has_hash t.registers (hash_of t.registers a) in
+    let group = bits_within 0x3010 0xB010 v w refl looks.0 in
+    let word = bits_by _ (2 ^ bit_of (hash_of s.registers a)) _ _ looks.1.0 in
+    ap (λ (b : Bool). (((b || false) || has v (2 ^ 4)) || has v (2 ^ 15)) || set) (table_same s t a looks.1.1.0)
+    ∙ ap (λ (b : Bool). (((is_in_table s.registers a || false) || b) || has v (2 ^ 15)) || set)
+    (has_same (2 ^ 4) v w (bits_within (2 ^ 4) 0x3010 v w refl group))
+    ∙ ap (λ (b : Bool). (((is_in_table s.registers a || false) || has w (2 ^ 4)) || b) || set)
+    (has_same (2 ^ 15) v w (bits_within (2 ^ 15) 0xB010 v w refl looks.0))
+    ∙ ap (λ (b : Bool). (((is_in_table s.registers a || false) || has w (2 ^ 4)) || has w (2 ^ 15)) || b)
+    (hash_same s.registers t.registers a (group_mo v w group) word)
 
 accepts_same : (s t : State) (to : List ℕ)
     → SameLooks s t (dropped_looks (unfiltered_by (kind_of (destination to)) s.registers to))
@@ -138,43 +154,49 @@ accepts_same s t to looks =
     ∙ address_same (kind_of (destination to)) s t to looks
     ∙ sym (accepts_cases s.registers (destination to))
 
--- the VLAN filter by RCTL, VET and the word of the identifier
-abbrev passes_by : List ℕ → ℕ → ℕ → ℕ → Bool
-passes_by f v vet word =
-    not ((has v (2 ^ 18) && (nat_le 16 (length f) && type_of f == vet)) && not (bit word (tag_of f % 4096 % 32)))
+-- the VLAN filter by VFE, VET and the bit of the identifier
+abbrev passes_by : List ℕ → Bool → ℕ → Bool → Bool
+passes_by f on vet set = not ((on && (nat_le 16 (length f) && type_of f == vet)) && not set)
 
 passes_cases : (m : Registers) (f : List ℕ)
-    → passes_vlan m f ≡ passes_by f (value_of m Rctl) (value_of m Vet) (value_of m (Vfta (tag_of f % 4096 / 32)))
+    → passes_vlan m f
+    ≡ passes_by f (has (value_of m Rctl) (2 ^ 18)) (value_of m Vet)
+    (bit (value_of m (Vfta (tag_of f % 4096 / 32))) (tag_of f % 4096 % 32))
 unfolding passes_vlan
 passes_cases m f = refl
 
-passes_same : (m n : Registers) (f : List ℕ) → value_of n Rctl ≡ value_of m Rctl → value_of n Vet ≡ value_of m Vet
-    → value_of n (Vfta (word_of (tag_of f % 4096))) ≡ value_of m (Vfta (word_of (tag_of f % 4096)))
+passes_same : (m n : Registers) (f : List ℕ) → bit_and (value_of n Rctl) (2 ^ 18) ≡ bit_and (value_of m Rctl) (2 ^ 18)
+    → value_of n Vet ≡ value_of m Vet
+    → bit_and (value_of n (Vfta (word_of (tag_of f % 4096)))) (2 ^ bit_of (tag_of f % 4096))
+    ≡ bit_and (value_of m (Vfta (word_of (tag_of f % 4096)))) (2 ^ bit_of (tag_of f % 4096))
     → passes_vlan n f ≡ passes_vlan m f
 passes_same m n f rctl vet word =
     let id = tag_of f % 4096 in
-    let here : value_of n (Vfta (id / 32)) ≡ value_of m (Vfta (id / 32))
-    = subst (λ (w : ℕ). value_of n (Vfta w) ≡ value_of m (Vfta w)) (word_is (tag_of f)) word in
+    let k = id % 32 in
+    let here : bit (value_of n (Vfta (id / 32))) k ≡ bit (value_of m (Vfta (id / 32))) k
+    = subst (λ (w : ℕ). bit (value_of n (Vfta w)) k ≡ bit (value_of m (Vfta w)) k) (word_is (tag_of f))
+    (bit_same k _ _ word) in
     passes_cases n f
-    ∙ ap (λ (v : ℕ). passes_by f v (value_of n Vet) (value_of n (Vfta (id / 32)))) rctl
-    ∙ ap (λ (v : ℕ). passes_by f (value_of m Rctl) v (value_of n (Vfta (id / 32)))) vet
-    ∙ ap (λ (v : ℕ). passes_by f (value_of m Rctl) (value_of m Vet) v) here
+    ∙ ap (λ (b : Bool). passes_by f b (value_of n Vet) (bit (value_of n (Vfta (id / 32))) k)) (has_same (2 ^ 18) _ _ rctl)
+    ∙ ap (λ (v : ℕ). passes_by f (has (value_of m Rctl) (2 ^ 18)) v (bit (value_of n (Vfta (id / 32))) k)) vet
+    ∙ ap (λ (b : Bool). passes_by f (has (value_of m Rctl) (2 ^ 18)) (value_of m Vet) b) here
     ∙ sym (passes_cases m f)
 
--- whether a tag is taken out, by CTRL and VET
-abbrev tagged_by : List ℕ → ℕ → ℕ → Bool
-tagged_by f v vet = has v (2 ^ 30) && (nat_le 16 (length f) && type_of f == vet)
+-- whether a tag is taken out, by VME and VET
+abbrev tagged_by : List ℕ → Bool → ℕ → Bool
+tagged_by f on vet = on && (nat_le 16 (length f) && type_of f == vet)
 
-tagged_cases : (m : Registers) (f : List ℕ) → tagged m f ≡ tagged_by f (value_of m Ctrl) (value_of m Vet)
+tagged_cases : (m : Registers) (f : List ℕ)
+    → tagged m f ≡ tagged_by f (has (value_of m Ctrl) (2 ^ 30)) (value_of m Vet)
 unfolding tagged
 tagged_cases m f = refl
 
-tagged_same : (m n : Registers) (f : List ℕ) → value_of n Ctrl ≡ value_of m Ctrl → value_of n Vet ≡ value_of m Vet
-    → tagged n f ≡ tagged m f
+tagged_same : (m n : Registers) (f : List ℕ) → bit_and (value_of n Ctrl) (2 ^ 30) ≡ bit_and (value_of m Ctrl) (2 ^ 30)
+    → value_of n Vet ≡ value_of m Vet → tagged n f ≡ tagged m f
 tagged_same m n f ctrl vet =
     tagged_cases n f
-    ∙ ap (λ (v : ℕ). tagged_by f v (value_of n Vet)) ctrl
-    ∙ ap (λ (v : ℕ). tagged_by f (value_of m Ctrl) v) vet
+    ∙ ap (λ (b : Bool). tagged_by f b (value_of n Vet)) (has_same (2 ^ 30) _ _ ctrl)
+    ∙ ap (λ (v : ℕ). tagged_by f (has (value_of m Ctrl) (2 ^ 30)) v) vet
     ∙ sym (tagged_cases m f)
 
 -- ---- a frame is dropped again
@@ -194,7 +216,7 @@ lost_again s t f zero d h same =
     some_where (drop_table t f) 0 _ refl (ap not (link_same t.link s.link looks.0) ∙ holds_of _ _ d h)
 lost_again s t f (suc zero) d h same =
     let looks = looks_of s t _ _ d h same in
-    some_where (drop_table t f) 1 _ refl (ap (λ (v : ℕ). not (has v 0x2)) looks.0 ∙ holds_of _ _ d h)
+    some_where (drop_table t f) 1 _ refl (ap (λ (v : ℕ). not (v == 0x2)) looks.0 ∙ holds_of _ _ d h)
 lost_again s t f (suc (suc zero)) d h same =
     let looks = looks_of s t _ _ d h same in
     let kept : accepts t.registers (destination f) ≡ accepts s.registers (destination f)
@@ -206,11 +228,12 @@ lost_again s t f (suc (suc (suc zero))) d h same =
 lost_again s t f (suc (suc (suc (suc zero)))) d h same =
     let looks = looks_of s t _ _ d h same in
     some_where (drop_table t f) 4 _ refl
-    (ap (λ (v : ℕ). nat_lt (if has v (2 ^ 5) then 16384 else 1522) (length f + 4)) looks.0 ∙ holds_of _ _ d h)
+    (ap (λ (v : ℕ). nat_lt (if v == 2 ^ 5 then 16384 else 1522) (length f + 4)) looks.0 ∙ holds_of _ _ d h)
 lost_again s t f (suc (suc (suc (suc (suc zero))))) d h same =
     let looks = looks_of s t _ _ d h same in
     some_where (drop_table t f) 5 _ refl
-    (ap not (passes_same s.registers t.registers f looks.0 looks.1.0 looks.1.1.0) ∙ holds_of _ _ d h)
+    (ap not (passes_same s.registers t.registers f looks.0 looks.1.0
+    (bits_by _ (2 ^ bit_of (tag_of f % 4096)) _ _ looks.1.1.0)) ∙ holds_of _ _ d h)
 lost_again s t f (suc (suc (suc (suc (suc (suc zero)))))) d h same =
     let looks = looks_of s t _ _ d h same in
     some_where (drop_table t f) 6 _ refl

@@ -28,6 +28,7 @@ use Rattle.em_step.specs.Step.{at_register, step}
 use Rattle.em_step.specs.declared.event.Answer.{Answer}
 use Rattle.em_step.specs.declared.refusal.Refusal.{Refusal}
 use Rattle.em_step.specs.declared.refusal.Refusal.TheVariants as refusal
+use Rattle.em_reasons.specs.Foretold.{refusal_in}
 use Rattle.em_reasons.specs.Table.{first_of}
 use Rattle.em_reasons.specs.declared.refused.Refused.{Refused}
 use Rattle.em_reasons.specs.declared.refused.Refused.TheVariants.{NoRegister, Range, WriteLength, FrameLength}
@@ -41,13 +42,8 @@ use Rattle.em_reasons.specs.Refused.{refused_receive, refused_transmit}
 use Rattle.em_reasons.specs.Refused.{refused_write, rx_buffer, rx_table, tx_buffer, tx_octets, tx_table, unless_idle}
 use Rattle.em_reasons.specs.Refused.{why}
 
--- the refusal of a step that is refused
-abbrev refusal_in : Result (Answer × State) Refusal → Option Refusal
-refusal_in (Ok r) = None
-refusal_in (Err refused) = Some refused
-
 -- the refusal that a table says
-abbrev said : List (Bool × Refused) → Option Refusal
+abbrev pub said : List (Bool × Refused) → Option Refusal
 said table = option_map refusal_of (first_of table)
 
 -- ---- each event
@@ -97,7 +93,7 @@ of_transmit s false false false true buffer r d x l b hd hx hl hb = ap Some hl
 of_transmit s false false false false true r d x l b hd hx hl hb = ap Some hb
 of_transmit s false false false false false r d x l b hd hx hl hb = refl
 
-refusal_said : (s : State) (e : Event) → option_map refusal_of (why s e) ≡ refusal_in (step s e)
+pub refusal_said : (s : State) (e : Event) → option_map refusal_of (why s e) ≡ refusal_in (step s e)
 unfolding transmit tx_cause
 refusal_said s (reads o) = of_access o (reg_at o) _
 refusal_said s (writes o v) = of_access o (reg_at o) _

@@ -3,7 +3,7 @@ use Rattle.std.proofs.Common.{◌≡◌, ◌∙◌, ℕ, zero, suc, Bool, true, 
 use Rattle.std.proofs.Common.{length, sym, ap, subst}
 use Rattle.std.specs.Prelude.{◌/◌, ◌==◌, nat_le, not, is_some, slice_get, if◌then◌else◌}
 use Rattle.em_regs.specs.declared.reg.Reg.TheVariants.{Rdlen, Rdh, Rdt, Tdlen, Tdh, Tdt}
-use Rattle.em_regs.specs.Setup.{has, rx_setup, tx_setup, value_of}
+use Rattle.em_regs.specs.Setup.{rx_setup, tx_setup, value_of}
 use Rattle.em_rx.specs.Fifo.{Fifo}
 use Rattle.em_step.specs.State.{State}
 use Rattle.em_reasons.specs.Looks.{rx_idle_looks, tx_idle_looks}
@@ -59,7 +59,7 @@ rx_again : (s t : State) (k : ℕ) (r : RxIdle) → slice_get (rx_rows s) k ≡ 
 rx_again s t zero r h same =
     let looks = rx_same s t _ _ r h same in
     some_where (rx_rows t) 0 _ refl
-    (ap (λ (v : ℕ). not (has v 0x2)) looks.0 ∙ rx_holds s _ _ r h)
+    (ap (λ (v : ℕ). not (v == 0x2)) looks.0 ∙ rx_holds s _ _ r h)
 rx_again s t (suc zero) r h same =
     let looks = rx_same s t _ _ r h same in
     some_where (rx_rows t) 1 _ refl (ap (λ (v : ℕ). (v / 16) == 0) looks.0 ∙ rx_holds s _ _ r h)
@@ -111,7 +111,7 @@ tx_again : (s t : State) (k : ℕ) (r : TxIdle) → slice_get (tx_rows s) k ≡ 
 tx_again s t zero r h same =
     let looks = tx_same s t _ _ r h same in
     some_where (tx_rows t) 0 _ refl
-    (ap (λ (v : ℕ). not (has v 0x2)) looks.0 ∙ tx_holds s _ _ r h)
+    (ap (λ (v : ℕ). not (v == 0x2)) looks.0 ∙ tx_holds s _ _ r h)
 tx_again s t (suc zero) r h same =
     let looks = tx_same s t _ _ r h same in
     some_where (tx_rows t) 1 _ refl (ap (λ (v : ℕ). (v / 16) == 0) looks.0 ∙ tx_holds s _ _ r h)

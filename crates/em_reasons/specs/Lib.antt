@@ -11,3 +11,4 @@ pub mod TxIdleText
 pub mod DroppedText
 pub mod RefusedText
 pub mod SameLooks
+pub mod Foretold

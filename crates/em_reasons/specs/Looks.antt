@@ -70,3 +70,9 @@ refused_looks (refused.Extended index at) = Octets at 11 1 ∷ tx_place
 refused_looks (refused.TooLong index at octets) = Octets at 8 2 ∷ tx_place
 refused_looks (refused.TxBuffer index at buffer octets memory) = Octets at 0 10 ∷ tx_place
 refused_looks refused.Memory = []
+
+-- what the tests before it look at besides: CMD (11), by which DEXT refuses first
+abbrev pub looks_before : Refused → List Look
+looks_before (refused.TooLong index at octets) = Octets at 11 1 ∷ []
+looks_before (refused.TxBuffer index at buffer octets memory) = Octets at 11 1 ∷ []
+looks_before _ = []

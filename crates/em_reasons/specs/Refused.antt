@@ -1,5 +1,5 @@
 -- Why an event was refused.
-use Rattle.std.specs.Prelude.{ℕ, ◌+◌, ◌==◌, ◌&&◌, ◌||◌, nat_lt, is_none, Bool, List, [], ◌∷◌, length, Option}
+use Rattle.std.specs.Prelude.{◌≡◌, ℕ, ◌+◌, ◌==◌, ◌&&◌, ◌||◌, nat_lt, is_none, Bool, List, [], ◌∷◌, length, Option, None}
 use Rattle.std.specs.Prelude.{if◌then◌else◌}
 use Rattle.em_mem.specs.Memory.{part}
 use Rattle.em_regs.specs.declared.setup.RxSetup.{RxSetup}
@@ -18,7 +18,9 @@ use Rattle.em_reasons.specs.declared.refused.Refused.{Refused}
 use Rattle.em_reasons.specs.declared.refused.Refused.TheVariants.{NoRegister, Range, WriteLength, FrameLength}
 use Rattle.em_reasons.specs.declared.refused.Refused.TheVariants.{RxDescriptor, RxBuffer, TxDescriptor, TxBuffer}
 use Rattle.em_reasons.specs.declared.refused.Refused.TheVariants.{Extended, TooLong, Memory}
+use Rattle.em_reasons.specs.RxIdle.{rx_idle}
 use Rattle.em_reasons.specs.Table.{first_of}
+use Rattle.em_reasons.specs.TxIdle.{tx_idle}
 
 -- of an access: no register lies at the offset
 abbrev pub access_table : ℕ → List (Bool × Refused)
@@ -83,6 +85,12 @@ refusal_table s transmits =
 -- why an event is refused, if it is, and not for want of memory
 abbrev pub why : State → Event → Option Refused
 why s e = first_of (refusal_table s e)
+
+-- it is no step of an engine that is idle
+abbrev pub IsBusy : State → Event → Type 0
+IsBusy s receives = rx_idle s ≡ None
+IsBusy s transmits = tx_idle s ≡ None
+IsBusy s e = Unit {0}
 
 -- which of the adapter's refusals it is
 abbrev pub refusal_of : Refused → Refusal

@@ -1,19 +1,21 @@
 //! What the definitions of reasons and the adapter's steps say together.
-ghost use Rattle.std.specs.Prelude.{◌≡◌, ◌↔◌, ℕ, List, Some, None, Err, option_map};
+ghost use Rattle.std.specs.Prelude.{◌≡◌, ◌≤◌, ◌↔◌, ℕ, List, Some, None, Err, length, option_map};
 ghost use Rattle.em_step.specs.Arrival.{arrival};
-ghost use Rattle.em_step.specs.Event.{Event};
+ghost use Rattle.em_step.specs.Event.{Event, receives, transmits};
 ghost use Rattle.em_step.specs.State.{State};
 ghost use Rattle.em_step.specs.Step.{step};
 ghost use Rattle.em_step.specs.declared.event.Answer.{Answer};
 ghost use Rattle.em_step.specs.declared.event.Reason.{Reason};
 ghost use Rattle.em_step.specs.declared.refusal.Refusal.{Refusal};
+ghost use Rattle.em_inspect.specs.declared.trouble.Trouble.{Trouble};
 ghost use Rattle.em_reasons.specs.declared.dropped.Dropped.{Dropped};
 ghost use Rattle.em_reasons.specs.declared.refused.Refused.{Refused};
 ghost use Rattle.em_reasons.specs.declared.rx_idle.RxIdle.{RxIdle};
 ghost use Rattle.em_reasons.specs.declared.tx_idle.TxIdle.{TxIdle};
 ghost use Rattle.em_reasons.specs.Dropped.{IsDropped, reason_of, why};
 ghost use Rattle.em_reasons.specs.Refused as refused;
-ghost use Rattle.em_reasons.specs.Looks.{dropped_looks, rx_idle_looks, tx_idle_looks};
+ghost use Rattle.em_reasons.specs.Foretold.{FillsBuffer, IsLongAlone, foretold, refusal_in, rx_trouble, tx_trouble};
+ghost use Rattle.em_reasons.specs.Looks.{dropped_looks, looks_before, refused_looks, rx_idle_looks, tx_idle_looks};
 ghost use Rattle.em_reasons.specs.RxIdle.{IsIdleReceiving, rx_idle};
 ghost use Rattle.em_reasons.specs.SameLooks.{SameLooks};
 ghost use Rattle.em_reasons.specs.Table.{GivesFirst};
@@ -57,4 +59,33 @@ pub fn idle_steps_stay_idle()
 pub fn dropped_frames_stay_dropped()
     ensures { (s t : State) (f : List ℕ) (dropped : Dropped) → why s f ≡ Some dropped →
         SameLooks s t (dropped_looks dropped) → (again : Reason) × IsDropped t f again }
+{}
+
+/// As long as what the test looked at stays as it is, the event is refused whenever it is asked for: a step of an engine
+/// where it is not idle. It is refused for the same reason where what the tests before it look at stays, too.
+///
+/// Two numbers count that are no look: guest memory keeps its size, and of the octets that are gathered none has gone.
+pub fn refused_events_stay_refused()
+    ensures again { (s t : State) (e : Event) (reason : Refused) → refused.why s e ≡ Some reason →
+        SameLooks s t (refused_looks reason) → length t.memory ≡ length s.memory →
+        length s.gathered ≤ length t.gathered → refused.IsBusy t e →
+        (again : Refusal) × (step t e ≡ Err again) }
+    ensures same { (s t : State) (e : Event) (reason : Refused) → refused.why s e ≡ Some reason →
+        SameLooks s t (refused_looks reason) → SameLooks s t (looks_before reason) →
+        length t.memory ≡ length s.memory → length t.gathered ≡ length s.gathered → refused.IsBusy t e →
+        refused.why t e ≡ Some reason }
+{}
+
+/// What em_inspect says is wrong with the descriptor at a ring's head foretells the step of an engine that is not idle: by
+/// which refusal it is refused, or that it is not. Of two things it says more than the engine asks:
+///
+/// - that a buffer lies outside memory. It speaks of the whole buffer; the receive engine asks for the octets that the
+///   first frame still has, up to the buffer's size;
+/// - that a length is above 16,380. It speaks of the descriptor alone; the transmit engine adds what is gathered.
+pub fn troubles_are_refused()
+    ensures receives { (s : State) → refused.IsBusy s receives →
+        (rx_trouble s ≡ Some Trouble.BufferOutside → FillsBuffer s) →
+        refusal_in (step s receives) ≡ foretold (rx_trouble s) }
+    ensures transmits { (s : State) → refused.IsBusy s transmits → IsLongAlone s →
+        refusal_in (step s transmits) ≡ foretold (tx_trouble s) }
 {}

@@ -1,8 +1,9 @@
 //! Playing a script, and writing its record as it goes.
 
 use crate::fault::{MOST_EVENTS, RecordFault};
-use crate::lines::{refusal_in, takes_back};
+use crate::lines::refusal_in;
 use em_journal::{Settings, SettingsRefusal};
+use em_named::Did;
 use em_output::Outcome;
 use em_recording::{
     Recorded, newest_frame, record_of, write_event, write_number, write_settings, write_start,
@@ -16,7 +17,7 @@ use std::alloc::{AllocError, Global};
 use std::io::Write;
 
 /// What a record begins with: its format and the version of that.
-const FORMAT: &[u8] = b"{\"format\":\"bunjelav recording\",\"version\":1,\n";
+const FORMAT: &[u8] = b"{\"format\":\"bunjelav recording\",\"version\":2,\n";
 
 /// A line with more events than these is taken back and performed again.
 const FEW: u64 = 64;
@@ -29,7 +30,7 @@ pub struct Recorder {
     tape: Tape,
     /// The answer of the line that was played last.
     answer: Vec<u8>,
-    /// How many events were recorded.
+    /// How many events were recorded, those that were taken back among them.
     events: u64,
     /// Whether a line was bad.
     is_bad: bool,
@@ -142,7 +143,6 @@ impl Recorder {
 
     /// Plays a line, and writes what it did.
     fn write_line<W: Write>(&mut self, writer: &mut W, line: &[u8]) -> Result<(), RecordFault> {
-        let before = self.tape.event();
         self.tape.add(line)?;
         self.answer.clear();
         let outcome = match self.tape.perform_next(&mut self.answer) {
@@ -155,11 +155,14 @@ impl Recorder {
         write_whole(writer, b",\"answer\":")?;
         write_strings(writer, self.answer.as_slice())?;
         self.write_outcome(writer, outcome)?;
-        let after = self.tape.event();
-        if outcome != Outcome::Bad && takes_back(line) {
-            write_number(writer, b",\"back\":", before.saturating_sub(after))?;
+        match self.tape.performed_by(self.tape.len()) {
+            Some(Did::Performed(count)) => self.write_events(writer, count)?,
+            Some(Did::TookBack(count)) => {
+                write_number(writer, b",\"back\":", u64::from(count))?;
+                self.write_events(writer, 0)?;
+            }
+            None => return Err(RecordFault::Bench(BenchFault::Memory)),
         }
-        self.write_events(writer, before, after)?;
         write_whole(writer, b"}")?;
         Ok(())
     }
@@ -183,23 +186,17 @@ impl Recorder {
         }
     }
 
-    /// Writes the events that a line performed.
-    fn write_events<W: Write>(
-        &mut self,
-        writer: &mut W,
-        before: u64,
-        after: u64,
-    ) -> Result<(), RecordFault> {
-        let count = after.saturating_sub(before);
+    /// Writes the events that the last line performed, so many.
+    fn write_events<W: Write>(&mut self, writer: &mut W, count: u64) -> Result<(), RecordFault> {
         if count > MOST_EVENTS.saturating_sub(self.events) {
             return Err(RecordFault::TooManyEvents(self.tape.len()));
         }
         if count > self.tape.machine().can_go_back() as u64 {
             return Err(RecordFault::JournalTooSmall(self.tape.len()));
         }
+        let number = self.events.saturating_add(1);
         self.events = self.events.saturating_add(count);
         write_whole(writer, b",\"events\":[")?;
-        let number = before.saturating_add(1);
         let is_read_at_once = count <= 1 || (count <= FEW && !self.have_stored(count as usize));
         if is_read_at_once {
             self.write_few(writer, number, count as usize)?;
@@ -272,7 +269,7 @@ impl Recorder {
 
     /// Writes how many events stand, and how many lines were played.
     fn write_end<W: Write>(&self, writer: &mut W) -> Result<(), WriteFailed> {
-        write_number(writer, b"\"end\":{\"events\":", self.tape.event())?;
+        write_number(writer, b"\"end\":{\"events\":", self.tape.behind(0) as u64)?;
         write_number(writer, b",\"lines\":", self.tape.len() as u64)?;
         write_pieces(writer, &[b"}}\n"])
     }

@@ -6,6 +6,7 @@
 //! have prints `bad line` and its number, and does nothing.
 #![tactic(auto)]
 
+mod call_events;
 mod calling;
 mod driver_answer;
 mod driver_output;
@@ -21,7 +22,7 @@ mod session;
 mod summary;
 
 pub use em_output::Outcome;
-pub use laws::a_request_is_played_or_says_so;
+pub use laws::{a_line_did_so, a_request_is_played_or_says_so};
 pub use no_driver::NoDriver;
 pub use player::Player;
 pub use runner::{BenchFault, run};

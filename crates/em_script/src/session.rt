@@ -5,8 +5,8 @@ ghost use Rattle.em_turn.specs.Planned.{planned};
 ghost use Rattle.em_turn.specs.Turn.{plan_turns};
 ghost use Rattle.em_script.specs.Session.{bare};
 
+use crate::call_events::CallEvents;
 use crate::driver_answer::DriverAnswer;
-use crate::driver_reply::DriverReply;
 use crate::seat::Seat;
 use em_driver::{PlanRefused, Turn, Turns};
 use em_journal::Machine;
@@ -24,7 +24,7 @@ pub struct Session {
     // for the packets of the next call of a driver; what it holds until then is of no matter
     pub(crate) packets: VecDeque<Vec<u8>>,
     // how many events the last call of a driver performed, with those of its plan
-    pub(crate) events: u64,
+    pub(crate) events: CallEvents,
 }
 
 impl Model for Session {
@@ -35,7 +35,7 @@ impl Model for Session {
 
     ghost coded = { session_code };
 
-    ghost view = { λ s. session_of s.seat s.planned };
+    ghost view = { λ s. session_of s.seat s.planned s.events };
 
     ghost invariant = { λ s. IsSeated s.seat s.planned };
 }
@@ -49,7 +49,7 @@ impl Session {
             seat: Seat::Bare(Turns::new(alloc, machine)),
             planned: false,
             packets: VecDeque::new(alloc),
-            events: 0,
+            events: CallEvents { own: 0, others: 0 },
         }
     }
 
@@ -68,17 +68,22 @@ impl Session {
         Ok(())
     }
 
-    /// Notes how many events a call of a driver performed.
-    pub(crate) fn note_call(&mut self, reply: &DriverReply)
-        ensures { self.new ≡ self.old }
+    /// How many events the last call of a driver performed, with those of its plan.
+    pub fn events_of_call(&self) -> u64
+        ensures value { result ≡ self.now.events }
+        ensures few { result < 0x2_0000_0000 }
     {
-        self.events = reply.all_events();
+        self.events.all()
     }
 
-    /// How many events the last line performed that called a driver, with those of its plan. No contract
-    /// says so: it is only tested.
-    pub fn events_of_call(&self) -> u64 {
-        self.events
+    /// Whether a driver stands on the machine.
+    pub fn is_started(&self) -> bool
+        ensures { result ≡ self.now.started }
+    {
+        match &self.seat {
+            Seat::Driven(_) => true,
+            _ => false,
+        }
     }
 
     /// Keeps the queue of an answer for the next call that moves packets.

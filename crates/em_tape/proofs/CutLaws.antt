@@ -1,49 +1,190 @@
 -- Lines ahead of the place that are dropped.
-use Rattle.std.proofs.Common.{◌≡◌, ℕ, ◌-◌, ◌<◌, ◌≤◌, zero, suc, List, ◌++◌, length, take, refl, ap, ◌∙◌, arith}
-use Rattle.std.proofs.lemmas.List.{take-append-le, take-take, length-take-le, get_or-take}
-use Rattle.em_tape.specs.Ends.{end_of, IsLineOf}
-use Rattle.em_tape.specs.Tape.{Tape, event_of}
-use Rattle.em_tape.specs.Moves.{Adds, IsCut}
+use Rattle.std.proofs.Common.{◌≡◌, ℕ, ◌+◌, ◌-◌, ◌<◌, ◌≤◌, zero, suc, true, List, [], ◌∷◌, ◌++◌, length, take, drop, Some, None, Option, Result}
+use Rattle.std.proofs.Common.{refl, sym, ap, ◌∙◌, subst, arith}
+use Rattle.std.specs.Prelude.{All, get_or, if◌then◌else◌, slice_get}
+use Rattle.std.proofs.lemmas.List.{append-nil, append_assoc, drop_more, get_or-take, length-append, length-take, length-take-le, take_all}
+use Rattle.std.proofs.lemmas.List.Elements.{All-append, All-cons}
+use Rattle.std.proofs.lemmas.Option.{get_or_from_slice_get, slice_get_within}
+use Rattle.em_line.specs.Grammar.{parsed_line}
+use Rattle.em_text.specs.declared.writer.WriteFailed.{WriteFailed}
+use Rattle.em_output.specs.declared.outcome.Outcome.{Outcome}
+use Rattle.em_named.specs.Names.{after_line, names}
+use Rattle.em_named.specs.Place.{kept_of}
+use Rattle.em_named.specs.declared.did.Did.{Did}
+use Rattle.em_named.specs.declared.did.Did.TheVariants.{TookBack}
+use Rattle.em_named.specs.declared.place.Place.{Place}
+use Rattle.em_named.proofs.NameLaws.{drop-drop, names-more}
+use Rattle.em_named.proofs.PlaceLaws.{kept-within, place-kept}
+use Rattle.em_tape.specs.Kind.{LeavesDriver, SaysBack, SaysOfDriver}
+use Rattle.em_tape.specs.Tape.{Tape, line_here, standing}
+use Rattle.em_tape.specs.Moves.{IsCut, IsCutPlace, Plays, TakesBack, has_at, noted}
+use Rattle.em_tape.proofs.NotedLaws.{has_is, noted_at}
 
--- the ends of lines that stay are the same
-end_of-take : (k : ℕ) (ends : List ℕ) → end_of k (take k ends) ≡ end_of k ends
-end_of-take zero ends = refl
-end_of-take (suc k) ends = get_or-take (suc k) ends k 0 (omega arith)
+abbrev IsBackLine : List ℕ → Type 0
+IsBackLine line = SaysBack (parsed_line line)
+
+get-none : (xs : List Did) (k : ℕ) → length xs ≤ k → slice_get xs k ≡ None
+get-none [] k le = refl
+get-none (x ∷ xs) zero le = absurd (omega arith)
+get-none (x ∷ xs) (suc k) le = get-none xs k (omega arith)
+
+none-noted : (k : ℕ) (d : Did) (did : List Did) → length did ≤ k → noted k d did ≡ did ++ d ∷ []
+none-noted k d did past =
+    let none : slice_get did k ≡ None = get-none did k past in
+    ap (λ found. if has_at found d then did else take k did ++ d ∷ []) none
+    ∙ ap (λ l. l ++ d ∷ []) (take_all k did past)
+
+-- nothing is taken back yet
+pub takes_none : (tape : Tape) → tape.back ≡ 0 → tape.whole ≡ length tape.lines → length tape.did ≡ length tape.lines
+    → TakesBack tape tape 0
+takes_none tape back whole did = record {
+  first = refl;
+  more = [];
+  lines = sym (append-nil tape.lines);
+  says = λ k default lt. absurd (omega arith);
+  back = back;
+  whole = whole;
+  did = did;
+  stands = refl;
+}
+
+-- so much, and then more
+pub takes_more : {old mid new : Tape} (m n : ℕ) → TakesBack old mid m → TakesBack mid new n → TakesBack old new (m + n)
+takes_more {old = old} {mid = mid} {new = new} m n one two = record {
+  first = two.first ∙ one.first;
+  more = one.more ++ two.more;
+  lines = two.lines ∙ ap (λ l. l ++ two.more) one.lines ∙ append_assoc old.lines one.more two.more;
+  says = All-append IsBackLine one.more two.more one.says two.says;
+  back = two.back;
+  whole = two.whole;
+  did = two.did;
+  stands = two.stands ∙ ap (drop n) one.stands ∙ drop-drop m n (names old.did);
+}
+
+-- by one line
+pub takes_line : {old mid new : Tape} {text text' : Option (List ℕ)} {replied : Result Outcome WriteFailed}
+    (line : List ℕ) (events : ℕ) → old.whole ≡ length old.lines → length old.did ≡ length old.lines
+    → IsBackLine line → mid ≡ record old { lines = old.lines ++ line ∷ [] } → Plays mid new text text' replied
+    → has_at (slice_get new.did old.whole) (TookBack events) ≡ true → TakesBack old new events
+takes_line {old = old} {mid = mid} {new = new} {text = text} {text' = text'} {replied = replied} line events whole did
+    says is plays found =
+    let all = old.lines ++ line ∷ [] in
+    let from : Plays (record old { lines = all }) new text text' replied =
+    subst (λ m. Plays m new text text' replied) is plays in
+    let d = from.did in
+    let now : new.did ≡ old.did ++ d ∷ [] =
+    ap (λ (t : Tape). t.did) from.tape ∙ none-noted old.whole d old.did (omega arith) in
+    let at : slice_get new.did old.whole ≡ Some d =
+    ap (λ ds. slice_get ds old.whole) (ap (λ (t : Tape). t.did) from.tape) ∙ noted_at old.whole d old.did (omega arith) in
+    let took : Some d ≡ Some (TookBack events) = sym at ∙ has_is (slice_get new.did old.whole) (TookBack events) found in
+    let same : d ≡ TookBack events = cc in
+    let lines : new.lines ≡ all = ap (λ (t : Tape). t.lines) from.tape in
+    let long = length-append old.lines (line ∷ []) in
+    let longer = length-append old.did (d ∷ []) in
+    record {
+      first = ap (λ (t : Tape). t.first) from.tape;
+      more = line ∷ [];
+      lines = lines;
+      says = All-cons IsBackLine line [] says (λ k default lt. absurd (omega arith));
+      back = ap (λ (t : Tape). t.back) from.tape;
+      whole = omega (arith, ap (λ (t : Tape). t.whole) from.tape, ap length lines, long);
+      did = omega (arith, ap length now, longer, ap length lines, long);
+      stands = ap names now ∙ names-more old.did d ∙ ap (λ x. after_line (suc (length old.did)) x (names old.did)) same;
+    }
 
 -- lines are made whole, those behind them dropped, and others put there
-pub is_cut : {old mid cut new : Tape} {line gone event end : ℕ} → (old.back ≡ 0 → line ≡ old.whole)
-    → (0 < old.back → IsLineOf (event_of old) old.ends line) → line ≤ length old.lines
-    → mid ≡ record old { whole = line; back = 0; session = mid.session } → (old.back ≡ 0 → mid ≡ old)
-    → cut ≡ record mid { lines = take mid.whole mid.lines; ends = take mid.whole mid.ends }
-    → gone ≡ length mid.lines - mid.whole → Adds cut new → (end - event ≡ 0 → new ≡ cut) → event ≡ event_of old
-    → end ≡ event_of cut → IsCut old new gone
-is_cut {old = old} {mid = mid} {cut = cut} {new = new} {line = line} {event = event} {end = end} whole within known
-    mid_is mid_same cut_is gone_is adds stays before after =
+pub is_cut : {old mid cut new : Tape} {place : Place} {gone : ℕ} → IsCutPlace old place
+    → mid ≡ record old { whole = place.whole; back = 0; session = mid.session } → (old.back ≡ 0 → mid ≡ old)
+    → cut ≡ record mid { lines = take mid.whole mid.lines; did = take mid.whole mid.did }
+    → gone ≡ length mid.lines - mid.whole → TakesBack cut new place.back → (place.back ≡ 0 → new ≡ cut)
+    → IsCut old new gone
+is_cut {old = old} {mid = mid} {cut = cut} {new = new} {place = place} here mid_is mid_same cut_is gone_is takes stays =
+    let line = place.whole in
     let cut_of : cut ≡ record old {
       lines = take line old.lines;
-      ends = take line old.ends;
+      did = take line old.did;
       whole = line;
       back = 0;
       session = mid.session;
-    } = cut_is ∙ ap (λ (t : Tape). record t { lines = take t.whole t.lines; ends = take t.whole t.ends }) mid_is in
-    let long = length-take-le line old.lines known in
+    } = cut_is ∙ ap (λ (t : Tape). record t { lines = take t.whole t.lines; did = take t.whole t.did }) mid_is in
     record {
       line = line;
-      whole = whole;
-      within = within;
+      whole = λ none. ap (λ (p : Place). p.whole) (here.whole none);
+      within = here.within;
+      least = here.least;
+      most = here.most;
+      leave = here.leave;
       dropped = gone_is ∙ ap (λ (t : Tape). length t.lines - t.whole) mid_is;
-      first = adds.first ∙ ap (λ (t : Tape). t.first) cut_of;
-      kept = ap (take line) (adds.lines ∙ ap (λ (t : Tape). t.lines ++ adds.more) cut_of)
-          ∙ take-append-le line (take line old.lines) adds.more (omega arith)
-          ∙ take-take line line old.lines (omega arith);
-      back = adds.back;
-      last = adds.whole;
+      first = takes.first ∙ ap (λ (t : Tape). t.first) cut_of;
+      more = takes.more;
+      lines = takes.lines ∙ ap (λ (t : Tape). t.lines ++ takes.more) cut_of;
+      says = takes.says;
+      back = takes.back;
+      last = takes.whole;
+      did = takes.did;
+      stands = ap (λ n. drop n (names (take new.whole new.did))) takes.back
+          ∙ ap names (take_all new.whole new.did (omega (arith, takes.did, takes.whole))) ∙ takes.stands
+          ∙ ap (λ (t : Tape). drop place.back (names t.did)) cut_of ∙ here.stands;
       here = λ none.
-          let there : end_of line old.ends ≡ end_of old.whole old.ends = ap (λ n. end_of n old.ends) (whole none) in
-          let ends : event_of cut ≡ end_of line (take line old.ends) - 0 = ap event_of cut_of in
-          let nothing : end - event ≡ 0 = omega (arith, end_of-take line old.ends) in
-          let same = stays nothing in (
+          let same = stays (ap (λ (p : Place). p.back) (here.whole none)) in (
             ap (λ (t : Tape). t.session) (same ∙ cut_of) ∙ ap (λ (t : Tape). t.session) (mid_same none),
             ap (λ (t : Tape). t.lines) (same ∙ cut_of),
           );
     }
+
+-- ---- where lines may be dropped
+
+-- one line less stays
+pub leave_more : (line whole : ℕ) (lines : List (List ℕ)) (text : List ℕ) → 0 < line → line ≤ whole
+    → slice_get lines (line - 1) ≡ Some text → LeavesDriver (parsed_line text)
+    → All (λ l. LeavesDriver (parsed_line l)) (drop line (take whole lines))
+    → All (λ l. LeavesDriver (parsed_line l)) (drop (line - 1) (take whole lines))
+leave_more line whole lines text some le at leaves all =
+    let k = line - 1 in
+    let lt : k < length lines = slice_get_within lines k text at in
+    let long : k < length (take whole lines) = omega (arith, length-take whole lines) in
+    let e : k + 1 ≡ line = omega arith in
+    let here : get_or (take whole lines) k text ≡ text =
+    get_or-take whole lines k text (omega arith) ∙ get_or_from_slice_get lines k text text at in
+    subst (All (λ l. LeavesDriver (parsed_line l))) (sym (drop_more (take whole lines) k text long
+    ∙ ap (λ x. x ∷ drop (k + 1) (take whole lines)) here ∙ ap (λ n. text ∷ drop n (take whole lines)) e))
+    (All-cons (λ l. LeavesDriver (parsed_line l)) text (drop line (take whole lines)) leaves all)
+
+here_is : (tape : Tape) (line depth : ℕ) → 0 < tape.back
+    → kept_of (take line tape.did) depth ≡ kept_of (take tape.whole tape.did) tape.back
+    → line_here tape ≡ (kept_of (take line tape.did) depth).whole
+here_is tape line depth some same =
+    ap (λ (p : Place). p.whole) (place-kept (take tape.whole tape.did) tape.back some ∙ sym same)
+
+-- so many lines stay
+pub cut_at : (tape : Tape) (line depth : ℕ) → 0 < tape.back → line ≤ tape.whole → tape.whole ≤ length tape.did
+    → kept_of (take line tape.did) depth ≡ kept_of (take tape.whole tape.did) tape.back
+    → drop depth (names (take line tape.did)) ≡ standing tape
+    → All (λ l. LeavesDriver (parsed_line l)) (drop line (take tape.whole tape.lines))
+    → (line_here tape < line → (last : List ℕ) × (slice_get tape.lines (line - 1) ≡ Some last)
+    × SaysOfDriver (parsed_line last)) → IsCutPlace tape (record { whole = line; back = depth })
+cut_at tape line depth some le within same stands leave most =
+    let did = tape.did in
+    let kept = kept-within (take line did) depth in
+    let long = length-take-le line did (omega arith) in
+    let here = here_is tape line depth some same in
+    record {
+      whole = λ none. absurd (omega arith);
+      within = le;
+      least = omega (arith, here, kept, long);
+      most = most;
+      leave = leave;
+      stands = stands;
+    }
+
+-- and the place is there
+pub cut_here : (tape : Tape) (line depth : ℕ) → 0 < tape.back → line ≤ tape.whole → tape.whole ≤ length tape.did
+    → kept_of (take line tape.did) depth ≡ kept_of (take tape.whole tape.did) tape.back
+    → drop depth (names (take line tape.did)) ≡ standing tape
+    → All (λ l. LeavesDriver (parsed_line l)) (drop line (take tape.whole tape.lines))
+    → kept_of (take line tape.did) depth ≡ record { whole = line; back = depth }
+    → IsCutPlace tape (record { whole = line; back = depth })
+cut_here tape line depth some le within same stands leave there =
+    cut_at tape line depth some le within same stands leave (λ less.
+    let at = here_is tape line depth some same ∙ ap (λ (p : Place). p.whole) there in
+    absurd (omega arith))

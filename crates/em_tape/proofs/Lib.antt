@@ -1,6 +1,10 @@
 pub mod TapeLaws
 pub mod AgainLaws
-pub mod EndsLaws
+pub mod NotedLaws
+pub mod StandingLaws
+pub mod KindLaws
 pub mod KeptLaws
 pub mod CutLaws
+pub mod DidLaws
 pub mod PlaceLaws
+pub mod LedLaws

@@ -1,55 +1,21 @@
--- What lines did, as far as it can be done again by itself.
-use Rattle.std.specs.Prelude.{◌≡◌, ℕ, ◌+◌, ◌≤◌, suc, List, [], ◌∷◌, length, map, take, Option, Some, None}
-use Rattle.std.specs.Option.{option_map}
-use Rattle.em_line.specs.Grammar.{parsed_line}
+-- What is seen of a session, by which it is known what a line did with events.
+use Rattle.std.specs.Prelude.{◌≡◌, Bool, true, false, length, Option}
 use Rattle.em_line.specs.ParsedLine.{ParsedLine}
-use Rattle.em_script.specs.PlayedLine.{PlayedLine, ArePlayed, after_all, after_played}
+use Rattle.em_output.specs.declared.outcome.Outcome.{Outcome}
+use Rattle.em_output.specs.declared.outcome.Outcome.TheVariants.{Done, Refused}
+use Rattle.em_script.specs.RefusedAt.{RefusedAt}
 use Rattle.em_script.specs.Reply.{after_line}
 use Rattle.em_script.specs.Session.{Session}
-use Rattle.em_tape.specs.Kind.{SaysEvent}
-use Rattle.em_tape.specs.Tape.{taken_back}
-use Rattle.em_tape.specs.declared.did.Did.{Did}
-use Rattle.em_tape.specs.declared.did.Did.TheVariants.{Nothing, OneEvent, Other}
+use Rattle.em_tape.specs.declared.did.Seen.{Seen}
 
--- one event was performed, and the journal holds it beside all that it held before
-pub record PerformsOne (parsed : ParsedLine) (before after : Session) : Type 0 where
-  pub says : SaysEvent parsed
-  pub session : after ≡ after_line None parsed before
-  pub held : length after.machine.past ≡ length before.machine.past + 1
-  pub undone : taken_back 1 after ≡ before
+-- so much was seen of a session before the line and after it
+pub record IsSeen (seen : Seen) (memory : Option RefusedAt) (parsed : ParsedLine) (from : Session) : Type 0 where
+  pub before : seen.before ≡ length from.machine.past
+  pub after : seen.after ≡ length (after_line memory parsed from).machine.past
+  pub started : seen.started ≡ from.started
+  pub called : seen.called ≡ (after_line memory parsed from).events
 
--- what was said so was done
-abbrev pub Does : Did → ParsedLine → Session → Session → Type 0
-Does Nothing parsed before after = after ≡ before
-Does OneEvent parsed before after = PerformsOne parsed before after
-Does Other parsed before after = Unit {0}
-
--- by each of the lines, one after another
-abbrev pub AllDo : List Did → List PlayedLine → Session → Type 0
-AllDo [] all session = Unit {0}
-AllDo (did ∷ rest) [] session = ⊥
-AllDo (did ∷ rest) (played ∷ all) session =
-    Does did (parsed_line played.line) session (after_played played session)
-    × AllDo rest all (after_played played session)
-
--- how many events these are, where none of the lines did something else
-abbrev pub events_in : List Did → Option ℕ
-events_in [] = Some 0
-events_in (Nothing ∷ rest) = events_in rest
-events_in (OneEvent ∷ rest) = option_map suc (events_in rest)
-events_in (Other ∷ rest) = None
-
--- such lines, played one after another
-pub record AreDone (all : List PlayedLine) (did : List Did) (lines : List (List ℕ)) (first : Session) : Type 0 where
-  pub each : map (λ played. played.line) all ≡ lines
-  pub does : AllDo did all first
-
--- the session stands behind the first `whole` of the lines that did so, with so many of their newest events taken back
-pub record IsKnown (first : Session) (lines : List (List ℕ)) (did : List Did) (whole back : ℕ) (now : Session)
-    : Type 0 where
-  pub all : List PlayedLine
-  pub played : ArePlayed all (take (length did) lines) first
-  pub does : AllDo did all first
-  pub within : whole ≤ length did
-  pub known : length did ≤ length lines
-  pub session : now ≡ taken_back back (after_all (take whole all) first)
+-- how a line comes out that says something
+abbrev pub outcome_where : Bool → Outcome
+outcome_where true = Done
+outcome_where false = Refused

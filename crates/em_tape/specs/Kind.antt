@@ -1,8 +1,13 @@
 -- What a line says, by what its name tells of it.
-use Rattle.em_line.specs.Command.{event, peek, interrupt_line, registers, wire}
-use Rattle.em_line.specs.ParsedLine.{ParsedLine, bad, says}
+use Rattle.std.specs.Prelude.{◌≤◌, ℕ, if◌then◌else◌, List, codes, Option, None}
+use Rattle.std.specs.Str.{bytes_eq}
+use Rattle.em_line.specs.Arguments.{Arguments}
+use Rattle.em_line.specs.Grammar.{back_form}
+use Rattle.em_line.specs.Command.{event, peek, interrupt_line, registers, wire, back, back_by}
+use Rattle.em_line.specs.ParsedLine.{ParsedLine, silent, bad, says, asks, plans, request_line}
+use Rattle.em_line.specs.Request.{Request, alone, request_form, starts, sends, receives, stats, address, sets_address}
 use Rattle.em_tape.specs.declared.kind.Kind.{Kind}
-use Rattle.em_tape.specs.declared.kind.Kind.TheVariants.{Event, Look}
+use Rattle.em_tape.specs.declared.kind.Kind.TheVariants.{Event, Look, Back, Start, Call, Plan, Nothing}
 
 -- an event, if it says anything
 abbrev pub SaysEvent : ParsedLine → Type 0
@@ -19,8 +24,67 @@ SaysLook (says registers) = Unit {0}
 SaysLook (says wire) = Unit {0}
 SaysLook _ = ⊥
 
--- no more is told of the others
+-- steps back, if it says anything
+abbrev pub SaysBack : ParsedLine → Type 0
+SaysBack bad = Unit {0}
+SaysBack (says back) = Unit {0}
+SaysBack (says (back_by most)) = most ≤ 65536
+SaysBack _ = ⊥
+
+-- that a driver is started, if it says anything
+abbrev pub SaysStart : ParsedLine → Type 0
+SaysStart bad = Unit {0}
+SaysStart (asks starts) = Unit {0}
+SaysStart _ = ⊥
+
+-- a call of a driver, if it says anything
+abbrev pub SaysCall : ParsedLine → Type 0
+SaysCall bad = Unit {0}
+SaysCall (asks (sends packets)) = Unit {0}
+SaysCall (asks (receives most)) = Unit {0}
+SaysCall (asks stats) = Unit {0}
+SaysCall (asks address) = Unit {0}
+SaysCall (asks (sets_address octets)) = Unit {0}
+SaysCall _ = ⊥
+
+-- a plan, if it says anything
+abbrev pub SaysPlan : ParsedLine → Type 0
+SaysPlan bad = Unit {0}
+SaysPlan (plans plan) = Unit {0}
+SaysPlan _ = ⊥
+
+-- nothing
+abbrev pub SaysNothing : ParsedLine → Type 0
+SaysNothing bad = Unit {0}
+SaysNothing silent = Unit {0}
+SaysNothing _ = ⊥
+
 abbrev pub IsKind : Kind → ParsedLine → Type 0
 IsKind Event parsed = SaysEvent parsed
 IsKind Look parsed = SaysLook parsed
-IsKind _ parsed = Unit {0}
+IsKind Back parsed = SaysBack parsed
+IsKind Start parsed = SaysStart parsed
+IsKind Call parsed = SaysCall parsed
+IsKind Plan parsed = SaysPlan parsed
+IsKind Nothing parsed = SaysNothing parsed
+
+-- it neither asks anything of a driver nor sets a plan
+abbrev pub LeavesDriver : ParsedLine → Type 0
+LeavesDriver (asks request) = ⊥
+LeavesDriver (plans plan) = ⊥
+LeavesDriver _ = Unit {0}
+
+-- it asks something of a driver or sets a plan, if it says anything
+abbrev pub SaysOfDriver : ParsedLine → Type 0
+SaysOfDriver silent = ⊥
+SaysOfDriver (says command) = ⊥
+SaysOfDriver _ = Unit {0}
+
+-- what a line says that is neither an event nor a look, by its name
+abbrev pub back_or_request : List ℕ → Arguments → ParsedLine
+back_or_request name words =
+    if bytes_eq name (codes "back") then back_form words else request_line (request_form name words)
+
+-- what it asks that is no call of a driver
+abbrev pub start_form : List ℕ → Arguments → Option Request
+start_form name words = if bytes_eq name (codes "init") then alone starts words else None

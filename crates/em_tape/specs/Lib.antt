@@ -1,7 +1,8 @@
 pub mod Did
-pub mod Ends
 pub mod Holds
 pub mod Kind
+pub mod Known
+pub mod Led
 pub mod Replied
 pub mod Tape
 pub mod Moves

@@ -1,19 +1,28 @@
 -- The lines of a debugging session, and the place in it.
-use Rattle.std.specs.Prelude.{◌≡◌, ℕ, ◌+◌, ◌-◌, ◌<◌, ◌≤◌, ◌^◌, List, [], All, length, take, zero, suc, refl, Option, None, slice_get}
-use Rattle.std.specs.Coded.{Coded, code_by, coded×, coded_list, coded_ℕ}
+use Rattle.std.specs.Prelude.{◌≡◌, ℕ, ◌+◌, ◌*◌, ◌<◌, ◌≤◌, ◌^◌, Bool, true, List, [], All, length, take, drop}
+use Rattle.std.specs.Prelude.{zero, suc, refl, Option, None, slice_get}
+use Rattle.std.specs.Coded.{Coded, code_by, coded×, coded_list, coded_ℕ, coded_bool}
 use Rattle.std.specs.List.{AllByRecursion}
 use Rattle.em_journal.specs.View.{after_backs}
 use Rattle.em_script.specs.Session.{Session, session_code}
 use Rattle.em_script.specs.PlayedLine.{PlayedLine, after_all, ArePlayed, with_memory}
-use Rattle.em_tape.specs.Ends.{end_of}
+use Rattle.em_named.specs.Did.{did_code}
+use Rattle.em_named.specs.Names.{names}
+use Rattle.em_named.specs.Numbers.{above, end_of, number_in, number_of}
+use Rattle.em_named.specs.Place.{place_of}
+use Rattle.em_named.specs.declared.did.Did.{Did}
+use Rattle.em_named.specs.declared.did.Name.{Name}
+use Rattle.em_script.specs.Did.{all_did}
 
 pub record Tape : Type 0 where
   -- what it begins with
   pub first : Session
   -- the lines that were typed or loaded
   pub lines : List (List ℕ)
-  -- how many events stand after each line that was performed so far
-  pub ends : List ℕ
+  -- what each line did with events that was performed so far
+  pub did : List Did
+  -- whether the answer of each of them could be written: of one whose answer could not, it is not known what it did
+  pub answered : Bool
   -- how many lines stand performed at the place
   pub whole : ℕ
   -- how many of their newest events are taken back
@@ -23,22 +32,31 @@ pub record Tape : Type 0 where
 
 abbrev pub tape_code : Coded Tape
 tape_code =
-    code_by (Session × (List (List ℕ) × (List ℕ × (ℕ × (ℕ × Session)))))
+    code_by (Session × (List (List ℕ) × (List Did × (Bool × (ℕ × (ℕ × Session))))))
     (coded× session_code (coded× (coded_list (coded_list coded_ℕ))
-    (coded× (coded_list coded_ℕ) (coded× coded_ℕ (coded× coded_ℕ session_code)))))
-    (λ t. (t.first, (t.lines, (t.ends, (t.whole, (t.back, t.session))))))
+    (coded× (coded_list did_code) (coded× coded_bool (coded× coded_ℕ (coded× coded_ℕ session_code))))))
+    (λ t. (t.first, (t.lines, (t.did, (t.answered, (t.whole, (t.back, t.session)))))))
     (λ p. record {
       first = p.0;
       lines = p.1.0;
-      ends = p.1.1.0;
-      whole = p.1.1.1.0;
-      back = p.1.1.1.1.0;
-      session = p.1.1.1.1.1;
+      did = p.1.1.0;
+      answered = p.1.1.1.0;
+      whole = p.1.1.1.1.0;
+      back = p.1.1.1.1.1.0;
+      session = p.1.1.1.1.1.1;
     }) (λ _. refl)
 
 -- before any line
 abbrev pub empty_tape : Session → Tape
-empty_tape first = record { first = first; lines = []; ends = []; whole = 0; back = 0; session = first }
+empty_tape first = record {
+  first = first;
+  lines = [];
+  did = [];
+  answered = true;
+  whole = 0;
+  back = 0;
+  session = first;
+}
 
 -- the newest n events are taken back; the driver and the plan stay as the whole lines left them
 abbrev pub taken_back : ℕ → Session → Session
@@ -54,28 +72,63 @@ pub record IsAt (first : Session) (lines : List (List ℕ)) (back : ℕ) (now : 
 abbrev pub IsShort : List ℕ → Type 0
 IsShort line = length line < 0xFFFF_FFFF
 
--- what holds of a tape between two calls: it shows what its place says, and there is room to go on
-pub record IsTape (first : Session) (lines : List (List ℕ)) (ends : List ℕ) (whole back : ℕ) (session : Session)
-    : Type 0 where
+-- Each line was noted to have done what it did.
+abbrev pub AreNoted : Bool → List Did → List PlayedLine → Session → Type 0
+AreNoted answered did all first = answered ≡ true → did ≡ all_did all first
+
+-- what holds of a tape between two calls: it shows what its place says, it is known what each line did, and there is room
+-- to go on
+pub record IsTape (first : Session) (lines : List (List ℕ)) (did : List Did) (answered : Bool) (whole back : ℕ)
+    (session : Session) : Type 0 where
   pub place : IsAt first (take whole lines) back session
-  pub known : whole ≤ length ends
-  pub performed : length ends ≤ length lines
+  pub noted : AreNoted answered (take whole did) place.all first
+  pub known : whole ≤ length did
+  pub performed : length did ≤ length lines
   pub short : All IsShort lines
-  pub few : length lines ≤ 0xFFFF_FFFF
+  pub few : length lines ≤ 0x3FFF_FFFF
+  pub counts : (k : ℕ) → end_of k did ≤ k * 0x2_0000_0000
   pub room : back + length session.machine.past < 2 ^ 64
 
--- the number of the newest event that stands at the place
-abbrev pub event_of : Tape → ℕ
-event_of tape = end_of tape.whole tape.ends - tape.back
+abbrev pub HoldsTape : Tape → Type 0
+HoldsTape tape = IsTape tape.first tape.lines tape.did tape.answered tape.whole tape.back tape.session
 
--- at event n; or at the last event, where there are not so many; or as near behind it as the journal reaches
+-- ---- the events at the place
+
+-- the names of those that stand there, the newest first
+abbrev pub standing : Tape → List Name
+standing tape = drop tape.back (names (take tape.whole tape.did))
+
+-- its line is one of the whole ones, and its number one of 64 bits
+pub record IsNamed (tape : Tape) (one : Name) : Type 0 where
+  pub first : 1 ≤ one.line
+  pub last : one.line ≤ tape.whole
+  pub known : tape.whole ≤ length tape.did
+  pub small : number_of tape.did one < 2 ^ 64
+
+-- the number of the one so many steps back from the place, of the newest at 0; 0 where no so many stand
+abbrev pub event_at : ℕ → Tape → ℕ
+event_at k tape = number_in tape.did (slice_get (standing tape) k)
+
+-- the number of the newest
+abbrev pub event_of : Tape → ℕ
+event_of tape = event_at 0 tape
+
+-- how many have a number above n: so many steps back lead to where none has
+abbrev pub behind : ℕ → Tape → ℕ
+behind n tape = above n tape.did (standing tape)
+
+-- the line of the place: where it is whole, that of its last line; else so many lines as do not lie ahead of it
+abbrev pub line_here : Tape → ℕ
+line_here tape = (place_of (take tape.whole tape.did) tape.back).whole
+
+-- at event n; or at the end, where not so many events were performed; or as near behind it as the journal reaches
 pub data IsNear (n : ℕ) (tape : Tape) : Type 0 where
   there : event_of tape ≡ n → IsNear n tape
-  at_end : tape.whole ≡ length tape.ends → tape.back ≡ 0 → event_of tape < n → IsNear n tape
+  at_end : tape.whole ≡ length tape.did → tape.back ≡ 0 → end_of tape.whole tape.did < n → IsNear n tape
   near : tape.session.machine.past ≡ [] → n < event_of tape → IsNear n tape
 
--- the text of a line by its number, from 1
-abbrev pub line_at : ℕ → List (List ℕ) → Option (List ℕ)
+-- of a line by its number, from 1
+abbrev pub line_at : {X : Type 0} → ℕ → List X → Option X
 line_at zero lines = None
 line_at (suc k) lines = slice_get lines k
 

@@ -1,13 +1,14 @@
 //! Going along lines that did no more than one event each, from where the session is.
-ghost use Rattle.std.specs.Prelude.{◌≡◌, ◌<◌, ◌≤◌, ◌^◌, ◌∷◌, [], All, List, ℕ, false, length, take, IsTrue, IsNone, IfSome, Some};
+ghost use Rattle.std.specs.Prelude.{◌≡◌, ◌<◌, ◌≤◌, ◌^◌, ◌∷◌, [], All, Bool, List, ℕ, false, length, take, IsTrue, IsNone, IfSome, Some};
 ghost use Rattle.em_tape.specs.Texts.{texts};
 ghost use Rattle.em_line.specs.Grammar.{parsed_line};
 ghost use Rattle.em_script.specs.PlayedLine.{PlayedLine, after_all};
 ghost use Rattle.em_script.specs.Session.{Session};
-ghost use Rattle.em_tape.specs.Did.{AllDo, AreDone, Does, IsKnown, PerformsOne, events_in};
+ghost use Rattle.em_named.specs.declared.did.Did.{Did};
+ghost use Rattle.em_tape.specs.Known.{AllDo, AreDone, Does, IsKnown, PerformsOne, events_in};
 ghost use Rattle.em_tape.specs.Tape.{IsShort};
 
-use crate::did::{Did, events_of, line_before};
+use crate::known::{Known, events_of, line_before};
 use crate::text::Text;
 use em_script::{Player, Session};
 use std::io::sink;
@@ -18,45 +19,45 @@ pub(crate) fn go_along(
     player: &mut Player,
     session: &mut Session,
     lines: &[Text],
-    did: &[Did],
+    known: &[Known],
     whole: usize,
     back: usize,
     line: usize,
 ) -> bool
     requires short { All IsShort (texts lines.now) }
-    requires known { length did.now ≤ length lines.now }
-    requires within { whole ≤ length did.now }
+    requires known { length known.now ≤ length lines.now }
+    requires within { whole ≤ length known.now }
     requires room { length session.old.machine.past < 2 ^ 64 }
-    ensures there { IsTrue result → (first : Session)
-        → IsKnown first (texts lines.now) did.now whole back session.old
-        → IsKnown first (texts lines.now) did.now line 0 session.new }
-    ensures same { result ≡ false → (first : Session)
-        → IsKnown first (texts lines.now) did.now whole back session.old → session.new ≡ session.old }
-    ensures within { IsTrue result → line ≤ length did.now }
+    ensures there { IsTrue result → (first : Session) (did : List Did) (answered : Bool)
+        → IsKnown first (texts lines.now) did answered known.now whole back session.old
+        → IsKnown first (texts lines.now) did answered known.now line 0 session.new }
+    ensures same { result ≡ false → (first : Session) (did : List Did) (answered : Bool)
+        → IsKnown first (texts lines.now) did answered known.now whole back session.old → session.new ≡ session.old }
+    ensures within { IsTrue result → line ≤ length known.now }
     ensures room { length session.new.machine.past < 2 ^ 64 }
 {
-    let Some(here) = line_before(did, whole, back) else {
+    let Some(here) = line_before(known, whole, back) else {
         return false;
     };
     if line <= here {
-        return take_back(session, &did[line..here]);
+        return take_back(session, &known[line..here]);
     }
-    if line > did.len() {
+    if line > known.len() {
         return false;
     }
-    perform_again(player, session, &lines[here..line], &did[here..line])
+    perform_again(player, session, &lines[here..line], &known[here..line])
 }
 
 /// Takes back what lines did, each of them no more than one event. False where one of them did something else: then the
 /// session stays.
-fn take_back(session: &mut Session, did: &[Did]) -> bool
+fn take_back(session: &mut Session, known: &[Known]) -> bool
     requires room { length session.old.machine.past < 2 ^ 64 }
-    ensures there { IsTrue result → (all : List PlayedLine) (first : Session) → AllDo did.now all first
-        → session.old ≡ after_all (take (length did.now) all) first → session.new ≡ first }
+    ensures there { IsTrue result → (all : List PlayedLine) (first : Session) → AllDo known.now all first
+        → session.old ≡ after_all (take (length known.now) all) first → session.new ≡ first }
     ensures same { result ≡ false → session.new ≡ session.old }
     ensures room { length session.new.machine.past < 2 ^ 64 }
 {
-    match events_of(did) {
+    match events_of(known) {
         Some(events) => {
             let _taken = session.back_by(events);
             true
@@ -67,21 +68,26 @@ fn take_back(session: &mut Session, did: &[Did]) -> bool
 
 /// Performs lines again, each of which did no more than one event. False where one of them did something else, or does
 /// not do so again: then the session stays.
-fn perform_again(player: &mut Player, session: &mut Session, lines: &[Text], did: &[Did]) -> bool
+fn perform_again(
+    player: &mut Player,
+    session: &mut Session,
+    lines: &[Text],
+    known: &[Known],
+) -> bool
     requires short { All IsShort (texts lines.now) }
-    requires known { length did.now ≤ length lines.now }
+    requires known { length known.now ≤ length lines.now }
     requires room { length session.old.machine.past < 2 ^ 64 }
     ensures there { IsTrue result → (all : List PlayedLine)
-        → AreDone all did.now (texts lines.now) session.old
-        → session.new ≡ after_all (take (length did.now) all) session.old }
+        → AreDone all known.now (texts lines.now) session.old
+        → session.new ≡ after_all (take (length known.now) all) session.old }
     ensures same { result ≡ false → (all : List PlayedLine)
-        → AreDone all did.now (texts lines.now) session.old → session.new ≡ session.old }
+        → AreDone all known.now (texts lines.now) session.old → session.new ≡ session.old }
     ensures room { length session.new.machine.past < 2 ^ 64 }
 {
     let mut events = 0;
     let mut done = 0;
-    while done < did.len() {
-        match do_again(player, session, lines[done].as_slice(), did[done]) {
+    while done < known.len() {
+        match do_again(player, session, lines[done].as_slice(), known[done]) {
             Some(more) => events += more,
             None => {
                 let _taken = session.back_by(events);
@@ -95,24 +101,24 @@ fn perform_again(player: &mut Player, session: &mut Session, lines: &[Text], did
 
 /// Does again what a line did, and gives how many events that were. None where it did something else, or does nothing
 /// now: then the session stays.
-fn do_again(player: &mut Player, session: &mut Session, line: &[u8], did: Did) -> Option<usize>
+fn do_again(player: &mut Player, session: &mut Session, line: &[u8], known: Known) -> Option<usize>
     requires { IsShort line.now }
-    ensures does { IfSome result (λ events. (events_in (did ∷ []) ≡ Some events) × ((after : Session)
-        → Does did (parsed_line line.now) session.old after → session.new ≡ after)) }
-    ensures same { IsNone result → (after : Session) → Does did (parsed_line line.now) session.old after
+    ensures does { IfSome result (λ events. (events_in (known ∷ []) ≡ Some events) × ((after : Session)
+        → Does known (parsed_line line.now) session.old after → session.new ≡ after)) }
+    ensures same { IsNone result → (after : Session) → Does known (parsed_line line.now) session.old after
         → session.new ≡ session.old }
     ensures room { length session.old.machine.past < 2 ^ 64 → length session.new.machine.past < 2 ^ 64 }
 {
-    match did {
-        Did::Nothing => Some(0),
-        Did::OneEvent => {
+    match known {
+        Known::Nothing => Some(0),
+        Known::OneEvent => {
             if perform_one(player, session, line) {
                 Some(1)
             } else {
                 None
             }
         }
-        Did::Other => None,
+        Known::Other => None,
     }
 }
 

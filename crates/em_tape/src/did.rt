@@ -1,128 +1,114 @@
-//! What lines did, as far as it can be done again by itself.
-ghost use Rattle.std.specs.Prelude.{◌≡◌, ◌<◌, ◌≤◌, ◌-◌, ◌∷◌, ◌++◌, [], Some, Option, IfSome, length, take, drop};
-ghost use Rattle.std.specs.Prelude.{vec_len, vec_capacity};
+//! What a line did with events.
+ghost use Rattle.std.specs.Prelude.{◌≡◌, ℕ, ◌-◌, ◌<◌, ◌≤◌, Option, length, slice_get, vec_len, vec_capacity};
 ghost use Rattle.em_line.specs.ParsedLine.{ParsedLine};
 ghost use Rattle.em_script.specs.RefusedAt.{RefusedAt};
-ghost use Rattle.em_script.specs.Reply.{after_line, line_outcome};
+ghost use Rattle.em_script.specs.Reply.{line_outcome};
 ghost use Rattle.em_script.specs.Session.{Session};
+ghost use Rattle.em_named.specs.Numbers.{performed_by};
+ghost use Rattle.em_script.specs.Did.{did_of};
+ghost use Rattle.em_tape.specs.Did.{outcome_where, IsSeen};
 ghost use Rattle.em_tape.specs.Kind.{IsKind};
-ghost use Rattle.em_tape.specs.Did.{Does, events_in};
+ghost use Rattle.em_tape.specs.Moves.{has_at, noted, same_did};
 
-use crate::count::Seen;
 use crate::kind::Kind;
+use em_named::Did;
 use em_script::Outcome;
 
-/// What a line did that was performed.
-#[derive(Clone, Copy, PartialEq, Eq, Debug)]
-pub(crate) enum Did {
-    /// Nothing.
-    Nothing,
-    /// One event, which the journal holds beside all that it held before.
-    OneEvent,
-    /// Something else, or it is not known what.
-    Other,
+/// How many events one line takes back at most.
+pub(crate) const MOST_BACK: usize = 65_536;
+
+/// What is seen of a session before a line and after it.
+#[derive(Clone, Copy)]
+pub(crate) struct Seen {
+    /// How many records the journal had before the line.
+    pub(crate) before: usize,
+    /// And how many after it.
+    pub(crate) after: usize,
+    /// Whether a driver stood there before the line.
+    pub(crate) started: bool,
+    /// How many events the last call of a driver performed, with those of its plan.
+    pub(crate) called: u64,
 }
 
-/// What a line of this kind did that came out so.
+/// What a line of this kind did with events that came out so.
 pub(crate) fn did_of(kind: Kind, outcome: Outcome, seen: Seen) -> Did
-    ensures { (memory : Option RefusedAt) (parsed : ParsedLine) (before : Session) → IsKind kind parsed
-        → outcome ≡ line_outcome memory parsed before → seen.before ≡ length before.machine.past
-        → seen.before ≡ length before.machine.costs
-        → seen.after ≡ length (after_line memory parsed before).machine.past
-        → Does result parsed before (after_line memory parsed before) }
+    requires { seen.called ≤ 0x2_0000_0000 }
+    ensures is { (memory : Option RefusedAt) (parsed : ParsedLine) (before : Session) → IsKind kind parsed
+        → outcome ≡ line_outcome memory parsed before → IsSeen seen memory parsed before
+        → result ≡ did_of memory parsed before }
+    ensures few { performed_by result ≤ 0x2_0000_0000 }
 {
     match outcome {
-        Outcome::Silent => Did::Nothing,
-        Outcome::Bad => Did::Nothing,
-        Outcome::Refused => refused(kind),
-        Outcome::Done => done(kind, seen),
+        Outcome::Silent => Did::Performed(0),
+        Outcome::Bad => Did::Performed(0),
+        Outcome::Refused => did_where(kind, false, seen),
+        Outcome::Done => did_where(kind, true, seen),
     }
 }
 
-/// What a line did that was refused.
-fn refused(kind: Kind) -> Did
-    ensures { (memory : Option RefusedAt) (parsed : ParsedLine) (before : Session) → IsKind kind parsed
-        → Outcome.Refused ≡ line_outcome memory parsed before
-        → Does result parsed before (after_line memory parsed before) }
+/// What a line did that says something, by whether it was done or refused.
+fn did_where(kind: Kind, done: bool, seen: Seen) -> Did
+    requires { seen.called ≤ 0x2_0000_0000 }
+    ensures is { (memory : Option RefusedAt) (parsed : ParsedLine) (before : Session) → IsKind kind parsed
+        → outcome_where done ≡ line_outcome memory parsed before → IsSeen seen memory parsed before
+        → result ≡ did_of memory parsed before }
+    ensures few { performed_by result ≤ 0x2_0000_0000 }
 {
     match kind {
-        Kind::Event => Did::Nothing,
-        Kind::Look => Did::Nothing,
-        Kind::Back => Did::Other,
-        Kind::Start => Did::Other,
-        Kind::Call => Did::Other,
-        Kind::Other => Did::Other,
-    }
-}
-
-/// What a line did that was done.
-fn done(kind: Kind, seen: Seen) -> Did
-    ensures { (memory : Option RefusedAt) (parsed : ParsedLine) (before : Session) → IsKind kind parsed
-        → Outcome.Done ≡ line_outcome memory parsed before → seen.before ≡ length before.machine.past
-        → seen.before ≡ length before.machine.costs
-        → seen.after ≡ length (after_line memory parsed before).machine.past
-        → Does result parsed before (after_line memory parsed before) }
-{
-    match kind {
-        Kind::Event => {
-            if seen.after > seen.before {
-                Did::OneEvent
+        Kind::Event => Did::Performed(u64::from(done)),
+        Kind::Look => Did::Performed(0),
+        Kind::Back => took_back(seen),
+        Kind::Start => Did::Performed(seen.called),
+        Kind::Call => {
+            if seen.started {
+                Did::Performed(seen.called)
             } else {
-                Did::Other
+                Did::Performed(0)
             }
         }
-        Kind::Look => Did::Nothing,
-        Kind::Back => Did::Other,
-        Kind::Start => Did::Other,
-        Kind::Call => Did::Other,
-        Kind::Other => Did::Other,
+        Kind::Plan => Did::Performed(0),
+        Kind::Nothing => Did::Performed(0),
     }
 }
 
-/// How many events lines did that did no more than one each; none where one of them did something else.
-pub(crate) fn events_of(did: &[Did]) -> Option<usize>
-    ensures { result ≡ events_in did.now }
+/// What a line did that takes events back.
+fn took_back(seen: Seen) -> Did
+    ensures is { (took : ℕ) → took ≡ seen.before - seen.after → took ≤ 65536 → result ≡ Did.TookBack took }
+    ensures few { performed_by result ≡ 0 }
 {
-    let mut events = 0;
-    for one in did {
-        match one {
-            Did::Nothing => {}
-            Did::OneEvent => events += 1,
-            Did::Other => return None,
-        }
-    }
-    Some(events)
+    Did::TookBack(seen.before.saturating_sub(seen.after).min(MOST_BACK) as u32)
 }
 
-/// Behind which line so many events lie, up to the end of the first `whole` lines, where each of the lines between did
-/// no more than one.
-pub(crate) fn line_before(did: &[Did], whole: usize, events: usize) -> Option<usize>
-    requires { whole ≤ length did.now }
-    ensures { IfSome result (λ line. (line ≤ whole)
-        × (events_in (take (whole - line) (drop line did.now)) ≡ Some events)) }
-{
-    let mut line = whole;
-    let mut left = events;
-    while left > 0 {
-        if line == 0 {
-            return None;
-        }
-        line -= 1;
-        match did[line] {
-            Did::Nothing => {}
-            Did::OneEvent => left -= 1,
-            Did::Other => return None,
-        }
-    }
-    Some(line)
-}
-
-/// Keeps what the line behind the first `whole` did.
-pub(crate) fn keep(all: &mut Vec<Did>, whole: usize, did: Did)
+/// Notes what the line behind the first `whole` did. Where it did something else before, no more is known of those
+/// behind it.
+pub(crate) fn note(all: &mut Vec<Did>, whole: usize, did: Did)
     requires within { whole ≤ length all.old.items }
     requires room { vec_len all.old < vec_capacity all.old }
-    ensures { all.new.items ≡ take whole all.old.items ++ did ∷ [] }
+    ensures { all.new.items ≡ noted whole did all.old.items }
 {
-    all.truncate(whole);
-    all.push_reserved(did);
+    if !is_noted(all.as_slice(), whole, did) {
+        all.truncate(whole);
+        all.push_reserved(did);
+    }
+}
+
+/// Whether it was noted that the line behind the first `whole` did this.
+pub(crate) fn is_noted(all: &[Did], whole: usize, did: Did) -> bool
+    ensures { result ≡ has_at (slice_get all.now whole) did }
+{
+    match all.get(whole) {
+        Some(one) => is_same(*one, did),
+        None => false,
+    }
+}
+
+fn is_same(one: Did, other: Did) -> bool
+    ensures { result ≡ same_did one other }
+{
+    match (one, other) {
+        (Did::Performed(count), Did::Performed(events)) => count == events,
+        (Did::TookBack(count), Did::TookBack(events)) => count == events,
+        (Did::Performed(_), Did::TookBack(_)) => false,
+        (Did::TookBack(_), Did::Performed(_)) => false,
+    }
 }

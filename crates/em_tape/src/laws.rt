@@ -1,10 +1,15 @@
 //! What the definitions of a place say together.
-ghost use Rattle.std.specs.Prelude.{◌≡◌, ℕ, List, false};
+ghost use Rattle.std.specs.Prelude.{◌≡◌, ◌<◌, ℕ, List, false, true, length, slice_get, Some};
 ghost use Rattle.std.specs.List.{AllByRecursion};
 ghost use Rattle.em_line.specs.Grammar.{parsed_line};
 ghost use Rattle.em_script.specs.Session.{Session};
 ghost use Rattle.em_script.specs.Reply.{line_takes_memory};
-ghost use Rattle.em_tape.specs.Tape.{IsAt, HadMemory, session_at};
+ghost use Rattle.em_step.specs.State.{State};
+ghost use Rattle.em_journal.specs.View.{opening};
+ghost use Rattle.em_named.specs.Names.{IsBefore};
+ghost use Rattle.em_named.specs.declared.did.Name.{Name};
+ghost use Rattle.em_tape.specs.Led.{HasLed};
+ghost use Rattle.em_tape.specs.Tape.{HadMemory, HoldsTape, IsAt, Tape, session_at, standing};
 
 /// The same place shows the same each time. Where memory was refused to no line on the way there, the session at a
 /// place is a function of what the tape begins with, the lines that stand whole, and how many events are taken back.
@@ -15,4 +20,16 @@ pub fn a_place_shows_the_same()
     ensures takes_none { (first now : Session) (lines : List (List ℕ)) (back : ℕ) → IsAt first lines back now
         → AllByRecursion (λ line. line_takes_memory (parsed_line line) ≡ false) lines
         → now ≡ session_at first lines back }
+{}
+
+/// The named event led, by `step`, from the state shown one step further back to the state shown there; its line stands
+/// whole, so it is never of a line ahead. This holds of each event that the journal can still take back, where each answer
+/// so far could be written. No two events that stand have the same name.
+pub fn a_named_event_led()
+    ensures led { (tape : Tape) (budget : ℕ) (s : State) (k : ℕ) → HoldsTape tape → tape.answered ≡ true
+        → tape.first.machine ≡ opening budget s → k < length tape.session.machine.past
+        → (name : Name) × HasLed tape k name }
+    ensures once { (tape : Tape) (i j : ℕ) (newer older : Name) → i < j
+        → slice_get (standing tape) i ≡ Some newer → slice_get (standing tape) j ≡ Some older
+        → IsBefore older newer }
 {}

@@ -8,16 +8,16 @@
 #![tactic(auto)]
 
 mod again;
-mod count;
 mod did;
-mod ends;
 mod kind;
+mod known;
 mod laws;
 mod lines;
 mod playing;
 mod tape;
 mod text;
 
-pub use laws::a_place_shows_the_same;
+pub use em_named::{Did, Name};
+pub use laws::{a_named_event_led, a_place_shows_the_same};
 pub use tape::{MOST_LINES, MOST_OCTETS, Tape};
 pub use text::Text;

@@ -1,19 +1,19 @@
 //! Performing the lines of a tape, for the first time and again.
-ghost use Rattle.std.specs.Prelude.{◌≡◌, ◌<◌, ◌≤◌, ◌^◌, [], All, length, IfOk, IfErr, IfSome, OnOk, IsNone};
+ghost use Rattle.std.specs.Prelude.{◌≡◌, ◌<◌, ◌≤◌, ◌^◌, [], All, length, true, IfOk, IfErr, IfSome, OnOk, IsNone};
 ghost use Rattle.em_tape.specs.Texts.{texts};
 ghost use Rattle.em_journal.specs.Settings.{new_machine, IsRefusedAs};
-ghost use Rattle.em_line.specs.Grammar.{parsed_line};
 ghost use Rattle.em_script.specs.Session.{bare};
-ghost use Rattle.em_script.specs.Reply.{Performs};
 ghost use Rattle.em_tape.specs.Replied.{replied_of};
-ghost use Rattle.em_tape.specs.Did.{Does, IsKnown};
+ghost use Rattle.em_tape.specs.Known.{IsKnown};
+ghost use Rattle.em_tape.specs.Moves.{IsPlayed};
 ghost use Rattle.em_tape.specs.Tape.{IsShort};
 
-use crate::count::{Count, Seen};
-use crate::did::{Did, did_of};
+use crate::did::{Seen, did_of, is_noted};
 use crate::kind::kind_of;
+use crate::known::{Known, known_of};
 use crate::text::Text;
 use em_journal::{Settings, SettingsRefusal};
+use em_named::Did;
 use em_script::{BenchFault, Outcome, Player, Session};
 use em_text::WriteFailed;
 use std::alloc::Global;
@@ -38,45 +38,52 @@ pub(crate) fn put(place: &mut Session, session: Session)
     *place = session;
 }
 
-/// How a line came out, and what it did.
+/// How a line came out, what it did with events, and what is known of it.
 #[derive(Clone, Copy)]
 pub(crate) struct Played {
     pub(crate) replied: Result<Outcome, WriteFailed>,
     pub(crate) did: Did,
+    pub(crate) known: Known,
 }
 
-/// Plays a line, and counts its events. None where memory is refused for the octets of the line: then nothing is done
-/// and nothing written.
+/// Plays a line. None where memory is refused for the octets of the line: then nothing is done and nothing written.
 pub(crate) fn play<W: Write>(
     player: &mut Player,
     writer: &mut W,
     session: &mut Session,
     number: u32,
     line: &[u8],
-    count: &mut Count,
 ) -> Option<Played>
     requires { IsShort line.now }
-    ensures done { IfSome result (λ played. Performs number (parsed_line line.now)
-        session.old session.new (W.contents writer.old) (W.contents writer.new) played.replied) }
-    ensures did { IfSome result (λ played. Does played.did (parsed_line line.now) session.old session.new) }
+    ensures done { IfSome result
+        (IsPlayed number line.now session.old session.new (W.contents writer.old) (W.contents writer.new)) }
     ensures same { IsNone result → session.new ≡ session.old }
     ensures unwritten { IsNone result → W.contents writer.new ≡ W.contents writer.old }
     ensures room { length session.new.machine.past < 2 ^ 64 }
 {
     let before = session.machine().can_go_back();
+    let started = session.is_started();
     let replied = replied_of(player.play(writer, session, number, line))?;
     let seen = Seen {
         before,
         after: session.machine().can_go_back(),
+        started,
         called: session.events_of_call(),
     };
     let kind = kind_of(line);
-    *count = count.after(kind, replied, seen);
-    let did = match replied {
-        Ok(outcome) => did_of(kind, outcome, seen),
-        Err(WriteFailed) => Did::Other,
-    };
-    Some(Played { replied, did })
+    match replied {
+        Ok(outcome) => Some(Played {
+            replied,
+            did: did_of(kind, outcome, seen),
+            known: known_of(kind, outcome, seen),
+        }),
+        // No outcome is known: it is taken for done.
+        Err(WriteFailed) => Some(Played {
+            replied,
+            did: did_of(kind, Outcome::Done, seen),
+            known: Known::Other,
+        }),
+    }
 }
 
 /// How a line came out that was played.
@@ -90,21 +97,22 @@ fn replied_of(played: Result<Outcome, BenchFault>) -> Option<Result<Outcome, Wri
     }
 }
 
-/// Performs lines again, from the first line on, without their texts, and keeps what each did. Each must end as it did
-/// before: where one does not, memory was refused to it, now or then.
+/// Performs lines again, from the first line on, without their texts, and keeps what is known of each. Each must do with
+/// events what it did before: where one does not, memory was refused to it, now or then.
 fn replay(
     player: &mut Player,
     session: &mut Session,
     lines: &[Text],
-    ends: &[u64],
-    count: &mut Count,
-    did: &mut Vec<Did>,
+    did: &[Did],
+    known: &mut Vec<Known>,
 ) -> Result<(), BenchFault>
     requires short { All IsShort (texts lines.now) }
-    requires few { length lines.now ≤ 0xFFFF_FFFF }
+    requires few { length lines.now ≤ 0x3FFF_FFFF }
     requires room { length session.old.machine.past < 2 ^ 64 }
-    requires first { did.old.items ≡ [] }
-    ensures ok { OnOk result (IsKnown session.old (texts lines.now) did.new.items (length lines.now) 0 session.new) }
+    requires first { known.old.items ≡ [] }
+    ensures ok { OnOk result (IsKnown session.old (texts lines.now) did.now true known.new.items
+        (length lines.now) 0 session.new) }
+    ensures each { OnOk result (length known.new.items ≡ length lines.now) }
     ensures room { length session.new.machine.past < 2 ^ 64 }
     ensures err { IfErr result (λ fault. fault ≡ BenchFault.Memory) }
 {
@@ -112,31 +120,23 @@ fn replay(
     let mut number = 0;
     for line in lines {
         number += 1;
-        let Some(played) = play(
-            player,
-            &mut nowhere,
-            session,
-            number,
-            line.as_slice(),
-            count,
-        ) else {
+        let Some(played) = play(player, &mut nowhere, session, number, line.as_slice()) else {
             return Err(BenchFault::Memory);
         };
-        if !count.ended_so(ends, number) {
+        if played.replied.is_err() || !is_noted(did, known.len(), played.did) {
             return Err(BenchFault::Memory);
         }
-        let Ok(()) = did.push(played.did) else {
+        let Ok(()) = known.push(played.known) else {
             return Err(BenchFault::Memory);
         };
     }
     Ok(())
 }
 
-/// A session that lines left, and what each of them did.
+/// A session that lines left, and what is known of each of them.
 pub(crate) struct Left {
     pub(crate) session: Session,
-    pub(crate) did: Vec<Did>,
-    pub(crate) counted: Count,
+    pub(crate) known: Vec<Known>,
 }
 
 /// The session that lines leave which are performed again on a new machine.
@@ -145,26 +145,21 @@ pub(crate) fn replayed(
     settings: Settings,
     player: &mut Player,
     lines: &[Text],
-    ends: &[u64],
+    did: &[Did],
 ) -> Result<Left, BenchFault>
     requires short { All IsShort (texts lines.now) }
-    requires few { length lines.now ≤ 0xFFFF_FFFF }
-    ensures ok { IfOk result (λ r.
-        IsKnown (bare (new_machine settings)) (texts lines.now) r.did.items (length lines.now) 0 r.session) }
+    requires few { length lines.now ≤ 0x3FFF_FFFF }
+    ensures ok { IfOk result (λ r. IsKnown (bare (new_machine settings)) (texts lines.now) did.now true r.known.items
+        (length lines.now) 0 r.session) }
     ensures room { IfOk result (λ r. length r.session.machine.past < 2 ^ 64) }
     ensures err { IfErr result (λ fault. fault ≡ BenchFault.Memory) }
 {
     let Ok(mut session) = opening(alloc, settings) else {
         return Err(BenchFault::Memory);
     };
-    let mut did = Vec::new(alloc);
-    let mut counted = Count::start();
-    match replay(player, &mut session, lines, ends, &mut counted, &mut did) {
-        Ok(()) => Ok(Left {
-            session,
-            did,
-            counted,
-        }),
+    let mut known = Vec::new(alloc);
+    match replay(player, &mut session, lines, did, &mut known) {
+        Ok(()) => Ok(Left { session, known }),
         Err(fault) => Err(fault),
     }
 }

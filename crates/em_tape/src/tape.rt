@@ -1,21 +1,28 @@
 //! A debugging session with a place in it.
-ghost use Rattle.std.specs.Prelude.{◌≡◌, ◌⊎◌, ℕ, ◌+◌, ◌-◌, ◌<◌, ◌≤◌, ◌↔◌, ◌∷◌, ◌++◌, [], List, insert, nat_lt, length, take, drop, min};
+ghost use Rattle.std.specs.Prelude.{◌≡◌, ◌⊎◌, ◌&&◌, ℕ, ◌+◌, ◌-◌, ◌<◌, ◌≤◌, ◌↔◌, ◌∷◌, ◌++◌, [], List, insert, nat_eq, nat_lt, length, take, drop, min, slice_get};
 ghost use Rattle.std.specs.Prelude.{IfOk, IfErr, OnOk, OnErr, IfSome, IsErrOf, IsTrue, Ok, None, Some, false};
 ghost use Rattle.std.specs.Option.{option_map};
 ghost use Rattle.em_journal.specs.Settings.{new_machine, IsRefusedAs};
 ghost use Rattle.em_script.specs.Session.{bare};
-ghost use Rattle.em_tape.specs.Ends.{end_of, IsLineOf};
-ghost use Rattle.em_tape.specs.Tape.{empty_tape, event_of, taken_back, line_at, IsNear, IsShort, IsTape};
-ghost use Rattle.em_tape.specs.Moves.{Plays, Leaves, Adds, IsCut};
+ghost use Rattle.em_named.specs.Names.{names};
+ghost use Rattle.em_named.specs.Numbers.{end_of, line_of, name_of};
+ghost use Rattle.em_line.specs.Grammar.{parsed_line};
+ghost use Rattle.em_tape.specs.Kind.{LeavesDriver, SaysOfDriver};
+ghost use Rattle.em_tape.specs.Tape.{behind, empty_tape, event_at, event_of, line_at, line_here, standing, taken_back};
+ghost use Rattle.em_tape.specs.Tape.{IsNamed, IsNear, IsShort, IsTape};
+ghost use Rattle.em_tape.specs.Moves.{IsCut, IsCutPlace, Leaves, Plays, TakesBack};
 
 use crate::again::go_along;
-use crate::count::Count;
-use crate::did::{Did, keep};
-use crate::ends::{end_of, line_of, note};
+use crate::did::{MOST_BACK, is_noted, note};
+use crate::kind::{goes_back, leaves_driver};
+use crate::known::{Known, keep};
 use crate::lines::{back_line, push_line, put_line, text_at};
 use crate::playing::{Left, opening, play, put, replayed};
 use crate::text::Text;
 use em_journal::{Machine, Settings, SettingsRefusal};
+use em_named::{
+    Did, End, Name, Place, above, end_behind, end_of, name_at, name_of, performed_by, place_of,
+};
 use em_script::{BenchFault, Outcome, Player, Session};
 use em_text::WriteFailed;
 use std::alloc::Global;
@@ -25,11 +32,8 @@ use std::marker::Model;
 /// A line has fewer octets.
 pub const MOST_OCTETS: usize = 0xFFFF_FFFF;
 
-/// The most lines of a tape: they are numbered from 1, in 32 bits.
-pub const MOST_LINES: usize = 0xFFFF_FFFF;
-
-/// How many events one line takes back at most.
-const MOST_BACK: u64 = 65_536;
+/// The most lines of a tape: as many as can perform no more events than 64 bits count.
+pub const MOST_LINES: usize = 0x3FFF_FFFF;
 
 /// The lines of a session, and a place in it: so many lines stand performed, and some of their newest events are
 /// taken back.
@@ -42,16 +46,18 @@ pub struct Tape {
     player: Player,
     session: Session,
     lines: Vec<Text>,
-    // how many events stand after each line that was performed so far
-    ends: Vec<u64>,
+    // what each line did with events that was performed so far
+    did: Vec<Did>,
+    // whether the answer of each of them could be written
+    answered: bool,
     // how many lines stand performed
     whole: usize,
+    // how many events they performed
+    events: u64,
     // how many of their newest events are taken back
     back: usize,
-    // what the whole lines count
-    counted: Count,
-    // what the lines did, the whole ones and perhaps some behind them
-    did: Vec<Did>,
+    // what is known of the lines, the whole ones and perhaps some behind them
+    known: Vec<Known>,
 }
 
 impl Model for Tape {
@@ -68,14 +74,16 @@ impl Model for Tape {
     ghost view = { λ t. record {
       first = bare (new_machine t.settings);
       lines = texts t.lines.items;
-      ends = t.ends.items;
+      did = t.did.items;
+      answered = t.answered;
       whole = t.whole;
       back = t.back;
       session = t.session;
     } };
 
     ghost invariant = { λ t.
-        Holds (bare (new_machine t.settings)) (texts t.lines.items) t.ends.items t.did.items t.whole t.back t.session };
+        Holds (bare (new_machine t.settings)) (texts t.lines.items) t.did.items t.answered t.known.items t.whole t.events
+        t.back t.session };
 }
 
 impl Tape {
@@ -91,11 +99,12 @@ impl Tape {
                 player: Player::new(alloc),
                 session,
                 lines: Vec::new(alloc),
-                ends: Vec::new(alloc),
-                whole: 0,
-                back: 0,
-                counted: Count::start(),
                 did: Vec::new(alloc),
+                answered: true,
+                whole: 0,
+                events: 0,
+                back: 0,
+                known: Vec::new(alloc),
             }),
             Err(refusal) => Err(refusal),
         }
@@ -125,7 +134,7 @@ impl Tape {
     ///
     /// Refused as [`add`](Tape::add) is.
     pub fn put_next(&mut self, line: &[u8]) -> Result<(), BenchFault>
-        requires { length self.old.ends ≤ self.old.whole }
+        requires { length self.old.did ≤ self.old.whole }
         ensures ok { OnOk result (self.new ≡ record self.old {
           lines = insert self.old.lines self.old.whole line.now;
         }) }
@@ -137,7 +146,7 @@ impl Tape {
         if line.len() >= MOST_OCTETS || self.lines.len() >= MOST_LINES {
             return Err(BenchFault::TooLarge);
         }
-        self.did.truncate(self.whole);
+        self.known.truncate(self.whole);
         match put_line(self.alloc, &mut self.lines, self.whole, line) {
             Ok(()) => Ok(()),
             Err(_) => Err(BenchFault::Memory),
@@ -183,7 +192,7 @@ impl Tape {
 
     /// Goes to where so many lines stand whole. A place that is whole already is there.
     fn be_at(&mut self, line: usize) -> Result<(), BenchFault>
-        requires known { line ≤ length self.old.ends }
+        requires known { line ≤ length self.old.did }
         requires there { self.old.back ≡ 0 → line ≡ self.old.whole }
         ensures ok { OnOk result (self.new ≡ record self.old {
           whole = line;
@@ -209,22 +218,19 @@ impl Tape {
             Plays self.old self.new (W.contents writer.old) (W.contents writer.new) replied) }
         ensures none { result ≡ None → (self.new ≡ self.old) × (W.contents writer.new ≡ W.contents writer.old) }
     {
-        // So that nothing can fail between the line and the note of its end.
-        if self.ends.reserve(1).is_err() || self.did.reserve(1).is_err() {
+        // So that nothing can fail between the line and what is noted of it.
+        if self.did.reserve(1).is_err() || self.known.reserve(1).is_err() {
             return None;
         }
         let line = self.lines[self.whole].as_slice();
         let number = (self.whole + 1) as u32;
-        let played = play(
-            &mut self.player,
-            writer,
-            &mut self.session,
-            number,
-            line,
-            &mut self.counted,
-        )?;
-        note(&mut self.ends, self.whole, self.counted.events);
-        keep(&mut self.did, self.whole, played.did);
+        let played = play(&mut self.player, writer, &mut self.session, number, line)?;
+        let events = self.events + performed_by(played.did);
+        let answered = both(self.answered, played.replied.is_ok());
+        note(&mut self.did, self.whole, played.did);
+        keep(&mut self.known, self.whole, played.known);
+        self.answered = answered;
+        self.events = events;
         self.whole += 1;
         Some(played.replied)
     }
@@ -242,12 +248,12 @@ impl Tape {
         taken
     }
 
-    /// Goes to an event among the lines that were performed so far, by its number from 1; to the start for 0. Where
-    /// there are not so many, it goes behind the last; and where the journal doesn't reach back to it from the end of
-    /// its line, as near as it does.
+    /// Goes to right behind an event among the lines that were performed so far, by its number from 1; to the start for
+    /// 0. Where there are not so many, it goes behind the last line; and where the journal doesn't reach back to it from the
+    /// end of its line, as near as it does.
     ///
-    /// By steps back where the journal still reaches; else to behind the line which has the event, and what is too much
-    /// is taken back. Where memory is refused to that, the place stays.
+    /// By steps back where the event stands and the journal still reaches; else to behind the line that performed it, and
+    /// what is too much is taken back. Where memory is refused to that, the place stays.
     pub fn goto(&mut self, event: u64) -> Result<(), BenchFault>
         ensures near { OnOk result (IsNear event self.new) }
         ensures kept { OnOk result (self.new ≡ record self.old {
@@ -258,19 +264,34 @@ impl Tape {
         ensures err { OnErr result (self.new ≡ self.old) }
         ensures only { IfErr result (λ fault. fault ≡ BenchFault.Memory) }
     {
-        let here = self.event();
-        let reach = self.session.machine().can_go_back() as u64;
-        if event <= here && here - event <= reach {
-            self.back((here - event) as usize);
+        if self.steps_back_to(event) {
             return Ok(());
         }
         self.be_behind(self.line_of(event))?;
-        let end = self.event();
-        self.back(end.saturating_sub(event) as usize);
+        let steps = self.behind(event);
+        self.back(steps);
         Ok(())
     }
 
-    /// Goes so many events forward, among the lines that were performed so far.
+    /// Goes to right behind an event by steps back. False where it does not stand, or where the journal does not reach: then
+    /// the place stays.
+    fn steps_back_to(&mut self, event: u64) -> bool
+        ensures there { IsTrue result → event_of self.new ≡ event }
+        ensures kept { IsTrue result → self.new ≡ record self.old {
+          back = self.new.back;
+          session = self.new.session;
+        } }
+        ensures same { result ≡ false → self.new ≡ self.old }
+    {
+        let steps = self.behind(event);
+        if steps > self.session.machine().can_go_back() || self.event_back(steps) != event {
+            return false;
+        }
+        self.back(steps);
+        true
+    }
+
+    /// Goes so many events forward, in the order in which they were performed, among the lines that were performed so far.
     pub fn forward(&mut self, events: u64) -> Result<(), BenchFault>
         ensures near { OnOk result (IsNear (min (event_of self.old + events) 0xFFFF_FFFF_FFFF_FFFF) self.new) }
         ensures kept { OnOk result (self.new ≡ record self.old {
@@ -288,15 +309,15 @@ impl Tape {
     /// the place stays. A place that is there already stays too.
     pub fn to_line(&mut self, line: usize) -> Result<(), BenchFault>
         ensures ok { OnOk result (self.new ≡ record self.old {
-          whole = min line (length self.old.ends);
+          whole = min line (length self.old.did);
           back = 0;
           session = self.new.session;
         }) }
-        ensures here { self.old.back ≡ 0 → min line (length self.old.ends) ≡ self.old.whole → self.new ≡ self.old }
+        ensures here { self.old.back ≡ 0 → min line (length self.old.did) ≡ self.old.whole → self.new ≡ self.old }
         ensures err { OnErr result (self.new ≡ self.old) }
         ensures only { IfErr result (λ fault. fault ≡ BenchFault.Memory) }
     {
-        let line = line.min(self.ends.len());
+        let line = line.min(self.did.len());
         if line == self.whole && self.back == 0 {
             return Ok(());
         }
@@ -306,7 +327,7 @@ impl Tape {
     /// Goes to where so many lines stand whole: along the lines between where each of them did no more than one event,
     /// and else from a new machine on.
     fn be_behind(&mut self, line: usize) -> Result<(), BenchFault>
-        requires { line ≤ length self.old.ends }
+        requires { line ≤ length self.old.did }
         ensures ok { OnOk result (self.new ≡ record self.old {
           whole = line;
           back = 0;
@@ -324,7 +345,7 @@ impl Tape {
     /// Goes to where so many lines stand whole, along lines that did no more than one event each. False where others
     /// lie between, or where memory is refused: then the place stays.
     fn goes_along(&mut self, line: usize) -> bool
-        requires { line ≤ length self.old.ends }
+        requires { line ≤ length self.old.did }
         ensures there { IsTrue result → self.new ≡ record self.old {
           whole = line;
           back = 0;
@@ -332,26 +353,27 @@ impl Tape {
         } }
         ensures same { result ≡ false → self.new ≡ self.old }
     {
+        let end = self.end_of(line);
         let gone = go_along(
             &mut self.player,
             &mut self.session,
             self.lines.as_slice(),
-            self.did.as_slice(),
+            self.known.as_slice(),
             self.whole,
             self.back,
             line,
         );
         if gone {
             self.whole = line;
+            self.events = end;
             self.back = 0;
-            self.counted = self.counted.at(end_of(self.ends.as_slice(), line));
         }
         gone
     }
 
     /// Goes to where so many lines stand whole, from a new machine on.
     fn replay_to(&mut self, line: usize) -> Result<(), BenchFault>
-        requires { line ≤ length self.old.ends }
+        requires { line ≤ length self.old.did }
         ensures ok { OnOk result (self.new ≡ record self.old {
           whole = line;
           back = 0;
@@ -360,24 +382,19 @@ impl Tape {
         ensures err { OnErr result (self.new ≡ self.old) }
         ensures only { IfErr result (λ fault. fault ≡ BenchFault.Memory) }
     {
+        let end = self.end_of(line);
         match replayed(
             self.alloc,
             self.settings,
             &mut self.player,
             &self.lines.as_slice()[..line],
-            self.ends.as_slice(),
+            self.did.as_slice(),
         ) {
-            Ok(
-                Left {
-                    session,
-                    did,
-                    counted,
-                },
-            ) => {
+            Ok(Left { session, known }) => {
                 put(&mut self.session, session);
-                self.did = did;
-                self.counted = counted;
+                self.known = known;
                 self.whole = line;
+                self.events = end;
                 self.back = 0;
                 Ok(())
             }
@@ -386,34 +403,80 @@ impl Tape {
     }
 
     /// Drops the lines that lie ahead of the place, and gives how many they were: this comes before a line that is
-    /// typed in the past.
+    /// typed in the past. What is shown stays: the machine's state, whether a driver stands there, and its plan.
     ///
-    /// Where the place lies within a line, lines `back N` are put behind it, which take back the events of that line
-    /// that lie ahead: so the lines still lead to the place. It fails as `Memory`: then lines may be dropped or not.
+    /// Where events of the lines that stay lie ahead, lines `back N` are put behind them, which take these events back: so
+    /// the lines still lead to the place. A line that says something of a driver or a plan stays, since steps back leave both
+    /// as they are. It fails as `Memory`: then lines may be dropped or not.
     pub fn cut(&mut self) -> Result<usize, BenchFault>
         ensures ok { IfOk result (IsCut self.old self.new) }
         ensures only { IfErr result (λ fault. fault ≡ BenchFault.Memory) }
     {
-        let event = self.event();
-        let line = self.line();
-        self.be_at(line)?;
+        // No more events are taken back than were performed.
+        if self.back as u64 > self.events {
+            return Err(BenchFault::Memory);
+        }
+        let place = self.cut_place();
+        self.be_at(place.whole)?;
         let dropped = self.drop_ahead();
-        self.take_for_good(self.event().saturating_sub(event))?;
+        self.take_for_good(place.back)?;
         Ok(dropped)
+    }
+
+    /// The same place with fewer lines: those that lie ahead of it are left out, up to one that says something of a driver or
+    /// a plan.
+    fn cut_place(&self) -> Place
+        requires { self.now.back ≤ end_of self.now.whole self.now.did }
+        ensures { IsCutPlace self.now result }
+    {
+        let mut line = self.whole;
+        let mut depth = self.back as u64;
+        if self.back == 0 {
+            return Place {
+                whole: line,
+                back: 0,
+            };
+        }
+        while line > 0 {
+            if !leaves_driver(self.lines[line - 1].as_slice()) {
+                break;
+            }
+            match self.did[line - 1] {
+                Did::Performed(count) => {
+                    if depth < count {
+                        break;
+                    }
+                    depth -= count;
+                }
+                Did::TookBack(count) => {
+                    if depth == 0 {
+                        break;
+                    }
+                    depth += u64::from(count);
+                }
+            }
+            line -= 1;
+        }
+        Place {
+            whole: line,
+            back: depth,
+        }
     }
 
     /// Drops the lines behind those that stand whole.
     fn drop_ahead(&mut self) -> usize
         ensures tape { self.new ≡ record self.old {
           lines = take self.old.whole self.old.lines;
-          ends = take self.old.whole self.old.ends;
+          did = take self.old.whole self.old.did;
         } }
         ensures dropped { result ≡ length self.old.lines - self.old.whole }
+        ensures whole { self.new.whole ≡ length self.new.lines }
+        ensures did { length self.new.did ≡ length self.new.lines }
     {
         let dropped = self.lines.len() - self.whole;
         self.lines.truncate(self.whole);
-        self.ends.truncate(self.whole);
         self.did.truncate(self.whole);
+        self.known.truncate(self.whole);
         dropped
     }
 
@@ -421,20 +484,43 @@ impl Tape {
     fn take_for_good(&mut self, events: u64) -> Result<(), BenchFault>
         requires back { self.old.back ≡ 0 }
         requires whole { self.old.whole ≡ length self.old.lines }
-        ensures ok { OnOk result (Adds self.old self.new) }
+        requires did { length self.old.did ≡ length self.old.lines }
+        ensures ok { OnOk result (TakesBack self.old self.new events) }
         ensures none { events ≡ 0 → (self.new ≡ self.old) }
         ensures only { IfErr result (λ fault. fault ≡ BenchFault.Memory) }
     {
         let mut left = events;
         while left > 0 {
-            let step = left.min(MOST_BACK);
-            let Ok(line) = back_line(self.alloc, step) else {
-                return Err(BenchFault::Memory);
-            };
-            if self.add(line.as_slice()).is_err() || self.perform_next(&mut sink()).is_err() {
-                return Err(BenchFault::Memory);
-            }
+            let step = left.min(MOST_BACK as u64);
+            self.take_by_line(step as u32)?;
             left -= step;
+        }
+        Ok(())
+    }
+
+    /// Takes events back by a line behind the last.
+    fn take_by_line(&mut self, events: u32) -> Result<(), BenchFault>
+        requires back { self.old.back ≡ 0 }
+        requires whole { self.old.whole ≡ length self.old.lines }
+        requires did { length self.old.did ≡ length self.old.lines }
+        ensures ok { OnOk result (TakesBack self.old self.new events) }
+        ensures only { IfErr result (λ fault. fault ≡ BenchFault.Memory) }
+    {
+        let whole = self.whole;
+        let Ok(line) = back_line(self.alloc, u64::from(events)) else {
+            return Err(BenchFault::Memory);
+        };
+        if !goes_back(line.as_slice()) {
+            return Err(BenchFault::Memory);
+        }
+        let Ok(()) = self.add(line.as_slice()) else {
+            return Err(BenchFault::Memory);
+        };
+        let Ok(Some(_)) = self.perform_next(&mut sink()) else {
+            return Err(BenchFault::Memory);
+        };
+        if !is_noted(self.did.as_slice(), whole, Did::TookBack(events)) {
+            return Err(BenchFault::Memory);
         }
         Ok(())
     }
@@ -443,7 +529,7 @@ impl Tape {
     /// newest events taken back.
     pub fn machine(&self) -> &Machine
         ensures value { result.now ≡ self.now.session.machine }
-        ensures tape { IsTape self.now.first self.now.lines self.now.ends self.now.whole self.now.back self.now.session }
+        ensures tape { IsTape self.now.first self.now.lines self.now.did self.now.answered self.now.whole self.now.back self.now.session }
     {
         self.session.machine()
     }
@@ -452,36 +538,96 @@ impl Tape {
     pub fn event(&self) -> u64
         ensures { result ≡ event_of self.now }
     {
-        end_of(self.ends.as_slice(), self.whole).saturating_sub(self.back as u64)
+        self.event_back(0)
     }
 
-    /// The number of the line where the place lies; 0 before the first line.
-    pub fn line(&self) -> usize
-        ensures whole { self.now.back ≡ 0 → result ≡ self.now.whole }
-        ensures within { 0 < self.now.back → IsLineOf (event_of self.now) self.now.ends result }
-        ensures performed { result ≤ length self.now.ends }
-        ensures there { result ≤ length self.now.lines }
+    /// The number of the event so many steps back from the place, of the newest at 0; 0 where not so many stand.
+    pub fn event_back(&self, k: usize) -> u64
+        ensures { result ≡ event_at k self.now }
     {
-        if self.back == 0 {
-            self.whole
-        } else {
-            self.line_of(self.event())
+        match self.name_back(k) {
+            Some(Name { line, access }) => self.end_of(line - 1) + access,
+            None => 0,
         }
     }
 
-    /// The line that performed an event, among those that were performed so far.
-    pub fn line_of(&self, event: u64) -> usize
-        ensures { IsLineOf event self.now.ends result }
+    /// The name of the event so many steps back from the place, of the newest at 0; none where not so many stand.
+    pub fn name_back(&self, k: usize) -> Option<Name>
+        ensures is { result ≡ slice_get (standing self.now) k }
+        ensures named { IfSome result (IsNamed self.now) }
     {
-        line_of(self.ends.as_slice(), event)
+        // No more stand than were performed.
+        if k as u64 >= self.events.saturating_sub(self.back as u64) {
+            return None;
+        }
+        name_at(&self.did.as_slice()[..self.whole], (self.back + k) as u64)
     }
 
-    /// How many events stand after so many lines, of those that were performed so far.
-    pub fn end_of(&self, line: usize) -> u64
-        requires { line ≤ length self.now.ends }
-        ensures { result ≡ end_of line self.now.ends }
+    /// The name of an event by its number, among the lines that were performed so far; none where not so many were
+    /// performed, and for number 0.
+    pub fn name_of(&self, event: u64) -> Option<Name>
+        ensures { result ≡ name_of event self.now.did }
     {
-        end_of(self.ends.as_slice(), line)
+        name_of(self.did.as_slice(), self.end(), event)
+    }
+
+    /// How many of the events that stand at the place have a greater number: so many steps back lead to where none has.
+    pub fn behind(&self, event: u64) -> usize
+        ensures { result ≡ behind event self.now }
+    {
+        if self.back as u64 >= self.events {
+            return 0;
+        }
+        above(self.did.as_slice(), self.end(), self.back as u64, event) as usize
+    }
+
+    /// The number of the line where the place lies: the last that stands whole; where events are taken back, the last that
+    /// does not lie ahead with all that it did. 0 before the first line.
+    pub fn line(&self) -> usize
+        ensures here { result ≡ line_here self.now }
+        ensures whole { self.now.back ≡ 0 → result ≡ self.now.whole }
+        ensures within { result ≤ self.now.whole }
+    {
+        if self.back as u64 > self.events {
+            return 0;
+        }
+        place_of(&self.did.as_slice()[..self.whole], self.back as u64).whole
+    }
+
+    /// The line that performed an event, by the event's number, among those that were performed so far; 0 for number 0, and
+    /// the last where not so many events were performed.
+    pub fn line_of(&self, event: u64) -> usize
+        ensures line { result ≡ line_of event self.now.did }
+        ensures within { result ≤ length self.now.did }
+    {
+        end_behind(self.did.as_slice(), self.end(), event).line
+    }
+
+    /// How many events the first so many lines performed, of those that were performed so far.
+    pub fn end_of(&self, line: usize) -> u64
+        requires { line ≤ length self.now.did }
+        ensures { result ≡ end_of line self.now.did }
+    {
+        end_of(self.did.as_slice(), self.end(), line)
+    }
+
+    fn end(&self) -> End
+        ensures { result ≡ record { line = self.now.whole; events = end_of self.now.whole self.now.did } }
+    {
+        End {
+            line: self.whole,
+            events: self.events,
+        }
+    }
+
+    /// What a line did with events that was performed so far, by its number from 1.
+    pub fn performed_by(&self, line: usize) -> Option<Did>
+        ensures { result ≡ line_at line self.now.did }
+    {
+        if line == 0 {
+            return None;
+        }
+        self.did.as_slice().get(line - 1).copied()
     }
 
     /// How many lines stand performed at the place.
@@ -491,11 +637,18 @@ impl Tape {
         self.whole
     }
 
+    /// Whether no event of the lines at the place is taken back.
+    pub fn is_whole(&self) -> bool
+        ensures { result ≡ nat_eq self.now.back 0 }
+    {
+        self.back == 0
+    }
+
     /// Whether lines that lie ahead were performed already.
     pub fn was_performed_ahead(&self) -> bool
-        ensures { result ≡ nat_lt self.now.whole (length self.now.ends) }
+        ensures { result ≡ nat_lt self.now.whole (length self.now.did) }
     {
-        self.whole < self.ends.len()
+        self.whole < self.did.len()
     }
 
     /// How many lines there are.
@@ -515,9 +668,9 @@ impl Tape {
 
     /// How many lines were performed so far, those ahead of the place among them.
     pub fn performed(&self) -> usize
-        ensures { result ≡ length self.now.ends }
+        ensures { result ≡ length self.now.did }
     {
-        self.ends.len()
+        self.did.len()
     }
 
     /// The text of a line by its number, from 1; none where there is no such line.
@@ -529,4 +682,10 @@ impl Tape {
         }
         text_at(self.lines.as_slice(), line - 1)
     }
+}
+
+fn both(one: bool, other: bool) -> bool
+    ensures { result ≡ one && other }
+{
+    one && other
 }

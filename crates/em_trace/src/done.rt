@@ -17,6 +17,8 @@ pub struct Done {
     pub other_sizes: u64,
     /// Accesses of something else.
     pub elsewhere: u64,
+    /// Reads for which the line of another one stands.
+    pub polls: u64,
     /// Lines that could not be read.
     pub faults: u64,
     /// Frames that found no place, and stand at the end.
@@ -37,6 +39,7 @@ impl Done {
             accesses: 0,
             other_sizes: 0,
             elsewhere: 0,
+            polls: 0,
             faults: 0,
             late_frames: 0,
             octets: 0,
@@ -60,6 +63,9 @@ impl Done {
         write_count(out, self.other_sizes, "access", "accesses", sizes)?;
         let other = "of something else than the adapter's registers";
         write_count(out, self.elsewhere, "access", "accesses", other)?;
+        let polls =
+            "for which the read before stands, since it gave the same; --keep-polls writes them";
+        write_count(out, self.polls, "read", "reads", polls)?;
         write_count(out, self.faults, "line", "lines", "that cannot be read")?;
         let late = "at the end, for want of a place in the log";
         write_count(out, self.late_frames, "frame", "frames", late)?;

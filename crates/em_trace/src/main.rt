@@ -12,6 +12,7 @@ mod done;
 mod frames;
 mod lines;
 mod missing;
+mod poll;
 mod text;
 mod translating;
 mod words;

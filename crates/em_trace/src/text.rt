@@ -100,6 +100,17 @@ fn write_said<W: Write>(out: &mut W, line: u64, access: RegisterAccess) -> Resul
     Ok(())
 }
 
+/// Writes how many more reads gave what the line before says, and the log's line of the last of them:
+/// `# 31 more reads gave the same, the last in line 160`.
+pub fn write_poll<W: Write>(out: &mut W, more: u64, last: u64) -> Result<()> {
+    let reads = plural(more, "read", "reads");
+    writeln!(
+        out,
+        "# {more} more {reads} gave the same, the last in line {last}"
+    )?;
+    Ok(())
+}
+
 /// Writes a line of the log as a comment.
 pub fn write_kept<W: Write>(out: &mut W, line: u64, text: &[u8]) -> Result<()> {
     write!(out, "# line {line}: ")?;

@@ -4,7 +4,10 @@ use crate::done::Done;
 use crate::frames::Frames;
 use crate::lines::read_line;
 use crate::missing::missing_name;
-use crate::text::{write_access, write_kept, write_missing, write_other_size, write_text};
+use crate::poll::Poll;
+use crate::text::{
+    write_access, write_kept, write_missing, write_other_size, write_poll, write_text,
+};
 use anyhow::{Context, Result};
 use em_log::{Entry, Form, Log, RegisterAccess, Way, Width};
 use em_regs::Reg;
@@ -37,6 +40,8 @@ pub struct Wanted<'a> {
     pub link: Link,
     /// Whether accesses of something else are left out of the script.
     pub skips_others: bool,
+    /// Whether each read of a poll becomes a line.
+    pub keeps_polls: bool,
 }
 
 /// A script that is being written.
@@ -51,6 +56,9 @@ struct Script<'a> {
     /// Whether frames arrive where reads of ICR tell of them.
     by_icr: bool,
     skips_others: bool,
+    keeps_polls: bool,
+    /// The read that was written last, if more such reads would be a poll.
+    poll: Option<Poll>,
 }
 
 /// Writes the script of a log, and says on standard error which lines cannot be read.
@@ -69,6 +77,8 @@ pub fn translate<E: Eprint + AllocGlobal, R: BufRead, W: Write>(
         begins: Some(wanted.link),
         by_icr: wanted.at.is_none(),
         skips_others: wanted.skips_others,
+        keeps_polls: wanted.keeps_polls,
+        poll: None,
     };
     let mut line = Vec::new(rt.alloc());
     for number in 1..u64::MAX {
@@ -89,6 +99,8 @@ pub fn translate<E: Eprint + AllocGlobal, R: BufRead, W: Write>(
     if script.done.accesses > 0 {
         script.done.late_frames = script.write_frames(out)?;
     }
+    script.end_poll()?;
+    script.pass(out)?;
     Ok(script.done)
 }
 
@@ -106,6 +118,7 @@ impl Script<'_> {
                 if self.skips_others {
                     return Ok(());
                 }
+                self.end_poll()?;
                 write_kept(&mut self.lines, number, text)?;
                 let octets = self.lines.len() as u64;
                 self.done.other_octets = self.done.other_octets.saturating_add(octets);
@@ -114,23 +127,47 @@ impl Script<'_> {
             Entry::Nothing => Ok(()),
             Entry::Fault => {
                 done.faults = done.faults.saturating_add(1);
+                self.end_poll()?;
                 write_kept(&mut self.lines, number, text)
             }
         }
     }
 
-    /// The line of an access, or a comment where the model can't have it.
+    /// The line of an access, or nothing where a line before it stands for it.
     fn take_access(&mut self, number: u64, access: RegisterAccess) -> Result<()> {
         self.begin()?;
+        self.count_access(access);
+        if let Some(poll) = &mut self.poll {
+            if poll.takes(number, access) {
+                self.done.polls = self.done.polls.saturating_add(1);
+                return Ok(());
+            }
+        }
+        self.end_poll()?;
         if self.by_icr && has_frame(access) {
             self.frames.write_next(&mut self.lines)?;
         }
+        if !self.keeps_polls {
+            self.poll = Poll::begun_by(access);
+        }
+        self.write_line(number, access)
+    }
+
+    /// Counts an access that the model can't have.
+    fn count_access(&mut self, access: RegisterAccess) {
         if access.width != Width::Four {
             self.done.other_sizes = self.done.other_sizes.saturating_add(1);
+        } else if Reg::of_offset(access.offset).is_none() {
+            self.done.missing.add(access.offset);
+        }
+    }
+
+    /// Writes the line of an access, or a comment where the model can't have it.
+    fn write_line(&mut self, number: u64, access: RegisterAccess) -> Result<()> {
+        if access.width != Width::Four {
             return write_other_size(&mut self.lines, number, access);
         }
         let Some(reg) = Reg::of_offset(access.offset) else {
-            self.done.missing.add(access.offset);
             let name = missing_name(access.offset).unwrap_or("no register");
             return write_missing(&mut self.lines, number, access, name);
         };
@@ -144,9 +181,18 @@ impl Script<'_> {
         write_access(&mut self.lines, access.way, access.offset, value)
     }
 
+    /// Says how many reads the line that was written last stands for, if it is more than its own.
+    fn end_poll(&mut self) -> Result<()> {
+        match self.poll.take() {
+            Some(poll) if poll.more > 0 => write_poll(&mut self.lines, poll.more, poll.last),
+            _ => Ok(()),
+        }
+    }
+
     /// Writes the lines of all frames that are left, and gives how many they were.
     fn write_frames<W: Write>(&mut self, out: &mut W) -> Result<u64> {
         self.begin()?;
+        self.end_poll()?;
         for count in 0..u64::MAX {
             let was_there = self.frames.write_next(&mut self.lines)?;
             self.pass(out)?;

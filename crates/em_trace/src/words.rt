@@ -62,6 +62,12 @@ fn command<'a>(alloc: Global) -> Result<Command<'a>, AllocError> {
         .long("skip-others")
         .action(ArgAction::SetTrue)
         .help(skip);
+    let keep =
+        "Write a line for each read of a poll; without it, one line stands for reads that give the same";
+    let keep = Arg::new(alloc, "keep-polls")
+        .long("keep-polls")
+        .action(ArgAction::SetTrue)
+        .help(keep);
     let log = Arg::new(alloc, "log")
         .value_name("LOG")
         .required(true)
@@ -77,6 +83,7 @@ fn command<'a>(alloc: Global) -> Result<Command<'a>, AllocError> {
         .arg(at)?
         .arg(link)?
         .arg(skip)?
+        .arg(keep)?
         .arg(log)
 }
 
@@ -105,6 +112,7 @@ pub fn wanted<'a>(matches: &ArgMatches<'a>) -> Result<Wanted<'a>, WordsRefused> 
             _ => Link::Up,
         },
         skips_others: matches.get_flag("skip-others"),
+        keeps_polls: matches.get_flag("keep-polls"),
     })
 }
 

@@ -5,6 +5,7 @@ use Rattle.std.specs.Prelude.{find}
 use Rattle.std.specs.Option.{option_or}
 use Rattle.std.specs.List.{range_with_len}
 use Rattle.std.proofs.lemmas.Bool.{cases_lt}
+use Rattle.em_journal.specs.View.{View}
 use Rattle.em_regs.specs.declared.ring.Ring.{Ring}
 use Rattle.em_warnings.specs.declared.flaw.Flaw.{Flaw}
 use Rattle.em_warnings.specs.Descriptors.{first_flawed, first_from, is_flawed}
@@ -58,18 +59,18 @@ neither : {X : Type 0} (a b : Option X) → option_or a b ≡ None → (a ≡ No
 neither None b e = (refl, e)
 neither (Some x) b e = cc
 
-pub flaw_found : (r : Ring) (memory : List ℕ) (flaw : Flaw) (i : ℕ) → first_flawed r memory flaw ≡ Some i
-    → is_flawed r memory flaw i ≡ true
-flaw_found r memory flaw i e =
-    let p = is_flawed r memory flaw in
-    found_by p (first_from r memory flaw r.head r.count) (first_from r memory flaw 0 r.head) i
+pub flaw_found : (r : Ring) (v : View) (flaw : Flaw) (i : ℕ) → first_flawed r v flaw ≡ Some i
+    → is_flawed r v flaw i ≡ true
+flaw_found r v flaw i e =
+    let p = is_flawed r v flaw in
+    found_by p (first_from r v flaw r.head r.count) (first_from r v flaw 0 r.head) i
     (find_passes p (range_with_len r.head (r.count - r.head)) i) (find_passes p (range_with_len 0 (r.head - 0)) i) e
 
-pub no_flaw : (r : Ring) (memory : List ℕ) (flaw : Flaw) → first_flawed r memory flaw ≡ None → (i : ℕ) → i < r.count
-    → is_flawed r memory flaw i ≡ false
-no_flaw r memory flaw e i below =
-    let none = neither (first_from r memory flaw r.head r.count) (first_from r memory flaw 0 r.head) e in
+pub no_flaw : (r : Ring) (v : View) (flaw : Flaw) → first_flawed r v flaw ≡ None → (i : ℕ) → i < r.count
+    → is_flawed r v flaw i ≡ false
+no_flaw r v flaw e i below =
+    let none = neither (first_from r v flaw r.head r.count) (first_from r v flaw 0 r.head) e in
     elim (cases_lt i r.head) [
-      | inl before ↦ fails_from (is_flawed r memory flaw) 0 r.head i none.1 (omega arith) before
-      | inr behind ↦ fails_from (is_flawed r memory flaw) r.head r.count i none.0 behind below
+      | inl before ↦ fails_from (is_flawed r v flaw) 0 r.head i none.1 (omega arith) before
+      | inr behind ↦ fails_from (is_flawed r v flaw) r.head r.count i none.0 behind below
     ]

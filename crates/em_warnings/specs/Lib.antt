@@ -1,5 +1,6 @@
 pub mod Names
 pub mod Flaw
+pub mod Written
 pub mod Descriptors
 pub mod Rings
 pub mod Rules

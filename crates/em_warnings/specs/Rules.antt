@@ -28,8 +28,12 @@ use Rattle.em_regs.specs.Table.{mask_of, row_of}
 use Rattle.em_regs.specs.Setup.{rx_setup, tx_setup}
 use Rattle.em_step.specs.Access.{gives}
 use Rattle.em_step.specs.State.{State}
+use Rattle.em_journal.specs.View.{View}
+use Rattle.em_inspect.specs.declared.ring.Side.{Side}
+use Rattle.em_inspect.specs.declared.ring.Side.TheVariants.{Receive, Transmit}
 use Rattle.em_inspect.specs.declared.ring.SidedRing.{SidedRing}
 use Rattle.em_regs.specs.Ring.{descriptor_at}
+use Rattle.em_warnings.specs.declared.flaw.Flaw.{Flaw}
 use Rattle.em_warnings.specs.declared.flaw.Flaw.TheVariants as flaw
 use Rattle.em_warnings.specs.declared.warning.Warning.{Warning}
 use Rattle.em_warnings.specs.declared.warning.Warning.TheVariants.{
@@ -78,22 +82,27 @@ enabled_before_ring s control = option_and_then (without_ring control) (ring_of_
 
 -- ---- descriptor-unwritten (manual, chapters on the descriptor queues: what lies before the tail is ready)
 
-abbrev pub given_unwritten : List ℕ → Reg → SidedRing → Option Warning
-given_unwritten memory tail r =
-    option_map (λ i. DescriptorUnwritten tail i (descriptor_at r.setup i)) (first_flawed r.setup memory flaw.Unwritten)
+abbrev pub given_unwritten : View → Reg → SidedRing → Option Warning
+given_unwritten v tail r =
+    option_map (λ i. DescriptorUnwritten tail i (descriptor_at r.setup i)) (first_flawed r.setup v flaw.Unwritten)
 
-abbrev pub descriptor_unwritten : State → Reg → Option Warning
-descriptor_unwritten s tail = option_and_then (given_unwritten s.memory tail) (ring_of_tail s.registers tail)
+abbrev pub descriptor_unwritten : View → Reg → Option Warning
+descriptor_unwritten v tail = option_and_then (given_unwritten v tail) (ring_of_tail v.present.registers tail)
 
 -- ---- status-left (manual, chapters on packet reception and transmission: DD says that the adapter is done with a
 -- descriptor; that software clears it before is this project's profile)
 
-abbrev pub given_with_status : List ℕ → Reg → SidedRing → Option Warning
-given_with_status memory tail r =
-    option_map (λ i. StatusLeft tail i (descriptor_at r.setup i)) (first_flawed r.setup memory flaw.StatusLeft)
+-- a driver that sends can go by TDH, and leave DD in a descriptor that it has written anew
+abbrev pub left_flaw : Side → Flaw
+left_flaw (Receive size) = flaw.StatusLeft
+left_flaw Transmit = flaw.SentBefore
 
-abbrev pub status_left : State → Reg → Option Warning
-status_left s tail = option_and_then (given_with_status s.memory tail) (ring_of_tail s.registers tail)
+abbrev pub given_with_status : View → Reg → SidedRing → Option Warning
+given_with_status v tail r =
+    option_map (λ i. StatusLeft tail i (descriptor_at r.setup i)) (first_flawed r.setup v (left_flaw r.side))
+
+abbrev pub status_left : View → Reg → Option Warning
+status_left v tail = option_and_then (given_with_status v tail) (ring_of_tail v.present.registers tail)
 
 -- ---- interrupts-before-rings (this project's profile)
 
@@ -122,12 +131,12 @@ interrupts_before_rings s _ = None
 -- ---- all of them
 
 -- what each rule says of a write of a value to a register, in their order
-abbrev pub warnings_of : State → Reg → ℕ → List (Option Warning)
-warnings_of s reg v =
-    bits_dropped reg v
-    ∷ tail_past_ring s reg
-    ∷ enabled_before_ring s reg
-    ∷ descriptor_unwritten s reg
-    ∷ status_left s reg
-    ∷ interrupts_before_rings s reg
+abbrev pub warnings_of : View → Reg → ℕ → List (Option Warning)
+warnings_of v reg value =
+    bits_dropped reg value
+    ∷ tail_past_ring v.present reg
+    ∷ enabled_before_ring v.present reg
+    ∷ descriptor_unwritten v reg
+    ∷ status_left v reg
+    ∷ interrupts_before_rings v.present reg
     ∷ []

@@ -49,7 +49,8 @@ early_text causes length =
 
 abbrev pub again_text : ℕ → List ℕ
 again_text causes =
-    codes "ICR is 0, the event before cleared " ++ (value_digits causes ++ codes " there, read it once and keep it")
+    codes "ICR is 0, an earlier event cleared "
+    ++ (value_digits causes ++ codes " there and the frame still waits, read it once and keep it")
 
 -- what its rule says, with numbers, and what to do
 abbrev pub said : Warning → List ℕ

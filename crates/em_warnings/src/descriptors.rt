@@ -1,16 +1,18 @@
 //! The first of the adapter's descriptors that has a flaw.
-ghost use Rattle.std.specs.Prelude.{◌≡◌};
-ghost use Rattle.em_warnings.specs.Descriptors.{first_flawed, first_from, is_flawed};
+ghost use Rattle.std.specs.Prelude.{◌≡◌, ◌%◌, ◌^◌};
+ghost use Rattle.em_regs.specs.Ring.{descriptor_at};
+ghost use Rattle.em_warnings.specs.Descriptors.{first_flawed, first_from, has_flaw, is_excused, is_flawed};
 
 use crate::flaw::Flaw;
+use crate::written::is_rewritten;
 use em_inspect::{Owner, octets_at, owner_of};
 use em_journal::Machine;
-use em_regs::Ring;
+use em_regs::{DESCRIPTOR_OCTETS, Ring};
 
 /// The first descriptor of a ring, from the head on and round the ring's end, that is the adapter's, lies in guest
 /// memory, and has the flaw.
 pub(crate) fn first_flawed(machine: &Machine, ring: &Ring, flaw: Flaw) -> Option<u32>
-    ensures { result ≡ first_flawed ring.now machine.now.present.memory flaw }
+    ensures { result ≡ first_flawed ring.now machine.now flaw }
 {
     match first_from(machine, ring, flaw, ring.head, ring.count) {
         Some(index) => Some(index),
@@ -20,20 +22,50 @@ pub(crate) fn first_flawed(machine: &Machine, ring: &Ring, flaw: Flaw) -> Option
 
 /// The first such from one index on, below another.
 fn first_from(machine: &Machine, ring: &Ring, flaw: Flaw, from: u32, to: u32) -> Option<u32>
-    ensures { result ≡ first_from ring.now machine.now.present.memory flaw from to }
+    ensures { result ≡ first_from ring.now machine.now flaw from to }
 {
     (from..to).find(|index| is_flawed(machine, ring, flaw, *index))
 }
 
 /// Whether the descriptor of an index is such.
 fn is_flawed(machine: &Machine, ring: &Ring, flaw: Flaw, index: u32) -> bool
-    ensures { result ≡ is_flawed ring.now machine.now.present.memory flaw index }
+    ensures { result ≡ is_flawed ring.now machine.now flaw index }
 {
     match owner_of(ring, index) {
         Owner::Adapter => match octets_at(machine, ring, index) {
-            Some(octets) => flaw.is_in(&octets),
+            Some(octets) => has_flaw(machine, ring, flaw, index, &octets),
             None => false,
         },
         Owner::Driver => false,
+    }
+}
+
+/// Whether a descriptor of these octets has the flaw.
+fn has_flaw(
+    machine: &Machine,
+    ring: &Ring,
+    flaw: Flaw,
+    index: u32,
+    octets: &[u8; DESCRIPTOR_OCTETS],
+) -> bool
+    ensures { result ≡ has_flaw machine.now flaw (descriptor_at ring.now index) octets.now }
+{
+    flaw.is_in(octets) && !is_excused(machine, flaw, place(ring, index))
+}
+
+/// Where a descriptor lies that lies in memory.
+fn place(ring: &Ring, index: u32) -> u64
+    ensures { result ≡ descriptor_at ring.now index % 2 ^ 64 }
+{
+    ring.base.wrapping_add(16 * u64::from(index))
+}
+
+/// Whether it is excused, since the driver wrote it and goes by the head.
+fn is_excused(machine: &Machine, flaw: Flaw, at: u64) -> bool
+    ensures { result ≡ is_excused machine.now flaw at }
+{
+    match flaw {
+        Flaw::SentBefore => is_rewritten(machine, at),
+        Flaw::Unwritten | Flaw::StatusLeft => false,
     }
 }

@@ -6,7 +6,7 @@ use em_regs::DESCRIPTOR_OCTETS;
 use em_tx::TxDescriptor;
 
 /// Where the status octet lies in a descriptor of either ring.
-const STATUS: usize = 12;
+pub(crate) const STATUS: usize = 12;
 
 /// What a descriptor can have against it that the driver gives to the adapter.
 #[derive(Clone, Copy)]
@@ -15,6 +15,8 @@ pub(crate) enum Flaw {
     Unwritten,
     /// Its status has DD, from the lap before: the adapter has handled it. The bit is the same in both rings.
     StatusLeft,
+    /// Its status has DD, and the driver has not written it since.
+    SentBefore,
 }
 
 impl Flaw {
@@ -24,7 +26,9 @@ impl Flaw {
     {
         match self {
             Flaw::Unwritten => are_zeros(octets),
-            Flaw::StatusLeft => octets[STATUS] & TxDescriptor::DD == TxDescriptor::DD,
+            Flaw::StatusLeft | Flaw::SentBefore => {
+                octets[STATUS] & TxDescriptor::DD == TxDescriptor::DD
+            }
         }
     }
 }

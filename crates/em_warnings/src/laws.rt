@@ -1,14 +1,15 @@
 //! What the search for a flaw finds.
-ghost use Rattle.std.specs.Prelude.{◌≡◌, ◌<◌, ℕ, List, true, false, Some, None};
+ghost use Rattle.std.specs.Prelude.{◌≡◌, ◌<◌, ℕ, true, false, Some, None};
+ghost use Rattle.em_journal.specs.View.{View};
 ghost use Rattle.em_regs.specs.declared.ring.Ring.{Ring};
 ghost use Rattle.em_warnings.specs.Descriptors.{first_flawed, is_flawed};
 ghost use Rattle.em_warnings.specs.declared.flaw.Flaw.{Flaw};
 
-/// A descriptor that is found has the flaw: it is the adapter's, lies in guest memory, and its octets have it. Where
-/// none is found, no descriptor of the ring has it.
+/// A descriptor that is found has the flaw: it is the adapter's, lies in guest memory, and its octets have it, with no
+/// excuse. Where none is found, no descriptor of the ring has it.
 pub fn flaws_are_found()
-    ensures found { (r : Ring) (memory : List ℕ) (flaw : Flaw) (i : ℕ) → first_flawed r memory flaw ≡ Some i
-        → is_flawed r memory flaw i ≡ true }
-    ensures none { (r : Ring) (memory : List ℕ) (flaw : Flaw) → first_flawed r memory flaw ≡ None
-        → (i : ℕ) → i < r.count → is_flawed r memory flaw i ≡ false }
+    ensures found { (r : Ring) (v : View) (flaw : Flaw) (i : ℕ) → first_flawed r v flaw ≡ Some i
+        → is_flawed r v flaw i ≡ true }
+    ensures none { (r : Ring) (v : View) (flaw : Flaw) → first_flawed r v flaw ≡ None
+        → (i : ℕ) → i < r.count → is_flawed r v flaw i ≡ false }
 {}

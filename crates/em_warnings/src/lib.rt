@@ -11,8 +11,9 @@ mod rules;
 mod said;
 mod warning;
 mod write_line;
+mod written;
 
-pub use lines::write_warnings;
+pub use lines::{write_event_warnings, write_warnings};
 pub use reads::read_again;
 pub use rules::warnings_of;
 pub use said::write_warning;

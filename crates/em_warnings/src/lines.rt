@@ -1,16 +1,20 @@
 //! The warnings of a line.
+ghost use Rattle.em_step.specs.Event.{plain};
 ghost use Rattle.em_text.specs.Writer.{Writes};
-ghost use Rattle.em_warnings.specs.Warnings.{line_of, lines_of, lines_of_read, lines_of_write, warnings_text};
+ghost use Rattle.em_warnings.specs.Warnings.{event_warnings, line_of, lines_of, lines_of_read, lines_of_write, warnings_text};
 
 use crate::reads::read_again;
 use crate::rules::warnings_of;
 use crate::said::write_warning;
 use crate::warning::Warning;
-use crate::write_line::written;
-use em_expect::register_read;
+use crate::write_line::written_by;
+use em_expect::register_of;
 use em_journal::Machine;
+use em_line::accessed;
+use em_output::told;
 use em_regs::Reg;
-use em_text::{WriteFailed, is_name};
+use em_step::{Answer, Event, Refusal};
+use em_text::WriteFailed;
 use std::io::Write;
 
 /// Writes the warnings of a line, one in a line each, if it has any: only a line `w OFF VALUE` that was answered `ok`
@@ -24,13 +28,27 @@ pub fn write_warnings<W: Write>(
     ensures writes { Writes (W.contents writer.old) (W.contents writer.new) result
         (warnings_text machine.now line.now answer.now) }
 {
-    if is_name(answer, b"ok\n") {
-        return write_of_write(writer, machine, written(line));
+    match (accessed(line), told(answer)) {
+        (Some(event), Some(outcome)) => write_event_warnings(writer, machine, event, outcome),
+        _ => Ok(()),
     }
-    if is_name(answer, b"00000000\n") {
-        return write_of_read(writer, machine, register_read(line));
+}
+
+/// Writes the warnings of an event with this outcome. The machine is as the event left it.
+pub fn write_event_warnings<W: Write>(
+    writer: &mut W,
+    machine: &Machine,
+    event: Event<'_>,
+    outcome: Result<Answer, Refusal>,
+) -> Result<(), WriteFailed>
+    ensures writes { Writes (W.contents writer.old) (W.contents writer.new) result
+        (event_warnings machine.now (plain event.entry) outcome) }
+{
+    match outcome {
+        Ok(Answer::Done) => write_of_write(writer, machine, written_by(event)),
+        Ok(Answer::Value(0)) => write_of_read(writer, machine, register_of(Some(event))),
+        _ => Ok(()),
     }
-    Ok(())
 }
 
 /// Writes the warnings of a write of a value to a register.
@@ -40,7 +58,7 @@ fn write_of_write<W: Write>(
     write: Option<(Reg, u32)>,
 ) -> Result<(), WriteFailed>
     ensures writes { Writes (W.contents writer.old) (W.contents writer.new) result
-        (lines_of_write machine.now.present write) }
+        (lines_of_write machine.now write) }
 {
     match write {
         Some((reg, value)) => write_each(writer, &warnings_of(machine, reg, value)),

@@ -3,17 +3,18 @@ ghost use Rattle.std.specs.Prelude.{◌≡◌};
 ghost use Rattle.em_step.specs.Access.{gives};
 ghost use Rattle.em_regs.specs.declared.reg.Reg.TheVariants as named;
 ghost use Rattle.em_warnings.specs.Rules.{bits_dropped, descriptor_unwritten, early, early_by, enabled_before_ring};
-ghost use Rattle.em_warnings.specs.Rules.{interrupts_before_rings, status_left, tail_past_ring, warnings_of};
+ghost use Rattle.em_warnings.specs.Rules.{interrupts_before_rings, left_flaw, status_left, tail_past_ring, warnings_of};
 
 use crate::descriptors::first_flawed;
 use crate::flaw::Flaw;
 use crate::rings::{length_of, ring_of_control, ring_of_tail};
 use crate::warning::{RULES, Warning};
+use em_inspect::Side;
 use em_journal::Machine;
 use em_regs::{Kind, Reg};
 
 /// The causes of receiving: RXDMT0, RXO, RXT0 and SRPD.
-const RX_CAUSES: u32 = 0x0001_00D0;
+pub(crate) const RX_CAUSES: u32 = 0x0001_00D0;
 
 /// The causes of sending: TXDW, TXQE and TXD_LOW.
 const TX_CAUSES: u32 = 0x0000_8003;
@@ -21,7 +22,7 @@ const TX_CAUSES: u32 = 0x0000_8003;
 /// What each rule says of a write of a value to a register, in the order of the rules; none where it says nothing. The
 /// machine is as the write left it.
 pub fn warnings_of(machine: &Machine, reg: Reg, value: u32) -> [Option<Warning>; RULES]
-    ensures { result ≡ warnings_of machine.now.present reg value }
+    ensures { result ≡ warnings_of machine.now reg value }
 {
     [
         bits_dropped(reg, value),
@@ -79,7 +80,7 @@ fn enabled_before_ring(machine: &Machine, control: Reg) -> Option<Warning>
 
 /// The register is a tail, and a descriptor before it is all zeros.
 fn descriptor_unwritten(machine: &Machine, tail: Reg) -> Option<Warning>
-    ensures { result ≡ descriptor_unwritten machine.now.present tail }
+    ensures { result ≡ descriptor_unwritten machine.now tail }
 {
     let ring = ring_of_tail(machine, tail)?;
     let index = first_flawed(machine, &ring.setup, Flaw::Unwritten)?;
@@ -87,14 +88,24 @@ fn descriptor_unwritten(machine: &Machine, tail: Reg) -> Option<Warning>
     Some(Warning::DescriptorUnwritten { tail, index, at })
 }
 
-/// The register is a tail, and a descriptor before it has DD.
+/// The register is a tail, and a descriptor before it has DD from the lap before.
 fn status_left(machine: &Machine, tail: Reg) -> Option<Warning>
-    ensures { result ≡ status_left machine.now.present tail }
+    ensures { result ≡ status_left machine.now tail }
 {
     let ring = ring_of_tail(machine, tail)?;
-    let index = first_flawed(machine, &ring.setup, Flaw::StatusLeft)?;
+    let index = first_flawed(machine, &ring.setup, left_flaw(ring.side))?;
     let at = ring.setup.descriptor_at(index);
     Some(Warning::StatusLeft { tail, index, at })
+}
+
+/// What a descriptor has against it whose DD was left: a driver that sends can go by TDH, and then has written it anew.
+fn left_flaw(side: Side) -> Flaw
+    ensures { result ≡ left_flaw side }
+{
+    match side {
+        Side::Receive(_) => Flaw::StatusLeft,
+        Side::Transmit => Flaw::SentBefore,
+    }
 }
 
 /// The register is IMS, and lets causes of a ring through that has no descriptor.

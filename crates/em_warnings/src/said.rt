@@ -165,9 +165,9 @@ fn write_again<W: Write>(writer: &mut W, causes: u32) -> Result<(), WriteFailed>
     write_text(
         writer,
         &[
-            Piece::Text(b"ICR is 0, the event before cleared "),
+            Piece::Text(b"ICR is 0, an earlier event cleared "),
             Piece::Value(causes),
-            Piece::Text(b" there, read it once and keep it"),
+            Piece::Text(b" there and the frame still waits, read it once and keep it"),
         ],
     )
 }

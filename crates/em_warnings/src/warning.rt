@@ -18,11 +18,12 @@ pub enum Warning {
     EnabledBeforeRing { control: Reg, length: Reg },
     /// `descriptor-unwritten`: the adapter owns a descriptor, at this address (octets), that is all zeros.
     DescriptorUnwritten { tail: Reg, index: u32, at: u128 },
-    /// `status-left`: the adapter owns a descriptor, at this address (octets), whose status has DD.
+    /// `status-left`: the adapter owns a descriptor, at this address (octets), whose status has DD; of a transmit
+    /// descriptor, one that was not written since.
     StatusLeft { tail: Reg, index: u32, at: u128 },
     /// `interrupts-before-rings`: these causes of a ring are let through while the ring's length is 0.
     InterruptsBeforeRings { causes: u32, length: Reg },
-    /// `read-again`: a read of ICR gave 0, since the event before it cleared these causes there.
+    /// `read-again`: a read of ICR gave 0, since an earlier event cleared these causes there, and the frame still waits.
     ReadAgain { causes: u32 },
 }
 

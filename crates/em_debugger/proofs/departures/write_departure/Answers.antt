@@ -1,7 +1,6 @@
-use Rattle.std.proofs.Common.{◌≡◌, ◌∙◌, ◌<◌, ap, sym, length, arith}
+use Rattle.std.proofs.Common.{◌≡◌, ◌∙◌, sym, length, arith}
 use Rattle.std.proofs.lemmas.Bool.{eqb-true, eqb-false}
 use Rattle.std.specs.Prelude.{◌≢◌}
-use Rattle.em_debugger.specs.Departures.{departure_of}
 use Rattle.em_text.proofs.WritingLemmas.{Appends-same}
 use Rattle.em_debugger.proofs.TextLaws.{Writes-some}
 use Rattle.em_debugger.proofs.departures.write_departure.Goals as goal

@@ -1,4 +1,4 @@
-use Rattle.std.proofs.Common.{◌≡◌, ◌<◌, length, arith}
+use Rattle.std.proofs.Common.{◌<◌, length, arith}
 use Rattle.std.proofs.lemmas.List.{length-map}
 use Rattle.em_turn.specs.Planned.{lists}
 use Rattle.em_debugger.proofs.OffersLaws.{wrote_offered}

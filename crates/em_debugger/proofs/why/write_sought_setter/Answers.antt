@@ -2,6 +2,3 @@ use Rattle.em_debugger.proofs.why.write_sought_setter.Goals as goal
 
 pub returns-in-Never : goal.returns-in-Never
 returns-in-Never g c = record { writes = rw c.in-Never.is c.write_whole.ensures.writes }
-
-pub returns-in-Unreached : goal.returns-in-Unreached
-returns-in-Unreached g c = record { writes = rw c.in-Unreached.is c.write_whole-in-Unreached.ensures.writes }

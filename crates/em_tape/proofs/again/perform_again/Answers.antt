@@ -4,9 +4,9 @@ use Rattle.std.proofs.lemmas.List.{take_more}
 use Rattle.em_tape.specs.Texts.{texts}
 use Rattle.em_script.specs.PlayedLine.{after_all}
 use Rattle.em_script.specs.Session.{Session}
-use Rattle.em_tape.specs.Did.{events_in}
+use Rattle.em_tape.specs.Known.{events_in}
 use Rattle.em_tape.specs.Tape.{taken_back}
-use Rattle.em_tape.specs.declared.did.Did.TheVariants.{Nothing}
+use Rattle.em_tape.specs.declared.known.Known.TheVariants.{Nothing}
 use Rattle.em_tape.proofs.AgainLaws.{along, done_at, events_push, one_at_most}
 use Rattle.em_tape.proofs.TapeLaws.{line_in, past_back, short_at}
 use Rattle.em_tape.proofs.again.perform_again.Goals as goal
@@ -23,7 +23,7 @@ do_again-requires c =
 pub returns-in-None-clause-same : goal.returns-in-None-clause-same
 returns-in-None-clause-same c = λ failed all done.
     let ls = c.args.lines.now in
-    let did = c.args.did.now in
+    let did = c.args.known.now in
     let first = c.args.session.now in
     let k = c.loop-done.done in
     let within : k < length ls = omega (arith, c.requires.known, c.loop-done-test.true) in
@@ -45,7 +45,7 @@ returns-in-None-clause-room c =
 pub loop-done-preserved : goal.loop-done-preserved
 loop-done-preserved c =
     let ls = c.args.lines.now in
-    let did = c.args.did.now in
+    let did = c.args.known.now in
     let first = c.args.session.now in
     let k = c.loop-done.done in
     let within : k < length ls = omega (arith, c.requires.known, c.loop-done-test.true) in

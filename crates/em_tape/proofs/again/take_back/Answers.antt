@@ -1,7 +1,7 @@
 use Rattle.std.proofs.Common.{◌∙◌, length, ap, sym, arith}
 use Rattle.std.proofs.lemmas.List.{take_all}
 use Rattle.em_script.specs.Session.{Session}
-use Rattle.em_tape.specs.Did.{events_in}
+use Rattle.em_tape.specs.Known.{events_in}
 use Rattle.em_tape.specs.Tape.{taken_back}
 use Rattle.em_tape.proofs.AgainLaws.{along}
 use Rattle.em_tape.proofs.TapeLaws.{past_back}
@@ -9,7 +9,7 @@ use Rattle.em_tape.proofs.again.take_back.Goals as goal
 
 pub returns-in-Some-clause-there : goal.returns-in-Some-clause-there
 returns-in-Some-clause-there c = λ gone all first does is.
-    let did = c.args.did.now in
+    let did = c.args.known.now in
     let events = c.in-Some.events in
     c.back_by-taken.ensures.session ∙ ap (taken_back events) is
     ∙ along (length did) events did all first does (omega arith)

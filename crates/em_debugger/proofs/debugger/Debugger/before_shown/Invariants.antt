@@ -7,7 +7,7 @@ abbrev pub invariant-loop-before : goal.invariant-loop-before
 invariant-loop-before l =
     record {
       within : l.before ≤ l.here;
-      count : length (lines_between l.self.tape.ends l.before l.here) + l.left ≡ l.most;
+      count : length (lines_between l.self.tape.did l.before l.here) + l.left ≡ l.most;
     }
 
 abbrev pub decreases-loop-before : goal.decreases-loop-before

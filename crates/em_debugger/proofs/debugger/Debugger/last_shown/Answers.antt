@@ -6,30 +6,30 @@ use Rattle.em_debugger.proofs.debugger.Debugger.last_shown.Goals.{then-did_somet
 
 pub loop-last-preserved : goal.loop-last-preserved
 loop-last-preserved c =
-    let ends = c.args.self.now.tape.ends in
+    let noted = c.args.self.now.tape.did in
     let last = c.loop-last.last in
     let here = c.args.here in
     elim c.if-did_something.branch [
       | then-did_something w ↦
-          let n : length (lines_between ends here (last + 1)) ≡ length (lines_between ends here last) + 1 =
-          count_behind ends here last true c.loop-last.invariant.behind
+          let n : length (lines_between noted here (last + 1)) ≡ length (lines_between noted here last) + 1 =
+          count_behind noted here last true c.loop-last.invariant.behind
           (sym c.did_something.ensures ∙ w.if-did_something.true) in
           record { behind = omega arith; within = omega arith; count = omega (arith, n, w.left-is) }
       | else-did_something w ↦
-          let n : length (lines_between ends here (last + 1)) ≡ length (lines_between ends here last) + 0 =
-          count_behind ends here last false c.loop-last.invariant.behind
+          let n : length (lines_between noted here (last + 1)) ≡ length (lines_between noted here last) + 0 =
+          count_behind noted here last false c.loop-last.invariant.behind
           (sym c.did_something.ensures ∙ w.if-did_something.false) in
           record { behind = omega arith; within = omega arith; count = omega (arith, n, w.left-is) }
     ]
 
 pub returns-then-left-eq0-clause-lines : goal.returns-then-left-eq0-clause-lines
 returns-then-left-eq0-clause-lines c =
-    ahead_shown c.args.self.now.tape.ends c.args.here c.loop-last.last (length c.args.self.now.tape.ends) c.args.most
+    ahead_shown c.args.self.now.tape.did c.args.here c.loop-last.last (length c.args.self.now.tape.did) c.args.most
     c.loop-last.left c.loop-last.invariant.behind (λ past. absurd (omega arith)) c.loop-last.invariant.count
     (inl (omega arith))
 
 pub returns-clause-lines : goal.returns-clause-lines
 returns-clause-lines c =
-    ahead_shown c.args.self.now.tape.ends c.args.here c.loop-last.last (length c.args.self.now.tape.ends) c.args.most
+    ahead_shown c.args.self.now.tape.did c.args.here c.loop-last.last (length c.args.self.now.tape.did) c.args.most
     c.loop-last.left c.loop-last.invariant.behind (λ past. absurd (omega arith)) c.loop-last.invariant.count
     (inr (omega arith))

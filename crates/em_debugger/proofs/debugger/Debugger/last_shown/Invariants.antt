@@ -7,9 +7,9 @@ abbrev pub invariant-loop-last : goal.invariant-loop-last
 invariant-loop-last l =
     record {
       behind : l.here ≤ l.last;
-      within : l.last ≤ length l.self.tape.ends;
-      count : length (lines_between l.self.tape.ends l.here l.last) + l.left ≡ l.most;
+      within : l.last ≤ length l.self.tape.did;
+      count : length (lines_between l.self.tape.did l.here l.last) + l.left ≡ l.most;
     }
 
 abbrev pub decreases-loop-last : goal.decreases-loop-last
-decreases-loop-last l = length l.self.tape.ends - l.last
+decreases-loop-last l = length l.self.tape.did - l.last

@@ -5,7 +5,7 @@ use Rattle.em_debugger.proofs.debugger.Debugger.newest_line.Given as goal
 abbrev pub invariant-loop-line : goal.invariant-loop-line
 invariant-loop-line l =
     record {
-      same : newest_line l.self.tape.ends l.line ≡ newest_line l.self.tape.ends l.last;
+      same : newest_line l.self.tape.did l.line ≡ newest_line l.self.tape.did l.last;
       within : l.line ≤ l.last;
     }
 

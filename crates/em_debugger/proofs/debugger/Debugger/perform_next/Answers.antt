@@ -1,4 +1,3 @@
-use Rattle.em_debugger.specs.Engines.{Engages}
 use Rattle.em_debugger.proofs.debugger.Debugger.perform_next.Goals as goal
 
 pub returns-in_ok-engage-in-Some-clause-some : goal.returns-in_ok-engage-in-Some-clause-some

@@ -1,5 +1,5 @@
-use Rattle.std.proofs.Common.{◌++◌, [], Some, append-nil, refl, sym}
-use Rattle.em_debugger.specs.Compare.{TellsDiffers, TellsRegister, events_before}
+use Rattle.std.proofs.Common.{[], Some, append-nil, refl, sym}
+use Rattle.em_debugger.specs.Compare.{TellsDiffers, TellsRegister, before_line}
 use Rattle.em_debugger.proofs.TextLaws.{OnOk-behind}
 use Rattle.em_debugger.proofs.debugger.Debugger.tell_differs.Goals as goal
 
@@ -11,9 +11,9 @@ returns-in-Some g c =
     let shown = c.in_ok-write_performed.ensures.ok in
     record {
       ok = rw c.in-Some.is (OnOk-behind _ _ _ c.tell_register.result shown.0
-          (TellsRegister old new c.in-Some.reg (events_before p old)) (TellsDiffers old new p (Some c.in-Some.reg)) shown.1
+          (TellsRegister old new c.in-Some.reg (before_line p old)) (TellsDiffers old new p (Some c.in-Some.reg)) shown.1
           (λ t h. record { line = shown.0; shows = shown.2; rest = t; tells = h; told = refl })
-          (rw c.events_before-before.ensures at c.tell_register.ensures.ok));
+          (rw c.before_line-before.ensures at c.tell_register.ensures.ok));
     }
 
 pub returns-in-None : goal.returns-in-None

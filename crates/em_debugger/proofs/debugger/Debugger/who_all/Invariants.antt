@@ -8,4 +8,4 @@ decreases-loop-event g l = l.event
 abbrev pub invariant-loop-event : goal.invariant-loop-event
 invariant-loop-event g l =
     let contents = g.W.Write.contents in
-    ToldSo l.fn.self l.fn.watch (contents l.fn.writer) (contents l.writer) l.event l.count
+    ToldSo l.fn.self l.fn.watch (contents l.fn.writer) (contents l.writer) l.event l.back l.count

@@ -14,8 +14,8 @@ returns-in_err-write_start g c =
     record {
       writes = MatchResult-from_err _ _ _ c.from_residual.ensures.0 (λ _.
           WroteFront-part ((lines_text c.args.self.now c.args.here (last_of c.args.most (lines_between
-          c.args.self.now.tape.ends 0 c.args.here))) ++ (lines_text c.args.self.now c.args.here (take c.args.most
-          (lines_between c.args.self.now.tape.ends c.args.here (length c.args.self.now.tape.ends))))) wrote-0 refl
+          c.args.self.now.tape.did 0 c.args.here))) ++ (lines_text c.args.self.now c.args.here (take c.args.most
+          (lines_between c.args.self.now.tape.did c.args.here (length c.args.self.now.tape.did))))) wrote-0 refl
           c.in_err-write_start.ensures.writes);
     }
 
@@ -27,7 +27,7 @@ returns-in_err-write_newest g c =
     record {
       writes = MatchResult-from_err _ _ _ c.from_residual-in_err-write_newest.ensures.0 (λ _.
           WroteFront-part (lines_text c.args.self.now c.args.here (take c.args.most (lines_between
-          c.args.self.now.tape.ends c.args.here (length c.args.self.now.tape.ends)))) wrote-1 refl
+          c.args.self.now.tape.did c.args.here (length c.args.self.now.tape.did)))) wrote-1 refl
           c.in_err-write_newest.ensures.writes);
     }
 
@@ -37,9 +37,9 @@ returns g c =
     c.args.here) in
     let wrote-1 = WroteFront-more (start_text c.args.here) wrote-0 refl c.in_ok-write_start.ensures.writes in
     let wrote-2 = WroteFront-more (lines_text c.args.self.now c.args.here (last_of c.args.most (lines_between
-    c.args.self.now.tape.ends 0 c.args.here))) wrote-1 refl c.in_ok-write_newest.ensures.writes in
+    c.args.self.now.tape.did 0 c.args.here))) wrote-1 refl c.in_ok-write_newest.ensures.writes in
     record {
       writes = Writes-more _ _ _ _ wrote-2.front (lines_text c.args.self.now c.args.here (take c.args.most
-          (lines_between c.args.self.now.tape.ends c.args.here (length c.args.self.now.tape.ends)))) _ wrote-2.written
+          (lines_between c.args.self.now.tape.did c.args.here (length c.args.self.now.tape.did)))) _ wrote-2.written
           c.write_ahead.ensures.writes wrote-2.whole;
     }

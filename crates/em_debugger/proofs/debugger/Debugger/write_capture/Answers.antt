@@ -1,6 +1,6 @@
-use Rattle.std.proofs.Common.{◌++◌, length, refl}
+use Rattle.std.proofs.Common.{◌++◌, refl}
 use Rattle.em_debugger.specs.Files.{disk_text}
-use Rattle.em_debugger.specs.Offers.{SavesFrames, saves, unsaved, wrote_text}
+use Rattle.em_debugger.specs.Offers.{SavesFrames, unsaved}
 use Rattle.em_debugger.proofs.TextLaws.{OnOk-written}
 use Rattle.em_debugger.proofs.debugger.Debugger.write_capture.Goals as goal
 

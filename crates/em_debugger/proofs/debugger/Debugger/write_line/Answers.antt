@@ -11,7 +11,7 @@ returns-in_err-write_number_of_line g c =
     c.args.line) in
     record {
       writes = MatchResult-from_err _ _ _ c.from_residual.ensures.0 (λ _.
-          WroteFront-part ((events_of_text c.args.self.now.tape.ends c.args.line) ++ (answer_text c.args.self.now
+          WroteFront-part ((events_of_text c.args.self.now.tape.did c.args.line) ++ (answer_text c.args.self.now
           c.args.line)) wrote-0 refl c.in_err-write_number_of_line.ensures.writes);
     }
 
@@ -33,7 +33,7 @@ returns g c =
     c.args.line) in
     let wrote-1 = WroteFront-more (number_of_line_text c.args.here c.args.line) wrote-0 refl
     c.in_ok-write_number_of_line.ensures.writes in
-    let wrote-2 = WroteFront-more (events_of_text c.args.self.now.tape.ends c.args.line) wrote-1 refl
+    let wrote-2 = WroteFront-more (events_of_text c.args.self.now.tape.did c.args.line) wrote-1 refl
     c.in_ok-write_events_of.ensures.writes in
     record {
       writes = Writes-more _ _ _ _ wrote-2.front (answer_text c.args.self.now c.args.line) _ wrote-2.written

@@ -10,8 +10,8 @@ pub loop-passed-init : goal.loop-passed-init
 loop-passed-init g c =
     let contents = g.W.Write.contents in
     let d = c.args.self.now in
-    let none : lines_between d.tape.ends c.args.before c.args.before ≡ [] =
-    between_none d.tape.ends c.args.before c.args.before (omega arith) in
+    let none : lines_between d.tape.did c.args.before c.args.before ≡ [] =
+    between_none d.tape.did c.args.before c.args.before (omega arith) in
     subst (λ (lines : List ℕ). Appends (contents c.args.writer.now) (contents c.args.writer.now)
     (lines_text d c.args.here lines)) (sym none) (Appends-same (contents c.args.writer.now))
 
@@ -34,6 +34,6 @@ returns g c =
     let all : c.loop-passed.passed ≡ c.args.last = omega arith in
     record {
       writes = subst (λ (k : ℕ). Appends (contents c.args.writer.now) (contents c.loop-passed.writer)
-          (lines_text c.args.self.now c.args.here (lines_between c.args.self.now.tape.ends c.args.before k))) all
+          (lines_text c.args.self.now c.args.here (lines_between c.args.self.now.tape.did c.args.before k))) all
           c.loop-passed.invariant;
     }

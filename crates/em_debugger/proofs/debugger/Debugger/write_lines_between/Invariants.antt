@@ -7,4 +7,4 @@ abbrev pub invariant-loop-passed : goal.invariant-loop-passed
 invariant-loop-passed g l =
     let contents = g.W.Write.contents in
     Appends (contents l.fn.writer) (contents l.writer)
-    (lines_text l.self l.here (lines_between l.self.tape.ends l.before l.passed))
+    (lines_text l.self l.here (lines_between l.self.tape.did l.before l.passed))

@@ -1,61 +1,24 @@
-use Rattle.std.proofs.Common.{◌++◌, refl}
+use Rattle.std.proofs.Common.{refl}
 use Rattle.std.specs.Prelude.{codes}
 use Rattle.std.proofs.lemmas.Result.{MatchResult-from_err}
 use Rattle.em_text.proofs.WritingLemmas.{WroteFront-more, WroteFront-none, WroteFront-part, Writes-more}
-use Rattle.em_looks.specs.Numbers.{number_text, short_text}
-use Rattle.em_debugger.specs.Debugger.{told}
-use Rattle.em_debugger.specs.Place.{text_of}
-use Rattle.em_debugger.specs.Moves.{one_back_text}
+use Rattle.em_looks.specs.Numbers.{number_text}
+use Rattle.em_named.specs.Numbers.{line_of}
+use Rattle.em_debugger.specs.Moves.{line_told, one_back_text}
 use Rattle.em_debugger.proofs.debugger.Debugger.write_one_back.Goals as goal
 
 pub returns-in_err-write_number : goal.returns-in_err-write_number
 returns-in_err-write_number g c =
-    let wrote-0 = WroteFront-none (g.W.Write.contents c.args.writer.now) (one_back_text c.args.self.now c.args.event
-    c.args.line) in
+    let wrote-0 = WroteFront-none (g.W.Write.contents c.args.writer.now) (one_back_text c.args.self.now c.args.event) in
     record {
       writes = MatchResult-from_err _ _ _ c.from_residual.ensures.0 (λ _.
-          WroteFront-part ((number_text (codes "(line ") c.args.line (codes ", ")) ++ ((short_text (text_of
-          c.args.line c.args.self.now.tape)) ++ (codes ": " ++ (told c.args.line c.args.self.now ++ codes ")\n"))))
-          wrote-0 refl c.in_err-write_number.ensures.writes);
-    }
-
-pub returns-in_err-write_number-2 : goal.returns-in_err-write_number-2
-returns-in_err-write_number-2 g c =
-    let wrote-0 = WroteFront-none (g.W.Write.contents c.args.writer.now) (one_back_text c.args.self.now c.args.event
-    c.args.line) in
-    let wrote-1 = WroteFront-more (number_text (codes "took back event ") c.args.event (codes " ")) wrote-0 refl
-    c.in_ok-write_number.ensures.writes in
-    record {
-      writes = MatchResult-from_err _ _ _ c.from_residual-in_err-write_number-2.ensures.0 (λ _.
-          WroteFront-part ((short_text (text_of c.args.line c.args.self.now.tape)) ++ (codes ": " ++ (told c.args.line
-          c.args.self.now ++ codes ")\n"))) wrote-1 refl c.in_err-write_number-2.ensures.writes);
-    }
-
-pub returns-in_err-write_short : goal.returns-in_err-write_short
-returns-in_err-write_short g c =
-    let wrote-0 = WroteFront-none (g.W.Write.contents c.args.writer.now) (one_back_text c.args.self.now c.args.event
-    c.args.line) in
-    let wrote-1 = WroteFront-more (number_text (codes "took back event ") c.args.event (codes " ")) wrote-0 refl
-    c.in_ok-write_number.ensures.writes in
-    let wrote-2 = WroteFront-more (number_text (codes "(line ") c.args.line (codes ", ")) wrote-1 refl
-    c.in_ok-write_number-2.ensures.writes in
-    record {
-      writes = MatchResult-from_err _ _ _ c.from_residual-in_err-write_short.ensures.0 (λ _.
-          WroteFront-part (codes ": " ++ (told c.args.line c.args.self.now ++ codes ")\n")) wrote-2 refl (rw
-          c.text_of.ensures at c.in_err-write_short.ensures.writes));
+          WroteFront-part (line_told c.args.self.now (line_of c.args.event c.args.self.now.tape.did)) wrote-0 refl c.in_err-write_number.ensures.writes);
     }
 
 pub returns : goal.returns
 returns g c =
-    let wrote-0 = WroteFront-none (g.W.Write.contents c.args.writer.now) (one_back_text c.args.self.now c.args.event
-    c.args.line) in
-    let wrote-1 = WroteFront-more (number_text (codes "took back event ") c.args.event (codes " ")) wrote-0 refl
-    c.in_ok-write_number.ensures.writes in
-    let wrote-2 = WroteFront-more (number_text (codes "(line ") c.args.line (codes ", ")) wrote-1 refl
-    c.in_ok-write_number-2.ensures.writes in
-    let wrote-3 = WroteFront-more (short_text (text_of c.args.line c.args.self.now.tape)) wrote-2 refl (rw
-    c.text_of.ensures at c.in_ok-write_short.ensures.writes) in
+    let wrote-0 = WroteFront-none (g.W.Write.contents c.args.writer.now) (one_back_text c.args.self.now c.args.event) in
+    let wrote-1 = WroteFront-more (number_text (codes "took back event ") c.args.event (codes " ")) wrote-0 refl c.in_ok-write_number.ensures.writes in
     record {
-      writes = Writes-more _ _ _ _ wrote-3.front (codes ": " ++ (told c.args.line c.args.self.now ++ codes ")\n")) _
-          wrote-3.written (rw c.of.ensures at c.write_pieces.ensures.writes) wrote-3.whole;
+      writes = Writes-more _ _ _ _ wrote-1.front (line_told c.args.self.now (line_of c.args.event c.args.self.now.tape.did)) _ wrote-1.written (rw c.line_of.ensures.line at c.write_line_told.ensures.writes) wrote-1.whole;
     }

@@ -8,7 +8,7 @@ use Rattle.em_tape.proofs.tape.Tape.add.Goals.{in-Ok, in-Err}
 pub invariant_of-self : goal.invariant_of-self
 invariant_of-self c =
     let lines = texts c.self.inside.lines.items in
-    let few : length lines < 0xFFFF_FFFF =
+    let few : length lines < 0x3FFF_FFFF =
     omega (arith, length-map c.self.inside.lines.items (λ v. v.items), c.len.ensures, c.if-len-ge-MOST_LINES.false) in
     holds_add c.args.line.now c.self.invariant c.if-line-ge-MOST_OCTETS.false few
     (elim c.match-push_line.branch [ in-Ok w ↦ inl w.in-Ok.ensures.ok | in-Err w ↦ inr w.in-Err.ensures.err ])

@@ -3,10 +3,8 @@ use Rattle.std.specs.Prelude.{All}
 use Rattle.std.proofs.lemmas.List.{length-map, length-take-le, take-map}
 use Rattle.std.proofs.lemmas.List.Elements.{All-take}
 use Rattle.em_tape.specs.Texts.{texts}
-use Rattle.em_journal.specs.Settings.{new_machine}
-use Rattle.em_script.specs.Session.{bare}
 use Rattle.em_tape.specs.Tape.{Tape, IsShort}
-use Rattle.em_tape.proofs.KeptLaws.{holds_at, known_more}
+use Rattle.em_tape.proofs.KeptLaws.{holds_at, known_more, known_told}
 use Rattle.em_tape.proofs.tape.Tape.replay_to.Goals as goal
 
 pub replayed-requires-clause-short : goal.replayed-requires-clause-short
@@ -19,22 +17,21 @@ replayed-requires-clause-short c =
 
 pub invariant_of-self : goal.invariant_of-self
 invariant_of-self c =
-    let lines = texts c.self.inside.lines.items in
-    let first = bare (new_machine c.self.inside.settings) in
+    let inside = c.self.inside in
+    let lines = texts inside.lines.items in
     let line = c.args.line in
     let some = texts (take line c.as_slice.result.now) in
     let is : take line lines ≡ some =
-    take-map (λ v. v.items) line c.self.inside.lines.items
-    ∙ ap (λ ls. texts (take line ls)) (sym c.as_slice.ensures.value) in
-    let within : line ≤ length c.self.inside.ends.items =
-    subst (λ (t : Tape). line ≤ length t.ends) (sym c.self.view_is) c.requires in
+    take-map (λ v. v.items) line inside.lines.items ∙ ap (λ ls. texts (take line ls)) (sym c.as_slice.ensures.value) in
+    let within : line ≤ length inside.did.items =
+    subst (λ (t : Tape). line ≤ length t.did) (sym c.self.view_is) c.requires in
     let count : length (take line c.as_slice.result.now) ≡ line =
     length-take-le line c.as_slice.result.now (omega (
       arith,
       ap length c.as_slice.ensures.value,
-      length-map
-          c.self.inside.lines.items (λ v. v.items),
+      length-map inside.lines.items (λ v. v.items),
       c.self.invariant.tape.performed,
     )) in
-    rw c.put.ensures (holds_at line c.self.invariant within
-    (known_more count is (omega (arith, c.self.invariant.tape.performed)) c.in-Ok.ensures.ok) c.in-Ok.ensures.room)
+    rw c.put.ensures (holds_at line c.self.invariant within (rw (← c.self.view_is) at c.end_of-end.ensures)
+    (known_told inside.answered (known_more count is (omega (arith, c.self.invariant.tape.performed))
+    (rw c.as_slice-2.ensures.value at c.in-Ok.ensures.ok))) c.in-Ok.ensures.room)

@@ -1,0 +1,157 @@
+"""What the crate em_c has for its callers in C: its numbers, layouts and calls, read out of its sources.
+
+These sources are proved to be what the crate's specs say. Whatever can't be read stops the program: a table is never
+written by halves.
+"""
+import re
+from pathlib import Path
+from typing import NamedTuple
+
+TOP = Path(__file__).resolve().parent.parent
+
+
+class Refusal(NamedTuple):
+    """A reason why a call did nothing: its name, its number, its sentence, and its variant in the crate."""
+
+    name: str
+    number: int
+    sentence: str
+    docs: str
+
+
+class Field(NamedTuple):
+    """A field of a layout, or a parameter of a call: its name, its type as the crate has it, and what is said of it."""
+
+    name: str
+    kind: str
+    docs: str = ""
+
+
+class Layout(NamedTuple):
+    name: str
+    fields: list
+    docs: str
+
+
+class Call(NamedTuple):
+    """A call; `looks` says that its contract leaves what the handle holds."""
+
+    name: str
+    parameters: list
+    gives: bool
+    looks: bool
+
+
+class Crate(NamedTuple):
+    version: str
+    refusals: list
+    kinds: list
+    watches: list
+    layouts: list
+    calls: list
+    registers: int
+    most_sent: int
+    octets: int
+
+
+def words_of(name: str) -> list[str]:
+    """ReceiveIdle: receive, idle."""
+    return [word.lower() for word in re.findall(r"[A-Z][a-z]*", name)]
+
+
+def text_of(top: Path, name: str) -> str:
+    return (top / "crates" / name).read_text()
+
+
+def found(pattern: str, text: str, what: str) -> list:
+    """All that is found, which is something."""
+    matches = re.findall(pattern, text, re.M | re.S)
+    if not matches:
+        raise SystemExit(f"{what} can't be read: its form has changed, and bindings/crate.py has to follow it")
+    return matches
+
+
+def number(text: str) -> int:
+    return int(text.replace("_", ""), 0)
+
+
+def docs_of(lines: str) -> str:
+    return " ".join(re.findall(r"///\s*(.*)", lines))
+
+
+def refusals(top: Path) -> list[Refusal]:
+    body = found(r"pub enum Refused \{(.*?)\n\}", text_of(top, "em_c/src/refused.rt"), "the refusals")[0]
+    rows = re.findall(r"((?:\s*///.*\n)+)\s*(\w+) = (\d+),", body)
+    numbers = {name: (number(n), docs_of(docs)) for docs, name, n in rows}
+    said = found(r'Refused::(\w+) =>\s*"(\w+): ([^"]*)"', text_of(top, "em_c/src/refusal_text.rt"), "their texts")
+    if {variant for variant, _, _ in said} != numbers.keys():
+        raise SystemExit("some refusal has a number and no text, or a text and no number")
+    return [Refusal(name, numbers[variant][0], sentence, numbers[variant][1]) for variant, name, sentence in said]
+
+
+def kinds(top: Path) -> list[tuple[str, int]]:
+    """Each kind of event by the words that tell it; a frame that was dropped by `dropped` and the reason."""
+    text = text_of(top, "em_c/src/note.rt")
+    rows = found(r"Kind::(\w+) => (\d+),", text, "the kinds")
+    dropped = found(r"Reason::(\w+) => (\d+),", text, "the reasons")
+    told = [(" ".join(words_of(name)), number(n)) for name, n in rows]
+    return told + [("dropped: " + " ".join(words_of(name)), number(n)) for name, n in dropped]
+
+
+def watches(top: Path) -> list[tuple[str, int]]:
+    rows = found(r"^IsWatch w size \(?watch\.(\w+)[^=]*=\s*\(?w\.kind ≡ (\d+)", text_of(top, "em_c/specs/Watch.antt"), "the watches")
+    return [(name.lower(), number(n)) for name, n in rows]
+
+
+def layouts(top: Path) -> list[Layout]:
+    """What is laid out as in C, but for the handle, whose inner is nobody's business."""
+    made, wanted = [], 0
+    for file in sorted((top / "crates/em_c/src").glob("*.rt")):
+        wanted += file.read_text().count("#[repr(C)]")
+        pattern = r"((?:^///[^\n]*\n)*)#\[repr\(C\)\]\n(?:#\[[^\n]*\n)*pub struct (Em\w+) \{(.*?)\n\}"
+        for docs, name, body in re.findall(pattern, file.read_text(), re.M | re.S):
+            fields = re.findall(r"((?:\s*///[^\n]*\n)*)\s*pub (\w+): ([^,]+),", body)
+            if name != "EmMachine":
+                made.append(Layout(name, [Field(it, kind, docs_of(said)) for said, it, kind in fields], docs_of(docs)))
+    # (the handle and its inner are the two that callers see nothing of)
+    if len(made) != wanted - 2:
+        raise SystemExit("some layout can't be read: its form has changed, and bindings/crate.py has to follow it")
+    return made
+
+
+def calls(top: Path) -> list[Call]:
+    made = []
+    pattern = r'pub extern "C" fn (em_\w+)\((.*?)\)( -> u32)?\n(.*?)\n\{'
+    for file in sorted((top / "crates/em_c/src").glob("*.rt")):
+        for name, inside, gives, contract in re.findall(pattern, file.read_text(), re.S):
+            parameters = [Field(*it) for it in re.findall(r"(\w+): ([^,]+)", inside) if it[1] != "Global"]
+            looks = "machine.new.sealed.held ≡ machine.old.sealed.held" in contract
+            made.append(Call(name, parameters, bool(gives), looks))
+    if not made:
+        raise SystemExit("the calls can't be read")
+    return made
+
+
+def registers(top: Path) -> int:
+    """How many registers the table has: one a row, or as many as the row's array."""
+    rows = found(r"^named_row_of \(?named\.\w+[^=]*= called \(codes \"\w+\"\) \((\w+) \w+ (\d*)",
+                 text_of(top, "em_regs/specs/Table.antt"), "the registers")
+    return sum(number(count) if form == "array" else 1 for form, count in rows)
+
+
+def constant(top: Path, name: str, file: str) -> int:
+    return number(found(rf"const {name}: \w+ = ([\w]+);", text_of(top, file), name)[0])
+
+
+def read(top: Path = TOP) -> Crate:
+    return Crate(
+        version=found(r'VERSION: &str = "([\d.]+)"', text_of(top, "em_options/src/help.rt"), "the version")[0],
+        refusals=refusals(top),
+        kinds=kinds(top),
+        watches=watches(top),
+        layouts=layouts(top),
+        calls=calls(top),
+        registers=registers(top),
+        most_sent=constant(top, "ROOM", "em_tx/src/gather.rt"),
+        octets=constant(top, "MOST_OCTETS", "em_c/src/watch.rt"),
+    )

@@ -1,0 +1,125 @@
+"""What the model refuses.
+
+Written by bindings/tables.py, of the crate em_c: change it there, and run that.
+"""
+__all__ = [
+    "Refused", "NoRegister", "Range", "Length", "DmaRange", "Extended", "TooLong", "Memory", "Budget", "NotMade",
+    "MadeAlready", "Size", "NoFrame", "Room", "NoEvent", "NoChange", "NoWatch", "NoName", "NoRefusal",
+]
+
+
+class Refused(Exception):
+    """Why a call did nothing: each refusal is a class of its own below this one, of the refusal's name."""
+
+    # the refusal's number
+    number = 0
+    # of `run` how many steps, and of `sync_in` how many writes, went well before; they stay
+    done = 0
+
+
+class NoRegister(Refused):
+    """No register lies at the offset."""
+
+    number = 1
+
+
+class Range(Refused):
+    """The range leaves guest memory."""
+
+    number = 2
+
+
+class Length(Refused):
+    """A memory write outside 1 to 16,384 octets, or a frame outside 14 to 20,000."""
+
+    number = 3
+
+
+class DmaRange(Refused):
+    """A descriptor or its buffer leaves guest memory."""
+
+    number = 4
+
+
+class Extended(Refused):
+    """A transmit descriptor is extended (DEXT)."""
+
+    number = 5
+
+
+class TooLong(Refused):
+    """The gathered octets would exceed 16,380."""
+
+    number = 6
+
+
+class Memory(Refused):
+    """The host refused memory."""
+
+    number = 9
+
+
+class Budget(Refused):
+    """The budget lies outside 65,536 to 16,777,216."""
+
+    number = 24
+
+
+class NotMade(Refused):
+    """The handle holds no machine."""
+
+    number = 26
+
+
+class MadeAlready(Refused):
+    """The handle holds a machine already."""
+
+    number = 27
+
+
+class Size(Refused):
+    """The size of guest memory is no multiple of 4,096 from 4,096 to 16,777,216."""
+
+    number = 28
+
+
+class NoFrame(Refused):
+    """So many frames were not sent."""
+
+    number = 29
+
+
+class Room(Refused):
+    """What is told has more octets than there is room for."""
+
+    number = 30
+
+
+class NoEvent(Refused):
+    """The journal does not hold so many events."""
+
+    number = 31
+
+
+class NoChange(Refused):
+    """The journal holds no change of what is watched."""
+
+    number = 32
+
+
+class NoWatch(Refused):
+    """A watch of a kind that there is not."""
+
+    number = 33
+
+
+class NoName(Refused):
+    """No register has the name."""
+
+    number = 34
+
+
+class NoRefusal(Refused):
+    """No refusal has the number."""
+
+    number = 35

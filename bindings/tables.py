@@ -1,0 +1,328 @@
+#!/usr/bin/env python3
+"""Writes what the bindings have of the crate em_c: numbers, layouts, the types of calls, and the version.
+
+    bindings/tables.py              writes them anew
+    bindings/tables.py --check      says which of them are not as the crate has them; the status is 1 where one is not
+    bindings/tables.py --check DIR  the same of a copy of bindings/ in another folder
+
+Whole files are _tables.py and _refusals.py of bindings/python/bunjelav, and tables.rs and raw.rs of bindings/rust/src. In bunjelav.h only
+the numbers, the fields and the types are written: comments and the names of parameters stay as they are there. Of
+bunjelav.pc, Cargo.toml, pyproject.toml and page/page.html it is the version.
+"""
+import os
+import re
+import sys
+import textwrap
+from pathlib import Path
+
+sys.dont_write_bytecode = True
+import crate  # noqa: E402
+from crate import Call, Crate, Field, words_of  # noqa: E402
+
+HERE = Path(__file__).resolve().parent
+NOTICE = "Written by bindings/tables.py, of the crate em_c: change it there, and run that."
+LAYOUTS = {"EmNote": "em_note", "EmRegister": "em_register", "EmWatch": "em_watch", "EmChange": "em_change"}
+SHORTER = {"receive idle": "rx idle", "transmit idle": "tx idle"}
+C_TYPES = {"u8": "uint8_t", "u16": "uint16_t", "u32": "uint32_t", "u64": "uint64_t", "usize": "size_t", "bool": "bool"}
+
+
+def c_layout(name: str) -> str:
+    """EmRingHead: em_ring_head."""
+    return LAYOUTS.get(name) or "_".join(words_of(name))
+
+
+def constant_name(words: str) -> str:
+    """A kind's name in C."""
+    return SHORTER.get(words, words).removeprefix("dropped: ").replace(" ", "_").upper()
+
+
+def variant_name(words: str) -> str:
+    """And in Rust."""
+    return "".join(word.capitalize() for word in SHORTER.get(words, words).removeprefix("dropped: ").split())
+
+
+def refusal_constant(name: str) -> str:
+    return "_".join(words_of(name)).upper()
+
+
+def passed(parameter: Field, call: Call) -> list[tuple[str, str, str, str]]:
+    """What a parameter of the crate is to its callers, one or two parameters: kind (value, in, out), type, how many
+    octets or elements of an array, and name."""
+    name, kind = parameter.name, parameter.kind
+    if kind == "&mut EmMachine":
+        return [("in" if call.looks else "out", "EmMachine", "", name)]
+    array = re.fullmatch(r"&\[(\w+); (\w+)\]", kind)
+    if array:
+        count = {"EEPROM_WORDS": "64"}.get(array[2], array[2])
+        return [("in", array[1], count, name)]
+    there = re.fullmatch(r"&(mut )?\[(\w+)\]", kind)
+    if there:
+        how, size = ("out", "room") if there[1] else ("in", "length")
+        return [(how, there[2], "", name), ("value", "usize", "", size)]
+    place = re.fullmatch(r"&(mut )?(\w+)", kind)
+    if place:
+        return [("out" if place[1] else "in", place[2], "", name)]
+    return [("value", kind, "", name)]
+
+
+def all_passed(call: Call) -> list[tuple[str, str, str, str]]:
+    return [one for parameter in call.parameters for one in passed(parameter, call)]
+
+
+# ---- C
+
+
+def c_parameter(one: tuple[str, str, str, str], name: str) -> str:
+    how, kind, count, _ = one
+    base = "em_machine" if kind == "EmMachine" else C_TYPES.get(kind) or c_layout(kind)
+    if count:
+        return f"const {base} {name}[{count}]"
+    return f"{base} {name}" if how == "value" else f"{'const ' if how == 'in' else ''}{base} *{name}"
+
+
+def c_call(call: Call, names: list[str]) -> str:
+    inside = ", ".join(c_parameter(one, name) for one, name in zip(all_passed(call), names))
+    return f"{'uint32_t' if call.gives else 'void'} {call.name}({inside});"
+
+
+def names_there(text: str, call: Call) -> list[str]:
+    """The names that the header has for a call's parameters; where it has not as many, those of the crate."""
+    there = re.search(rf"^\w+ {call.name}\((.*?)\);", text, re.M | re.S)
+    names = re.findall(r"(\w+)(?:\[\d+\])?(?:,|$)", there[1]) if there else []
+    ours = [one[3] for one in all_passed(call)]
+    return names if len(names) == len(ours) else ours
+
+
+def with_calls(text: str, made: Crate) -> str:
+    declared = re.findall(r"^(?:uint32_t|void) (em_\w+)\(", text, re.M)
+    missing = {call.name for call in made.calls} ^ set(declared)
+    if missing:
+        raise SystemExit(f"bunjelav.h and the crate don't have the same calls: {', '.join(sorted(missing))}")
+    for call in made.calls:
+        line = c_call(call, names_there(text, call))
+        text = re.sub(rf"^(?:uint32_t|void) {call.name}\(.*?\);", lambda _: line, text, count=1, flags=re.M | re.S)
+    return text
+
+
+def with_entries(text: str, enum: str, rows: list[tuple[str, int, str]]) -> str:
+    """An enum of the header with these names and numbers; what stands behind each stays."""
+    inside = re.search(rf"typedef enum {enum} \{{\n(.*?)\n\}}", text, re.S)
+    behind = dict(re.findall(r"^  (\w+) = \d+,?(\s*/\*.*?\*/)", inside[1], re.M | re.S))
+    lines = []
+    for at, (name, number, said) in enumerate(rows):
+        comma = "," if at < len(rows) - 1 else ""
+        lines.append(f"  {name} = {number}{comma}{behind.get(name) or f' /* {said} */'}")
+    return text.replace(inside[1], "\n".join(lines), 1)
+
+
+def with_layout(text: str, layout: crate.Layout, made: Crate) -> str:
+    inside = re.search(rf"typedef struct {c_layout(layout.name)} \{{\n(.*?)\n\}}", text, re.S)
+    if not inside:
+        raise SystemExit(f"bunjelav.h has no struct {c_layout(layout.name)}")
+    behind = dict(re.findall(r"^  \w+ (\w+)(?:\[\d+\])?;(\s*/\*.*?\*/)", inside[1], re.M | re.S))
+    lines = []
+    for field in layout.fields:
+        array = re.fullmatch(r"\[(\w+); \w+\]", field.kind)
+        kind, size = (array[1], f"[{made.octets}]") if array else (field.kind, "")
+        lines.append(f"  {C_TYPES[kind]} {field.name}{size};{behind.get(field.name, '')}")
+    return text.replace(inside[1], "\n".join(lines), 1)
+
+
+def with_number(text: str, name: str, value: str) -> str:
+    if not re.search(rf"^#define {name} ", text, re.M):
+        raise SystemExit(f"bunjelav.h has no line for {name}")
+    return re.sub(rf"^#define {name} .*$", f"#define {name} {value}", text, flags=re.M)
+
+
+def header(text: str, made: Crate) -> str:
+    codes = [(f"EM_{refusal_constant(it.name)}", it.number, it.sentence) for it in made.refusals]
+    text = with_entries(text, "em_code", [("EM_OK", 0, "nothing refused it"), *codes])
+    text = with_entries(text, "em_kind", [(f"EM_{constant_name(words)}", n, words) for words, n in made.kinds])
+    text = with_entries(text, "em_watched", [(f"EM_WATCH_{words.upper()}", n, words) for words, n in made.watches])
+    for layout in made.layouts:
+        text = with_layout(text, layout, made)
+    text = with_calls(text, made)
+    major, minor, patch = map(int, made.version.split("."))
+    for name, value in (("EM_REGISTERS", f"{made.registers}"), ("EM_MOST_SENT", f"{made.most_sent}"),
+                        ("EM_VERSION", f'"{made.version}"'),
+                        ("EM_VERSION_NUMBER", f"0x{major:02X}{minor:02X}{patch:02X}")):
+        text = with_number(text, name, value)
+    return text
+
+
+# ---- Rust
+
+
+def rust_parameter(one: tuple[str, str, str, str]) -> str:
+    how, kind, _, name = one
+    base = "Handle" if kind == "EmMachine" else kind.removeprefix("Em")
+    # (the handle is written while any call lasts)
+    way = {"value": "", "in": "*const ", "out": "*mut "}["out" if kind == "EmMachine" else how]
+    return f"{name}: {way}{base}"
+
+
+def commented(docs: str, indent: str = "", mark: str = "/// ") -> list[str]:
+    return textwrap.wrap(docs, 120, initial_indent=indent + mark, subsequent_indent=indent + mark) if docs else []
+
+
+def rust_struct(layout: crate.Layout, made: Crate) -> list[str]:
+    name = layout.name.removeprefix("Em")
+    seen = "pub" if name == "Register" else "pub(crate)"
+    derived = "Clone, Copy, PartialEq, Eq, Hash, Debug, Default" if name == "Register" else "Clone, Copy, Default"
+    lines = ["", *commented(layout.docs), "#[repr(C)]", f"#[derive({derived})]", f"{seen} struct {name} {{"]
+    for field in layout.fields:
+        lines.append(f"    pub {field.name}: {field.kind.replace('MOST_OCTETS', str(made.octets))},")
+    return [*lines, "}"]
+
+
+def rust_raw(made: Crate) -> str:
+    lines = ["//! The layouts and the calls of bunjelav.h.", "//!", f"//! {NOTICE}", "use core::ffi::c_void;", "",
+             "#[repr(C)]", "pub(crate) struct Handle {", "    pub made: bool,", "    pub held: *mut c_void,", "}"]
+    for layout in made.layouts:
+        lines += rust_struct(layout, made)
+    lines += ["", 'extern "C" {']
+    for call in made.calls:
+        inside = ", ".join(map(rust_parameter, all_passed(call)))
+        gives = " -> u32" if call.gives else ""
+        line = f"    pub(crate) fn {call.name}({inside}){gives};"
+        if len(line) > 120:
+            inside = "".join(f"        {rust_parameter(one)},\n" for one in all_passed(call))
+            line = f"    pub(crate) fn {call.name}(\n{inside}    ){gives};"
+        lines.append(line)
+    return "\n".join([*lines, "}", ""])
+
+
+def rust_enum(name: str, docs: list[str], rows: list[tuple[str, str]], other: str) -> list[str]:
+    derived = "#[derive(Clone, Copy, PartialEq, Eq, Hash, Debug)]"
+    lines = ["", *docs, derived, "#[non_exhaustive]", f"pub enum {name} {{"]
+    for variant, said in rows:
+        lines += [*commented(said, "    "), f"    {variant},"]
+    return [*lines, *commented(other, "    "), "    Other(u32),", "}"]
+
+
+def rust_tables(made: Crate) -> str:
+    kinds = [(variant_name(words), n, words) for words, n in made.kinds]
+    lines = ["//! Numbers and names of bunjelav.h.", "//!", f"//! {NOTICE}", "",
+             "/// How many registers there are.", f"pub const REGISTERS: usize = {made.registers};", "",
+             "/// Room in which each frame that a machine sends fits.",
+             f"pub const MOST_SENT: usize = {made.most_sent:_};"]
+    for words, n in made.watches:
+        lines += ["", f"pub(crate) const WATCH_{words.upper()}: u32 = {n};"]
+    lines += rust_enum("Refusal", commented("Why a call did nothing."), [(it.name, it.docs) for it in made.refusals],
+                       "Another number, which this binding does not know.")
+    lines += ["", "/// Each refusal with its number.",
+              f"pub(crate) const REFUSALS: [(Refusal, u32); {len(made.refusals)}] = ["]
+    lines += [f"    (Refusal::{it.name}, {it.number})," for it in made.refusals]
+    lines += ["];", *rust_enum("Kind", commented("What kind of event it was, with what came of it."),
+                               [(variant, f"{words[0].upper()}{words[1:]}.") for variant, _, words in kinds],
+                               "Another number, which this binding does not know."),
+              "", "/// Each kind with its number, and what it is called.",
+              f"pub(crate) const KINDS: [(Kind, u32, &str); {len(kinds)}] = ["]
+    lines += [f'    (Kind::{variant}, {n}, "{words}"),' for variant, n, words in kinds]
+    return "\n".join([*lines, "];", ""])
+
+
+# ---- Python
+
+
+def python_type(kind: str, made: Crate) -> str:
+    array = re.fullmatch(r"\[(\w+); \w+\]", kind)
+    if array:
+        return f"{python_type(array[1], made)} * {made.octets}"
+    return {"usize": "c_size_t", "bool": "c_bool"}.get(kind) or f"c_uint{kind[1:]}"
+
+
+def python_parameter(one: tuple[str, str, str, str], made: Crate) -> str:
+    how, kind, _, _ = one
+    if kind == "EmMachine":
+        return "POINTER(Handle)"
+    if how == "value":
+        return python_type(kind, made)
+    # octets are bytes, or any buffer
+    if kind == "u8":
+        return "c_void_p"
+    return f"POINTER({kind.removeprefix('Em') if kind.startswith('Em') else python_type(kind, made)})"
+
+
+def python(made: Crate) -> str:
+    lines = ['"""Numbers, layouts and calls of bunjelav.h.', "", NOTICE, '"""',
+             "from ctypes import POINTER, Structure, c_bool, c_size_t, c_uint8, c_uint16, c_uint32, c_uint64, c_void_p",
+             "", f'VERSION = "{made.version}"', f"REGISTERS = {made.registers}", f"MOST_SENT = {made.most_sent}",
+             f"MOST_WATCHED = {made.octets}", "", "# by name, the number of each refusal", "REFUSALS = {"]
+    lines += [f'    "{it.name}": {it.number},' for it in made.refusals]
+    lines += ["}", "", "# by number, what each kind of event is called", "KINDS = {"]
+    lines += [f'    {n}: "{words}",' for words, n in made.kinds]
+    lines += ["}", "", "# by name, the number of each kind of watch", "WATCHES = {"]
+    lines += [f'    "{words}": {n},' for words, n in made.watches]
+    lines += ["}", "", "", "class Handle(Structure):", '    _fields_ = [("made", c_bool), ("held", c_void_p)]']
+    for layout in made.layouts:
+        lines += ["", "", f"class {layout.name.removeprefix('Em')}(Structure):", "    _fields_ = ["]
+        lines += [f'        ("{field.name}", {python_type(field.kind, made)}),' for field in layout.fields]
+        lines.append("    ]")
+    lines += ["", "", "# by call, the types of what it takes", "CALLS = {"]
+    for call in made.calls:
+        inside = ", ".join(python_parameter(one, made) for one in all_passed(call))
+        lines.append(f'    "{call.name}": [{inside}],')
+    return "\n".join([*lines, "}", ""])
+
+
+def python_refusals(made: Crate) -> str:
+    names = ", ".join(f'"{name}"' for name in ["Refused", *(it.name for it in made.refusals)])
+    lines = ['"""What the model refuses.', "", NOTICE, '"""', "__all__ = ["]
+    lines += textwrap.wrap(names, 116, initial_indent="    ", subsequent_indent="    ")
+    lines[-1] += ","
+    lines += ["]", "", "", "class Refused(Exception):",
+              '    """Why a call did nothing: each refusal is a class of its own below this one, of the refusal\'s name."""', "",
+              "    # the refusal's number", "    number = 0",
+              "    # of `run` how many steps, and of `sync_in` how many writes, went well before; they stay", "    done = 0"]
+    for it in made.refusals:
+        lines += ["", "", f"class {it.name}(Refused):", f'    """{it.docs}"""', "", f"    number = {it.number}"]
+    return "\n".join([*lines, ""])
+
+
+# ---- all of it
+
+
+def versioned(text: str, made: Crate, pattern: str) -> str:
+    return re.sub(pattern, lambda found: found[1] + made.version + found[2], text, count=1, flags=re.M)
+
+
+def written(folder: Path, made: Crate) -> dict[Path, str]:
+    """What each file has to be."""
+    def there(name: str) -> str:
+        return (folder / name).read_text()
+
+    texts = {
+        "c/bunjelav.h": header(there("c/bunjelav.h"), made),
+        "c/bunjelav.pc": versioned(there("c/bunjelav.pc"), made, r"^(Version: ).*?($)"),
+        "rust/Cargo.toml": versioned(there("rust/Cargo.toml"), made, r'^(version = ").*?(")'),
+        "python/pyproject.toml": versioned(there("python/pyproject.toml"), made, r'^(version = ").*?(")'),
+        "rust/src/raw.rs": rust_raw(made),
+        "rust/src/tables.rs": rust_tables(made),
+        "python/bunjelav/_tables.py": python(made),
+        "python/bunjelav/_refusals.py": python_refusals(made),
+    }
+    # (a copy of the bindings alone has no page beside it)
+    page = folder.parent / "page" / "page.html"
+    if page.is_file():
+        texts["../page/page.html"] = versioned(page.read_text(), made, r'(content="Bunjelav ).*?(")')
+    return {folder / name: text for name, text in texts.items()}
+
+
+def main(words: list[str]) -> int:
+    if words and (words[0] != "--check" or len(words) > 2):
+        print(__doc__, file=sys.stderr)
+        return 64
+    folder = Path(words[1]).resolve() if words[1:] else HERE
+    differ = [(file, text) for file, text in written(folder, crate.read()).items()
+              if not file.is_file() or file.read_text() != text]
+    for file, text in differ:
+        if words:
+            print(f"{os.path.relpath(file, folder)} is not as the crate em_c has it: bindings/tables.py writes it anew")
+        else:
+            file.write_text(text)
+    return 1 if words and differ else 0
+
+
+if __name__ == "__main__":
+    sys.exit(main(sys.argv[1:]))

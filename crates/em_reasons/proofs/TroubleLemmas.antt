@@ -1,0 +1,263 @@
+-- What is wrong with the descriptor at a ring's head, beside what the engine does.
+use Rattle.std.proofs.Common.{◌≡◌, ◌∙◌, ◌+◌, ◌<◌, ◌≤◌, ℕ, Bool, true, false, List, [], ◌∷◌, Option, Some, None, refl}
+use Rattle.std.proofs.Common.{length, sym, ap, arith}
+use Rattle.std.specs.Prelude.{◌==◌, ◌&&◌, ◌||◌, nat_le, nat_lt, min, not, option_map, if◌then◌else◌}
+use Rattle.std.proofs.lemmas.Bool.Decides.{nat_tests}
+use Rattle.em_mem.specs.Memory.{part}
+use Rattle.em_regs.specs.declared.ring.Ring.{Ring}
+use Rattle.em_regs.specs.Ring as ring
+use Rattle.em_regs.specs.Setup.{rx_setup, tx_setup}
+use Rattle.em_rx.specs.Fifo.{rest}
+use Rattle.em_rx.specs.Receive as rx
+use Rattle.em_tx.specs.Descriptor.{address, dext, length_of}
+use Rattle.em_tx.specs.Ring as tx
+use Rattle.em_step.specs.Event.{receives, transmits}
+use Rattle.em_step.specs.State.{State}
+use Rattle.em_step.specs.Step.{step}
+use Rattle.em_step.specs.declared.refusal.Refusal.{Refusal}
+use Rattle.em_step.specs.declared.refusal.Refusal.TheVariants as refusal
+use Rattle.em_inspect.specs.declared.ring.Owner.{Owner}
+use Rattle.em_inspect.specs.declared.ring.Owner.TheVariants.{Adapter, Driver}
+use Rattle.em_inspect.specs.declared.ring.SidedRing.{SidedRing}
+use Rattle.em_inspect.specs.declared.trouble.Trouble.{Trouble}
+use Rattle.em_inspect.specs.declared.trouble.Trouble.TheVariants as trouble
+use Rattle.em_inspect.specs.Extent.{overlaps}
+use Rattle.em_inspect.specs.Ring.{extent_of, fields_in, is_adapters, owner_of, rx_ring, tx_ring}
+use Rattle.em_inspect.specs.Trouble.{buffer_of, is_live, live_trouble, lowest_over, or_else, trouble_in}
+use Rattle.em_reasons.specs.declared.refused.Refused.{Refused}
+use Rattle.em_reasons.specs.declared.refused.Refused.TheVariants.{RxDescriptor, RxBuffer, TxDescriptor, TxBuffer}
+use Rattle.em_reasons.specs.declared.refused.Refused.TheVariants.{Extended, TooLong}
+use Rattle.em_reasons.specs.Foretold.{FillsBuffer, IsLongAlone, foretold, refusal_in, rx_trouble, tx_trouble}
+use Rattle.em_reasons.specs.Refused.{IsBusy, refusal_of, rx_table, tx_octets, tx_table, unless_idle}
+use Rattle.em_reasons.specs.Table.{first_of}
+use Rattle.em_reasons.proofs.RefusalLemmas.{refusal_said, said}
+use Rattle.em_reasons.proofs.RefusedStay.{busy, rx_busy, tx_busy}
+
+-- ---- the descriptor at the head of a ring that is not idle is the adapter's
+none_of : (a b c d : Bool) → (a || b || c || d) ≡ false
+    → (a ≡ false) × ((b ≡ false) × ((c ≡ false) × (d ≡ false)))
+none_of false false false false h = (refl, (refl, (refl, refl)))
+none_of true b c d h = cc
+none_of false true c d h = cc
+none_of false false true d h = cc
+none_of false false false true h = cc
+
+below : (n k : ℕ) → nat_le n k ≡ false → nat_lt k n ≡ true
+below n k h = grind (arith, nat_tests)
+
+self : (n : ℕ) → nat_le n n ≡ true
+self n = grind (arith, nat_tests)
+
+apart : (h t : ℕ) → (h == t) ≡ false → nat_le h t ≡ true → nat_lt h t ≡ true
+apart h t other le = grind (arith, nat_tests)
+
+adapters_by : (head tail from at before : Bool) → head ≡ true → tail ≡ true → at ≡ true
+    → (from ≡ true → before ≡ true)
+    → ((head && tail && head) && (if from then at && before else at || before)) ≡ true
+adapters_by true true true true before a b c d = d refl
+adapters_by true true false true before a b c d = refl
+adapters_by false tail from at before a b c d = cc
+adapters_by true false from at before a b c d = cc
+adapters_by true true from false before a b c d = cc
+
+head_is_adapters : (r : Ring) → ring.is_idle r ≡ false → is_adapters r r.head ≡ true
+head_is_adapters r runs =
+    let four = none_of (not r.enabled) (nat_le r.count r.head) (nat_le r.count r.tail) (r.head == r.tail) runs in
+    adapters_by (nat_lt r.head r.count) (nat_lt r.tail r.count) (nat_le r.head r.tail) (nat_le r.head r.head)
+    (nat_lt r.head r.tail) (below r.count r.head four.1.0) (below r.count r.tail four.1.1.0) (self r.head)
+    (apart r.head r.tail four.1.1.1)
+
+owner_by : (b : Bool) → b ≡ true → (if b then Adapter else Driver) ≡ Adapter
+owner_by true h = refl
+owner_by false h = cc
+
+first_false : (a b : Bool) → (a || b) ≡ false → a ≡ false
+first_false true b h = cc
+first_false false b h = refl
+
+-- what is wrong with it: it lies outside memory, or what is wrong with a live one
+of_octets : (r : SidedRing) (m : List ℕ) (i : ℕ) (outside : Bool) (x : List ℕ) → owner_of r.setup i ≡ Adapter
+    → trouble_in r m i (option_map (fields_in r.side) (if outside then None else Some x))
+    ≡ (if outside then Some trouble.Outside else live_trouble r m i (fields_in r.side x))
+of_octets r m i true x is = refl
+of_octets r m i false x is =
+    ap (λ (o : Owner). if is_live o (fields_in r.side x).bits then live_trouble r m i (fields_in r.side x) else None) is
+
+-- ---- the receive engine
+abbrev rx_said : Bool → Bool → Option Refusal
+rx_said outside buffer = if outside then Some refusal.DmaRange else if buffer then Some refusal.DmaRange else None
+
+rx_rows_said : (a b : Bool) (i at size place n room : ℕ)
+    → said ((a, RxDescriptor i at size) ∷ (b, RxBuffer i at place room n size) ∷ []) ≡ rx_said a b
+rx_rows_said true b i at size place n room = refl
+rx_rows_said false true i at size place n room = refl
+rx_rows_said false false i at size place n room = refl
+
+abbrev buffer_told : Bool → Bool → Option ℕ → Option Trouble
+buffer_told outside over lowest =
+    if outside then Some trouble.BufferOutside
+    else if over then Some trouble.OverRing
+    else option_map trouble.OverBuffer lowest
+
+-- a buffer over another one foretells nothing
+over_nothing : (over : Bool) (lowest : Option ℕ) → foretold (buffer_told false over lowest) ≡ None
+over_nothing true lowest = refl
+over_nothing false None = refl
+over_nothing false (Some other) = refl
+
+rx_by : (a buffer out over : Bool) (lowest : Option ℕ) → (out ≡ false → buffer ≡ false)
+    → ((if a then Some trouble.Outside else buffer_told out over lowest) ≡ Some trouble.BufferOutside
+    → out ≡ true → buffer ≡ true)
+    → rx_said a buffer ≡ foretold (if a then Some trouble.Outside else buffer_told out over lowest)
+rx_by true buffer out over lowest less full = refl
+rx_by false buffer true over lowest less full =
+    ap (λ (b : Bool). if b then Some refusal.DmaRange else None) (full refl refl)
+rx_by false buffer false over lowest less full =
+    ap (λ (b : Bool). if b then Some refusal.DmaRange else None) (less refl) ∙ sym (over_nothing over lowest)
+
+part_within : (size a room left : ℕ) → nat_lt size (a + room) ≡ false → nat_lt size (a + min room left) ≡ false
+part_within size a room left h = grind (arith, nat_tests)
+
+part_whole : (size a room left : ℕ) → room ≤ left → nat_lt size (a + room) ≡ true
+    → nat_lt size (a + min room left) ≡ true
+part_whole size a room left fills h = grind (arith, nat_tests)
+
+-- what is told of the descriptor at RDH, in the cases of the engine
+abbrev rx_told : State → Option Trouble
+rx_told s =
+    let q = rx_setup s.registers in
+    let r = rx_ring q in
+    let buffer = buffer_of r.side (fields_in r.side (part s.memory (rx.descriptor_at q) 16)) in
+    if nat_lt (length s.memory) (rx.descriptor_at q + 16) then Some trouble.Outside
+    else buffer_told (nat_lt (length s.memory) (rx.buffer_at q s.memory + q.buffer)) (overlaps buffer (extent_of r.setup))
+    (lowest_over r s.memory q.head buffer)
+
+rx_told_so : (s : State) → IsBusy s receives → rx_trouble s ≡ rx_told s
+rx_told_so s runs =
+    let q = rx_setup s.registers in
+    let r = rx_ring q in
+    let on = first_false _ _ (rx_busy s runs) in
+    of_octets r s.memory q.head (nat_lt (length s.memory) (rx.descriptor_at q + 16))
+    (part s.memory (rx.descriptor_at q) 16) (owner_by _ (head_is_adapters r.setup on))
+
+pub receives_as_told : (s : State) → IsBusy s receives
+    → (rx_trouble s ≡ Some trouble.BufferOutside → FillsBuffer s)
+    → refusal_in (step s receives) ≡ foretold (rx_trouble s)
+receives_as_told s runs fills =
+    let q = rx_setup s.registers in
+    let size = length s.memory in
+    let a = rx.buffer_at q s.memory in
+    let told = rx_told_so s runs in
+    sym (refusal_said s receives)
+    ∙ ap (option_map refusal_of) (busy (rx.is_idle q s.fifo) (rx_table q s.memory s.fifo) (rx_busy s runs))
+    ∙ rx_rows_said (nat_lt size (rx.descriptor_at q + 16)) (nat_lt size (a + rx.count_of q s.fifo)) _ _ _ _ _ _
+    ∙ rx_by _ _ (nat_lt size (a + q.buffer)) _ _ (part_within size a q.buffer (rest s.fifo))
+    (λ is. part_whole size a q.buffer (rest s.fifo) (fills (told ∙ is)))
+    ∙ ap foretold (sym told)
+
+-- ---- the transmit engine
+abbrev tx_said : Bool → Bool → Bool → Bool → Option Refusal
+tx_said outside extended long buffer =
+    if outside then Some refusal.DmaRange
+    else if extended then Some refusal.Extended
+    else if long then Some refusal.TooLong
+    else if buffer then Some refusal.DmaRange
+    else None
+
+tx_rows_said : (a e l b : Bool) (i at size n place : ℕ)
+    → said ((a, TxDescriptor i at size) ∷ (e, Extended i at) ∷ (l, TooLong i at n) ∷ (b, TxBuffer i at place n size) ∷ [])
+    ≡ tx_said a e l b
+tx_rows_said true e l b i at size n place = refl
+tx_rows_said false true l b i at size n place = refl
+tx_rows_said false false true b i at size n place = refl
+tx_rows_said false false false true i at size n place = refl
+tx_rows_said false false false false i at size n place = refl
+
+abbrev sent_told : Bool → Bool → Bool → Option Trouble → Option Trouble
+sent_told extended empty long buffer =
+    if extended then Some trouble.Extended
+    else if empty then Some trouble.NoLength
+    else if long then Some trouble.TooLong
+    else buffer
+
+tx_by : (a e empty long out over all some : Bool) (lowest : Option ℕ) → (empty ≡ true → some ≡ false)
+    → (empty ≡ false → some ≡ true) → (empty ≡ true → long ≡ false) → (all ≡ true → long ≡ true)
+    → (long ≡ true → all ≡ true)
+    → tx_said a e all (some && out)
+    ≡ foretold (if a then Some trouble.Outside else sent_told e empty long (buffer_told out over lowest))
+tx_by true e empty long out over all some lowest none any short alone more = refl
+tx_by false true empty long out over all some lowest none any short alone more = refl
+tx_by false false true long out over true some lowest none any short alone more =
+    let no : true ≡ false = sym (alone refl) ∙ short refl in cc
+tx_by false false true long out over false some lowest none any short alone more =
+    ap (λ (b : Bool). if b && out then Some refusal.DmaRange else None) (none refl)
+tx_by false false false true out over all some lowest none any short alone more =
+    ap (λ (b : Bool). if b then Some refusal.TooLong else if some && out then Some refusal.DmaRange else None) (more refl)
+tx_by false false false false out over true some lowest none any short alone more =
+    let no : true ≡ false = sym (alone refl) in cc
+tx_by false false false false true over false some lowest none any short alone more =
+    ap (λ (b : Bool). if b && true then Some refusal.DmaRange else None) (any refl)
+tx_by false false false false false over false some lowest none any short alone more =
+    ap (λ (b : Bool). if b && false then Some refusal.DmaRange else None) (any refl) ∙ sym (over_nothing over lowest)
+
+sent_by : (e empty long : Bool) (buffer : Option Trouble)
+    → or_else (if e then Some trouble.Extended else if empty then Some trouble.NoLength else if long then Some trouble.TooLong else None)
+    buffer
+    ≡ sent_told e empty long buffer
+sent_by true empty long buffer = refl
+sent_by false true long buffer = refl
+sent_by false false true buffer = refl
+sent_by false false false buffer = refl
+
+empty_none : (n : ℕ) → (n == 0) ≡ true → nat_lt 0 n ≡ false
+empty_none n h = grind (arith, nat_tests)
+
+empty_any : (n : ℕ) → (n == 0) ≡ false → nat_lt 0 n ≡ true
+empty_any n h = grind (arith, nat_tests)
+
+empty_short : (n : ℕ) → (n == 0) ≡ true → nat_lt 16380 n ≡ false
+empty_short n h = grind (arith, nat_tests)
+
+longer : (g n : ℕ) → nat_lt 16380 n ≡ true → nat_lt 16380 (g + n) ≡ true
+longer g n h = grind (arith, nat_tests)
+
+abbrev tx_told : State → Option Trouble
+tx_told s =
+    let q = tx_setup s.registers in
+    let r = tx_ring q in
+    let d = tx_octets q s.memory in
+    let buffer = buffer_of r.side (fields_in r.side d) in
+    if nat_lt (length s.memory) (tx.place q + 16) then Some trouble.Outside
+    else sent_told (dext d) (length_of d == 0) (nat_lt 16380 (length_of d))
+    (buffer_told (nat_lt (length s.memory) (address d + length_of d)) (overlaps buffer (extent_of r.setup))
+    (lowest_over r s.memory q.head buffer))
+
+tx_told_so : (s : State) → IsBusy s transmits → tx_trouble s ≡ tx_told s
+unfolding dext
+tx_told_so s runs =
+    let q = tx_setup s.registers in
+    let r = tx_ring q in
+    let d = tx_octets q s.memory in
+    let outside = nat_lt (length s.memory) (tx.place q + 16) in
+    let buffer = buffer_of r.side (fields_in r.side d) in
+    of_octets r s.memory q.head outside d (owner_by _ (head_is_adapters r.setup (tx_busy s runs)))
+    ∙ ap (λ (o : Option Trouble). if outside then Some trouble.Outside else o)
+    (sent_by (dext d) (length_of d == 0) (nat_lt 16380 (length_of d))
+    (buffer_told (nat_lt (length s.memory) (address d + length_of d)) (overlaps buffer (extent_of r.setup))
+    (lowest_over r s.memory q.head buffer)))
+
+pub transmits_as_told : (s : State) → IsBusy s transmits → IsLongAlone s
+    → refusal_in (step s transmits) ≡ foretold (tx_trouble s)
+transmits_as_told s runs alone =
+    let q = tx_setup s.registers in
+    let d = tx_octets q s.memory in
+    let size = length s.memory in
+    let n = length_of d in
+    let out = nat_lt size (address d + n) in
+    sym (refusal_said s transmits)
+    ∙ ap (option_map refusal_of) (busy (tx.is_idle q) (tx_table q s.memory s.gathered d) (tx_busy s runs))
+    ∙ tx_rows_said (nat_lt size (tx.place q + 16)) (dext d) (nat_lt 16380 (length s.gathered + n)) (nat_lt 0 n && out) _ _
+    _ _ _
+    ∙ tx_by _ _ (n == 0) (nat_lt 16380 n) out _ _ (nat_lt 0 n) _ (empty_none n) (empty_any n) (empty_short n) alone
+    (longer (length s.gathered) n)
+    ∙ ap foretold (sym (tx_told_so s runs))

@@ -1,0 +1,44 @@
+-- What is wrong with the descriptor at a ring's head, and what the engine then does.
+use Rattle.std.specs.Prelude.{◌≡◌, ◌+◌, ◌≤◌, nat_lt, true, ℕ, List, length, Option, Some, None, Result, Ok, Err}
+use Rattle.em_regs.specs.Setup.{rx_setup, tx_setup}
+use Rattle.em_rx.specs.Fifo.{rest}
+use Rattle.em_step.specs.State.{State}
+use Rattle.em_step.specs.declared.event.Answer.{Answer}
+use Rattle.em_step.specs.declared.refusal.Refusal.{Refusal}
+use Rattle.em_step.specs.declared.refusal.Refusal.TheVariants as refusal
+use Rattle.em_tx.specs.Descriptor.{length_of}
+use Rattle.em_inspect.specs.declared.trouble.Trouble.{Trouble}
+use Rattle.em_inspect.specs.declared.trouble.Trouble.TheVariants as trouble
+use Rattle.em_inspect.specs.Ring.{rx_ring, tx_ring}
+use Rattle.em_inspect.specs.Trouble.{trouble_of}
+use Rattle.em_reasons.specs.Refused.{tx_octets}
+
+-- the refusal of a step that is refused
+abbrev pub refusal_in : Result (Answer × State) Refusal → Option Refusal
+refusal_in (Ok r) = None
+refusal_in (Err refused) = Some refused
+
+-- what is wrong with the descriptor at RDH, and at TDH
+abbrev pub rx_trouble : State → Option Trouble
+rx_trouble s = trouble_of (rx_ring (rx_setup s.registers)) s.memory (rx_setup s.registers).head
+
+abbrev pub tx_trouble : State → Option Trouble
+tx_trouble s = trouble_of (tx_ring (tx_setup s.registers)) s.memory (tx_setup s.registers).head
+
+-- the refusal that it foretells: a length of 0, and a buffer over the ring or another buffer, refuse nothing
+abbrev pub foretold : Option Trouble → Option Refusal
+foretold (Some trouble.Outside) = Some refusal.DmaRange
+foretold (Some trouble.Extended) = Some refusal.Extended
+foretold (Some trouble.TooLong) = Some refusal.TooLong
+foretold (Some trouble.BufferOutside) = Some refusal.DmaRange
+foretold _ = None
+
+-- what the first frame still has fills the buffer at RDH, of which the trouble speaks; the engine goes by the octets
+abbrev pub FillsBuffer : State → Type 0
+FillsBuffer s = (rx_setup s.registers).buffer ≤ rest s.fifo
+
+-- what earlier buffers of the frame have does not make the descriptor at TDH too long; the trouble counts it alone
+abbrev pub IsLongAlone : State → Type 0
+IsLongAlone s =
+    nat_lt 16380 (length s.gathered + length_of (tx_octets (tx_setup s.registers) s.memory)) ≡ true
+    → nat_lt 16380 (length_of (tx_octets (tx_setup s.registers) s.memory)) ≡ true
