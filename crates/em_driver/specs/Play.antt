@@ -25,9 +25,14 @@ pub record Played (A : Type 0) : Type 0 where
 abbrev pub ended : {A : Type 0} → World → A → Played A
 ended w a = record { events = 0; answer = a; world = w }
 
--- one event more is performed before all that
-abbrev pub counted : {A : Type 0} → Played A → Played A
-counted played = record played { events = 1 + played.events }
+-- how many events an access performed
+abbrev pub events_in : Result (Answer × State) Refusal → ℕ
+events_in (Ok r) = 1
+events_in (Err refusal) = 0
+
+-- an access comes before all that
+abbrev pub counted : {A : Type 0} → Result (Answer × State) Refusal → Played A → Played A
+counted r played = record played { events = events_in r + played.events }
 
 -- ---- an access
 
@@ -54,7 +59,7 @@ value_of (Err refusal) = 0
 
 -- where memory is not written, the call answers so
 abbrev pub unless_refused : {A : Type 0} → World → (Refusal → A) → Result (Answer × State) Refusal → Played A → Played A
-unless_refused w stopped (Ok r) more = counted more
+unless_refused w stopped (Ok r) more = counted (Ok r) more
 unless_refused w stopped (Err refusal) more = ended w (stopped refusal)
 
 -- ---- a course
@@ -65,9 +70,16 @@ play w (done answer) = ended w answer
 play w (read reg next) =
     let m = passed w in
     let e = reads (offset_of reg) in
-    counted (play (performed m e) (next (value_of (step (present m) e))))
-play w (write reg value more) = counted (play (performed (passed w) (writes (offset_of reg) value)) more)
-play w (reset stopped more) = counted (play (performed (passed w) (writes (offset_of Ctrl) 0x0400_0000)) more)
+    let r = step (present m) e in
+    counted r (play (performed m e) (next (value_of r)))
+play w (write reg value more) =
+    let m = passed w in
+    let e = writes (offset_of reg) value in
+    counted (step (present m) e) (play (performed m e) more)
+play w (reset stopped more) =
+    let m = passed w in
+    let e = writes (offset_of Ctrl) 0x0400_0000 in
+    counted (step (present m) e) (play (performed m e) more)
 play w (peek addr len stopped next) =
     let m = passed w in
     let memory = (present m).memory in

@@ -89,10 +89,11 @@ was_fed (room stopped more) w v n a (inl h) fed = sym (ap (λ x. x.starved) h.wo
 was_fed (room stopped more) w v n a (inr h) fed = was_fed more w v n a h fed
 
 -- one event more
-counted_is : {A : Type 0} (p : Played A) (v : World) (n k : ℕ) (a : A)
-    → p ≡ record { events = k; answer = a; world = v } → n ≡ 1 + k
-    → counted p ≡ record { events = n; answer = a; world = v }
-counted_is p v n k a e count = ap counted e ∙ ap (λ x. record { events = x; answer = a; world = v }) (sym count)
+counted_is : {A : Type 0} (r : Result (Answer × State) Refusal) (ok : Answer × State) (p : Played A) (v : World)
+    (n k : ℕ) (a : A) → r ≡ Ok ok → p ≡ record { events = k; answer = a; world = v } → n ≡ 1 + k
+    → counted r p ≡ record { events = n; answer = a; world = v }
+counted_is r ok p v n k a is e count =
+    ap₂ counted is e ∙ ap (λ x. record { events = x; answer = a; world = v }) (sym count)
 
 -- nothing more
 ended_is : {A : Type 0} (m v : World) (n : ℕ) (a b : A) → v ≡ m → n ≡ 0 → a ≡ b
@@ -141,7 +142,7 @@ refused_is bus stopped m v e refusal n a more at (inr refused) asked count is ho
 
 -- a memory write that is performed
 performed_is : {A : Type 0} (stopped : Refusal → A) (m : World) (r : Result (Answer × State) Refusal) (more : Played A)
-    (answer : Answer) (t : State) → r ≡ Ok (answer, t) → unless_refused m stopped r more ≡ counted more
+    (answer : Answer) (t : State) → r ≡ Ok (answer, t) → unless_refused m stopped r more ≡ counted (Ok (answer, t)) more
 performed_is stopped m r more answer t is = ap (λ x. unless_refused m stopped x more) is
 
 -- of two tests
@@ -163,18 +164,23 @@ followed_is_played bus own (read reg next) w v n a tells h none ample fed =
     let value : h.0 ≡ value_of (step (present (passed w)) (reads (offset_of reg))) = sym (ap value_of is.2.1) in
     let m = passed w in
     let e = reads (offset_of reg) in
-    counted_is (play (performed m e) (next (value_of (step (present m) e)))) v n then.others a
+    let r = step (present m) e in
+    counted_is r _ (play (performed m e) (next (value_of r))) v n then.others a is.2.1
     (ap₂ (λ m x. play m (next x)) (sym is.0) (sym value) ∙ more) then.count
 followed_is_played bus own (write reg value more) w v n a tells h none ample fed =
     let is = access_is w h.mid h.step (was_fed more h.mid v h.others a h.more fed) in
-    counted_is (play (performed (passed w) (writes (offset_of reg) value)) more) v n h.others a
+    let m = passed w in
+    let e = writes (offset_of reg) value in
+    counted_is (step (present m) e) _ (play (performed m e) more) v n h.others a is.2.1
     (ap (λ m. play m more) (sym is.0)
     ∙ followed_is_played bus own more h.mid v h.others a tells h.more none ample fed) h.count
 followed_is_played bus own (reset stopped more) w v n a tells (inl h) none ample fed =
     wanted bus _ a v h.2 tells.0 (h.0.asked refl) ample
 followed_is_played bus own (reset stopped more) w v n a tells (inr h) none ample fed =
     let is = access_is w h.mid h.step (was_fed more h.mid v h.others a h.more fed) in
-    counted_is (play (performed (passed w) (writes (offset_of Ctrl) 0x0400_0000)) more) v n h.others a
+    let m = passed w in
+    let e = writes (offset_of Ctrl) 0x0400_0000 in
+    counted_is (step (present m) e) _ (play (performed m e) more) v n h.others a is.2.1
     (ap (λ m. play m more) (sym is.0)
     ∙ followed_is_played bus own more h.mid v h.others a tells.1 h.more none ample fed) h.count
 followed_is_played bus own (peek addr len stopped next) w v n a tells (inl h) none ample fed =
@@ -202,7 +208,7 @@ followed_is_played bus own (poke addr octets stopped more) w v n a tells (inr h)
     let e = pokes addr octets in
     let rest = play (performed m e) more in
     performed_is stopped m (step (present m) e) rest Done is.2.0 is.2.1
-    ∙ counted_is rest v n h.others a
+    ∙ counted_is (Ok (Done, is.2.0)) _ rest v n h.others a refl
     (ap (λ m. play m more) (sym is.0)
     ∙ followed_is_played bus own more h.mid v h.others a tells.1 h.more none ample fed) h.count
 followed_is_played bus own (room stopped more) w v n a tells (inl h) none ample fed =
