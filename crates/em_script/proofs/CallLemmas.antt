@@ -73,7 +73,7 @@ look_leaves : (b : Bool) (machine : View) (text other : List ℕ)
 look_leaves true machine text other = refl
 look_leaves false machine text other = refl
 
-command_runs : (memory : Option RefusedAt) (command : Command) (machine : View) → IsAllowedTo memory command machine
+pub command_runs : (memory : Option RefusedAt) (command : Command) (machine : View) → IsAllowedTo memory command machine
     → Run machine (calls_of memory command machine) (reply memory command machine).machine
 command_runs None (event e) machine allowed =
     run_one machine _ (step_call e (step machine.present e)) (step_does e machine (step machine.present e) refl)

@@ -5,3 +5,4 @@ pub mod MemoryLemmas
 pub mod CallLemmas
 pub mod DriverAnswerLemmas
 pub mod CallingLemmas
+pub mod DidLemmas

@@ -1,5 +1,5 @@
 -- Calls of a driver, from one session to the next.
-use Rattle.std.proofs.Common.{◌≡◌, ◌∙◌, ℕ, Bool, true, false, cond, List, [], Option, Some, None, refl, sym, ap}
+use Rattle.std.proofs.Common.{◌≡◌, ◌∙◌, ℕ, ◌+◌, Bool, true, false, cond, List, [], Option, Some, None, refl, sym, ap}
 use Rattle.em_journal.specs.View.{View}
 use Rattle.em_turn.specs.declared.turn.Turn.{Turn}
 use Rattle.em_driver.specs.World.{World, quiet}
@@ -48,11 +48,11 @@ ready_world w false ready = parts w.machine w.plan w.stored w.performed w.refuse
         }
     parts machine plan stored performed refused starved scarce p a b c d e = rw (p, a, b, c, d, e) refl
 
-seated_world : (seat : Seat) (planned : Bool) → IsSeated seat planned → world_at (session_of seat planned) ≡ world_in
-    seat
-seated_world (Bare turns) planned seated = ready_world turns planned seated
-seated_world (Driven driver) planned seated = ready_world driver.bus planned seated.0
-seated_world Moved planned seated = absurd seated
+seated_world : (seat : Seat) (planned : Bool) (events : ℕ) → IsSeated seat planned
+    → world_at (session_of seat planned events) ≡ world_in seat
+seated_world (Bare turns) planned events seated = ready_world turns planned seated
+seated_world (Driven driver) planned events seated = ready_world driver.bus planned seated.0
+seated_world Moved planned events seated = absurd seated
 
 -- the counts of a plan are told where one was set, whatever it was
 counts_same : (planned : Bool) (p q : List (List Turn)) (w : World)
@@ -60,33 +60,38 @@ counts_same : (planned : Bool) (p q : List (List Turn)) (w : World)
 counts_same true p q w = refl
 counts_same false p q w = refl
 
-abbrev session_with : View → Bool → Option (List (List Turn)) → Session
-session_with machine started plan = record { machine = machine; started = started; plan = plan }
+abbrev session_with : View → Bool → Option (List (List Turn)) → ℕ → Session
+session_with machine started plan events =
+    record { machine = machine; started = started; plan = plan; events = events }
 
 -- the session that a call leaves
-left_session : (after : Seat) (rest : Bool) (reply : DriverReply) (w : World) → rest ≡ false
+left_session : (after : Seat) (rest : Bool) (all : ℕ) (reply : DriverReply) (w : World) → rest ≡ false
     → is_driven after ≡ is_started (plain reply.answer) → world_in after ≡ quiet w.machine
-    → session_of after rest ≡ after_call (did_of reply w)
-left_session after rest reply w none driven is = parts (world_in after).machine w.machine (is_driven after)
-    (is_started (plain reply.answer)) rest (world_in after).plan (ap (λ (v : World). v.machine) is) driven none
+    → all ≡ reply.events + w.performed → session_of after rest all ≡ after_call (did_of reply w)
+left_session after rest all reply w none driven is count = parts (world_in after).machine w.machine (is_driven after)
+    (is_started (plain reply.answer)) rest (world_in after).plan all (reply.events + w.performed)
+    (ap (λ (v : World). v.machine) is) driven none count
   where
-    parts : (m v : View) (a b rest : Bool) (plan : List (List Turn)) → m ≡ v → a ≡ b → rest ≡ false
-        → session_with m a (cond rest (Some plan) None) ≡ session_with v b None
-    parts m v a b rest plan e f g = rw (e, f, g) refl
+    parts : (m v : View) (a b rest : Bool) (plan : List (List Turn)) (n k : ℕ) → m ≡ v → a ≡ b → rest ≡ false
+        → n ≡ k → session_with m a (cond rest (Some plan) None) n ≡ session_with v b None k
+    parts m v a b rest plan n k e f g h = rw (e, f, g, h) refl
 
 -- a call was made from a seat to a seat
-pub is_called : (request : Request) (seat after : Seat) (planned rest : Bool) (first : Session) (turns w : World)
-    (reply : DriverReply) → first ≡ session_of seat planned → IsSeated seat planned → turns ≡ world_in seat
+pub is_called : (request : Request) (seat after : Seat) (planned rest : Bool) (before all : ℕ) (first : Session)
+    (turns w : World) (reply : DriverReply) → first ≡ session_of seat planned before → IsSeated seat planned
+    → turns ≡ world_in seat
     → Follows turns (course_of request turns) reply.events (plain reply.answer) w
+    → all ≡ reply.events + w.performed
     → reply.plan ≡ plan_counts (cond planned (Some []) None) w
     → is_driven after ≡ is_started (plain reply.answer) → world_in after ≡ quiet w.machine → rest ≡ false
-    → IsCalled request first (session_of after rest) reply
-is_called request seat after planned rest first turns w reply is seated begins follows counts driven left none =
-    let same : world_at first ≡ turns = ap world_at is ∙ seated_world seat planned seated ∙ sym begins in
+    → IsCalled request first (session_of after rest all) reply
+is_called request seat after planned rest before all first turns w reply is seated begins follows count counts driven
+    left none =
+    let same : world_at first ≡ turns = ap world_at is ∙ seated_world seat planned before seated ∙ sym begins in
     record {
       world = w;
       follows = rw same follows;
       plan = counts ∙ counts_same planned [] (world_in seat).plan w ∙ ap (λ (s : Session). plan_counts s.plan w)
           (sym is);
-      session = left_session after rest reply w none driven left;
+      session = left_session after rest all reply w none driven left count;
     }

@@ -1,5 +1,5 @@
 -- What a line asks of a driver, what the driver then does, what is printed and what is left.
-use Rattle.std.specs.Prelude.{◌≡◌, ℕ, nat_le, Bool, true, if◌then◌else◌, List, [], length, IsTrue}
+use Rattle.std.specs.Prelude.{◌≡◌, ℕ, ◌+◌, nat_le, Bool, true, if◌then◌else◌, List, [], length, IsTrue}
 use Rattle.std.specs.Prelude.{Option, Some, None}
 use Rattle.em_driver.specs.World.{World}
 use Rattle.em_journal.specs.History.{Call, Run}
@@ -89,7 +89,12 @@ asked_outcome named request session =
     if has_driver request session then driver_answer_outcome (done_by named request session).answer else Refused
 
 abbrev pub after_call : Played DriverAnswer → Session
-after_call did = record { machine = did.world.machine; started = is_started did.answer; plan = None }
+after_call did = record {
+  machine = did.world.machine;
+  started = is_started did.answer;
+  plan = None;
+  events = did.events + did.world.performed;
+}
 
 abbrev pub after_asked : Option (Played DriverAnswer) → Request → Session → Session
 after_asked named request session =

@@ -7,5 +7,6 @@ pub mod RefusedAt
 pub mod Calling
 pub mod Reply
 pub mod PlayedLine
+pub mod Did
 pub mod Summary
 pub mod Runner

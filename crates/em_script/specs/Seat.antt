@@ -1,5 +1,5 @@
 -- Where the machine of a session is.
-use Rattle.std.specs.Prelude.{◌≡◌, Bool, true, false, if◌then◌else◌, [], Some, None}
+use Rattle.std.specs.Prelude.{◌≡◌, ℕ, Bool, true, false, if◌then◌else◌, [], Some, None}
 use Rattle.em_step.specs.Cells.{fresh, shows}
 use Rattle.em_journal.specs.View.{opening}
 use Rattle.em_driver.specs.World.{World, quiet}
@@ -18,11 +18,12 @@ abbrev pub is_driven : Seat → Bool
 is_driven (Driven driver) = true
 is_driven _ = false
 
-abbrev pub session_of : Seat → Bool → Session
-session_of seat planned = record {
+abbrev pub session_of : Seat → Bool → ℕ → Session
+session_of seat planned events = record {
   machine = (world_in seat).machine;
   started = is_driven seat;
   plan = if planned then Some (world_in seat).plan else None;
+  events = events;
 }
 
 -- no turn of the plan was taken, and where none was set there is none

@@ -1,5 +1,5 @@
 //! Calling a driver on the machine of a session.
-ghost use Rattle.std.specs.Prelude.{◌≡◌, [], true, false, if◌then◌else◌, Some, None, IfOk, OnOk, OnErr};
+ghost use Rattle.std.specs.Prelude.{◌≡◌, ◌+◌, [], true, false, if◌then◌else◌, Some, None, IfOk, OnOk, OnErr};
 ghost use Rattle.em_driver.specs.Course.{Follows};
 ghost use Rattle.em_driver.specs.Outcome as outcome;
 ghost use Rattle.em_turn.specs.Planned.{lists};
@@ -37,7 +37,8 @@ pub fn start_driver(alloc: Global, session: &mut Session) -> DriverReply
     let planned = mem::replace(&mut session.planned, false);
     match E1000::start(alloc, turns, LAYOUT) {
         Ok((mut driver, events)) => {
-            let plan = end_plan(driver.bus(), planned);
+            let (all, plan) = end_plan(driver.bus(), events, planned);
+            session.events = all;
             session.seat.put(Seat::Driven(driver));
             DriverReply {
                 events,
@@ -47,7 +48,8 @@ pub fn start_driver(alloc: Global, session: &mut Session) -> DriverReply
         }
         Err(refused) => {
             let mut turns = refused.bus;
-            let plan = end_plan(&mut turns, planned);
+            let (all, plan) = end_plan(&mut turns, refused.events, planned);
+            session.events = all;
             session.seat.put(Seat::Bare(turns));
             DriverReply {
                 events: refused.events,
@@ -73,7 +75,8 @@ pub fn call_driver(
         return Err(NoDriver);
     };
     let (events, answer) = call_by(alloc, driver, &mut session.packets, call);
-    let plan = end_plan(driver.bus(), session.planned);
+    let (all, plan) = end_plan(driver.bus(), events, session.planned);
+    session.events = all;
     session.planned = false;
     Ok(DriverReply {
         events,
@@ -82,9 +85,11 @@ pub fn call_driver(
     })
 }
 
-/// Lets a plan go, and tells what its turns came to, where one was set.
-fn end_plan(turns: &mut Turns, planned: bool) -> Option<PlanCounts>
-    ensures counts { result ≡ plan_counts (if planned then Some [] else None) turns.old }
+/// Lets a plan go. It tells how many events a call performed that performed so many of its own, and
+/// what the turns of the plan came to, where one was set.
+fn end_plan(turns: &mut Turns, own: u32, planned: bool) -> (u64, Option<PlanCounts>)
+    ensures events { result.0 ≡ own + turns.old.performed }
+    ensures counts { result.1 ≡ plan_counts (if planned then Some [] else None) turns.old }
     ensures turns { turns.new ≡ quiet turns.old.machine }
 {
     let counts = PlanCounts {
@@ -93,7 +98,8 @@ fn end_plan(turns: &mut Turns, planned: bool) -> Option<PlanCounts>
         starved: turns.starved(),
     };
     turns.end_plan();
-    if planned { Some(counts) } else { None }
+    let all = u64::from(own) + u64::from(counts.performed);
+    (all, if planned { Some(counts) } else { None })
 }
 
 /// What a driver does on a call: so many events, and its answer. What it receives comes into the

@@ -19,14 +19,3 @@ pub struct DriverReply {
     pub answer: DriverAnswer,
     pub plan: Option<PlanCounts>,
 }
-
-impl DriverReply {
-    /// How many events were performed, with those of the plan.
-    pub fn all_events(&self) -> u64 {
-        let planned = match self.plan {
-            Some(counts) => counts.performed,
-            None => 0,
-        };
-        u64::from(self.events).saturating_add(u64::from(planned))
-    }
-}

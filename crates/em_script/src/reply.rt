@@ -40,12 +40,10 @@ pub fn ask<W: Write>(
     match request {
         Request::Start => {
             let reply = start_driver(alloc, session);
-            session.note_call(&reply);
             write_driver_reply(writer, &reply)
         }
         Request::Call(call) => match call_driver(alloc, session, call) {
             Ok(reply) => {
-                session.note_call(&reply);
                 let written = write_driver_reply(writer, &reply);
                 session.keep_packets(reply.answer);
                 written

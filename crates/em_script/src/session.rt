@@ -6,7 +6,6 @@ ghost use Rattle.em_turn.specs.Turn.{plan_turns};
 ghost use Rattle.em_script.specs.Session.{bare};
 
 use crate::driver_answer::DriverAnswer;
-use crate::driver_reply::DriverReply;
 use crate::seat::Seat;
 use em_driver::{PlanRefused, Turn, Turns};
 use em_journal::Machine;
@@ -35,7 +34,7 @@ impl Model for Session {
 
     ghost coded = { session_code };
 
-    ghost view = { λ s. session_of s.seat s.planned };
+    ghost view = { λ s. session_of s.seat s.planned s.events };
 
     ghost invariant = { λ s. IsSeated s.seat s.planned };
 }
@@ -68,17 +67,21 @@ impl Session {
         Ok(())
     }
 
-    /// Notes how many events a call of a driver performed.
-    pub(crate) fn note_call(&mut self, reply: &DriverReply)
-        ensures { self.new ≡ self.old }
+    /// How many events the last call of a driver performed, with those of its plan.
+    pub fn events_of_call(&self) -> u64
+        ensures { result ≡ self.now.events }
     {
-        self.events = reply.all_events();
+        self.events
     }
 
-    /// How many events the last line performed that called a driver, with those of its plan. No contract
-    /// says so: it is only tested.
-    pub fn events_of_call(&self) -> u64 {
-        self.events
+    /// Whether a driver stands on the machine.
+    pub fn is_started(&self) -> bool
+        ensures { result ≡ self.now.started }
+    {
+        match &self.seat {
+            Seat::Driven(_) => true,
+            _ => false,
+        }
     }
 
     /// Keeps the queue of an answer for the next call that moves packets.

@@ -8,17 +8,18 @@ use Rattle.em_script.proofs.reply.obey.Goals.{in-Bare, in-Driven}
 pub returns : goal.returns
 returns g c = λ number.
     let planned = c.session.inside.planned in
+    let events = c.session.inside.events in
     elim c.match-session.branch [
       | in-Bare w ↦
-          let first = session_of (Bare w.in-Bare.turns) planned in
+          let first = session_of (Bare w.in-Bare.turns) planned events in
           let begins : c.args.session.now ≡ first =
-          sym c.session.view_is ∙ ap (λ seat. session_of seat planned) w.in-Bare.is in
+          sym c.session.view_is ∙ ap (λ seat. session_of seat planned events) w.in-Bare.is in
           let did = rw (w.machine_mut.ensures.value) at w.perform.ensures in
           rw (w.session-inside-is, w.result-is, w.writer-is, begins) (obeyed number first w.perform.new.machine did)
       | in-Driven w ↦
-          let first = session_of (Driven w.in-Driven.driver) planned in
+          let first = session_of (Driven w.in-Driven.driver) planned events in
           let begins : c.args.session.now ≡ first =
-          sym c.session.view_is ∙ ap (λ seat. session_of seat planned) w.in-Driven.is in
+          sym c.session.view_is ∙ ap (λ seat. session_of seat planned events) w.in-Driven.is in
           let did = rw (w.machine_mut-in-Driven.ensures.value, w.bus.ensures.value) at w.perform-in-Driven.ensures in
           rw (w.session-inside-is, w.result-is, w.writer-is, w.bus.ensures.value, begins)
           (obeyed number first w.perform-in-Driven.new.machine did)
