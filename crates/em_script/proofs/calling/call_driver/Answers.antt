@@ -16,5 +16,5 @@ returns-clause-called c =
     is_called (plain_call c.args.call) c.session.inside.seat after c.session.inside.planned _
     c.session.inside.events _ c.args.session.now
     c.in-Driven.driver.bus c.call_by-events.new.driver.bus _ (sym c.session.view_is) c.session.invariant
-    (ap world_in (sym c.in-Driven.is)) c.call_by-events.ensures.course count counts (sym c.call_by-events.ensures.stands)
-    left refl
+    (ap world_in (sym c.in-Driven.is)) c.call_by-events.ensures.course count counts
+    (sym c.call_by-events.ensures.stands) left refl

@@ -18,7 +18,8 @@ returns-in-Ok c =
     let after : Seat = Driven (record d { bus = c.end_plan-all.new.turns }) in
     rw (c.put.ensures) (is_called starts c.session.inside.seat after c.session.inside.planned
     c.replace-planned.new.dest c.session.inside.events _ c.args.session.now c.into_turns-turns.result
-    c.in-Ok.driver.bus _ (sym c.session.view_is) c.session.invariant begins follows count counts refl left c.replace-planned.ensures.after)
+    c.in-Ok.driver.bus _ (sym c.session.view_is) c.session.invariant begins follows count counts refl left
+    c.replace-planned.ensures.after)
 
 pub returns-in-Err : goal.returns-in-Err
 returns-in-Err c =
