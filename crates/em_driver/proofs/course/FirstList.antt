@@ -2,7 +2,6 @@
 use Rattle.std.proofs.Common.{◌≡◌, ◌∙◌, Bool, true, false, List, [], ◌∷◌, ◌++◌, Ok, Err, Result, refl, sym, ap}
 use Rattle.std.proofs.Common.{subst}
 use Rattle.std.proofs.Common.{inl, inr, length, arith}
-use Rattle.std.specs.Prelude.{OnOk}
 use Rattle.std.proofs.lemmas.List.{length-append}
 use Rattle.em_step.specs.Event.{Event}
 use Rattle.em_step.specs.Step.{step, Refuses}
@@ -111,8 +110,3 @@ passed_refusal w m n e refusal is p a =
       refuses = a.refuses;
       asked = λ want. is;
     }
-
--- what follows from an access
-pub on_ok : {T E P Q : Type 0} (result : Result T E) → (P → Q) → OnOk result P → OnOk result Q
-on_ok (Ok value) f h = f h
-on_ok (Err e) f h = tt

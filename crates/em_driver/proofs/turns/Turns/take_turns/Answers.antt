@@ -6,9 +6,9 @@ use Rattle.em_driver.proofs.course.FirstList.{pass_whole, pass_starved, planning
 use Rattle.em_driver.proofs.turns.Turns.take_turns.Goals as goal
 
 pub returns-then-not-take_all : goal.returns-then-not-take_all
-returns-then-not-take_all c =
-    let before = world_with c.self.inside.machine c.self.inside.stored.items c.self.inside.counts in
-    let after = world_with c.take_all.new.machine c.take_all.new.stored.items c.take_all.new.counts in
+returns-then-not-take_all g c =
+    let before = world_with (g.M.Acts.shows c.self.inside.machine) c.self.inside.stored.items c.self.inside.counts in
+    let after = world_with (g.M.Acts.shows c.take_all.new.machine) c.take_all.new.stored.items c.take_all.new.counts in
     subst (λ (w : World). Passes w (planning (planned c.clear.new.self.items) true after)) c.self.view_is
     (pass_starved before after c.in-Some.turns.items (planned c.self.inside.plan.items) (planned
     c.pop_front.new.self.items)
@@ -16,9 +16,9 @@ returns-then-not-take_all c =
     (ap planned c.in-Some.ensures.items) (ap planned c.clear.ensures.items) c.if-not-take_all.ensures.takes)
 
 pub returns-else-not-take_all : goal.returns-else-not-take_all
-returns-else-not-take_all c =
-    let before = world_with c.self.inside.machine c.self.inside.stored.items c.self.inside.counts in
-    let after = world_with c.take_all.new.machine c.take_all.new.stored.items c.take_all.new.counts in
+returns-else-not-take_all g c =
+    let before = world_with (g.M.Acts.shows c.self.inside.machine) c.self.inside.stored.items c.self.inside.counts in
+    let after = world_with (g.M.Acts.shows c.take_all.new.machine) c.take_all.new.stored.items c.take_all.new.counts in
     subst (λ (w : World). Passes w (planning (planned c.pop_front.new.self.items) c.self.inside.starved after))
     c.self.view_is
     (pass_whole before after c.in-Some.turns.items (planned c.self.inside.plan.items) (planned
