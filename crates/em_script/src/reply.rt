@@ -15,7 +15,7 @@ use crate::driver_output::{write_driver_reply, write_no_driver};
 use crate::no_driver::NoDriver;
 use crate::seat::Seat;
 use crate::session::Session;
-use em_journal::{Empty, Machine};
+use em_journal::{Acts, Empty, Machine};
 use em_line::{Command, MOST_PEEK, PeekLen, PlanWords, Request, plan_of};
 use em_output::{
     Outcome, write_answer, write_back, write_bit, write_done, write_empty, write_octets,
@@ -28,10 +28,10 @@ use std::io::Write;
 
 /// Does what is asked of a driver.
 #[inline(never)]
-pub fn ask<W: Write>(
+pub fn ask<W: Write, M: Acts>(
     alloc: Global,
     writer: &mut W,
-    session: &mut Session,
+    session: &mut Session<M>,
     request: Request,
 ) -> Result<Outcome, WriteFailed>
     ensures { (number : ℕ) → Performs number (asks (plain_request request))
@@ -55,10 +55,10 @@ pub fn ask<W: Write>(
 
 /// Sets the plan for the next call of a driver.
 #[inline(never)]
-pub fn set_plan<W: Write>(
+pub fn set_plan<W: Write, M: Acts>(
     alloc: Global,
     writer: &mut W,
-    session: &mut Session,
+    session: &mut Session<M>,
     words: PlanWords<'_>,
 ) -> Result<Outcome, WriteFailed>
     ensures { (number : ℕ) → Performs number (plan_line (plan_of (words_of words.entry.words.0.now)))
@@ -75,9 +75,9 @@ pub fn set_plan<W: Write>(
 
 /// Does what a command says with the session's machine, which may be under a driver.
 #[inline(always)]
-pub fn obey<W: Write>(
+pub fn obey<W: Write, M: Acts>(
     writer: &mut W,
-    session: &mut Session,
+    session: &mut Session<M>,
     command: Command<'_>,
     peek_buffer: &mut [u8; MOST_PEEK],
 ) -> Result<Outcome, WriteFailed>
@@ -92,34 +92,34 @@ pub fn obey<W: Write>(
 }
 
 #[inline(always)]
-fn perform<W: Write>(
+fn perform<W: Write, M: Acts>(
     writer: &mut W,
-    machine: &mut Machine,
+    machine: &mut M,
     command: Command<'_>,
     peek_buffer: &mut [u8; MOST_PEEK],
 ) -> Result<Outcome, WriteFailed>
     ensures { Obeys (plain_command command.entry)
-        machine.old machine.new (W.contents writer.old) (W.contents writer.new) result }
+        (M.shows machine.old) (M.shows machine.new) (W.contents writer.old) (W.contents writer.new) result }
 {
     match command {
         Command::Event(event) => perform_event(writer, machine, event),
-        Command::Peek(addr, len) => peek(writer, machine, addr, len, peek_buffer),
-        Command::InterruptLine => interrupt_line(writer, machine),
+        Command::Peek(addr, len) => peek(writer, machine.machine(), addr, len, peek_buffer),
+        Command::InterruptLine => interrupt_line(writer, machine.machine()),
         Command::Back => back(writer, machine),
         Command::BackBy(most) => back_by(writer, machine, most),
-        Command::Registers => registers(writer, machine),
-        Command::Wire => wire(writer, machine),
+        Command::Registers => registers(writer, machine.machine()),
+        Command::Wire => wire(writer, machine.machine()),
     }
 }
 
 #[inline(always)]
-fn perform_event<W: Write>(
+fn perform_event<W: Write, M: Acts>(
     writer: &mut W,
-    machine: &mut Machine,
+    machine: &mut M,
     event: Event<'_>,
 ) -> Result<Outcome, WriteFailed>
     ensures { Obeys (event_command (plain_event event.entry))
-        machine.old machine.new (W.contents writer.old) (W.contents writer.new) result }
+        (M.shows machine.old) (M.shows machine.new) (W.contents writer.old) (W.contents writer.new) result }
 {
     match machine.perform(event) {
         Ok(answer) => write_answer(writer, answer),
@@ -172,9 +172,9 @@ fn wire<W: Write>(writer: &mut W, machine: &Machine) -> Result<Outcome, WriteFai
 }
 
 #[inline(never)]
-fn back<W: Write>(writer: &mut W, machine: &mut Machine) -> Result<Outcome, WriteFailed>
-    ensures { Gives (call_reply (back_call machine.old.past) machine.old)
-        machine.new (W.contents writer.old) (W.contents writer.new) result }
+fn back<W: Write, M: Acts>(writer: &mut W, machine: &mut M) -> Result<Outcome, WriteFailed>
+    ensures { Gives (call_reply (back_call (M.shows machine.old).past) (M.shows machine.old))
+        (M.shows machine.new) (W.contents writer.old) (W.contents writer.new) result }
 {
     match machine.back() {
         Ok(()) => write_done(writer),
@@ -183,13 +183,13 @@ fn back<W: Write>(writer: &mut W, machine: &mut Machine) -> Result<Outcome, Writ
 }
 
 #[inline(never)]
-fn back_by<W: Write>(
+fn back_by<W: Write, M: Acts>(
     writer: &mut W,
-    machine: &mut Machine,
+    machine: &mut M,
     most: u32,
 ) -> Result<Outcome, WriteFailed>
-    ensures { Gives (back_by_reply most machine.old)
-        machine.new (W.contents writer.old) (W.contents writer.new) result }
+    ensures { Gives (back_by_reply most (M.shows machine.old))
+        (M.shows machine.new) (W.contents writer.old) (W.contents writer.new) result }
 {
     let count = machine.back_by(most as usize);
     write_back(writer, count as u32)

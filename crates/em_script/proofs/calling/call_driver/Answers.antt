@@ -7,7 +7,7 @@ use Rattle.em_script.proofs.SeatLemmas.{is_called}
 use Rattle.em_script.proofs.calling.call_driver.Goals as goal
 
 pub returns-clause-called : goal.returns-clause-called
-returns-clause-called c =
+returns-clause-called g c =
     let counts = rw (c.bus.ensures.value) at c.end_plan-all.ensures.counts in
     let left = rw (c.bus.ensures.value) at c.end_plan-all.ensures.turns in
     let count = rw (c.bus.ensures.value) at c.end_plan-all.ensures.events in

@@ -8,7 +8,7 @@ use Rattle.em_script.proofs.SeatLemmas.{is_called}
 use Rattle.em_script.proofs.calling.start_driver.Goals as goal
 
 pub returns-in-Ok : goal.returns-in-Ok
-returns-in-Ok c =
+returns-in-Ok g c =
     let begins = c.into_turns-turns.ensures ∙ ap world_in c.replace.ensures.value in
     let follows = started _ _ c.in-Ok.events c.in-Ok.ensures.good c.in-Ok.ensures.ok in
     let counts = rw (c.replace-planned.ensures.value, c.bus.ensures.value) at c.end_plan-all.ensures.counts in
@@ -22,7 +22,7 @@ returns-in-Ok c =
     c.replace-planned.ensures.after)
 
 pub returns-in-Err : goal.returns-in-Err
-returns-in-Err c =
+returns-in-Err g c =
     let begins = c.into_turns-turns.ensures ∙ ap world_in c.replace.ensures.value in
     let refused = c.in-Err.refused in
     let follows = not_started _ _ refused.events refused.cause c.in-Err.ensures.untouched c.in-Err.ensures.stopped in

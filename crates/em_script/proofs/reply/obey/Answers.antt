@@ -15,12 +15,13 @@ returns g c = λ number.
           let begins : c.args.session.now ≡ first =
           sym c.session.view_is ∙ ap (λ seat. session_of seat planned events) w.in-Bare.is in
           let did = rw (w.machine_mut.ensures.value) at w.perform.ensures in
-          rw (w.session-inside-is, w.result-is, w.writer-is, begins) (obeyed number first w.perform.new.machine did)
+          rw (w.session-inside-is, w.result-is, w.writer-is, begins)
+          (obeyed number first (g.M.Acts.shows w.perform.new.machine) did)
       | in-Driven w ↦
           let first = session_of (Driven w.in-Driven.driver) planned events in
           let begins : c.args.session.now ≡ first =
           sym c.session.view_is ∙ ap (λ seat. session_of seat planned events) w.in-Driven.is in
           let did = rw (w.machine_mut-in-Driven.ensures.value, w.bus.ensures.value) at w.perform-in-Driven.ensures in
           rw (w.session-inside-is, w.result-is, w.writer-is, w.bus.ensures.value, begins)
-          (obeyed number first w.perform-in-Driven.new.machine did)
+          (obeyed number first (g.M.Acts.shows w.perform-in-Driven.new.machine) did)
     ]
