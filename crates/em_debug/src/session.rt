@@ -1,6 +1,7 @@
 //! The debugger as what answers a console.
 ghost use Rattle.std.specs.Prelude.{⊤};
 ghost use Rattle.em_debugger.specs.Answering.{Answers as AnswersLine};
+ghost use Rattle.em_debugger.specs.Disk.{Did};
 
 use em_console::{Answers, Flow};
 use em_debugger::{Debugger, Disk};
@@ -14,7 +15,8 @@ pub struct Served<D: Disk + Drop> {
 }
 
 impl<D: Disk + Drop> Answers for Served<D> {
-    ghost answers = { λ before line text flow after. AnswersLine before.debugger after.debugger line flow text };
+    ghost answers = { λ before line text flow after.
+        AnswersLine (Did D.passes before.disk after.disk) before.debugger after.debugger line flow text };
 
     // Where memory is refused, a part of the line may be done.
     ghost stops = { λ before line after. ⊤ };

@@ -11,6 +11,7 @@ pub mod OffersLaws
 pub mod PerformingLaws
 pub mod PlaceLaws
 pub mod PlayedLaws
+pub mod RefusedLaws
 pub mod StepsLaws
 pub mod StopsLaws
 pub mod TextLaws

@@ -14,6 +14,7 @@ use Rattle.em_prompt.specs.Typed.{next, run, run_until, load, save, save_over, h
 use Rattle.em_prompt.specs.Typed.{why, warnings, auto, arrive_next, arrive_all, pcap, pcap_over, help, quit}
 use Rattle.em_prompt.specs.WrongText.{wrong_text}
 use Rattle.em_debugger.specs.declared.debugger.Debugger.{Debugger}
+use Rattle.em_debugger.specs.Disk.{Deed}
 use Rattle.em_debugger.specs.Effect.{AnswersEffect, asked_event}
 use Rattle.em_debugger.specs.Expected.{wanted_in}
 use Rattle.em_debugger.specs.Engines.{engines_are, steps_of}
@@ -47,29 +48,35 @@ Shows d (help (Some command)) text = text ≡ line_of command
 Shows d (help None) text = text ≡ help_text
 Shows d _ text = text ≡ []
 
--- By what was typed, what it made of the debugger, and what is said. A command that only looks changes nothing.
-abbrev pub Obeys : Debugger → Debugger → Typed → List ℕ → Type 0
-Obeys old new (line typed) text = AnswersTyped old new typed [] text
-Obeys old new (next count) text = TellsNext count old new text
-Obeys old new run text = RunsAll old new text
-Obeys old new (run_until until) text = AnswersRun old new until text
-Obeys old new (back count) text = GoesBack count old new text
-Obeys old new (back_to number) text = GoesBeforeLine number old new text
-Obeys old new (forward_to number) text = GoesBeforeLine number old new text
-Obeys old new (forward events) text = GoesToEvent (forward_by events old.tape) old new text
-Obeys old new (goto event) text = GoesToEvent event old new text
-Obeys old new (who watch which) text = AnswersWho old new watch which text
-Obeys old new who_again text = TellsAgain old new old.asked text
-Obeys old new (load name) text = Loads old new name text
-Obeys old new (save name) text = (new ≡ old) × Saves old name text
-Obeys old new (save_over name) text = (new ≡ old) × Saves old name text
-Obeys old new (warnings on) text = (new ≡ record old { warns = on }) × (text ≡ warnings_are on)
-Obeys old new (auto on) text = (new ≡ record old { engines = steps_of on }) × (text ≡ engines_are on)
-Obeys old new arrive_next text = ArrivesNext old new text
-Obeys old new arrive_all text = ArrivesAll old new text
-Obeys old new (pcap name) text = (new ≡ old) × SavesFrames old name text
-Obeys old new (pcap_over name) text = (new ≡ old) × SavesFrames old name text
-Obeys old new typed text = (new ≡ old) × Shows old typed text
+-- By what was typed without a file's name, what it made of the debugger, and what is said. A command that only looks
+-- changes nothing.
+abbrev pub ObeysAlone : Debugger → Debugger → Typed → List ℕ → Type 0
+ObeysAlone old new (line typed) text = AnswersTyped old new typed [] text
+ObeysAlone old new (next count) text = TellsNext count old new text
+ObeysAlone old new run text = RunsAll old new text
+ObeysAlone old new (run_until until) text = AnswersRun old new until text
+ObeysAlone old new (back count) text = GoesBack count old new text
+ObeysAlone old new (back_to number) text = GoesBeforeLine number old new text
+ObeysAlone old new (forward_to number) text = GoesBeforeLine number old new text
+ObeysAlone old new (forward events) text = GoesToEvent (forward_by events old.tape) old new text
+ObeysAlone old new (goto event) text = GoesToEvent event old new text
+ObeysAlone old new (who watch which) text = AnswersWho old new watch which text
+ObeysAlone old new who_again text = TellsAgain old new old.asked text
+ObeysAlone old new (warnings on) text = (new ≡ record old { warns = on }) × (text ≡ warnings_are on)
+ObeysAlone old new (auto on) text = (new ≡ record old { engines = steps_of on }) × (text ≡ engines_are on)
+ObeysAlone old new arrive_next text = ArrivesNext old new text
+ObeysAlone old new arrive_all text = ArrivesAll old new text
+ObeysAlone old new typed text = (new ≡ old) × Shows old typed text
+
+-- By what was typed, what was done at the disk, what it made of the debugger, and what is said. At the disk nothing is
+-- done, but what a command with a file's name asks for.
+abbrev pub Obeys : (Option Deed → Type 0) → Debugger → Debugger → Typed → List ℕ → Type 0
+Obeys did old new (load name) text = Loads did old new name text
+Obeys did old new (save name) text = (new ≡ old) × Saves did false old name text
+Obeys did old new (save_over name) text = (new ≡ old) × Saves did true old name text
+Obeys did old new (pcap name) text = (new ≡ old) × SavesFrames did false old name text
+Obeys did old new (pcap_over name) text = (new ≡ old) × SavesFrames did true old name text
+Obeys did old new typed text = did None × ObeysAlone old new typed text
 
 -- what is wrong is said; where a word names no register, with those that may be meant
 pub record TellsWrong (wrong : Wrong) (text : List ℕ) : Type 0 where
@@ -82,9 +89,10 @@ flow_of quit = Ends
 flow_of _ = Goes
 
 -- what is typed is obeyed, or it is said what is wrong with it
-abbrev pub AnswersPrompted : Debugger → Debugger → Result Typed Wrong → Flow → List ℕ → Type 0
-AnswersPrompted old new (Ok typed) flow text = (flow ≡ flow_of typed) × Obeys old new typed text
-AnswersPrompted old new (Err wrong) flow text = (flow ≡ Goes) × ((new ≡ old) × TellsWrong wrong text)
+abbrev pub AnswersPrompted : (Option Deed → Type 0) → Debugger → Debugger → Result Typed Wrong → Flow → List ℕ → Type 0
+AnswersPrompted did old new (Ok typed) flow text = (flow ≡ flow_of typed) × Obeys did old new typed text
+AnswersPrompted did old new (Err wrong) flow text =
+    (flow ≡ Goes) × (did None × ((new ≡ old) × TellsWrong wrong text))
 
 -- a line of em_bench's, where one stands there
 abbrev pub bench_in : Result Typed Wrong → Option BenchLine
@@ -100,13 +108,15 @@ abbrev pub asking : List ℕ → Option BenchLine
 asking typed = asking_with (expected_in typed) (said_in typed)
 
 -- such a line is performed; what else is typed is obeyed, or it is said what is wrong with it
-abbrev pub AnswersAsked : Debugger → Debugger → List ℕ → Option BenchLine → Flow → List ℕ → Type 0
-AnswersAsked old new typed None flow text = AnswersPrompted old new (prompted typed) flow text
-AnswersAsked old new typed (Some bench) flow text =
-    (flow ≡ Goes) × AnswersTyped old new bench (wanted_in typed) text
+abbrev pub AnswersAsked : (Option Deed → Type 0) → Debugger → Debugger → List ℕ → Option BenchLine → Flow → List ℕ
+    → Type 0
+AnswersAsked did old new typed None flow text = AnswersPrompted did old new (prompted typed) flow text
+AnswersAsked did old new typed (Some bench) flow text =
+    (flow ≡ Goes) × (did None × AnswersTyped old new bench (wanted_in typed) text)
 
 -- a line was typed: one that is too long is none
-pub data Answers (old new : Debugger) (typed : List ℕ) (flow : Flow) (text : List ℕ) : Type 0 where
-  too_long : 0xFFFF_FFFF ≤ length typed → flow ≡ Goes → new ≡ old → text ≡ codes "the line is too long\n"
-      → Answers old new typed flow text
-  said : AnswersAsked old new typed (asking typed) flow text → Answers old new typed flow text
+pub data Answers (did : Option Deed → Type 0) (old new : Debugger) (typed : List ℕ) (flow : Flow) (text : List ℕ)
+    : Type 0 where
+  too_long : 0xFFFF_FFFF ≤ length typed → flow ≡ Goes → did None → new ≡ old → text ≡ codes "the line is too long\n"
+      → Answers did old new typed flow text
+  said : AnswersAsked did old new typed (asking typed) flow text → Answers did old new typed flow text

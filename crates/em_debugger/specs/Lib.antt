@@ -5,6 +5,7 @@ pub mod Counted
 pub mod Debugger
 pub mod Deeper
 pub mod Departures
+pub mod Disk
 pub mod Effect
 pub mod Engines
 pub mod Expected

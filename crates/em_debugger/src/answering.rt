@@ -7,6 +7,7 @@ ghost use Rattle.std.specs.Io.KnownBytes.{Appends};
 ghost use Rattle.em_prompt.specs.Prompt.{plain_wrong, prompted};
 ghost use Rattle.em_prompt.specs.Typed.{plain};
 ghost use Rattle.em_text.specs.Writer.{Writes};
+ghost use Rattle.em_debugger.specs.Disk.{Did};
 ghost use Rattle.em_debugger.specs.Answering.{Answers, AnswersPrompted, Obeys, Shows, TellsWrong, asking, flow_of, warnings_are};
 
 use crate::debugger::Debugger;
@@ -35,7 +36,7 @@ impl Debugger {
         line: &[u8],
     ) -> Result<Flow, WriteFailed>
         ensures ok { IfOk result (λ flow. (text : List ℕ) × Appends (W.contents writer.old) (W.contents writer.new) text
-            × Answers self.old self.new line.now flow text) }
+            × Answers (Did D.passes disk.old disk.new) self.old self.new line.now flow text) }
     {
         if line.len() >= MOST_TYPED {
             write_whole(writer, b"the line is too long\n")?;
@@ -59,7 +60,7 @@ impl Debugger {
     ) -> Result<Flow, WriteFailed>
         requires { length line.now < 0xFFFF_FFFF }
         ensures ok { IfOk result (λ flow. (text : List ℕ) × Appends (W.contents writer.old) (W.contents writer.new) text
-            × AnswersPrompted self.old self.new (prompted line.now) flow text) }
+            × AnswersPrompted (Did D.passes disk.old disk.new) self.old self.new (prompted line.now) flow text) }
     {
         match prompted(line) {
             Ok(typed) => {
@@ -81,7 +82,7 @@ impl Debugger {
         typed: Typed<'_>,
     ) -> Result<(), WriteFailed>
         ensures ok { OnOk result ((text : List ℕ) × Appends (W.contents writer.old) (W.contents writer.new) text
-            × Obeys self.old self.new (plain typed.entry) text) }
+            × Obeys (Did D.passes disk.old disk.new) self.old self.new (plain typed.entry) text) }
     {
         match typed {
             Typed::Line(line) => self.perform_typed(writer, line, b""),

@@ -1,6 +1,7 @@
 //! Engines that run by themselves: their steps are lines of the session.
 ghost use Rattle.std.specs.Prelude.{◌≡◌, ◌<◌, ◌≤◌, OnOk, OnErr, IfSome, length, nat_lt};
 ghost use Rattle.em_text.specs.Writer.{Writes};
+ghost use Rattle.em_tape.specs.Texts.{texts};
 ghost use Rattle.em_debugger.specs.Engines.{Engages, PutsStep, engine_behind, engines_are, behind_refused};
 ghost use Rattle.em_debugger.specs.Engines.{behind_step, running, sending, step_line, step_of, steps_of};
 
@@ -53,7 +54,8 @@ impl Debugger {
     /// so many events stood.
     pub(crate) fn engage(&mut self, performed: Performed, before: u64) -> Result<(), BenchFault>
         ensures ok { OnOk result (Engages before performed self.old self.new) }
-        ensures err { OnErr result (self.new.tape.lines ≡ self.old.tape.lines) }
+        ensures err { OnErr result (self.new ≡ record self.old { wanted = self.new.wanted }) }
+        ensures kept { OnErr result (texts self.new.wanted.answers.items ≡ texts self.old.wanted.answers.items) }
         ensures settings { self.new.settings ≡ self.old.settings }
     {
         match self.engine_behind(performed, before) {
@@ -87,13 +89,14 @@ impl Debugger {
         requires left { 0 < self.old.engines }
         requires newest { length self.old.tape.ends ≤ self.old.tape.whole }
         ensures ok { OnOk result (PutsStep side self.old self.new) }
-        ensures err { OnErr result (self.new.tape.lines ≡ self.old.tape.lines) }
+        ensures err { OnErr result (self.new ≡ record self.old { wanted = self.new.wanted }) }
+        ensures kept { OnErr result (texts self.new.wanted.answers.items ≡ texts self.old.wanted.answers.items) }
         ensures settings { self.new.settings ≡ self.old.settings }
     {
         let whole = self.tape.whole();
-        if self.wanted.make_way(whole).is_err() {
+        let Ok(()) = self.wanted.make_way(whole) else {
             return Err(BenchFault::Memory);
-        }
+        };
         match self.tape.put_next(step_line(side)) {
             Ok(()) => {
                 self.engines -= 1;

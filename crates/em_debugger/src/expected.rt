@@ -1,15 +1,13 @@
 //! The answers that lines expect, and how many were given so.
-ghost use Rattle.std.specs.Prelude.{◌≡◌, ◌<◌, OnOk, length, [], true, false};
+ghost use Rattle.std.specs.Prelude.{◌≡◌, [], true, false};
 ghost use Rattle.em_text.specs.Writer.{Writes};
 ghost use Rattle.em_tape.specs.Texts.{texts};
-ghost use Rattle.em_debugger.specs.Expected.{Expects, answers_otherwise, compared_text, differs, scored, wanted, with_answer};
+ghost use Rattle.em_debugger.specs.Expected.{answers_otherwise, compared_text, differs, scored, wanted, with_answer};
 
 use crate::debugger::Debugger;
 use crate::place::text_of;
-use crate::told::Told;
 use em_expect::{agrees, write_differs};
 use em_text::WriteFailed;
-use std::alloc::AllocError;
 use std::io::Write;
 
 /// How many answers were as their lines expect, and how many were not.
@@ -95,15 +93,4 @@ fn differs(wanted: &[u8], answer: &[u8]) -> bool
     ensures { result ≡ differs wanted.now answer.now }
 {
     !wanted.is_empty() && !agrees(wanted, answer)
-}
-
-/// Keeps which answer a line expects, if it expects one.
-pub(crate) fn expect(all: &mut Told, line: usize, answer: &[u8]) -> Result<(), AllocError>
-    requires { 0 < line }
-    ensures ok { OnOk result (Expects line answer.now (texts all.old.answers.items) (texts all.new.answers.items)) }
-{
-    if answer.is_empty() {
-        return Ok(());
-    }
-    all.put(line, answer)
 }

@@ -1,5 +1,5 @@
 //! Loading and saving lines.
-ghost use Rattle.std.specs.Prelude.{◌≡◌, ◌+◌, ◌++◌, ◌∷◌, [], ℕ, List, IfErr, IfOk, OnOk, codes, length, map};
+ghost use Rattle.std.specs.Prelude.{◌≡◌, ◌+◌, ◌++◌, ◌∷◌, [], ℕ, List, IfErr, IfOk, OnErr, OnOk, codes, length, map};
 ghost use Rattle.em_tape.specs.Texts.{texts};
 ghost use Rattle.em_expect.specs.Expectation.{said_in};
 ghost use Rattle.em_debugger.specs.Expected.{AllExpect, Expects, wanted_in};
@@ -7,14 +7,15 @@ ghost use Rattle.std.specs.Io.KnownBytes.{Appends};
 ghost use Rattle.em_text.specs.Lines.{lines_of};
 ghost use Rattle.em_text.specs.Writer.{Writes};
 ghost use Rattle.em_debugger.specs.Deeper.{lines_here};
+ghost use Rattle.em_debugger.specs.Disk.{Deed, Did, Refused, making};
 ghost use Rattle.em_debugger.specs.Place.{text_of};
-ghost use Rattle.em_debugger.specs.Files.{AddsLines, BeginsBehind, BeginsInstead, BeginsText, BeginsWith, IsUnadded};
+ghost use Rattle.em_debugger.specs.Told.{Stay};
+ghost use Rattle.em_debugger.specs.Files.{AddsLines, AddsSome, BeginsBehind, BeginsInstead, BeginsText, BeginsWith, IsUnadded, SomeAdded};
 ghost use Rattle.em_debugger.specs.Offers.{Loads, LoadsAs, is_capture};
 ghost use Rattle.em_debugger.specs.Files.{LoadsText, PlaysText, Saves, disk_text, loaded_text, saved_text, script_of};
 
 use crate::debugger::Debugger;
 use crate::disk::{Disk, DiskFault};
-use crate::expected::expect;
 use crate::offers::is_capture;
 use crate::performing::{write_dropped, write_fault};
 use crate::place::{line_here, text_of};
@@ -33,6 +34,7 @@ impl Debugger {
     /// then.
     pub fn add_lines(&mut self, text: &[u8]) -> Result<usize, BenchFault>
         ensures ok { OnOk result (AddsLines self.old self.new (lines_of text.now)) }
+        ensures err { OnErr result (AddsSome self.old self.new (lines_of text.now)) }
         ensures count { IfOk result (λ count. count ≡ length (lines_of text.now)) }
         ensures only { IfErr result IsUnadded }
     {
@@ -49,14 +51,16 @@ impl Debugger {
         step: bool,
     ) -> Result<bool, WriteFailed>
         ensures ok { IfOk result (λ read. (text : List ℕ) × Appends (W.contents writer.old) (W.contents writer.new) text
-            × BeginsWith read step self.old self.new text) }
+            × BeginsWith (Did D.passes disk.old disk.new) name.now read step self.old self.new text) }
     {
         let mut text = Vec::new(self.alloc);
-        if disk.read(name, &mut text).is_err() {
-            return Ok(false);
+        match disk.read(name, &mut text) {
+            Ok(()) => {
+                self.begin_text(writer, text.as_slice(), step)?;
+                Ok(true)
+            }
+            Err(_) => Ok(false),
         }
-        self.begin_text(writer, text.as_slice(), step)?;
-        Ok(true)
     }
 
     /// Begins with a text: loads its lines behind the last one, and plays them unless they are to be stepped through.
@@ -99,7 +103,7 @@ impl Debugger {
         name: &[u8],
     ) -> Result<(), WriteFailed>
         ensures ok { OnOk result ((text : List ℕ) × Appends (W.contents writer.old) (W.contents writer.new) text
-            × Loads self.old self.new name.now text) }
+            × Loads (Did D.passes disk.old disk.new) self.old self.new name.now text) }
     {
         let mut text = Vec::new(self.alloc);
         match disk.read(name, &mut text) {
@@ -176,7 +180,7 @@ impl Debugger {
         over: bool,
     ) -> Result<(), WriteFailed>
         ensures ok { OnOk result ((text : List ℕ) × Appends (W.contents writer.old) (W.contents writer.new) text
-            × Saves self.now name.now text) }
+            × Saves (Did D.passes disk.old disk.new) over self.now name.now text) }
     {
         let mut text = Vec::new(self.alloc);
         self.write_lines(&mut text)?;
@@ -213,6 +217,8 @@ fn add_all(tape: &mut Tape, wanted: &mut Told, text: &[u8]) -> Result<usize, Ben
     ensures expect { OnOk result (AllExpect (length tape.old.lines + 1) (lines_of text.now)
         (texts wanted.old.answers.items) (texts wanted.new.answers.items)) }
     ensures count { IfOk result (λ count. count ≡ length (lines_of text.now)) }
+    ensures err { OnErr result (SomeAdded tape.old tape.new (texts wanted.old.answers.items)
+        (texts wanted.new.answers.items) (lines_of text.now)) }
     ensures only { IfErr result IsUnadded }
 {
     let before = tape.len();
@@ -228,16 +234,41 @@ fn add_all(tape: &mut Tape, wanted: &mut Told, text: &[u8]) -> Result<usize, Ben
 /// Puts what a line says behind the last line of a tape, and keeps which answer it expects.
 fn add_line(tape: &mut Tape, wanted: &mut Told, line: &[u8]) -> Result<(), BenchFault>
     ensures ok { OnOk result (tape.new ≡ record tape.old { lines = tape.old.lines ++ said_in line.now ∷ [] }) }
-    ensures expect { OnOk result (Expects (length tape.new.lines) (wanted_in line.now)
+    ensures expect { OnOk result (Expects (length tape.old.lines + 1) (wanted_in line.now)
         (texts wanted.old.answers.items) (texts wanted.new.answers.items)) }
+    ensures err { OnErr result (tape.new ≡ tape.old) }
+    ensures stay { OnErr result (Stay (texts wanted.old.answers.items) (texts wanted.new.answers.items)) }
     ensures only { IfErr result IsUnadded }
 {
     let asked = expectation(line);
-    tape.add(asked.line)?;
-    match expect(wanted, tape.len(), asked.answer.unwrap_or_default()) {
-        Ok(()) => Ok(()),
-        Err(_) => Err(BenchFault::Memory),
+    add_expecting(tape, wanted, asked.line, asked.answer.unwrap_or_default())
+}
+
+/// Puts a line behind the last line of a tape, and keeps which answer it expects, if it expects one. Where that is
+/// refused, all stays as it is.
+pub(crate) fn add_expecting(
+    tape: &mut Tape,
+    wanted: &mut Told,
+    line: &[u8],
+    answer: &[u8],
+) -> Result<(), BenchFault>
+    ensures ok { OnOk result (tape.new ≡ record tape.old { lines = tape.old.lines ++ line.now ∷ [] }) }
+    ensures expect { OnOk result (Expects (length tape.old.lines + 1) answer.now
+        (texts wanted.old.answers.items) (texts wanted.new.answers.items)) }
+    ensures err { OnErr result (tape.new ≡ tape.old) }
+    ensures stay { OnErr result (Stay (texts wanted.old.answers.items) (texts wanted.new.answers.items)) }
+    ensures only { IfErr result IsUnadded }
+{
+    if answer.is_empty() {
+        return tape.add(line);
     }
+    let before = tape.len();
+    let Ok(answer) = wanted.make_ready(before + 1, answer) else {
+        return Err(BenchFault::Memory);
+    };
+    tape.add(line)?;
+    wanted.set(before, answer);
+    Ok(())
 }
 
 fn write_loaded<W: Write>(writer: &mut W, count: usize) -> Result<(), WriteFailed>
@@ -258,7 +289,10 @@ pub(crate) fn write_file<D: Disk>(
     name: &[u8],
     text: &[u8],
     over: bool,
-) -> Result<(), DiskFault> {
+) -> Result<(), DiskFault>
+    ensures ok { OnOk result (D.passes disk.old (making over name.now text.now) disk.new) }
+    ensures err { IfErr result (λ fault. D.passes disk.old (Refused name.now fault) disk.new) }
+{
     if over {
         disk.replace(name, text)
     } else {

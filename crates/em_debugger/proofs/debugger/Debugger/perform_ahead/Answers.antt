@@ -1,7 +1,9 @@
 use Rattle.std.proofs.Common.{◌≡◌, ◌+◌, ◌∙◌, ap, length, refl, arith}
-use Rattle.std.specs.Prelude.{min}
+use Rattle.std.specs.Prelude.{Some, min}
+use Rattle.em_debugger.specs.Performing.{stays, unnoted, unplayed}
 use Rattle.em_debugger.specs.Place.{line_here}
 use Rattle.em_debugger.proofs.AddingLaws.{line_here-whole}
+use Rattle.em_debugger.proofs.RefusedLaws.{unplayed_by}
 use Rattle.em_debugger.proofs.debugger.Debugger.perform_ahead.Goals as goal
 
 pub returns-in-Ok-clause-some : goal.returns-in-Ok-clause-some
@@ -28,4 +30,67 @@ returns-in-Ok-clause-some c =
       score = refl;
       engines = refl;
       offered = refl;
+    })
+
+pub returns-in_err-to_line-clause-err : goal.returns-in_err-to_line-clause-err
+returns-in_err-to_line-clause-err c =
+    unplayed (record {
+      told = λ line. refl;
+      wanted = λ line. refl;
+      settings = refl;
+      asked = refl;
+      warns = refl;
+      score = refl;
+      engines = refl;
+      offered = refl;
+    }) (stays c.in_err-to_line.ensures.err)
+
+pub returns-in-Err-clause-err : goal.returns-in-Err-clause-err
+returns-in-Err-clause-err c =
+    let old = c.args.self.now.tape in
+    let line = c.line_here-line.result in
+    let all : min line (length old.ends) ≡ line = omega (arith, c.line_here-line.ensures.performed) in
+    let there : min line (length old.ends) ≡ line_here old = all ∙ c.line_here-line.ensures.line in
+    let before = c.to_line.new.self in
+    unplayed_by _ _ before _ _ c.in-Err.field-0 (record {
+      tape = c.in_ok-to_line.ensures.ok
+          ∙ ap (λ n. record old { whole = n; back = 0; session = before.session }) there;
+      here = λ none. c.to_line.ensures.here none (there ∙ line_here-whole old none);
+    }) (ap Some c.clear.ensures.items) (record {
+      told = λ line. refl;
+      wanted = λ line. refl;
+      settings = refl;
+      asked = refl;
+      warns = refl;
+      score = refl;
+      engines = refl;
+      offered = refl;
+    }) c.in-Err.ensures.only c.in-Err.ensures.write c.in-Err.ensures.memory
+
+pub returns-in-Err-2-clause-err : goal.returns-in-Err-2-clause-err
+returns-in-Err-2-clause-err c =
+    let old = c.args.self.now.tape in
+    let line = c.line_here-line.result in
+    let all : min line (length old.ends) ≡ line = omega (arith, c.line_here-line.ensures.performed) in
+    let there : min line (length old.ends) ≡ line_here old = all ∙ c.line_here-line.ensures.line in
+    let before = c.to_line.new.self in
+    unnoted (record {
+      told = c.in-Err-2.ensures.err;
+      wanted = λ line. refl;
+      settings = refl;
+      asked = refl;
+      warns = refl;
+      score = refl;
+      engines = refl;
+      offered = refl;
+    }) (record {
+      before = before;
+      whole = record {
+        tape = c.in_ok-to_line.ensures.ok
+            ∙ ap (λ n. record old { whole = n; back = 0; session = before.session }) there;
+        here = λ none. c.to_line.ensures.here none (there ∙ line_here-whole old none);
+      };
+      text = _;
+      replied = _;
+      plays = rw c.clear.ensures.items at (rw c.in-Ok-Some.field-0-is at c.in-Ok-Some.ensures.ok);
     })

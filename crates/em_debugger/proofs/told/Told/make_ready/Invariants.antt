@@ -1,7 +1,7 @@
 use Rattle.std.proofs.Common.{◌≡◌, ◌-◌, ℕ, length}
 use Rattle.em_tape.specs.Texts.{texts}
 use Rattle.em_debugger.specs.Told.{told_of}
-use Rattle.em_debugger.proofs.told.Told.put.Given as goal
+use Rattle.em_debugger.proofs.told.Told.make_ready.Given as goal
 
 -- no answer is another one
 abbrev pub invariant-loop-self : goal.invariant-loop-self
