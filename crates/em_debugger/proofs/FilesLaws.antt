@@ -42,13 +42,19 @@ AllExpect-more : (number : ℕ) (lines : List (List ℕ)) (line : List ℕ) (old
     → AllExpect number lines old now → Expects (number + length lines) (wanted_in line) now new
     → AllExpect number (lines ++ line ∷ []) old new
 AllExpect-more number [] line old now new same expects =
-    let here : number + 0 ≡ number = omega arith in
-    (new, subst (λ n. Expects n (wanted_in line) old new) here (subst (λ l. Expects (number + 0) (wanted_in line) l new)
-    same expects), refl)
+    let here : number + 0 ≡ number = omega arith in (
+      new,
+      subst (λ n. Expects n (wanted_in line) old new) here (subst (λ l. Expects (number + 0) (wanted_in line) l new)
+          same expects),
+      refl,
+    )
 AllExpect-more number (first ∷ lines) line old now new h expects =
-    let here : number + suc (length lines) ≡ number + 1 + length lines = omega arith in
-    (h.0, h.1, AllExpect-more (number + 1) lines line h.0 now new h.2
-    (subst (λ n. Expects n (wanted_in line) now new) here expects))
+    let here : number + suc (length lines) ≡ number + 1 + length lines = omega arith in (
+      h.0,
+      h.1,
+      AllExpect-more (number + 1) lines line h.0 now new h.2
+          (subst (λ n. Expects n (wanted_in line) now new) here expects),
+    )
 
 -- one line more
 pub AddedSo-more : (first now next : Tape) (held holds then : List (List ℕ)) (text rest line behind : List ℕ)
