@@ -43,15 +43,18 @@ class Call(NamedTuple):
 
 
 class Crate(NamedTuple):
+    """All of it; `sizes` are those of the arrays in the layouts, by the names of their constants."""
+
     version: str
     refusals: list
     kinds: list
     watches: list
+    rings: list
     layouts: list
     calls: list
     registers: int
     most_sent: int
-    octets: int
+    sizes: dict
 
 
 def words_of(name: str) -> list[str]:
@@ -103,6 +106,11 @@ def watches(top: Path) -> list[tuple[str, int]]:
     return [(name.lower(), number(n)) for name, n in rows]
 
 
+def rings(top: Path) -> list[tuple[str, int]]:
+    rows = found(r"(\d+) => Ok\(SidedRing::(\w+)\(", text_of(top, "em_c/src/rings.rt"), "the rings")
+    return [(name, number(n)) for n, name in rows]
+
+
 def layouts(top: Path) -> list[Layout]:
     """What is laid out as in C, but for the handle, whose inner is nobody's business."""
     made, wanted = [], 0
@@ -149,9 +157,13 @@ def read(top: Path = TOP) -> Crate:
         refusals=refusals(top),
         kinds=kinds(top),
         watches=watches(top),
+        rings=rings(top),
         layouts=layouts(top),
         calls=calls(top),
         registers=registers(top),
         most_sent=constant(top, "ROOM", "em_tx/src/gather.rt"),
-        octets=constant(top, "MOST_OCTETS", "em_c/src/watch.rt"),
+        sizes={
+            "MOST_OCTETS": constant(top, "MOST_OCTETS", "em_c/src/watch.rt"),
+            "DESCRIPTOR_OCTETS": constant(top, "DESCRIPTOR_OCTETS", "em_regs/src/ring.rt"),
+        },
     )

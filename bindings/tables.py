@@ -122,8 +122,8 @@ def with_layout(text: str, layout: crate.Layout, made: Crate) -> str:
     behind = dict(re.findall(r"^  \w+ (\w+)(?:\[\d+\])?;(\s*/\*.*?\*/)", inside[1], re.M | re.S))
     lines = []
     for field in layout.fields:
-        array = re.fullmatch(r"\[(\w+); \w+\]", field.kind)
-        kind, size = (array[1], f"[{made.octets}]") if array else (field.kind, "")
+        array = re.fullmatch(r"\[(\w+); (\w+)\]", field.kind)
+        kind, size = (array[1], f"[{made.sizes[array[2]]}]") if array else (field.kind, "")
         lines.append(f"  {C_TYPES[kind]} {field.name}{size};{behind.get(field.name, '')}")
     return text.replace(inside[1], "\n".join(lines), 1)
 
@@ -139,6 +139,7 @@ def header(text: str, made: Crate) -> str:
     text = with_entries(text, "em_code", [("EM_OK", 0, "nothing refused it"), *codes])
     text = with_entries(text, "em_kind", [(f"EM_{constant_name(words)}", n, words) for words, n in made.kinds])
     text = with_entries(text, "em_watched", [(f"EM_WATCH_{words.upper()}", n, words) for words, n in made.watches])
+    text = with_entries(text, "em_rings", [(f"EM_{name.upper()}_RING", n, f"the {name} ring") for name, n in made.rings])
     for layout in made.layouts:
         text = with_layout(text, layout, made)
     text = with_calls(text, made)
@@ -167,11 +168,13 @@ def commented(docs: str, indent: str = "", mark: str = "/// ") -> list[str]:
 
 def rust_struct(layout: crate.Layout, made: Crate) -> list[str]:
     name = layout.name.removeprefix("Em")
-    seen = "pub" if name == "Register" else "pub(crate)"
-    derived = "Clone, Copy, PartialEq, Eq, Hash, Debug, Default" if name == "Register" else "Clone, Copy, Default"
+    is_seen = name in ("Register", "RingSetup")
+    seen = "pub" if is_seen else "pub(crate)"
+    derived = "Clone, Copy, PartialEq, Eq, Hash, Debug, Default" if is_seen else "Clone, Copy, Default"
     lines = ["", *commented(layout.docs), "#[repr(C)]", f"#[derive({derived})]", f"{seen} struct {name} {{"]
     for field in layout.fields:
-        lines.append(f"    pub {field.name}: {field.kind.replace('MOST_OCTETS', str(made.octets))},")
+        kind = re.sub(r"; (\w+)\]", lambda size: f"; {made.sizes[size[1]]}]", field.kind)
+        lines.append(f"    pub {field.name}: {kind},")
     return [*lines, "}"]
 
 
@@ -208,6 +211,8 @@ def rust_tables(made: Crate) -> str:
              f"pub const MOST_SENT: usize = {made.most_sent:_};"]
     for words, n in made.watches:
         lines += ["", f"pub(crate) const WATCH_{words.upper()}: u32 = {n};"]
+    for name, n in made.rings:
+        lines += ["", f"pub(crate) const RING_{name.upper()}: u32 = {n};"]
     lines += rust_enum("Refusal", commented("Why a call did nothing."), [(it.name, it.docs) for it in made.refusals],
                        "Another number, which this binding does not know.")
     lines += ["", "/// Each refusal with its number.",
@@ -226,9 +231,9 @@ def rust_tables(made: Crate) -> str:
 
 
 def python_type(kind: str, made: Crate) -> str:
-    array = re.fullmatch(r"\[(\w+); \w+\]", kind)
+    array = re.fullmatch(r"\[(\w+); (\w+)\]", kind)
     if array:
-        return f"{python_type(array[1], made)} * {made.octets}"
+        return f"{python_type(array[1], made)} * {made.sizes[array[2]]}"
     return {"usize": "c_size_t", "bool": "c_bool"}.get(kind) or f"c_uint{kind[1:]}"
 
 
@@ -248,12 +253,14 @@ def python(made: Crate) -> str:
     lines = ['"""Numbers, layouts and calls of bunjelav.h.', "", NOTICE, '"""',
              "from ctypes import POINTER, Structure, c_bool, c_size_t, c_uint8, c_uint16, c_uint32, c_uint64, c_void_p",
              "", f'VERSION = "{made.version}"', f"REGISTERS = {made.registers}", f"MOST_SENT = {made.most_sent}",
-             f"MOST_WATCHED = {made.octets}", "", "# by name, the number of each refusal", "REFUSALS = {"]
+             f"MOST_WATCHED = {made.sizes['MOST_OCTETS']}", "", "# by name, the number of each refusal", "REFUSALS = {"]
     lines += [f'    "{it.name}": {it.number},' for it in made.refusals]
     lines += ["}", "", "# by number, what each kind of event is called", "KINDS = {"]
     lines += [f'    {n}: "{words}",' for words, n in made.kinds]
     lines += ["}", "", "# by name, the number of each kind of watch", "WATCHES = {"]
     lines += [f'    "{words}": {n},' for words, n in made.watches]
+    lines += ["}", "", "# by name, the number of each ring", "RINGS = {"]
+    lines += [f'    "{name}": {n},' for name, n in made.rings]
     lines += ["}", "", "", "class Handle(Structure):", '    _fields_ = [("made", c_bool), ("held", c_void_p)]']
     for layout in made.layouts:
         lines += ["", "", f"class {layout.name.removeprefix('Em')}(Structure):", "    _fields_ = ["]

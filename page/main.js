@@ -83,7 +83,7 @@ class App {
     setAttribute(element, "data-before", before);
     setAttribute(element, "data-after", after);
     const by = `event ${found.number}, line ${found.line}`;
-    const text = visible(shortened(this.run.script[found.line - 1] ?? "", 60));
+    const text = visible(shortened(found.text, 200));
     element.replaceChildren(make("b", {}, name), `${isAgain ? " before that" : ""} changed by `,
       make("button", { type: "button", "data-step": found.step }, by), ": ", make("code", {}, text), " ",
       make("span", { class: "change" }, make("s", {}, shortened(before, 64)), " → ",
@@ -103,7 +103,7 @@ class App {
   /** What a step is, in words. */
   stepText(step = this.step) {
     const { kind, mark, line, place, performs } = this.run.steps[step];
-    return [KINDS[kind][1], performs ? `event ${place.number}` : "", line ? `line ${line}` : "", mark ? MARKS[mark][1]
+    return [performs ? place.text : KINDS[kind][1], performs ? `event ${place.number}` : "", line ? `line ${line}` : "", mark ? MARKS[mark][1]
       : ""]
       .filter(Boolean).join(", ");
   }

@@ -1,11 +1,20 @@
 // What the present step is, and what it changed.
 
 const MOST_CHANGES = 40;
+/** So many events of a line are listed at once, about the present one. */
+const MOST_LISTED = 64;
 
 class Present {
   constructor(app) {
     this.app = app;
     this.element = byId("present");
+    /** whether the events of a line are listed */
+    this.isOpen = false;
+    this.element.addEventListener("toggle", (event) => {
+      if (event.target.open === this.isOpen) return;
+      this.isOpen = event.target.open;
+      this.paint();
+    }, true);
   }
 
   paint() {
@@ -16,10 +25,15 @@ class Present {
     const head = [make("strong", {}, KINDS[now.kind][1])];
     if (now.performs) head.push(` · event ${place.number}`);
     if (now.line) head.push(` · line ${now.line}`);
+    const count = line ? line.last - line.first + 1 : 0;
+    if (now.performs && count > 1) head.push(` · ${place.access} of ${count}`);
     const parts = [make("p", { class: "what" }, make("span", { class: `tick kind-${now.kind}`, "aria-hidden": "true" },
       KINDS[now.kind][0]), " ", ...head)];
+    if (now.performs) parts.push(make("p", { class: "code", id: "was" }, visible(shortened(place.text, 400))));
     if (now.line) parts.push(make("p", { class: "code" }, visible(shortened(run.script[now.line - 1], 400))));
     if (line && line.answer.length) parts.push(this.answer(now, line));
+    if (line && line.differs) parts.push(make("p", { class: "note" }, `≠ ${visible(shortened(line.differs, 400))}`));
+    if (line && line.source) parts.push(make("p", { class: "note" }, `@ ${visible(shortened(line.source, 400))}`));
     if (now.performs && place.takenBack !== Infinity) {
       const by = run.steps[place.takenBack].line;
       parts.push(make("p", { class: "note" },
@@ -29,7 +43,27 @@ class Present {
       parts.push(make("p", { class: "note" }, `↶ back behind ${place.number ? `event ${place.number}` : "the start"}`));
     }
     parts.push(this.changes(now));
+    if (now.performs && count > 1) parts.push(this.events(line, count));
     become(this.element, parts);
+  }
+
+  /** The events of a line that performed several, such as a driver's call, each to go to. @private */
+  events(line, count) {
+    const { run, step } = this.app;
+    const made = make("details", { id: "events" }, make("summary", {}, `the ${counted(count, "event")} of this line`));
+    made.open = this.isOpen;
+    if (!this.isOpen) return made;
+    const first = Math.max(line.first, Math.min(step - MOST_LISTED / 2, line.last + 1 - MOST_LISTED));
+    const last = Math.min(line.last, first + MOST_LISTED - 1);
+    const items = [];
+    for (let at = first; at <= last; at++) {
+      const { place, mark } = run.steps[at];
+      items.push(make("li", { value: place.access }, make("button", {
+        type: "button", "data-step": at, "aria-current": at === step ? "step" : null,
+      }, `${mark ? `${MARKS[mark][0]} ` : ""}${visible(shortened(place.text, 120))}`)));
+    }
+    made.append(make("ol", { class: "events" }, ...items));
+    return made;
   }
 
   /** @private */
@@ -37,8 +71,8 @@ class Present {
     const isLast = this.app.run.steps.indexOf(now, line.first) === line.last;
     const text = line.answer.slice(0, 12).map((part) => visible(shortened(part, 400))).join("\n")
       + (line.answer.length > 12 ? `\n… ${line.answer.length} lines` : "");
-    const sign = now.mark && isLast ? `${MARKS[now.mark][0]} ` : "";
-    return make("p", { class: `code answer${sign ? ` mark-${now.mark}` : ""}` }, `→ ${sign}${text}`);
+    const sign = line.mark && isLast ? `${MARKS[line.mark][0]} ` : "";
+    return make("p", { class: `code answer${sign ? ` mark-${line.mark}` : ""}` }, `→ ${sign}${text}`);
   }
 
   /** @private */

@@ -5,12 +5,10 @@ const VERSION = 2;
 const MOST_MEMORY = 16_777_216;
 /** The bit of STATUS that says that the link is up. */
 const LINK_UP = 1;
-/** The first words of the lines by which a driver is called: each makes several events. */
-const DRIVER_WORDS = new Set(["init", "send", "recv", "stats", "mac"]);
-const LOOK_WORDS = new Set(["peek", "line", "regs", "wire", "turns"]);
-const KIND_OF_WORD = new Map([
-  ["r", "read"], ["w", "write"], ["poke", "poke"], ["arrive", "arrive"], ["rx", "rx"], ["tx", "tx"], ["link", "link"],
-]);
+/** What an event can be. */
+const EVENT_KINDS = new Set(["read", "write", "poke", "arrive", "rx", "tx", "link"]);
+/** What a line can be. A plan is drawn as a look is, since it does nothing by itself. */
+const LINE_KINDS = new Set([...EVENT_KINDS, "look", "plan", "back", "driver"]);
 
 /** What is wrong with a record, in words. */
 class Broken extends Error {}
@@ -19,7 +17,7 @@ class Broken extends Error {}
  * A step of the run: an event, a reverse step, or a line that did nothing.
  * @typedef {Object} Step
  * @property {"start"|"read"|"write"|"poke"|"arrive"|"rx"|"tx"|"link"|"driver"|"look"|"back"} kind
- * @property {""|"refused"|"dropped"|"bad"} mark
+ * @property {""|"refused"|"dropped"|"bad"|"differs"} mark
  * @property {number} line its number from 1; 0 for the start
  * @property {Place} place behind it
  * @property {boolean} performs whether it performed the event of its place
@@ -28,6 +26,9 @@ class Broken extends Error {}
  * @typedef {Object} Line
  * @property {string[]} answer
  * @property {string|null} refused
+ * @property {""|"refused"|"dropped"|"bad"|"differs"} mark
+ * @property {string} differs how its answer differs from the one that it expects; empty where it does not
+ * @property {string} source where it comes from; empty where it does not say so
  * @property {number} first the first of its steps, or the one at which it stands
  * @property {number} last
  *
@@ -136,7 +137,7 @@ class Reader {
     const root = {
       number: 0, depth: 0, before: null, step: 0, line: 0, takenBack: Infinity, registers: [], memory: [], framesChange: null,
       gatheredChange: null, sent: null, linkChange: null, interruptChange: null, frames: 0, gathered: "", link: false,
-      interrupt: false, arrival: null, sending: null, snapshot: null,
+      interrupt: false, arrival: null, sending: null, snapshot: null, text: "", access: 0,
     };
     /** How many events the lines so far performed, those taken back since among them. */
     this.performed = 0;
@@ -175,17 +176,24 @@ class Reader {
     want(isTexts(line.answer), `the answer of ${name} is no list of texts`);
     want(line.refused === undefined || typeof line.refused === "string", `the refusal of ${name} is no text`);
     want(Array.isArray(line.events), `${name} has no list of events`);
-    const word = (/[^ \t\r]+/.exec(run.script[line.line - 1]) ?? [""])[0];
-    const played = { answer: line.answer, refused: line.refused ?? null, first: run.steps.length, last: 0 };
-    if (line.back !== undefined) this.back(line, name);
-    for (const event of line.events) {
-      want(isObject(event), `an event of ${name} is no object`);
-      this.event(event, line, word, `event ${this.performed + 1}, of ${name},`);
+    const { kind } = line;
+    want(kind === undefined || LINE_KINDS.has(kind), `${name} is of no kind that there is`);
+    for (const field of ["expected", "differs", "source"]) {
+      want(line[field] === undefined || typeof line[field] === "string", `“${field}” of ${name} is no text`);
     }
+    const played = {
+      answer: line.answer, refused: line.refused ?? null, differs: line.differs ?? "", source: line.source ?? "",
+      mark: markOf(line), first: run.steps.length, last: 0,
+    };
+    if (line.back !== undefined) this.back(line, name);
+    line.events.forEach((event, index) => {
+      want(isObject(event), `an event of ${name} is no object`);
+      this.event(event, line, index + 1, `event ${this.performed + 1}, of ${name},`);
+    });
     const has_step = run.steps.length > played.first;
-    if (!has_step && word !== "" && !word.startsWith("#")) {
-      this.add({ kind: LOOK_WORDS.has(word) ? "look" : KIND_OF_WORD.get(word) ?? (word === "back" ? "back" : "driver"),
-        mark: markOf(line), line: line.line, performs: false, back: 0 });
+    if (!has_step && (kind !== undefined || line.bad)) {
+      this.add({ kind: kind === undefined || kind === "plan" ? "look" : kind, mark: markOf(line), line: line.line,
+        performs: false, back: 0 });
     }
     played.last = run.steps.length - 1;
     played.first = Math.min(played.first, played.last);
@@ -205,11 +213,12 @@ class Reader {
   }
 
   /** @private */
-  event(event, line, word, name) {
+  event(event, line, access, name) {
     const { run } = this;
     const before = run.state.place;
     this.performed += 1;
     want(event.event === this.performed, `${name} has another number`);
+    wasOf(event, name);
     /** @type {Place} */
     const place = {
       number: this.performed, depth: before.depth + 1, before, step: run.steps.length, line: line.line, takenBack: Infinity,
@@ -217,7 +226,7 @@ class Reader {
       framesChange: this.frames(event, name), gatheredChange: this.gathered(event, name), sent: sentOf(event, name),
       linkChange: this.flag(event, "link", name), interruptChange: this.flag(event, "interrupt", name),
       frames: before.frames, gathered: before.gathered, link: before.link, interrupt: before.interrupt, arrival: before.arrival,
-      sending: before.sending, snapshot: null,
+      sending: before.sending, snapshot: null, text: event.text, access,
     };
     if (place.framesChange) place.frames = place.framesChange[1];
     if (place.gatheredChange) {
@@ -233,7 +242,9 @@ class Reader {
     run.state.forward(place);
     this.agrees(place, name);
     if (place.depth % SNAPSHOT_EVERY === 0) run.state.keep();
-    this.add({ kind: kindOf(word, place), mark: markOf(line), line: line.line, performs: true, back: 0 });
+    const isLast = access === line.events.length;
+    const mark = event.answer === "dropped" ? "dropped" : isLast && line.refused !== undefined ? "refused" : isLast && line.differs ? "differs" : "";
+    this.add({ kind: event.kind, mark, line: line.line, performs: true, back: 0 });
   }
 
   /** The link and the interrupt line stand in registers too. @private */
@@ -346,18 +357,43 @@ function storedOf(event, name) {
   return event.stored;
 }
 
-/** What a line's answer makes of its steps. */
+/** How a line came out. */
 function markOf(line) {
   if (line.bad) return "bad";
   if (line.refused !== undefined) return "refused";
-  return line.answer.length && line.answer[0].startsWith("dropped") ? "dropped" : "";
+  if (line.events.length === 1 && line.events[0]?.answer === "dropped") return "dropped";
+  return line.differs ? "differs" : "";
 }
 
-/** What an event is: by its line, or, where a driver performed it, by what only an arrival or an engine's step does. */
-function kindOf(word, place) {
-  if (!DRIVER_WORDS.has(word)) return KIND_OF_WORD.get(word) ?? "driver";
-  if (place.framesChange && place.framesChange[1] > place.framesChange[0]) return "arrive";
-  const changes = (name) => place.registers.some(([index]) => index === INDEX_OF.get(name));
-  if (place.sent !== null || (changes("TDH") && !changes("TDLEN"))) return "tx";
-  return changes("RDH") && place.memory.length ? "rx" : "driver";
+/** Whether what a record says that an event was has the format's fields, and says the same in words. */
+function wasOf(event, name) {
+  want(EVENT_KINDS.has(event.kind), `${name} is of no kind that there is`);
+  want(typeof event.text === "string", `${name} has no text`);
+  const words = wordsOf(event);
+  want(words !== null, `${name} does not say what it was`);
+  const isSame = isAccess(event) ? event.text.startsWith(words) : event.text === words;
+  want(isSame, `${name} says in words that it was another than its fields say`);
+}
+
+const isAccess = (event) => event.kind === "read" || event.kind === "write";
+
+/** What an event was, in words; of an access without its bits. Null where its fields can't be read. */
+function wordsOf(event) {
+  if (isAccess(event)) {
+    const index = INDEX_OF.get(event.register);
+    return index !== undefined && REGISTERS[index][0] === event.offset && isWord(event.value)
+      ? `${event.kind} ${event.register} ${hex(event.value, 8)}` : null;
+  }
+  switch (event.kind) {
+    case "poke":
+      return isNumber(event.address, MOST_MEMORY) && isWord(event.length)
+        ? `poke ${hex(event.address, 6)} length ${event.length}` : null;
+    case "link":
+      return typeof event.up === "boolean" ? `link ${event.up ? "up" : "down"}` : null;
+    case "arrive":
+      return isWord(event.length)
+        ? `arrive length ${event.length}: ${[event.answer, event.reason ?? []].flat().join(" ")}` : null;
+    default:
+      return `${event.kind}: ${[event.answer, event.descriptor ?? [], event.length ?? []].flat().join(" ")}`;
+  }
 }

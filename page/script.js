@@ -90,7 +90,7 @@ class ScriptPanel {
     const line = this.app.run.lines[number - 1];
     const answer = line && line.answer.length
       ? visible(shortened(line.answer[0], 60)) + (line.answer.length > 1 ? ` … ${line.answer.length} lines` : "") : "";
-    const mark = line ? this.app.run.steps[line.last].mark : "";
+    const mark = line ? line.mark : "";
     const sign = mark && line.answer.length ? `${MARKS[mark][0]} ` : "";
     const option = make("div", {
       role: "option", id: `line-${number}`, "data-line": number, "aria-setsize": this.app.run.script.length,

@@ -31,6 +31,8 @@ const SNAPSHOT_EVERY = 256;
  * @property {Arrival|null} arrival the newest frame that came into the FIFO up to here
  * @property {Sending|null} sending the newest frame that was sent up to here
  * @property {Object|null} snapshot
+ * @property {string} text what the event was, in words
+ * @property {number} access which of its line's events it was, from 1
  *
  * @typedef {{place: Place, octets: string|null, before: Arrival|null}} Arrival
  * @typedef {{place: Place, octets: string, count: number, before: Sending|null}} Sending

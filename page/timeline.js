@@ -3,10 +3,11 @@
 /** By kind of step: its letter in the timeline, and its words in the legend. */
 const KINDS = {
   read: ["r", "read"], write: ["w", "write"], poke: ["m", "write to memory"], arrive: ["a", "frame arrives"],
-  rx: ["R", "receive step"], tx: ["T", "transmit step"], link: ["L", "link"], driver: ["d", "driver’s access"],
+  rx: ["R", "receive step"], tx: ["T", "transmit step"], link: ["L", "link"], driver: ["d", "call without an event"],
   look: ["·", "look"], back: ["↶", "events taken back"], start: ["|", "start"],
 };
-const MARKS = { refused: ["×", "refused"], dropped: ["▾", "dropped"], bad: ["!", "bad line"] };
+const MARKS = { refused: ["×", "refused"], dropped: ["▾", "dropped"], bad: ["!", "bad line"],
+  differs: ["≠", "another answer than it expects"] };
 const CELLS = [3, 5, 8, 12, 18, 28];
 const WIDEST_CELL = 48;
 const LANE = 20;

@@ -27,7 +27,7 @@ NO_VALUE = ("move", "return", "in", "else", "match", "if", "while")
 
 def ends_value(text: str) -> bool:
     """Whether a `|` behind this word stands between two values or patterns."""
-    return text not in NO_VALUE and (text[-1].isalnum() or text[-1] in "_)]")
+    return text not in NO_VALUE and (text[-1].isalnum() or text[-1] in "_)]\"'")
 
 
 class Graph:

@@ -2,7 +2,7 @@
 
 Each is the rule's name, what stands in tests/second_reading.py, what stands there instead, and the row.
 """
-from second_reading import CTRL, EERD, ICR, ICS, IMC, IMS, STATUS, TIPG
+from second_reading import ARRAYS, CTRL, EERD, ICR, ICS, IMC, IMS, PLAIN, RCTL, RECEIVE, STATUS, TCTL, TRANSMIT
 
 # What a condition might do: its name, what stands there, and the same with the condition in the place of COND.
 STOPS_TX = ("stops the transmit engine", "    if there is None:\n", "    if there is None or COND:\n")
@@ -36,10 +36,8 @@ WITHOUT_RULE = [
     ("RCTL", 0xFDF84CC5, EFFECTS, "other-bits-of-rctl"),
     ("TCTL", 0xFFFFFFF5, EFFECTS, "other-bits-of-tctl"),
 ]
-STORED_ALONE = [
-    0x18, 0x28, 0x2C, 0x30, 0xC4, 0x170, TIPG, 0xE00, 0x1000,  # CTRL_EXT to FCT, ITR, FCTTV, TIPG, LEDCTL, PBA
-    0x2820, 0x2828, 0x282C, 0x3820, 0x3828, 0x382C, 0x5000,  # RDTR, RXDCTL, RADV, TIDV, TXDCTL, TADV, RXCSUM
-]
+# (the upper half of a ring's base has the rule of an address)
+STORED_ALONE = sorted(PLAIN - ARRAYS - {CTRL, RCTL, TCTL, RECEIVE + 4, TRANSMIT + 4})
 TURNED = []
 for register, bits, effects, row in WITHOUT_RULE:
     for bit in range(32):
@@ -169,3 +167,51 @@ for offset in [CTRL, STATUS, EERD, ICR, ICS, IMS, IMC, *COUNTERS, *STORED_ALONE,
         for cost, row in ((31, "budget-one-short-of-every-register-access"), (33, "every-register-access-costs-32")):
             TURNED.append((f"a {access} of {offset:05X} costs {cost}", costs,
                            costs.replace("32", f"({cost} if offset == {offset} else 32)"), row))
+
+# A read of each counter clears it, and a write of the high half of a pair leaves it.
+CLEARS = '    if offset == ICR or offset in COUNTERS:\n'
+for name, offset in (("MPC", 0x4010), ("RUC", 0x40A4), ("ROC", 0x40AC)):
+    TURNED.append((f"a read of {name} clears nothing", CLEARS, CLEARS.replace(":\n", f" - {{{offset}}}:\n"),
+                   "read-of-mpc-ruc-and-roc-clears-each"))
+for high in (0x408C, 0x4094):
+    low = high - 4
+    for what, then in (
+        ("stores the high half", f"s.put({low}, s.at({low}) & GREATEST | value << 32)"),
+        ("adds to the high half", f"s.count({low}, value << 32)"),
+        ("clears the low half", f"s.put({low}, s.at({low}) & ~GREATEST)"),
+        ("clears the pair", f"s.put({low}, 0)"),
+    ):
+        TURNED.append(at_write(high, what, then, "write-of-gorch-and-gotch-changes-nothing"))
+
+# Each of the sixteen entries asks for AV and AS 00.
+for entry in range(16):
+    for what, other in (
+        ("without AV", f"(i == {entry} or high >> 31) and not high >> 16 & 3"),
+        *((f"with AS {kind:02b}", f"high >> 31 and (i == {entry} and high >> 16 & 3 == {kind} or not high >> 16 & 3)")
+          for kind in (1, 2, 3)),
+        ("never", f"i != {entry} and high >> 31 and not high >> 16 & 3"),
+    ):
+        TURNED.append((f"entry {entry} {what}", ENTRY, other, "each-entry-asks-for-av-and-as-00"))
+
+# A reverse step has no effect on a plan and on what is counted of it.
+STEPS_BACK, COUNTS = "        if not self.past:\n", "back-leaves-the-counts-of-a-plan"
+for what, then in (
+    ("takes the first turns of a plan", "self.plan = self.plan and self.plan[1:]"),
+    ("takes the last turns of a plan", "self.plan = self.plan and self.plan[:-1]"),
+    ("adds a turn to a plan", 'self.plan = self.plan and [["rx", *self.plan[0]], *self.plan[1:]]'),
+    ("leaves a plan where there is none", "self.plan = self.plan or []"),
+    ("leaves no plan", "self.plan = None"),
+):
+    TURNED.append((f"a reverse step {what}", STEPS_BACK, f"        {then}\n{STEPS_BACK}", COUNTS))
+
+# Octets that separate no words, a bad line of any length, and an address that does not wrap.
+SPLITS, TOLD = r'words, said = [word for word in re.split("[ \t\r]+", line)', "if said is None else said))"
+for octet in (0x00, 0x1C, 0x1F, 0x85, 0xA0):
+    TURNED.append((f"{octet:02X}h is a blank", SPLITS, SPLITS.replace("r]", rf"r\x{octet:02x}]"),
+                   "nul-and-other-octets-separate-nothing"))
+for length in (99, 100, 128, 256, 1000):
+    TURNED.append((f"a bad line of {length} octets is not told", TOLD,
+                   f"if said is None and len(line) < {length} else said or []))", "bad-line-of-any-length-is-told"))
+for what, old in (("a peek", "at + count > s.size() else"), ("a poke", "at + len(octets) > s.size():")):
+    first, *rest = old.split(" > ")
+    TURNED.append((f"{what} wraps at 2^64", old, f"({first}) % 2**64 > {rest[0]}", "addresses-do-not-wrap"))

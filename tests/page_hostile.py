@@ -218,7 +218,8 @@ def played(tally: Tally, room: Path, record: Path, whole: bytes) -> None:
         ("a script", top / "em_page", f'cat "{record}"; [ "$*" = "--memory 4096 script.em" ]', 0, whole),
         ("by a link", room / "link", f'cat "{record}"', 0, whole), ("a bad line", top / "em_page",
             f'cat "{record}"; exit 1', 1, whole),
-        ("no record", top / "em_page", "exit 3", 3, b""), ("no em_record", top / "em_page", None, 69, b""),
+        ("no record", top / "em_page", "exit 3", 3, b""),
+        ("no record but a text", top / "em_page", "echo em_record 0.1.0", 0, b"em_record 0.1.0\n"), ("no em_record", top / "em_page", None, 69, b""),
     ):
         program = top / "em_record"
         program.unlink(missing_ok=True)
@@ -256,6 +257,13 @@ def titles(tally: Tally, room: Path) -> None:
         title = re.search(rb"<title>(.*)</title>", ran.stdout)
         is_so = title and title[1] == (shown + b": a" + TITLE[1:] if shown else TITLE)
         tally.check(f"em_page {' '.join(words)}", [] if is_so else [f"its title is {title and title[1]}"])
+    over = room / "over.em"
+    over.write_bytes(b"link up\n")
+    for words in ([over], ["--record", over]):
+        with over.open("ab") as file:
+            ran = subprocess.run([room / "top" / "em_page", *words], stdout=file, stderr=subprocess.PIPE, check=False)
+        is_so = ran.returncode == 2 and b"would be written over" in ran.stderr and over.read_bytes() == b"link up\n"
+        tally.check(f"em_page {words}, over that file", [] if is_so else [f"status {ran.returncode}, {ran.stderr!r}"])
     ran = subprocess.run([TOP / "em_page", "--version"], stdout=subprocess.PIPE, check=False)
     version = re.search(rb"^em_page (\d+\.\d+\.\d+)\n\Z", ran.stdout)
     tally.check("em_page --version", [] if ran.returncode == 0 and version else [f"it says {ran.stdout[:200]!r}"])

@@ -7,6 +7,7 @@ import second_reading
 from page_names import registers
 from page_tools import BUDGET, EXAMPLES, page_of, program, record_of, scripts_at_random, steps_of
 from recorded import Event, interrupts, walk
+from second_notes import spoken
 from tally import Tally, run
 
 STEPS, QUESTIONS, RINGS = 50, 14, 8
@@ -34,7 +35,8 @@ const octets = arguments[1].map((address) => {
   return [Number(grid.dataset.address), cells];
 });
 const { event, line, link, interrupt, frames, sent } = document.getElementById('run').dataset;
-return { event, line, link, interrupt, frames, sent, registers, octets, rx: ring('rx'), tx: ring('tx'),
+const was = document.getElementById('was')?.textContent ?? '';
+return { event, line, link, interrupt, frames, sent, was, registers, octets, rx: ring('rx'), tx: ring('tx'),
   fifo: all('#fifo [data-octets]', 'octets'), gathered: document.getElementById('gathered').dataset.octets, wire: all('#wire [data-octets]', 'octets') };
 """
 ASK = """
@@ -42,7 +44,8 @@ const button = document.querySelector(`[data-watch="${arguments[0]}"]`);
 if (!button) return null;
 button.click();
 const { event, line, before, after, asked } = document.getElementById('who').dataset;
-return { event, line, before, after, watch: asked, at: document.getElementById('run').dataset.event };
+const was = document.querySelector('#who code')?.textContent ?? '';
+return { event, line, before, after, was, watch: asked, at: document.getElementById('run').dataset.event };
 """
 MOST_FRAMES = 8
 
@@ -81,7 +84,8 @@ def places_of(r: random.Random, event: Event) -> list[int]:
 def differences(page: dict, step, bench: dict, places: list[int]) -> list[str]:
     state = step.event.state
     wanted = {"event": str(step.event.number), "line": str(step.line), "link": "up" if state.link else "down",
-              "interrupt": bench["interrupt"], "frames": str(len(state.fifo)), "sent": bench["sent"]}
+              "interrupt": bench["interrupt"], "frames": str(len(state.fifo)), "sent": bench["sent"],
+              "was": spoken(step.event.was) if step.performs else ""}
     faults = [f"{name} is {page[name]}, and not {value}" for name, value in wanted.items() if page[name] != value]
     for name in OFFSETS:
         value = bench["registers"].get(name, "00000000")
@@ -215,6 +219,8 @@ def who_faults(asked: dict | None, watch: str, wanted: Event | None) -> list[str
         should = [watch, str(wanted.number), str(wanted.line), sight(wanted.before.state, watch),
             sight(wanted.state, watch)]
     faults = [] if told == should else [f"{watch}: told {told}, and not {should}"]
+    if wanted and asked["was"] != spoken(wanted.was):
+        faults.append(f"{watch}: it says {asked['was']}, and not {spoken(wanted.was)}")
     if wanted and asked["at"] != str(wanted.number):
         faults.append(f"{watch}: the page is at event {asked['at']}, and not {wanted.number}")
     return faults

@@ -106,6 +106,30 @@ def keyboard(tally: Tally, browser, room: Path) -> None:
     by_tab(tally, browser)
 
 
+def opens_a_call(tally: Tally, browser, room: Path) -> None:
+    """A driver's call is opened: its accesses are told in words, and one leads to its step."""
+    script = b"init\nturns . rx\nmac\n"
+    page = room / "call.html"
+    page.write_bytes(page_of(record_of(script)))
+    browser.open(page)
+    events = recorded.record(script.decode())["lines"][2]["events"]
+    browser.press("End")
+    browser.run("document.querySelector('#events summary').click()")
+    listed = browser.run("return new Promise((done) => setTimeout(() => done([...document.querySelectorAll("
+                         "'#events li')].map((one) => `${one.value} ${one.textContent}`)), 100))")
+    wanted = [f"{at} {event['text']}" for at, event in enumerate(events, 1)]
+    tally.check("a call is opened", [] if listed == wanted and len(wanted) == 3 else [f"{listed}, and not {wanted}"])
+    browser.run("document.querySelectorAll('#events button')[0].click()")
+    told = browser.run("return [document.getElementById('run').dataset.event, document.getElementById('was').textContent, "
+                       "document.getElementById('present').querySelector('.what').textContent]")
+    is_there = told[:2] == [str(events[0]["event"]), events[0]["text"]] and "1 of 3" in told[2]
+    tally.check("an access is gone to", [] if is_there else [f"{told}"])
+    browser.run("document.getElementById('to-start').click()")
+    browser.run("document.getElementById('one-on').click()")
+    listed = browser.run("return [...document.querySelectorAll('#events li')].length")
+    tally.check("64 of a long call are listed", [] if listed == 64 else [f"{listed} are"])
+
+
 def by_tab(tally: Tally, browser) -> None:
     """Every control is reached by Tab, and can be seen to be; a register, an octet and a line are asked about by
     keys."""
@@ -267,6 +291,6 @@ def timing(tally: Tally, browser, room: Path) -> None:
 
 
 def check_use(tally: Tally, browser, room: Path) -> None:
-    for part in (keyboard, labels, widths, paper, schemes):
+    for part in (keyboard, opens_a_call, labels, widths, paper, schemes):
         part(tally, browser, room)
     tally.check("the console", browser.told())

@@ -5,6 +5,8 @@ import json
 import re
 
 import second_reading
+from second_language import KINDS
+from second_notes import noted
 from second_reading import IN_WORDS, IN_ORDER, PAGE, Session, State
 
 MOST_IN_A_PIECE = 16
@@ -38,9 +40,9 @@ def memory_pieces(before: State, after: State) -> list[list]:
     return pieces
 
 
-def effect(number: int, before: State, after: State) -> dict:
-    """What the event did, in the order of the format's fields."""
-    made = {"event": number}
+def effect(number: int, was: dict, before: State, after: State) -> dict:
+    """What the event was and did, in the order of the format's fields."""
+    made = {"event": number} | noted(was)
     touched = {at for at in before.kept.keys() | after.kept.keys() if before.at(at) != after.at(at)}
     touched |= {second_reading.STATUS} | {pair for pair in second_reading.PAIRS if pair & ~4 in touched}
     registers = [[IN_WORDS[at], before.look(at), after.look(at)] for at in sorted(touched & set(IN_ORDER))
@@ -66,12 +68,25 @@ def effect(number: int, before: State, after: State) -> dict:
     return made
 
 
+class Noting(Session):
+    """A machine that keeps what each event of a line was."""
+
+    notes = []
+
+    def event(self, action, **what) -> str:
+        performed = self.performed
+        said = super().event(action, **what)
+        if self.performed > performed:
+            self.notes.append(self.was)
+        return said
+
+
 class Event:
     """An event that was performed: the state behind it, and the event before it; the root, number 0, is the start. Events
     are numbered as they are performed, and so many stand behind one as its depth says."""
 
-    def __init__(self, state: State, before: "Event | None", line: int, number: int) -> None:
-        self.state, self.before, self.line, self.number = state, before, line, number
+    def __init__(self, state: State, before: "Event | None", line: int, number: int, was: dict) -> None:
+        self.state, self.before, self.line, self.number, self.was = state, before, line, number, was
         self.depth = before.depth + 1 if before else 0
 
 
@@ -86,13 +101,14 @@ class Played:
 
 def walk(script: str, **settings) -> tuple[Event, list[Played]]:
     """Plays a script by the second reading: the start, and each line."""
-    session, lines, played = Session(**settings), script.split("\n"), []
-    root = newest = Event(session.now, None, 0, 0)
+    session, lines, played = Noting(**settings), script.split("\n"), []
+    root = newest = Event(session.now, None, 0, 0, {})
     number = 0
     for at, text in enumerate(lines if lines[-1] else lines[:-1], 1):
         line = Played(at, [word for word in re.split("[ \t\r]+", text) if word])
         if line.words and not line.words[0].startswith("#"):
             session.begins(at)
+            session.notes = []
             performed, held = session.performed, len(session.past)
             line.said = session.line(line.words)
             if line.said is not None and line.words[0] == "back" and not line.said[0].startswith("refused"):
@@ -102,9 +118,9 @@ def walk(script: str, **settings) -> tuple[Event, list[Played]]:
             count = session.performed - performed
             assert count <= len(session.past), "the journal dropped an event of this line"
             states = [state for state, _ in session.past[len(session.past) - count :]] + [session.now]
-            for state in states[1:]:
+            for state, was in zip(states[1:], session.notes):
                 number += 1
-                newest = Event(state, newest, at, number)
+                newest = Event(state, newest, at, number, was)
                 line.events.append(newest)
         line.newest = newest
         played.append(line)
@@ -113,14 +129,17 @@ def walk(script: str, **settings) -> tuple[Event, list[Played]]:
 
 def told(line: Played) -> dict:
     """A line as the record has it."""
-    made = {"line": line.number, "answer": [f"bad line {line.number}"] if line.said is None else line.said}
+    made = {"line": line.number}
+    if line.words and line.said is not None and not line.words[0].startswith("#"):
+        made["kind"] = KINDS.get(line.words[0], line.words[0])
+    made["answer"] = [f"bad line {line.number}"] if line.said is None else line.said
     if line.said is None:
         made["bad"] = True
     elif line.said and line.said[0].startswith(("refused", "stopped")):
         made["refused"] = line.said[0].split()[-1]
     if line.back is not None:
         made["back"] = line.back
-    return made | {"events": [effect(one.number, one.before.state, one.state) for one in line.events]}
+    return made | {"events": [effect(one.number, one.was, one.before.state, one.state) for one in line.events]}
 
 
 def record(script: str, memory: int = 65536, budget: int = 1_048_576, mac: str = "525400123456") -> dict:

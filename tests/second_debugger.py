@@ -8,7 +8,8 @@ import re
 from functools import cache
 from typing import NamedTuple
 
-from second_reading import ICR, IMS, IN_ORDER, IN_WORDS, Session, State
+from second_notes import spoken
+from second_reading import FORMS, ICR, IMS, IN_ORDER, IN_WORDS, Session, State
 
 MOST_BACK = 65_536
 SHORT = 72
@@ -18,12 +19,14 @@ NUMBERS = {name: offset for offset, name in IN_WORDS.items()}
 
 
 class Event(NamedTuple):
-    """An event that stands: the `access`th of the `of` events that its line performed."""
+    """An event that stands: the `access`th of the `of` events that its line performed, what it was, and what it led from
+    and to."""
 
     number: int
     line: int
     access: int
     of: int
+    was: dict
     before: State
     after: State
 
@@ -33,11 +36,11 @@ class Noted(Session):
 
     led = ()
 
-    def event(self, action) -> str:
+    def event(self, action, **what) -> str:
         before, performed = self.now, self.performed
-        said = super().event(action)
+        said = super().event(action, **what)
         if self.performed > performed:
-            self.led = (*self.led, (before, self.now))
+            self.led = (*self.led, (dict(self.was), before, self.now))
         return said
 
     def copied(self) -> "Noted":
@@ -48,8 +51,8 @@ class Noted(Session):
 
 class Behind(NamedTuple):
     """What is there behind so many lines: the machine, the events that stand, how many were performed, and of the last
-    line its answer, how many it performed, how many it took back (None where it says nothing of that), and whether it asks
-    something of a driver."""
+    line its answer, how many it performed, how many it took back (None where it says nothing of that), and whether its name
+    is that of a line for a driver."""
 
     machine: Noted
     standing: tuple[Event, ...]
@@ -79,8 +82,72 @@ def after_line(before: Behind, number: int, line: str) -> Behind:
     )
     return Behind(
         machine, standing, before.performed + len(machine.led), [f"bad line {number}"] if is_bad else said,
-        len(machine.led), took, not is_bad and bool(words) and words[0] in OF_DRIVER,
+        len(machine.led), took, bool(words) and words[0] in OF_DRIVER,
     )
+
+
+# ---- what is wrong with a line that is typed
+
+# what stands behind each name: how many words must, and what each is
+WORDS = {
+    "r": (1, ["OFF"]), "w": (2, ["OFF", "VAL"]), "poke": (2, ["ADDR", "DATA"]), "peek": (2, ["ADDR", "LEN"]),
+    "arrive": (1, ["DATA", "zeros"]), "rx": (0, []), "tx": (0, []), "link": (1, ["up or down"]), "line": (0, []),
+    "regs": (0, []), "wire": (0, []), "init": (0, []), "send": (1, ["DATA", "zeros"]), "recv": (1, ["N"]), "stats": (0, []),
+    "mac": (0, ["address"]),
+}
+CALLED = {"zeros": "LEN", "address": "DATA"}
+RULES = {
+    "VAL": " is 1 to 8 hexadecimal digits, or names of bits", "ADDR": " is 1 to 16 hexadecimal digits",
+    "DATA": " is octets, of two hexadecimal digits each", "LEN": " is 1 to 16384", "N": " is 0 to 1024",
+    "zeros": " is at most 32768, and not below DATA's octets", "address": " is 6 octets", "up or down": " is wanted",
+}
+
+
+def is_hex(word: str, most: int) -> bool:
+    return bool(re.fullmatch(f"(?:0[xX])?[0-9a-fA-F]{{1,{most}}}", word))
+
+
+def octets_in(word: str) -> int | None:
+    """How many octets DATA is; None where it is none."""
+    digits = word.replace(":", "") if re.fullmatch("(?:[0-9a-fA-F]{2}:){5}[0-9a-fA-F]{2}", word) else word
+    return len(digits) // 2 if re.fullmatch("(?:[0-9a-fA-F]{2})+", digits) else None
+
+
+def fits(kind: str, word: str, before: str) -> bool:
+    """Whether a word is what stands at its place, behind another word. Names of bits are not read here."""
+    if kind == "OFF":
+        return word.upper() in NUMBERS or is_hex(word, 8)
+    if kind in ("VAL", "ADDR"):
+        return is_hex(word, 8 if kind == "VAL" else 16)
+    if kind in ("DATA", "address"):
+        return octets_in(word) is not None if kind == "DATA" else octets_in(word) == 6
+    if kind == "up or down":
+        return word in ("up", "down")
+    low, high = (octets_in(before), 32768) if kind == "zeros" else {"LEN": (1, 16384), "N": (0, 1024)}[kind]
+    return bool(re.fullmatch("[0-9]{1,7}", word)) and low <= int(word) <= high
+
+
+def fault_of(name: str, kind: str, word: str) -> str:
+    if kind == "OFF":
+        return f"no register {word}"
+    if kind == "DATA" and len(word) % 2 and re.fullmatch("[0-9a-fA-F]+", word):
+        return f"{name}: {len(word)} digits are no octets"
+    return f"{name}: {CALLED.get(kind, kind)}{RULES[kind]}"
+
+
+def wrong_in(line: str) -> str | None:
+    """What is wrong with a typed line of a script: the first fault from the left. None where nothing is."""
+    name, *words = words_of(line)
+    if name == "turns":
+        is_plan = FORMS[name].fullmatch(" ".join(words)) and Session().planned(words) is not None
+        return None if is_plan else "turns: a turn is rx, tx, ., arrive:DATA or arrive:DATA:LEN"
+    must, kinds = WORDS[name]
+    for at, word in enumerate(words):
+        if at == len(kinds):
+            return f"{name}: {word} is too much"
+        if not fits(kinds[at], word, words[at - 1]):
+            return fault_of(name, kinds[at], word)
+    return f"{name}: {CALLED.get(kinds[len(words)], kinds[len(words)])} is missing" if len(words) < must else None
 
 
 class Debugger:
@@ -194,13 +261,47 @@ class Debugger:
         """The newest event with a smaller number, of those that stand at the place, which changed what is watched."""
         return next((one for one in reversed(self.standing()) if one.number < below and watch.is_changed(one)), None)
 
+    def newest_access(self, watch: "Watch", below: int) -> Event | None:
+        """The newest event with a smaller number, of those that the journal holds, which read or wrote this register."""
+        held = self.standing()[-self.reach():] if self.reach() else ()
+        return next((one for one in reversed(held) if one.number < below and watch.offset is not None
+                     and one.was.get("offset") == watch.offset), None)
+
+    def unchanged(self, watch: "Watch", below: int) -> str:
+        """What is told where no event with a smaller number changed what is watched."""
+        is_before = any(one.number >= below for one in self.standing())
+        access = self.newest_access(watch, below)
+        by = "" if access is None else f"; {self.told(access)}{came(access)}"
+        return f"nothing changed {watch.shown}{' before that' if is_before else ''}{by}"
+
     def told(self, event: Event) -> str:
         which = f" ({event.access} of {event.of})" if event.of > 1 else ""
-        return f"line {event.line}, event {event.number}{which}: {short(self.lines[event.line - 1])}"
+        return f"line {event.line}, event {event.number}{which}: {self.spoken(event)}"
+
+    def spoken(self, event: Event) -> str:
+        """What an event was, behind its line, if that has more than one."""
+        line = f"{short(self.lines[event.line - 1])}: " if event.of > 1 else ""
+        return f"{line}{spoken(event.was)}"
+
+    def opened(self, line: int, most: int) -> list[str]:
+        """The newest events at the place, if they are of this line."""
+        standing = self.standing()[-min(most, self.reach()):] if min(most, self.reach()) else ()
+        return [f"    event {one.number}{f' ({one.access} of {one.of})' if one.of > 1 else ''}: {spoken(one.was)}"
+                for one in standing if one.line == line]
 
     def newest_undone(self) -> int:
         """The newest line up to the place whose answer says that its event did nothing; 0 where none does."""
         return next((line for line in range(self.line_here(), 0, -1) if is_undone(self.behind[line].answer)), 0)
+
+
+def came(access: Event) -> str:
+    """What came of an access that changed nothing."""
+    if access.was["kind"] == "read":
+        return ""
+    value, held = access.was["value"], access.after.look(access.was["offset"])
+    if value == held:
+        return ", which it held"
+    return ", which left it as it was" if value & held else ", of which no bit is kept"
 
 
 def is_undone(answer: list[str]) -> bool:

@@ -2,6 +2,7 @@
 
 It is written from the formats' documentation and from docs/traces.md, not from the code.
 """
+import itertools
 import re
 
 from second_reading import IN_WORDS as REGISTERS
@@ -134,10 +135,163 @@ def buffer_size(rctl):
     return size * 16 if rctl & 1 << 25 and size < 2048 else size
 
 
-def arrival(frame, rctl):
-    size = max(60, len(frame))
-    padded = f" {size}" if size > len(frame) else ""
-    return [f"arrive {frame.hex().upper()}{padded}", *["rx"] * -(-size // buffer_size(rctl))]
+class Frame:
+    """A frame of a capture: its octets, how many it had, and when it was captured, in nanoseconds, or none."""
+
+    def __init__(self, octets, size=None, time=None):
+        self.octets, self.size, self.time = octets, len(octets) if size is None else size, time
+
+
+def seconds(time):
+    """A log's time, of nanoseconds."""
+    return f"{time // 10**9}.{time // 1000 % 10**6:06}"
+
+
+def arrival(frame, number, why, is_open, rctl):
+    """A frame's comment, the line that brings it, and the receive engine's steps."""
+    size = max(60, frame.size)
+    unpadded = frame.size < 60 and len(frame.octets) < 60
+    captured = f", captured at {frame.time // 10**9}.{frame.time % 10**9:09}" if frame.time is not None else ""
+    said = f"# frame {number}{captured}: {why}"
+    said += "" if is_open else "; the receiver is disabled here"
+    said += "; padded to 60 octets" if unpadded else ""
+    padded = f" {size}" if size > len(frame.octets) else ""
+    return [said, f"arrive {frame.octets.hex().upper()}{padded}", *["rx"] * -(-size // buffer_size(rctl))]
+
+
+BY_TIME = "at {} by its time"
+LATER = "at {} by its time, and guessed to come before the next read of ICR with RXT0"
+CAUSE = "guessed, by a read of ICR with RXT0"
+NOTHING_TELLS = "guessed, since no read of ICR tells of it"
+ASKED = "where --at says"
+
+
+class Places:
+    """The places of a log, by docs/traces.md: each has a line, a time, whether the receiver is enabled, and whether the
+    access is a read of ICR that has RXT0 (True), one that has not (False), or something else (None)."""
+
+    def __init__(self, log, reader):
+        self.places, self.sends, self.address = [], [], None
+        self.enabled, sends, ring, tail, low, self.lines = False, False, 0, 0, 0, 0
+        for count, line in enumerate(lines_of(log), 1):
+            self.lines, said = count, reader.read(line)
+            if isinstance(said, str):
+                continue
+            (way, offset, value, size), time = said, time_of(reader.form, line)
+            is_icr = way == "read" and offset == 0xC0 and size == 4 and value is not None
+            self.places.append((count, time, self.enabled, bool(value & 0x80) if is_icr else None))
+            if size != 4 or value is None:
+                continue
+            if offset == 0x5400:
+                low = value
+            elif offset == 0x5404 and value >> 31 and self.address is None:
+                self.address = low.to_bytes(4, "little") + value.to_bytes(4, "little")[:2]
+            if way == "read":
+                continue
+            if offset == 0x0 and value & 0x04000000:
+                self.enabled, sends, ring, tail = False, False, 0, 0
+            elif offset == 0x100:
+                self.enabled = bool(value & 2)
+            elif offset == 0x400:
+                sends = bool(value & 2)
+            elif offset == 0x3808:
+                ring = value // 16
+            elif offset == 0x3818:
+                was, tail = tail, value & 0xFFFF
+                if sends and was < ring and tail < ring and was != tail:
+                    self.sends.append((time, (tail - was) % ring))
+
+    def is_open(self, index):
+        return self.places[index][2] if index < len(self.places) else self.enabled
+
+    def line(self, index):
+        return self.places[index][0] if index < len(self.places) else None
+
+    def told(self, index):
+        return self.places[index][3] if index < len(self.places) else None
+
+
+def time_of(form, line):
+    """When an access was logged, in nanoseconds."""
+    words = [word for word in re.split(rb"[ \t\r]", line) if word]
+    text = None
+    if form == "qemu" and (found := re.match(rb"[^@]*@([^:]*):", words[0])):
+        text = found[1]
+    elif form == "mmiotrace":
+        text = words[2]
+    found = text and re.fullmatch(rb"([0-9]*)\.([0-9]{6})", text)
+    return (int(found[1]) * 10**6 + int(found[2])) * 1000 if found and found[1] else None
+
+
+def clock_of(places, own):
+    """For each own frame, by its number, when it was captured and when its write was logged."""
+    if len(own) == sum(descriptors for _, descriptors in places.sends):
+        times = [time for time, descriptors in places.sends for _ in range(descriptors)]
+    else:
+        times = [time for time, _ in places.sends]
+    if len(times) != len(own):
+        return []
+    return [
+        (number, frame.time, time) for (number, frame), time in zip(own, times) if None not in (frame.time, time)
+    ]
+
+
+def moment_of(clock, number, frame):
+    before = [at for at in clock if at[0] < number] or clock[:1]
+    if not before or frame.time is None:
+        return None
+    _, captured, logged = before[-1]
+    return max(0, logged + frame.time - captured)
+
+
+def placed(places, frames):
+    """The frames that arrive: their numbers, their lines, why they arrive there, and whether the receiver is enabled."""
+    numbered = [*enumerate(frames, 1)]
+    own = [(number, frame) for number, frame in numbered if frame.octets[6:12] == places.address]
+    clock, count, last, cause, start = clock_of(places, own), len(places.places), 0, 0, 0
+    arrivals = []
+    for number, frame in numbered:
+        if (number, frame) in own:
+            continue
+        moment = moment_of(clock, number, frame)
+        if moment is not None:
+            logged = (k for k in range(start, count) if (places.places[k][1] or -1) >= moment)
+            start = next(logged, count)
+            read = next((k for k in range(start, count) if places.told(k)), None)
+            quiet = [k for k in range(start, read or start) if places.told(k) is False]
+            if read is not None and quiet:
+                index, why = last_open(places, quiet[-1] + 1, read), LATER.format(seconds(moment))
+            else:
+                to = count if read is None else read
+                index = next((k for k in range(start, to + 1) if places.is_open(k)), start)
+                why = BY_TIME.format(seconds(moment))
+        else:
+            read = next((k for k in range(cause, count) if places.told(k)), None)
+            if read is not None:
+                quiet = [k for k in range(last, read) if places.told(k) is False]
+                index, why, cause = last_open(places, quiet[-1] + 1 if quiet else last, read), CAUSE, read + 1
+            else:
+                index, why, cause = last_open(places, last, count), NOTHING_TELLS, count
+        if why.endswith("by its time"):
+            guessed = itertools.takewhile(lambda at: "guessed" in at[3] and at[2] > index, reversed(arrivals))
+            for at_read in [*guessed]:
+                at_read[2] = index
+        last = max(index, arrivals[-1][2] if arrivals else 0)
+        arrivals.append([number, frame, last, why])
+    return [(number, frame, places.line(k), why, places.is_open(k)) for number, frame, k, why in arrivals]
+
+
+def asked(places, frames, at):
+    """The same, where all frames are to arrive before a line."""
+    index = next((k for k in range(len(places.places)) if places.line(k) >= at), len(places.places))
+    line = at if at <= places.lines else None
+    came = [(number, frame) for number, frame in enumerate(frames, 1) if frame.octets[6:12] != places.address]
+    return [(number, frame, line, ASKED, places.is_open(index)) for number, frame in came]
+
+
+def last_open(places, first, last):
+    """The last of these places where the receiver is enabled, or the last."""
+    return next((k for k in range(last, first - 1, -1) if places.is_open(k)), last)
 
 
 def lines_of(log):
@@ -150,18 +304,20 @@ class Poll:
     clears, only reads that gave 0 are the same."""
 
     def __init__(self, keeps):
-        self.keeps, self.read, self.more, self.last = keeps, None, 0, 0
+        self.keeps, self.read, self.more, self.last, self.time = keeps, None, 0, 0, None
 
-    def takes(self, count, said):
+    def takes(self, count, said, time):
         if said != self.read:
             return False
-        self.more, self.last = self.more + 1, count
+        self.more, self.last, self.time = self.more + 1, count, time
         return True
 
     def ended(self):
         """The comment that tells of the reads that were left out, if some were."""
         more, self.more, self.read = self.more, 0, None
-        return [f"# {more} more read{'s' * (more > 1)} gave the same, the last in line {self.last}"] if more else []
+        if not more:
+            return []
+        return [f"# {more} more read{'s' * (more > 1)} gave the same, the last in line {self.last}{when(self.time)}"]
 
     def begin(self, said):
         way, offset, value, _ = said
@@ -173,39 +329,54 @@ def cleared_by_a_read(offset):
     return REGISTERS.get(offset) == "ICR" or 0x4000 <= offset < 0x4100 and offset in REGISTERS
 
 
-def script_of(log, reader, missing, frames=(), at=None, link=True, others=True, polls=False):
-    """The script of a log, as octets. `missing` has the names of registers that the model lacks; without `others`, accesses
-    of something else are no comments; with `polls`, each read of a poll has its line."""
-    script, frames, rctl, head = [], [*frames], 0, ["link up", "w 000C0 00000004"] if link else []
+def when(time):
+    """The end of a comment that tells when something was logged."""
+    return "" if time is None else f", at {seconds(time)}"
+
+
+def script_of(log, reader, missing, frames=(), at=None, link=True, others=True, polls=False, lines=(1, None)):
+    """The script of a log, as octets. `missing` has the names of registers that the model lacks; without `others`,
+    accesses of something else are no comments; with `polls`, each read of a poll has its line; `lines` are the first
+    and the last that are translated."""
+    script, rctl, head = [], 0, ["link up", "w 000C0 00000004"] if link else []
+    places = Places(log, Log(reader.form, reader.region, reader.base))
+    if at is None:
+        frames = placed(places, frames)
+    else:
+        frames = asked(places, frames, at)
     accesses, poll = 0, Poll(polls)
     for count, line in enumerate(lines_of(log), 1):
-        if count == at:
-            script += head + poll.ended() + [text for frame in frames for text in arrival(frame, rctl)]
-            frames, head = [], []
         said = reader.read(line)
+        if count < lines[0] or lines[1] is not None and count > lines[1]:
+            continue
+        for number, frame, before, why, is_open in frames:
+            if before == count:
+                script += head + poll.ended() + arrival(frame, number, why, is_open, rctl)
+                head = []
         if said == FAULT or said == ELSEWHERE and others:
             script += poll.ended()
             script.append(f"# line {count}: ".encode() + line)
         if isinstance(said, str):
             continue
-        way, offset, value, size = said
+        (way, offset, value, size), time = said, time_of(reader.form, line)
         script += head
         head, accesses = [], accesses + 1
-        if poll.takes(count, said):
+        if poll.takes(count, said, time):
             continue
         script += poll.ended()
         poll.begin(said)
-        is_read = way == "read" and size == 4
-        if at is None and is_read and offset == 0xC0 and value is not None and value & 0x80 and frames:
-            script += arrival(frames.pop(0), rctl)
         text = said_of(way, offset, value)
         if size != 4:
-            script.append(f"# line {count}: {text} ({size} octet{'s' * (size > 1)})")
+            script.append(f"# line {count}: {text} ({size} octet{'s' * (size > 1)}){when(time)}")
         elif offset not in REGISTERS:
-            script.append(f"# line {count}: {text} ({missing.get(offset, 'no register')})")
+            script.append(f"# line {count}: {text} ({missing.get(offset, 'no register')}){when(time)}")
         else:
-            script.append(text)
+            script.append(text + ("" if time is None else f" # {seconds(time)}"))
             if REGISTERS[offset] == "RCTL" and way == "write":
                 rctl = value
-    script += poll.ended() + ([text for frame in frames for text in arrival(frame, rctl)] if accesses else [])
+    if accesses and (lines[1] is None or lines[1] >= places.lines):
+        for number, frame, before, why, is_open in frames:
+            if before is None:
+                script += poll.ended() + arrival(frame, number, why, is_open, rctl)
+    script += poll.ended()
     return b"".join((text if isinstance(text, bytes) else text.encode()) + b"\n" for text in script)

@@ -305,6 +305,18 @@ def transmit(s: State) -> tuple[str, int]:
 OPTIONS = {"memory": 65_536, "budget": 1_048_576, "mac": "525400123456"}
 
 
+def answered(kind: str, text: str) -> dict:
+    """What an event of a kind answered, by its text."""
+    if kind == "read":
+        return {"value": int(text, 16)}
+    words = text.split()
+    if kind == "arrive":
+        return {"answer": words[0]} | ({"reason": words[1]} if words[1:] else {})
+    if kind in ("rx", "tx"):
+        return {"answer": words[0]} | dict(zip(("descriptor", "length"), map(int, words[1:])))
+    return {}
+
+
 class Session:
     """A machine, run line by line."""
 
@@ -312,6 +324,8 @@ class Session:
         settings = OPTIONS | settings
         self.now, self.budget = State(settings["memory"], bytes.fromhex(settings["mac"])), settings["budget"]
         self.past, self.held, self.performed = [], 0, 0
+        # what the event that was performed last was
+        self.was = {}
         # memory is refused in the line of a number, where that line takes memory for the nth time
         self.refused, self.number, self.taken = refused, 0, 0
         # the plan is a list of turns for each access of the driver; None where no line gave one
@@ -324,8 +338,8 @@ class Session:
         self.taken += 1
         return self.refused != (self.number, self.taken)
 
-    def event(self, action) -> str:
-        """Performs an event that answers (text, cost), or is refused."""
+    def event(self, action, **what) -> str:
+        """Performs an event that answers (text, cost), or is refused. It is what is said of it, and what it answers."""
         state = copy.copy(self.now)
         try:
             text, cost = action(state)
@@ -336,6 +350,7 @@ class Session:
             return "refused Memory"
         self.past.append((self.now, cost))
         self.performed += 1
+        self.was = what | answered(what["kind"], text)
         self.now, self.held = state, self.held + cost
         dropped = 0
         while self.held > self.budget:
@@ -359,13 +374,14 @@ class Session:
                 raise Refused("Length")
             s.store(at, octets)
             return "ok", 32 + len(octets)
-        return self.event(action)
+        return self.event(action, kind="poke", address=at, length=len(octets))
 
     def got(self, offset: int) -> str:
-        return self.event(lambda s: (f"{read(s, offset):08X}", 32))
+        return self.event(lambda s: (f"{read(s, offset):08X}", 32), kind="read", offset=offset)
 
     def written(self, offset: int, value: int) -> str:
-        return self.event(lambda s: ("ok", 65536 if write(s, offset, value) else 32))
+        return self.event(lambda s: ("ok", 65536 if write(s, offset, value) else 32), kind="write", offset=offset,
+                          value=value)
 
     def linked(self, up: bool) -> str:
         def action(s: State):
@@ -373,13 +389,16 @@ class Session:
                 s.raises(LSC)
             s.link = up
             return "ok", 32
-        return self.event(action)
+        return self.event(action, kind="link", up=up)
 
     def arrived(self, frame: bytes) -> str:
         def action(s: State):
             text, stored = arrive(s, frame)
             return text, 32 + stored
-        return self.event(action)
+        return self.event(action, kind="arrive", length=len(frame))
+
+    def stepped(self, engine: str) -> str:
+        return self.event(receive if engine == "rx" else transmit, kind=engine)
 
     def line(self, words: list[str]) -> list[str] | None:
         """What a line of words prints; None where it is of no form."""
@@ -401,7 +420,7 @@ class Session:
         if name == "link":
             return [self.linked(args[0] == "up")]
         if name in ("rx", "tx"):
-            return [self.event(receive if name == "rx" else transmit)]
+            return [self.stepped(name)]
         if name == "turns":
             return self.planned(args)
         if name == "arrive":
@@ -492,7 +511,7 @@ class Call:
             if turn.startswith("arrive:"):
                 said = self.session.arrived(lengthened(*turn.split(":")[1:]))
             else:
-                said = self.session.event(receive if turn == "rx" else transmit)
+                said = self.session.stepped(turn)
             if said == "refused Memory":
                 self.plan, self.is_starved = [], True
                 return
@@ -701,6 +720,12 @@ def who(script: str, ranges: list[tuple[int, int]], **settings) -> str:
         seen = [s.octets(at, count).hex().upper() if at + count <= s.size() else "nothing" for s in states]
         told += changes_told(f"{at:X}:{count}", seen)
     return "".join(f"{line}\n" for line in told)
+
+
+# An init that is refused leaves no driver, whatever was there: the second one is refused the memory for its reset, which
+# is its second event.
+REFUSED_INIT = "init\ninit\nrecv 0\n"
+REFUSED_INIT_TEXT = "started 291\nstopped 0 1 Memory\nrefused NoDriver\n"
 
 
 def text(script: str, **settings) -> str:

@@ -80,7 +80,9 @@ typedef enum em_code {
   EM_NO_CHANGE = 32,   /* no event of the journal changed what is watched */
   EM_NO_WATCH = 33,    /* there is no such kind of watch */
   EM_NO_NAME = 34,     /* no register has the name */
-  EM_NO_REFUSAL = 35   /* no refusal has the number */
+  EM_NO_REFUSAL = 35,  /* no refusal has the number */
+  EM_NO_RING = 36,     /* there is no ring of the number: they are of enum em_rings */
+  EM_NO_DESCRIPTOR = 37 /* the ring has no descriptor of the index */
 } em_code;
 
 /* What an event was, and what came of it. The numbers stay as they are. */
@@ -155,6 +157,37 @@ typedef struct em_register {
    EM_ROOM, and `count` tells how much is needed. It is no event. The cost is that of some thousand looks. */
 #define EM_REGISTERS 350
 uint32_t em_registers(const em_machine *machine, em_register *out, size_t room, size_t *count);
+
+/* ---- rings; constant */
+
+typedef enum em_rings {
+  EM_RX_RING = 1, /* the receive ring */
+  EM_TX_RING = 2  /* the transmit ring */
+} em_rings;
+
+/* A ring, as its registers set it up. */
+typedef struct em_ring_setup {
+  uint64_t base;    /* where descriptor 0 lies */
+  uint32_t count;   /* how many descriptors it has */
+  uint32_t head;    /* RDH or TDH */
+  uint32_t tail;    /* RDT or TDT */
+  uint32_t buffer;  /* how many octets each buffer of the receive ring has, by RCTL.BSIZE and BSEX; else 0 */
+  uint32_t enabled; /* 1 where RCTL.EN or TCTL.EN is set; else 0 */
+} em_ring_setup;
+
+/* How the registers set a ring of enum em_rings up. It is no event. Refused as EM_NO_RING. */
+uint32_t em_ring(const em_machine *machine, uint32_t side, em_ring_setup *setup);
+
+/* A descriptor of a ring. */
+typedef struct em_descriptor {
+  uint8_t octets[16]; /* as it lies in guest memory */
+  uint32_t adapters;  /* 1 where it is the adapter's: from the head up to but not the tail, going round. Else 0: it is
+                         the driver's, and so is each where the head or the tail stands past the last descriptor */
+} em_descriptor;
+
+/* The descriptor at an index of a ring, the first at 0. It is no event. Refused as EM_NO_RING, as EM_NO_DESCRIPTOR where
+   the ring has not so many, and as EM_RANGE where it leaves guest memory. */
+uint32_t em_ring_descriptor(const em_machine *machine, uint32_t side, uint32_t index, em_descriptor *descriptor);
 
 /* ---- guest memory; the cost is that of copying the octets */
 
@@ -259,15 +292,17 @@ uint32_t em_last_change(const em_machine *machine, const em_watch *watch, em_cha
 
 /* ---- names; no machine is needed */
 
-/* The manual's name of the register at an offset, without a zero behind it: MTA[5], RAL0. None has more than 9 letters.
-   Where `room` is too small it is refused as EM_ROOM, and `length` tells how much is needed. Constant. */
+/* The manual's name of the register at an offset, with a zero octet behind it: MTA[5], RAL0. None has more than 9
+   letters; `length` tells how many, without the zero. Where `room` is too small for both it is refused as EM_ROOM, and
+   `length` is told all the same. Constant. */
 uint32_t em_name(uint32_t offset, uint8_t *out, size_t room, size_t *length);
 
 /* The offset of the register that has this name, in either case of its letters. The cost is some hundred comparisons. */
 uint32_t em_find(const uint8_t *name, size_t length, uint32_t *offset);
 
-/* The name of a refusal, and a sentence: "Range: the octets leave guest memory". None has more than 80 octets. Where
-   `room` is too small it is refused as EM_ROOM, and `length` tells how much is needed. Constant. */
+/* The name of a refusal, and a sentence, with a zero octet behind it: "Range: the octets leave guest memory". None has
+   more than 80 octets; `length` tells how many, without the zero. Where `room` is too small for both it is refused as
+   EM_ROOM, and `length` is told all the same. Constant. */
 uint32_t em_refusal(uint32_t refusal, uint8_t *out, size_t room, size_t *length);
 
 #ifdef __cplusplus

@@ -44,6 +44,8 @@ static void refuses_an_empty_handle(void) {
   uint8_t octets[14] = {7};
   em_note event = {7, 7, 7, 7, 7};
   em_register one = {7, 7};
+  em_ring_setup ring = {7, 7, 7, 7, 7, 7};
+  em_descriptor descriptor = {{7}, 7};
   em_watch watch = {EM_WATCH_LINE, 0, 0, 0};
   em_change change;
   memset(&change, 0, sizeof change);
@@ -68,6 +70,9 @@ static void refuses_an_empty_handle(void) {
   REFUSED(em_sync_out(&machine, octets, 14), EM_NOT_MADE);
   REFUSED(em_sync_in(&machine, octets, 14, &count), EM_NOT_MADE);
   REFUSED(em_registers(&machine, &one, 1, &count), EM_NOT_MADE);
+  REFUSED(em_ring(&machine, EM_RX_RING, &ring), EM_NOT_MADE);
+  REFUSED(em_ring_descriptor(&machine, EM_RX_RING, 0, &descriptor), EM_NOT_MADE);
+  CHECK(ring.count == 7 && descriptor.adapters == 7);
   CHECK(one.offset == 7 && one.value == 7);
   REFUSED(em_tag(&machine, 1), EM_NOT_MADE);
   REFUSED(em_event(&machine, 0, &event), EM_NOT_MADE);
@@ -124,6 +129,63 @@ static void lists_registers(void) {
   for (uint32_t offset = 0x0C0; offset < 0x2800; offset += 4) (void)em_write(&machine, offset, UINT32_MAX);
   OK(em_registers(&machine, all, EM_REGISTERS, &count));
   CHECK(count > 300 && count < EM_REGISTERS);
+  em_free(&machine);
+}
+
+/* the receive ring of 8 descriptors at 1000h, with head 6 and tail 1: 6, 7 and 0 are the adapter's */
+static void tells_whose_a_descriptor_is(void) {
+  em_machine machine = made();
+  em_ring_setup ring = {7, 7, 7, 7, 7, 7};
+  em_descriptor one = {{7}, 7};
+  const uint8_t sixth[16] = {0x00, 0x20, 0, 0, 0, 0, 0, 0, 0x3C, 0, 0, 0, 0x07};
+  OK(em_ring(&machine, EM_RX_RING, &ring));
+  CHECK(ring.base == 0 && ring.count == 0 && ring.head == 0 && ring.tail == 0 && ring.enabled == 0);
+  CHECK(ring.buffer == 2048); /* BSIZE 0 */
+  REFUSED(em_ring_descriptor(&machine, EM_RX_RING, 0, &one), EM_NO_DESCRIPTOR);
+  OK(em_write(&machine, 0x2800, 0x1000));
+  OK(em_write(&machine, 0x2804, 0));
+  OK(em_write(&machine, 0x2808, 0x80));
+  OK(em_write(&machine, 0x2810, 6));
+  OK(em_write(&machine, RDT, 1));
+  OK(em_write(&machine, 0x100, 0x10002)); /* EN, BSIZE 1 */
+  OK(em_poke(&machine, 0x1060, sixth, 16));
+  OK(em_ring(&machine, EM_RX_RING, &ring));
+  CHECK(ring.base == 0x1000 && ring.count == 8 && ring.head == 6 && ring.tail == 1);
+  CHECK(ring.buffer == 1024 && ring.enabled == 1);
+  for (uint32_t index = 0; index < 8; index++) {
+    OK(em_ring_descriptor(&machine, EM_RX_RING, index, &one));
+    CHECK(one.adapters == (index == 6 || index == 7 || index == 0));
+    CHECK(memcmp(one.octets, sixth, 16) == 0 || index != 6);
+  }
+  one.adapters = 7;
+  REFUSED(em_ring_descriptor(&machine, EM_RX_RING, 8, &one), EM_NO_DESCRIPTOR);
+  REFUSED(em_ring_descriptor(&machine, 0, 0, &one), EM_NO_RING);
+  REFUSED(em_ring_descriptor(&machine, 3, 0, &one), EM_NO_RING);
+  CHECK(one.adapters == 7);
+  /* a head past the ring: all are the driver's */
+  OK(em_write(&machine, 0x2810, 10));
+  OK(em_write(&machine, RDT, 3));
+  for (uint32_t index = 0; index < 8; index++) {
+    OK(em_ring_descriptor(&machine, EM_RX_RING, index, &one));
+    CHECK(one.adapters == 0);
+  }
+  /* the last descriptor leaves memory */
+  OK(em_write(&machine, 0x3800, MEMORY - 0x70));
+  OK(em_write(&machine, 0x3808, 0x80));
+  OK(em_write(&machine, 0x3818, 2));
+  OK(em_ring(&machine, EM_TX_RING, &ring));
+  CHECK(ring.base == MEMORY - 0x70 && ring.count == 8 && ring.head == 0 && ring.tail == 2 && ring.buffer == 0);
+  OK(em_ring_descriptor(&machine, EM_TX_RING, 1, &one));
+  CHECK(one.adapters == 1);
+  OK(em_ring_descriptor(&machine, EM_TX_RING, 6, &one));
+  CHECK(one.adapters == 0);
+  REFUSED(em_ring_descriptor(&machine, EM_TX_RING, 7, &one), EM_RANGE);
+  OK(em_write(&machine, 0x3804, UINT32_MAX)); /* and the ring far past it */
+  REFUSED(em_ring_descriptor(&machine, EM_TX_RING, 0, &one), EM_RANGE);
+  ring.count = 9;
+  REFUSED(em_ring(&machine, 0, &ring), EM_NO_RING);
+  REFUSED(em_ring(&machine, 3, &ring), EM_NO_RING);
+  CHECK(ring.count == 9);
   em_free(&machine);
 }
 
@@ -433,12 +495,13 @@ static void names_registers_and_refusals(void) {
   uint8_t room[80];
   size_t length = 7;
   uint32_t offset = 7;
+  memset(room, 9, sizeof room);
   OK(em_name(ICR, room, sizeof room, &length));
-  CHECK(has_text(room, length, "ICR"));
-  OK(em_name(0x5200 + 4 * 127, room, 8, &length));
-  CHECK(has_text(room, length, "MTA[127]"));
+  CHECK(has_text(room, length, "ICR") && !strcmp((const char *)room, "ICR") && room[4] == 9);
+  OK(em_name(0x5200 + 4 * 127, room, 9, &length));
+  CHECK(has_text(room, length, "MTA[127]") && !strcmp((const char *)room, "MTA[127]") && room[9] == 9);
   room[0] = 9;
-  REFUSED(em_name(0x5200 + 4 * 127, room, 7, &length), EM_ROOM);
+  REFUSED(em_name(0x5200 + 4 * 127, room, 8, &length), EM_ROOM);
   CHECK(length == 8 && room[0] == 9);
   REFUSED(em_name(4, room, 8, &length), EM_NO_REGISTER);
   OK(em_find((const uint8_t *)"rah15", 5, &offset));
@@ -447,14 +510,15 @@ static void names_registers_and_refusals(void) {
   REFUSED(em_find((const uint8_t *)"", 0, &offset), EM_NO_NAME);
   CHECK(offset == 0x547C);
   OK(em_refusal(EM_RANGE, room, sizeof room, &length));
-  CHECK(has_text(room, length, "Range: the octets leave guest memory"));
-  REFUSED(em_refusal(EM_RANGE, room, 5, &length), EM_ROOM);
+  CHECK(has_text(room, length, "Range: the octets leave guest memory") && room[36] == 0);
+  REFUSED(em_refusal(EM_RANGE, room, 36, &length), EM_ROOM);
   CHECK(length == 36);
+  OK(em_refusal(EM_RANGE, room, 37, &length));
   REFUSED(em_refusal(EM_OK, room, sizeof room, &length), EM_NO_REFUSAL);
   REFUSED(em_refusal(7, room, sizeof room, &length), EM_NO_REFUSAL);
   for (uint32_t code = 0, known = 0; code < 1000; code++) {
     known += em_refusal(code, room, sizeof room, &length) == EM_OK;
-    if (code == 999) CHECK(known == 18); /* as many as enum em_code has, without EM_OK */
+    if (code == 999) CHECK(known == 20); /* as many as enum em_code has, without EM_OK */
   }
 }
 
@@ -474,6 +538,7 @@ int main(void) {
   refuses_an_empty_handle();
   reads_and_writes_registers();
   lists_registers();
+  tells_whose_a_descriptor_is();
   reads_and_writes_memory();
   syncs();
   syncs_out_what_differs();

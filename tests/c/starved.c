@@ -190,6 +190,8 @@ static void asks_for_none(void) {
   struct seen *all = malloc(sizeof *all);
   em_watch watch = {EM_WATCH_OCTETS, 0, BUFFER, 16};
   em_change change;
+  em_ring_setup ring;
+  em_descriptor descriptor;
   uint64_t size;
   uint32_t value, code;
   size_t count;
@@ -211,6 +213,8 @@ static void asks_for_none(void) {
   OK(em_write(&machine, TCTL, 0));
   OK(em_look(&machine, ICR, &value));
   OK(em_registers(&machine, all->registers, EM_REGISTERS, &count));
+  OK(em_ring(&machine, EM_RX_RING, &ring));
+  REFUSED(em_ring_descriptor(&machine, EM_RX_RING, ring.count, &descriptor), EM_NO_DESCRIPTOR);
   OK(em_peek(&machine, 0, all->memory, MEMORY));
   OK(em_sync_out(&machine, all->memory, MEMORY));
   OK(em_sync_in(&machine, all->memory, MEMORY, &count));

@@ -140,6 +140,23 @@ class MemoryAndFrames(unittest.TestCase):
         self.assertRaises(bunjelav.Extended, m.tx_step)
         self.assertEqual([d.owned for d in m.ring("tx")][:3], [False, True, False])
 
+    def test_whose_a_descriptor_is(self):
+        m = Machine()
+        self.assertEqual((m.ring("rx"), m.ring("tx")), ([], []))
+        m.RDBAL, m.RDLEN, m.RDH, m.RDT = 0x1000, 0x80, 6, 1
+        self.assertEqual([d.index for d in m.ring("rx") if d.owned], [0, 6, 7])
+        # a head or a tail past the ring: all are the driver's
+        m.RDH, m.RDT = 10, 3
+        self.assertEqual([d.owned for d in m.ring("rx")], [False] * 8)
+        m.RDH, m.RDT = 3, 10
+        self.assertEqual([d.owned for d in m.ring("rx")], [False] * 8)
+        # the ring leaves memory behind descriptor 6
+        m.TDBAL, m.TDLEN, m.TDH, m.TDT = 0x10000 - 0x70, 0x80, 0, 2
+        self.assertEqual([d.owned for d in m.ring("tx")], [True, True] + [False] * 5)
+        m.TDBAH = 2**32 - 1
+        self.assertEqual(m.ring("tx"), [])
+        self.assertRaises(ValueError, m.ring, "both")
+
     def test_a_descriptor(self):
         m = Machine()
         # EOP and RS, so that the adapter sets DD
@@ -257,7 +274,7 @@ class Numbers(unittest.TestCase):
 class Names(unittest.TestCase):
     def test_refusals_have_their_names(self):
         """Each of the library's refusals is an exception of the module, whatever else the module has."""
-        self.assertEqual(len(_tables.REFUSALS), 18)
+        self.assertEqual(len(_tables.REFUSALS), 20)
         for name, number in _tables.REFUSALS.items():
             refusal = getattr(bunjelav, name)
             self.assertTrue(issubclass(refusal, bunjelav.Refused) and issubclass(refusal, Exception), name)

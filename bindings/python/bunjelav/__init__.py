@@ -26,7 +26,7 @@ import html
 import operator
 import os
 from pathlib import Path
-from typing import Dict, Iterator, List, NamedTuple, Optional, Union
+from typing import Any, Callable, Dict, Iterable, Iterator, List, NamedTuple, NoReturn, Optional, Union, overload
 
 from . import _refusals, _tables
 from ._refusals import *  # noqa: F401, F403
@@ -64,7 +64,7 @@ for _name, _types in _tables.CALLS.items():
 # ---- refusals
 
 
-def _text(call, *words: int) -> Optional[str]:
+def _text(call: Callable[..., int], *words: int) -> Optional[str]:
     """The text that a call puts into room for it."""
     room, length = ctypes.create_string_buffer(128), SIZE_T()
     return room.raw[: length.value].decode() if call(*words, room, 128, ctypes.byref(length)) == DONE else None
@@ -161,7 +161,7 @@ class Change(NamedTuple):
 class RxDescriptor(NamedTuple):
     """A receive descriptor; `owned` says that it is the adapter's."""
 
-    index: int
+    index: int  # type: ignore[assignment]  # (a tuple has a method of this name)
     owned: bool
     address: int
     length: int
@@ -173,7 +173,7 @@ class RxDescriptor(NamedTuple):
 class TxDescriptor(NamedTuple):
     """A transmit descriptor; `owned` says that it is the adapter's."""
 
-    index: int
+    index: int  # type: ignore[assignment]  # (a tuple has a method of this name)
     owned: bool
     address: int
     length: int
@@ -213,13 +213,25 @@ class GuestMemory:
             raise IndexError(f"guest memory has {size} octets")
         return range(at, at + 1)
 
-    def __getitem__(self, where: Union[int, slice]):
+    @overload
+    def __getitem__(self, where: int) -> int: ...
+
+    @overload
+    def __getitem__(self, where: slice) -> bytes: ...
+
+    def __getitem__(self, where: Union[int, slice]) -> Union[int, bytes]:
         octets = self._range(where)
         room = ctypes.create_string_buffer(max(len(octets), 1))
         _must(_library.em_peek(self._machine._at, octets.start, room, len(octets)))
         return room.raw[: len(octets)] if isinstance(where, slice) else room.raw[0]
 
-    def __setitem__(self, where: Union[int, slice], value: Union[int, bytes]) -> None:
+    @overload
+    def __setitem__(self, where: int, value: int) -> None: ...
+
+    @overload
+    def __setitem__(self, where: slice, value: bytes) -> None: ...
+
+    def __setitem__(self, where: Union[int, slice], value: Any) -> None:
         octets = self._range(where)
         given = _octets(value, "memory") if isinstance(where, slice) else bytes([value])
         if len(given) != len(octets):
@@ -236,6 +248,8 @@ class Machine:
     """
 
     _handle: _tables.Handle
+    _at: Any
+    memory: GuestMemory
 
     def __init__(
         self,
@@ -277,16 +291,16 @@ class Machine:
     def __copy__(self) -> Machine:
         raise TypeError("a machine can't be copied")
 
-    def __deepcopy__(self, memo: dict) -> Machine:
+    def __deepcopy__(self, memo: Dict[int, object]) -> Machine:
         raise TypeError("a machine can't be copied")
 
-    def __reduce__(self):
+    def __reduce__(self) -> NoReturn:
         raise TypeError("a machine can't be pickled")
 
-    def _told(self, call, room, *words):
+    def _told(self, call: Callable[..., int], room: Any, *words: object) -> int:
         """What a call tells behind its other words."""
         _must(call(self._at, *words, ctypes.byref(room)))
-        return room.value
+        return int(room.value)
 
     # ---- registers
 
@@ -492,19 +506,19 @@ class Machine:
     # ---- rings
 
     def ring(self, which: str) -> List[Union[RxDescriptor, TxDescriptor]]:
-        """The descriptors of the ring "rx" or "tx", as they lie in guest memory."""
-        if which not in ("rx", "tx"):
+        """The descriptors of the ring "rx" or "tx", as they lie in guest memory, up to one that leaves it. The library says
+        whose each is: where the head or the tail stands past the last descriptor, all are the driver's."""
+        if which not in _tables.RINGS:
             raise ValueError('a ring is "rx" or "tx"')
-        first = {"rx": "RD", "tx": "TD"}[which]
-        base = self.look(first + "BAL") | self.look(first + "BAH") << 32
-        head, tail = self.look(first + "H"), self.look(first + "T")
-        count = self.look(first + "LEN") // 16
+        side, setup, one = _tables.RINGS[which], _tables.RingSetup(), _tables.Descriptor()
+        _must(_library.em_ring(self._at, side, ctypes.byref(setup)))
         found: List[Union[RxDescriptor, TxDescriptor]] = []
-        for index in range(count):
-            octets = self.memory[base + 16 * index : base + 16 * index + 16]
-            if len(octets) < 16:
+        for index in range(setup.count):
+            told = _library.em_ring_descriptor(self._at, side, index, ctypes.byref(one))
+            if told == _tables.REFUSALS["Range"]:
                 break
-            owned = count > 0 and (index - head) % count < (tail - head) % count
+            _must(told)
+            octets, owned = bytes(one.octets), one.adapters == 1
             low = int.from_bytes(octets[:8], "little"), int.from_bytes(octets[8:10], "little")
             special = int.from_bytes(octets[14:], "little")
             if which == "rx":
@@ -522,10 +536,10 @@ class Machine:
         """Registers and rings as tables, for a notebook."""
         rows = [(name, f"{value:08X}") for name, value in self.registers().items()]
         parts = [f"<p>{html.escape(repr(self))}</p>", _table("registers", ("name", "value"), rows)]
-        for which, kind in (("rx", RxDescriptor), ("tx", TxDescriptor)):
+        for which, heads in (("rx", RxDescriptor._fields), ("tx", TxDescriptor._fields)):
             ring = self.ring(which)
             if ring:
-                parts.append(_table(which, kind._fields, [[*map(_shown, descriptor)] for descriptor in ring]))
+                parts.append(_table(which, heads, [[*map(_shown, descriptor)] for descriptor in ring]))
         return "".join(parts)
 
 
@@ -533,8 +547,8 @@ def _shown(value: Union[int, bool]) -> str:
     return ("", "yes")[value] if isinstance(value, bool) else f"{value:X}"
 
 
-def _table(caption: str, heads, rows) -> str:
-    def row(cells, tag: str) -> str:
+def _table(caption: str, heads: Iterable[str], rows: Iterable[Iterable[str]]) -> str:
+    def row(cells: Iterable[str], tag: str) -> str:
         return "<tr>" + "".join(f"<{tag}>{html.escape(str(cell))}</{tag}>" for cell in cells) + "</tr>"
 
     body = "".join(row(cells, "td") for cells in rows)

@@ -4,7 +4,8 @@ Written by bindings/tables.py, of the crate em_c: change it there, and run that.
 """
 __all__ = [
     "Refused", "NoRegister", "Range", "Length", "DmaRange", "Extended", "TooLong", "Memory", "Budget", "NotMade",
-    "MadeAlready", "Size", "NoFrame", "Room", "NoEvent", "NoChange", "NoWatch", "NoName", "NoRefusal",
+    "MadeAlready", "Size", "NoFrame", "Room", "NoEvent", "NoChange", "NoWatch", "NoName", "NoRefusal", "NoRing",
+    "NoDescriptor",
 ]
 
 
@@ -123,3 +124,15 @@ class NoRefusal(Refused):
     """No refusal has the number."""
 
     number = 35
+
+
+class NoRing(Refused):
+    """There is no ring of the number."""
+
+    number = 36
+
+
+class NoDescriptor(Refused):
+    """The ring has no descriptor of the index."""
+
+    number = 37

@@ -29,6 +29,8 @@ REFUSALS = {
     "NoWatch": 33,
     "NoName": 34,
     "NoRefusal": 35,
+    "NoRing": 36,
+    "NoDescriptor": 37,
 }
 
 # by number, what each kind of event is called
@@ -62,6 +64,12 @@ WATCHES = {
     "sent": 6,
 }
 
+# by name, the number of each ring
+RINGS = {
+    "rx": 1,
+    "tx": 2,
+}
+
 
 class Handle(Structure):
     _fields_ = [("made", c_bool), ("held", c_void_p)]
@@ -81,6 +89,24 @@ class Note(Structure):
         ("length", c_uint32),
         ("value", c_uint32),
         ("kind", c_uint32),
+    ]
+
+
+class RingSetup(Structure):
+    _fields_ = [
+        ("base", c_uint64),
+        ("count", c_uint32),
+        ("head", c_uint32),
+        ("tail", c_uint32),
+        ("buffer", c_uint32),
+        ("enabled", c_uint32),
+    ]
+
+
+class Descriptor(Structure):
+    _fields_ = [
+        ("octets", c_uint8 * 16),
+        ("adapters", c_uint32),
     ]
 
 
@@ -120,6 +146,8 @@ CALLS = {
     "em_read": [POINTER(Handle), c_uint32, POINTER(c_uint32)],
     "em_write": [POINTER(Handle), c_uint32, c_uint32],
     "em_look": [POINTER(Handle), c_uint32, POINTER(c_uint32)],
+    "em_ring": [POINTER(Handle), c_uint32, POINTER(RingSetup)],
+    "em_ring_descriptor": [POINTER(Handle), c_uint32, c_uint32, POINTER(Descriptor)],
     "em_run_rx": [POINTER(Handle), c_size_t, POINTER(c_size_t)],
     "em_run_tx": [POINTER(Handle), c_size_t, POINTER(c_size_t)],
     "em_sync_out": [POINTER(Handle), c_void_p, c_size_t],

@@ -37,10 +37,12 @@ mod event;
 mod machine;
 mod raw;
 mod refusal;
+mod ring;
 mod tables;
 
 pub use event::{offset_of, Change, Event, Name, Watch};
 pub use machine::{Events, Frame, Frames, Machine};
-pub use raw::Register;
+pub use raw::{Register, RingSetup};
 pub use refusal::Stopped;
+pub use ring::{Descriptor, Ring};
 pub use tables::{Kind, Refusal, MOST_SENT, REGISTERS};

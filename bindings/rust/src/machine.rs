@@ -1,7 +1,7 @@
 //! A machine.
 use crate::raw;
-use crate::raw::Register;
-use crate::{Change, Event, Refusal, Stopped, Watch, MOST_SENT};
+use crate::raw::{Register, RingSetup};
+use crate::{Change, Descriptor, Event, Refusal, Ring, Stopped, Watch, MOST_SENT};
 use core::cell::UnsafeCell;
 
 /// An adapter with its guest's memory and a journal of its latest events.
@@ -77,6 +77,20 @@ impl Machine {
         let mut count = 0;
         told(unsafe { raw::em_registers(self.handle.get(), out.as_mut_ptr(), out.len(), &mut count) }, ())?;
         Ok(count)
+    }
+
+    /// How the registers set a ring up.
+    pub fn ring(&self, ring: Ring) -> Result<RingSetup, Refusal> {
+        let mut setup = RingSetup::default();
+        told(unsafe { raw::em_ring(self.handle.get(), ring.number(), &mut setup) }, ())?;
+        Ok(setup)
+    }
+
+    /// The descriptor at an index of a ring, and whose it is.
+    pub fn descriptor(&self, ring: Ring, index: u32) -> Result<Descriptor, Refusal> {
+        let mut one = raw::Descriptor::default();
+        told(unsafe { raw::em_ring_descriptor(self.handle.get(), ring.number(), index, &mut one) }, ())?;
+        Ok(Descriptor { octets: one.octets, is_adapters: one.adapters == 1 })
     }
 
     /// Makes `ram` what guest memory is; it has to be as large. Octets that are the same already are not written.

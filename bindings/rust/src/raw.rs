@@ -28,6 +28,26 @@ pub(crate) struct Note {
     pub kind: u32,
 }
 
+/// A ring, as the registers set it up.
+#[repr(C)]
+#[derive(Clone, Copy, PartialEq, Eq, Hash, Debug, Default)]
+pub struct RingSetup {
+    pub base: u64,
+    pub count: u32,
+    pub head: u32,
+    pub tail: u32,
+    pub buffer: u32,
+    pub enabled: u32,
+}
+
+/// A descriptor of a ring.
+#[repr(C)]
+#[derive(Clone, Copy, Default)]
+pub(crate) struct Descriptor {
+    pub octets: [u8; 16],
+    pub adapters: u32,
+}
+
 /// What is watched.
 #[repr(C)]
 #[derive(Clone, Copy, Default)]
@@ -65,6 +85,8 @@ extern "C" {
     pub(crate) fn em_read(machine: *mut Handle, offset: u32, value: *mut u32) -> u32;
     pub(crate) fn em_write(machine: *mut Handle, offset: u32, value: u32) -> u32;
     pub(crate) fn em_look(machine: *mut Handle, offset: u32, value: *mut u32) -> u32;
+    pub(crate) fn em_ring(machine: *mut Handle, side: u32, setup: *mut RingSetup) -> u32;
+    pub(crate) fn em_ring_descriptor(machine: *mut Handle, side: u32, index: u32, descriptor: *mut Descriptor) -> u32;
     pub(crate) fn em_run_rx(machine: *mut Handle, n: usize, done: *mut usize) -> u32;
     pub(crate) fn em_run_tx(machine: *mut Handle, n: usize, done: *mut usize) -> u32;
     pub(crate) fn em_sync_out(machine: *mut Handle, ram: *mut u8, room: usize) -> u32;

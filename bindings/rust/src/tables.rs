@@ -20,6 +20,10 @@ pub(crate) const WATCH_FRAMES: u32 = 5;
 
 pub(crate) const WATCH_SENT: u32 = 6;
 
+pub(crate) const RING_RX: u32 = 1;
+
+pub(crate) const RING_TX: u32 = 2;
+
 /// Why a call did nothing.
 #[derive(Clone, Copy, PartialEq, Eq, Hash, Debug)]
 #[non_exhaustive]
@@ -60,12 +64,16 @@ pub enum Refusal {
     NoName,
     /// No refusal has the number.
     NoRefusal,
+    /// There is no ring of the number.
+    NoRing,
+    /// The ring has no descriptor of the index.
+    NoDescriptor,
     /// Another number, which this binding does not know.
     Other(u32),
 }
 
 /// Each refusal with its number.
-pub(crate) const REFUSALS: [(Refusal, u32); 18] = [
+pub(crate) const REFUSALS: [(Refusal, u32); 20] = [
     (Refusal::NoRegister, 1),
     (Refusal::Range, 2),
     (Refusal::Length, 3),
@@ -84,6 +92,8 @@ pub(crate) const REFUSALS: [(Refusal, u32); 18] = [
     (Refusal::NoWatch, 33),
     (Refusal::NoName, 34),
     (Refusal::NoRefusal, 35),
+    (Refusal::NoRing, 36),
+    (Refusal::NoDescriptor, 37),
 ];
 
 /// What kind of event it was, with what came of it.

@@ -1,5 +1,5 @@
 //! Each call of the binding once, and each refusal: what they give was worked out from the manual's tables.
-use bunjelav::{offset_of, Kind, Machine, Name, Refusal, Register, Stopped, Watch, MOST_SENT, REGISTERS};
+use bunjelav::{offset_of, Kind, Machine, Name, Refusal, Register, Ring, Stopped, Watch, MOST_SENT, REGISTERS};
 
 const MAC: [u8; 6] = [0x52, 0x54, 0x00, 0x12, 0x34, 0x56];
 const STATUS: u32 = 0x0008;
@@ -214,6 +214,32 @@ fn names() {
     assert_eq!(Kind::Other(99).to_string(), "unknown kind 99");
     assert_eq!((Kind::Undersize.to_string(), Kind::LinkUp.to_string()), ("dropped: undersize".into(), "link up".into()));
     assert_eq!((REGISTERS, MOST_SENT), (350, 16_384));
+}
+
+#[test]
+fn tells_whose_a_descriptor_is() {
+    let mut m = made();
+    assert_eq!(m.ring(Ring::Rx).map(|ring| (ring.count, ring.buffer, ring.enabled)), Ok((0, 2_048, 0)));
+    assert_eq!(m.descriptor(Ring::Rx, 0), Err(Refusal::NoDescriptor));
+    for (offset, value) in [(0x2800, 0x1000), (0x2808, 0x80), (RDH, 6), (RDT, 1)] {
+        m.write(offset, value).unwrap();
+    }
+    let ring = m.ring(Ring::Rx).unwrap();
+    assert_eq!((ring.base, ring.count, ring.head, ring.tail), (0x1000, 8, 6, 1));
+    let adapters = |m: &Machine| -> Vec<u32> {
+        (0..8).filter(|index| m.descriptor(Ring::Rx, *index).unwrap().is_adapters).collect()
+    };
+    assert_eq!(adapters(&m), [0, 6, 7]);
+    m.poke(0x1060, &descriptor(60, 7)).unwrap();
+    assert_eq!(m.descriptor(Ring::Rx, 6).unwrap().octets, descriptor(60, 7));
+    // a head past the ring: all are the driver's
+    m.write(RDH, 10).unwrap();
+    assert_eq!(adapters(&m), []);
+    // the last descriptor of the transmit ring leaves memory
+    m.write(0x3800, 65_536 - 0x70).unwrap();
+    m.write(0x3808, 0x80).unwrap();
+    assert!(m.descriptor(Ring::Tx, 6).is_ok());
+    assert_eq!(m.descriptor(Ring::Tx, 7), Err(Refusal::Range));
 }
 
 #[test]

@@ -11,5 +11,6 @@ pub mod Run
 pub mod Watch
 pub mod RefusalText
 pub mod AllRegisters
+pub mod Rings
 pub mod Difference
 pub mod Sync

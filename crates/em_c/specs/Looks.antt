@@ -1,6 +1,6 @@
 -- What calls tell that only look at a machine.
 use Rattle.std.specs.Prelude.{ℕ, ◌+◌, ◌++◌, ◌==◌, nat_lt, List, length, drop, Option, Some, None, Result, Ok, Err}
-use Rattle.std.specs.Prelude.{if◌then◌else◌, slice_get}
+use Rattle.std.specs.Prelude.{if◌then◌else◌, slice_get, slice_set}
 use Rattle.em_mem.specs.Memory.{part}
 use Rattle.em_regs.specs.Table.{reg_at}
 use Rattle.em_regs.specs.declared.reg.Reg.{Reg}
@@ -71,3 +71,10 @@ abbrev pub laid_into : List ℕ → Result (List ℕ) Refused → Result (List �
 laid_into room (Ok octets) =
     if nat_lt (length room) (length octets) then Err Room else Ok (octets ++ drop (length octets) room)
 laid_into room (Err refused) = Err refused
+
+-- a text lies at the head of the room, and a zero behind it; where the room is too small for both, nothing goes there
+abbrev pub text_into : List ℕ → Result (List ℕ) Refused → Result (List ℕ) Refused
+text_into room (Ok octets) =
+    if nat_lt (length octets) (length room) then Ok (slice_set (octets ++ drop (length octets) room) (length octets) 0)
+    else Err Room
+text_into room (Err refused) = Err refused

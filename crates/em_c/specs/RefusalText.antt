@@ -3,7 +3,7 @@ use Rattle.std.specs.Prelude.{ℕ, ◌==◌, if◌then◌else◌, List, Option, 
 use Rattle.em_c.specs.declared.refused.Refused.{Refused}
 use Rattle.em_c.specs.declared.refused.Refused.TheVariants.{NoRegister, Range, Length, DmaRange, Extended, TooLong}
 use Rattle.em_c.specs.declared.refused.Refused.TheVariants.{Memory, Budget, NoMachine, HasMachine, Size, NoFrame, Room}
-use Rattle.em_c.specs.declared.refused.Refused.TheVariants.{NoEvent, NoChange, NoWatch, NoName, NoRefusal}
+use Rattle.em_c.specs.declared.refused.Refused.TheVariants.{NoEvent, NoChange, NoWatch, NoName, NoRefusal, NoRing, NoDescriptor}
 
 -- its name, and a sentence
 abbrev pub text_of : Refused → List ℕ
@@ -25,6 +25,8 @@ text_of NoChange = codes "NoChange: no event of the journal changed what is watc
 text_of NoWatch = codes "NoWatch: there is no such kind of watch"
 text_of NoName = codes "NoName: no register has the name"
 text_of NoRefusal = codes "NoRefusal: no refusal has the number"
+text_of NoRing = codes "NoRing: the rings are 1, which receives, and 2, which transmits"
+text_of NoDescriptor = codes "NoDescriptor: the ring has no descriptor of the index"
 
 abbrev pub with_number : ℕ → Option Refused
 with_number code =
@@ -46,6 +48,8 @@ with_number code =
     else if code == 33 then Some NoWatch
     else if code == 34 then Some NoName
     else if code == 35 then Some NoRefusal
+    else if code == 36 then Some NoRing
+    else if code == 37 then Some NoDescriptor
     else None
 
 abbrev pub text_or_none : Option Refused → Result (List ℕ) Refused

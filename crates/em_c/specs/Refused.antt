@@ -5,7 +5,7 @@ use Rattle.em_step.specs.declared.refusal.Refusal.TheVariants as event
 use Rattle.em_c.specs.declared.refused.Refused.{Refused}
 use Rattle.em_c.specs.declared.refused.Refused.TheVariants.{NoRegister, Range, Length, DmaRange, Extended, TooLong}
 use Rattle.em_c.specs.declared.refused.Refused.TheVariants.{Memory, Budget, NoMachine, HasMachine, Size, NoFrame, Room}
-use Rattle.em_c.specs.declared.refused.Refused.TheVariants.{NoEvent, NoChange, NoWatch, NoName, NoRefusal}
+use Rattle.em_c.specs.declared.refused.Refused.TheVariants.{NoEvent, NoChange, NoWatch, NoName, NoRefusal, NoRing, NoDescriptor}
 
 -- what refuses an event has the model's number; the others have numbers that no other refusal of the model has
 abbrev pub number_of : Refused → ℕ
@@ -27,6 +27,8 @@ number_of NoChange = 32
 number_of NoWatch = 33
 number_of NoName = 34
 number_of NoRefusal = 35
+number_of NoRing = 36
+number_of NoDescriptor = 37
 
 abbrev pub of_event : Refusal → Refused
 of_event event.NoRegister = NoRegister

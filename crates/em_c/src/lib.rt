@@ -18,6 +18,7 @@ mod parts;
 mod refusal_text;
 mod refused;
 mod registers;
+mod rings;
 mod room;
 mod run;
 mod sealed;

@@ -4,21 +4,21 @@ ghost use Rattle.em_regs.specs.declared.reg.Reg.{Reg};
 ghost use Rattle.em_regs.specs.Table.{IsReg};
 ghost use Rattle.em_names.specs.Names.{IsNamed};
 ghost use Rattle.em_c.specs.Refused.{number, number_of, told, Shows};
-ghost use Rattle.em_c.specs.Looks.{laid_into, length_of};
+ghost use Rattle.em_c.specs.Looks.{text_into, length_of};
 ghost use Rattle.em_c.specs.Names.{name_at, Finds};
 
 use crate::refused::{Refused, number, tell};
-use crate::room::lay;
+use crate::room::lay_text;
 use em_regs::Reg;
 
-/// The name of the register at an offset; how many octets it has is told also where there is no room for it.
+/// The name of the register at an offset, and a zero octet behind it; how many octets it has is told also where there is no room for it.
 #[unsafe(no_mangle)]
 pub extern "C" fn em_name(offset: u32, out: &mut [u8], octets: &mut usize) -> u32
-    ensures name { Shows (laid_into out.old (name_at offset)) out.old result out.new }
+    ensures name { Shows (text_into out.old (name_at offset)) out.old result out.new }
     ensures octets { octets.new ≡ told octets.old (length_of (name_at offset)) }
 {
     match Reg::of_offset(offset) {
-        Some(reg) => number(lay(em_names::name(reg).as_str().as_bytes(), out, octets)),
+        Some(reg) => number(lay_text(em_names::name(reg).as_str().as_bytes(), out, octets)),
         None => Refused::NoRegister.number(),
     }
 }

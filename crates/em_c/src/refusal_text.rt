@@ -1,20 +1,21 @@
 //! What the refusals are called, and what each says.
 ghost use Rattle.std.specs.Prelude.{◌≡◌, ◌↔◌, IfSome, IsNone};
 ghost use Rattle.em_c.specs.Refused.{number, number_of, told, Shows};
-ghost use Rattle.em_c.specs.Looks.{laid_into, length_of};
+ghost use Rattle.em_c.specs.Looks.{text_into, length_of};
 ghost use Rattle.em_c.specs.RefusalText.{text_of, text_at, with_number};
 
 use crate::refused::{Refused, number};
-use crate::room::lay;
+use crate::room::lay_text;
 
-/// The name of a refusal, and a sentence; how many octets they have is told also where there is no room for them.
+/// The name of a refusal, and a sentence, with a zero octet behind them; how many octets they have is told also where
+/// there is no room for them.
 #[unsafe(no_mangle)]
 pub extern "C" fn em_refusal(code: u32, out: &mut [u8], octets: &mut usize) -> u32
-    ensures text { Shows (laid_into out.old (text_at code)) out.old result out.new }
+    ensures text { Shows (text_into out.old (text_at code)) out.old result out.new }
     ensures octets { octets.new ≡ told octets.old (length_of (text_at code)) }
 {
     match with_number(code) {
-        Some(refused) => number(lay(text_of(refused).as_bytes(), out, octets)),
+        Some(refused) => number(lay_text(text_of(refused).as_bytes(), out, octets)),
         None => Refused::NoRefusal.number(),
     }
 }
@@ -42,6 +43,8 @@ fn with_number(code: u32) -> Option<Refused>
         33 => Some(Refused::NoWatch),
         34 => Some(Refused::NoName),
         35 => Some(Refused::NoRefusal),
+        36 => Some(Refused::NoRing),
+        37 => Some(Refused::NoDescriptor),
         _ => None,
     }
 }
@@ -70,5 +73,7 @@ fn text_of(refused: Refused) -> &'static str
         Refused::NoWatch => "NoWatch: there is no such kind of watch",
         Refused::NoName => "NoName: no register has the name",
         Refused::NoRefusal => "NoRefusal: no refusal has the number",
+        Refused::NoRing => "NoRing: the rings are 1, which receives, and 2, which transmits",
+        Refused::NoDescriptor => "NoDescriptor: the ring has no descriptor of the index",
     }
 }

@@ -46,6 +46,10 @@ pub enum Refused {
     NoName = 34,
     /// No refusal has the number.
     NoRefusal = 35,
+    /// There is no ring of the number.
+    NoRing = 36,
+    /// The ring has no descriptor of the index.
+    NoDescriptor = 37,
 }
 
 impl Refused {

@@ -1,7 +1,7 @@
 //! Octets go where the caller has room for them.
 ghost use Rattle.std.specs.Prelude.{◌≡◌, Ok, length};
 ghost use Rattle.em_c.specs.Refused.{number, told};
-ghost use Rattle.em_c.specs.Looks.{laid_into};
+ghost use Rattle.em_c.specs.Looks.{laid_into, text_into};
 
 use crate::refused::Refused;
 
@@ -17,5 +17,21 @@ pub fn lay(octets: &[u8], room: &mut [u8], count: &mut usize) -> Result<(), Refu
         return Err(Refused::Room);
     }
     room[..octets.len()].copy_from_slice(octets);
+    Ok(())
+}
+
+/// Copies a text to the head of the room for it, and a zero octet behind it; tells how many octets the text has: also
+/// where there is no room for both, and then nothing is copied.
+pub fn lay_text(text: &[u8], room: &mut [u8], count: &mut usize) -> Result<(), Refused>
+    ensures outcome { number result ≡ number (text_into room.old (Ok text.now)) }
+    ensures octets { room.new ≡ told room.old (text_into room.old (Ok text.now)) }
+    ensures count { count.new ≡ length text.now }
+{
+    *count = text.len();
+    if text.len() >= room.len() {
+        return Err(Refused::Room);
+    }
+    room[..text.len()].copy_from_slice(text);
+    room[text.len()] = 0;
     Ok(())
 }

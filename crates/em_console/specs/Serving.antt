@@ -1,5 +1,5 @@
 -- What serving a session at a console does to both.
-use Rattle.std.specs.Prelude.{◌≡◌, ◌⊎◌, ◌-◌, ◌^◌, ℕ, List, [], ◌∷◌, ◌++◌, length, Result, Ok, Err}
+use Rattle.std.specs.Prelude.{◌≡◌, ◌⊎◌, ◌-◌, ◌^◌, ◌<◌, ◌≤◌, ℕ, List, [], ◌∷◌, ◌++◌, codes, length, Result, Ok, Err}
 use Rattle.std.specs.Io.{StartsWith}
 use Rattle.em_console.specs.declared.fault.ConsoleFault.{ConsoleFault}
 use Rattle.em_console.specs.declared.fault.ConsoleFault.TheVariants.{Read, Memory}
@@ -7,6 +7,7 @@ use Rattle.em_console.specs.declared.session.Flow.{Flow}
 use Rattle.em_console.specs.declared.session.Flow.TheVariants.{Goes, Ends}
 use Rattle.em_console.specs.declared.serving.End.{End}
 use Rattle.em_console.specs.declared.serving.End.TheVariants.{Input, Session}
+use Rattle.em_console.specs.Reading.{most_line}
 use Rattle.em_console.specs.Turns.{Turn, Typed, Over, Failed, Told, Cut, Leads}
 
 -- a line, and the text that answers it
@@ -22,6 +23,21 @@ turns (round ∷ rounds) = Typed round.line ∷ Told round.text ∷ turns rounds
 -- how a session defines its answers: in a state, to a line, this text, whether it goes on, and the state that follows
 abbrev pub Answering : Type 0 → Type 1
 Answering S = S → List ℕ → List ℕ → Flow → S → Type 0
+
+-- the answer to a line that is too long
+abbrev pub long_text : List ℕ
+long_text = codes "a line has at most 65536 octets\n"
+
+-- the session answers each line but one that is too long: that is refused, and the session stays and goes on
+abbrev pub within : {S : Type 0} → Answering S → Answering S
+within answers before line text flow after =
+    (length line ≤ most_line → answers before line text flow after)
+    × (most_line < length line → (text ≡ long_text) × (flow ≡ Goes) × (after ≡ before))
+
+-- memory for an answer is refused, where the session stops so, or before a line that is too long is refused
+abbrev pub halts : {S : Type 0} → (S → List ℕ → S → Type 0) → S → List ℕ → S → Type 0
+halts stops before line after =
+    (length line ≤ most_line → stops before line after) × (most_line < length line → after ≡ before)
 
 -- the session answers a line, and goes on
 abbrev pub GoesOn : {S : Type 0} → Answering S → S → Round → S → Type 0

@@ -12,14 +12,12 @@ pub enum ConsoleFault {
     Read = 20,
     /// The writer failed, or took no octet.
     Write = 21,
-    /// A line has more than [`MOST_LINE`](crate::MOST_LINE) octets.
-    LongLine = 25,
     /// Memory was refused for a line or an answer.
     Memory = 9,
 }
 
 impl ConsoleFault {
-    /// The number of the fault: 20 for `Read`, 21 for `Write`, 25 for `LongLine`, 9 for `Memory`.
+    /// The number of the fault: 20 for `Read`, 21 for `Write`, 9 for `Memory`.
     pub fn code(self) -> u32
         ensures { result ≡ code_of self }
     {
@@ -33,7 +31,6 @@ impl ConsoleFault {
         match self {
             ConsoleFault::Read => "Read",
             ConsoleFault::Write => "Write",
-            ConsoleFault::LongLine => "LongLine",
             ConsoleFault::Memory => "Memory",
         }
     }

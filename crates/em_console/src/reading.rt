@@ -1,10 +1,10 @@
 //! One line at a time from a reader.
-ghost use Rattle.std.specs.Prelude.{◌≡◌, ◌≤◌, IfOk, OnOk, Ok, true, false, length, vec_len};
+ghost use Rattle.std.specs.Prelude.{◌≡◌, ◌<◌, ◌≤◌, IfOk, OnOk, Ok, true, false, length, vec_len};
 ghost use Rattle.std.specs.Io.KnownBytes.{IsAtEnd, Keeps};
 ghost use Rattle.std.specs.Io.BufRead.{strip_last};
 ghost use Rattle.std.specs.List.{position_or_len};
 ghost use Rattle.em_text.specs.Lines.{is_newline};
-ghost use Rattle.em_console.specs.Reading.{TakesLine, TakesAtHand, most_line};
+ghost use Rattle.em_console.specs.Reading.{TakesLine, TakesAtHand, most_kept};
 
 use crate::fault::ConsoleFault;
 use memchr::memchr_iter;
@@ -13,8 +13,8 @@ use std::io::BufRead;
 /// The longest line, in octets without its end.
 pub const MOST_LINE: usize = 65_536;
 
-/// Each read gives an octet of the line or more, or ends it, and one octet too many is a fault.
-const MOST_READS: usize = MOST_LINE + 1;
+/// How many octets are kept of a longer one: without the last of them, a carriage return, it is still too long.
+const MOST_KEPT: usize = MOST_LINE + 2;
 
 /// What ends a line.
 const NEWLINE: u8 = b'\n';
@@ -36,7 +36,8 @@ enum AtHand {
 /// Reads a line, and nothing behind it: false where the reader is at its end.
 ///
 /// The line is without its newline, and without a carriage return before that. What follows the last newline is a
-/// line too, unless it is empty. Where it fails, how far the reader was read is left open.
+/// line too, unless it is empty. Of a line that is too long a front is kept, which is too long as well. Where it fails,
+/// how far the reader was read is left open.
 pub(crate) fn read_line<R: BufRead>(
     reader: &mut R,
     line: &mut Vec<u8>,
@@ -44,28 +45,37 @@ pub(crate) fn read_line<R: BufRead>(
     ensures line { result ≡ Ok true → TakesLine (R.remaining reader.old) (R.remaining reader.new) line.new.items }
     ensures end { result ≡ Ok false →
         IsAtEnd (R.remaining reader.old) × Keeps (R.remaining reader.old) (R.remaining reader.new) }
-    ensures short { OnOk result (vec_len line.new ≤ most_line) }
+    ensures short { OnOk result (vec_len line.new ≤ most_kept) }
 {
     line.clear();
-    for reads in 0..MOST_READS {
+    for reads in 0..u64::MAX {
         match take_at_hand(reader, line)? {
             AtHand::Part => {}
             AtHand::Last => {
                 strip_return(line);
                 return Ok(true);
             }
-            AtHand::Nothing => return Ok(!line.is_empty()),
+            AtHand::Nothing => return at_the_end(line),
         }
     }
-    unreachable!()
+    // No line is read in so many parts.
+    Err(ConsoleFault::Read)
 }
 
-/// Adds to a line what the reader has at hand of it.
+/// What a reader gave that is at its end: a last line without a newline, or none.
+fn at_the_end(line: &Vec<u8>) -> Result<bool, ConsoleFault>
+    ensures some { result ≡ Ok true → 0 < length line.now.items }
+    ensures none { result ≡ Ok false → length line.now.items ≡ 0 }
+{
+    Ok(!line.is_empty())
+}
+
+/// Adds to a line what the reader has at hand of it, as far as there is room.
 fn take_at_hand<R: BufRead>(reader: &mut R, line: &mut Vec<u8>) -> Result<AtHand, ConsoleFault>
-    requires { vec_len line.old ≤ most_line }
+    requires { vec_len line.old ≤ most_kept }
     ensures taken { IfOk result (λ at_hand. TakesAtHand (R.remaining reader.old) (R.remaining reader.new)
         line.old.items line.new.items at_hand) }
-    ensures short { OnOk result (vec_len line.new ≤ most_line) }
+    ensures short { OnOk result (vec_len line.new ≤ most_kept) }
 {
     let Ok(octets) = reader.fill_buf() else {
         return Err(ConsoleFault::Read);
@@ -74,10 +84,12 @@ fn take_at_hand<R: BufRead>(reader: &mut R, line: &mut Vec<u8>) -> Result<AtHand
         return Ok(AtHand::Nothing);
     }
     let end = line_len(octets);
-    if end > MOST_LINE - line.len() {
-        return Err(ConsoleFault::LongLine);
-    }
-    if line.extend_from_slice(&octets[..end]).is_err() {
+    let part = &octets[..end];
+    let room = MOST_KEPT - line.len();
+    if line
+        .extend_from_slice(&part[..room.min(part.len())])
+        .is_err()
+    {
         return Err(ConsoleFault::Memory);
     }
     if end == octets.len() {

@@ -1,10 +1,15 @@
 //! A session at a console: each line is answered before the next one is asked for.
-ghost use Rattle.em_console.specs.Serving.{Serves};
+ghost use Rattle.std.specs.Prelude.{◌≡◌, [], IfOk, OnErr};
+ghost use Rattle.em_console.specs.Serving.{Serves, within, halts};
 
 use crate::console::Console;
 use crate::fault::ConsoleFault;
+use crate::reading::MOST_LINE;
 use crate::session::{Answers, Flow};
-use std::alloc::Global;
+use std::alloc::{AllocError, Global};
+
+/// The answer to a line that is too long.
+const LONG_LINE: &[u8] = b"a line has at most 65536 octets\n";
 
 /// How serving ended, if nothing failed.
 #[derive(Clone, Copy, PartialEq, Eq, Debug)]
@@ -15,7 +20,8 @@ pub enum End {
     Session,
 }
 
-/// Asks for lines and tells the session's answer to each, until no line comes any more or the session ends.
+/// Asks for lines and tells the session's answer to each, until no line comes any more or the session ends. A line that
+/// is too long is refused, and the session never sees it.
 ///
 /// Memory is taken for the longest line and the longest answer alone.
 pub fn serve<C: Console, S: Answers>(
@@ -23,7 +29,8 @@ pub fn serve<C: Console, S: Answers>(
     console: &mut C,
     session: &mut S,
 ) -> Result<End, ConsoleFault>
-    ensures { Serves C.passes S.answers S.stops result console.old console.new session.old session.new }
+    ensures { Serves C.passes (within S.answers) (halts S.stops) result console.old console.new
+        session.old session.new }
 {
     let mut line = Vec::new(alloc);
     let mut text = Vec::new(alloc);
@@ -32,7 +39,7 @@ pub fn serve<C: Console, S: Answers>(
             return Ok(End::Input);
         }
         text.clear();
-        let Ok(flow) = session.answer(line.as_slice(), &mut text) else {
+        let Ok(flow) = answer_to(session, line.as_slice(), &mut text) else {
             return Err(ConsoleFault::Memory);
         };
         console.tell(text.as_slice())?;
@@ -43,4 +50,21 @@ pub fn serve<C: Console, S: Answers>(
     }
     // No one types so many lines.
     Err(ConsoleFault::Read)
+}
+
+/// The session's answer to a line, or the refusal of a line that is too long.
+fn answer_to<S: Answers>(
+    session: &mut S,
+    line: &[u8],
+    text: &mut Vec<u8>,
+) -> Result<Flow, AllocError>
+    requires { text.old.items ≡ [] }
+    ensures ok { IfOk result (λ flow. within S.answers session.old line.now text.new.items flow session.new) }
+    ensures err { OnErr result (halts S.stops session.old line.now session.new) }
+{
+    if line.len() > MOST_LINE {
+        text.extend_from_slice(LONG_LINE)?;
+        return Ok(Flow::Goes);
+    }
+    session.answer(line, text)
 }

@@ -2,13 +2,26 @@
 
 use crate::session::Served;
 use anyhow::{Result, bail};
-use em_debugger::{Compared, Disk};
+use em_debugger::{Compared, Debugger, Differing, Disk};
+use em_known::{Causes, is_known};
 use em_names::write_name;
 use em_regs::Reg;
 use em_script::BenchFault;
 use std::alloc::AllocError;
 use std::io;
 use std::io::{BufWriter, Write};
+
+/// How many digits a register's value has.
+const DIGITS: usize = 8;
+
+/// Which of the answers that differ are shown.
+#[derive(Clone, Copy, Debug)]
+pub struct Wanted {
+    /// The first of each register, and not only the first.
+    pub all: bool,
+    /// Those that differ for a known cause, too.
+    pub known: bool,
+}
 
 /// How often answers differed that reads of a register gave; of other lines, where there is none.
 #[derive(Clone, Copy, Debug)]
@@ -17,10 +30,15 @@ struct Count {
     differed: u64,
 }
 
-/// Which answers differed.
+/// Which answers differed, and what happened so far.
 #[derive(Drop)]
 struct Tally {
     counts: Vec<Count>,
+    /// How many differed for a known cause.
+    known: u64,
+    causes: Causes,
+    /// Behind how many lines these are the causes.
+    lines: usize,
 }
 
 impl Tally {
@@ -35,50 +53,124 @@ impl Tally {
         self.counts.push(Count { reg, differed: 1 })?;
         Ok(true)
     }
-}
 
-/// Plays the lines that lie ahead, and shows the first whose answer differs from the one that it expects.
-pub fn compare_first<R: Print + AllocGlobal, D: Disk + Drop>(
-    rt: &R,
-    served: &mut Served<D>,
-) -> Result<()> {
-    let mut writer = BufWriter::new(rt.alloc(), io::writer(rt))?;
-    match served.debugger.compare(&mut writer) {
-        Ok(Compared::Agrees | Compared::Differs(_)) if writer.flush().is_ok() => Ok(()),
-        Ok(Compared::Stopped) => bail!("{}", BenchFault::Memory.name()),
-        _ => bail!("{}", BenchFault::Write.name()),
+    /// Goes to before a line, and says whether its answer differs for a known cause.
+    fn is_known(&mut self, debugger: &Debugger, differing: Differing) -> bool {
+        for line in self.lines..differing.line.saturating_sub(1) {
+            self.causes = self
+                .causes
+                .after(debugger.line_played(line.saturating_add(1)));
+        }
+        self.lines = differing.line.saturating_sub(1);
+        let Some(reg) = differing.reg else {
+            return false;
+        };
+        let here = debugger.newest_answer();
+        match (
+            wanted_value(debugger.line_expects(differing.line), here),
+            value_of(here),
+        ) {
+            (Some(wanted), Some(here)) => is_known(self.causes, reg, wanted, here),
+            _ => false,
+        }
     }
 }
 
-/// Plays the lines that lie ahead, shows the first of each register whose answer differs, and how many did.
-pub fn compare_all<R: Print + AllocGlobal, D: Disk + Drop>(
+/// Plays the lines that lie ahead up to the first whose answer differs for no known cause, or all, and shows those that are
+/// wanted. Gives how many differed for a known cause.
+pub fn compare<R: Print + AllocGlobal, D: Disk + Drop>(
     rt: &R,
     served: &mut Served<D>,
-) -> Result<()> {
+    wanted: Wanted,
+) -> Result<u64> {
     let mut writer = BufWriter::new(rt.alloc(), io::writer(rt))?;
     let mut tally = Tally {
         counts: Vec::new(rt.alloc()),
+        known: 0,
+        causes: Causes::new(),
+        lines: 0,
     };
-    let mut text = Vec::new(rt.alloc());
     for _line in 0..u32::MAX {
-        text.clear();
-        match served.debugger.compare(&mut text) {
-            Ok(Compared::Agrees) => break,
-            Ok(Compared::Differs(reg)) => {
-                if tally.note(reg)? && writer.write_all(text.as_slice()).is_err() {
-                    bail!("{}", BenchFault::Write.name());
+        match served.debugger.compare() {
+            Compared::Agrees => break,
+            Compared::Differs(differing) => {
+                if tell(
+                    &mut writer,
+                    &mut served.debugger,
+                    &mut tally,
+                    differing,
+                    wanted,
+                )? {
+                    break;
                 }
             }
-            Ok(Compared::Stopped) | Err(_) => bail!("{}", BenchFault::Memory.name()),
+            Compared::Stopped(fault) => bail!("{}", fault.name()),
         }
     }
-    for count in tally.counts.iter() {
-        write_count(&mut writer, count)?;
+    if wanted.all {
+        for count in tally.counts.iter() {
+            write_count(&mut writer, count)?;
+        }
     }
     if writer.flush().is_err() {
         bail!("{}", BenchFault::Write.name());
     }
-    Ok(())
+    Ok(tally.known)
+}
+
+/// Shows a line whose answer differs, if it is wanted, and says whether the comparison ends there.
+fn tell<W: Write>(
+    writer: &mut W,
+    debugger: &mut Debugger,
+    tally: &mut Tally,
+    differing: Differing,
+    wanted: Wanted,
+) -> Result<bool> {
+    let is_known = tally.is_known(debugger, differing);
+    if is_known {
+        tally.known = tally.known.saturating_add(1);
+        if !wanted.known {
+            return Ok(false);
+        }
+    }
+    let is_first = tally.note(differing.reg)?;
+    let is_shown = is_first || (is_known && !wanted.all);
+    if is_shown && debugger.tell_differs(writer, differing, is_known).is_err() {
+        bail!("{}", BenchFault::Write.name());
+    }
+    Ok(!is_known && !wanted.all)
+}
+
+/// The value of a register that an answer has: 8 hexadecimal digits in its first line.
+fn value_of(answer: &[u8]) -> Option<u32> {
+    if answer.len() < DIGITS {
+        return None;
+    }
+    number_of(&answer[..DIGITS])
+}
+
+fn number_of(digits: &[u8]) -> Option<u32> {
+    let text = str::from_utf8(digits).ok()?;
+    u32::from_str_radix(text, 16).ok()
+}
+
+/// The value that is wanted, where a number is: of a digit that does not matter, the one that is there.
+fn wanted_value(expected: &[u8], answer: &[u8]) -> Option<u32> {
+    let digits = match expected {
+        [b'0', b'x' | b'X', digits @ ..] => digits,
+        digits => digits,
+    };
+    if answer.len() < DIGITS {
+        return None;
+    }
+    let mut wanted = [b'0'; DIGITS];
+    let last = digits.len().min(DIGITS);
+    for at in 0..last {
+        let digit = digits[digits.len() - 1 - at];
+        let place = DIGITS - 1 - at;
+        wanted[place] = if digit == b'-' { answer[place] } else { digit };
+    }
+    number_of(&wanted)
 }
 
 /// Writes how often a register's answers differed.

@@ -1,4 +1,7 @@
 //! The host's files.
+ghost use Rattle.std.specs.Prelude.{OnOk};
+ghost use Rattle.std.specs.Io.KnownBytes.{Appends};
+ghost use Rattle.em_debug.specs.Host.{Does};
 
 use em_debugger::{Disk, DiskFault};
 use em_text::{ReadFault, read_script, write_whole};
@@ -16,6 +19,8 @@ pub struct Host<'a, R: Files + AllocGlobal> {
 }
 
 impl<R: Files + AllocGlobal> Disk for Host<'_, R> {
+    ghost passes = { λ before deed after. Does R.File.remaining R.File.contents deed };
+
     fn read(&mut self, name: &[u8], text: &mut Vec<u8>) -> Result<(), DiskFault> {
         let mut file = match File::open(self.rt, text_of(name)?) {
             Ok(file) => file,
@@ -51,7 +56,12 @@ impl<R: Files + AllocGlobal> Disk for Host<'_, R> {
         let Ok(new) = format!(in self.rt.alloc(); "{name}{NEW}") else {
             return Err(DiskFault::Memory);
         };
-        self.create(new.as_str().as_bytes(), text)?;
+        match self.create(new.as_str().as_bytes(), text) {
+            Ok(()) => {}
+            // the file of that name is another one
+            Err(DiskFault::Exists) => return Err(DiskFault::Failed),
+            Err(fault) => return Err(fault),
+        }
         match fs::rename(self.rt, new.as_str(), name) {
             Ok(()) => Ok(()),
             Err(error) => {
@@ -63,7 +73,9 @@ impl<R: Files + AllocGlobal> Disk for Host<'_, R> {
 }
 
 /// Writes a text whole.
-fn write_all<W: Write>(file: &mut W, text: &[u8]) -> Result<(), DiskFault> {
+fn write_all<W: Write>(file: &mut W, text: &[u8]) -> Result<(), DiskFault>
+    ensures ok { OnOk result (Appends (W.contents file.old) (W.contents file.new) text.now) }
+{
     match write_whole(file, text) {
         Ok(()) => Ok(()),
         Err(_) => Err(DiskFault::Failed),

@@ -8,13 +8,15 @@ the lines of em_bench's language, who changed something, back and forward.
 Usage: em_debug [OPTIONS] [SCRIPT]
 
 Arguments:
-  [SCRIPT]  A script of em_bench's language, which is played to its end first
+  [SCRIPT]  A script of em_bench's language, which is played to its end first; with --batch, --compare or -x it may be -,
+            which is standard input
 
 Options:
       --step         Load the script, and perform none of its lines
       --batch        Print each line of the script with its number and its answer beside it, and end
-      --compare      Show the first line whose answer is another than it expects, and end; SCRIPT may be - here
+      --compare      Show the first line whose answer is another than it expects, for no known cause, and end
       --all          With --compare: show the first of each register, count them all, and end
+      --all-known    With --compare: show those that differ for a known cause, too
       --pcap <FILE>  Write the frames that were sent to this file at the end, as a capture
   -x <COMMANDS>      Take what is typed from this file
       --memory <N>   Octets of guest memory: a multiple of 4096 up to 16777216 [default: 65536]
@@ -25,8 +27,11 @@ Options:
 
 `help` shows what one may type. Ctrl-D ends.
 
-The status is 0, or 1 where an answer was another than its line expects, 2 where the command line was bad, 3 where the
-run stopped.
+Bad lines of the script, and of COMMANDS, are told on standard error. --batch and --compare end with a count: how many
+answers agreed and differed, how many lines were bad, how many warnings there are.
+
+The status is 0, or 1 where an answer was another than its line expects or a line was bad, 2 where the command line was
+bad, 3 where the run stopped.
 ";
 
 /// The name and the version.

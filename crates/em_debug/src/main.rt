@@ -11,23 +11,27 @@
 
 mod compare;
 mod disk;
+mod files;
 mod help;
+mod marks;
 mod session;
 mod words;
 
-use crate::compare::{compare_all, compare_first};
+use crate::compare::{Wanted, compare};
 use crate::disk::Host;
+use crate::files::{file_fault, read_script, tell_bad_lines, tell_marks};
 use crate::help::{HELP, VERSION};
+use crate::marks::Marks;
 use crate::session::Served;
 use crate::words::{Asked, Words, WordsRefused};
 use anyhow::{Result, bail};
 use em_console::{Answers, Console, LineConsole, prompt_for, serve};
 use em_debugger::{Debugger, Disk, Score};
 use em_ending::Ending;
+use em_input::{BUDGETS, MACS, SIZES};
 use em_journal::SettingsRefusal;
 use em_options::{Options, OptionsRefused, options};
 use em_script::BenchFault;
-use em_text::read_script;
 use std::fs::File;
 use std::io::{self, BufRead, BufReader, BufWriter, Write};
 use std::mem;
@@ -37,13 +41,10 @@ use std::rt::{Env, Files};
 /// What a line is asked for with at a terminal.
 const PROMPT: &[u8] = b"(em) ";
 
-/// The name of standard input as a script.
-const STANDARD_INPUT: &str = "-";
-
 /// The status of a session that came to its end, and of help.
 const WELL: u8 = 0;
 
-/// The status of a session in which an answer was another than its line expects.
+/// The status where an answer was another than its line expects, or a line was bad.
 const DIFFERED: u8 = 1;
 
 /// The status of a run that failed.
@@ -65,8 +66,14 @@ fn debug<R: Env + Files + Input + Print + Eprint + AllocGlobal>(rt: &R, prompt: 
             Ending::without_words(&error).status()
         }
         Err(WordsRefused::Memory) => failed(rt, BenchFault::Memory.name()),
-        Err(WordsRefused::NoCommands) => refused(rt, "-x wants a file"),
-        Err(WordsRefused::NoCapture) => refused(rt, "--pcap wants a file"),
+        Err(WordsRefused::NoFile(option)) => {
+            let _ = eprintln!(rt; "em_debug: {option} wants a file");
+            REFUSED
+        }
+        Err(WordsRefused::Twice(option)) => {
+            let _ = eprintln!(rt; "em_debug: {option} stands twice");
+            REFUSED
+        }
     }
 }
 
@@ -75,13 +82,16 @@ fn with_words<R: Files + Input + Print + Eprint + AllocGlobal>(
     words: &Words,
     prompt: &[u8],
 ) -> u8 {
-    match words.asked {
-        Asked::Help => told(rt, HELP),
-        Asked::Version => told(rt, VERSION),
-        Asked::Session => match options(rt.alloc(), words.options.as_slice()) {
-            Ok(options) => with_options(rt, &options, words, prompt),
-            Err(refused) => without_options(rt, &refused),
-        },
+    let asked = options(rt.alloc(), words.options.as_slice());
+    match (words.asked, asked) {
+        // what is wrong before a word that asks for help is told first
+        (_, Err(OptionsRefused::Parser(error))) => {
+            without_options(rt, &OptionsRefused::Parser(error))
+        }
+        (Asked::Help, _) => told(rt, HELP),
+        (Asked::Version, _) => told(rt, VERSION),
+        (Asked::Session, Ok(options)) => with_options(rt, &options, words, prompt),
+        (Asked::Session, Err(refused)) => without_options(rt, &refused),
     }
 }
 
@@ -113,7 +123,7 @@ fn without_options<R: Print + Eprint>(rt: &R, refused: &OptionsRefused) -> u8 {
     }
     let is_printed = match refused.told() {
         Some(error) => error.print(rt).is_ok(),
-        None => eprintln!(rt; "em_debug: {refused}").is_ok(),
+        None => eprintln!(rt; "em_debug: --mac: {MACS}").is_ok(),
     };
     ending.after_print(is_printed).status()
 }
@@ -125,60 +135,99 @@ fn with_options<R: Files + Input + Print + Eprint + AllocGlobal>(
     words: &Words,
     prompt: &[u8],
 ) -> u8 {
-    if words.batch && options.script.is_none() {
-        return refused(rt, "--batch wants a script");
+    if let Some(fault) = words.fault(options.script) {
+        return refused(rt, fault);
     }
-    if words.compare && options.script.is_none() {
-        return refused(rt, "--compare wants a script");
+    match file_fault(rt, words, options.script) {
+        Ok(None) => {}
+        Ok(Some(fault)) => return refused(rt, fault.as_str()),
+        Err(_) => return failed(rt, BenchFault::Memory.name()),
     }
     match Debugger::new(rt.alloc(), options.settings()) {
         Ok(debugger) => {
             let mut served = Served {
                 debugger,
                 disk: Host { rt },
+                marks: None,
             };
             let ended = with_capture(rt, &mut served, options.script, words, prompt);
             let score = served.debugger.score();
             // The system takes its memory back when the program ends, all at once.
             mem::forget(served);
             match ended {
-                Ok(()) => with_score(rt, score),
+                Ok(found) => with_score(rt, score, found, words),
                 Err(error) => {
                     let _ = eprintln!(rt; "em_debug: {error}");
                     FAILED
                 }
             }
         }
-        Err(refusal) => {
-            let _ = eprintln!(rt; "em_debug: {}", refusal.name());
-            match refusal {
-                SettingsRefusal::Size | SettingsRefusal::Budget => REFUSED,
-                SettingsRefusal::Memory => FAILED,
-            }
-        }
+        Err(refusal) => without_machine(rt, options, refusal),
     }
 }
 
-/// Prints how many answers were as their lines expect, if any expects one, and gives the status.
-fn with_score<R: Print>(rt: &R, score: Score) -> u8 {
-    if score.agreed == 0 && score.differed == 0 {
-        return WELL;
+/// Says why there is no machine, and gives the status.
+fn without_machine<R: Eprint>(rt: &R, options: &Options<'_>, refusal: SettingsRefusal) -> u8 {
+    match refusal {
+        SettingsRefusal::Size => {
+            let _ = eprintln!(rt; "em_debug: --memory {}: {SIZES}", options.memory);
+            REFUSED
+        }
+        SettingsRefusal::Budget => {
+            let _ = eprintln!(rt; "em_debug: --budget {}: {BUDGETS}", options.budget);
+            REFUSED
+        }
+        SettingsRefusal::Memory => failed(rt, refusal.name()),
     }
-    if println!(rt; "agreed {}, differed {}", score.agreed, score.differed).is_err() {
+}
+
+/// What a run found besides the score: how many lines were bad, and how many answers differed for a known cause.
+#[derive(Clone, Copy, Debug)]
+struct Found {
+    bad: u64,
+    known: u64,
+}
+
+/// Prints how many answers were as their lines expect, where any expects one or a whole script was played, and gives the
+/// status.
+fn with_score<R: Print>(rt: &R, score: Score, found: Found, words: &Words) -> u8 {
+    let Score {
+        agreed,
+        differed,
+        warnings,
+    } = score;
+    let Found { bad, known } = found;
+    let differed = differed.saturating_sub(known);
+    let is_told = if words.compare {
+        println!(rt;
+            "agreed {agreed}, known {known}, differed {differed}, bad {bad}, warnings {warnings}"
+        ).is_ok()
+    } else if words.batch {
+        println!(rt; "agreed {agreed}, differed {differed}, bad {bad}, warnings {warnings}").is_ok()
+    } else {
+        (agreed == 0 && differed == 0)
+            || println!(rt; "agreed {agreed}, differed {differed}").is_ok()
+    };
+    if !is_told {
         return FAILED;
     }
-    if score.differed == 0 { WELL } else { DIFFERED }
+    if differed == 0 && bad == 0 {
+        WELL
+    } else {
+        DIFFERED
+    }
 }
 
-/// Does what is wanted with the script, and then writes the frames that were sent, if they are wanted.
-fn with_capture<R: Files + Input + Print + AllocGlobal>(
+/// Does what is wanted with the script, and then writes the frames that were sent, if they are wanted. Gives how many lines
+/// were bad.
+fn with_capture<R: Files + Input + Print + Eprint + AllocGlobal>(
     rt: &R,
     served: &mut Served<Host<'_, R>>,
     script: Option<&str>,
     words: &Words,
     prompt: &[u8],
-) -> Result<()> {
-    with_session(rt, served, script, words, prompt)?;
+) -> Result<Found> {
+    let found = with_session(rt, served, script, words, prompt)?;
     if let Some(name) = &words.capture {
         let saved = served
             .debugger
@@ -187,61 +236,90 @@ fn with_capture<R: Files + Input + Print + AllocGlobal>(
             bail!("{name}: the capture cannot be written");
         }
     }
-    Ok(())
+    Ok(found)
 }
 
-/// Plays the script, opens where lines come from, and answers them.
-fn with_session<R: Files + Input + Print + AllocGlobal>(
+/// Plays the script, opens where lines come from, and answers them. Gives how many lines were bad.
+fn with_session<R: Files + Input + Print + Eprint + AllocGlobal>(
     rt: &R,
     served: &mut Served<Host<'_, R>>,
     script: Option<&str>,
     words: &Words,
     prompt: &[u8],
-) -> Result<()> {
+) -> Result<Found> {
     let mut text = Vec::new(rt.alloc());
+    let mut bad = 0;
     if let Some(name) = script {
+        let script = read_script(rt, name)?;
+        bad = tell_bad_lines(rt, name, script.as_slice())?;
         if words.batch || words.compare {
-            load(rt, served, name)?;
-            return match (words.batch, words.all) {
-                (true, _) => list(rt, served),
-                (false, true) => compare_all(rt, served),
-                (false, false) => compare_first(rt, served),
-            };
+            let known = play(rt, served, words, script.as_slice())?;
+            return Ok(Found { bad, known });
         }
-        begin(served, &mut text, name, words.step)?;
+        let begun = served
+            .debugger
+            .begin_text(&mut text, script.as_slice(), words.step);
+        if begun.is_err() {
+            bail!("{}", BenchFault::Memory.name());
+        }
     }
     match &words.commands {
         Some(path) => {
-            let file = File::open(rt, path.as_str())?;
-            let reader = BufReader::new(rt.alloc(), file)?;
-            with_reader(rt, served, reader, text.as_slice(), b"")
+            let wrong = with_commands(rt, served, path.as_str(), text.as_slice())?;
+            Ok(Found {
+                bad: bad.saturating_add(wrong),
+                known: 0,
+            })
         }
         None => {
             let reader = BufReader::new(rt.alloc(), rt.reader())?;
-            with_reader(rt, served, reader, text.as_slice(), prompt)
+            with_reader(rt, served, reader, text.as_slice(), prompt)?;
+            Ok(Found { bad, known: 0 })
         }
     }
 }
 
-/// Loads the script, which is not played: that of standard input, where its name is `-`.
-fn load<R: Input + AllocGlobal, D: Disk + Drop>(
+/// Plays a script to its end, and lists its lines or compares their answers. Gives how many differed for a known cause.
+fn play<R: Print + AllocGlobal, D: Disk + Drop>(
     rt: &R,
     served: &mut Served<D>,
-    name: &str,
-) -> Result<()> {
-    let mut text = Vec::new(rt.alloc());
-    if name == STANDARD_INPUT {
-        match read_script(rt.alloc(), &mut rt.reader()) {
-            Ok(script) => text = script,
-            Err(_) => bail!("{name}: the script cannot be read"),
-        }
-    } else if served.disk.read(name.as_bytes(), &mut text).is_err() {
-        bail!("{name}: the script cannot be read");
-    }
-    if let Err(fault) = served.debugger.add_lines(text.as_slice()) {
+    words: &Words,
+    script: &[u8],
+) -> Result<u64> {
+    if let Err(fault) = served.debugger.add_lines(script) {
         bail!("{}", fault.name());
     }
-    Ok(())
+    if words.batch {
+        list(rt, served)?;
+        return Ok(0);
+    }
+    let wanted = Wanted {
+        all: words.all,
+        known: words.all_known,
+    };
+    compare(rt, served, wanted)
+}
+
+/// Answers the lines of a file, and gives how many of them were wrong.
+fn with_commands<R: Files + Print + Eprint + AllocGlobal, D: Disk + Drop>(
+    rt: &R,
+    served: &mut Served<D>,
+    path: &str,
+    text: &[u8],
+) -> Result<u64> {
+    let Ok(file) = File::open(rt, path) else {
+        bail!("-x {path}: the file cannot be read");
+    };
+    let reader = BufReader::new(rt.alloc(), file)?;
+    let head = format!(in rt.alloc(); "em_debug: {path}")?;
+    served.marks = Some(Marks::new(rt.alloc(), head.into_bytes()));
+    let ended = with_reader(rt, served, reader, text, b"");
+    let wrong = match &served.marks {
+        Some(marks) => tell_marks(rt, marks),
+        None => 0,
+    };
+    ended?;
+    Ok(wrong)
 }
 
 /// Prints each line of the script with its answer beside it.
@@ -269,22 +347,5 @@ fn with_reader<R: Print + AllocGlobal, S: Answers, B: BufRead + Drop>(
     match serve(rt.alloc(), &mut console, served) {
         Ok(_) => Ok(()),
         Err(fault) => bail!("{}", fault.name()),
-    }
-}
-
-/// Loads the script, and plays it if that is wanted.
-fn begin<D: Disk + Drop>(
-    served: &mut Served<D>,
-    text: &mut Vec<u8>,
-    name: &str,
-    step: bool,
-) -> Result<()> {
-    let begun = served
-        .debugger
-        .begin(text, &mut served.disk, name.as_bytes(), step);
-    match begun {
-        Ok(true) => Ok(()),
-        Ok(false) => bail!("{name}: the script cannot be read"),
-        Err(_) => bail!("Memory"),
     }
 }

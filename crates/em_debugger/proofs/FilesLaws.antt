@@ -1,75 +1,114 @@
 -- Lines that are added one after another, and lines as a script.
-use Rattle.std.proofs.Common.{◌≡◌, ◌∙◌, ℕ, zero, suc, ◌+◌, ◌<◌, List, [], ◌∷◌, ◌++◌, length, codes, append-nil, append_assoc}
+use Rattle.std.proofs.Common.{◌≡◌, ◌∙◌, ℕ, zero, suc, ◌+◌, ◌<◌, ◌≤◌, List, [], ◌∷◌, ◌++◌, length, length-append, length-take, codes, append-nil, append_assoc}
 use Rattle.std.proofs.Common.{refl, sym, ap, subst, arith, take, map}
-use Rattle.std.specs.Prelude.{Option, Some, slice_get, unwrap_or}
+use Rattle.std.specs.Prelude.{IfErr, Option, Some, Result, Ok, Err, slice_get, unwrap_or}
 use Rattle.std.specs.Io.KnownBytes.{Appends}
 use Rattle.std.proofs.lemmas.List.Concat.{flat_map-append}
-use Rattle.std.proofs.lemmas.List.{map-append, nil_from_length}
-use Rattle.em_expect.specs.Expectation.{said_in}
+use Rattle.std.proofs.lemmas.List.{length-map, map-append, nil_from_length}
+use Rattle.em_debugger.specs.declared.disk.DiskFault.{DiskFault}
+use Rattle.em_debugger.specs.Deeper.{lines_here}
+use Rattle.em_debugger.specs.Disk.{Deed, Refused, Unmade, refused}
 use Rattle.em_debugger.specs.Expected.{AllExpect, Expects, wanted_in}
 use Rattle.em_text.specs.Lines.{lines_of}
 use Rattle.em_text.proofs.WritingLemmas.{Appends-more}
 use Rattle.em_text.proofs.LinesLemmas.{lines_of-nil}
 use Rattle.em_tape.specs.Tape.{Tape}
 use Rattle.em_tape.proofs.TapeLaws.{take-more}
-use Rattle.em_debugger.specs.Files.{script_of}
-use Rattle.em_debugger.specs.Place.{text_of}
+use Rattle.em_debugger.specs.Files.{SomeAdded, played_in, script_of}
+use Rattle.em_debugger.specs.Place.{line_here, text_of}
+use Rattle.em_debugger.specs.Told.{Stay}
 
--- the lines of a text were added as far as this rest of it
-pub record AddedSo (first now : Tape) (text rest : List ℕ) : Type 0 where
+-- the lines of a text were added as far as this rest of it, and what they expect was kept
+pub record AddedSo (first now : Tape) (held holds : List (List ℕ)) (text rest : List ℕ) : Type 0 where
   pub lines : List (List ℕ)
-  pub tape : now ≡ record first { lines = first.lines ++ map said_in lines }
+  pub tape : now ≡ record first { lines = first.lines ++ map played_in lines }
   pub all : lines_of text ≡ lines ++ lines_of rest
+  pub expect : AllExpect (length first.lines + 1) lines held holds
 
 abbrev with_lines : Tape → List (List ℕ) → Tape
 with_lines tape lines = record tape { lines = lines }
 
-pub AddedSo-none : (first : Tape) (text : List ℕ) → AddedSo first first text text
-AddedSo-none first text = record {
+pub AddedSo-none : (first : Tape) (held : List (List ℕ)) (text : List ℕ) → AddedSo first first held held text text
+AddedSo-none first held text = record {
   lines = [];
   tape = ap (with_lines first) (sym (append-nil first.lines));
   all = refl;
+  expect = refl;
 }
 
+-- what one line more expects
+AllExpect-more : (number : ℕ) (lines : List (List ℕ)) (line : List ℕ) (old now new : List (List ℕ))
+    → AllExpect number lines old now → Expects (number + length lines) (wanted_in line) now new
+    → AllExpect number (lines ++ line ∷ []) old new
+AllExpect-more number [] line old now new same expects =
+    let here : number + 0 ≡ number = omega arith in (
+      new,
+      subst (λ n. Expects n (wanted_in line) old new) here (subst (λ l. Expects (number + 0) (wanted_in line) l new)
+          same expects),
+      refl,
+    )
+AllExpect-more number (first ∷ lines) line old now new h expects =
+    let here : number + suc (length lines) ≡ number + 1 + length lines = omega arith in (
+      h.0,
+      h.1,
+      AllExpect-more (number + 1) lines line h.0 now new h.2
+          (subst (λ n. Expects n (wanted_in line) now new) here expects),
+    )
+
 -- one line more
-pub AddedSo-more : (first now next : Tape) (text rest line behind : List ℕ) → AddedSo first now text rest
-    → lines_of rest ≡ line ∷ lines_of behind → next ≡ record now { lines = now.lines ++ said_in line ∷ [] }
-    → AddedSo first next text behind
-AddedSo-more first now next text rest line behind h is added = record {
-  lines = h.lines ++ line ∷ [];
-  tape = added ∙ ap (λ (t : Tape). with_lines t (t.lines ++ said_in line ∷ [])) h.tape
-      ∙ ap (with_lines first) (append_assoc first.lines (map said_in h.lines) (said_in line ∷ [])
-      ∙ ap (λ l. first.lines ++ l) (sym (map-append said_in h.lines (line ∷ []))));
-  all = h.all ∙ ap (λ l. h.lines ++ l) is ∙ sym (append_assoc h.lines (line ∷ []) (lines_of behind));
-}
+pub AddedSo-more : (first now next : Tape) (held holds then : List (List ℕ)) (text rest line behind : List ℕ)
+    → AddedSo first now held holds text rest → lines_of rest ≡ line ∷ lines_of behind
+    → next ≡ record now { lines = now.lines ++ played_in line ∷ [] }
+    → Expects (length now.lines + 1) (wanted_in line) holds then → AddedSo first next held then text behind
+AddedSo-more first now next held holds then text rest line behind h is added expects =
+    let long : length now.lines ≡ length first.lines + length h.lines =
+    ap (λ (t : Tape). length t.lines) h.tape ∙ length-append first.lines (map played_in h.lines)
+    ∙ ap (λ n. length first.lines + n) (length-map h.lines played_in) in
+    let number : length now.lines + 1 ≡ length first.lines + 1 + length h.lines = omega (arith, long) in
+    record {
+      lines = h.lines ++ line ∷ [];
+      tape = added ∙ ap (λ (t : Tape). with_lines t (t.lines ++ played_in line ∷ [])) h.tape
+          ∙ ap (with_lines first) (append_assoc first.lines (map played_in h.lines) (played_in line ∷ [])
+          ∙ ap (λ l. first.lines ++ l) (sym (map-append played_in h.lines (line ∷ []))));
+      all = h.all ∙ ap (λ l. h.lines ++ l) is ∙ sym (append_assoc h.lines (line ∷ []) (lines_of behind));
+      expect = AllExpect-more (length first.lines + 1) h.lines line held holds then h.expect
+          (subst (λ n. Expects n (wanted_in line) holds then) number expects);
+    }
 
 pub none_left : (rest : List ℕ) → length rest ≡ 0 → lines_of rest ≡ []
 none_left rest none = ap lines_of (nil_from_length rest none) ∙ lines_of-nil
 
 -- all lines were added, where nothing is left
-pub AddedSo-all : (first now : Tape) (text rest : List ℕ) → AddedSo first now text rest → length rest ≡ 0
-    → now ≡ record first { lines = first.lines ++ map said_in (lines_of text) }
-AddedSo-all first now text rest h none =
-    let all : lines_of text ≡ h.lines = h.all ∙ ap (λ l. h.lines ++ l) (none_left rest none) ∙ append-nil h.lines in
-    h.tape ∙ ap (λ l. with_lines first (first.lines ++ map said_in l)) (sym all)
+added_all : {first now : Tape} {held holds : List (List ℕ)} {text rest : List ℕ}
+    (h : AddedSo first now held holds text rest) → length rest ≡ 0 → h.lines ≡ lines_of text
+added_all {rest = rest} h none =
+    sym (h.all ∙ ap (λ l. h.lines ++ l) (none_left rest none) ∙ append-nil h.lines)
 
--- which answers the lines of a text expect, as far as this rest of it
-abbrev pub ExpectedSo : ℕ → ℕ → List (List ℕ) → List (List ℕ) → List ℕ → List ℕ → Type 0
-ExpectedSo first number old now text rest =
-    (last : List (List ℕ)) → AllExpect number (lines_of rest) now last → AllExpect first (lines_of text) old last
+pub AddedSo-all : (first now : Tape) (held holds : List (List ℕ)) (text rest : List ℕ)
+    → AddedSo first now held holds text rest → length rest ≡ 0
+    → now ≡ record first { lines = first.lines ++ map played_in (lines_of text) }
+AddedSo-all first now held holds text rest h none =
+    h.tape ∙ ap (λ l. with_lines first (first.lines ++ map played_in l)) (added_all h none)
 
--- one line more
-pub ExpectedSo-more : (first number next : ℕ) (old now new : List (List ℕ)) (text rest line behind : List ℕ)
-    → ExpectedSo first number old now text rest → lines_of rest ≡ line ∷ lines_of behind
-    → Expects number (wanted_in line) now new → next ≡ number + 1 → ExpectedSo first next old new text behind
-ExpectedSo-more first number next old now new text rest line behind h is expects one = λ last all.
-    h last (subst (λ l. AllExpect number l now last) (sym is)
-    (new, expects, subst (λ n. AllExpect n (lines_of behind) new last) one all))
+pub AddedSo-expect : (first now : Tape) (held holds : List (List ℕ)) (text rest : List ℕ)
+    → AddedSo first now held holds text rest → length rest ≡ 0
+    → AllExpect (length first.lines + 1) (lines_of text) held holds
+AddedSo-expect first now held holds text rest h none =
+    subst (λ l. AllExpect (length first.lines + 1) l held holds) (added_all h none) h.expect
 
-pub ExpectedSo-all : (first number : ℕ) (old now : List (List ℕ)) (text rest : List ℕ)
-    → ExpectedSo first number old now text rest → length rest ≡ 0 → AllExpect first (lines_of text) old now
-ExpectedSo-all first number old now text rest h none =
-    h now (subst (λ l. AllExpect number l now now) (sym (none_left rest none)) refl)
+-- no more were added
+pub AddedSo-some : (first now new : Tape) (held holds then : List (List ℕ)) (text rest : List ℕ)
+    → AddedSo first now held holds text rest → new ≡ now → Stay holds then
+    → SomeAdded first new held then (lines_of text)
+AddedSo-some first now new held holds then text rest h same stay = record {
+  added = h.lines;
+  others = lines_of rest;
+  all = h.all;
+  tape = same ∙ h.tape;
+  expected = holds;
+  expect = h.expect;
+  stay = stay;
+}
 
 -- ---- a script
 
@@ -100,3 +139,15 @@ pub wrote_more : (tape : Tape) (k : ℕ) (old now next : Option (List ℕ)) → 
 wrote_more tape k old now next lt front line =
     Appends-more old now next (script_of (take k tape.lines)) (text_of (k + 1) tape ++ codes "\n")
     (script_of (take (k + 1) tape.lines)) front line (script_more tape k lt)
+
+-- the lines up to the place are as many as the number of its line says
+pub here_long : (tape : Tape) (n : ℕ) → n ≡ line_here tape → n ≤ length tape.lines → n ≡ length (lines_here tape)
+here_long tape n is within =
+    let some = length-take (line_here tape) tape.lines in omega (arith, is, some)
+
+-- ---- a file that was not made
+
+pub unmade : {T : Type 0} (did : Option Deed → Type 0) (name : List ℕ) (result : Result T DiskFault)
+    → IfErr result (λ fault. did (Some (Refused name fault))) → IfErr result (Unmade did name)
+unmade did name (Ok x) h = tt
+unmade did name (Err fault) h = refused h

@@ -1,17 +1,22 @@
 -- The lines that did something, from behind one up to another.
 use Rattle.std.proofs.Common.{◌≡◌, ℕ, zero, suc, ◌+◌, ◌-◌, ◌<◌, ◌≤◌, Bool, true, false, cond, List, [], ◌∷◌, ◌++◌}
-use Rattle.std.proofs.Common.{length, take, drop, Option}
+use Rattle.std.proofs.Common.{length, take, drop, Option, Result, Ok, Err, subst}
 use Rattle.std.proofs.Common.{refl, sym, ap, ◌∙◌, arith, inl, inr, append-nil, length-append, zero-add, add-zero}
 use Rattle.std.proofs.lemmas.Bool.{cases_lt}
 use Rattle.std.proofs.lemmas.List.Elements.{filter-append}
 use Rattle.std.proofs.lemmas.List.Concat.{flat_map-append}
-use Rattle.std.specs.Prelude.{filter, ◌⊎◌}
+use Rattle.std.specs.Prelude.{OnOk, filter, ◌⊎◌}
 use Rattle.std.specs.List.{flat_map, range_with_len}
 use Rattle.std.specs.Io.KnownBytes.{Appends}
-use Rattle.em_text.specs.Writer.{WritesPart}
-use Rattle.em_text.proofs.WritingLemmas.{WritesPart-front, WritesPart-more}
+use Rattle.em_text.specs.Writer.{Writes, WritesPart}
+use Rattle.em_text.proofs.WritingLemmas.{Appends-more, Appends-same, WritesPart-front, WritesPart-more}
+use Rattle.em_journal.specs.View.{states}
+use Rattle.em_trail.specs.Trail.{TellsAt}
+use Rattle.em_trail.specs.declared.note.Note.{Note}
+use Rattle.em_tape.specs.Tape.{Tape, event_of}
 use Rattle.em_named.specs.declared.did.Did.{Did}
 use Rattle.em_debugger.specs.declared.debugger.Debugger.{Debugger}
+use Rattle.em_debugger.specs.History.{Opens, ShowsLines, ahead_text, opened, opened_text, opens_more, opens_none, so_far_text}
 use Rattle.em_debugger.specs.History.{did_something, newest_line, lines_between, last_of, line_text, lines_text}
 
 -- ---- the newest line
@@ -182,3 +187,55 @@ WritesPart-line a b c d here before k last le lt p q =
     (WritesPart-more (lines_text d here (lines_between noted before k)) p q (lines_text-next d here before k le))
     (ap (lines_text d here) (between_cut noted before (k + 1) last (omega arith) (omega arith))
     ∙ flat_map-append (line_text d here) (lines_between noted before (k + 1)) (lines_between noted (k + 1) last))
+
+-- ---- the events of a call
+
+-- one of them was written
+pub opened_at : {T E : Type 0} (old new : Option (List ℕ)) (result : Result T E) (tape : Tape) (here back event : ℕ)
+    (note : Note) → TellsAt (states tape.session.machine) back note → event ≡ event_of tape - back
+    → Writes old new result (opened_text tape here event note)
+    → OnOk result ((one : Note) × TellsAt (states tape.session.machine) back one
+    × Appends old new (opened_text tape here (event_of tape - back) one))
+opened_at old new (Ok x) tape here back event note tells is h =
+    (note, tells, subst (λ n. Appends old new (opened_text tape here n note)) is h)
+opened_at old new (Err x) tape here back event note tells is h = tt
+
+-- so many of them were written, as far as this one
+pub record OpensSo (tape : Tape) (here from to : ℕ) (old new : Option (List ℕ)) : Type 0 where
+  pub text : List ℕ
+  pub written : Appends old new text
+  pub opens : Opens tape here from to text
+
+pub OpensSo-none : (tape : Tape) (here from : ℕ) (old : Option (List ℕ)) → OpensSo tape here from from old old
+OpensSo-none tape here from old = record { text = []; written = Appends-same old; opens = opens_none }
+
+pub OpensSo-more : (tape : Tape) (here from to : ℕ) (old now new : Option (List ℕ)) (note : Note) → 0 < to
+    → OpensSo tape here from to old now → TellsAt (states tape.session.machine) (to - 1) note
+    → Appends now new (opened_text tape here (event_of tape - (to - 1)) note) → OpensSo tape here from (to - 1) old new
+OpensSo-more tape here from zero old now new note some h tells one = absurd (omega arith)
+OpensSo-more tape here from (suc k) old now new note some h tells one =
+    let same : suc k - 1 ≡ k = omega arith in
+    subst (λ n. OpensSo tape here from n old new) (sym same) (record {
+      text = h.text ++ opened_text tape here (event_of tape - k) note;
+      written = Appends-more old now new h.text (opened_text tape here (event_of tape - k) note) _ h.written
+          (subst (λ n. Appends now new (opened_text tape here (event_of tape - n) note)) same one) refl;
+      opens = opens_more k note h.text h.opens (subst (λ n. TellsAt (states tape.session.machine) n note) same tells);
+    })
+
+pub OpensSo-end : (tape : Tape) (here from to : ℕ) (old new : Option (List ℕ)) → to ≡ 0
+    → OpensSo tape here from to old new → (text : List ℕ) × Appends old new text × Opens tape here from 0 text
+OpensSo-end tape here from to old new is h = (h.text, h.written, subst (λ n. Opens tape here from n h.text) is h.opens)
+
+-- the lines, and the events of a call among them
+pub around_shown : {T E : Type 0} (first a b last : Option (List ℕ)) (result : Result T E) (d : Debugger)
+    (most here events : ℕ) → events ≡ opened most d.tape here → Appends first a (so_far_text d most here)
+    → ((text : List ℕ) × Appends a b text × Opens d.tape here events 0 text)
+    → Writes b last result (ahead_text d most here)
+    → OnOk result ((text : List ℕ) × Appends first last text × ShowsLines d most here text)
+around_shown first a b last (Ok x) d most here events is front events_shown ahead = (
+  so_far_text d most here ++ (events_shown.0 ++ ahead_text d most here),
+  Appends-more first a last (so_far_text d most here) (events_shown.0 ++ ahead_text d most here) _ front
+      (Appends-more a b last events_shown.0 (ahead_text d most here) _ events_shown.1 ahead refl) refl,
+  record { events = events_shown.0; opens = subst (λ n. Opens d.tape here n 0 events_shown.0) is events_shown.2; told = refl },
+)
+around_shown first a b last (Err x) d most here events is front events_shown ahead = tt

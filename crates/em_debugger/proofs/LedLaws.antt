@@ -46,6 +46,7 @@ found_led tape watch budget back s found holds answered first h =
       name = led.0;
       has = led.1;
       number = h.event ∙ ap (number_in tape.did) led.1.at;
+      note = h.note;
       before = seen-in watch v (suc k) led.1.led.before found.difference.before led.1.led.led_from before;
       after = seen-in watch v k led.1.led.after found.difference.after led.1.led.led_to h.after;
       differs = λ same. h.next.another (sym (h.next.since k (omega (arith, h.next.older)) (omega (arith, h.next.older)))

@@ -1,3 +1,4 @@
+pub mod AccessedLaws
 pub mod AddingLaws
 pub mod AnsweringLaws
 pub mod DeeperLaws
@@ -15,6 +16,8 @@ pub mod OffersLaws
 pub mod PerformingLaws
 pub mod PlaceLaws
 pub mod PlayedLaws
+pub mod RefusedLaws
+pub mod SavedLaws
 pub mod StepsLaws
 pub mod StopsLaws
 pub mod TextLaws

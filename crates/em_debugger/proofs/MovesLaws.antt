@@ -2,27 +2,27 @@
 use Rattle.std.proofs.Common.{◌≡◌, ℕ, ◌-◌, ◌<◌, ◌++◌, ltb, List, Option, Result, length, true, subst, sym, ap, ◌∙◌}
 use Rattle.std.specs.Prelude.{min}
 use Rattle.em_text.specs.Writer.{Writes}
-use Rattle.em_debugger.specs.declared.debugger.Debugger.{Debugger}
+use Rattle.em_trail.specs.declared.note.Note.{Note}
 use Rattle.em_named.specs.declared.did.Did.{Did}
 use Rattle.em_tape.specs.Tape.{Tape, event_at, event_of}
 use Rattle.em_debugger.specs.Moves.{back_text, budget_text, taken, taken_text, Goes, IsBehind}
 use Rattle.em_debugger.proofs.TextLaws.{Writes-some}
 
 -- what is said of the events that were taken, and of why they are no more
-abbrev pub more_text : Debugger → ℕ → ℕ → ℕ → ℕ → List ℕ
-more_text d most n last newest = taken_text d n last ++ budget_text (ltb n most) newest
+abbrev pub more_text : Tape → ℕ → ℕ → ℕ → Option Note → ℕ → List ℕ
+more_text now most n last note newest = taken_text now n last note ++ budget_text (ltb n most) newest
 
 -- by what is known of them
-pub Writes-back : {T E : Type 0} (old new : Option (List ℕ)) (result : Result T E) (d : Debugger) (tape : Tape)
-    (most n last newest : ℕ) → n ≡ taken most tape → last ≡ event_at (taken most tape - 1) tape
-    → newest ≡ event_of d.tape → 0 < event_of tape
-    → Writes old new result (more_text d most n last newest)
-    → Writes old new result (back_text most tape d)
-Writes-back old new result d tape most n last newest p q r some h =
+pub Writes-back : {T E : Type 0} (old new : Option (List ℕ)) (result : Result T E) (now tape : Tape)
+    (most n last newest : ℕ) (note : Option Note) → n ≡ taken most tape → last ≡ event_at (taken most tape - 1) tape
+    → newest ≡ event_of now → 0 < event_of tape
+    → Writes old new result (more_text now most n last note newest)
+    → Writes old new result (back_text most tape now note)
+Writes-back old new result now tape most n last newest note p q r some h =
     Writes-some old new result (event_of tape) _ _ some
-    (subst (λ x. Writes old new result (more_text d most (taken most tape) x (event_of d.tape))) q
-    (subst (λ x. Writes old new result (more_text d most (taken most tape) last x)) r
-    (subst (λ x. Writes old new result (more_text d most x last newest)) p h)))
+    (subst (λ x. Writes old new result (more_text now most (taken most tape) x note (event_of now))) q
+    (subst (λ x. Writes old new result (more_text now most (taken most tape) last note x)) r
+    (subst (λ x. Writes old new result (more_text now most x last note newest)) p h)))
 
 -- before a line
 pub goes_behind : (old new : Tape) (before lines : ℕ) → lines ≡ before

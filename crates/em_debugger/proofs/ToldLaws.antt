@@ -1,11 +1,13 @@
 -- What is kept of answers.
-use Rattle.std.proofs.Common.{◌≡◌, ◌∙◌, ◌<◌, ℕ, zero, suc, List, [], ◌∷◌, ◌++◌, length, take, get_or, min, refl, sym, ap, arith}
-use Rattle.std.proofs.lemmas.List.{take_min}
-use Rattle.std.specs.Prelude.{◌≢◌, slice_get, slice_set, unwrap_or}
+use Rattle.std.proofs.Common.{◌≡◌, ◌⊎◌, ◌∙◌, ◌+◌, ◌<◌, ◌≤◌, ℕ, zero, suc, List, [], ◌∷◌, ◌++◌, length, take, drop, get_or, min, refl, sym, ap, arith, inl, inr}
+use Rattle.std.proofs.lemmas.Bool.{cases_lt, le-ltb, lt-ltb}
+use Rattle.std.proofs.lemmas.List.{drop-map, map-append, take-map, take_min}
+use Rattle.std.specs.Prelude.{◌≢◌, insert, remove, slice_get, slice_set, unwrap_or}
 use Rattle.smallvec.specs.SmallVec.{SmallVec}
 use Rattle.em_tape.specs.Texts.{texts}
 use Rattle.em_text.specs.Lines.{lines_of}
-use Rattle.em_debugger.specs.Told.{kept_of, told_of}
+use Rattle.em_debugger.specs.Expected.{Expects}
+use Rattle.em_debugger.specs.Told.{Puts, Stay, closed, kept_of, moved, told_of}
 
 -- an answer of no octets behind the last changes nothing
 found-pushed : (xs : List (SmallVec ℕ)) (k : ℕ) (v : SmallVec ℕ) → v.items ≡ []
@@ -55,3 +57,64 @@ pub told-others : (xs : List (SmallVec ℕ)) (k n i : ℕ) (v : SmallVec ℕ) �
     → told_of k (texts (slice_set xs i v)) ≡ told_of k (texts xs)
 told-others xs zero n i v e ne = refl
 told-others xs (suc k) n i v e ne = set-other xs k i v (λ same. ne (ap suc same ∙ sym e))
+
+-- a text is put into the place that was made for it
+pub puts_set : (items new : List (SmallVec ℕ)) (old : List (List ℕ)) (number before : ℕ) (kept : SmallVec ℕ)
+    (text : List ℕ) → Stay old (texts items) → number ≡ before + 1 → number ≤ length items → kept.items ≡ text
+    → new ≡ slice_set items before kept → Puts number text old (texts new)
+puts_set items new old number before kept text stay is within holds e =
+    let one : number ≡ suc before = omega (arith, is) in
+    let there : before < length items = omega (arith, is, within) in
+    record {
+      this = ap (λ l. told_of number (texts l)) e ∙ told-set items number before kept one there ∙ holds;
+      others = λ n ne. ap (λ l. told_of n (texts l)) e ∙ told-others items n number before kept one ne ∙ stay n;
+    }
+
+-- what a line expects, that expects something, and that expects nothing
+pub expects_put : (number : ℕ) (answer : List ℕ) (old new : List (List ℕ)) → length answer ≢ 0
+    → Puts number answer old new → Expects number answer old new
+expects_put number [] old new some puts = absurd (some refl)
+expects_put number (octet ∷ octets) old new some puts = puts
+
+pub expects_none : (number : ℕ) (answer : List ℕ) (old : List (List ℕ)) → length answer ≡ 0
+    → Expects number answer old old
+expects_none number [] old none = refl
+expects_none number (octet ∷ octets) old none = absurd (omega arith)
+
+-- ---- a way that is made for a line, and taken back
+
+-- a text that is put among others, and taken away again
+remove-insert : (before : ℕ) (held : List (List ℕ)) (text : List ℕ) → before ≤ length held
+    → remove (insert held before text) before ≡ held
+remove-insert zero held text le = refl
+remove-insert (suc k) [] text le = absurd (omega arith)
+remove-insert (suc k) (x ∷ xs) text le = ap (λ l. x ∷ l) (remove-insert k xs text (omega arith))
+
+insert-within : (before : ℕ) (held : List (List ℕ)) (text : List ℕ) → before ≤ length held
+    → before < length (insert held before text)
+insert-within zero held text le = omega arith
+insert-within (suc k) [] text le = absurd (omega arith)
+insert-within (suc k) (x ∷ xs) text le =
+    let within = insert-within k xs text (omega arith) in omega arith
+
+closed-moved-by : (lines : ℕ) (held : List (List ℕ)) → (lines < length held) ⊎ (length held ≤ lines)
+    → closed lines (moved lines held) ≡ held
+closed-moved-by lines held (inl lt) =
+    let put = insert held lines [] in
+    let goes : moved lines held ≡ put = rw (lt-ltb lines (length held) lt) refl in
+    let taken : closed lines put ≡ remove put lines =
+    rw (lt-ltb lines (length put) (insert-within lines held [] (omega (arith, lt)))) refl in
+    ap (closed lines) goes ∙ taken ∙ remove-insert lines held [] (omega (arith, lt))
+closed-moved-by lines held (inr le) =
+    let stays : moved lines held ≡ held = rw (le-ltb lines (length held) le) refl in
+    ap (closed lines) stays ∙ rw (le-ltb lines (length held) le) refl
+
+pub closed-moved : (lines : ℕ) (held : List (List ℕ)) → closed lines (moved lines held) ≡ held
+closed-moved lines held = closed-moved-by lines held (cases_lt lines (length held))
+
+pub texts-remove : (all : List (SmallVec ℕ)) (index : ℕ)
+    → texts (remove all index) ≡ remove (texts all) index
+texts-remove all index =
+    map-append (λ (v : SmallVec ℕ). v.items) (take index all) (drop (suc index) all)
+    ∙ ap (λ l. l ++ texts (drop (suc index) all)) (sym (take-map (λ (v : SmallVec ℕ). v.items) index all))
+    ∙ ap (λ l. take index (texts all) ++ l) (sym (drop-map (λ (v : SmallVec ℕ). v.items) (suc index) all))

@@ -9,17 +9,21 @@ use Rattle.em_expect.specs.Expectation.{expected_in, said_in}
 use Rattle.em_prompt.specs.BenchLine.{BenchLine}
 use Rattle.em_prompt.specs.Help.{line_of, help_text}
 use Rattle.em_prompt.specs.Prompt.{Wrong, prompted}
-use Rattle.em_prompt.specs.Typed.{Typed, line, look, who, who_again, back, back_to, forward, forward_to, goto}
-use Rattle.em_prompt.specs.Typed.{next, run, run_until, load, save, save_over, history, effect, ring, frame, memory}
-use Rattle.em_prompt.specs.Typed.{why, warnings, auto, arrive_next, arrive_all, pcap, pcap_over, help, quit}
+use Rattle.em_prompt.specs.Scripted.{bench_in}
+use Rattle.em_prompt.specs.Typed.{Typed, line, show, who, who_again, back, back_to, forward, forward_to, goto}
+use Rattle.em_prompt.specs.Typed.{next, run, run_until, load, save, save_over, warnings, auto, arrive_next, arrive_all}
+use Rattle.em_prompt.specs.Typed.{pcap, pcap_over, quit}
+use Rattle.em_prompt.specs.declared.typed.Shown.{Shown}
+use Rattle.em_prompt.specs.declared.typed.Shown.TheVariants.{Look, History, Effect, Ring, Frame, Memory, Why, Help}
 use Rattle.em_prompt.specs.WrongText.{wrong_text}
 use Rattle.em_debugger.specs.declared.debugger.Debugger.{Debugger}
+use Rattle.em_debugger.specs.Disk.{Deed}
 use Rattle.em_debugger.specs.Effect.{AnswersEffect, asked_event}
 use Rattle.em_debugger.specs.Expected.{wanted_in}
 use Rattle.em_debugger.specs.Engines.{engines_are, steps_of}
 use Rattle.em_debugger.specs.Files.{Saves}
 use Rattle.em_debugger.specs.Offers.{ArrivesAll, ArrivesNext, Loads, SavesFrames}
-use Rattle.em_debugger.specs.History.{history_text}
+use Rattle.em_debugger.specs.History.{ShowsHistory}
 use Rattle.em_debugger.specs.Moves.{GoesBack, GoesBeforeLine, GoesToEvent, forward_by}
 use Rattle.em_debugger.specs.Next.{TellsNext}
 use Rattle.em_debugger.specs.Performing.{AnswersTyped}
@@ -34,42 +38,48 @@ warnings_are true = codes "warnings are on\n"
 warnings_are false = codes "warnings are off\n"
 
 -- what is shown of a debugger
-abbrev pub Shows : Debugger → Typed → List ℕ → Type 0
-Shows d (look reg) text = text ≡ register_text d.tape.session.machine.present reg
-Shows d (history most) text = text ≡ history_text d most
-Shows d (effect event) text = AnswersEffect d (asked_event event d.tape) text
-Shows d (ring side) text = text ≡ ring_text d.tape.session.machine.present side
-Shows d (frame None) text = text ≡ waiting_text d.tape.session.machine.present.fifo
-Shows d (frame (Some index)) text = text ≡ sent_text d.tape.session.machine.present.wire index
-Shows d (memory addr len) text = text ≡ memory_text d.tape.session.machine.present addr len
-Shows d why text = TellsWhy d text
-Shows d (help (Some command)) text = text ≡ line_of command
-Shows d (help None) text = text ≡ help_text
-Shows d _ text = text ≡ []
+abbrev pub Shows : Debugger → Shown → List ℕ → Type 0
+Shows d (Look reg) text = text ≡ register_text d.tape.session.machine.present reg
+Shows d (History most) text = ShowsHistory d most text
+Shows d (Effect event) text = AnswersEffect d (asked_event event d.tape) text
+Shows d (Ring side) text = text ≡ ring_text d.tape.session.machine.present side
+Shows d (Frame None) text = text ≡ waiting_text d.tape.session.machine.present.fifo
+Shows d (Frame (Some index)) text = text ≡ sent_text d.tape.session.machine.present.wire index
+Shows d (Memory addr len) text = text ≡ memory_text d.tape.session.machine.present addr len
+Shows d Why text = TellsWhy d text
+Shows d (Help (Some command)) text = text ≡ line_of command
+Shows d (Help None) text = text ≡ help_text
 
--- By what was typed, what it made of the debugger, and what is said. A command that only looks changes nothing.
-abbrev pub Obeys : Debugger → Debugger → Typed → List ℕ → Type 0
-Obeys old new (line typed) text = AnswersTyped old new typed [] text
-Obeys old new (next count) text = TellsNext count old new text
-Obeys old new run text = RunsAll old new text
-Obeys old new (run_until until) text = AnswersRun old new until text
-Obeys old new (back count) text = GoesBack count old new text
-Obeys old new (back_to number) text = GoesBeforeLine number old new text
-Obeys old new (forward_to number) text = GoesBeforeLine number old new text
-Obeys old new (forward events) text = GoesToEvent (forward_by events old.tape) old new text
-Obeys old new (goto event) text = GoesToEvent event old new text
-Obeys old new (who watch which) text = AnswersWho old new watch which text
-Obeys old new who_again text = TellsAgain old new old.asked text
-Obeys old new (load name) text = Loads old new name text
-Obeys old new (save name) text = (new ≡ old) × Saves old name text
-Obeys old new (save_over name) text = (new ≡ old) × Saves old name text
-Obeys old new (warnings on) text = (new ≡ record old { warns = on }) × (text ≡ warnings_are on)
-Obeys old new (auto on) text = (new ≡ record old { engines = steps_of on }) × (text ≡ engines_are on)
-Obeys old new arrive_next text = ArrivesNext old new text
-Obeys old new arrive_all text = ArrivesAll old new text
-Obeys old new (pcap name) text = (new ≡ old) × SavesFrames old name text
-Obeys old new (pcap_over name) text = (new ≡ old) × SavesFrames old name text
-Obeys old new typed text = (new ≡ old) × Shows old typed text
+-- By what was typed without a file's name, what it made of the debugger, and what is said. A command that only looks
+-- changes nothing.
+abbrev pub ObeysAlone : Debugger → Debugger → Typed → List ℕ → Type 0
+ObeysAlone old new (line typed) text = AnswersTyped old new typed [] text
+ObeysAlone old new (next count) text = TellsNext count old new text
+ObeysAlone old new run text = RunsAll old new text
+ObeysAlone old new (run_until until) text = AnswersRun old new until text
+ObeysAlone old new (back count) text = GoesBack count old new text
+ObeysAlone old new (back_to number) text = GoesBeforeLine number old new text
+ObeysAlone old new (forward_to number) text = GoesBeforeLine number old new text
+ObeysAlone old new (forward events) text = GoesToEvent (forward_by events old.tape) old new text
+ObeysAlone old new (goto event) text = GoesToEvent event old new text
+ObeysAlone old new (who watch which) text = AnswersWho old new watch which text
+ObeysAlone old new who_again text = TellsAgain old new old.asked text
+ObeysAlone old new (warnings on) text = (new ≡ record old { warns = on }) × (text ≡ warnings_are on)
+ObeysAlone old new (auto on) text = (new ≡ record old { engines = steps_of on }) × (text ≡ engines_are on)
+ObeysAlone old new arrive_next text = ArrivesNext old new text
+ObeysAlone old new arrive_all text = ArrivesAll old new text
+ObeysAlone old new (show shown) text = (new ≡ old) × Shows old shown text
+ObeysAlone old new _ text = (new ≡ old) × (text ≡ [])
+
+-- By what was typed, what was done at the disk, what it made of the debugger, and what is said. At the disk nothing is
+-- done, but what a command with a file's name asks for.
+abbrev pub Obeys : (Option Deed → Type 0) → Debugger → Debugger → Typed → List ℕ → Type 0
+Obeys did old new (load name) text = Loads did old new name text
+Obeys did old new (save name) text = (new ≡ old) × Saves did false old name text
+Obeys did old new (save_over name) text = (new ≡ old) × Saves did true old name text
+Obeys did old new (pcap name) text = (new ≡ old) × SavesFrames did false old name text
+Obeys did old new (pcap_over name) text = (new ≡ old) × SavesFrames did true old name text
+Obeys did old new typed text = did None × ObeysAlone old new typed text
 
 -- what is wrong is said; where a word names no register, with those that may be meant
 pub record TellsWrong (wrong : Wrong) (text : List ℕ) : Type 0 where
@@ -82,14 +92,10 @@ flow_of quit = Ends
 flow_of _ = Goes
 
 -- what is typed is obeyed, or it is said what is wrong with it
-abbrev pub AnswersPrompted : Debugger → Debugger → Result Typed Wrong → Flow → List ℕ → Type 0
-AnswersPrompted old new (Ok typed) flow text = (flow ≡ flow_of typed) × Obeys old new typed text
-AnswersPrompted old new (Err wrong) flow text = (flow ≡ Goes) × ((new ≡ old) × TellsWrong wrong text)
-
--- a line of em_bench's, where one stands there
-abbrev pub bench_in : Result Typed Wrong → Option BenchLine
-bench_in (Ok (line bench)) = Some bench
-bench_in _ = None
+abbrev pub AnswersPrompted : (Option Deed → Type 0) → Debugger → Debugger → Result Typed Wrong → Flow → List ℕ → Type 0
+AnswersPrompted did old new (Ok typed) flow text = (flow ≡ flow_of typed) × Obeys did old new typed text
+AnswersPrompted did old new (Err wrong) flow text =
+    (flow ≡ Goes) × (did None × ((new ≡ old) × TellsWrong wrong text))
 
 abbrev pub asking_with : Option (List ℕ) → List ℕ → Option BenchLine
 asking_with None said = None
@@ -100,13 +106,15 @@ abbrev pub asking : List ℕ → Option BenchLine
 asking typed = asking_with (expected_in typed) (said_in typed)
 
 -- such a line is performed; what else is typed is obeyed, or it is said what is wrong with it
-abbrev pub AnswersAsked : Debugger → Debugger → List ℕ → Option BenchLine → Flow → List ℕ → Type 0
-AnswersAsked old new typed None flow text = AnswersPrompted old new (prompted typed) flow text
-AnswersAsked old new typed (Some bench) flow text =
-    (flow ≡ Goes) × AnswersTyped old new bench (wanted_in typed) text
+abbrev pub AnswersAsked : (Option Deed → Type 0) → Debugger → Debugger → List ℕ → Option BenchLine → Flow → List ℕ
+    → Type 0
+AnswersAsked did old new typed None flow text = AnswersPrompted did old new (prompted typed) flow text
+AnswersAsked did old new typed (Some bench) flow text =
+    (flow ≡ Goes) × (did None × AnswersTyped old new bench (wanted_in typed) text)
 
 -- a line was typed: one that is too long is none
-pub data Answers (old new : Debugger) (typed : List ℕ) (flow : Flow) (text : List ℕ) : Type 0 where
-  too_long : 0xFFFF_FFFF ≤ length typed → flow ≡ Goes → new ≡ old → text ≡ codes "the line is too long\n"
-      → Answers old new typed flow text
-  said : AnswersAsked old new typed (asking typed) flow text → Answers old new typed flow text
+pub data Answers (did : Option Deed → Type 0) (old new : Debugger) (typed : List ℕ) (flow : Flow) (text : List ℕ)
+    : Type 0 where
+  too_long : 0xFFFF_FFFF ≤ length typed → flow ≡ Goes → did None → new ≡ old → text ≡ codes "the line is too long\n"
+      → Answers did old new typed flow text
+  said : AnswersAsked did old new typed (asking typed) flow text → Answers did old new typed flow text

@@ -21,7 +21,7 @@ pub record Begins (given : Settings) (d : Debugger) : Type 0 where
   pub asked : d.asked ≡ None
   pub warns : d.warns ≡ true
   pub wanted : texts d.wanted.answers.items ≡ []
-  pub score : d.score ≡ record { agreed = 0; differed = 0 }
+  pub score : d.score ≡ record { agreed = 0; differed = 0; warnings = 0 }
   pub engines : d.engines ≡ 0
   pub offered : lists d.offered.items ≡ []
 

@@ -2,6 +2,9 @@
 use Rattle.std.specs.Prelude.{◌≡◌, ℕ, ◌+◌, ◌<◌, ◌≤◌, ◌==◌, nat_lt, Bool, true, false, ◌&&◌, if◌then◌else◌, List, ◌++◌}
 use Rattle.std.specs.Prelude.{codes, length, Option, Some, None}
 use Rattle.em_tape.specs.Tape.{Tape, behind, event_at, event_of}
+use Rattle.em_journal.specs.View.{states}
+use Rattle.em_trail.specs.Trail.{TellsAt}
+use Rattle.em_trail.specs.declared.note.Note.{Note}
 use Rattle.em_looks.specs.Effects.{TellsEffect}
 use Rattle.em_looks.specs.Numbers.{number_text}
 use Rattle.em_debugger.specs.declared.debugger.Debugger.{Debugger}
@@ -28,21 +31,24 @@ abbrev pub unseen_text : Unseen → List ℕ
 unseen_text (Memory refused) = codes "  no memory to play it again\n"
 unseen_text (TooLong line) = too_long_text (codes "  line ") line
 
--- it is told from the journal, if that holds the event; else from a second tape that stands right behind the event, and on
--- which the lines did the same; or it is said why the event is not seen
-pub data TellsChanged (d : Debugger) (event : ℕ) (text : List ℕ) : Type 0 where
-  held : behind event d.tape < length d.tape.session.machine.past
-      → TellsEffect d.tape.session.machine (behind event d.tape + 1) text → TellsChanged d event text
-  again : (deep : Tape) → length d.tape.session.machine.past ≤ behind event d.tape → IsAgain d.settings d.tape deep
-      → IsSeen event deep → TellsEffect deep.session.machine 1 text → TellsChanged d event text
-  unseen : (why : Unseen) → length d.tape.session.machine.past ≤ behind event d.tape
-      → IsUnseen d.settings d.tape event why → text ≡ unseen_text why → TellsChanged d event text
-
--- the event, and then what it changed
-pub record TellsEvent (d : Debugger) (event : ℕ) (text : List ℕ) : Type 0 where
+-- the event with its note, and what it changed, by a tape whose journal holds it so many steps back
+pub record TellsSeen (d : Debugger) (event : ℕ) (seen : Tape) (back : ℕ) (text : List ℕ) : Type 0 where
+  pub note : Note
+  pub noted : TellsAt (states seen.session.machine) back note
   pub changed : List ℕ
-  pub tells : TellsChanged d event changed
-  pub told : text ≡ event_text d.tape event ++ (codes "\n" ++ changed)
+  pub effect : TellsEffect seen.session.machine (back + 1) changed
+  pub told : text ≡ event_text d.tape event (Some note) ++ (codes "\n" ++ changed)
+
+-- it is told by the session's own tape, if its journal holds the event; else by a second one that stands right behind the
+-- event, and on which the lines did the same; or it is said why the event is not seen
+pub data TellsEvent (d : Debugger) (event : ℕ) (text : List ℕ) : Type 0 where
+  held : behind event d.tape < length d.tape.session.machine.past
+      → TellsSeen d event d.tape (behind event d.tape) text → TellsEvent d event text
+  again : (deep : Tape) → length d.tape.session.machine.past ≤ behind event d.tape → IsAgain d.settings d.tape deep
+      → IsSeen event deep → TellsSeen d event deep 0 text → TellsEvent d event text
+  unseen : (why : Unseen) → length d.tape.session.machine.past ≤ behind event d.tape
+      → IsUnseen d.settings d.tape event why
+      → text ≡ event_text d.tape event None ++ (codes "\n" ++ unseen_text why) → TellsEvent d event text
 
 -- an event that stands is told; of another it is said that it does not
 abbrev pub Answers : Bool → Debugger → ℕ → List ℕ → Type 0

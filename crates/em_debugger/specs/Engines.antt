@@ -1,7 +1,10 @@
 -- Engines that run by themselves.
 use Rattle.std.specs.Prelude.{◌≡◌, ℕ, ◌+◌, ◌==◌, ◌||◌, nat_lt, Bool, true, false, if◌then◌else◌}
 use Rattle.std.specs.Prelude.{List, codes, insert, length, Option, Some, None}
-use Rattle.std.specs.Str.{bytes_eq}
+use Rattle.em_line.specs.Command.{Command, event}
+use Rattle.em_line.specs.Grammar.{parsed_line}
+use Rattle.em_line.specs.ParsedLine.{command_in}
+use Rattle.em_step.specs.Event.{receives, transmits}
 use Rattle.em_tape.specs.Texts.{texts}
 use Rattle.em_step.specs.State.{State}
 use Rattle.em_output.specs.declared.outcome.Outcome.{Outcome}
@@ -44,12 +47,15 @@ running_by (Some why) s = sending s
 abbrev pub running : State → Option Side
 running s = running_by (rx_idle s) s
 
+-- the engine whose step a command is
+abbrev pub step_in : Option Command → Option Side
+step_in (Some (event receives)) = Some Receive
+step_in (Some (event transmits)) = Some Transmit
+step_in _ = None
+
 -- the engine whose step a line is
 abbrev pub step_of : List ℕ → Option Side
-step_of line =
-    if bytes_eq line (codes "rx") then Some Receive else
-    if bytes_eq line (codes "tx") then Some Transmit else
-    None
+step_of line = step_in (command_in (parsed_line line))
 
 abbrev pub step_line : Side → List ℕ
 step_line Receive = codes "rx"

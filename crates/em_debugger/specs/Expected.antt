@@ -1,14 +1,18 @@
 -- The answers that lines expect, and how many were given so.
-use Rattle.std.specs.Prelude.{◌≡◌, ℕ, ◌+◌, ◌&&◌, not, Bool, true, false, if◌then◌else◌, List, [], ◌∷◌, unwrap_or}
+use Rattle.std.specs.Prelude.{◌≡◌, ℕ, ◌+◌, ◌&&◌, not, Bool, true, false, if◌then◌else◌, List, [], ◌∷◌, Option, unwrap_or}
+use Rattle.em_step.specs.Event.{Event}
+use Rattle.em_line.specs.Grammar.{parsed_line}
+use Rattle.em_line.specs.ParsedLine.{access_in}
 use Rattle.em_tape.specs.Texts.{texts}
-use Rattle.em_expect.specs.Agreement.{agrees}
-use Rattle.em_expect.specs.Difference.{differs_text}
+use Rattle.em_expect.specs.Agreement.{agrees_of}
+use Rattle.em_expect.specs.Difference.{difference_text, register_of}
 use Rattle.em_expect.specs.Expectation.{expected_in}
 use Rattle.em_debugger.specs.declared.debugger.Debugger.{Debugger}
 use Rattle.em_debugger.specs.declared.expected.Score.{Score}
 use Rattle.em_debugger.specs.Place.{text_of}
 use Rattle.em_debugger.specs.Counted.{counted}
 use Rattle.em_debugger.specs.Told.{Puts, told_of}
+use Rattle.em_debugger.specs.Warned.{warnings_of_line}
 
 -- the answer that a line expects, by its number; where it expects none, no octet
 abbrev pub wanted : ℕ → Debugger → List ℕ
@@ -23,26 +27,45 @@ is_wanted [] = false
 is_wanted (octet ∷ octets) = true
 
 -- one is wanted, and this is another
-abbrev pub differs : List ℕ → List ℕ → Bool
-differs wanted answer = is_wanted wanted && not (agrees wanted answer)
+abbrev pub differs : Option Event → List ℕ → List ℕ → Bool
+differs event wanted answer = is_wanted wanted && not (agrees_of event wanted answer)
+
+-- the access to a register that a line says, if it says one
+abbrev pub access_of : ℕ → Debugger → Option Event
+access_of line d = access_in (parsed_line (text_of line d.tape))
 
 -- the line was answered otherwise than it expects
 abbrev pub answers_otherwise : Debugger → ℕ → Bool
-answers_otherwise d line = differs (wanted line d) d.answer.items
+answers_otherwise d line = differs (access_of line d) (wanted line d) d.answer.items
 
 -- one answer more is counted
 abbrev pub with_answer : Score → Bool → Score
 with_answer score true = record score { differed = counted (score.differed + 1) }
 with_answer score false = record score { agreed = counted (score.agreed + 1) }
 
+-- so many warnings more are counted
+abbrev pub with_warnings : Score → ℕ → Score
+with_warnings score more = record score { warnings = counted (score.warnings + more) }
+
+-- how many a line has, if they are to be said
+abbrev pub warnings_behind : Debugger → ℕ → ℕ
+warnings_behind d line =
+    if d.warns then warnings_of_line d.tape.session.machine (text_of line d.tape) d.answer.items else 0
+
 -- the answer to a line is counted, where one is expected
+abbrev pub scored_answer : Debugger → ℕ → Score
+scored_answer d line = if is_wanted (wanted line d) then with_answer d.score (answers_otherwise d line) else d.score
+
+-- and its warnings
 abbrev pub scored : Debugger → ℕ → Score
-scored d line = if is_wanted (wanted line d) then with_answer d.score (answers_otherwise d line) else d.score
+scored d line = with_warnings (scored_answer d line) (warnings_behind d line)
 
 -- how it differs, if it does
 abbrev pub compared_text : Debugger → ℕ → List ℕ
 compared_text d line =
-    if answers_otherwise d line then differs_text (text_of line d.tape) (wanted line d) d.answer.items else []
+    if answers_otherwise d line
+    then difference_text (register_of (access_of line d)) (wanted line d) d.answer.items
+    else []
 
 -- it is kept which answer a line expects, if it expects one
 abbrev pub Expects : ℕ → List ℕ → List (List ℕ) → List (List ℕ) → Type 0

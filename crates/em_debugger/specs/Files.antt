@@ -1,26 +1,46 @@
 -- Loading and saving lines.
-use Rattle.std.specs.Prelude.{◌≡◌, ◌⊎◌, ℕ, ◌+◌, Bool, true, false, List, [], ◌++◌, codes, length, map}
+use Rattle.std.specs.Prelude.{◌≡◌, ◌⊎◌, ℕ, ◌+◌, All, Bool, true, false, List, [], ◌++◌, codes, length, map, Option, Some}
 use Rattle.std.specs.List.{flat_map}
-use Rattle.em_text.specs.Lines.{lines_of}
+use Rattle.em_text.specs.Lines.{is_newline, lines_of}
 use Rattle.em_script.specs.declared.runner.BenchFault.{BenchFault}
 use Rattle.em_script.specs.declared.runner.BenchFault.TheVariants as fault
 use Rattle.em_looks.specs.Numbers.{counted_text}
 use Rattle.em_debugger.specs.declared.debugger.Debugger.{Debugger}
-use Rattle.em_debugger.specs.declared.disk.DiskFault.{DiskFault}
-use Rattle.em_debugger.specs.declared.disk.DiskFault.TheVariants.{Missing, Exists, Name, TooLarge, Memory, Failed}
+use Rattle.em_tape.specs.Tape.{Tape}
 use Rattle.em_tape.specs.Texts.{texts}
 use Rattle.em_expect.specs.Expectation.{said_in}
+use Rattle.em_prompt.specs.Scripted.{played}
 use Rattle.em_debugger.specs.Debugger.{KeepsSome}
+use Rattle.em_debugger.specs.Deeper.{lines_here}
+use Rattle.em_debugger.specs.Disk.{Deed, Stores}
 use Rattle.em_debugger.specs.Expected.{AllExpect}
-use Rattle.em_debugger.specs.Place.{line_here}
 use Rattle.em_debugger.specs.Played.{RunsAll}
-use Rattle.em_debugger.specs.Performing.{Cuts, dropped_text, fault_text}
+use Rattle.em_debugger.specs.Performing.{Cuts, Uncut, dropped_text, fault_text}
+use Rattle.em_debugger.specs.Told.{Stay}
+
+-- what is played of a line of a script: what it says, in the words that em_bench reads
+abbrev pub played_in : List ℕ → List ℕ
+played_in line = played (said_in line)
 
 -- what these lines say was put behind the last one, and which answers they expect; none of them is performed
 pub record AddsLines (old new : Debugger) (lines : List (List ℕ)) : Type 0 where
-  pub tape : new.tape ≡ record old.tape { lines = old.tape.lines ++ map said_in lines }
+  pub tape : new.tape ≡ record old.tape { lines = old.tape.lines ++ map played_in lines }
   pub expect : AllExpect (length old.tape.lines + 1) lines (texts old.wanted.answers.items)
       (texts new.wanted.answers.items)
+  pub rest : KeepsSome old new
+
+-- The first of these lines were put behind the last one of a tape, and no more; and it was kept what those expect.
+pub record SomeAdded (old new : Tape) (held holds lines : List (List ℕ)) : Type 0 where
+  pub added : List (List ℕ)
+  pub others : List (List ℕ)
+  pub all : lines ≡ added ++ others
+  pub tape : new ≡ record old { lines = old.lines ++ map played_in added }
+  pub expected : List (List ℕ)
+  pub expect : AllExpect (length old.lines + 1) added held expected
+  pub stay : Stay expected holds
+
+pub record AddsSome (old new : Debugger) (lines : List (List ℕ)) : Type 0 where
+  pub some : SomeAdded old.tape new.tape (texts old.wanted.answers.items) (texts new.wanted.answers.items) lines
   pub rest : KeepsSome old new
 
 -- why lines were not all added: one is too long or they are too many, or there is no memory
@@ -35,32 +55,33 @@ loaded_text n = counted_text (codes "loaded ") n (codes " line\n") (codes " line
 abbrev pub saved_text : ℕ → List ℕ
 saved_text n = counted_text (codes "saved ") n (codes " line\n") (codes " lines\n")
 
--- what is said of a fault, behind the name of the file
-abbrev pub disk_text : DiskFault → List ℕ
-disk_text Missing = codes ": there is no such file\n"
-disk_text Exists = codes ": the file is there already; save! and pcap! replace it\n"
-disk_text Name = codes ": this is no name of a file\n"
-disk_text TooLarge = codes ": it has more than 4194304 octets\n"
-disk_text Memory = codes ": no memory for it\n"
-disk_text Failed = codes ": the system refuses it\n"
-
 -- lines as a script: a newline behind each
 abbrev pub script_of : List (List ℕ) → List ℕ
 script_of lines = flat_map (λ line. line ++ codes "\n") lines
 
+-- no octet of a line ends it
+abbrev pub IsOneLine : List ℕ → Type 0
+IsOneLine line = All (λ octet. is_newline octet ≡ false) line
+
+-- those up to the place
+abbrev pub script_here : Debugger → List ℕ
+script_here d = script_of (lines_here d.tape)
+
 -- ---- what is answered
 
--- the lines of a script were put behind the last one, and it is said how many; or memory was refused
+-- the lines of a script were put behind the last one, and it is said how many; or why there are not more of them
 pub data LoadsText (old new : Debugger) (script text : List ℕ) : Type 0 where
   loads : AddsLines old new (lines_of script) → text ≡ loaded_text (length (lines_of script))
       → LoadsText old new script text
-  stops : (fault : BenchFault) → text ≡ fault_text fault → LoadsText old new script text
+  stops : (fault : BenchFault) → text ≡ fault_text fault → AddsSome old new (lines_of script)
+      → LoadsText old new script text
 
--- the script's lines were put behind the last one, and played; or memory was refused
+-- the script's lines were put behind the last one, and played; or it is said why there are not more of them
 pub data PlaysText (old new : Debugger) (script text : List ℕ) : Type 0 where
   plays : (between : Debugger) → AddsLines old between (lines_of script) → RunsAll between new text
       → PlaysText old new script text
-  unplayed : (fault : BenchFault) → text ≡ fault_text fault → PlaysText old new script text
+  unplayed : (fault : BenchFault) → text ≡ fault_text fault → AddsSome old new (lines_of script)
+      → PlaysText old new script text
 
 -- the script is stepped through, or played to its end
 abbrev pub BeginsText : Bool → Debugger → Debugger → List ℕ → List ℕ → Type 0
@@ -73,18 +94,12 @@ pub record BeginsBehind (step : Bool) (dropped : ℕ) (old new : Debugger) (scri
   pub begins : BeginsText step old new script rest
   pub said : text ≡ dropped_text dropped ++ rest
 
--- what lay ahead was dropped, and the script is there instead; or memory was refused
+-- what lay ahead was dropped, and the script is there instead; or memory was refused to that
 pub data BeginsInstead (step : Bool) (old new : Debugger) (script text : List ℕ) : Type 0 where
   cuts : (between : Debugger) (dropped : ℕ) → Cuts old between dropped
       → BeginsBehind step dropped between new script text → BeginsInstead step old new script text
-  uncut : (fault : BenchFault) → text ≡ fault_text fault → BeginsInstead step old new script text
+  uncut : (fault : BenchFault) → text ≡ fault_text fault → Uncut old new → BeginsInstead step old new script text
 
--- the file was read, or it was not, and nothing is said
-abbrev pub BeginsWith : Bool → Bool → Debugger → Debugger → List ℕ → Type 0
-BeginsWith true step old new text = (script : List ℕ) × BeginsText step old new script text
-BeginsWith false step old new text = (new ≡ old) × (text ≡ [])
-
--- the file was not written, or it was
-pub data Saves (d : Debugger) (name text : List ℕ) : Type 0 where
-  unsaved : (fault : DiskFault) → text ≡ name ++ disk_text fault → Saves d name text
-  saves : text ≡ saved_text (line_here d.tape) → Saves d name text
+-- a file holds exactly the lines up to the place, and it is told how many they are
+abbrev pub Saves : (Option Deed → Type 0) → Bool → Debugger → List ℕ → List ℕ → Type 0
+Saves did over d name text = Stores did over name (script_here d) (saved_text (length (lines_here d.tape))) text

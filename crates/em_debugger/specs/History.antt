@@ -1,15 +1,20 @@
 -- The lines that did something, and how they are shown.
-use Rattle.std.specs.Prelude.{ℕ, zero, suc, ◌+◌, ◌-◌, ◌==◌, nat_lt, Bool, false, if◌then◌else◌, Option, Some, None}
+use Rattle.std.specs.Prelude.{◌≡◌, ℕ, zero, suc, ◌+◌, ◌-◌, ◌==◌, min, nat_lt, Bool, false, if◌then◌else◌, Option, Some, None}
 use Rattle.std.specs.Prelude.{List, [], ◌++◌, codes, decimal, length, take, drop, filter}
 use Rattle.std.specs.List.{flat_map, range_with_len}
 use Rattle.em_named.specs.Numbers.{end_of}
 use Rattle.em_named.specs.declared.did.Did.{Did}
 use Rattle.em_named.specs.declared.did.Did.TheVariants.{Performed, TookBack}
-use Rattle.em_tape.specs.Tape.{line_at}
-use Rattle.em_looks.specs.Numbers.{short_text}
+use Rattle.em_journal.specs.View.{states}
+use Rattle.em_trail.specs.Trail.{TellsAt}
+use Rattle.em_trail.specs.declared.note.Note.{Note}
+use Rattle.em_noted.specs.Note.{note_text}
+use Rattle.em_tape.specs.Tape.{Tape, event_of, line_at}
+use Rattle.em_looks.specs.Numbers.{number_text, short_text}
 use Rattle.em_debugger.specs.declared.debugger.Debugger.{Debugger}
 use Rattle.em_debugger.specs.Debugger.{told}
 use Rattle.em_debugger.specs.Place.{line_here, text_of}
+use Rattle.em_debugger.specs.Who.{access_text}
 
 abbrev pub is_something : Did → Bool
 is_something (Performed events) = nat_lt 0 events
@@ -75,18 +80,46 @@ lines_text d here lines = flat_map (line_text d here) lines
 abbrev pub start_text : ℕ → List ℕ
 start_text here = if here == 0 then codes "> at the start\n" else []
 
--- the newest lines up to the place, at most so many, and so many that were performed and lie ahead
-abbrev pub around_text : Debugger → ℕ → ℕ → List ℕ
-around_text d most here =
-    let did = d.tape.did in
-    start_text here
-    ++ (lines_text d here (last_of most (lines_between did 0 here))
-    ++ lines_text d here (take most (lines_between did here (length did))))
+-- the newest lines up to the place, at most so many
+abbrev pub so_far_text : Debugger → ℕ → ℕ → List ℕ
+so_far_text d most here = start_text here ++ lines_text d here (last_of most (lines_between d.tape.did 0 here))
+
+-- so many that were performed and lie ahead
+abbrev pub ahead_text : Debugger → ℕ → ℕ → List ℕ
+ahead_text d most here =
+    lines_text d here (take most (lines_between d.tape.did here (length d.tape.did)))
 
 -- 16 where it is not said how many
 abbrev pub most_of : Option ℕ → ℕ
 most_of None = 16
 most_of (Some most) = most
 
-abbrev pub history_text : Debugger → Option ℕ → List ℕ
-history_text d asked = around_text d (most_of asked) (newest_line d.tape.did (line_here d.tape))
+-- ---- the events of a line
+
+-- how many of the newest that stand at the place are shown one by one: those of its line, as far as the journal reaches
+abbrev pub opened : ℕ → Tape → ℕ → ℕ
+opened most tape here =
+    min most (min (length tape.session.machine.past) (event_of tape - end_of (here - 1) tape.did))
+
+-- one of them
+abbrev pub opened_text : Tape → ℕ → ℕ → Note → List ℕ
+opened_text tape here event note =
+    number_text (codes "    event ") event [] ++ (access_text tape event here ++ (note_text note ++ codes "\n"))
+
+-- those from so many steps back on, the oldest first, down to so many, each with its note
+pub data Opens (tape : Tape) (here from : ℕ) : ℕ → List ℕ → Type 0 where
+  opens_none : Opens tape here from from []
+  opens_more : (to : ℕ) (note : Note) (text : List ℕ) → Opens tape here from (suc to) text
+      → TellsAt (states tape.session.machine) to note
+      → Opens tape here from to (text ++ opened_text tape here (event_of tape - to) note)
+
+-- ---- what is shown
+
+-- the newest lines up to the place, the events of the last, and lines that lie ahead
+pub record ShowsLines (d : Debugger) (most here : ℕ) (text : List ℕ) : Type 0 where
+  pub events : List ℕ
+  pub opens : Opens d.tape here (opened most d.tape here) 0 events
+  pub told : text ≡ so_far_text d most here ++ (events ++ ahead_text d most here)
+
+abbrev pub ShowsHistory : Debugger → Option ℕ → List ℕ → Type 0
+ShowsHistory d asked = ShowsLines d (most_of asked) (newest_line d.tape.did (line_here d.tape))

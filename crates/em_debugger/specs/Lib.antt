@@ -1,3 +1,4 @@
+pub mod Accessed
 pub mod Answering
 pub mod BenchLooks
 pub mod Compare
@@ -5,8 +6,10 @@ pub mod Counted
 pub mod Debugger
 pub mod Deeper
 pub mod Departures
+pub mod Disk
 pub mod Effect
 pub mod Engines
+pub mod Warned
 pub mod Expected
 pub mod Files
 pub mod History

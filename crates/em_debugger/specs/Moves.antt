@@ -1,12 +1,16 @@
 -- Going to another place on the tape.
-use Rattle.std.specs.Prelude.{◌≡◌, ℕ, ◌+◌, ◌-◌, ◌==◌, min, nat_lt, if◌then◌else◌, ◌&&◌, Bool, true, false}
+use Rattle.std.specs.Prelude.{◌≡◌, ℕ, ◌+◌, ◌-◌, ◌<◌, ◌==◌, min, Option, Some, None, nat_lt, if◌then◌else◌, ◌&&◌, Bool, true, false}
 use Rattle.std.specs.Prelude.{List, [], ◌++◌, codes, length}
+use Rattle.em_journal.specs.View.{states}
+use Rattle.em_trail.specs.Trail.{TellsAt}
+use Rattle.em_trail.specs.declared.note.Note.{Note}
 use Rattle.em_named.specs.Numbers.{line_of}
 use Rattle.em_tape.specs.Tape.{IsNear, Tape, event_at, event_of, taken_back}
-use Rattle.em_looks.specs.Numbers.{number_text, short_text}
+use Rattle.em_looks.specs.Numbers.{number_text}
 use Rattle.em_debugger.specs.declared.debugger.Debugger.{Debugger}
-use Rattle.em_debugger.specs.Debugger.{KeepsRest, told}
-use Rattle.em_debugger.specs.Place.{line_here, text_of}
+use Rattle.em_debugger.specs.Debugger.{KeepsRest}
+use Rattle.em_debugger.specs.Place.{line_here}
+use Rattle.em_debugger.specs.Who.{what_text}
 
 -- ---- back
 
@@ -22,33 +26,29 @@ place_back n tape = record tape { back = tape.back + n; session = taken_back n t
 abbrev pub after_back : ℕ → Tape → Tape
 after_back most tape = if event_of tape == 0 then tape else place_back (taken most tape) tape
 
--- a line, and what was told of it
-abbrev pub line_told : Debugger → ℕ → List ℕ
-line_told d line =
-    number_text (codes "(line ") line (codes ", ")
-    ++ (short_text (text_of line d.tape) ++ (codes ": " ++ (told line d ++ codes ")\n")))
+-- a line, and what its event was
+abbrev pub line_text : Tape → ℕ → Note → List ℕ
+line_text tape line note =
+    number_text (codes "(line ") line (codes ", ") ++ (what_text tape line note ++ codes ")\n")
 
 -- one event was taken back
-abbrev pub one_back_text : Debugger → ℕ → List ℕ
-one_back_text d event =
-    number_text (codes "took back event ") event (codes " ") ++ line_told d (line_of event d.tape.did)
-
--- a line
-abbrev pub line_text : Tape → ℕ → List ℕ
-line_text tape line = number_text (codes "(line ") line (codes ", ") ++ (short_text (text_of line tape) ++ codes ")\n")
+abbrev pub one_back_text : Tape → ℕ → Note → List ℕ
+one_back_text tape event note =
+    number_text (codes "took back event ") event (codes " ") ++ line_text tape (line_of event tape.did) note
 
 -- n events were taken back, the last of them this one
-abbrev pub down_to_text : Tape → ℕ → ℕ → List ℕ
-down_to_text tape n last =
+abbrev pub down_to_text : Tape → ℕ → ℕ → Note → List ℕ
+down_to_text tape n last note =
     number_text (codes "took back ") n (codes " events, ")
-    ++ (number_text (codes "down to event ") last (codes " ") ++ line_text tape (line_of last tape.did))
+    ++ (number_text (codes "down to event ") last (codes " ") ++ line_text tape (line_of last tape.did) note)
 
--- n events were taken back, the last of them this one
-abbrev pub taken_text : Debugger → ℕ → ℕ → List ℕ
-taken_text d n last =
-    if n == 0 then [] else
-    if n == 1 then one_back_text d last else
-    down_to_text d.tape n last
+-- so many events were taken back, the last of them this one, with this note
+abbrev pub some_taken_text : Tape → ℕ → ℕ → Note → List ℕ
+some_taken_text tape n last note = if n == 1 then one_back_text tape last note else down_to_text tape n last note
+
+abbrev pub taken_text : Tape → ℕ → ℕ → Option Note → List ℕ
+taken_text tape n last None = []
+taken_text tape n last (Some note) = some_taken_text tape n last note
 
 -- fewer were taken than asked for, and one still stands
 abbrev pub budget_text : Bool → ℕ → List ℕ
@@ -57,14 +57,19 @@ budget_text fewer newest =
     codes "the journal's budget dropped the older records: goto EVENT still gets there\n"
     else []
 
--- from a tape, where n events were taken back; the new debugger has its lines, and what was told of them
-abbrev pub stood_text : ℕ → ℕ → Tape → Debugger → List ℕ
-stood_text most n tape new =
+-- from a tape, where n events were taken back; the new one has its lines
+abbrev pub stood_text : ℕ → ℕ → Tape → Tape → Option Note → List ℕ
+stood_text most n tape new note =
     if event_of tape == 0 then codes "no event stands here\n" else
-    taken_text new n (event_at (n - 1) tape) ++ budget_text (nat_lt n most) (event_of new.tape)
+    taken_text new n (event_at (n - 1) tape) note ++ budget_text (nat_lt n most) (event_of new)
 
-abbrev pub back_text : ℕ → Tape → Debugger → List ℕ
-back_text most tape new = stood_text most (taken most tape) tape new
+abbrev pub back_text : ℕ → Tape → Tape → Option Note → List ℕ
+back_text most tape new note = stood_text most (taken most tape) tape new note
+
+-- the note of the last of so many events that are taken back from a tape; none, where none is
+abbrev pub NotesLast : ℕ → Tape → Option Note → Type 0
+NotesLast n tape None = n ≡ 0
+NotesLast n tape (Some note) = (0 < n) × TellsAt (states tape.session.machine) (n - 1) note
 
 -- ---- to an event, or before a line
 
@@ -115,7 +120,9 @@ forward_by events tape = min (event_of tape + events) 0xFFFF_FFFF_FFFF_FFFF
 pub record GoesBack (most : ℕ) (old new : Debugger) (text : List ℕ) : Type 0 where
   pub tape : new.tape ≡ after_back most old.tape
   pub rest : KeepsRest old new
-  pub told : text ≡ back_text most old.tape new
+  pub note : Option Note
+  pub noted : NotesLast (taken most old.tape) old.tape note
+  pub told : text ≡ back_text most old.tape new.tape note
 
 -- the place is such a one now, and it is said where that is, and how it lies to what was asked for; or memory was refused
 pub record GoesTo (IsThere : Tape → Type 0) (near : Tape → List ℕ) (old new : Debugger) (text : List ℕ) : Type 0 where

@@ -8,10 +8,12 @@ use Rattle.em_pcap.specs.declared.fault.CaptureError.{CaptureError}
 use Rattle.em_pcap.specs.Reading.{reading_of}
 use Rattle.em_frames.specs.declared.arrivals.Arrivals.{Arrivals}
 use Rattle.em_frames.specs.Arrivals.{AreArrivals}
+use Rattle.em_frames.specs.Sent.{sent_capture}
 use Rattle.em_looks.specs.Numbers.{count_text, counted_text, number_text}
 use Rattle.em_debugger.specs.declared.debugger.Debugger.{Debugger}
 use Rattle.em_debugger.specs.declared.disk.DiskFault.{DiskFault}
-use Rattle.em_debugger.specs.Files.{BeginsInstead, disk_text}
+use Rattle.em_debugger.specs.Disk.{Deed, Read, Refused, Stores, disk_text}
+use Rattle.em_debugger.specs.Files.{BeginsInstead}
 use Rattle.em_debugger.specs.Performing.{AnswersNew}
 
 -- a name that ends so
@@ -48,6 +50,10 @@ pub record TellsOffer (count cut : ℕ) (error : Option CaptureError) (text : Li
   pub ends : EndsOffer error end
   pub told : text ≡ offered_text count cut ++ end
 
+-- the frames that were sent, as a capture
+abbrev pub capture_of : Debugger → List ℕ
+capture_of d = sent_capture d.tape.session.machine.present.wire
+
 abbrev pub wrote_text : ℕ → List ℕ
 wrote_text count = counted_text (codes "wrote ") count (codes " frame\n") (codes " frames\n")
 
@@ -66,9 +72,11 @@ LoadsAs true old new file text = OffersFrames old new file text
 LoadsAs false old new file text = BeginsInstead true old new file text
 
 -- the file was not read; or what it holds was loaded
-pub data Loads (old new : Debugger) (name text : List ℕ) : Type 0 where
-  unread : (fault : DiskFault) → text ≡ name ++ disk_text fault → new ≡ old → Loads old new name text
-  reads : (file : List ℕ) → LoadsAs (is_capture name) old new file text → Loads old new name text
+pub data Loads (did : Option Deed → Type 0) (old new : Debugger) (name text : List ℕ) : Type 0 where
+  unread : (fault : DiskFault) → did (Some (Refused name fault)) → text ≡ name ++ disk_text fault → new ≡ old
+      → Loads did old new name text
+  reads : (file : List ℕ) → did (Some (Read name file)) → LoadsAs (is_capture name) old new file text
+      → Loads did old new name text
 
 -- no frame is left, and all stays
 pub record HasNone (old new : Debugger) : Type 0 where
@@ -96,7 +104,7 @@ pub data ArrivesAll (old new : Debugger) (text : List ℕ) : Type 0 where
   arrive : (between : Debugger) → offered between ≡ [] → between ≡ record old { offered = between.offered }
       → BeginsInstead false between new (offered_script (nat_lt 0 old.engines) (offered old)) text → ArrivesAll old new text
 
--- the frames that were sent were written to a file, or they were not
-pub data SavesFrames (d : Debugger) (name text : List ℕ) : Type 0 where
-  unsaved : (fault : DiskFault) → text ≡ name ++ disk_text fault → SavesFrames d name text
-  saves : text ≡ wrote_text (length d.tape.session.machine.present.wire) → SavesFrames d name text
+-- a file holds exactly the frames that were sent, as a capture, and it is told how many they are
+abbrev pub SavesFrames : (Option Deed → Type 0) → Bool → Debugger → List ℕ → List ℕ → Type 0
+SavesFrames did over d name text =
+    Stores did over name (capture_of d) (wrote_text (length d.tape.session.machine.present.wire)) text

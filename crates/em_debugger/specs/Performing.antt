@@ -1,11 +1,13 @@
 -- Performing the line behind the place.
-use Rattle.std.specs.Prelude.{◌≡◌, ℕ, ◌+◌, ◌==◌, ◌<◌, ◌≤◌, nat_lt, Bool, true, false, ◌&&◌, ◌||◌, if◌then◌else◌}
-use Rattle.std.specs.Prelude.{List, [], ◌∷◌, ◌++◌, codes, length, take, Some, None, Ok}
+use Rattle.std.specs.Prelude.{◌≡◌, ℕ, ◌+◌, ◌-◌, ◌==◌, ◌<◌, ◌≤◌, nat_lt, Bool, true, false, ◌&&◌, ◌||◌, if◌then◌else◌}
+use Rattle.std.specs.Prelude.{List, [], ◌∷◌, ◌++◌, codes, length, take, Option, Some, None, Result, Ok}
+use Rattle.em_text.specs.declared.writer.WriteFailed.{WriteFailed}
+use Rattle.em_output.specs.declared.outcome.Outcome.{Outcome}
 use Rattle.em_tape.specs.Texts.{texts}
 use Rattle.em_script.specs.Runner.{name_of}
 use Rattle.em_script.specs.declared.runner.BenchFault.{BenchFault}
 use Rattle.em_tape.specs.Tape.{Tape, event_of}
-use Rattle.em_tape.specs.Moves.{Plays, IsCut}
+use Rattle.em_tape.specs.Moves.{IsCut, Plays}
 use Rattle.em_prompt.specs.BenchLine.{BenchLine, text_of as text_of_line}
 use Rattle.em_explain.specs.Explain.{Explains}
 use Rattle.em_looks.specs.Numbers.{counted_text, number_text, short_text}
@@ -13,11 +15,11 @@ use Rattle.em_warnings.specs.Warnings.{warnings_text}
 use Rattle.em_debugger.specs.declared.debugger.Debugger.{Debugger}
 use Rattle.em_debugger.specs.declared.performing.Performed.{Performed}
 use Rattle.em_debugger.specs.BenchLooks.{is_look, look_text}
-use Rattle.em_debugger.specs.Debugger.{KeepsSome}
+use Rattle.em_debugger.specs.Debugger.{KeepsSome, told}
 use Rattle.em_debugger.specs.Engines.{Engages}
-use Rattle.em_debugger.specs.Expected.{Expects, compared_text, scored}
+use Rattle.em_debugger.specs.Expected.{Expects, compared_text, scored, wanted}
 use Rattle.em_debugger.specs.Place.{line_here, text_of}
-use Rattle.em_debugger.specs.Told.{Notes}
+use Rattle.em_debugger.specs.Told.{Notes, Stay}
 
 -- the tape with the line at its place whole
 pub record IsWhole (old whole : Tape) : Type 0 where
@@ -44,6 +46,40 @@ pub record PerformsNext (old new : Debugger) (performed : Performed) : Type 0 wh
   pub between : Debugger
   pub performs : Performs old between performed
   pub engages : Engages (event_of old.tape) performed between new
+
+-- ---- a line that is not performed, since memory is refused
+
+-- all but the tape is as it was, and beside each line stands what was told of it and what it expects
+pub record KeepsBeside (old new : Debugger) : Type 0 where
+  pub told : (line : ℕ) → told line new ≡ told line old
+  pub wanted : (line : ℕ) → wanted line new ≡ wanted line old
+  pub settings : new.settings ≡ old.settings
+  pub asked : new.asked ≡ old.asked
+  pub warns : new.warns ≡ old.warns
+  pub score : new.score ≡ old.score
+  pub engines : new.engines ≡ old.engines
+  pub offered : new.offered ≡ old.offered
+
+-- the place stays, or the line in which it lies is whole
+pub data StaysAt (old new : Tape) : Type 0 where
+  stays : new ≡ old → StaysAt old new
+  is_whole : new ≡ record old { whole = line_here old; back = 0; session = new.session } → StaysAt old new
+
+-- the line behind the place was performed, whatever became of its answer
+pub record PlaysAnyhow (old new : Tape) : Type 0 where
+  pub before : Tape
+  pub whole : IsWhole old before
+  pub text : Option (List ℕ)
+  pub replied : Result Outcome WriteFailed
+  pub plays : Plays before new (Some []) text replied
+
+-- Memory was refused before the line was performed; or to its answer, of which then nothing is noted or counted; or to the
+-- step that an engine makes behind it. The lines stay, and what stands beside them.
+pub data Unperformed (old new : Debugger) : Type 0 where
+  unplayed : KeepsBeside old new → StaysAt old.tape new.tape → Unperformed old new
+  unnoted : KeepsBeside old new → PlaysAnyhow old.tape new.tape → Unperformed old new
+  unengaged : (between : Debugger) (p : Performed) → Performs old between p → new.tape ≡ between.tape
+      → KeepsBeside between new → Unperformed old new
 
 -- no line lies ahead of the place
 abbrev pub IsLast : Debugger → Type 0
@@ -78,14 +114,18 @@ fault_text fault = codes "stopped: " ++ (name_of fault ++ codes "\n")
 abbrev pub is_among_lines : Tape → Bool
 is_among_lines tape = nat_lt tape.whole (length tape.lines) || nat_lt 0 tape.back
 
--- the lines ahead of the place were dropped, so many of them, and what was told of them and asked for
+-- how many lines stay where so many are dropped
+abbrev pub kept : Tape → ℕ → ℕ
+kept tape dropped = length tape.lines - dropped
+
+-- the lines ahead of the place were dropped, so many of them, and what was told of them, what they expect and what was asked
 pub record Cuts (old new : Debugger) (dropped : ℕ) : Type 0 where
   pub tape : IsCut old.tape new.tape dropped
-  pub told : texts new.told.answers.items ≡ take (length new.tape.lines) (texts old.told.answers.items)
+  pub told : texts new.told.answers.items ≡ take (kept old.tape dropped) (texts old.told.answers.items)
   pub asked : new.asked ≡ None
   pub settings : new.settings ≡ old.settings
   pub warns : new.warns ≡ old.warns
-  pub wanted : texts new.wanted.answers.items ≡ take (length new.tape.lines) (texts old.wanted.answers.items)
+  pub wanted : texts new.wanted.answers.items ≡ take (kept old.tape dropped) (texts old.wanted.answers.items)
   pub score : new.score ≡ old.score
   pub engines : new.engines ≡ old.engines
   pub offered : new.offered ≡ old.offered
@@ -95,9 +135,21 @@ pub record AddsLine (old new : Debugger) (line asked : List ℕ) (dropped : ℕ)
   pub between : Debugger
   pub cut : Cuts old between dropped
   pub tape : new.tape ≡ record between.tape { lines = between.tape.lines ++ line ∷ [] }
-  pub expects : Expects (length new.tape.lines) asked (texts between.wanted.answers.items)
+  pub expects : Expects (length between.tape.lines + 1) asked (texts between.wanted.answers.items)
       (texts new.wanted.answers.items)
   pub rest : KeepsSome between new
+
+-- memory was refused to what drops them: all beside the tape stays
+abbrev pub Uncut : Debugger → Debugger → Type 0
+Uncut old new = new ≡ record old { tape = new.tape }
+
+-- No line was put behind the place: those ahead of it were not dropped; or they were, and what stands beside those that are
+-- left stays.
+pub data Unadded (old new : Debugger) : Type 0 where
+  uncut : Uncut old new → Unadded old new
+  cut_alone : (between : Debugger) (dropped : ℕ) → Cuts old between dropped → new.tape ≡ between.tape
+      → Stay (texts between.wanted.answers.items) (texts new.wanted.answers.items) → KeepsSome between new
+      → Unadded old new
 
 -- what drivers get wrong, if that is to be said
 abbrev pub warned_text : Debugger → ℕ → List ℕ
@@ -129,16 +181,15 @@ pub data ShowsSteps : ℕ → Debugger → Debugger → List ℕ → Type 0 wher
       → PerformsNext old between p → ShowsPerformed between p one → ShowsSteps (length old.tape.lines) between new rest
       → ShowsSteps lines old new (one ++ rest)
   over : (lines : ℕ) (d : Debugger) → IsLast d → ShowsSteps lines d d []
-  stopped : (lines : ℕ) (old new : Debugger) (fault : BenchFault) → new.tape.lines ≡ old.tape.lines
+  stopped : (lines : ℕ) (old new : Debugger) (fault : BenchFault) → Unperformed old new
       → ShowsSteps lines old new (fault_text fault)
 
--- a line that lay ahead is answered so, and then come the steps of engines; or it is said why it was not performed, and the
--- lines stay
+-- a line that lay ahead is answered so, and then come the steps of engines; or it is said why it was not performed
 pub data AnswersNext (old new : Debugger) (text : List ℕ) : Type 0 where
   performed : (between : Debugger) (p : Performed) (answer rest : List ℕ) → PerformsNext old between p
       → AnswersPerformed between p answer → ShowsSteps (length old.tape.lines) between new rest
       → text ≡ answer ++ rest → AnswersNext old new text
-  unperformed : (fault : BenchFault) → text ≡ fault_text fault → new.tape.lines ≡ old.tape.lines → AnswersNext old new text
+  unperformed : (fault : BenchFault) → text ≡ fault_text fault → Unperformed old new → AnswersNext old new text
 
 -- what was dropped is said, and then the line is answered
 pub record AnswersAdded (old new : Debugger) (dropped : ℕ) (text : List ℕ) : Type 0 where
@@ -150,7 +201,7 @@ pub record AnswersAdded (old new : Debugger) (dropped : ℕ) (text : List ℕ) :
 pub data AnswersNew (old new : Debugger) (line asked text : List ℕ) : Type 0 where
   added : (between : Debugger) (dropped : ℕ) → AddsLine old between line asked dropped
       → AnswersAdded between new dropped text → AnswersNew old new line asked text
-  refused : (fault : BenchFault) → text ≡ fault_text fault → AnswersNew old new line asked text
+  refused : (fault : BenchFault) → text ≡ fault_text fault → Unadded old new → AnswersNew old new line asked text
 
 -- a line that only looks, where lines or events lie ahead
 abbrev pub looks_back : Tape → BenchLine → Bool

@@ -1,6 +1,8 @@
 -- How the newest change of a watched thing is sought among the events that stand.
 use Rattle.std.specs.Prelude.{◌≡◌, ◌⊎◌, ℕ, ◌-◌, ◌<◌, max, length, Some, slice_get}
 use Rattle.em_journal.specs.declared.settings.Settings.{Settings}
+use Rattle.em_journal.specs.View.{states}
+use Rattle.em_trail.specs.Trail.{TellsAt}
 use Rattle.em_tape.specs.Tape.{Tape, event_at}
 use Rattle.em_watch.specs.Change.{IsNextChange, NeverDiffers}
 use Rattle.em_watch.specs.Watching.{sights}
@@ -12,11 +14,13 @@ use Rattle.em_debugger.specs.declared.search.Sought.{Sought}
 use Rattle.em_debugger.specs.declared.search.Sought.TheVariants as sought
 use Rattle.em_debugger.specs.Deeper.{IsAgain, IsSeen, IsUnseen}
 
--- the journal holds the newest change from so many steps back on: this event made it, and this was seen before and after
+-- The journal holds the newest change from so many steps back on: this event made it, this is its note, and this was seen
+-- before and after.
 pub record IsFoundIn (tape : Tape) (watch : Watch) (back : ℕ) (found : Found) : Type 0 where
   pub change : Change
   pub next : IsNextChange watch tape.session.machine back change
   pub event : found.event ≡ event_at (change.back - 1) tape
+  pub note : TellsAt (states tape.session.machine) (change.back - 1) found.note
   pub before : found.difference.before ≡ change.before
   pub after : slice_get (sights watch tape.session.machine) (change.back - 1) ≡ Some found.difference.after
 

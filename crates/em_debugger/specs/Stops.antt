@@ -18,7 +18,7 @@ use Rattle.em_debugger.specs.declared.stops.Ran.{Ran}
 use Rattle.em_debugger.specs.declared.stops.Ran.TheVariants as ran
 use Rattle.em_debugger.specs.Expected.{answers_otherwise}
 use Rattle.em_debugger.specs.Place.{line_here, text_of}
-use Rattle.em_debugger.specs.Performing.{PerformsNext, IsLast, ShowsPerformed, fault_text}
+use Rattle.em_debugger.specs.Performing.{PerformsNext, IsLast, ShowsPerformed, Unperformed, fault_text}
 use Rattle.em_debugger.specs.Who.{TellsNewest}
 
 -- the run ends before the line of this number
@@ -90,11 +90,11 @@ pub record RanTo (s : Stop) (first new : Debugger) (n : ℕ) (performed : Perfor
   pub performs : PerformsNext before new performed
   pub ends : EndsBehind s before new performed
 
--- lines were performed, and then memory was refused: the lines stay
+-- lines were performed, and then memory was refused
 pub record RanShort (s : Stop) (first new : Debugger) (n : ℕ) : Type 0 where
   pub before : Debugger
   pub runs : Runs s first n before
-  pub lines : new.tape.lines ≡ before.tape.lines
+  pub stopped : Unperformed before new
 
 -- a run performed n lines, and ended so
 abbrev pub RanSo : Stop → Debugger → Debugger → ℕ → Ran → Type 0

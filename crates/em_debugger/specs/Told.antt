@@ -1,5 +1,5 @@
 -- What the lines were answered, as it is kept.
-use Rattle.std.specs.Prelude.{◌≡◌, ◌≢◌, ℕ, List, [], insert, length, nat_lt, if◌then◌else◌, take, get_or, unwrap_or}
+use Rattle.std.specs.Prelude.{◌≡◌, ◌≢◌, ℕ, List, [], insert, length, nat_lt, if◌then◌else◌, remove, take, get_or, unwrap_or}
 use Rattle.em_text.specs.Lines.{lines_of}
 use Rattle.em_tape.specs.Tape.{line_at}
 
@@ -16,6 +16,10 @@ pub record Puts (number : ℕ) (text : List ℕ) (old new : List (List ℕ)) : T
   pub this : told_of number new ≡ text
   pub others : (n : ℕ) → n ≢ number → told_of n new ≡ told_of n old
 
+-- beside each line the same stands
+abbrev pub Stay : List (List ℕ) → List (List ℕ) → Type 0
+Stay old new = (line : ℕ) → told_of line new ≡ told_of line old
+
 -- the answer to one line was kept, and those to the others stay
 abbrev pub Notes : ℕ → List ℕ → List (List ℕ) → List (List ℕ) → Type 0
 Notes number text old new = Puts number (kept_of text) old new
@@ -23,3 +27,7 @@ Notes number text old new = Puts number (kept_of text) old new
 -- the texts beside the lines behind the first so many stand beside the next ones
 abbrev pub moved : ℕ → List (List ℕ) → List (List ℕ)
 moved lines held = if nat_lt lines (length held) then insert held lines [] else held
+
+-- the text beside the line behind the first so many is gone, and the texts beside the next ones stand beside those before
+abbrev pub closed : ℕ → List (List ℕ) → List (List ℕ)
+closed lines held = if nat_lt lines (length held) then remove held lines else held

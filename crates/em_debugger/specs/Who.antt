@@ -1,5 +1,5 @@
 -- Which event changed it.
-use Rattle.std.specs.Prelude.{◌≡◌, ◌⊎◌, ℕ, ◌+◌, ◌-◌, max, nat_lt, Bool, false, if◌then◌else◌}
+use Rattle.std.specs.Prelude.{◌≡◌, ◌⊎◌, ℕ, ◌+◌, ◌-◌, max, nat_lt, Bool, if◌then◌else◌}
 use Rattle.std.specs.Prelude.{List, [], ◌∷◌, ◌++◌, codes, decimal, length, Option, Some, None}
 use Rattle.std.specs.List.{flat_map}
 use Rattle.em_named.specs.Numbers.{end_of, line_of}
@@ -10,6 +10,8 @@ use Rattle.em_prompt.specs.declared.typed.Which.{Which}
 use Rattle.em_prompt.specs.declared.typed.Which.TheVariants.{Newest, Again, All}
 use Rattle.em_looks.specs.Numbers.{number_text, short_text}
 use Rattle.em_looks.specs.Sights.{watch_text, difference_text, IsWatch, HasNoWatch}
+use Rattle.em_trail.specs.declared.note.Note.{Note}
+use Rattle.em_noted.specs.Note.{note_text}
 use Rattle.em_debugger.specs.declared.debugger.Debugger.{Debugger}
 use Rattle.em_debugger.specs.declared.search.Found.{Found}
 use Rattle.em_debugger.specs.declared.search.Sought.{Sought}
@@ -17,8 +19,10 @@ use Rattle.em_debugger.specs.declared.search.Sought.TheVariants as sought
 use Rattle.em_debugger.specs.declared.who.Asked.{Asked}
 use Rattle.em_debugger.specs.declared.deeper.Unseen.{Unseen}
 use Rattle.em_debugger.specs.declared.deeper.Unseen.TheVariants.{Memory, TooLong}
+use Rattle.em_debugger.specs.declared.accessed.Accessed.{Accessed}
+use Rattle.em_debugger.specs.Accessed.{IsNewestAccess, came_text}
 use Rattle.em_debugger.specs.Deeper.{too_long_text}
-use Rattle.em_debugger.specs.Place.{text_of}
+use Rattle.em_debugger.specs.Place.{events_of, text_of}
 use Rattle.em_debugger.specs.Search.{Seeks}
 
 -- ---- texts
@@ -33,29 +37,58 @@ which_text which count =
 -- which of its line's events one is
 abbrev pub access_text : Tape → ℕ → ℕ → List ℕ
 access_text tape event line =
-    let before = end_of (line - 1) tape.did in which_text (event - before) (end_of line tape.did - before)
+    which_text (event - end_of (line - 1) tape.did) (events_of line tape.did)
 
--- an event: its line, its number, and the line's text
-abbrev pub event_of_text : Tape → ℕ → ℕ → List ℕ
-event_of_text tape event line =
+-- a line's text before each of its events, if they are more than one
+abbrev pub call_text : List ℕ → ℕ → List ℕ
+call_text text count = if nat_lt 1 count then short_text text ++ codes ": " else []
+
+-- what an event of a line was
+abbrev pub what_text : Tape → ℕ → Note → List ℕ
+what_text tape line note = call_text (text_of line tape) (events_of line tape.did) ++ note_text note
+
+-- where its note is not known, the line's text
+abbrev pub was_text : Tape → ℕ → Option Note → List ℕ
+was_text tape line None = short_text (text_of line tape)
+was_text tape line (Some note) = what_text tape line note
+
+-- an event: its line, its number, and what it was
+abbrev pub noted_text : Tape → ℕ → Option Note → ℕ → List ℕ
+noted_text tape event note line =
     number_text (codes "line ") line (codes ", ")
-    ++ (number_text (codes "event ") event [] ++ (access_text tape event line ++ short_text (text_of line tape)))
+    ++ (number_text (codes "event ") event [] ++ (access_text tape event line ++ was_text tape line note))
 
-abbrev pub event_text : Tape → ℕ → List ℕ
-event_text tape event = event_of_text tape event (line_of event tape.did)
+-- its note is known where the journal that is at hand holds it
+abbrev pub event_text : Tape → ℕ → Option Note → List ℕ
+event_text tape event note = noted_text tape event note (line_of event tape.did)
 
 -- a change: the event, and what it did
 abbrev pub found_text : Tape → Watch → Found → List ℕ
 found_text tape watch found =
-    event_text tape found.event ++ (codes "\n" ++ difference_text watch found.difference)
+    event_text tape found.event (Some found.note) ++ (codes "\n" ++ difference_text watch found.difference)
 
 abbrev pub unchanged_and : Watch → List ℕ → List ℕ
 unchanged_and watch end = codes "nothing changed " ++ (watch_text watch ++ end)
 
 -- no event changed it, or none before one that was told
-abbrev pub never_text : Watch → Bool → List ℕ
-never_text watch is_before =
-    if is_before then unchanged_and watch (codes " before that\n") else unchanged_and watch (codes "\n")
+abbrev pub unchanged_text : Watch → Bool → List ℕ
+unchanged_text watch is_before =
+    if is_before then unchanged_and watch (codes " before that") else unchanged_and watch []
+
+-- an access, and what came of it
+abbrev pub accessed_text : Tape → Accessed → List ℕ
+accessed_text tape accessed =
+    codes "; "
+    ++ (event_text tape accessed.event (Some accessed.note)
+    ++ (came_text accessed.note.kind accessed.note.value accessed.seen ++ codes "\n"))
+
+abbrev pub access_end : Tape → Option Accessed → List ℕ
+access_end tape None = codes "\n"
+access_end tape (Some accessed) = accessed_text tape accessed
+
+-- no event changed it, and this is the newest that accessed it
+abbrev pub never_text : Tape → Watch → Bool → Option Accessed → List ℕ
+never_text tape watch is_before accessed = unchanged_text watch is_before ++ access_end tape accessed
 
 abbrev pub no_memory_text : Watch → ℕ → List ℕ
 no_memory_text watch event =
@@ -66,16 +99,10 @@ abbrev pub unreached_text : Watch → ℕ → Unseen → List ℕ
 unreached_text watch event (Memory refused) = no_memory_text watch event
 unreached_text watch event (TooLong line) = too_long_text (codes "line ") line
 
--- what a search from so many steps back on gave
-abbrev pub sought_text : Tape → Watch → ℕ → Sought → List ℕ
-sought_text tape watch back (sought.Found found) = found_text tape watch found
-sought_text tape watch back sought.Never = never_text watch (nat_lt 0 back)
-sought_text tape watch back (sought.Unreached why) = unreached_text watch (event_at back tape) why
-
 -- so many events changed it
 abbrev pub changes_text : Watch → ℕ → List ℕ
 changes_text watch count =
-    if nat_lt 0 count then number_text (codes "changes: ") count (codes "\n") else never_text watch false
+    if nat_lt 0 count then number_text (codes "changes: ") count (codes "\n") else unchanged_and watch (codes "\n")
 
 abbrev pub length_text : List ℕ
 length_text = codes "who: LEN is 1 to 16\n"
@@ -86,6 +113,18 @@ length_text = codes "who: LEN is 1 to 16\n"
 abbrev pub SeeksHere : Debugger → Watch → ℕ → Sought → Type 0
 SeeksHere d watch back s = Seeks d.settings d.tape watch d.tape back s
 
+-- from so many steps back on no event changed it; the newest access from there on is told, as far as the journal reaches
+pub record TellsNever (tape : Tape) (watch : Watch) (back : ℕ) (text : List ℕ) : Type 0 where
+  pub accessed : Option Accessed
+  pub newest : IsNewestAccess tape watch back accessed
+  pub said : text ≡ never_text tape watch (nat_lt 0 back) accessed
+
+-- what a search from so many steps back on gave
+abbrev pub TellsSought : Tape → Watch → ℕ → Sought → List ℕ → Type 0
+TellsSought tape watch back (sought.Found found) text = text ≡ found_text tape watch found
+TellsSought tape watch back sought.Never text = TellsNever tape watch back text
+TellsSought tape watch back (sought.Unreached why) text = text ≡ unreached_text watch (event_at back tape) why
+
 -- what was asked for last, once a search has given this
 abbrev pub asked_after : Option Asked → Watch → Sought → Option Asked
 asked_after asked watch (sought.Found found) = Some (record { watch = watch; event = found.event })
@@ -95,7 +134,7 @@ asked_after asked watch _ = asked
 pub record TellsNewest (old new : Debugger) (watch : Watch) (back : ℕ) (text : List ℕ) : Type 0 where
   pub given : Sought
   pub sought : SeeksHere old watch back given
-  pub said : text ≡ sought_text old.tape watch back given
+  pub said : TellsSought old.tape watch back given text
   pub asked : new.asked ≡ asked_after old.asked watch given
   pub tape : new.tape ≡ old.tape
 

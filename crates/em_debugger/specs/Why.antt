@@ -10,6 +10,7 @@ use Rattle.em_reasons.specs.declared.look.Look.{Look}
 use Rattle.em_tape.specs.Tape.{Tape}
 use Rattle.em_watch.specs.declared.watch.Watch.{Watch}
 use Rattle.em_debugger.specs.declared.debugger.Debugger.{Debugger}
+use Rattle.em_debugger.specs.declared.search.Found.{Found}
 use Rattle.em_debugger.specs.declared.search.Sought.{Sought}
 use Rattle.em_debugger.specs.declared.search.Sought.TheVariants as sought
 use Rattle.em_debugger.specs.Debugger.{told}
@@ -38,8 +39,8 @@ newest_undone d (suc k) = if is_undone (told (suc k) d) then suc k else newest_u
 
 -- ---- texts
 
-abbrev pub found_setter : Tape → ℕ → List ℕ
-found_setter tape event = codes "    " ++ (event_text tape event ++ codes "\n")
+abbrev pub found_setter : Tape → Found → List ℕ
+found_setter tape found = codes "    " ++ (event_text tape found.event (Some found.note) ++ codes "\n")
 
 -- why an event was not seen, up to which none had set it
 abbrev pub unseen_setter : Unseen → List ℕ
@@ -48,7 +49,7 @@ unseen_setter (TooLong line) = too_long_text (codes "    line ") line
 
 -- the event that set it
 abbrev pub setter_text : Tape → Sought → List ℕ
-setter_text tape (sought.Found found) = found_setter tape found.event
+setter_text tape (sought.Found found) = found_setter tape found
 setter_text tape sought.Never = codes "    no event changed it\n"
 setter_text tape (sought.Unreached why) = unseen_setter why
 

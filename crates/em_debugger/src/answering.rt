@@ -7,6 +7,7 @@ ghost use Rattle.std.specs.Io.KnownBytes.{Appends};
 ghost use Rattle.em_prompt.specs.Prompt.{plain_wrong, prompted};
 ghost use Rattle.em_prompt.specs.Typed.{plain};
 ghost use Rattle.em_text.specs.Writer.{Writes};
+ghost use Rattle.em_debugger.specs.Disk.{Did};
 ghost use Rattle.em_debugger.specs.Answering.{Answers, AnswersPrompted, Obeys, Shows, TellsWrong, asking, flow_of, warnings_are};
 
 use crate::debugger::Debugger;
@@ -16,7 +17,7 @@ use em_expect::expectation;
 use em_looks::{show_memory, show_register, show_ring, show_sent, show_waiting};
 use em_names::nearest;
 use em_prompt::{
-    BenchLine, Fault, Typed, Wrong, prompted, write_help, write_whole_help, write_wrong,
+    BenchLine, Fault, Shown, Typed, Wrong, prompted, write_help, write_whole_help, write_wrong,
 };
 use em_regs::Reg;
 use em_text::{WriteFailed, write_whole};
@@ -35,7 +36,7 @@ impl Debugger {
         line: &[u8],
     ) -> Result<Flow, WriteFailed>
         ensures ok { IfOk result (λ flow. (text : List ℕ) × Appends (W.contents writer.old) (W.contents writer.new) text
-            × Answers self.old self.new line.now flow text) }
+            × Answers (Did D.passes disk.old disk.new) self.old self.new line.now flow text) }
     {
         if line.len() >= MOST_TYPED {
             write_whole(writer, b"the line is too long\n")?;
@@ -59,7 +60,7 @@ impl Debugger {
     ) -> Result<Flow, WriteFailed>
         requires { length line.now < 0xFFFF_FFFF }
         ensures ok { IfOk result (λ flow. (text : List ℕ) × Appends (W.contents writer.old) (W.contents writer.new) text
-            × AnswersPrompted self.old self.new (prompted line.now) flow text) }
+            × AnswersPrompted (Did D.passes disk.old disk.new) self.old self.new (prompted line.now) flow text) }
     {
         match prompted(line) {
             Ok(typed) => {
@@ -81,7 +82,7 @@ impl Debugger {
         typed: Typed<'_>,
     ) -> Result<(), WriteFailed>
         ensures ok { OnOk result ((text : List ℕ) × Appends (W.contents writer.old) (W.contents writer.new) text
-            × Obeys self.old self.new (plain typed.entry) text) }
+            × Obeys (Did D.passes disk.old disk.new) self.old self.new (plain typed.entry) text) }
     {
         match typed {
             Typed::Line(line) => self.perform_typed(writer, line, b""),
@@ -103,60 +104,28 @@ impl Debugger {
             Typed::ArriveAll => self.arrive_all(writer),
             Typed::Pcap(name) => self.write_capture(writer, disk, name, false),
             Typed::PcapOver(name) => self.write_capture(writer, disk, name, true),
-            Typed::Silent => self.show(writer, typed),
-            Typed::Look(_) => self.show(writer, typed),
-            Typed::History(_) => self.show(writer, typed),
-            Typed::Effect(_) => self.show(writer, typed),
-            Typed::Ring(_) => self.show(writer, typed),
-            Typed::Frame(_) => self.show(writer, typed),
-            Typed::Memory(..) => self.show(writer, typed),
-            Typed::Why => self.show(writer, typed),
-            Typed::Help(_) => self.show(writer, typed),
-            Typed::Quit => self.show(writer, typed),
+            Typed::Show(shown) => self.show(writer, shown),
+            Typed::Silent | Typed::Quit => Ok(()),
         }
     }
 
     /// Shows what a line asks for that changes nothing.
-    fn show<W: Write>(&self, writer: &mut W, typed: Typed<'_>) -> Result<(), WriteFailed>
+    fn show<W: Write>(&self, writer: &mut W, shown: Shown) -> Result<(), WriteFailed>
         ensures ok { OnOk result ((text : List ℕ) × Appends (W.contents writer.old) (W.contents writer.new) text
-            × Shows self.now (plain typed.entry) text) }
+            × Shows self.now shown text) }
     {
         let machine = self.tape.machine();
-        match typed {
-            Typed::Look(reg) => show_register(writer, machine, reg),
-            Typed::History(most) => self.history(writer, most),
-            Typed::Effect(event) => self.effect(writer, event),
-            Typed::Ring(side) => show_ring(writer, machine, side),
-            Typed::Frame(None) => show_waiting(writer, machine),
-            Typed::Frame(Some(index)) => show_sent(writer, machine, index),
-            Typed::Memory(addr, len) => show_memory(writer, machine, addr, len),
-            Typed::Why => self.why(writer),
-            Typed::Help(Some(command)) => write_help(writer, command),
-            Typed::Help(None) => write_whole_help(writer),
-            Typed::Silent | Typed::Quit => Ok(()),
-            // lines that are performed
-            Typed::Line(_)
-            | Typed::Next(_)
-            | Typed::Run
-            | Typed::RunUntil(_)
-            | Typed::ArriveNext
-            | Typed::ArriveAll => Ok(()),
-            // another place, and who changed what
-            Typed::Back(_)
-            | Typed::BackTo(_)
-            | Typed::Forward(_)
-            | Typed::ForwardTo(_)
-            | Typed::Goto(_)
-            | Typed::Who(..)
-            | Typed::WhoAgain => Ok(()),
-            // files, and switches
-            Typed::Load(_)
-            | Typed::Save(_)
-            | Typed::SaveOver(_)
-            | Typed::Pcap(_)
-            | Typed::PcapOver(_)
-            | Typed::Warnings(_)
-            | Typed::Auto(_) => Ok(()),
+        match shown {
+            Shown::Look(reg) => show_register(writer, machine, reg),
+            Shown::History(most) => self.history(writer, most),
+            Shown::Effect(event) => self.effect(writer, event),
+            Shown::Ring(side) => show_ring(writer, machine, side),
+            Shown::Frame(None) => show_waiting(writer, machine),
+            Shown::Frame(Some(index)) => show_sent(writer, machine, index),
+            Shown::Memory(addr, len) => show_memory(writer, machine, addr, len),
+            Shown::Why => self.why(writer),
+            Shown::Help(Some(command)) => write_help(writer, command),
+            Shown::Help(None) => write_whole_help(writer),
         }
     }
 

@@ -1,76 +1,119 @@
 //! Comparing the answers of a script with those that its lines expect.
-ghost use Rattle.std.specs.Prelude.{◌≡◌, ◌≤◌, ℕ, List, IfOk, OnOk, length};
+ghost use Rattle.std.specs.Prelude.{◌≡◌, ℕ, List, OnOk};
 ghost use Rattle.std.specs.Io.KnownBytes.{Appends};
-ghost use Rattle.em_debugger.specs.Compare.{Compares, TellsDiffers, TellsRegister, before_line, register_in};
+ghost use Rattle.em_debugger.specs.Compare.{Compares, TellsDiffers, TellsParts, TellsRegister, before_line, differing, known_of};
+ghost use Rattle.em_text.specs.Writer.{Writes};
+ghost use Rattle.em_debugger.specs.Expected.{wanted};
+ghost use Rattle.em_debugger.specs.Place.{text_of};
 
 use crate::debugger::Debugger;
 use crate::departures::write_departure;
-use crate::performing::{Performed, write_fault};
+use crate::performing::Performed;
 use crate::place::text_of;
 use crate::stops::{Ran, Stop};
 use em_expect::register_read;
 use em_regs::Reg;
+use em_script::BenchFault;
 use em_text::WriteFailed;
 use em_watch::Watch;
 use std::io::Write;
+
+/// A line whose answer differs from the one that it expects.
+#[derive(Clone, Copy, PartialEq, Eq, Debug)]
+pub struct Differing {
+    /// The line's number.
+    pub line: usize,
+    /// The register that it reads, if it reads one.
+    pub reg: Option<Reg>,
+    performed: Performed,
+}
 
 /// What a comparison came to.
 #[derive(Clone, Copy, PartialEq, Eq, Debug)]
 pub enum Compared {
     /// No answer differs up to the last line.
     Agrees,
-    /// An answer differs; that of a read of this register, if it was one.
-    Differs(Option<Reg>),
-    /// Memory was refused.
-    Stopped,
+    /// This answer differs.
+    Differs(Differing),
+    /// The line could not be performed.
+    Stopped(BenchFault),
 }
 
 impl Debugger {
-    /// Performs lines up to the next answer that is another than its line expects, and shows that line with its answer, what
-    /// is known of such a difference, and who changed the register last that the line reads.
-    pub fn compare<W: Write>(&mut self, writer: &mut W) -> Result<Compared, WriteFailed>
-        ensures ok { IfOk result (λ compared. (text : List ℕ)
-            × Appends (W.contents writer.old) (W.contents writer.new) text
-            × Compares self.old self.new compared text) }
+    /// Performs lines up to the next answer that is another than its line expects.
+    pub fn compare(&mut self) -> Compared
+        ensures { Compares self.old self.new result }
     {
         let (_lines, ran) = self.play_until(Stop::Differs);
         match ran {
-            Ran::Behind(performed) => {
-                let reg = self.register_in(performed);
-                self.tell_differs(writer, performed, reg)?;
-                Ok(Compared::Differs(reg))
-            }
-            Ran::Fault(fault) => {
-                write_fault(writer, fault)?;
-                Ok(Compared::Stopped)
-            }
-            Ran::End => Ok(Compared::Agrees),
+            Ran::Behind(performed) => Compared::Differs(self.differing(performed)),
+            Ran::Fault(fault) => Compared::Stopped(fault),
+            Ran::End => Compared::Agrees,
             // only a run up to a line ends before one
-            Ran::Before(_) => Ok(Compared::Agrees),
+            Ran::Before(_) => Compared::Agrees,
         }
     }
 
-    /// The register that a line reads, if it reads one.
-    fn register_in(&self, performed: Performed) -> Option<Reg>
-        ensures { result ≡ register_in performed self.now }
+    fn differing(&self, performed: Performed) -> Differing
+        ensures { result ≡ differing performed self.now }
     {
-        register_read(text_of(&self.tape, performed.line))
+        Differing {
+            line: performed.line,
+            reg: register_read(text_of(&self.tape, performed.line)),
+            performed,
+        }
     }
 
-    /// Shows a line whose answer differs.
-    fn tell_differs<W: Write>(
+    /// What is played of a line.
+    pub fn line_played(&self, line: usize) -> &[u8]
+        ensures { result.now ≡ text_of line self.now.tape }
+    {
+        text_of(&self.tape, line)
+    }
+
+    /// The answer that a line expects; no octet, where it expects none.
+    pub fn line_expects(&self, line: usize) -> &[u8]
+        ensures { result.now ≡ wanted line self.now }
+    {
+        self.wanted.of(line)
+    }
+
+    /// The answer of the line that was performed last.
+    pub fn newest_answer(&self) -> &[u8]
+        ensures { result.now ≡ self.now.answer.items }
+    {
+        self.answer.as_slice()
+    }
+
+    /// Shows a line whose answer differs, right behind it, what is known of that, if it is a known difference, and who changed
+    /// the register last that the line reads.
+    pub fn tell_differs<W: Write>(
+        &mut self,
+        writer: &mut W,
+        differing: Differing,
+        is_known: bool,
+    ) -> Result<(), WriteFailed>
+        ensures ok { OnOk result ((text : List ℕ) × Appends (W.contents writer.old) (W.contents writer.new) text
+            × TellsDiffers self.old self.new differing is_known text) }
+    {
+        self.tell_parts(writer, differing.performed, differing.reg, is_known)
+    }
+
+    /// The same of a line that reads this register, or none.
+    fn tell_parts<W: Write>(
         &mut self,
         writer: &mut W,
         performed: Performed,
         reg: Option<Reg>,
+        is_known: bool,
     ) -> Result<(), WriteFailed>
         ensures ok { OnOk result ((text : List ℕ) × Appends (W.contents writer.old) (W.contents writer.new) text
-            × TellsDiffers self.old self.new performed reg text) }
+            × TellsParts self.old self.new performed reg is_known text) }
     {
         self.write_performed(writer, performed)?;
         let before = self.before_line(performed);
         match reg {
-            Some(reg) => self.tell_register(writer, reg, before),
+            Some(reg) => self.tell_register(writer, reg, before, is_known),
             None => Ok(()),
         }
     }
@@ -83,17 +126,29 @@ impl Debugger {
         self.tape.behind(self.tape.end_of(lines))
     }
 
-    /// Tells what is known of a register's differences, and who changed it last, from so many steps back on.
+    /// Tells what is known of a register's differences, if this is one of those, and who changed it last, from so many steps back on.
     fn tell_register<W: Write>(
         &mut self,
         writer: &mut W,
         reg: Reg,
         before: usize,
+        is_known: bool,
     ) -> Result<(), WriteFailed>
         ensures ok { OnOk result ((text : List ℕ) × Appends (W.contents writer.old) (W.contents writer.new) text
-            × TellsRegister self.old self.new reg before text) }
+            × TellsRegister self.old self.new reg before is_known text) }
     {
-        write_departure(writer, reg)?;
+        write_known(writer, reg, is_known)?;
         self.who_before(writer, Watch::Register(reg), before)
+    }
+}
+
+/// Writes what is known of a register's differences, if this is one of those.
+fn write_known<W: Write>(writer: &mut W, reg: Reg, is_known: bool) -> Result<(), WriteFailed>
+    ensures writes { Writes (W.contents writer.old) (W.contents writer.new) result (known_of is_known reg) }
+{
+    if is_known {
+        write_departure(writer, reg)
+    } else {
+        Ok(())
     }
 }

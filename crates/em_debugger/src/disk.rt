@@ -1,6 +1,6 @@
 //! Where files lie.
 ghost use Rattle.std.specs.Prelude.{◌≡◌};
-ghost use Rattle.em_debugger.specs.Files.{disk_text};
+ghost use Rattle.em_debugger.specs.Disk.{disk_text};
 
 /// Why a file was not read or written.
 #[derive(Clone, Copy, PartialEq, Eq, Debug)]
@@ -37,12 +37,24 @@ impl DiskFault {
 
 /// Files by their names.
 pub trait Disk {
+    ghost use Rattle.std.specs.Prelude.{OnOk, IfErr};
+    ghost use Rattle.em_debugger.specs.Disk.{Deed, Read, Made, Replaced, Refused};
+
+    // in a state of the disk this is done, and this state follows
+    ghost passes: { Self → Deed → Self → Type 0 };
+
     /// Puts what a file holds into `text`, which is empty.
-    fn read(&mut self, name: &[u8], text: &mut Vec<u8>) -> Result<(), DiskFault>;
+    fn read(&mut self, name: &[u8], text: &mut Vec<u8>) -> Result<(), DiskFault>
+        ensures ok { OnOk result (passes self.old (Read name.now text.new.items) self.new) }
+        ensures err { IfErr result (λ fault. passes self.old (Refused name.now fault) self.new) };
 
     /// Makes a new file with this text.
-    fn create(&mut self, name: &[u8], text: &[u8]) -> Result<(), DiskFault>;
+    fn create(&mut self, name: &[u8], text: &[u8]) -> Result<(), DiskFault>
+        ensures ok { OnOk result (passes self.old (Made name.now text.now) self.new) }
+        ensures err { IfErr result (λ fault. passes self.old (Refused name.now fault) self.new) };
 
     /// Makes a file with this text, in the place of one that may be there: whole or not at all.
-    fn replace(&mut self, name: &[u8], text: &[u8]) -> Result<(), DiskFault>;
+    fn replace(&mut self, name: &[u8], text: &[u8]) -> Result<(), DiskFault>
+        ensures ok { OnOk result (passes self.old (Replaced name.now text.now) self.new) }
+        ensures err { IfErr result (λ fault. passes self.old (Refused name.now fault) self.new) };
 }

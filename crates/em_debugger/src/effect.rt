@@ -1,8 +1,9 @@
 //! What an event changed.
-ghost use Rattle.std.specs.Prelude.{◌≡◌, List, ℕ, OnOk, true};
+ghost use Rattle.std.specs.Prelude.{◌≡◌, ◌<◌, ◌++◌, List, ℕ, None, OnOk, codes, length, true};
 ghost use Rattle.std.specs.Io.KnownBytes.{Appends};
 ghost use Rattle.em_text.specs.Writer.{Writes};
-ghost use Rattle.em_debugger.specs.Effect.{asked_event, none_text, stands, unseen_text, AnswersEffect, TellsChanged, TellsEvent};
+ghost use Rattle.em_debugger.specs.Effect.{asked_event, none_text, stands, unseen_text, AnswersEffect, TellsEvent, TellsSeen};
+ghost use Rattle.em_debugger.specs.Who.{event_text};
 
 use crate::debugger::Debugger;
 use crate::deeper::{Unseen, deeper, write_too_long};
@@ -36,25 +37,49 @@ impl Debugger {
         ensures ok { OnOk result ((text : List ℕ) × Appends (W.contents writer.old) (W.contents writer.new) text
             × TellsEvent self.now event text) }
     {
-        write_event(writer, &self.tape, event)?;
-        write_whole(writer, b"\n")?;
-        self.write_changed(writer, event)
-    }
-
-    /// Writes what an event changed.
-    fn write_changed<W: Write>(&self, writer: &mut W, event: u64) -> Result<(), WriteFailed>
-        requires { stands event self.now.tape ≡ true }
-        ensures ok { OnOk result ((text : List ℕ) × Appends (W.contents writer.old) (W.contents writer.new) text
-            × TellsChanged self.now event text) }
-    {
         let behind = self.tape.behind(event);
         if behind < self.tape.machine().can_go_back() {
-            return write_effect(writer, self.tape.machine(), behind + 1);
+            return self.write_seen(writer, event, &self.tape, behind);
         }
         match deeper(self.alloc, self.settings, &self.tape, event) {
-            Ok(deep) => write_effect(writer, deep.machine(), 1),
-            Err(why) => write_unseen(writer, why),
+            Ok(deep) => self.write_seen(writer, event, &deep, 0),
+            Err(why) => self.write_event_unseen(writer, event, why),
         }
+    }
+
+    /// Writes an event, and what it changed, by a tape whose journal holds it so many steps back.
+    fn write_seen<W: Write>(
+        &self,
+        writer: &mut W,
+        event: u64,
+        seen: &Tape,
+        back: usize,
+    ) -> Result<(), WriteFailed>
+        requires { back < length seen.now.session.machine.past }
+        ensures ok { OnOk result ((text : List ℕ) × Appends (W.contents writer.old) (W.contents writer.new) text
+            × TellsSeen self.now event seen.now back text) }
+    {
+        let Some(note) = seen.note_back(back) else {
+            unreachable!()
+        };
+        write_event(writer, &self.tape, event, Some(note))?;
+        write_whole(writer, b"\n")?;
+        write_effect(writer, seen.machine(), back + 1)
+    }
+
+    /// Writes an event, and why it was not seen.
+    fn write_event_unseen<W: Write>(
+        &self,
+        writer: &mut W,
+        event: u64,
+        why: Unseen,
+    ) -> Result<(), WriteFailed>
+        ensures writes { Writes (W.contents writer.old) (W.contents writer.new) result
+            (event_text self.now.tape event None ++ (codes "\n" ++ unseen_text why)) }
+    {
+        write_event(writer, &self.tape, event, None)?;
+        write_whole(writer, b"\n")?;
+        write_unseen(writer, why)
     }
 }
 

@@ -1,6 +1,7 @@
 //! Engines that run by themselves: their steps are lines of the session.
 ghost use Rattle.std.specs.Prelude.{◌≡◌, ◌<◌, ◌≤◌, OnOk, OnErr, IfSome, length, nat_lt};
 ghost use Rattle.em_text.specs.Writer.{Writes};
+ghost use Rattle.em_tape.specs.Texts.{texts};
 ghost use Rattle.em_debugger.specs.Engines.{Engages, PutsStep, engine_behind, engines_are, behind_refused};
 ghost use Rattle.em_debugger.specs.Engines.{behind_step, running, sending, step_line, step_of, steps_of};
 
@@ -8,10 +9,12 @@ use crate::debugger::Debugger;
 use crate::performing::Performed;
 use crate::place::text_of;
 use em_journal::Machine;
+use em_line::{Command, command_of};
 use em_prompt::Side;
 use em_reasons::{why_rx_idle, why_tx_idle};
 use em_script::{BenchFault, Outcome};
-use em_text::{WriteFailed, is_name, write_whole};
+use em_step::Event;
+use em_text::{WriteFailed, write_whole};
 use std::io::Write;
 
 /// How many steps engines make by themselves at most, once that is switched on: as many as a session has lines.
@@ -53,7 +56,8 @@ impl Debugger {
     /// so many events stood.
     pub(crate) fn engage(&mut self, performed: Performed, before: u64) -> Result<(), BenchFault>
         ensures ok { OnOk result (Engages before performed self.old self.new) }
-        ensures err { OnErr result (self.new.tape.lines ≡ self.old.tape.lines) }
+        ensures err { OnErr result (self.new ≡ record self.old { wanted = self.new.wanted }) }
+        ensures kept { OnErr result (texts self.new.wanted.answers.items ≡ texts self.old.wanted.answers.items) }
         ensures settings { self.new.settings ≡ self.old.settings }
     {
         match self.engine_behind(performed, before) {
@@ -87,13 +91,14 @@ impl Debugger {
         requires left { 0 < self.old.engines }
         requires newest { length self.old.tape.did ≤ self.old.tape.whole }
         ensures ok { OnOk result (PutsStep side self.old self.new) }
-        ensures err { OnErr result (self.new.tape.lines ≡ self.old.tape.lines) }
+        ensures err { OnErr result (self.new ≡ record self.old { wanted = self.new.wanted }) }
+        ensures kept { OnErr result (texts self.new.wanted.answers.items ≡ texts self.old.wanted.answers.items) }
         ensures settings { self.new.settings ≡ self.old.settings }
     {
         let whole = self.tape.whole();
-        if self.wanted.make_way(whole).is_err() {
+        let Ok(()) = self.wanted.make_way(whole) else {
             return Err(BenchFault::Memory);
-        }
+        };
         match self.tape.put_next(step_line(side)) {
             Ok(()) => {
                 self.engines -= 1;
@@ -111,13 +116,11 @@ impl Debugger {
 fn step_of(line: &[u8]) -> Option<Side>
     ensures { result ≡ step_of line.now }
 {
-    if is_name(line, RX) {
-        return Some(Side::Receive);
+    match command_of(line) {
+        Some(Command::Event(Event::RxStep)) => Some(Side::Receive),
+        Some(Command::Event(Event::TxStep)) => Some(Side::Transmit),
+        _ => None,
     }
-    if is_name(line, TX) {
-        return Some(Side::Transmit);
-    }
-    None
 }
 
 /// The line of a step.

@@ -1,32 +1,38 @@
 //! The answers that lines expect, and how many were given so.
-ghost use Rattle.std.specs.Prelude.{◌≡◌, ◌<◌, OnOk, length, [], true, false};
+ghost use Rattle.std.specs.Prelude.{◌≡◌, [], true, false};
+ghost use Rattle.std.specs.Option.{option_map};
+ghost use Rattle.em_step.specs.Event.{plain as plain_event};
 ghost use Rattle.em_text.specs.Writer.{Writes};
 ghost use Rattle.em_tape.specs.Texts.{texts};
-ghost use Rattle.em_debugger.specs.Expected.{Expects, answers_otherwise, compared_text, differs, scored, wanted, with_answer};
+ghost use Rattle.em_debugger.specs.Expected.{answers_otherwise, compared_text, differs, scored, scored_answer, wanted};
+ghost use Rattle.em_debugger.specs.Expected.{warnings_behind, with_answer};
 
 use crate::debugger::Debugger;
 use crate::place::text_of;
-use crate::told::Told;
-use em_expect::{agrees, write_differs};
+use crate::warned::warnings_of_line;
+use em_expect::{agrees_of, write_difference};
+use em_line::accessed;
+use em_step::Event;
 use em_text::WriteFailed;
-use std::alloc::AllocError;
 use std::io::Write;
 
-/// How many answers were as their lines expect, and how many were not.
+/// How many answers were as their lines expect, how many were not, and how many warnings lines had.
 #[derive(Clone, Copy, PartialEq, Eq, Debug)]
 pub struct Score {
     pub agreed: u64,
     pub differed: u64,
+    pub warnings: u64,
 }
 
 impl Score {
     /// Before any answer.
     pub(crate) fn none() -> Score
-        ensures { result ≡ record { agreed = 0; differed = 0 } }
+        ensures { result ≡ record { agreed = 0; differed = 0; warnings = 0 } }
     {
         Score {
             agreed: 0,
             differed: 0,
+            warnings: 0,
         }
     }
 
@@ -48,18 +54,56 @@ impl Score {
     }
 }
 
+impl Score {
+    ghost use Rattle.std.specs.Prelude.{◌≡◌, ◌+◌};
+    ghost use Rattle.em_debugger.specs.Expected.{with_warnings};
+
+    /// With so many warnings more.
+    fn with_warnings(self, more: usize) -> Score
+        ensures { result ≡ with_warnings self more }
+    {
+        Score {
+            warnings: self.warnings.saturating_add(more as u64),
+            ..self
+        }
+    }
+}
+
 impl Debugger {
-    /// How many answers were as their lines expect so far, and how many were not. An answer that is given again counts
-    /// again.
+    /// How many answers were as their lines expect so far, how many were not, and how many warnings lines had. An answer that
+    /// is given again counts again, and so do its warnings.
     pub fn score(&self) -> Score
         ensures { result ≡ self.now.score }
     {
         self.score
     }
 
-    /// Counts the answer to a line, if the line expects one.
+    /// Counts the warnings of a line, if they are to be said, and its answer, if it expects one.
     pub(crate) fn count_answer(&mut self, line: usize)
         ensures { self.new ≡ record self.old { score = scored self.old line } }
+    {
+        let warnings = self.warnings_behind(line);
+        self.count_expected(line);
+        self.score = self.score.with_warnings(warnings);
+    }
+
+    /// How many warnings a line has, if they are to be said.
+    fn warnings_behind(&self, line: usize) -> usize
+        ensures { result ≡ warnings_behind self.now line }
+    {
+        if !self.warns {
+            return 0;
+        }
+        warnings_of_line(
+            self.tape.machine(),
+            text_of(&self.tape, line),
+            self.answer.as_slice(),
+        )
+    }
+
+    /// Counts the answer to a line, if the line expects one.
+    fn count_expected(&mut self, line: usize)
+        ensures { self.new ≡ record self.old { score = scored_answer self.old line } }
     {
         if !self.wanted.of(line).is_empty() {
             let differs = self.answers_otherwise(line);
@@ -71,7 +115,8 @@ impl Debugger {
     pub(crate) fn answers_otherwise(&self, line: usize) -> bool
         ensures { result ≡ answers_otherwise self.now line }
     {
-        differs(self.wanted.of(line), self.answer.as_slice())
+        let event = accessed(text_of(&self.tape, line));
+        differs(event, self.wanted.of(line), self.answer.as_slice())
     }
 
     /// Writes how the answer to a line differs from the one that the line expects, if it does.
@@ -85,25 +130,14 @@ impl Debugger {
         if !self.answers_otherwise(line) {
             return Ok(());
         }
-        let text = text_of(&self.tape, line);
-        write_differs(writer, text, self.wanted.of(line), self.answer.as_slice())
+        let event = accessed(text_of(&self.tape, line));
+        write_difference(writer, event, self.wanted.of(line), self.answer.as_slice())
     }
 }
 
-/// Whether an answer is another one than that which is wanted, if one is.
-fn differs(wanted: &[u8], answer: &[u8]) -> bool
-    ensures { result ≡ differs wanted.now answer.now }
+/// Whether the answer to an event is another one than that which is wanted, if one is.
+fn differs(event: Option<Event<'_>>, wanted: &[u8], answer: &[u8]) -> bool
+    ensures { result ≡ differs (option_map plain_event event.entry) wanted.now answer.now }
 {
-    !wanted.is_empty() && !agrees(wanted, answer)
-}
-
-/// Keeps which answer a line expects, if it expects one.
-pub(crate) fn expect(all: &mut Told, line: usize, answer: &[u8]) -> Result<(), AllocError>
-    requires { 0 < line }
-    ensures ok { OnOk result (Expects line answer.now (texts all.old.answers.items) (texts all.new.answers.items)) }
-{
-    if answer.is_empty() {
-        return Ok(());
-    }
-    all.put(line, answer)
+    !wanted.is_empty() && !agrees_of(event, wanted, answer)
 }

@@ -1,29 +1,31 @@
 //! Loading and saving lines.
-ghost use Rattle.std.specs.Prelude.{◌≡◌, ◌+◌, ◌++◌, ◌∷◌, [], ℕ, List, IfErr, IfOk, OnOk, codes, length, map};
+ghost use Rattle.std.specs.Prelude.{◌≡◌, ◌+◌, ◌++◌, ◌∷◌, [], ℕ, List, IfErr, IfOk, OnErr, OnOk, codes, length, map};
 ghost use Rattle.em_tape.specs.Texts.{texts};
-ghost use Rattle.em_expect.specs.Expectation.{said_in};
+ghost use Rattle.em_prompt.specs.Scripted.{played};
 ghost use Rattle.em_debugger.specs.Expected.{AllExpect, Expects, wanted_in};
 ghost use Rattle.std.specs.Io.KnownBytes.{Appends};
 ghost use Rattle.em_text.specs.Lines.{lines_of};
 ghost use Rattle.em_text.specs.Writer.{Writes};
-ghost use Rattle.em_debugger.specs.Deeper.{lines_here};
+ghost use Rattle.em_debugger.specs.Disk.{Deed, Did, Refused, Unmade, disk_text, making};
 ghost use Rattle.em_debugger.specs.Place.{text_of};
-ghost use Rattle.em_debugger.specs.Files.{AddsLines, BeginsBehind, BeginsInstead, BeginsText, BeginsWith, IsUnadded};
+ghost use Rattle.em_debugger.specs.Told.{Stay};
+ghost use Rattle.em_debugger.specs.Files.{AddsLines, AddsSome, BeginsBehind, BeginsInstead, BeginsText, IsUnadded, SomeAdded, played_in};
 ghost use Rattle.em_debugger.specs.Offers.{Loads, LoadsAs, is_capture};
-ghost use Rattle.em_debugger.specs.Files.{LoadsText, PlaysText, Saves, disk_text, loaded_text, saved_text, script_of};
+ghost use Rattle.em_debugger.specs.Files.{LoadsText, PlaysText, Saves, loaded_text, saved_text, script_here};
 
 use crate::debugger::Debugger;
 use crate::disk::{Disk, DiskFault};
-use crate::expected::expect;
 use crate::offers::is_capture;
 use crate::performing::{write_dropped, write_fault};
 use crate::place::{line_here, text_of};
 use crate::told::Told;
 use em_expect::expectation;
 use em_looks::write_counted;
+use em_prompt::scripted;
 use em_script::BenchFault;
 use em_tape::Tape;
 use em_text::{WriteFailed, next_line, write_pieces, write_whole};
+use std::alloc::Global;
 use std::io::Write;
 
 impl Debugger {
@@ -33,34 +35,15 @@ impl Debugger {
     /// then.
     pub fn add_lines(&mut self, text: &[u8]) -> Result<usize, BenchFault>
         ensures ok { OnOk result (AddsLines self.old self.new (lines_of text.now)) }
+        ensures err { OnErr result (AddsSome self.old self.new (lines_of text.now)) }
         ensures count { IfOk result (λ count. count ≡ length (lines_of text.now)) }
         ensures only { IfErr result IsUnadded }
     {
-        add_all(&mut self.tape, &mut self.wanted, text)
-    }
-
-    /// Begins with a script: loads it, and plays it to its end unless it is to be stepped through. False where it
-    /// cannot be read.
-    pub fn begin<W: Write, D: Disk>(
-        &mut self,
-        writer: &mut W,
-        disk: &mut D,
-        name: &[u8],
-        step: bool,
-    ) -> Result<bool, WriteFailed>
-        ensures ok { IfOk result (λ read. (text : List ℕ) × Appends (W.contents writer.old) (W.contents writer.new) text
-            × BeginsWith read step self.old self.new text) }
-    {
-        let mut text = Vec::new(self.alloc);
-        if disk.read(name, &mut text).is_err() {
-            return Ok(false);
-        }
-        self.begin_text(writer, text.as_slice(), step)?;
-        Ok(true)
+        add_all(self.alloc, &mut self.tape, &mut self.wanted, text)
     }
 
     /// Begins with a text: loads its lines behind the last one, and plays them unless they are to be stepped through.
-    fn begin_text<W: Write>(
+    pub fn begin_text<W: Write>(
         &mut self,
         writer: &mut W,
         script: &[u8],
@@ -99,7 +82,7 @@ impl Debugger {
         name: &[u8],
     ) -> Result<(), WriteFailed>
         ensures ok { OnOk result ((text : List ℕ) × Appends (W.contents writer.old) (W.contents writer.new) text
-            × Loads self.old self.new name.now text) }
+            × Loads (Did D.passes disk.old disk.new) self.old self.new name.now text) }
     {
         let mut text = Vec::new(self.alloc);
         match disk.read(name, &mut text) {
@@ -176,20 +159,30 @@ impl Debugger {
         over: bool,
     ) -> Result<(), WriteFailed>
         ensures ok { OnOk result ((text : List ℕ) × Appends (W.contents writer.old) (W.contents writer.new) text
-            × Saves self.now name.now text) }
+            × Saves (Did D.passes disk.old disk.new) over self.now name.now text) }
     {
-        let mut text = Vec::new(self.alloc);
-        self.write_lines(&mut text)?;
-        match write_file(disk, name, text.as_slice(), over) {
+        match self.save_lines(disk, name, over) {
             Ok(()) => write_saved(writer, line_here(&self.tape)),
             Err(fault) => write_disk_fault(writer, name, fault),
+        }
+    }
+
+    /// Puts the lines up to the place into a file, as a script. A file that is there already is refused, or replaced.
+    fn save_lines<D: Disk>(&self, disk: &mut D, name: &[u8], over: bool) -> Result<(), DiskFault>
+        ensures ok { OnOk result (D.passes disk.old (making over name.now (script_here self.now)) disk.new) }
+        ensures err { IfErr result (Unmade (Did D.passes disk.old disk.new) name.now) }
+    {
+        let mut text = Vec::new(self.alloc);
+        match self.write_lines(&mut text) {
+            Ok(()) => write_file(disk, name, text.as_slice(), over),
+            Err(_) => Err(DiskFault::Memory),
         }
     }
 
     /// Writes the lines up to the place as a script.
     fn write_lines<W: Write>(&self, writer: &mut W) -> Result<(), WriteFailed>
         ensures ok { OnOk result (Appends (W.contents writer.old) (W.contents writer.new)
-            (script_of (lines_here self.now.tape))) }
+            (script_here self.now)) }
     {
         for before in 0..line_here(&self.tape) {
             self.write_script_line(writer, before + 1)?;
@@ -206,38 +199,107 @@ impl Debugger {
 }
 
 /// Puts the lines of a text behind the last line of a tape, and gives how many they are.
-fn add_all(tape: &mut Tape, wanted: &mut Told, text: &[u8]) -> Result<usize, BenchFault>
+fn add_all(
+    alloc: Global,
+    tape: &mut Tape,
+    wanted: &mut Told,
+    text: &[u8],
+) -> Result<usize, BenchFault>
     ensures ok { OnOk result (tape.new ≡ record tape.old {
-      lines = tape.old.lines ++ map said_in (lines_of text.now);
+      lines = tape.old.lines ++ map played_in (lines_of text.now);
     }) }
     ensures expect { OnOk result (AllExpect (length tape.old.lines + 1) (lines_of text.now)
         (texts wanted.old.answers.items) (texts wanted.new.answers.items)) }
     ensures count { IfOk result (λ count. count ≡ length (lines_of text.now)) }
+    ensures err { OnErr result (SomeAdded tape.old tape.new (texts wanted.old.answers.items)
+        (texts wanted.new.answers.items) (lines_of text.now)) }
     ensures only { IfErr result IsUnadded }
 {
     let before = tape.len();
     let mut rest = text;
     while !rest.is_empty() {
         let (line, behind) = next_line(rest);
-        add_line(tape, wanted, line)?;
+        add_line(alloc, tape, wanted, line)?;
         rest = behind;
     }
     Ok(tape.len().saturating_sub(before))
 }
 
 /// Puts what a line says behind the last line of a tape, and keeps which answer it expects.
-fn add_line(tape: &mut Tape, wanted: &mut Told, line: &[u8]) -> Result<(), BenchFault>
-    ensures ok { OnOk result (tape.new ≡ record tape.old { lines = tape.old.lines ++ said_in line.now ∷ [] }) }
-    ensures expect { OnOk result (Expects (length tape.new.lines) (wanted_in line.now)
+fn add_line(
+    alloc: Global,
+    tape: &mut Tape,
+    wanted: &mut Told,
+    line: &[u8],
+) -> Result<(), BenchFault>
+    ensures ok { OnOk result (tape.new ≡ record tape.old { lines = tape.old.lines ++ played_in line.now ∷ [] }) }
+    ensures expect { OnOk result (Expects (length tape.old.lines + 1) (wanted_in line.now)
         (texts wanted.old.answers.items) (texts wanted.new.answers.items)) }
+    ensures err { OnErr result (tape.new ≡ tape.old) }
+    ensures stay { OnErr result (Stay (texts wanted.old.answers.items) (texts wanted.new.answers.items)) }
     ensures only { IfErr result IsUnadded }
 {
     let asked = expectation(line);
-    tape.add(asked.line)?;
-    match expect(wanted, tape.len(), asked.answer.unwrap_or_default()) {
-        Ok(()) => Ok(()),
-        Err(_) => Err(BenchFault::Memory),
+    add_played(
+        alloc,
+        tape,
+        wanted,
+        asked.line,
+        asked.answer.unwrap_or_default(),
+    )
+}
+
+/// Puts what is played of a line that says this behind the last line of a tape, and keeps which answer it expects: names
+/// of registers and bits and the like in the words that em_bench reads.
+fn add_played(
+    alloc: Global,
+    tape: &mut Tape,
+    wanted: &mut Told,
+    said: &[u8],
+    answer: &[u8],
+) -> Result<(), BenchFault>
+    ensures ok { OnOk result (tape.new ≡ record tape.old { lines = tape.old.lines ++ played said.now ∷ [] }) }
+    ensures expect { OnOk result (Expects (length tape.old.lines + 1) answer.now
+        (texts wanted.old.answers.items) (texts wanted.new.answers.items)) }
+    ensures err { OnErr result (tape.new ≡ tape.old) }
+    ensures stay { OnErr result (Stay (texts wanted.old.answers.items) (texts wanted.new.answers.items)) }
+    ensures only { IfErr result IsUnadded }
+{
+    let Some(line) = scripted(said) else {
+        return add_expecting(tape, wanted, said, answer);
+    };
+    let mut text = Vec::new(alloc);
+    if line.write(&mut text).is_err() {
+        return Err(BenchFault::Memory);
     }
+    add_expecting(tape, wanted, text.as_slice(), answer)
+}
+
+/// Puts a line behind the last line of a tape, and keeps which answer it expects, if it expects one. Where that is
+/// refused, all stays as it is.
+pub(crate) fn add_expecting(
+    tape: &mut Tape,
+    wanted: &mut Told,
+    line: &[u8],
+    answer: &[u8],
+) -> Result<(), BenchFault>
+    ensures ok { OnOk result (tape.new ≡ record tape.old { lines = tape.old.lines ++ line.now ∷ [] }) }
+    ensures expect { OnOk result (Expects (length tape.old.lines + 1) answer.now
+        (texts wanted.old.answers.items) (texts wanted.new.answers.items)) }
+    ensures err { OnErr result (tape.new ≡ tape.old) }
+    ensures stay { OnErr result (Stay (texts wanted.old.answers.items) (texts wanted.new.answers.items)) }
+    ensures only { IfErr result IsUnadded }
+{
+    if answer.is_empty() {
+        return tape.add(line);
+    }
+    let before = tape.len();
+    let Ok(answer) = wanted.make_ready(before + 1, answer) else {
+        return Err(BenchFault::Memory);
+    };
+    tape.add(line)?;
+    wanted.set(before, answer);
+    Ok(())
 }
 
 fn write_loaded<W: Write>(writer: &mut W, count: usize) -> Result<(), WriteFailed>
@@ -258,7 +320,10 @@ pub(crate) fn write_file<D: Disk>(
     name: &[u8],
     text: &[u8],
     over: bool,
-) -> Result<(), DiskFault> {
+) -> Result<(), DiskFault>
+    ensures ok { OnOk result (D.passes disk.old (making over name.now text.now) disk.new) }
+    ensures err { IfErr result (λ fault. D.passes disk.old (Refused name.now fault) disk.new) }
+{
     if over {
         disk.replace(name, text)
     } else {

@@ -1,16 +1,25 @@
 //! The lines that did something, by their numbers.
-ghost use Rattle.std.specs.Prelude.{◌≡◌, ◌≤◌, length, take, if◌then◌else◌, []};
+ghost use Rattle.std.specs.Prelude.{◌≡◌, ◌-◌, ◌<◌, ◌≤◌, ℕ, List, OnOk, length, take, if◌then◌else◌, []};
+ghost use Rattle.std.specs.Io.KnownBytes.{Appends};
 ghost use Rattle.em_text.specs.Writer.{Writes};
-ghost use Rattle.em_debugger.specs.History.{added_text, answer_text, around_text, did_something, events_of_text};
-ghost use Rattle.em_debugger.specs.History.{events_text, history_text, is_something, last_of};
+ghost use Rattle.em_journal.specs.View.{states};
+ghost use Rattle.em_trail.specs.Trail.{TellsAt};
+ghost use Rattle.em_trail.specs.declared.note.Note.{Note as Kept};
+ghost use Rattle.em_tape.specs.Tape.{event_of};
+ghost use Rattle.em_debugger.specs.History.{ShowsHistory, ShowsLines, Opens, added_text, ahead_text, answer_text, did_something, events_of_text};
+ghost use Rattle.em_debugger.specs.History.{events_text, so_far_text, is_something, last_of};
 ghost use Rattle.em_debugger.specs.History.{line_text, lines_between, lines_text, most_of, newest_line};
-ghost use Rattle.em_debugger.specs.History.{mark_text, number_of_line_text, start_text};
+ghost use Rattle.em_debugger.specs.History.{mark_text, number_of_line_text, opened, opened_text, start_text};
 
 use crate::debugger::Debugger;
 use crate::place::{line_here, text_of};
-use em_looks::write_short;
+use crate::who::write_access;
+use em_looks::{write_number, write_short};
 use em_named::Did;
+use em_noted::write_note;
+use em_tape::Tape;
 use em_text::{WriteFailed, write_pieces, write_whole};
+use em_trail::Note;
 use itoa::Buffer;
 use std::io::Write;
 
@@ -25,13 +34,14 @@ impl Debugger {
         writer: &mut W,
         typed: Option<u32>,
     ) -> Result<(), WriteFailed>
-        ensures writes { Writes (W.contents writer.old) (W.contents writer.new) result (history_text self.now typed) }
+        ensures ok { OnOk result ((text : List ℕ) × Appends (W.contents writer.old) (W.contents writer.new) text
+            × ShowsHistory self.now typed text) }
     {
         let here = self.newest_line(line_here(&self.tape));
         self.write_around(writer, most_of(typed), here)
     }
 
-    /// Writes the newest lines up to this one, and those that were performed behind it.
+    /// Writes the newest lines up to this one, its events, and those that were performed behind it.
     fn write_around<W: Write>(
         &self,
         writer: &mut W,
@@ -39,12 +49,26 @@ impl Debugger {
         here: usize,
     ) -> Result<(), WriteFailed>
         requires { here ≤ length self.now.tape.did }
+        ensures ok { OnOk result ((text : List ℕ) × Appends (W.contents writer.old) (W.contents writer.new) text
+            × ShowsLines self.now most here text) }
+    {
+        self.write_so_far(writer, most, here)?;
+        write_opened(writer, &self.tape, here, opened(most, &self.tape, here))?;
+        self.write_ahead(writer, most, here)
+    }
+
+    fn write_so_far<W: Write>(
+        &self,
+        writer: &mut W,
+        most: usize,
+        here: usize,
+    ) -> Result<(), WriteFailed>
+        requires { here ≤ length self.now.tape.did }
         ensures writes { Writes (W.contents writer.old) (W.contents writer.new) result
-            (around_text self.now most here) }
+            (so_far_text self.now most here) }
     {
         write_start(writer, here)?;
-        self.write_newest(writer, most, here)?;
-        self.write_ahead(writer, most, here)
+        self.write_newest(writer, most, here)
     }
 
     fn write_newest<W: Write>(
@@ -68,8 +92,7 @@ impl Debugger {
         here: usize,
     ) -> Result<(), WriteFailed>
         requires { here ≤ length self.now.tape.did }
-        ensures writes { Writes (W.contents writer.old) (W.contents writer.new) result (lines_text self.now here
-            (take most (lines_between self.now.tape.did here (length self.now.tape.did)))) }
+        ensures writes { Writes (W.contents writer.old) (W.contents writer.new) result (ahead_text self.now most here) }
     {
         let last = self.last_shown(most, here);
         self.write_lines_between(writer, here, last, here)
@@ -217,6 +240,81 @@ impl Debugger {
         write_short(writer, text_of(&self.tape, line))?;
         write_pieces(writer, &[b": ", self.told.of(line), b"\n"])
     }
+}
+
+/// How many of the newest events that stand at the place are shown one by one: those of its line.
+fn opened(most: usize, tape: &Tape, here: usize) -> usize
+    requires { here ≤ length tape.now.did }
+    ensures opened { result ≡ opened most tape.now here }
+    ensures held { result ≤ length tape.now.session.machine.past }
+{
+    let held = most.min(tape.machine().can_go_back());
+    let stand = tape
+        .event()
+        .saturating_sub(tape.end_of(here.saturating_sub(1)));
+    (held as u64).min(stand) as usize
+}
+
+/// Writes so many of the newest events that stand, the oldest first, each with its note.
+fn write_opened<W: Write>(
+    writer: &mut W,
+    tape: &Tape,
+    here: usize,
+    events: usize,
+) -> Result<(), WriteFailed>
+    requires known { here ≤ length tape.now.did }
+    requires held { events ≤ length tape.now.session.machine.past }
+    ensures ok { OnOk result ((text : List ℕ) × Appends (W.contents writer.old) (W.contents writer.new) text
+        × Opens tape.now here events 0 text) }
+{
+    let mut left = events;
+    while left > 0 {
+        left -= 1;
+        write_opened_at(writer, tape, here, left)?;
+    }
+    Ok(())
+}
+
+/// Writes the event so many steps back, with its note.
+fn write_opened_at<W: Write>(
+    writer: &mut W,
+    tape: &Tape,
+    here: usize,
+    back: usize,
+) -> Result<(), WriteFailed>
+    requires known { here ≤ length tape.now.did }
+    requires held { back < length tape.now.session.machine.past }
+    ensures ok { OnOk result ((note : Kept) × TellsAt (states tape.now.session.machine) back note
+        × Appends (W.contents writer.old) (W.contents writer.new)
+        (opened_text tape.now here (event_of tape.now - back) note)) }
+{
+    match tape.note_back(back) {
+        Some(note) => write_opened_event(
+            writer,
+            tape,
+            here,
+            tape.event().saturating_sub(back as u64),
+            note,
+        ),
+        None => unreachable!(),
+    }
+}
+
+fn write_opened_event<W: Write>(
+    writer: &mut W,
+    tape: &Tape,
+    here: usize,
+    event: u64,
+    note: Note,
+) -> Result<(), WriteFailed>
+    requires { here ≤ length tape.now.did }
+    ensures writes { Writes (W.contents writer.old) (W.contents writer.new) result
+        (opened_text tape.now here event note) }
+{
+    write_number(writer, b"    event ", event, b"")?;
+    write_access(writer, tape, event, here)?;
+    write_note(writer, note)?;
+    write_whole(writer, b"\n")
 }
 
 /// Whether events were performed or taken back.

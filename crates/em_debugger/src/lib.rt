@@ -4,6 +4,7 @@
 //! shows it at work.
 #![tactic(auto)]
 
+mod accessed;
 mod answering;
 mod bench_looks;
 mod compare;
@@ -27,11 +28,12 @@ mod played;
 mod search;
 mod stops;
 mod told;
+mod warned;
 mod who;
 mod why;
 
-pub use compare::Compared;
+pub use compare::{Compared, Differing};
 pub use debugger::Debugger;
 pub use disk::{Disk, DiskFault};
 pub use expected::Score;
-pub use laws::the_found_event_led;
+pub use laws::{saved_lines_are_read, the_found_event_led};

@@ -1,73 +1,43 @@
 //! Going to another place.
-ghost use Rattle.std.specs.Prelude.{◌≡◌, ◌-◌, Bool, true, false, []};
+ghost use Rattle.std.specs.Prelude.{◌≡◌, ◌-◌, ◌≤◌, Bool, Option, true, false, [], length};
 ghost use Rattle.em_tape.specs.Tape.{IsNear, event_of};
 ghost use Rattle.em_text.specs.Writer.{Writes};
 ghost use Rattle.em_debugger.specs.Debugger.{KeepsRest};
 ghost use Rattle.em_debugger.specs.Place.{line_here};
 ghost use Rattle.em_debugger.specs.Moves.{after_back, back_text, behind_text, budget_text, down_to_text, forward_by};
-ghost use Rattle.em_debugger.specs.Moves.{gone_text, line_text, line_told, near_text, one_back_text, place_text, taken_text};
-ghost use Rattle.em_debugger.specs.Moves.{Goes, IsBehind};
+ghost use Rattle.em_debugger.specs.Moves.{gone_text, line_text, near_text, one_back_text, place_text};
+ghost use Rattle.em_debugger.specs.Moves.{some_taken_text, taken, taken_text};
+ghost use Rattle.em_debugger.specs.Moves.{Goes, IsBehind, NotesLast};
+ghost use Rattle.em_trail.specs.declared.note.Note.{Note as Taken};
 
 use crate::debugger::Debugger;
-use crate::place::{line_here, text_of};
-use em_looks::{write_number, write_short};
+use crate::place::line_here;
+use crate::who::write_what;
+use em_looks::write_number;
 use em_tape::Tape;
-use em_text::{WriteFailed, write_pieces, write_whole};
+use em_text::{WriteFailed, write_whole};
+use em_trail::Note;
 use std::io::Write;
 
 impl Debugger {
     /// Takes events back, and says which.
     pub(crate) fn back<W: Write>(&mut self, writer: &mut W, most: u32) -> Result<(), WriteFailed>
-        ensures writes { Writes (W.contents writer.old) (W.contents writer.new) result
-            (back_text most self.old.tape self.new) }
+        ensures writes { (note : Option Taken) × NotesLast (taken most self.old.tape) self.old.tape note
+            × Writes (W.contents writer.old) (W.contents writer.new) result (back_text most self.old.tape self.new.tape note) }
         ensures tape { self.new.tape ≡ after_back most self.old.tape }
         ensures rest { KeepsRest self.old self.new }
     {
+        let most = most as usize;
+        let least = most.min(self.tape.machine().can_go_back());
+        let note = note_of_last(&self.tape, least);
         let newest = self.tape.event();
         if newest == 0 {
             return write_whole(writer, b"no event stands here\n");
         }
-        let most = most as usize;
-        let least = most.min(self.tape.machine().can_go_back());
         let last = self.tape.event_back(least.saturating_sub(1));
         let taken = self.tape.back(most);
-        self.write_taken(writer, taken, last)?;
+        write_taken(writer, &self.tape, taken, last, note)?;
         write_budget(writer, taken < most, self.tape.event())
-    }
-
-    /// Writes which events were taken back, the last of them this one.
-    fn write_taken<W: Write>(
-        &self,
-        writer: &mut W,
-        taken: usize,
-        last: u64,
-    ) -> Result<(), WriteFailed>
-        ensures writes { Writes (W.contents writer.old) (W.contents writer.new) result
-            (taken_text self.now taken last) }
-    {
-        match taken {
-            0 => Ok(()),
-            1 => self.write_one_back(writer, last),
-            _ => write_down_to(writer, &self.tape, taken, last),
-        }
-    }
-
-    /// Writes which event was taken back: `took back event 22 (line 18, rx: wrote 1)`.
-    fn write_one_back<W: Write>(&self, writer: &mut W, event: u64) -> Result<(), WriteFailed>
-        ensures writes { Writes (W.contents writer.old) (W.contents writer.new) result
-            (one_back_text self.now event) }
-    {
-        write_number(writer, b"took back event ", event, b" ")?;
-        self.write_line_told(writer, self.tape.line_of(event))
-    }
-
-    /// Writes a line in parentheses, and what was told of it.
-    fn write_line_told<W: Write>(&self, writer: &mut W, line: usize) -> Result<(), WriteFailed>
-        ensures writes { Writes (W.contents writer.old) (W.contents writer.new) result (line_told self.now line) }
-    {
-        write_number(writer, b"(line ", line as u64, b", ")?;
-        write_short(writer, text_of(&self.tape, line))?;
-        write_pieces(writer, &[b": ", self.told.of(line), b")\n"])
     }
 
     /// Goes to where so many events stand, and says where the place then is.
@@ -117,27 +87,97 @@ impl Debugger {
     }
 }
 
-/// Writes that events were taken back down to one: `took back 3 events, down to event 20 (line 17, rx)`.
+/// Writes which events were taken back, the last of them this one.
+fn write_taken<W: Write>(
+    writer: &mut W,
+    tape: &Tape,
+    taken: usize,
+    last: u64,
+    note: Option<Note>,
+) -> Result<(), WriteFailed>
+    ensures writes { Writes (W.contents writer.old) (W.contents writer.new) result
+        (taken_text tape.now taken last note) }
+{
+    match note {
+        Some(note) => write_some_taken(writer, tape, taken, last, note),
+        None => Ok(()),
+    }
+}
+
+fn write_some_taken<W: Write>(
+    writer: &mut W,
+    tape: &Tape,
+    taken: usize,
+    last: u64,
+    note: Note,
+) -> Result<(), WriteFailed>
+    ensures writes { Writes (W.contents writer.old) (W.contents writer.new) result
+        (some_taken_text tape.now taken last note) }
+{
+    if taken == 1 {
+        write_one_back(writer, tape, last, note)
+    } else {
+        write_down_to(writer, tape, taken, last, note)
+    }
+}
+
+/// Writes which event was taken back: `took back event 22 (line 18, rx: wrote 1)`.
+fn write_one_back<W: Write>(
+    writer: &mut W,
+    tape: &Tape,
+    event: u64,
+    note: Note,
+) -> Result<(), WriteFailed>
+    ensures writes { Writes (W.contents writer.old) (W.contents writer.new) result
+        (one_back_text tape.now event note) }
+{
+    write_number(writer, b"took back event ", event, b" ")?;
+    write_line(writer, tape, tape.line_of(event), note)
+}
+
+/// Writes that events were taken back down to one: `took back 3 events, down to event 20 (line 17, rx: wrote 0)`.
 fn write_down_to<W: Write>(
     writer: &mut W,
     tape: &Tape,
     taken: usize,
     last: u64,
+    note: Note,
 ) -> Result<(), WriteFailed>
-    ensures writes { Writes (W.contents writer.old) (W.contents writer.new) result (down_to_text tape.now taken last) }
+    ensures writes { Writes (W.contents writer.old) (W.contents writer.new) result
+        (down_to_text tape.now taken last note) }
 {
     write_number(writer, b"took back ", taken as u64, b" events, ")?;
     write_number(writer, b"down to event ", last, b" ")?;
-    write_line(writer, tape, tape.line_of(last))
+    write_line(writer, tape, tape.line_of(last), note)
 }
 
-/// Writes a line, in parentheses.
-fn write_line<W: Write>(writer: &mut W, tape: &Tape, line: usize) -> Result<(), WriteFailed>
-    ensures writes { Writes (W.contents writer.old) (W.contents writer.new) result (line_text tape.now line) }
+/// Writes a line in parentheses, and what its event was.
+fn write_line<W: Write>(
+    writer: &mut W,
+    tape: &Tape,
+    line: usize,
+    note: Note,
+) -> Result<(), WriteFailed>
+    requires { line ≤ length tape.now.did }
+    ensures writes { Writes (W.contents writer.old) (W.contents writer.new) result (line_text tape.now line note) }
 {
     write_number(writer, b"(line ", line as u64, b", ")?;
-    write_short(writer, text_of(tape, line))?;
+    write_what(writer, tape, line, note)?;
     write_whole(writer, b")\n")
+}
+
+/// The note of the last of so many events that are to be taken back; none, where none is.
+fn note_of_last(tape: &Tape, events: usize) -> Option<Note>
+    requires { events ≤ length tape.now.session.machine.past }
+    ensures { NotesLast events tape.now result }
+{
+    if events == 0 {
+        return None;
+    }
+    match tape.note_back(events - 1) {
+        Some(note) => Some(note),
+        None => unreachable!(),
+    }
 }
 
 /// Writes how one gets further back, where fewer events were taken back than were asked for, and one still stands.

@@ -1,10 +1,11 @@
 //! Frames of captures: those of one that is loaded are offered to `arrive`, and those that were sent are written as one.
-ghost use Rattle.std.specs.Prelude.{◌≡◌, ℕ, List, [], OnOk, slice_get, unwrap_or};
+ghost use Rattle.std.specs.Prelude.{◌≡◌, ℕ, List, [], OnOk, IfErr, slice_get, unwrap_or};
 ghost use Rattle.std.specs.Io.KnownBytes.{Appends};
 ghost use Rattle.em_text.specs.Writer.{Writes};
 ghost use Rattle.em_turn.specs.Planned.{lists};
+ghost use Rattle.em_debugger.specs.Disk.{Did, Unmade, making};
 ghost use Rattle.em_debugger.specs.Offers.{ArrivesAll, ArrivesNext, EndsOffer, OffersFrames, SavesFrames, TellsOffer};
-ghost use Rattle.em_debugger.specs.Offers.{cut_text, ends_with, is_capture, none_left_text, offered_line, offered_script};
+ghost use Rattle.em_debugger.specs.Offers.{capture_of, cut_text, ends_with, is_capture, none_left_text, offered_line, offered_script};
 ghost use Rattle.em_debugger.specs.Offers.{offered_text, wrote_text};
 
 use crate::debugger::Debugger;
@@ -74,7 +75,7 @@ impl Debugger {
         over: bool,
     ) -> Result<(), WriteFailed>
         ensures ok { OnOk result ((text : List ℕ) × Appends (W.contents writer.old) (W.contents writer.new) text
-            × SavesFrames self.now name.now text) }
+            × SavesFrames (Did D.passes disk.old disk.new) over self.now name.now text) }
     {
         match self.save_capture(disk, name, over) {
             Ok(()) => write_wrote(writer, self.tape.machine().wire_len()),
@@ -88,12 +89,15 @@ impl Debugger {
         disk: &mut D,
         name: &[u8],
         over: bool,
-    ) -> Result<(), DiskFault> {
+    ) -> Result<(), DiskFault>
+        ensures ok { OnOk result (D.passes disk.old (making over name.now (capture_of self.now)) disk.new) }
+        ensures err { IfErr result (Unmade (Did D.passes disk.old disk.new) name.now) }
+    {
         let mut capture = Vec::new(self.alloc);
-        if write_sent(&mut capture, self.tape.machine()).is_err() {
-            return Err(DiskFault::Memory);
+        match write_sent(&mut capture, self.tape.machine()) {
+            Ok(()) => write_file(disk, name, capture.as_slice(), over),
+            Err(_) => Err(DiskFault::Memory),
         }
-        write_file(disk, name, capture.as_slice(), over)
     }
 }
 

@@ -5,14 +5,14 @@ ghost use Rattle.em_text.specs.Writer.{Writes};
 ghost use Rattle.em_prompt.specs.BenchLine.{plain as plain_line};
 ghost use Rattle.em_debugger.specs.Place.{line_here};
 ghost use Rattle.em_debugger.specs.Performing.{Performs, PerformsNext, IsLast, Cuts, AddsLine, AnswersNext, AnswersTyped, ShowsSteps};
-ghost use Rattle.em_debugger.specs.Performing.{AnswersNew, AnswersAdded, AnswersPerformed, ShowsPerformed};
+ghost use Rattle.em_debugger.specs.Performing.{AnswersNew, AnswersAdded, AnswersPerformed, ShowsPerformed, Unadded, Uncut, Unperformed};
 ghost use Rattle.em_debugger.specs.Performing.{heading_text, looks_back};
 ghost use Rattle.em_debugger.specs.Performing.{is_among_lines, dropped_text, dropped_lines_text};
 ghost use Rattle.em_debugger.specs.Performing.{behind_text, fault_text, warned_text};
 
 use crate::bench_looks::{answer_look, is_look};
 use crate::debugger::Debugger;
-use crate::expected::expect;
+use crate::files::add_expecting;
 use crate::place::{line_here, text_of};
 use em_explain::write_explained;
 use em_looks::{write_counted, write_number, write_short};
@@ -95,23 +95,25 @@ impl Debugger {
     fn add_typed(&mut self, text: &[u8], asked: &[u8]) -> Result<usize, BenchFault>
         ensures ok { IfOk result (AddsLine self.old self.new text.now asked.now) }
         ensures ahead { OnOk result (line_here self.new.tape < length self.new.tape.lines) }
+        ensures err { OnErr result (Unadded self.old self.new) }
     {
         let dropped = self.cut()?;
-        self.tape.add(text)?;
-        match expect(&mut self.wanted, self.tape.len(), asked) {
-            Ok(()) => Ok(dropped),
-            Err(_) => Err(BenchFault::Memory),
-        }
+        add_expecting(&mut self.tape, &mut self.wanted, text, asked)?;
+        Ok(dropped)
     }
 
     /// Drops the lines ahead of the place.
     pub(crate) fn cut(&mut self) -> Result<usize, BenchFault>
         ensures ok { IfOk result (Cuts self.old self.new) }
+        ensures err { OnErr result (Uncut self.old self.new) }
         ensures only { IfErr result (λ fault. fault ≡ BenchFault.Memory) }
     {
+        let lines = self.tape.len();
         let dropped = self.tape.cut()?;
-        self.told.keep(self.tape.len());
-        self.wanted.keep(self.tape.len());
+        // Lines that take events back may stand where others were dropped.
+        let kept = lines.saturating_sub(dropped);
+        self.told.keep(kept);
+        self.wanted.keep(kept);
         self.asked = None;
         Ok(dropped)
     }
@@ -178,7 +180,7 @@ impl Debugger {
     pub(crate) fn perform_next(&mut self) -> Result<Option<Performed>, BenchFault>
         ensures some { IfOk result (λ performed. IfSome performed (PerformsNext self.old self.new)) }
         ensures none { result ≡ Ok None → (self.new ≡ self.old) × IsLast self.old }
-        ensures err { OnErr result (self.new.tape.lines ≡ self.old.tape.lines) }
+        ensures err { OnErr result (Unperformed self.old self.new) }
         ensures settings { self.new.settings ≡ self.old.settings }
     {
         let before = self.tape.event();
@@ -217,7 +219,7 @@ impl Debugger {
     fn perform_ahead(&mut self) -> Result<Option<Performed>, BenchFault>
         ensures some { IfOk result (λ performed. IfSome performed (Performs self.old self.new)) }
         ensures none { result ≡ Ok None → (self.new ≡ self.old) × IsLast self.old }
-        ensures err { OnErr result (self.new.tape.lines ≡ self.old.tape.lines) }
+        ensures err { OnErr result (Unperformed self.old self.new) }
         ensures settings { self.new.settings ≡ self.old.settings }
     {
         let line = line_here(&self.tape);

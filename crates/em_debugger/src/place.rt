@@ -1,7 +1,7 @@
 //! The place on a tape: lines by their numbers, from 1.
 ghost use Rattle.std.specs.Prelude.{◌≡◌, ◌≤◌, length};
 ghost use Rattle.em_tape.specs.Tape.{HoldsTape};
-ghost use Rattle.em_debugger.specs.Place.{line_here, text_of};
+ghost use Rattle.em_debugger.specs.Place.{events_of, line_here, text_of};
 
 use em_tape::Tape;
 
@@ -28,4 +28,13 @@ pub(crate) fn text_of(tape: &Tape, line: usize) -> &[u8]
     ensures { result.now ≡ text_of line tape.now }
 {
     tape.text(line).unwrap_or_default()
+}
+
+/// How many events a line performed.
+pub(crate) fn events_of(tape: &Tape, line: usize) -> u64
+    requires { line ≤ length tape.now.did }
+    ensures { result ≡ events_of line tape.now.did }
+{
+    tape.end_of(line)
+        .saturating_sub(tape.end_of(line.saturating_sub(1)))
 }

@@ -8,13 +8,15 @@ ghost use Rattle.em_debugger.specs.Search.{IsFoundIn, HoldsNone, Seeks, next_uns
 use crate::deeper::{Unseen, deeper, see};
 use em_journal::Settings;
 use em_tape::Tape;
+use em_trail::Note;
 use em_watch::{Difference, Watch, change_before, seen_back};
 use std::alloc::Global;
 
-/// A change, and the event that made it.
+/// A change, the event that made it, and what that was.
 #[derive(Clone, Copy, PartialEq, Eq, Debug)]
 pub(crate) struct Found {
     pub(crate) event: u64,
+    pub(crate) note: Note,
     pub(crate) difference: Difference,
 }
 
@@ -88,14 +90,16 @@ fn in_journal(tape: &Tape, watch: Watch, back: usize) -> Option<Found>
         return None;
     }
     let change = change_before(machine, watch, back)?;
-    match seen_back(machine, watch, change.back - 1) {
-        Some(after) => Some(Found {
-            event: tape.event_back(change.back - 1),
+    let steps = change.back - 1;
+    match (seen_back(machine, watch, steps), tape.note_back(steps)) {
+        (Some(after), Some(note)) => Some(Found {
+            event: tape.event_back(steps),
+            note,
             difference: Difference {
                 before: change.before,
                 after,
             },
         }),
-        None => unreachable!(),
+        _ => unreachable!(),
     }
 }

@@ -1,9 +1,9 @@
 //! What the lines were answered, and other texts beside lines.
-ghost use Rattle.std.specs.Prelude.{◌≡◌, ◌<◌, OnOk, [], length, take, slice_get, slice_set};
+ghost use Rattle.std.specs.Prelude.{◌≡◌, ◌<◌, ◌≤◌, IfOk, OnOk, OnErr, [], length, take, slice_get, slice_set};
 ghost use Rattle.std.specs.Option.{option_map};
 ghost use Rattle.em_tape.specs.Texts.{texts};
 ghost use Rattle.em_tape.specs.Tape.{line_at};
-ghost use Rattle.em_debugger.specs.Told.{kept_of, moved, told_of, Notes, Puts};
+ghost use Rattle.em_debugger.specs.Told.{closed, kept_of, moved, told_of, Notes, Puts, Stay};
 
 use em_tape::Text;
 use em_text::next_line;
@@ -34,6 +34,7 @@ impl Told {
     pub(crate) fn note(&mut self, number: usize, text: &[u8]) -> Result<(), AllocError>
         requires { 0 < number }
         ensures ok { OnOk result (Notes number text.now (texts self.old.answers.items) (texts self.new.answers.items)) }
+        ensures err { OnErr result (Stay (texts self.old.answers.items) (texts self.new.answers.items)) }
     {
         self.put(number, kept_of(text))
     }
@@ -42,16 +43,28 @@ impl Told {
     pub(crate) fn put(&mut self, number: usize, text: &[u8]) -> Result<(), AllocError>
         requires { 0 < number }
         ensures ok { OnOk result (Puts number text.now (texts self.old.answers.items) (texts self.new.answers.items)) }
+        ensures err { OnErr result (Stay (texts self.old.answers.items) (texts self.new.answers.items)) }
     {
-        while self.answers.len() < number {
-            self.answers.push(Text::new(self.alloc))?;
-        }
-        let text = Text::from_slice(self.alloc, text)?;
+        let text = self.make_ready(number, text)?;
         self.set(number - 1, text);
         Ok(())
     }
 
-    fn set(&mut self, before: usize, text: Text)
+    /// Makes a place beside the line of this number, from 1, and gives the text that is to be [`set`](Told::set) there.
+    pub(crate) fn make_ready(&mut self, number: usize, text: &[u8]) -> Result<Text, AllocError>
+        requires { 0 < number }
+        ensures stay { Stay (texts self.old.answers.items) (texts self.new.answers.items) }
+        ensures place { OnOk result (number ≤ length self.new.answers.items) }
+        ensures text { IfOk result (λ kept. kept.items ≡ text.now) }
+    {
+        while self.answers.len() < number {
+            self.answers.push(Text::new(self.alloc))?;
+        }
+        Text::from_slice(self.alloc, text)
+    }
+
+    /// Puts a text into the place behind the first so many.
+    pub(crate) fn set(&mut self, before: usize, text: Text)
         requires { before < length self.old.answers.items }
         ensures { self.new.answers.items ≡ slice_set self.old.answers.items before text }
     {
@@ -77,6 +90,7 @@ impl Told {
     /// Makes way for a line behind so many: what stands beside the lines behind those then stands beside the next ones.
     pub(crate) fn make_way(&mut self, lines: usize) -> Result<(), AllocError>
         ensures ok { OnOk result (texts self.new.answers.items ≡ moved lines (texts self.old.answers.items)) }
+        ensures err { OnErr result (texts self.new.answers.items ≡ texts self.old.answers.items) }
     {
         if lines < self.answers.len() {
             self.answers.insert(lines, Text::new(self.alloc))?;
@@ -85,7 +99,9 @@ impl Told {
     }
 
     /// Takes the way back that was made for a line behind so many.
-    pub(crate) fn close_up(&mut self, lines: usize) {
+    pub(crate) fn close_up(&mut self, lines: usize)
+        ensures { texts self.new.answers.items ≡ closed lines (texts self.old.answers.items) }
+    {
         if lines < self.answers.len() {
             let _none = self.answers.remove(lines);
         }

@@ -1,19 +1,23 @@
 //! Who changed it.
-ghost use Rattle.std.specs.Prelude.{◌≡◌, ◌≤◌, ℕ, List, OnOk, length};
+ghost use Rattle.std.specs.Prelude.{◌≡◌, ◌≤◌, ℕ, List, OnOk, Some, length};
 ghost use Rattle.std.specs.Io.KnownBytes.{Appends};
 ghost use Rattle.em_text.specs.Writer.{Writes};
 ghost use Rattle.em_debugger.specs.Who.{AnswersWatch, AnswersWho, TellsNewest, TellsAll, TellsAgain, access_text, before};
-ghost use Rattle.em_debugger.specs.Who.{before_told, changes_text, event_of_text, event_text, found_text, never_text, no_memory_text};
-ghost use Rattle.em_debugger.specs.Who.{sought_text, unchanged_and, unreached_text, which_text};
+ghost use Rattle.em_debugger.specs.Who.{TellsNever, TellsSought, accessed_text, access_end, before_told, call_text, changes_text};
+ghost use Rattle.em_debugger.specs.Who.{event_text, found_text, never_text, no_memory_text, noted_text, unchanged_and, unchanged_text};
+ghost use Rattle.em_debugger.specs.Who.{unreached_text, was_text, what_text, which_text};
 
+use crate::accessed::{Accessed, newest_access, write_came};
 use crate::debugger::Debugger;
 use crate::deeper::{Unseen, write_too_long};
-use crate::place::text_of;
+use crate::place::{events_of, text_of};
 use crate::search::{Found, Sought, search};
 use em_looks::{watch_of, write_difference, write_number, write_short, write_watch};
+use em_noted::write_note;
 use em_prompt::Which;
 use em_tape::Tape;
 use em_text::{WriteFailed, write_pieces, write_whole};
+use em_trail::Note;
 use em_watch::Watch;
 use itoa::Buffer;
 use std::io::Write;
@@ -158,7 +162,7 @@ fn write_changes<W: Write>(writer: &mut W, watch: Watch, count: u64) -> Result<(
     if count > 0 {
         write_number(writer, b"changes: ", count, b"\n")
     } else {
-        write_never(writer, watch, false)
+        write_unchanged_and(writer, watch, b"\n")
     }
 }
 
@@ -170,46 +174,88 @@ fn write_sought<W: Write>(
     back: usize,
     sought: Sought,
 ) -> Result<(), WriteFailed>
-    ensures writes { Writes (W.contents writer.old) (W.contents writer.new) result
-        (sought_text tape.now watch back sought) }
+    ensures ok { OnOk result ((text : List ℕ) × Appends (W.contents writer.old) (W.contents writer.new) text
+        × TellsSought tape.now watch back sought text) }
 {
     match sought {
         Sought::Found(found) => write_found(writer, tape, watch, found),
-        Sought::Never => write_never(writer, watch, back > 0),
+        Sought::Never => write_never(writer, tape, watch, back),
         Sought::Unreached(why) => write_unreached(writer, watch, tape.event_back(back), why),
     }
 }
 
-/// Writes an event: its line, its number, which of the line's events it is, if that has more than one, and the text of the
-/// line.
+/// Writes an event: its line, its number, if the line has more than one, which of them it is, and what it was.
 pub(crate) fn write_event<W: Write>(
     writer: &mut W,
     tape: &Tape,
     event: u64,
+    note: Option<Note>,
 ) -> Result<(), WriteFailed>
-    ensures writes { Writes (W.contents writer.old) (W.contents writer.new) result (event_text tape.now event) }
+    ensures writes { Writes (W.contents writer.old) (W.contents writer.new) result (event_text tape.now event note) }
 {
-    write_event_of(writer, tape, event, tape.line_of(event))
+    write_noted(writer, tape, event, note, tape.line_of(event))
 }
 
-fn write_event_of<W: Write>(
+fn write_noted<W: Write>(
     writer: &mut W,
     tape: &Tape,
     event: u64,
+    note: Option<Note>,
     line: usize,
 ) -> Result<(), WriteFailed>
     requires { line ≤ length tape.now.did }
     ensures writes { Writes (W.contents writer.old) (W.contents writer.new) result
-        (event_of_text tape.now event line) }
+        (noted_text tape.now event note line) }
 {
     write_number(writer, b"line ", line as u64, b", ")?;
     write_number(writer, b"event ", event, b"")?;
     write_access(writer, tape, event, line)?;
-    write_short(writer, text_of(tape, line))
+    write_was(writer, tape, line, note)
+}
+
+/// Writes what an event of a line was; the line's text, where its note is not known.
+fn write_was<W: Write>(
+    writer: &mut W,
+    tape: &Tape,
+    line: usize,
+    note: Option<Note>,
+) -> Result<(), WriteFailed>
+    requires { line ≤ length tape.now.did }
+    ensures writes { Writes (W.contents writer.old) (W.contents writer.new) result (was_text tape.now line note) }
+{
+    match note {
+        Some(note) => write_what(writer, tape, line, note),
+        None => write_short(writer, text_of(tape, line)),
+    }
+}
+
+/// Writes what an event of a line was, by its note; behind the line's text, if the line has more than one.
+pub(crate) fn write_what<W: Write>(
+    writer: &mut W,
+    tape: &Tape,
+    line: usize,
+    note: Note,
+) -> Result<(), WriteFailed>
+    requires { line ≤ length tape.now.did }
+    ensures writes { Writes (W.contents writer.old) (W.contents writer.new) result (what_text tape.now line note) }
+{
+    write_call(writer, text_of(tape, line), events_of(tape, line))?;
+    write_note(writer, note)
+}
+
+/// Writes a line's text before one of its events, if they are more than one.
+fn write_call<W: Write>(writer: &mut W, text: &[u8], count: u64) -> Result<(), WriteFailed>
+    ensures writes { Writes (W.contents writer.old) (W.contents writer.new) result (call_text text.now count) }
+{
+    if count <= 1 {
+        return Ok(());
+    }
+    write_short(writer, text)?;
+    write_whole(writer, b": ")
 }
 
 /// Writes which of its line's events one is, if the line has more than one, and a colon.
-fn write_access<W: Write>(
+pub(crate) fn write_access<W: Write>(
     writer: &mut W,
     tape: &Tape,
     event: u64,
@@ -219,8 +265,7 @@ fn write_access<W: Write>(
     ensures writes { Writes (W.contents writer.old) (W.contents writer.new) result (access_text tape.now event line) }
 {
     let before = tape.end_of(line.saturating_sub(1));
-    let count = tape.end_of(line).saturating_sub(before);
-    write_which(writer, event.saturating_sub(before), count)
+    write_which(writer, event.saturating_sub(before), events_of(tape, line))
 }
 
 fn write_which<W: Write>(writer: &mut W, which: u64, count: u64) -> Result<(), WriteFailed>
@@ -248,20 +293,79 @@ fn write_found<W: Write>(
 ) -> Result<(), WriteFailed>
     ensures writes { Writes (W.contents writer.old) (W.contents writer.new) result (found_text tape.now watch found) }
 {
-    write_event(writer, tape, found.event)?;
+    write_event(writer, tape, found.event, Some(found.note))?;
     write_whole(writer, b"\n")?;
     write_difference(writer, watch, found.difference)
 }
 
+/// Writes that no event from so many steps back on changed it, and the newest that accessed it.
+fn write_never<W: Write>(
+    writer: &mut W,
+    tape: &Tape,
+    watch: Watch,
+    back: usize,
+) -> Result<(), WriteFailed>
+    ensures ok { OnOk result ((text : List ℕ) × Appends (W.contents writer.old) (W.contents writer.new) text
+        × TellsNever tape.now watch back text) }
+{
+    let accessed = newest_access(tape, watch, back);
+    write_never_but(writer, tape, watch, back > 0, accessed)
+}
+
+fn write_never_but<W: Write>(
+    writer: &mut W,
+    tape: &Tape,
+    watch: Watch,
+    is_before: bool,
+    accessed: Option<Accessed>,
+) -> Result<(), WriteFailed>
+    ensures writes { Writes (W.contents writer.old) (W.contents writer.new) result
+        (never_text tape.now watch is_before accessed) }
+{
+    write_unchanged(writer, watch, is_before)?;
+    write_access_end(writer, tape, accessed)
+}
+
 /// Writes that no event changed it, or none before one that was told.
-fn write_never<W: Write>(writer: &mut W, watch: Watch, is_before: bool) -> Result<(), WriteFailed>
-    ensures writes { Writes (W.contents writer.old) (W.contents writer.new) result (never_text watch is_before) }
+fn write_unchanged<W: Write>(
+    writer: &mut W,
+    watch: Watch,
+    is_before: bool,
+) -> Result<(), WriteFailed>
+    ensures writes { Writes (W.contents writer.old) (W.contents writer.new) result (unchanged_text watch is_before) }
 {
     if is_before {
-        write_unchanged_and(writer, watch, b" before that\n")
+        write_unchanged_and(writer, watch, b" before that")
     } else {
-        write_unchanged_and(writer, watch, b"\n")
+        write_unchanged_and(writer, watch, b"")
     }
+}
+
+fn write_access_end<W: Write>(
+    writer: &mut W,
+    tape: &Tape,
+    accessed: Option<Accessed>,
+) -> Result<(), WriteFailed>
+    ensures writes { Writes (W.contents writer.old) (W.contents writer.new) result (access_end tape.now accessed) }
+{
+    match accessed {
+        Some(accessed) => write_accessed(writer, tape, accessed),
+        None => write_whole(writer, b"\n"),
+    }
+}
+
+/// Writes an access, and what came of it.
+fn write_accessed<W: Write>(
+    writer: &mut W,
+    tape: &Tape,
+    accessed: Accessed,
+) -> Result<(), WriteFailed>
+    ensures writes { Writes (W.contents writer.old) (W.contents writer.new) result (accessed_text tape.now accessed) }
+{
+    write_whole(writer, b"; ")?;
+    write_event(writer, tape, accessed.event, Some(accessed.note))?;
+    write_came(writer, accessed)?;
+    write_whole(writer, b"\n")
 }
 
 fn write_unchanged_and<W: Write>(

@@ -10,7 +10,7 @@ ghost use Rattle.em_debugger.specs.Why.{look_line, newest_undone, setter_text, u
 use crate::debugger::Debugger;
 use crate::deeper::{Unseen, behind, write_too_long};
 use crate::place::{line_here, text_of};
-use crate::search::{Sought, search};
+use crate::search::{Found, Sought, search};
 use crate::who::write_event;
 use em_explain::{looked_at, watch_of, write_explained, write_look};
 use em_reasons::Look;
@@ -199,7 +199,7 @@ fn write_sought_setter<W: Write>(
     ensures writes { Writes (W.contents writer.old) (W.contents writer.new) result (setter_text tape.now sought) }
 {
     match sought {
-        Sought::Found(found) => write_found_setter(writer, tape, found.event),
+        Sought::Found(found) => write_found_setter(writer, tape, found),
         Sought::Never => write_whole(writer, b"    no event changed it\n"),
         Sought::Unreached(why) => write_unseen_setter(writer, why),
     }
@@ -216,11 +216,15 @@ fn write_unseen_setter<W: Write>(writer: &mut W, why: Unseen) -> Result<(), Writ
 }
 
 /// Writes the event that set it.
-fn write_found_setter<W: Write>(writer: &mut W, tape: &Tape, event: u64) -> Result<(), WriteFailed>
-    ensures writes { Writes (W.contents writer.old) (W.contents writer.new) result (found_setter tape.now event) }
+fn write_found_setter<W: Write>(
+    writer: &mut W,
+    tape: &Tape,
+    found: Found,
+) -> Result<(), WriteFailed>
+    ensures writes { Writes (W.contents writer.old) (W.contents writer.new) result (found_setter tape.now found) }
 {
     write_whole(writer, b"    ")?;
-    write_event(writer, tape, event)?;
+    write_event(writer, tape, found.event, Some(found.note))?;
     write_whole(writer, b"\n")
 }
 

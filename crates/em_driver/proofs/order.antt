@@ -1,3 +1,5 @@
+pub mod Accessed
+pub mod EventsOfOthers
 pub mod Stages
 pub mod DrivenWorld
 pub mod GivenBack
@@ -5,6 +7,5 @@ pub mod RxBatchOrder
 pub mod HandedOver
 pub mod TxBatchOrder
 pub mod OtherCalls
-pub mod EventsOfOthers
 pub mod Spans
 pub mod StepsBack

@@ -1,9 +1,10 @@
 -- Calls of a driver and events of others, one after another, and how many steps back lead over them.
-use Rattle.std.specs.Prelude.{◌≡◌, ◌⊎◌, ℕ, ◌+◌, List, [], ◌∷◌}
+use Rattle.std.specs.Prelude.{◌≡◌, ◌⊎◌, ℕ, ◌+◌, List, [], ◌∷◌, ◌++◌}
 use Rattle.em_step.specs.Event.{Event}
+use Rattle.em_step.specs.State.{State}
 use Rattle.em_step.specs.declared.event.Answer.{Answer}
 use Rattle.em_journal.specs.History.{performs, Does}
-use Rattle.em_journal.specs.View.{View}
+use Rattle.em_journal.specs.View.{View, states}
 use Rattle.em_driver.specs.Course.{Course, Follows}
 use Rattle.em_driver.specs.World.{World}
 
@@ -31,10 +32,17 @@ pub record IsEvent (m : View) (leg : Leg) : Type 0 where
   pub does : Does m (performs event answer) leg.now
   pub count : leg.steps ≡ 1
 
--- each of the list is one or the other
+-- A view shows the beginning of what another one shows: the same state, and of those before it as many or fewer. So it
+-- is where calls and events were performed and taken back again, since the budget may have dropped older records for
+-- theirs.
+abbrev pub Begins : View → View → Type 0
+Begins v m = (rest : List State) × (states m ≡ states v ++ rest)
+
+-- Each of the list is one or the other. It begins where the one before it ended, or where steps back led there again.
 abbrev pub AreLegs : (A : Type 0) → View → List Leg → Type 0
 AreLegs A m [] = Unit {0}
-AreLegs A m (leg ∷ legs) = (IsCall A m leg ⊎ IsEvent m leg) × AreLegs A leg.now legs
+AreLegs A m (leg ∷ legs) =
+    (from : View) × Begins from m × (IsCall A from leg ⊎ IsEvent from leg) × AreLegs A leg.now legs
 
 -- the events of all of them
 abbrev pub all_steps : List Leg → ℕ

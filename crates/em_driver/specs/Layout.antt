@@ -1,5 +1,6 @@
 -- Where a driver keeps its descriptors and buffers in the guest's memory.
-use Rattle.std.specs.Prelude.{◌≡◌, ◌⊎◌, ℕ, ◌+◌, ◌*◌, ◌%◌, ◌≤◌}
+use Rattle.std.specs.Prelude.{◌≡◌, ◌⊎◌, ℕ, ◌+◌, ◌*◌, ◌%◌, ◌≤◌, refl}
+use Rattle.std.specs.Coded.{Coded, code_by, coded×, coded_ℕ}
 use Rattle.em_driver.specs.declared.layout.Layout.{Layout}
 use Rattle.em_driver.specs.declared.layout.Side.{Side}
 
@@ -68,3 +69,20 @@ pub record IsGoodLayout (size : ℕ) (l : Layout) : Type 0 where
 pub record IsPlaced (l : Layout) : Type 0 where
   pub receive : IsPlacedSide (rx l)
   pub transmit : IsPlacedSide (tx l)
+
+-- ---- as it is kept
+abbrev pub layout_code : Coded Layout
+layout_code =
+    code_by
+    (ℕ × (ℕ × (ℕ × (ℕ × (ℕ × ℕ)))))
+    (coded× coded_ℕ (coded× coded_ℕ (coded× coded_ℕ (coded× coded_ℕ (coded× coded_ℕ coded_ℕ)))))
+    (λ l. (l.rx_ring, (l.rx_count, (l.rx_buffers, (l.tx_ring, (l.tx_count, l.tx_buffers))))))
+    (λ p. record {
+      rx_ring = p.0;
+      rx_count = p.1.0;
+      rx_buffers = p.1.1.0;
+      tx_ring = p.1.1.1.0;
+      tx_count = p.1.1.1.1.0;
+      tx_buffers = p.1.1.1.1.1;
+    })
+    (λ _. refl)

@@ -9,7 +9,7 @@ use Rattle.em_driver.specs.Driven.{IsDriven, first, rdh, rx_at, tdh, tdt, tx_at}
 use Rattle.em_driver.specs.Places.{between}
 use Rattle.em_driver.specs.Receive.{Answered, rx_buffer}
 use Rattle.em_driver.specs.Transmit.{tx_buffer}
-use Rattle.em_driver.specs.World.{World, present}
+use Rattle.em_driver.specs.World.{World, IsSpared, present}
 use Rattle.em_driver.specs.declared.layout.Layout.{Layout}
 use Rattle.em_driver.specs.declared.outcome.Batch.{Batch}
 use Rattle.em_driver.specs.declared.outcome.Stopped.{Stopped}
@@ -35,10 +35,16 @@ waiting l s = between l.rx_count (first l s) (rdh s) (rx_packet_at l s) ++ octet
 abbrev pub queued : Layout → State → List (List ℕ)
 queued l s = between l.tx_count (tdh s) (tdt s) (λ i. padded (tx_packet_at l s i))
 
+-- A driver with this layout keeps the device, and whoever acts on its bus spares it: nobody else writes its registers
+-- or its memory.
+pub record IsUndisturbed (l : Layout) (w : World) : Type 0 where
+  pub driven : IsDriven l (present w)
+  pub spared : IsSpared l w.spared
+
 -- While a driver with this layout ran from one world to another, it handed these packets to its caller, and took those
 -- from it: nothing was lost, made up, or put before another.
 pub record InOrder (l : Layout) (w v : World) (handed taken : List (List ℕ)) : Type 0 where
-  pub driven : IsDriven l (present v)
+  pub undisturbed : IsUndisturbed l v
   -- the frames that arrivals stored meanwhile
   pub stored : List (List ℕ)
   pub is_stored : v.stored ≡ w.stored ++ stored

@@ -1,8 +1,7 @@
 -- What a start leads to: a device as its driver keeps it, from the write of CTRL with RST on.
 use Rattle.std.specs.Prelude.{◌≡◌, ℕ, ◌+◌, List, [], ◌++◌, None}
 use Rattle.em_driver.specs.Course.{done, Follows}
-use Rattle.em_driver.specs.Driven.{IsDriven}
-use Rattle.em_driver.specs.Order.{queued, waiting}
+use Rattle.em_driver.specs.Order.{IsUndisturbed, queued, waiting}
 use Rattle.em_driver.specs.Start.{after_reset, until_reset}
 use Rattle.em_driver.specs.World.{World, present}
 use Rattle.em_driver.specs.declared.layout.Layout.{Layout}
@@ -19,7 +18,7 @@ pub record StartsInOrder (l : Layout) (w : World) (events : ℕ) (v : World) : T
   -- the frames that were stored since then
   pub stored : List (List ℕ)
   pub is_stored : v.stored ≡ reset.stored ++ stored
-  pub driven : IsDriven l (present v)
+  pub undisturbed : IsUndisturbed l v
   pub queued : queued l (present v) ≡ []
   pub waiting : waiting l (present v) ≡ stored
   -- and none was sent

@@ -1,5 +1,5 @@
 -- What becomes of the turns of a list, for the machine and the list of stored frames alone.
-use Rattle.std.specs.Prelude.{◌≡◌, ℕ, Bool, true, false, List, [], ◌∷◌, ◌++◌, Ok, Err}
+use Rattle.std.specs.Prelude.{◌≡◌, ℕ, Bool, true, false, List, [], ◌∷◌, ◌++◌, Ok, Err, None}
 use Rattle.em_step.specs.Cost.{cost}
 use Rattle.em_step.specs.State.{State}
 use Rattle.em_step.specs.Step.{step, Refuses}
@@ -34,6 +34,7 @@ world_with v stored counts = record {
   machine = v;
   stored = stored;
   plan = [];
+  spared = None;
   performed = counts.performed;
   refused = counts.refused;
   starved = false;

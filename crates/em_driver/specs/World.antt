@@ -1,7 +1,7 @@
 -- A bus, with what other actors do on it before each access of a driver.
 use Rattle.std.specs.Prelude.{◌≡◌, ◌⊎◌, ℕ, ◌+◌, ◌≤◌, ◌<◌, Bool, true, false, List, [], ◌∷◌, ◌++◌, length, refl}
-use Rattle.std.specs.Prelude.{Result, Ok, Err}
-use Rattle.std.specs.Coded.{Coded, code_by, coded×, coded_list, coded_ℕ, coded_bool}
+use Rattle.std.specs.Prelude.{Result, Ok, Err, Option, Some, None, All}
+use Rattle.std.specs.Coded.{Coded, code_by, coded×, coded_list, coded_option, coded_ℕ, coded_bool}
 use Rattle.em_mem.specs.Memory.{part}
 use Rattle.em_step.specs.Cost.{cost}
 use Rattle.em_step.specs.Event.{Event}
@@ -12,17 +12,23 @@ use Rattle.em_step.specs.declared.refusal.Refusal.{Refusal}
 use Rattle.em_step.specs.declared.refusal.Refusal.TheVariants.{Memory}
 use Rattle.em_journal.specs.History.{performs, Does}
 use Rattle.em_journal.specs.View.{View, view_code, after_event}
-use Rattle.em_turn.specs.Turn.{event_of, stored_by, turn_code}
+use Rattle.em_turn.specs.Turn.{event_of, stored_in, turn_code}
 use Rattle.em_turn.specs.declared.turn.Turn.{Turn}
+use Rattle.em_driver.specs.Layout.{layout_code}
+use Rattle.em_driver.specs.Others.{IsOthers}
+use Rattle.em_driver.specs.declared.layout.Layout.{Layout}
 
 pub record World : Type 0 where
   -- the machine, with what it can go back to
   pub machine : View
-  -- the frames that the turns so far stored, as they arrived
+  -- the frames that the turns and other events so far stored, as they arrived
   pub stored : List (List ℕ)
   -- the turns to come: a list of them before each access
   pub plan : List (List Turn)
-  -- how many turns were performed, and how many refused
+  -- Who acts beside the plan: nobody, or whoever leaves alone the registers and the memory of a driver with this
+  -- layout, as an interrupt routine does.
+  pub spared : Option Layout
+  -- how many turns and other events were performed, and how many turns refused
   pub performed : ℕ
   pub refused : ℕ
   -- whether memory was refused to a turn
@@ -33,18 +39,19 @@ pub record World : Type 0 where
 abbrev pub world_code : Coded World
 world_code =
     code_by
-    (View × (List (List ℕ) × (List (List Turn) × (ℕ × (ℕ × (Bool × Bool))))))
+    (View × (List (List ℕ) × (List (List Turn) × (Option Layout × (ℕ × (ℕ × (Bool × Bool)))))))
     (coded× view_code (coded× (coded_list (coded_list coded_ℕ)) (coded× (coded_list (coded_list turn_code))
-    (coded× coded_ℕ (coded× coded_ℕ (coded× coded_bool coded_bool))))))
-    (λ w. (w.machine, (w.stored, (w.plan, (w.performed, (w.refused, (w.starved, w.scarce)))))))
+    (coded× (coded_option layout_code) (coded× coded_ℕ (coded× coded_ℕ (coded× coded_bool coded_bool)))))))
+    (λ w. (w.machine, (w.stored, (w.plan, (w.spared, (w.performed, (w.refused, (w.starved, w.scarce))))))))
     (λ p. record {
       machine = p.0;
       stored = p.1.0;
       plan = p.1.1.0;
-      performed = p.1.1.1.0;
-      refused = p.1.1.1.1.0;
-      starved = p.1.1.1.1.1.0;
-      scarce = p.1.1.1.1.1.1;
+      spared = p.1.1.1.0;
+      performed = p.1.1.1.1.0;
+      refused = p.1.1.1.1.1.0;
+      starved = p.1.1.1.1.1.1.0;
+      scarce = p.1.1.1.1.1.1.1;
     })
     (λ _. refl)
 
@@ -54,6 +61,7 @@ quiet machine = record {
   machine = machine;
   stored = [];
   plan = [];
+  spared = None;
   performed = 0;
   refused = 0;
   starved = false;
@@ -65,13 +73,17 @@ present w = w.machine.present
 
 -- ---- the turns of the others
 
--- a turn that is performed, or skipped
-abbrev pub after_outcome : World → Turn → Result (Answer × State) Refusal → World
-after_outcome w t (Ok r) = record w {
-  machine = after_event w.machine r.1 (cost w.machine.present (event_of t));
-  stored = w.stored ++ stored_by t r.0;
+-- an event of another actor that is performed
+abbrev pub after_theirs : World → Event → Answer × State → World
+after_theirs w e r = record w {
+  machine = after_event w.machine r.1 (cost w.machine.present e);
+  stored = w.stored ++ stored_in e r.0;
   performed = w.performed + 1;
 }
+
+-- a turn that is performed, or skipped
+abbrev pub after_outcome : World → Turn → Result (Answer × State) Refusal → World
+after_outcome w t (Ok r) = after_theirs w (event_of t) r
 after_outcome w t (Err refusal) = record w { refused = w.refused + 1 }
 
 -- by the table
@@ -105,13 +117,40 @@ IsTaken w turns v =
     ((turns ≡ first w.plan) × (v.plan ≡ rest w.plan) × (v.starved ≡ w.starved))
     ⊎ (Starves w turns × (v.plan ≡ []) × (v.starved ≡ true))
 
--- the others take their turns
+-- ---- the events of those who act beside the plan
+
+-- one that is performed, or changes nothing
+abbrev pub after_tried : World → Event → Result (Answer × State) Refusal → World
+after_tried w e (Ok r) = after_theirs w e r
+after_tried w e (Err refusal) = w
+
+abbrev pub after_other : World → Event → World
+after_other w e = after_tried w e (step w.machine.present e)
+
+-- one after the other
+abbrev pub after_others : World → List Event → World
+after_others w [] = w
+after_others w (e ∷ events) = after_others (after_other w e) events
+
+-- they spare what the world says: where it says nothing, there are none
+abbrev pub Spare : Option Layout → List Event → Type 0
+Spare None events = events ≡ []
+Spare (Some l) events = All (IsOthers l) events
+
+-- The others act: they take their turns, and then whoever acts beside the plan does whatever spares the driver.
 pub record Passes (w v : World) : Type 0 where
   pub turns : List Turn
   pub taken : IsTaken w turns v
-  pub is : v ≡ record (after_turns w turns) { plan = v.plan; starved = v.starved }
+  pub events : List Event
+  pub spare : Spare w.spared events
+  pub is : v ≡ record (after_others (after_turns w turns) events) { plan = v.plan; starved = v.starved }
 
--- ---- the accesses of the driver, each after the turns of the others
+-- who acts beside the plan spares a driver with this layout
+abbrev pub IsSpared : Layout → Option Layout → Type 0
+IsSpared l None = Unit {0}
+IsSpared l (Some k) = k ≡ l
+
+-- ---- the accesses of the driver, each after what the others do
 
 -- an event, with its answer
 pub record Accesses (w : World) (e : Event) (answer : Answer) (v : World) : Type 0 where

@@ -2,13 +2,11 @@
 ghost use Rattle.std.specs.Prelude.{◌≡◌, [], codes};
 ghost use Rattle.em_driver.specs.Course.{Follows};
 ghost use Rattle.em_driver.specs.Calls.{get_link_speed, get_mac_addr, read_stats, reset_stats, set_mac_addr};
-ghost use Rattle.em_driver.specs.Driven.{IsDriven};
-ghost use Rattle.em_driver.specs.Order.{InOrder, Receives, Transmits};
+ghost use Rattle.em_driver.specs.Order.{InOrder, IsUndisturbed, Receives, Transmits};
 ghost use Rattle.em_driver.specs.Outcome.{events_of};
 ghost use Rattle.em_driver.specs.Receive.{rx_batch};
 ghost use Rattle.em_turn.specs.Planned.{lists};
 ghost use Rattle.em_driver.specs.Transmit.{tx_batch};
-ghost use Rattle.em_driver.specs.World.{present};
 
 use crate::bus::Bus;
 use crate::driver::E1000;
@@ -41,14 +39,14 @@ pub trait IxyDevice {
     /// The Ethernet address that the device receives by: 2 events.
     fn get_mac_addr(&mut self) -> [u8; 6]
         ensures course { Follows (world self.old) get_mac_addr 2 result (world self.new) }
-        ensures order { IsDriven (layout self.old) (present (world self.old))
+        ensures order { IsUndisturbed (layout self.old) (world self.old)
             → InOrder (layout self.old) (world self.old) (world self.new) [] [] }
         ensures layout { layout self.new ≡ layout self.old };
 
     /// Makes it receive by this Ethernet address: 2 events.
     fn set_mac_addr(&mut self, address: [u8; 6])
         ensures course { Follows (world self.old) (set_mac_addr address) 2 tt (world self.new) }
-        ensures order { IsDriven (layout self.old) (present (world self.old))
+        ensures order { IsUndisturbed (layout self.old) (world self.old)
             → InOrder (layout self.old) (world self.old) (world self.new) [] [] }
         ensures layout { layout self.new ≡ layout self.old };
 
@@ -67,7 +65,7 @@ pub trait IxyDevice {
     ) -> Result<Batch, Stopped>
         ensures course { Follows (world self.old) (rx_batch (layout self.old) queue n (lists buffer.old.items))
             (events_of result) (lists buffer.new.items, result) (world self.new) }
-        ensures order { IsDriven (layout self.old) (present (world self.old))
+        ensures order { IsUndisturbed (layout self.old) (world self.old)
             → Receives (layout self.old) (world self.old) (world self.new) (lists buffer.old.items)
             (lists buffer.new.items, result) }
         ensures layout { layout self.new ≡ layout self.old };
@@ -83,7 +81,7 @@ pub trait IxyDevice {
     fn tx_batch(&mut self, queue: u16, buffer: &mut VecDeque<Vec<u8>>) -> Result<Batch, Stopped>
         ensures course { Follows (world self.old) (tx_batch (layout self.old) queue (lists buffer.old.items))
             (events_of result) (lists buffer.new.items, result) (world self.new) }
-        ensures order { IsDriven (layout self.old) (present (world self.old))
+        ensures order { IsUndisturbed (layout self.old) (world self.old)
             → Transmits (layout self.old) (world self.old) (world self.new) (lists buffer.old.items)
             (lists buffer.new.items, result) }
         ensures layout { layout self.new ≡ layout self.old };
@@ -92,21 +90,21 @@ pub trait IxyDevice {
     /// greatest value.
     fn read_stats(&mut self, stats: &mut DeviceStats)
         ensures course { Follows (world self.old) (read_stats stats.old) 6 stats.new (world self.new) }
-        ensures order { IsDriven (layout self.old) (present (world self.old))
+        ensures order { IsUndisturbed (layout self.old) (world self.old)
             → InOrder (layout self.old) (world self.old) (world self.new) [] [] }
         ensures layout { layout self.new ≡ layout self.old };
 
     /// Begins the counts of packets and octets anew: 6 events.
     fn reset_stats(&mut self)
         ensures course { Follows (world self.old) reset_stats 6 tt (world self.new) }
-        ensures order { IsDriven (layout self.old) (present (world self.old))
+        ensures order { IsUndisturbed (layout self.old) (world self.old)
             → InOrder (layout self.old) (world self.old) (world self.new) [] [] }
         ensures layout { layout self.new ≡ layout self.old };
 
     /// The speed of the link in Mb/s, 0 where it is down: 1 event.
     fn get_link_speed(&mut self) -> u16
         ensures course { Follows (world self.old) get_link_speed 1 result (world self.new) }
-        ensures order { IsDriven (layout self.old) (present (world self.old))
+        ensures order { IsUndisturbed (layout self.old) (world self.old)
             → InOrder (layout self.old) (world self.old) (world self.new) [] [] }
         ensures layout { layout self.new ≡ layout self.old };
 }

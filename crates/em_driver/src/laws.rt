@@ -1,5 +1,6 @@
 //! What the definitions of a driver's calls say together.
-ghost use Rattle.std.specs.Prelude.{◌≡◌, ◌≢◌, ◌+◌, ◌≤◌, ◌++◌, ℕ, Bool, false, List, [], length, map, Option, Ok, ⊤};
+ghost use Rattle.std.specs.Prelude.{◌≡◌, ◌≢◌, ◌+◌, ◌≤◌, ◌++◌, ℕ, Bool, false, List, [], length, map, ⊤};
+ghost use Rattle.std.specs.Prelude.{Option, None, Ok};
 ghost use Rattle.em_journal.specs.History.{Call, Run};
 ghost use Rattle.em_step.specs.Event.{Event, transmits};
 ghost use Rattle.em_step.specs.State.{State};
@@ -10,7 +11,7 @@ ghost use Rattle.em_step.specs.Whole.{padded};
 ghost use Rattle.em_driver.specs.World.{World, present};
 ghost use Rattle.em_driver.specs.Spans.{Span, IsSpan, AreSpans, IsPrefix, after_spans};
 ghost use Rattle.em_driver.specs.Spans.{all_handed, all_sent, all_stored, all_taken};
-ghost use Rattle.em_driver.specs.Back.{Leg, AreLegs, after_legs, all_steps};
+ghost use Rattle.em_driver.specs.Back.{Leg, AreLegs, Begins, after_legs, all_steps};
 ghost use Rattle.em_driver.specs.Others.{IsOthers};
 ghost use Rattle.em_driver.specs.Driven.{IsDriven, IsDrivenBut};
 ghost use Rattle.em_driver.specs.DeviceOff.{IsOff, Rests};
@@ -33,28 +34,31 @@ ghost use Rattle.em_driver.specs.declared.outcome.Cause.{Cause};
 ghost use Rattle.em_driver.specs.declared.stats.DeviceStats.{DeviceStats};
 
 /// The law of a call with memory: where neither the answer of a call nor the world that it leaves
-/// says that memory was refused, both are those of its course as it is played. The bus says whether
-/// it can be refused memory: where it can't, only the call's own can be wanting.
+/// says that memory was refused, both are those of its course as it is played, if nobody acts beside
+/// the plan. The bus says whether it can be refused memory: where it can't, only the call's own can
+/// be wanting.
 pub fn a_fed_call_is_played<A>()
     ensures said { (says : A → Bool) (course : Course A) (w v : World) (events : ℕ) (answer : A)
-        → Tells says course → Follows w course events answer v → wants_memory says answer v ≡ false
+        → Tells says course → Follows w course events answer v → w.spared ≡ None → wants_memory says answer v ≡ false
         → play w course ≡ record { events = events; answer = answer; world = v } }
     ensures ample { (bus own : A → Bool) (course : Course A) (w v : World) (events : ℕ) (answer : A)
-        → TellsApart bus own course → Follows w course events answer v → wants_memory own answer v ≡ false
-        → v.scarce ≡ false → play w course ≡ record { events = events; answer = answer; world = v } }
+        → TellsApart bus own course → Follows w course events answer v → w.spared ≡ None
+        → wants_memory own answer v ≡ false → v.scarce ≡ false
+        → play w course ≡ record { events = events; answer = answer; world = v } }
 {}
 
-/// The law of any call: either it is played, or the answer or the world says that memory was
-/// refused, and what is named follows its course. Without a plan no turn finds memory wanting.
+/// The law of any call beside whose plan nobody acts: either it is played, or the answer or the world
+/// says that memory was refused, and what is named follows its course. Without a plan no turn finds
+/// memory wanting.
 pub fn a_call_happens<A>()
     ensures happens { (says : A → Bool) (course : Course A) (w v : World) (events : ℕ) (answer : A)
-        → Tells says course → Follows w course events answer v
+        → Tells says course → Follows w course events answer v → w.spared ≡ None
         → Happens says w course (record { events = events; answer = answer; world = v }) }
     ensures unplanned { (course : Course A) (w v : World) (events : ℕ) (answer : A)
         → Follows w course events answer v → w.plan ≡ [] → v.starved ≡ w.starved }
 {}
 
-/// What a call does to the machine, with the turns before its accesses, is a run of the machine's
+/// What a call does to the machine, with what others do before its accesses, is a run of the machine's
 /// own calls: those of the course as it is played, and some where memory was refused.
 pub fn a_call_is_a_run<A>()
     ensures played { (course : Course A) (w : World)
@@ -140,12 +144,15 @@ pub fn packets_in_order()
         × IsPrefix (all_sent spans) (map padded (all_taken spans)) }
 {}
 
-/// Steps back over any list of calls and events, each call with the turns before its accesses, lead to
-/// the state that the first of them began in. So steps back that end where some call began lead to the
-/// state of that moment, which is driven if it was, and the equations start again from there.
+/// Steps back over any list of calls and events, each call with what others do before its accesses, lead
+/// to the state that the first of them began in. So steps back that end where some call began lead to the
+/// state of that moment, which is driven if it was, and the equations start again from there: calls and
+/// events from there on go on with the list up to that moment, and are taken back with it, however many
+/// older records the budget dropped for those that were taken back before.
 pub fn steps_back_start_again<A>()
-    ensures { (l : Layout) (m : View) (legs : List Leg)
-        → AreLegs A m legs → all_steps legs ≤ length (after_legs m legs).past
-        → ((after_backs (all_steps legs) (after_legs m legs)).present ≡ m.present)
-        × (IsDriven l m.present → IsDriven l (after_backs (all_steps legs) (after_legs m legs)).present) }
+    ensures { (l : Layout) (m v : View) (legs : List Leg)
+        → AreLegs A m legs → Begins v (after_legs m legs) → all_steps legs ≤ length v.past
+        → ((after_backs (all_steps legs) v).present ≡ m.present)
+        × Begins (after_backs (all_steps legs) v) m
+        × (IsDriven l m.present → IsDriven l (after_backs (all_steps legs) v).present) }
 {}

@@ -4,6 +4,7 @@ ghost use Rattle.em_driver.specs.Course.{Follows};
 ghost use Rattle.em_driver.specs.Layout.{IsGoodLayout};
 ghost use Rattle.em_driver.specs.Start.{start as start_of, start_events};
 ghost use Rattle.em_driver.specs.Started.{StartsInOrder};
+ghost use Rattle.em_driver.specs.World.{IsSpared};
 
 use crate::bus::Bus;
 use crate::driver::E1000;
@@ -27,7 +28,8 @@ impl<B: Bus> E1000<B> {
         ensures ok { IfOk result (λ started. Follows (B.world bus) (start_of layout) started.1 None
             (B.world started.0.bus)) }
         ensures counted { IfOk result (λ started. started.1 ≡ start_events layout) }
-        ensures order { IfOk result (λ started. StartsInOrder layout (B.world bus) started.1 (B.world started.0.bus)) }
+        ensures order { IfOk result (λ started. IsSpared layout (B.world bus).spared
+            → StartsInOrder layout (B.world bus) started.1 (B.world started.0.bus)) }
         ensures layout { IfOk result (λ started. started.0.layout ≡ layout) }
         ensures untouched { IfErr result (λ refused.
             (IsGoodLayout (length (B.world bus).machine.present.memory) layout → ⊥)

@@ -3,7 +3,7 @@ ghost use Rattle.std.specs.Prelude.{◌≡◌, ◌+◌, ◌<◌, ◌≤◌, ℕ,
 ghost use Rattle.em_driver.specs.Taking.{Takes, TakesAll, outcome_of, world_with};
 ghost use Rattle.em_turn.specs.Turn.{arrivals, is_arrival};
 
-use em_journal::Machine;
+use em_journal::Acts;
 use em_step::{Answer, Event, Refusal};
 use em_turn::{Frame, Turn};
 
@@ -24,16 +24,16 @@ pub enum TurnOutcome {
 
 /// Takes the turns of a list, in order, up to one that finds no memory, and gives whether there was
 /// none such. There is room for the frames that arrive.
-pub(crate) fn take_all(
+pub(crate) fn take_all<M: Acts>(
     turns: Vec<Turn>,
-    machine: &mut Machine,
+    machine: &mut M,
     stored: &mut Vec<Frame>,
     counts: &mut Counts,
 ) -> bool
     requires few { counts.old.performed + counts.old.refused + length turns.items < 0x1_0000_0000 }
     requires room { vec_len stored.old + arrivals turns.items ≤ vec_capacity stored.old }
-    ensures takes { TakesAll (world_with machine.old stored.old.items counts.old) turns.items result
-        (world_with machine.new stored.new.items counts.new) }
+    ensures takes { TakesAll (world_with (M.shows machine.old) stored.old.items counts.old) turns.items result
+        (world_with (M.shows machine.new) stored.new.items counts.new) }
     ensures few { counts.new.performed + counts.new.refused
         ≤ counts.old.performed + counts.old.refused + length turns.items }
     ensures room { vec_len stored.new ≤ vec_len stored.old + arrivals turns.items }
@@ -50,9 +50,9 @@ pub(crate) fn take_all(
 }
 
 /// Takes one turn. There is room for a frame that arrives.
-fn take(turn: Turn, machine: &mut Machine, stored: &mut Vec<Frame>) -> TurnOutcome
+fn take<M: Acts>(turn: Turn, machine: &mut M, stored: &mut Vec<Frame>) -> TurnOutcome
     requires { vec_len stored.old + is_arrival turn ≤ vec_capacity stored.old }
-    ensures takes { Takes machine.old stored.old.items turn result machine.new stored.new.items }
+    ensures takes { Takes (M.shows machine.old) stored.old.items turn result (M.shows machine.new) stored.new.items }
     ensures room { vec_len stored.new ≤ vec_len stored.old + is_arrival turn }
     ensures capacity { vec_capacity stored.new ≡ vec_capacity stored.old }
 {
@@ -64,9 +64,10 @@ fn take(turn: Turn, machine: &mut Machine, stored: &mut Vec<Frame>) -> TurnOutco
 }
 
 /// A frame arrives, and is noted where it is stored. There is room for it.
-fn arrive(frame: Frame, machine: &mut Machine, stored: &mut Vec<Frame>) -> TurnOutcome
+fn arrive<M: Acts>(frame: Frame, machine: &mut M, stored: &mut Vec<Frame>) -> TurnOutcome
     requires { vec_len stored.old < vec_capacity stored.old }
-    ensures takes { Takes machine.old stored.old.items (Turn.Arrive frame) result machine.new stored.new.items }
+    ensures takes { Takes (M.shows machine.old) stored.old.items (Turn.Arrive frame) result (M.shows machine.new)
+        stored.new.items }
     ensures room { vec_len stored.new ≤ vec_len stored.old + 1 }
     ensures capacity { vec_capacity stored.new ≡ vec_capacity stored.old }
 {
@@ -83,8 +84,9 @@ fn arrive(frame: Frame, machine: &mut Machine, stored: &mut Vec<Frame>) -> TurnO
 }
 
 /// The receive engine handles one descriptor.
-fn receive(machine: &mut Machine) -> TurnOutcome
-    ensures { (stored : List (List ℕ)) → Takes machine.old stored Turn.RxStep result machine.new stored }
+fn receive<M: Acts>(machine: &mut M) -> TurnOutcome
+    ensures { (stored : List (List ℕ))
+        → Takes (M.shows machine.old) stored Turn.RxStep result (M.shows machine.new) stored }
 {
     match machine.perform(Event::RxStep) {
         Ok(_) => TurnOutcome::Performed,
@@ -93,8 +95,9 @@ fn receive(machine: &mut Machine) -> TurnOutcome
 }
 
 /// The transmit engine handles one descriptor.
-fn transmit(machine: &mut Machine) -> TurnOutcome
-    ensures { (stored : List (List ℕ)) → Takes machine.old stored Turn.TxStep result machine.new stored }
+fn transmit<M: Acts>(machine: &mut M) -> TurnOutcome
+    ensures { (stored : List (List ℕ))
+        → Takes (M.shows machine.old) stored Turn.TxStep result (M.shows machine.new) stored }
 {
     match machine.perform(Event::TxStep) {
         Ok(_) => TurnOutcome::Performed,

@@ -1,9 +1,11 @@
 //! A machine on which other actors act by a plan.
-ghost use Rattle.std.specs.Prelude.{◌≡◌, ◌<◌, false, length, slice_get, IfErr, IsOk, OnErr, OnOk};
+ghost use Rattle.std.specs.Prelude.{◌≡◌, ◌<◌, false, length, min, slice_get, IfOk, IfErr, IsOk, OnErr, OnOk};
 ghost use Rattle.std.specs.Option.{option_map};
 ghost use Rattle.std.specs.Borrow.{Lends, sem};
-ghost use Rattle.em_journal.specs.contracts.machine.Machine.{the_row as machine-row};
 ghost use Rattle.em_driver.specs.contracts.turns.Turns.{the_row as turns-row};
+ghost use Rattle.em_step.specs.Event.{plain};
+ghost use Rattle.em_journal.specs.History.{Does, WasJournalled, refuses};
+ghost use Rattle.em_journal.specs.View.{after_backs};
 ghost use Rattle.em_turn.specs.Planned.{planned};
 ghost use Rattle.em_turn.specs.Turn.{plan_arrivals, plan_turns};
 ghost use Rattle.em_driver.specs.World.{Passes, quiet};
@@ -11,9 +13,9 @@ ghost use Rattle.em_driver.specs.World.{Passes, quiet};
 use crate::bus::Bus;
 use crate::counting::arrivals_of_plan;
 use crate::taking::{Counts, take_all};
-use em_journal::Machine;
+use em_journal::{Acts, Machine};
 use em_regs::Reg;
-use em_step::Refusal;
+use em_step::{Answer, Event, Refusal};
 use em_turn::{Frame, PlanRefused, Turn};
 use std::alloc::Global;
 use std::collections::VecDeque;
@@ -22,8 +24,8 @@ use std::marker::Model;
 /// A machine with a plan: before each access of a driver, the plan's first list is taken and its
 /// turns happen, in order.
 #[derive(Drop)]
-pub struct Turns {
-    machine: Machine,
+pub struct Turns<M: Acts = Machine> {
+    machine: M,
     alloc: Global,
     plan: VecDeque<Vec<Turn>>,
     // has room for every arrival of the plan
@@ -32,8 +34,8 @@ pub struct Turns {
     starved: bool,
 }
 
-impl Model for Turns {
-    ghost use Rattle.std.specs.Prelude.{◌+◌, ◌<◌, ◌≤◌, vec_len, vec_capacity, map, true};
+impl<M: Acts> Model for Turns<M> {
+    ghost use Rattle.std.specs.Prelude.{◌+◌, ◌<◌, ◌≤◌, vec_len, vec_capacity, map, true, None};
     ghost use Rattle.em_turn.specs.Turn.{plan_arrivals, plan_turns};
     ghost use Rattle.em_driver.specs.World.{World, world_code};
     ghost use Rattle.em_turn.specs.Planned.{planned};
@@ -43,9 +45,10 @@ impl Model for Turns {
     ghost coded = { world_code };
 
     ghost view = { λ t. record {
-      machine = t.machine;
+      machine = M.shows t.machine;
       stored = t.stored.items;
       plan = planned t.plan.items;
+      spared = None;
       performed = t.counts.performed;
       refused = t.counts.refused;
       starved = t.starved;
@@ -56,10 +59,10 @@ impl Model for Turns {
         × (t.counts.performed + t.counts.refused + plan_turns (planned t.plan.items) < 0x1_0000_0000) };
 }
 
-impl Turns {
+impl<M: Acts> Turns<M> {
     /// A machine with no plan.
-    pub fn new(alloc: Global, machine: Machine) -> Turns
-        ensures { result ≡ quiet machine }
+    pub fn new(alloc: Global, machine: M) -> Turns<M>
+        ensures { result ≡ quiet (M.shows machine) }
     {
         Turns {
             machine,
@@ -78,22 +81,48 @@ impl Turns {
     pub fn machine(&self) -> &Machine
         ensures { result.now ≡ self.now.machine }
     {
+        self.machine.machine()
+    }
+
+    /// What performs the events, to look at.
+    pub fn acts(&self) -> &M
+        ensures { M.shows result.now ≡ self.now.machine }
+    {
         &self.machine
     }
 
-    /// The machine, on which its holder acts between two calls of a driver; no turn happens then.
-    pub fn machine_mut(&mut self) -> &mut Machine
-        ensures value { result.now ≡ self.old.machine }
-        ensures* writes_back { sem 𝓛 (Lends turns-row machine-row self.entry result (λ machine. record self.entry.now {
-          machine = machine;
-        })) }
+    /// What performs the events, for who acts between two calls of a driver; no turn happens then.
+    pub fn machine_mut(&mut self) -> &mut M
+        ensures value { M.shows result.now ≡ self.old.machine }
+        ensures* writes_back { sem 𝓛 (Lends (turns-row M.row M.Acts) M.row self.entry result (λ machine.
+            record self.entry.now { machine = M.shows machine })) }
     {
         &mut self.machine
     }
 
+    /// Performs an event between two calls of a driver; no turn happens then.
+    #[inline(always)]
+    pub fn perform(&mut self, event: Event<'_>) -> Result<Answer, Refusal>
+        ensures ok { IfOk result (λ answer.
+            WasJournalled self.old.machine (plain event.entry) answer self.new.machine) }
+        ensures err { IfErr result (λ refusal.
+            Does self.old.machine (refuses (plain event.entry) refusal) self.new.machine) }
+        ensures rest { self.new ≡ record self.old { machine = self.new.machine } }
+    {
+        self.machine.perform(event)
+    }
+
+    /// Takes the newest events back, at most so many, and gives how many.
+    pub fn back_by(&mut self, most: usize) -> usize
+        ensures count { result ≡ min most (length self.old.machine.past) }
+        ensures view { self.new ≡ record self.old { machine = after_backs most self.old.machine } }
+    {
+        self.machine.back_by(most)
+    }
+
     /// The machine, without the plan.
-    pub fn into_machine(self) -> Machine
-        ensures { result ≡ self.machine }
+    pub fn into_machine(self) -> M
+        ensures { M.shows result ≡ self.machine }
     {
         self.machine
     }
@@ -206,30 +235,31 @@ impl Turns {
     }
 }
 
-impl Bus for Turns {
+impl<M: Acts> Bus for Turns<M> {
     ghost world = { λ turns. turns };
 
     fn read(&mut self, reg: Reg) -> u32 {
         self.pass();
-        self.machine.read(reg)
+        self.machine.read_register(reg)
     }
 
     fn write(&mut self, reg: Reg, value: u32) -> Result<(), Refusal> {
         self.pass();
-        self.machine.write(reg, value)
+        self.machine.write_register(reg, value)
     }
 
     fn peek(&mut self, addr: u64, out: &mut [u8]) -> Result<(), Refusal> {
         self.pass();
-        Machine::peek(&self.machine, addr, out)
+        self.machine.machine().peek(addr, out)
     }
 
     fn poke(&mut self, addr: u64, octets: &[u8]) -> Result<(), Refusal> {
         self.pass();
-        self.machine.poke(addr, octets)
+        self.machine.perform(Event::Poke(addr, octets))?;
+        Ok(())
     }
 
     fn size(&self) -> u64 {
-        self.machine.memory_size()
+        self.machine.machine().memory_size()
     }
 }

@@ -63,15 +63,11 @@ agrees_as_number expected line = eight_agree (eight_digits expected) line
 abbrev pub agrees_by : Bool → List ℕ → List ℕ → Bool
 agrees_by value expected line = if value then agrees_as_number expected line else agrees_as_text expected line
 
--- an answer of eight digits is compared as a number
-abbrev pub agrees : List ℕ → List ℕ → Bool
-agrees expected answer = agrees_by (is_value (first_line answer)) expected (first_line answer)
-
 abbrev pub is_read : Option Event → Bool
 is_read (Some (reads offset)) = true
 is_read _ = false
 
--- the same of an event: only what a read answers is a register's value
+-- what a read answers in eight digits is compared as a number; all else as a text
 abbrev pub agrees_of : Option Event → List ℕ → List ℕ → Bool
 agrees_of event expected answer =
     agrees_by (is_read event && is_value (first_line answer)) expected (first_line answer)

@@ -77,7 +77,3 @@ told_text read expected there = fields_text read (wanted_value expected there) (
 abbrev pub difference_text : Option Reg → List ℕ → List ℕ → List ℕ
 difference_text read expected answer =
     (codes "differs: " ++ (expected ++ codes " wanted")) ++ (told_text read expected (first_line answer) ++ codes "\n")
-
--- the same of a line
-abbrev pub differs_text : List ℕ → List ℕ → List ℕ → List ℕ
-differs_text line expected answer = difference_text (register_read (words_of line)) expected answer

@@ -5,7 +5,7 @@ ghost use Rattle.std.specs.Char.{is_ascii_hexdigit};
 ghost use Rattle.std.specs.List.{list_all, position_or_len};
 ghost use Rattle.em_step.specs.Event.{plain};
 ghost use Rattle.em_text.specs.Lines.{is_newline};
-ghost use Rattle.em_expect.specs.Agreement.{agrees, agrees_as_number, agrees_as_text, agrees_by, agrees_of, each_agrees};
+ghost use Rattle.em_expect.specs.Agreement.{agrees_as_number, agrees_as_text, agrees_by, agrees_of, each_agrees};
 ghost use Rattle.em_expect.specs.Agreement.{eight_digits, eight_of, first_line, fits, is_read, is_value, padded};
 ghost use Rattle.em_expect.specs.Agreement.{padded_digit, stands_for};
 
@@ -26,16 +26,9 @@ pub(crate) const DIGITS: usize = 8;
 /// Whether an answer is the one that was expected. Of an answer of several lines the first counts. Letters agree in either
 /// case, and a `-` that is expected agrees with each hexadecimal digit. No answer agrees with an empty text.
 ///
-/// An answer of 8 hexadecimal digits, as the value of a register has them, is compared as a number: `81`, `0x81` and
-/// `00000081` are the same. Others are compared as texts, and there a `-` agrees with a `-` too.
-pub fn agrees(expected: &[u8], answer: &[u8]) -> bool
-    ensures { result ≡ agrees expected.now answer.now }
-{
-    let line = first_line(answer);
-    agrees_by(is_value(line), expected, line)
-}
-
-/// The same of the answer to an event, where the line says one: only what a read answers is compared as a number.
+/// What a read of a register answers, 8 hexadecimal digits, is compared as a number: `81`, `0x81` and `00000081` are the
+/// same. Other answers are compared as texts, and there a `-` agrees with a `-` too. `event` is what the line says that was
+/// answered, if it says an event.
 pub fn agrees_of(event: Option<Event<'_>>, expected: &[u8], answer: &[u8]) -> bool
     ensures { result ≡ agrees_of (option_map plain event.entry) expected.now answer.now }
 {

@@ -7,7 +7,7 @@ ghost use Rattle.em_text.specs.Words.{words_of};
 ghost use Rattle.em_text.specs.Writer.{Writes};
 ghost use Rattle.em_names.specs.Bits.{four_digits, row_of_field};
 ghost use Rattle.em_expect.specs.Agreement.{first_line};
-ghost use Rattle.em_expect.specs.Difference.{difference_text, differs_text, field_text, fields_text, holds_text};
+ghost use Rattle.em_expect.specs.Difference.{difference_text, field_text, fields_text, holds_text};
 ghost use Rattle.em_expect.specs.Difference.{register_of, register_read, value_in, wanted_digit, wanted_digits};
 ghost use Rattle.em_expect.specs.Difference.{wanted_value};
 
@@ -35,19 +35,6 @@ pub fn write_difference<W: Write>(
         (difference_text (register_of (option_map plain event.entry)) expected.now answer.now) }
 {
     write_of_register(writer, register_of(event), expected, answer)
-}
-
-/// The same of a line that says the event: `r OFF`.
-pub fn write_differs<W: Write>(
-    writer: &mut W,
-    line: &[u8],
-    expected: &[u8],
-    answer: &[u8],
-) -> Result<(), WriteFailed>
-    ensures writes { Writes (W.contents writer.old) (W.contents writer.new) result
-        (differs_text line.now expected.now answer.now) }
-{
-    write_of_register(writer, register_read(line), expected, answer)
 }
 
 /// Writes how an answer differs, where this register was read.

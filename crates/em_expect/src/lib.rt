@@ -9,7 +9,7 @@ mod asking;
 mod difference;
 mod parts;
 
-pub use agreement::{agrees, agrees_of};
+pub use agreement::agrees_of;
 pub use asking::expectation;
-pub use difference::{register_of, register_read, write_difference, write_differs};
+pub use difference::{register_of, register_read, write_difference};
 pub use parts::Expectation;

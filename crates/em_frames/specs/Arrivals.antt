@@ -1,5 +1,6 @@
 -- The frames of a capture as lines of a script that bring them.
-use Rattle.std.specs.Prelude.{◌≡◌, ℕ, ◌+◌, min, Bool, true, false, if◌then◌else◌, List, [], ◌∷◌, ◌++◌, codes, filter, length, map}
+use Rattle.std.specs.Prelude.{◌≡◌, ℕ, ◌+◌, min, Bool, true, false, ◌&&◌, nat_lt, if◌then◌else◌, List, [], ◌∷◌}
+use Rattle.std.specs.Prelude.{◌++◌, codes, filter, length, map}
 use Rattle.std.specs.Prelude.{Option, Some, None}
 use Rattle.em_text.specs.Writer.{hex_text}
 use Rattle.em_turn.specs.Planned.{lists}
@@ -9,12 +10,17 @@ use Rattle.em_pcap.specs.Frame.{Frame, cut_of}
 use Rattle.em_pcap.specs.Reading.{Reading, nothing}
 use Rattle.em_frames.specs.declared.arrivals.Arrivals.{Arrivals}
 
--- the line that brings a frame of these octets
-abbrev pub arrival_text : List ℕ → List ℕ
-arrival_text octets = codes "arrive " ++ hex_text octets
+-- it had fewer than 60 octets, as no frame on a wire has without its check sequence: it was captured before it was padded
+abbrev pub is_unpadded : Frame → Bool
+is_unpadded frame = nat_lt frame.original 60 && nat_lt (length frame.octets) 60
 
+-- what lengthens it by zero octets
+abbrev pub padding_text : Bool → List ℕ
+padding_text unpadded = if unpadded then codes " 60" else []
+
+-- the line that brings a frame: what was captured of it, and how long it is where it is padded
 abbrev pub arrival_of : Frame → List ℕ
-arrival_of frame = arrival_text frame.octets
+arrival_of frame = codes "arrive " ++ (hex_text frame.octets ++ padding_text (is_unpadded frame))
 
 -- fewer octets were captured than the frame had
 abbrev pub is_some : {T : Type 0} → Option T → Bool

@@ -3,7 +3,7 @@ ghost use Rattle.std.specs.Prelude.{◌≡◌, [], None};
 ghost use Rattle.em_pcap.specs.Frame.{frame_of};
 ghost use Rattle.em_pcap.specs.Reading.{reading_of};
 ghost use Rattle.em_text.specs.Writer.{Writes};
-ghost use Rattle.em_frames.specs.Arrivals.{Adds, AreArrivals, arrival_text, with_frame};
+ghost use Rattle.em_frames.specs.Arrivals.{Adds, AreArrivals, arrival_of, is_unpadded, padding_text, with_frame};
 
 use em_pcap::{Capture, CaptureError, Packet};
 use em_text::{WriteFailed, write_octets, write_whole};
@@ -11,11 +11,13 @@ use std::alloc::Global;
 use std::collections::VecDeque;
 use std::io::Write;
 
+/// How many octets the shortest frame on a wire has, without its check sequence.
+pub const LEAST_FRAME: u32 = 60;
+
 /// The frames of a capture, up to its end or its first fault.
 #[derive(Drop)]
 pub struct Arrivals {
-    /// Of each frame, in their order, the line `arrive DATA` that brings it. Of a frame that was cut DATA is what was
-    /// captured of it.
+    /// Of each frame, in their order, the line that brings it, as [`write_arrival`] writes it.
     pub lines: VecDeque<Vec<u8>>,
     /// How many of the frames were cut.
     pub cut: u64,
@@ -39,7 +41,7 @@ impl Arrivals {
         ensures { Adds (frame_of packet.now) self.old self.new result }
     {
         let mut line = Vec::new(alloc);
-        if write_arrival(&mut line, packet.octets).is_err() {
+        if write_arrival(&mut line, packet).is_err() {
             return false;
         }
         if self.lines.push_back(line).is_err() {
@@ -85,10 +87,30 @@ fn with_frame(cut: u64, packet: &Packet<'_>) -> u64
     }
 }
 
-/// Writes the line that brings a frame, without a newline.
-fn write_arrival<W: Write>(writer: &mut W, octets: &[u8]) -> Result<(), WriteFailed>
-    ensures writes { Writes (W.contents writer.old) (W.contents writer.new) result (arrival_text octets.now) }
+/// Whether a frame was captured before it was padded: it had fewer than [`LEAST_FRAME`] octets then, as no frame on a
+/// wire has.
+pub fn is_unpadded(packet: &Packet<'_>) -> bool
+    ensures { result ≡ is_unpadded (frame_of packet.now) }
+{
+    packet.original < LEAST_FRAME && packet.octets.len() < LEAST_FRAME as usize
+}
+
+/// Writes the line that brings a captured frame, without a newline: `arrive DATA` with what was captured of it, and 60
+/// behind that where it was captured before it was padded, so that it arrives padded with zero octets.
+pub fn write_arrival<W: Write>(writer: &mut W, packet: &Packet<'_>) -> Result<(), WriteFailed>
+    ensures writes { Writes (W.contents writer.old) (W.contents writer.new) result (arrival_of (frame_of packet.now)) }
 {
     write_whole(writer, b"arrive ")?;
-    write_octets(writer, octets)
+    write_octets(writer, packet.octets)?;
+    write_padding(writer, is_unpadded(packet))
+}
+
+/// Writes how long a frame is that is padded, behind its octets.
+fn write_padding<W: Write>(writer: &mut W, unpadded: bool) -> Result<(), WriteFailed>
+    ensures writes { Writes (W.contents writer.old) (W.contents writer.new) result (padding_text unpadded) }
+{
+    if unpadded {
+        return write_whole(writer, b" 60");
+    }
+    Ok(())
 }

@@ -4,5 +4,5 @@
 mod arrivals;
 mod sent;
 
-pub use arrivals::{Arrivals, arrivals_of};
+pub use arrivals::{Arrivals, LEAST_FRAME, arrivals_of, is_unpadded, write_arrival};
 pub use sent::write_sent;

@@ -157,22 +157,13 @@ abbrev pub AreFields : Cells → List Record → OldOctets → waiting → ℕ �
 AreFields c rs o w capacity budget used =
     IsJournal c (undos_of rs o) capacity budget used × AreSaved rs o w budget used
 
--- none yet, over a short ring
-pub opened : {c : Cells} {rs : List Record} {o : OldOctets} {v : Vec ℕ Global} {capacity budget room : ℕ} → rs ≡ []
-    → capacity ≡ budget / least_cost → IsBudget budget → o ≡ record { top = room - 1; octets = replicate room 0 }
-    → 0 < room → room ≤ budget + 16_396 → budget + 16_396 ≤ vec_capacity v → AreFields c rs o (Some v) capacity budget 0
-opened {c} {rs} {o} {v} {capacity} {budget} {room} none places allowed is some less memory =
-    let top : o.top ≡ room - 1 = ap (λ (x : OldOctets). x.top) is in
-    let size : length o.octets ≡ room = ap (λ (x : OldOctets). length x.octets) is ∙ length-replicate {A = ℕ} room 0 in
-    subst (λ xs. AreFields c xs o (Some v) capacity budget 0) (sym none) (
+-- none yet
+pub opened : {c : Cells} {rs : List Record} {o : OldOctets} {w : waiting} {capacity budget : ℕ} → rs ≡ []
+    → capacity ≡ budget / least_cost → IsBudget budget → AreSaved [] o w budget 0 → AreFields c rs o w capacity budget 0
+opened {c} {rs} {o} {w} {capacity} {budget} none places allowed all =
+    subst (λ xs. AreFields c xs o w capacity budget 0) (sym none) (
       record { fit = tt; counted = refl; held = omega arith; places = places; allowed = allowed },
-      record {
-        at = tt;
-        counted = refl;
-        held = omega arith;
-        size = record { before = omega (arith, top, size, some); shorter = omega (arith, size, less); memory = memory };
-        top = omega (arith, top, size, some);
-      },
+      all,
     )
 
 -- the record of an event that saved octets

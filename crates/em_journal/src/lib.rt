@@ -1,6 +1,7 @@
 //! A journal of an adapter's events: it performs them, and takes the newest back, within a budget.
 #![tactic(auto)]
 
+mod acts;
 pub mod laws;
 mod machine;
 mod records;
@@ -8,6 +9,7 @@ mod refusal;
 mod rings;
 mod settings;
 
+pub use acts::Acts;
 pub use machine::{LEAST_BUDGET, MOST_BUDGET, Machine};
 pub use refusal::{Empty, JournalRefusal};
 pub use settings::{Settings, SettingsRefusal};

@@ -8,7 +8,7 @@
 //!   - STATUS, and a write of CTRL or EERD: `read_other`, `write_other`; `read_register`, `write_register`;
 //!     `status`, `write_control`, `write_eerd`
 //! - a memory write: `poke`; `poke`; `GuestMemory::write_saving`
-//! - an arriving frame: `arrive`; `arrive`, `dispose`, `judge`, `admit`, `accept`; em_filter, `Fifo::accept`
+//! - an arriving frame: `arrive`; `arrive`, `dispose`, `judge`, `admit`, `accept`; em_filter, `Fifo::store`
 //! - a change of the link: `set_link`; `set_link`; `Latches::raise`
 //! - a step of an engine: `receive_step`, `transmit_step`; the same; `Fifo::receive`, em_tx's `transmit`
 //!
@@ -34,10 +34,9 @@ ghost use Rattle.em_journal.specs.History.{refuses, goes_back, is_empty, Does, R
 ghost use Rattle.em_journal.specs.Record.{IsRecordAt};
 ghost use Rattle.em_journal.specs.View.{HaveMemoryOf, opening, after_backs};
 
-use crate::records::{FIRST_ROOM, MOST_SAVED, Records, most_records};
+use crate::records::{Records, first_octets, most_records};
 use crate::refusal::{Empty, JournalRefusal};
 use circular_buffer::HeapCircularBuffer;
-use em_mem::OldOctets;
 use em_regs::{Kind, Reg};
 use em_rx::StoredFrame;
 use em_step::{Adapter, Answer, Event, LEAST_COST, Past, Refusal};
@@ -102,18 +101,14 @@ impl Machine {
         let Ok(larger) = HeapCircularBuffer::with_capacity(alloc, places) else {
             return Err((adapter, JournalRefusal::Memory));
         };
-        let room = budget as usize + MOST_SAVED;
-        let Ok(octets) = OldOctets::with_room(alloc, FIRST_ROOM.min(room)) else {
-            return Err((adapter, JournalRefusal::Memory));
-        };
-        let Ok(waits) = Vec::with_capacity(alloc, room) else {
+        let Ok((octets, waits)) = first_octets(alloc, budget) else {
             return Err((adapter, JournalRefusal::Memory));
         };
         let records = Records {
             ring,
             larger: Some(larger),
             octets,
-            waits: Some(waits),
+            waits,
             used: 0,
         };
         Ok(Machine {

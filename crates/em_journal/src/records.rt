@@ -1,5 +1,5 @@
 //! The records of a journal, the newest first, the octets that were saved for them, and what they cost together.
-ghost use Rattle.std.specs.Prelude.{◌≡◌, ◌+◌, ◌-◌, ◌/◌, ◌≤◌, ◌<◌, ◌∷◌, length, take, sum};
+ghost use Rattle.std.specs.Prelude.{◌≡◌, ◌+◌, ◌-◌, ◌/◌, ◌≤◌, ◌<◌, [], ◌∷◌, length, take, sum, IfOk};
 ghost use Rattle.circular_buffer.specs.Buffer.{buffer};
 ghost use Rattle.em_step.specs.Cost.{cost_by, least_cost, most_cost};
 ghost use Rattle.em_journal.specs.Budget.{IsBudget};
@@ -9,20 +9,44 @@ ghost use Rattle.em_journal.specs.View.{reach};
 use circular_buffer::HeapCircularBuffer;
 use em_mem::OldOctets;
 use em_step::{Adapter, LEAST_COST, Record};
+use std::alloc::{AllocError, Global};
 
 /// The most octets that one event saves: a receive step's, of a piece of 16,384 octets, 8 of a descriptor and 4 of RDH.
 /// There is room for so many beside those of a full journal, since an event saves them before the oldest records go.
-pub(crate) const MOST_SAVED: usize = 16_396;
+const MOST_SAVED: usize = 16_396;
 
 /// How many octets the ring of octets has at first, where the budget holds more: those of two full packet buffers, and
 /// of one event.
-pub(crate) const FIRST_ROOM: usize = 131_072;
+const FIRST_ROOM: usize = 131_072;
+
+/// The greatest budget whose ring of octets is short at first. An event waits while a ring of the whole size takes the
+/// place of a short one: about 0.7 ms for each MiB.
+const MOST_GROWN: u64 = 1_048_576;
 
 /// How many records a budget holds at most: as many as it has of the least cost.
 pub(crate) fn most_records(budget: u64) -> usize
     ensures { result ≡ budget / least_cost }
 {
     (budget / u64::from(LEAST_COST)) as usize
+}
+
+/// The ring of octets of a journal without records, and memory that waits for one of the whole size where it is short.
+/// With a great budget it has its whole size at once.
+pub(crate) fn first_octets(
+    alloc: Global,
+    budget: u64,
+) -> Result<(OldOctets, Option<Vec<u8>>), AllocError>
+    requires { IsBudget budget }
+    ensures { IfOk result (λ made. AreSaved [] made.0 made.1 budget 0) }
+{
+    let room = budget as usize + MOST_SAVED;
+    if budget > MOST_GROWN {
+        let octets = OldOctets::with_room(alloc, room)?;
+        return Ok((octets, None));
+    }
+    let octets = OldOctets::with_room(alloc, FIRST_ROOM.min(room))?;
+    let waits = Vec::with_capacity(alloc, room)?;
+    Ok((octets, Some(waits)))
 }
 
 /// The records, the octets that were saved for them, and what they cost.

@@ -1,3 +1,4 @@
 pub mod PlanLemmas
 pub mod FrameLemmas
 pub mod RequestLemmas
+mod PartsLemmas

@@ -4,7 +4,7 @@ use Rattle.em_line.specs.Arguments.{arguments_of}
 use Rattle.em_line.specs.Command.{plain}
 use Rattle.em_line.specs.Grammar.{arrive_form, poke_form, turns_form}
 use Rattle.em_line.specs.ParsedLine.{ParsedLine, silent, bad, says, request_line}
-use Rattle.em_line.specs.Request.{request_form}
+use Rattle.em_line.specs.Request.{asked_form}
 use Rattle.em_line.specs.declared.form.LineForm.{LineForm}
 use Rattle.em_line.specs.declared.form.LineForm.TheVariants as form
 
@@ -15,5 +15,5 @@ said_by form.Bad = bad
 said_by (form.Command command) = says (plain command)
 said_by (form.Poke words) = poke_form (arguments_of (words_of words.0.now))
 said_by (form.Arrive words) = arrive_form (arguments_of (words_of words.0.now))
-said_by (form.Request name words) = request_line (request_form name.now (arguments_of (words_of words.0.now)))
+said_by (form.Request name words) = request_line (asked_form name (arguments_of (words_of words.0.now)))
 said_by (form.Plan words) = turns_form (words_of words.0.now)

@@ -6,6 +6,8 @@ use Rattle.em_step.specs.Event.{reads, writes, pokes, arrives, links, receives, 
 use Rattle.em_text.specs.Words.{words_of}
 use Rattle.em_text.specs.Numbers.{hex_number, hex_address, decimal_number, octets_of}
 use Rattle.em_line.specs.Arguments.{Arguments, zero, one, two, arguments_of}
+use Rattle.em_line.specs.declared.look.Look.{Look}
+use Rattle.em_line.specs.Look.{look_called}
 use Rattle.em_line.specs.Command as command
 use Rattle.em_line.specs.Command.{Command, event}
 use Rattle.em_line.specs.ParsedLine.{ParsedLine, silent, bad, says, request_line, plan_line}
@@ -76,15 +78,17 @@ abbrev pub link_form : Arguments → ParsedLine
 link_form (one way) = with (way_of way) (λ up. says (event (links up)))
 link_form _ = bad
 
+-- a look of one word, or steps back, or what is asked of a driver
+abbrev pub look_or_other : Option Look → List ℕ → Arguments → ParsedLine
+look_or_other (Some what) name arguments = alone (command.look what) arguments
+look_or_other None name arguments =
+    if bytes_eq name (codes "back") then back_form arguments else request_line (request_form name arguments)
+
 -- a look, steps back, or what is asked of a driver, by its name
 abbrev pub look_form : List ℕ → Arguments → ParsedLine
 look_form name arguments =
     if bytes_eq name (codes "peek") then peek_form arguments else
-    if bytes_eq name (codes "line") then alone command.interrupt_line arguments else
-    if bytes_eq name (codes "regs") then alone command.registers arguments else
-    if bytes_eq name (codes "wire") then alone command.wire arguments else
-    if bytes_eq name (codes "back") then back_form arguments else
-    request_line (request_form name arguments)
+    look_or_other (look_called name) name arguments
 
 -- a command, by its name: an event, or another
 abbrev pub command_form : List ℕ → Arguments → ParsedLine

@@ -1,5 +1,6 @@
 pub mod Arguments
 pub mod Digits
+pub mod Look
 pub mod Command
 pub mod Frame
 pub mod Request

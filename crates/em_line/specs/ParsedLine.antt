@@ -47,8 +47,20 @@ abbrev pub event_in : ParsedLine → Option Event
 event_in (says (event e)) = Some e
 event_in _ = None
 
+-- the command that a line says, where that brings no octets
+abbrev pub command_in : ParsedLine → Option Command
+command_in (says (event (pokes addr octets))) = None
+command_in (says (event (arrives octets))) = None
+command_in (says command) = Some command
+command_in _ = None
+
 -- the access to a register that a line says
 abbrev pub access_in : ParsedLine → Option Event
 access_in (says (event (reads o))) = Some (reads o)
 access_in (says (event (writes o v))) = Some (writes o v)
 access_in _ = None
+
+-- em_bench reads it: it is no bad line
+abbrev pub is_read : ParsedLine → Bool
+is_read bad = false
+is_read _ = true

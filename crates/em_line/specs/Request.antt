@@ -9,6 +9,8 @@ use Rattle.em_line.specs.Frame.{frame_of}
 use Rattle.em_turn.specs.Planned.{lists}
 use Rattle.em_line.specs.declared.driver_call.DriverCall.{DriverCall}
 use Rattle.em_line.specs.declared.driver_call.DriverCall.TheVariants as call
+use Rattle.em_line.specs.declared.request_name.RequestName.{RequestName}
+use Rattle.em_line.specs.declared.request_name.RequestName.TheVariants as asked
 use Rattle.em_line.specs.declared.request.Request.{Request as Lent}
 use Rattle.em_line.specs.declared.request.Request.TheVariants as lent
 
@@ -67,12 +69,28 @@ address_form zero = Some address
 address_form (one digits) = option_map sets_address (option_and_then address_of (octets_of digits))
 address_form _ = None
 
+-- what is asked by a name, if anything is
+abbrev pub request_named : List ℕ → Option RequestName
+request_named name =
+    if bytes_eq name (codes "init") then Some asked.Start else
+    if bytes_eq name (codes "send") then Some asked.Send else
+    if bytes_eq name (codes "recv") then Some asked.Receive else
+    if bytes_eq name (codes "stats") then Some asked.Stats else
+    if bytes_eq name (codes "mac") then Some asked.Address else
+    None
+
+-- a request of this name
+abbrev pub asked_form : RequestName → Arguments → Option Request
+asked_form asked.Start arguments = alone starts arguments
+asked_form asked.Send arguments = send_form arguments
+asked_form asked.Receive arguments = receive_form arguments
+asked_form asked.Stats arguments = alone stats arguments
+asked_form asked.Address arguments = address_form arguments
+
+abbrev pub asked_by : Option RequestName → Arguments → Option Request
+asked_by None arguments = None
+asked_by (Some name) arguments = asked_form name arguments
+
 -- a request, by its name
 abbrev pub request_form : List ℕ → Arguments → Option Request
-request_form name arguments =
-    if bytes_eq name (codes "init") then alone starts arguments else
-    if bytes_eq name (codes "send") then send_form arguments else
-    if bytes_eq name (codes "recv") then receive_form arguments else
-    if bytes_eq name (codes "stats") then alone stats arguments else
-    if bytes_eq name (codes "mac") then address_form arguments else
-    None
+request_form name arguments = asked_by (request_named name) arguments

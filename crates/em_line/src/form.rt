@@ -7,16 +7,20 @@ ghost use Rattle.em_line.specs.Arguments.{arguments_of};
 ghost use Rattle.em_line.specs.Command.{plain};
 ghost use Rattle.em_line.specs.Form.{said_by};
 ghost use Rattle.em_line.specs.Grammar.{command_form, look_form, named_form, parsed_line};
-ghost use Rattle.em_line.specs.ParsedLine.{access_in, command_line, says};
+ghost use Rattle.em_line.specs.Request.{request_form};
+ghost use Rattle.em_line.specs.ParsedLine.{access_in, command_in, command_line, request_line, says};
 
 use crate::command::Command;
 use crate::grammar::{alone, back_form, is_comment, link_form, peek_form, read_form, write_form};
+use crate::look::Look;
+use crate::request_name::{RequestName, request_named};
 use em_step::Event;
 use em_text::{Words, is_name};
 
-/// The form of a line by its name. Words that bring octets, or ask something of a driver, or say a plan, are not read yet.
+/// The form of a line by its name. Words that bring octets, or ask something of a driver, or say a plan, are not read yet:
+/// such a line may still be bad.
 #[derive(Clone, Copy, Debug)]
-pub(crate) enum LineForm<'a> {
+pub enum LineForm<'a> {
     /// It has no word, or is a comment.
     Silent,
     Bad,
@@ -26,15 +30,15 @@ pub(crate) enum LineForm<'a> {
     Poke(Words<'a>),
     /// A frame of these words.
     Arrive(Words<'a>),
-    /// Perhaps asks something of a driver: a name, and the words behind it.
-    Request(&'a [u8], Words<'a>),
+    /// Something is asked of a driver with these words behind the name.
+    Request(RequestName, Words<'a>),
     /// The words of a plan.
     Plan(Words<'a>),
 }
 
 /// The form of a line. It takes no memory.
 #[tactic(auto, unfolding(crate::specs::Grammar::parsed_line))]
-pub(crate) fn form_of(line: &[u8]) -> LineForm<'_>
+pub fn form_of(line: &[u8]) -> LineForm<'_>
     ensures { said_by result ≡ parsed_line line.now }
 {
     let mut words = Words(line);
@@ -47,14 +51,34 @@ pub(crate) fn form_of(line: &[u8]) -> LineForm<'_>
     named(name, words)
 }
 
+/// The command that a line is, where it brings no octets. It takes no memory.
+pub fn command_of(line: &[u8]) -> Option<Command<'static>>
+    ensures { option_map plain result ≡ command_in (parsed_line line.now) }
+{
+    match form_of(line) {
+        LineForm::Command(command) => without_octets(command),
+        LineForm::Silent | LineForm::Bad => None,
+        LineForm::Poke(_) | LineForm::Arrive(_) | LineForm::Request(..) | LineForm::Plan(_) => None,
+    }
+}
+
+/// A command, where it brings no octets.
+fn without_octets(command: Command<'static>) -> Option<Command<'static>>
+    ensures { option_map plain result ≡ command_in (says (plain command.entry)) }
+{
+    match command {
+        Command::Event(Event::Poke(..) | Event::Arrive(_)) => None,
+        _ => Some(command),
+    }
+}
+
 /// The access to a register that a line says, if it says one. It takes no memory.
 pub fn accessed(line: &[u8]) -> Option<Event<'static>>
     ensures { option_map plain_event result ≡ access_in (parsed_line line.now) }
 {
-    match form_of(line) {
-        LineForm::Command(command) => access_of(command),
-        LineForm::Silent | LineForm::Bad => None,
-        LineForm::Poke(_) | LineForm::Arrive(_) | LineForm::Request(..) | LineForm::Plan(_) => None,
+    match command_of(line) {
+        Some(command) => access_of(command),
+        None => None,
     }
 }
 
@@ -114,19 +138,23 @@ fn look_named<'a>(name: &'a [u8], words: Words<'a>) -> LineForm<'a>
     if is_name(name, b"peek") {
         return command_form(peek_form(words));
     }
-    if is_name(name, b"line") {
-        return command_form(alone(Command::InterruptLine, words));
-    }
-    if is_name(name, b"regs") {
-        return command_form(alone(Command::Registers, words));
-    }
-    if is_name(name, b"wire") {
-        return command_form(alone(Command::Wire, words));
+    if let Some(look) = Look::of(name) {
+        return command_form(alone(Command::Look(look), words));
     }
     if is_name(name, b"back") {
         return command_form(back_form(words));
     }
-    LineForm::Request(name, words)
+    request_named_form(name, words)
+}
+
+/// The form of what is asked of a driver by a name.
+fn request_named_form<'a>(name: &[u8], words: Words<'a>) -> LineForm<'a>
+    ensures { said_by result ≡ request_line (request_form name.now (arguments_of (words_of words.entry.0.now))) }
+{
+    match request_named(name) {
+        Some(name) => LineForm::Request(name, words),
+        None => LineForm::Bad,
+    }
 }
 
 /// The form of a command, if words say one.

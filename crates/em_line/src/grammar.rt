@@ -12,6 +12,7 @@ ghost use Rattle.em_line.specs.Grammar.{is_comment, alone, with, read_form, writ
 ghost use Rattle.em_line.specs.Grammar.{link_form, peek_form, back_form, turns_form, way_of, count_to};
 
 use crate::arguments::{Arguments, arguments_of};
+use crate::back_count::{BackCount, MOST_BACK};
 use crate::command::Command;
 use crate::frame::{data_words_into, frame_words_into};
 use crate::peek_len::{MOST_PEEK, PeekLen};
@@ -22,9 +23,6 @@ use std::alloc::AllocError;
 
 /// What a comment begins with.
 pub(crate) const HASH: u8 = b'#';
-
-/// The most events that one `back` takes back.
-const MOST_BACK: u32 = 65_536;
 
 /// Whether a word begins a comment.
 pub fn is_comment(word: &[u8]) -> bool
@@ -136,7 +134,8 @@ pub fn back_form(mut words: Words<'_>) -> Option<Command<'static>>
     if count == 0 || count > MOST_BACK {
         return None;
     }
-    alone(Command::BackBy(count), words)
+    let events = count;
+    alone(Command::BackBy(BackCount { events }), words)
 }
 
 /// link up, or link down

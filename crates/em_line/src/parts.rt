@@ -41,6 +41,21 @@ pub struct Parts<'a> {
 pub fn parts_of(line: &[u8]) -> Parts<'_>
     ensures { AreParts line.now result }
 {
+    match first_mark(line) {
+        Some(_) => marked_parts(line),
+        None => Parts {
+            said: line,
+            expected: None,
+            source: None,
+            comment: None,
+        },
+    }
+}
+
+/// The same of a line in which something may stand behind what it says.
+fn marked_parts(line: &[u8]) -> Parts<'_>
+    ensures { AreParts line.now result }
+{
     let text = front_of(line, HASH);
     Parts {
         said: said_in(line),

@@ -4,13 +4,14 @@ ghost use Rattle.std.specs.Option.{option_map};
 ghost use Rattle.em_text.specs.Numbers.{octets_of};
 ghost use Rattle.em_text.specs.Words.{words_of};
 ghost use Rattle.em_line.specs.Arguments.{arguments_of, plain as plain_arguments};
-ghost use Rattle.em_line.specs.Request.{plain, request_form, send_form, receive_form, address_form, alone};
+ghost use Rattle.em_line.specs.Request.{plain, asked_form, request_form, send_form, receive_form, address_form, alone};
 ghost use Rattle.em_line.specs.Request.{sets_address, address_of};
 ghost use Rattle.em_line.specs.ParsedLine.{brings_octets, request_line};
 
 use crate::arguments::{Arguments, arguments_of};
 use crate::driver_call::DriverCall;
 use crate::frame::frame_words_into;
+use crate::request_name::RequestName;
 use crate::spare::take_with_packet;
 use em_text::{Words, is_name, octets_into};
 use std::alloc::{AllocError, Global};
@@ -24,10 +25,10 @@ pub enum Request {
 }
 
 /// The most packets that one `recv` asks for.
-const MOST_PACKETS: u32 = 1024;
+pub(crate) const MOST_PACKETS: u32 = 1024;
 
 /// How many digits write an Ethernet address.
-const ADDRESS_DIGITS: usize = 12;
+pub(crate) const ADDRESS_DIGITS: usize = 12;
 
 /// What is asked of a driver by a name and the words behind it. Memory is taken for the octets that
 /// it brings; `data_buffer` holds them on the way, and a packet goes into the spare queue.
@@ -43,6 +44,7 @@ pub fn request_form(
     ensures memory { OnErr result (IsTrue (brings_octets (request_line
         (request_form name.now (arguments_of (words_of words.entry.0.now)))))) }
 {
+    // The names are tested here once more, so that each leads to its form at once.
     if is_name(name, b"send") {
         return send_form(alloc, words, data_buffer, spare);
     }
@@ -59,6 +61,29 @@ pub fn request_form(
         return address_form(arguments_of(words), data_buffer);
     }
     Ok(None)
+}
+
+/// The same by what the name asks.
+#[inline(always)]
+pub(crate) fn asked_form(
+    alloc: Global,
+    name: RequestName,
+    words: Words<'_>,
+    data_buffer: &mut Vec<u8>,
+    spare: &mut VecDeque<Vec<u8>>,
+) -> Result<Option<Request>, AllocError>
+    ensures value { IfOk result (λ request.
+        option_map plain request ≡ asked_form name (arguments_of (words_of words.entry.0.now))) }
+    ensures memory { OnErr result (IsTrue (brings_octets (request_line
+        (asked_form name (arguments_of (words_of words.entry.0.now)))))) }
+{
+    match name {
+        RequestName::Start => Ok(alone(Request::Start, words)),
+        RequestName::Send => send_form(alloc, words, data_buffer, spare),
+        RequestName::Receive => Ok(receive_form(words)),
+        RequestName::Stats => Ok(alone(Request::Call(DriverCall::Stats), words)),
+        RequestName::Address => address_form(arguments_of(words), data_buffer),
+    }
 }
 
 /// A request whose name has no word behind it.

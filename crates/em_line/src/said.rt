@@ -7,14 +7,15 @@ ghost use Rattle.em_line.specs.Arguments.{arguments_of};
 ghost use Rattle.em_line.specs.Grammar.{arrive_form, parsed_line, poke_form, turns_form};
 ghost use Rattle.em_line.specs.ParsedLine.{event_in, request_line, says, takes_memory};
 ghost use Rattle.em_line.specs.Command.{plain as plain_command};
-ghost use Rattle.em_line.specs.Request.{request_form};
+ghost use Rattle.em_line.specs.Request.{asked_form};
 ghost use Rattle.em_line.specs.Said.{plain};
 
 use crate::command::Command;
 use crate::form::{LineForm, form_of};
 use crate::frame::{data_words_into, frame_words_into};
 use crate::plan::{are_turns, made_of};
-use crate::request::{Request, request_form};
+use crate::request::{Request, asked_form};
+use crate::request_name::RequestName;
 use em_step::Event;
 use em_text::Words;
 use em_turn::Turn;
@@ -66,12 +67,7 @@ fn event_of(command: Command<'_>) -> Option<Event<'_>>
 {
     match command {
         Command::Event(event) => Some(event),
-        Command::Peek(..)
-        | Command::InterruptLine
-        | Command::Back
-        | Command::BackBy(_)
-        | Command::Registers
-        | Command::Wire => None,
+        Command::Peek(..) | Command::Look(_) | Command::Back | Command::BackBy(_) => None,
     }
 }
 
@@ -121,15 +117,15 @@ fn arrive_said(alloc: Global, words: Words<'_>) -> Result<Said, AllocError>
 }
 
 /// What is asked of a driver by a name and the words behind it.
-fn request_said(alloc: Global, name: &[u8], words: Words<'_>) -> Result<Said, AllocError>
+fn request_said(alloc: Global, name: RequestName, words: Words<'_>) -> Result<Said, AllocError>
     ensures value { IfOk result (λ said.
-        plain said ≡ request_line (request_form name.now (arguments_of (words_of words.entry.0.now)))) }
+        plain said ≡ request_line (asked_form name (arguments_of (words_of words.entry.0.now)))) }
     ensures memory { OnErr result (IsTrue (takes_memory (request_line
-        (request_form name.now (arguments_of (words_of words.entry.0.now)))))) }
+        (asked_form name (arguments_of (words_of words.entry.0.now)))))) }
 {
     let mut octets = Vec::new(alloc);
     let mut packets = VecDeque::new(alloc);
-    match request_form(alloc, name, words, &mut octets, &mut packets)? {
+    match asked_form(alloc, name, words, &mut octets, &mut packets)? {
         Some(request) => Ok(Said::Request(request)),
         None => Ok(Said::Bad),
     }

@@ -4,4 +4,5 @@ pub mod Told
 pub mod Qemu
 pub mod Mmiotrace
 pub mod Plain
+pub mod Likeness
 pub mod Log

@@ -6,6 +6,7 @@
 #![tactic(auto)]
 
 mod field;
+mod likeness;
 mod log;
 mod mmiotrace;
 mod number;
@@ -13,5 +14,6 @@ mod plain;
 mod qemu;
 mod told;
 
+pub use likeness::looks_like_access;
 pub use log::{Entry, Form, Log, RegisterAccess};
 pub use told::{Way, Width};

@@ -66,6 +66,14 @@ impl<'a> Log<'a> {
         Log { form, region, base }
     }
 
+    /// What the log looks like: what [`Log::new`] was told, or else what a line that was read decided.
+    pub fn form(&self) -> Option<Form>
+        ensures { result ≡ self.now.form }
+    {
+        let Log { form, .. } = *self;
+        form
+    }
+
     /// What the next line is.
     pub fn read(&mut self, line: &[u8]) -> Entry
         ensures entry { result ≡ entry_of self.new.base (told_in self.new.form self.old.region.now line.now) }

@@ -11,6 +11,7 @@ use Rattle.em_journal.proofs.HistoryLaws.{run_join}
 use Rattle.em_turn.specs.Turn.{event_of}
 use Rattle.em_turn.specs.declared.turn.Turn.{Turn}
 use Rattle.em_driver.specs.World.{World, present, after_outcome, after_turn, after_turns, Passes, Accesses, IsRefused}
+use Rattle.em_driver.specs.World.{after_theirs, after_tried, after_other, after_others}
 use Rattle.em_driver.specs.Course.{Course, done, read, write, reset, peek, poke, room, Follows}
 use Rattle.em_named.specs.Lines.{performed, backs}
 use Rattle.em_named.specs.Counts.{Counts}
@@ -43,14 +44,18 @@ counts-as w v a b e h = subst (Counts w v) (sym e) h
 counts-none : (w : World) → Counts w w 0
 counts-none w = record { calls = []; run = refl; none = refl; count = refl }
 
-counts-outcome : (w : World) (t : Turn) (r : Result (Answer × State) Refusal) → step (present w) (event_of t) ≡ r
-    → Counts w (after_outcome w t r) 0
-counts-outcome w t (Ok r) is = record {
-  calls = performs (event_of t) r.0 ∷ [];
-  run = ((after_outcome w t (Ok r)).machine, (is, refl), refl);
+counts-theirs : (w : World) (e : Event) (r : Answer × State) → step (present w) e ≡ Ok r
+    → Counts w (after_theirs w e r) 0
+counts-theirs w e r is = record {
+  calls = performs e r.0 ∷ [];
+  run = ((after_theirs w e r).machine, (is, refl), refl);
   none = refl;
   count = omega arith;
 }
+
+counts-outcome : (w : World) (t : Turn) (r : Result (Answer × State) Refusal) → step (present w) (event_of t) ≡ r
+    → Counts w (after_outcome w t r) 0
+counts-outcome w t (Ok r) is = counts-theirs w (event_of t) r is
 counts-outcome w t (Err refusal) is = record {
   calls = refuses (event_of t) refusal ∷ [];
   run = (w.machine, (inr is, refl), refl);
@@ -64,9 +69,21 @@ counts-turns w (t ∷ turns) =
     counts-on w (after_turn w t) (after_turns (after_turn w t) turns) 0 0
     (counts-outcome w t (step (present w) (event_of t)) refl) (counts-turns (after_turn w t) turns)
 
+counts-tried : (w : World) (e : Event) (r : Result (Answer × State) Refusal) → step (present w) e ≡ r
+    → Counts w (after_tried w e r) 0
+counts-tried w e (Ok r) is = counts-theirs w e r is
+counts-tried w e (Err refusal) is = counts-none w
+
+counts-others : (w : World) (events : List Event) → Counts w (after_others w events) 0
+counts-others w [] = counts-none w
+counts-others w (e ∷ events) =
+    counts-on w (after_other w e) (after_others (after_other w e) events) 0 0
+    (counts-tried w e (step (present w) e) refl) (counts-others (after_other w e) events)
+
 counts-passes : (w v : World) → Passes w v → Counts w v 0
 counts-passes w v p =
-    let b = counts-turns w p.turns in
+    let mid : World = after_turns w p.turns in
+    let b = counts-on w mid (after_others mid p.events) 0 0 (counts-turns w p.turns) (counts-others mid p.events) in
     subst (λ x. Counts w x 0) (sym p.is)
     (record { calls = b.calls; run = b.run; none = b.none; count = b.count })
 

@@ -1,6 +1,6 @@
 -- The manual's names of the registers.
-use Rattle.std.specs.Prelude.{◌≡◌, ℕ, List, [], ◌++◌, map, codes, decimal}
-use Rattle.std.specs.Char.{to_ascii_lowercase}
+use Rattle.std.specs.Prelude.{◌≡◌, ℕ, Bool, false, List, [], ◌∷◌, ◌++◌, map, codes, decimal}
+use Rattle.std.specs.Char.{is_ascii_digit, to_ascii_lowercase}
 use Rattle.em_regs.specs.declared.reg.Reg.{Reg}
 use Rattle.em_regs.specs.declared.reg.Reg.TheVariants as named
 use Rattle.em_regs.specs.Table.{stem_of}
@@ -24,3 +24,8 @@ SameLetters a b = map to_ascii_lowercase a ≡ map to_ascii_lowercase b
 -- the word is the register's name, in either case
 abbrev pub IsNamed : List ℕ → Reg → Type 0
 IsNamed word reg = SameLetters word (name_of reg)
+
+-- the word's first letter is a digit
+abbrev pub begins_with_digit : List ℕ → Bool
+begins_with_digit [] = false
+begins_with_digit (c ∷ word) = is_ascii_digit c

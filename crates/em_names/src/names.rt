@@ -2,7 +2,7 @@
 ghost use Rattle.std.specs.Prelude.{◌≡◌, ◌↔◌, IsTrue, IfSome};
 ghost use Rattle.em_regs.specs.declared.reg.Reg.{Reg};
 ghost use Rattle.em_regs.specs.Table.{IsReg};
-ghost use Rattle.em_names.specs.Names.{name_of, IsNamed};
+ghost use Rattle.em_names.specs.Names.{begins_with_digit, name_of, IsNamed};
 
 use arrayvec::ArrayString;
 use em_regs::{Reg, SPACE};
@@ -41,6 +41,10 @@ pub fn parse(word: &[u8]) -> Option<Reg>
     // and each register is found by its name
     ensures every { (reg : Reg) → IsReg reg → IsNamed word.now reg → result ≡ Some reg }
 {
+    // (most words that name none are offsets)
+    if begins_with_digit(word) {
+        return None;
+    }
     for index in 0..SPACE / WORD {
         if let Some(reg) = Reg::of_offset(WORD * index) {
             if is_named(word, reg) {
@@ -49,6 +53,16 @@ pub fn parse(word: &[u8]) -> Option<Reg>
         }
     }
     None
+}
+
+/// Whether a word begins with a digit, as no name does.
+fn begins_with_digit(word: &[u8]) -> bool
+    ensures { result ≡ begins_with_digit word.now }
+{
+    match word.first() {
+        Some(first) => first.is_ascii_digit(),
+        None => false,
+    }
 }
 
 /// Whether a word is the register's name, in either case.

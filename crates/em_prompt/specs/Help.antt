@@ -1,6 +1,8 @@
 -- The help: a line for each command.
-use Rattle.std.specs.Prelude.{ℕ, List, ◌++◌, codes}
+use Rattle.std.specs.Prelude.{ℕ, List, ◌++◌, codes, take, drop}
 use Rattle.std.specs.List.{flat_map}
+use Rattle.em_line.specs.declared.look.Look.{Look}
+use Rattle.em_line.specs.Look.{help_of as help_of_look, looks}
 use Rattle.em_prompt.specs.declared.command.Command.{Command}
 use Rattle.em_prompt.specs.declared.command.Command.TheVariants as command
 use Rattle.em_prompt.specs.Command.{commands}
@@ -15,9 +17,7 @@ help_of command.Arrive =
 help_of command.Rx = codes "rx: the receive engine handles a descriptor"
 help_of command.Tx = codes "tx: the transmit engine handles a descriptor"
 help_of command.Link = codes "link up|down: takes the link up or down"
-help_of command.Line = codes "line: shows the interrupt line"
-help_of command.Regs = codes "regs: shows every register that is not zero"
-help_of command.Wire = codes "wire: shows the frames that were sent"
+help_of (command.Bench look) = help_of_look look
 help_of command.Init = codes "init: starts the driver"
 help_of command.Send = codes "send DATA [LEN]: gives the driver a packet to send"
 help_of command.Recv = codes "recv N: takes at most N packets from the driver"
@@ -38,7 +38,7 @@ help_of command.SaveOver = codes "save! FILE: the same, over a file that is ther
 help_of command.History = codes "history [N]: shows the newest N events"
 help_of command.Effect = codes "effect [EVENT]: shows what an event changed"
 help_of command.Ring = codes "ring rx|tx: shows the descriptors of a ring"
-help_of command.Frame = codes "frame [I]: shows the frames in the adapter, or frame I"
+help_of command.Frame = codes "frame [I]: shows the frames that wait in the adapter, or octets of sent frame I, from 0"
 help_of command.Memory = codes "memory ADDR LEN: shows guest memory in lines"
 help_of command.Why = codes "why: the rule by which the newest event did nothing, and who set what it looked at"
 help_of command.Warnings = codes "warnings on|off: says what drivers get wrong, or does not"
@@ -55,5 +55,10 @@ words_of_help = codes "WATCH is a register, ADDR LEN, line, link, frames or sent
 abbrev pub line_of : Command → List ℕ
 line_of command = help_of command ++ codes "\n"
 
+abbrev pub line_of_look : Look → List ℕ
+line_of_look look = line_of (command.Bench look)
+
+-- em_bench's looks stand behind the first eight
 abbrev pub help_text : List ℕ
-help_text = flat_map line_of commands ++ words_of_help
+help_text = flat_map line_of (take 8 commands)
+    ++ (flat_map line_of_look looks ++ (flat_map line_of (drop 8 commands) ++ words_of_help))

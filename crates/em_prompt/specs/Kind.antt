@@ -1,26 +1,9 @@
 -- What the words of a line are.
-use Rattle.std.specs.Prelude.{ℕ, Bool, ◌||◌, List, codes}
-use Rattle.std.specs.Str.{bytes_eq}
+use Rattle.std.specs.Prelude.{ℕ, List, codes}
 use Rattle.em_prompt.specs.declared.number.Number.TheVariants as number
-use Rattle.em_prompt.specs.declared.kind.Choice.{Choice}
-use Rattle.em_prompt.specs.declared.kind.Choice.TheVariants.{Way, Side, More, To, Until, Stop, Changes, Switch, Offer}
+use Rattle.em_prompt.specs.declared.kind.Choice.TheVariants.{Way, Side, More, Until, Changes, Switch}
 use Rattle.em_prompt.specs.declared.kind.Kind.{Kind}
 use Rattle.em_prompt.specs.declared.kind.Kind.TheVariants as kind
-
--- a word is one of these
-abbrev pub is_choice : Choice → List ℕ → Bool
-is_choice Way word = bytes_eq word (codes "up") || bytes_eq word (codes "down")
-is_choice Side word = bytes_eq word (codes "rx") || bytes_eq word (codes "tx")
-is_choice More word = bytes_eq word (codes "again") || bytes_eq word (codes "all")
-is_choice To word = bytes_eq word (codes "to")
-is_choice Until word = bytes_eq word (codes "until")
-is_choice Stop word =
-    bytes_eq word (codes "refused") || bytes_eq word (codes "dropped") || bytes_eq word (codes "differs")
-is_choice Changes word = bytes_eq word (codes "changes")
-is_choice Switch word = bytes_eq word (codes "on") || bytes_eq word (codes "off")
-is_choice Offer word = bytes_eq word (codes "next") || bytes_eq word (codes "all")
-
--- ---- their texts
 
 -- what a word is called
 abbrev pub called : Kind → List ℕ
@@ -45,12 +28,9 @@ called (kind.Number number.Index) = codes "I"
 called (kind.Choice Way) = codes "up or down"
 called (kind.Choice Side) = codes "rx or tx"
 called (kind.Choice More) = codes "again or all"
-called (kind.Choice To) = codes "to"
 called (kind.Choice Until) = codes "until"
-called (kind.Choice Stop) = codes "refused, dropped or differs"
 called (kind.Choice Changes) = codes "changes"
 called (kind.Choice Switch) = codes "on or off"
-called (kind.Choice Offer) = codes "next or all"
 
 -- what is said of it, behind that, where a word is none
 abbrev pub rule : Kind → List ℕ

@@ -5,12 +5,15 @@ pub mod Number
 pub mod Kind
 pub mod Bits
 pub mod Watch
-pub mod Behind
 pub mod Command
-pub mod Form
+pub mod Near
 pub mod Fault
+pub mod Kept
 pub mod BenchLine
+pub mod Value
 pub mod Typed
+pub mod Says
 pub mod Prompt
+pub mod Scripted
 pub mod WrongText
 pub mod Help

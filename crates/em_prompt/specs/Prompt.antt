@@ -1,18 +1,16 @@
 -- What a line says that somebody types, or what is wrong with it.
 use Rattle.std.specs.Prelude.{ℕ, List, [], ◌∷◌, Option, Some, None, Result, Ok, Err}
-use Rattle.em_text.specs.Words.{words_of}
 use Rattle.em_prompt.specs.declared.command.Command.{Command}
 use Rattle.em_prompt.specs.declared.wrong.Wrong.{Wrong as Lent}
 use Rattle.em_prompt.specs.declared.wrong.Wrong.TheVariants as lent
 use Rattle.em_prompt.specs.declared.typed.Typed.{Typed as LentTyped}
-use Rattle.em_prompt.specs.Behind.{behind_of}
 use Rattle.em_prompt.specs.Command.{command_of}
 use Rattle.em_prompt.specs.Fault as faults
-use Rattle.em_prompt.specs.Fault.{Fault, form_fault}
-use Rattle.em_prompt.specs.Form.{form_of}
+use Rattle.em_prompt.specs.Fault.{Fault}
+use Rattle.em_prompt.specs.Says.{says}
 use Rattle.em_prompt.specs.Told.{told, first_word, behind_first}
 use Rattle.em_prompt.specs.Typed as typed
-use Rattle.em_prompt.specs.Typed.{Typed, silent, says}
+use Rattle.em_prompt.specs.Typed.{Typed, silent}
 
 pub data Wrong : Type 0 where
   -- the first word is the name of no command
@@ -29,16 +27,14 @@ abbrev pub plain : Result LentTyped Lent → Result Typed Wrong
 plain (Ok said) = Ok (typed.plain said)
 plain (Err wrong) = Err (plain_wrong wrong)
 
--- what a command says, if there is no fault in the words behind its name
-abbrev pub judged : Command → Typed → Option Fault → Result Typed Wrong
-judged command said None = Ok said
-judged command said (Some fault) = Err (behind command fault)
+-- what a command says, or the first fault of the words behind its name
+abbrev pub judged : Command → Result Typed Fault → Result Typed Wrong
+judged command (Ok said) = Ok said
+judged command (Err fault) = Err (behind command fault)
 
 -- a command with what stands behind its name
 abbrev pub command_line : Command → List ℕ → Result Typed Wrong
-command_line command rest =
-    let words = words_of rest in
-    judged command (says command (behind_of words) rest) (form_fault (form_of command (behind_of words)) words)
+command_line command rest = judged command (says command rest)
 
 abbrev pub found_line : List ℕ → Option Command → List ℕ → Result Typed Wrong
 found_line name None rest = Err (unknown name)

@@ -7,6 +7,7 @@ use Rattle.em_prompt.specs.declared.command.Command.{Command}
 use Rattle.em_prompt.specs.Command.{name_of}
 use Rattle.em_prompt.specs.Fault.{Fault, missing, too_many, no, odd_digits, no_register, no_bit, no_command}
 use Rattle.em_prompt.specs.Kind.{called, rule}
+use Rattle.em_prompt.specs.Near.{near_of}
 use Rattle.em_prompt.specs.Prompt.{Wrong, unknown, behind}
 
 abbrev pub register_name : List Reg → ℕ → List ℕ
@@ -22,8 +23,14 @@ near_text (Some regs) =
 abbrev pub no_register_text : Option (List Reg) → List ℕ → List ℕ
 no_register_text near word = (codes "no register " ++ word) ++ near_text near
 
+-- where no command may be meant, and where one may be
+abbrev pub none_near_text : List ℕ → Option Command → List ℕ
+none_near_text word None = codes "no command " ++ (word ++ codes ": help says which there are")
+none_near_text word (Some near) =
+    codes "no command " ++ (word ++ (codes ", near: " ++ (name_of near ++ codes "; help says which there are")))
+
 abbrev pub no_command_text : List ℕ → List ℕ
-no_command_text word = codes "no command " ++ (word ++ codes ": help says which there are")
+no_command_text word = none_near_text word (near_of word)
 
 -- a text behind a command's name, and its end
 abbrev pub at_text : Command → List ℕ → List ℕ → List ℕ

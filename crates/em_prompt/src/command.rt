@@ -1,7 +1,9 @@
 //! The commands by their names.
 ghost use Rattle.std.specs.Prelude.{◌≡◌};
 ghost use Rattle.std.specs.Str.{bytes_eq};
-ghost use Rattle.em_prompt.specs.Command.{name_of, command_of};
+ghost use Rattle.em_prompt.specs.Command.{name_of, command_of, other_command};
+
+use em_line::Look as Bench;
 
 /// A command: what the first word of a line names.
 #[derive(Clone, Copy, PartialEq, Eq, Debug)]
@@ -15,9 +17,8 @@ pub enum Command {
     Rx,
     Tx,
     Link,
-    Line,
-    Regs,
-    Wire,
+    /// A look of em_bench's that one word asks for.
+    Bench(Bench),
     Init,
     Send,
     Recv,
@@ -49,13 +50,16 @@ pub enum Command {
     Quit,
 }
 
-/// All of them, as the help shows them.
+/// How many commands stand before em_bench's looks in the help.
+pub(crate) const LOOKS_AT: usize = 8;
+
+/// All of them but em_bench's looks, as the help shows them.
 #[rattlefmt::skip]
-pub(crate) static COMMANDS: [Command; 39] = [
+pub(crate) static COMMANDS: [Command; 36] = [
     Command::Read, Command::Write, Command::Poke, Command::Peek, Command::Arrive, Command::Rx,
-    Command::Tx, Command::Link, Command::Line, Command::Regs, Command::Wire, Command::Init,
-    Command::Send, Command::Recv, Command::Stats, Command::Mac, Command::Turns, Command::Look,
-    Command::Who, Command::Back, Command::Forward, Command::Goto, Command::Next, Command::Run,
+    Command::Tx, Command::Link,
+    Command::Init, Command::Send, Command::Recv, Command::Stats, Command::Mac, Command::Turns,
+    Command::Look, Command::Who, Command::Back, Command::Forward, Command::Goto, Command::Next, Command::Run,
     Command::Load, Command::Save, Command::SaveOver, Command::History, Command::Effect,
     Command::Ring, Command::Frame, Command::Memory, Command::Why, Command::Warnings,
     Command::Auto, Command::Pcap, Command::PcapOver, Command::Help, Command::Quit,
@@ -75,9 +79,7 @@ impl Command {
             Command::Rx => "rx",
             Command::Tx => "tx",
             Command::Link => "link",
-            Command::Line => "line",
-            Command::Regs => "regs",
-            Command::Wire => "wire",
+            Command::Bench(look) => look.name(),
             Command::Init => "init",
             Command::Send => "send",
             Command::Recv => "recv",
@@ -112,6 +114,16 @@ impl Command {
     /// The command that a word names.
     pub(crate) fn of(word: &[u8]) -> Option<Command>
         ensures { result ≡ command_of word.now }
+    {
+        match Bench::of(word) {
+            Some(look) => Some(Command::Bench(look)),
+            None => Command::other(word),
+        }
+    }
+
+    /// The command that a word names which asks for no look of em_bench's.
+    fn other(word: &[u8]) -> Option<Command>
+        ensures { result ≡ other_command word.now }
     {
         COMMANDS
             .iter()

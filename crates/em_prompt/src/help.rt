@@ -2,9 +2,10 @@
 ghost use Rattle.std.specs.Prelude.{◌≡◌};
 ghost use Rattle.std.specs.List.{flat_map};
 ghost use Rattle.em_text.specs.Writer.{Writes};
-ghost use Rattle.em_prompt.specs.Help.{help_of, line_of, help_text};
+ghost use Rattle.em_prompt.specs.Help.{help_of, line_of, line_of_look, help_text};
 
-use crate::command::{COMMANDS, Command};
+use crate::command::{COMMANDS, Command, LOOKS_AT};
+use em_line::{LOOKS, Look};
 use em_text::{WriteFailed, write_pieces, write_whole};
 use std::io::Write;
 
@@ -15,8 +16,20 @@ const WORDS: &[u8] = b"WATCH is a register, ADDR LEN, line, link, frames or sent
 pub fn write_whole_help<W: Write>(writer: &mut W) -> Result<(), WriteFailed>
     ensures writes { Writes (W.contents writer.old) (W.contents writer.new) result help_text }
 {
-    write_lines(writer, &COMMANDS)?;
+    write_lines(writer, &COMMANDS[..LOOKS_AT])?;
+    write_looks(writer, &LOOKS)?;
+    write_lines(writer, &COMMANDS[LOOKS_AT..])?;
     write_whole(writer, WORDS)
+}
+
+/// Writes the lines of em_bench's looks.
+fn write_looks<W: Write>(writer: &mut W, looks: &[Look]) -> Result<(), WriteFailed>
+    ensures writes { Writes (W.contents writer.old) (W.contents writer.new) result (flat_map line_of_look looks.now) }
+{
+    for look in looks {
+        write_help(writer, Command::Bench(*look))?;
+    }
+    Ok(())
 }
 
 /// Writes the lines of commands.
@@ -52,9 +65,7 @@ impl Command {
             Command::Rx => "rx: the receive engine handles a descriptor",
             Command::Tx => "tx: the transmit engine handles a descriptor",
             Command::Link => "link up|down: takes the link up or down",
-            Command::Line => "line: shows the interrupt line",
-            Command::Regs => "regs: shows every register that is not zero",
-            Command::Wire => "wire: shows the frames that were sent",
+            Command::Bench(look) => look.help(),
             Command::Init => "init: starts the driver",
             Command::Send => "send DATA [LEN]: gives the driver a packet to send",
             Command::Recv => "recv N: takes at most N packets from the driver",
@@ -81,7 +92,8 @@ impl Command {
             Command::History => "history [N]: shows the newest N events",
             Command::Effect => "effect [EVENT]: shows what an event changed",
             Command::Ring => "ring rx|tx: shows the descriptors of a ring",
-            Command::Frame => "frame [I]: shows the frames in the adapter, or frame I",
+            Command::Frame =>
+                "frame [I]: shows the frames that wait in the adapter, or octets of sent frame I, from 0",
             Command::Memory => "memory ADDR LEN: shows guest memory in lines",
             Command::Why =>
                 "why: the rule by which the newest event did nothing, and who set what it looked at",

@@ -1,9 +1,8 @@
 //! What the words of a line are.
 ghost use Rattle.std.specs.Prelude.{◌≡◌};
-ghost use Rattle.em_prompt.specs.Kind.{is_choice, called, rule};
+ghost use Rattle.em_prompt.specs.Kind.{called, rule};
 
 use crate::number::Number;
-use em_text::is_name;
 
 /// One of a few words.
 #[derive(Clone, Copy, PartialEq, Eq, Debug)]
@@ -14,18 +13,12 @@ pub enum Choice {
     Side,
     /// `again` or `all`.
     More,
-    /// `to`.
-    To,
     /// `until`.
     Until,
-    /// `refused`, `dropped` or `differs`.
-    Stop,
     /// `changes`.
     Changes,
     /// `on` or `off`.
     Switch,
-    /// `next` or `all`.
-    Offer,
 }
 
 /// What a word of a line is.
@@ -59,27 +52,6 @@ pub enum Kind {
     Choice(Choice),
 }
 
-impl Choice {
-    /// Whether a word is one of these.
-    pub(crate) fn is(self, word: &[u8]) -> bool
-        ensures { result ≡ is_choice self word.now }
-    {
-        match self {
-            Choice::Way => is_name(word, b"up") || is_name(word, b"down"),
-            Choice::Side => is_name(word, b"rx") || is_name(word, b"tx"),
-            Choice::More => is_name(word, b"again") || is_name(word, b"all"),
-            Choice::To => is_name(word, b"to"),
-            Choice::Until => is_name(word, b"until"),
-            Choice::Stop => {
-                is_name(word, b"refused") || is_name(word, b"dropped") || is_name(word, b"differs")
-            }
-            Choice::Changes => is_name(word, b"changes"),
-            Choice::Switch => is_name(word, b"on") || is_name(word, b"off"),
-            Choice::Offer => is_name(word, b"next") || is_name(word, b"all"),
-        }
-    }
-}
-
 impl Kind {
     /// What a word of this kind is called.
     pub(crate) fn called(self) -> &'static str
@@ -105,12 +77,9 @@ impl Kind {
             Kind::Choice(Choice::Way) => "up or down",
             Kind::Choice(Choice::Side) => "rx or tx",
             Kind::Choice(Choice::More) => "again or all",
-            Kind::Choice(Choice::To) => "to",
             Kind::Choice(Choice::Until) => "until",
-            Kind::Choice(Choice::Stop) => "refused, dropped or differs",
             Kind::Choice(Choice::Changes) => "changes",
             Kind::Choice(Choice::Switch) => "on or off",
-            Kind::Choice(Choice::Offer) => "next or all",
         }
     }
 

@@ -4,21 +4,25 @@
 //! Nothing is performed here, and no memory is taken.
 #![tactic(auto)]
 
-mod behind;
 mod bench_line;
 mod bits;
 mod command;
 mod fault;
-mod form;
 mod help;
+mod kept;
 mod kind;
+mod near;
 mod number;
 mod prompt;
 mod register;
+mod says;
+mod script_line;
 mod told;
 mod typed;
+mod value;
 mod watch;
 mod word;
+mod words;
 mod wrong;
 
 pub use bench_line::BenchLine;
@@ -28,6 +32,7 @@ pub use help::{write_help, write_whole_help};
 pub use kind::{Choice, Kind};
 pub use number::Number;
 pub use prompt::prompted;
-pub use typed::{Side, Typed, Until, Which};
+pub use script_line::scripted;
+pub use typed::{Shown, Side, Typed, Until, Which};
 pub use watch::Watch;
 pub use wrong::{Wrong, write_wrong};

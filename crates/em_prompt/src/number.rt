@@ -1,7 +1,11 @@
 //! Numbers that words write in decimal.
 ghost use Rattle.std.specs.Prelude.{◌≡◌};
-ghost use Rattle.em_prompt.specs.Number.{least, most, is_number};
+ghost use Rattle.em_prompt.specs.Number.{least, most};
+ghost use Rattle.em_prompt.specs.Value.{kept_number_in, kept_so, number_in, read_so, within};
 
+use crate::fault::Fault;
+use crate::kept::Kept;
+use crate::kind::Kind;
 use em_text::decimal_number;
 
 /// A number, by what it counts.
@@ -47,13 +51,34 @@ impl Number {
         }
     }
 
-    /// Whether a word is such a number.
-    pub(crate) fn is(self, word: &[u8]) -> bool
-        ensures { result ≡ is_number self word.now }
+    /// The number of this kind that a word writes.
+    pub(crate) fn of(self, word: &[u8]) -> Result<u32, Fault<'_>>
+        ensures { read_so result ≡ number_in self word.now }
     {
         match decimal_number(word) {
-            Some(number) => self.least() <= number && number <= self.most(),
-            None => false,
+            Some(number) => self.within(number),
+            None => Err(Fault::No(Kind::Number(self))),
+        }
+    }
+
+    /// This number, where it may be one of this kind.
+    pub(crate) fn within<'a>(self, number: u32) -> Result<u32, Fault<'a>>
+        ensures { read_so result ≡ within self number }
+    {
+        if self.least() <= number && number <= self.most() {
+            Ok(number)
+        } else {
+            Err(Fault::No(Kind::Number(self)))
+        }
+    }
+
+    /// The same as it is kept for em_bench.
+    pub(crate) fn kept(self, word: &[u8]) -> Result<Kept<'_>, Fault<'_>>
+        ensures { kept_so result ≡ kept_number_in self word.now }
+    {
+        match self.of(word) {
+            Ok(_) => Ok(Kept::Word(word)),
+            Err(fault) => Err(fault),
         }
     }
 }

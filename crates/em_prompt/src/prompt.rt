@@ -3,11 +3,10 @@ ghost use Rattle.std.specs.Prelude.{◌≡◌, ◌<◌, length};
 ghost use Rattle.em_text.specs.Words.{words_of};
 ghost use Rattle.em_prompt.specs.Prompt.{plain, command_line, named_line, prompted};
 
-use crate::behind::behind_of;
 use crate::command::Command;
-use crate::fault::form_fault;
+use crate::says::says;
 use crate::told::{first_word, told};
-use crate::typed::{Typed, says};
+use crate::typed::Typed;
 use crate::wrong::Wrong;
 use em_text::Words;
 
@@ -40,10 +39,8 @@ fn command_line(command: Command, rest: &[u8]) -> Result<Typed<'_>, Wrong<'_>>
     requires { length rest.now < 0xFFFF_FFFF }
     ensures { plain result ≡ command_line command rest.now }
 {
-    let words = Words(rest);
-    let behind = behind_of(words);
-    match form_fault(command.form(&behind), words) {
-        Some(fault) => Err(Wrong::Behind(command, fault)),
-        None => Ok(says(command, &behind, words)),
+    match says(command, Words(rest)) {
+        Ok(said) => Ok(said),
+        Err(fault) => Err(Wrong::Behind(command, fault)),
     }
 }

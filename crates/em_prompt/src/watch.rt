@@ -1,11 +1,10 @@
 //! What is watched, as words say it.
 ghost use Rattle.std.specs.Prelude.{◌≡◌};
-ghost use Rattle.em_prompt.specs.Watch.{watched, watch_of};
+ghost use Rattle.em_prompt.specs.Watch.{watched};
 
 use crate::register::named;
-use crate::word::hex_address_in;
 use em_regs::Reg;
-use em_text::{decimal_number, is_name};
+use em_text::is_name;
 
 /// What is watched.
 #[derive(Clone, Copy, PartialEq, Eq, Debug)]
@@ -42,18 +41,5 @@ pub(crate) fn watched(word: &[u8]) -> Option<Watch>
     match named(word) {
         Some(reg) => Some(Watch::Register(reg)),
         None => None,
-    }
-}
-
-/// What two words say is watched, of which the first may be enough.
-pub(crate) fn watch_of(first: &[u8], second: &[u8]) -> Watch
-    ensures { result ≡ watch_of first.now second.now }
-{
-    match watched(first) {
-        Some(watch) => watch,
-        None => Watch::Octets(
-            hex_address_in(first).unwrap_or(0),
-            decimal_number(second).unwrap_or(0),
-        ),
     }
 }

@@ -5,10 +5,11 @@ ghost use Rattle.em_names.specs.Names.{name_of};
 ghost use Rattle.em_prompt.specs.Command.{name_of as name_of_command};
 ghost use Rattle.em_prompt.specs.Fault.{plain as plain_fault};
 ghost use Rattle.em_prompt.specs.Prompt.{plain_wrong};
-ghost use Rattle.em_prompt.specs.WrongText.{wrong_text, fault_text, at_text, no_command_text, near_text, no_register_text};
+ghost use Rattle.em_prompt.specs.WrongText.{wrong_text, fault_text, at_text, near_text, no_command_text, none_near_text, no_register_text};
 
 use crate::command::Command;
 use crate::fault::Fault;
+use crate::near::near_of;
 use em_names::name;
 use em_regs::Reg;
 use em_text::{WriteFailed, write_pieces};
@@ -136,9 +137,43 @@ fn write_at<'a, W: Write>(
 fn write_no_command<W: Write>(writer: &mut W, word: &[u8]) -> Result<(), WriteFailed>
     ensures writes { Writes (W.contents writer.old) (W.contents writer.new) result (no_command_text word.now) }
 {
+    write_none_near(writer, word, near_of(word))
+}
+
+/// Writes that a word names no command, and which may be meant, if one may.
+fn write_none_near<W: Write>(
+    writer: &mut W,
+    word: &[u8],
+    near: Option<Command>,
+) -> Result<(), WriteFailed>
+    ensures writes { Writes (W.contents writer.old) (W.contents writer.new) result (none_near_text word.now near) }
+{
+    match near {
+        None => write_pieces(
+            writer,
+            &[b"no command ", word, b": help says which there are"],
+        ),
+        Some(near) => write_one_near(writer, word, near.name().as_bytes()),
+    }
+}
+
+fn write_one_near<'a, W: Write>(
+    writer: &mut W,
+    word: &'a [u8],
+    near: &'a [u8],
+) -> Result<(), WriteFailed>
+    ensures writes { Writes (W.contents writer.old) (W.contents writer.new) result
+        (codes "no command " ++ (word.now ++ (codes ", near: " ++ (near.now ++ codes "; help says which there are")))) }
+{
     write_pieces(
         writer,
-        &[b"no command ", word, b": help says which there are"],
+        &[
+            b"no command ",
+            word,
+            b", near: ",
+            near,
+            b"; help says which there are",
+        ],
     )
 }
 

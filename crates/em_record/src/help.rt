@@ -8,14 +8,16 @@ answer to each line, and what each event changed, before and after.
 Usage: em_record [OPTIONS] [SCRIPT]
 
 Arguments:
-  [SCRIPT]  A script of em_bench's language; standard input without one
+  [SCRIPT]  A script of em_bench's language, with all that em_debug takes; standard input without one, or for -
 
 Options:
       --memory <N>   Octets of guest memory: a multiple of 4096 up to 16777216 [default: 65536]
       --budget <N>   Octets that the journal's records may cost together: from 65536 to 16777216 [default: 1048576]
-      --mac <HEX12>  The adapter's Ethernet address, octet 0 first [default: 525400123456]
+      --mac <HEX12>  The adapter's Ethernet address, octet 0 first; colons may stand in it [default: 525400123456]
   -h, --help         Print help
   -V, --version      Print version
+
+Bad lines of the script are told on standard error.
 
 The status is 0, or 1 where a line was bad or the run has too many events to be recorded, 2 where the command line was
 bad, 3 where the run stopped.

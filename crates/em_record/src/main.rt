@@ -7,22 +7,31 @@
 
 mod fault;
 mod help;
-mod lines;
+mod line;
 mod recorder;
 
 use crate::fault::{MOST_EVENTS, RecordFault};
 use crate::help::{HELP, VERSION};
 use crate::recorder::Recorder;
 use em_ending::Ending;
+use em_input::{
+    BUDGETS, InputRefused, MACS, MOST_INPUT, SIZES, input_of, is_one_file, without_colons, wrong_in,
+};
 use em_journal::SettingsRefusal;
 use em_options::{Options, OptionsRefused, options};
 use em_script::BenchFault;
-use em_text::{ReadFault, read_script};
-use std::fs::File;
-use std::io::{self, BufWriter, Read, Write};
+use em_text::next_line;
+use std::alloc::AllocError;
+use std::io::{self, BufWriter, Write};
 use std::process::ExitCode;
 use std::rt::{Env, Files};
 use std::{env, mem};
+
+/// Standard input as a script, which is the script where none is named.
+const STANDARD_INPUT: &str = "-";
+
+/// Where the host has standard output among its files.
+const OUTPUT: &str = "/dev/stdout";
 
 /// How many octets of text are written at a time.
 const WRITTEN_AT_ONCE: usize = 65_536;
@@ -54,23 +63,46 @@ fn with_runtime<R: Env + Files + Input + Print + Eprint + AllocGlobal>(rt: &R) -
     }
 }
 
-/// The words of the command line, the program's name first.
+/// The words of the command line, the program's name first, with addresses as em_bench has them.
 fn words<R: Env + AllocGlobal>(rt: &R) -> io::Result<Vec<String>> {
-    Ok(env::args(rt)?.collect(rt.alloc())?)
+    let mut words: Vec<String> = Vec::new(rt.alloc());
+    let mut is_address = false;
+    for word in env::args(rt)? {
+        let is_next = word.as_str() == "--mac";
+        if is_address || word.as_str().starts_with("--mac=") {
+            words.push(without_colons(rt.alloc(), word.as_str())?)?;
+        } else {
+            words.push(word)?;
+        }
+        is_address = is_next;
+    }
+    Ok(words)
 }
 
+/// Help and version, as em_bench has them: what is wrong before a word that asks for them is told first.
 fn with_words<R: Files + Input + Print + Eprint + AllocGlobal>(rt: &R, words: &[String]) -> u8 {
+    match options(rt.alloc(), words) {
+        Ok(options) => with_options(rt, &options),
+        Err(refused) => match asked(words, &refused) {
+            Some(text) => told(rt, text),
+            None => without_options(rt, &refused),
+        },
+    }
+}
+
+/// What is to be printed, where the words ask for help or the version.
+fn asked(words: &[String], refused: &OptionsRefused) -> Option<&'static str> {
+    if Ending::without_options(refused) != Ending::Help {
+        return None;
+    }
     for word in words {
         match word.as_str() {
-            "-h" | "--help" => return told(rt, HELP),
-            "-V" | "--version" => return told(rt, VERSION),
+            "-h" | "--help" => return Some(HELP),
+            "-V" | "--version" => return Some(VERSION),
             _ => {}
         }
     }
-    match options(rt.alloc(), words) {
-        Ok(options) => with_options(rt, &options),
-        Err(refused) => without_options(rt, &refused),
-    }
+    Some(HELP)
 }
 
 /// Prints a text, and gives the status.
@@ -82,7 +114,13 @@ fn told<R: Print>(rt: &R, text: &str) -> u8 {
 }
 
 /// Says why the run stopped, and gives the status.
-fn stopped<R: Eprint>(rt: &R, why: &str) -> u8 {
+fn stopped<R: Eprint>(rt: &R, fault: BenchFault) -> u8 {
+    let why = match fault {
+        BenchFault::Read => "the script cannot be read",
+        BenchFault::Write => "standard output cannot be written",
+        BenchFault::TooLarge => "a line is too long, or there are too many",
+        BenchFault::Memory => "no memory",
+    };
     let _ = eprintln!(rt; "em_record: {why}");
     STOPPED
 }
@@ -91,67 +129,105 @@ fn stopped<R: Eprint>(rt: &R, why: &str) -> u8 {
 fn without_options<R: Print + Eprint>(rt: &R, refused: &OptionsRefused) -> u8 {
     let ending = Ending::without_options(refused);
     if let Ending::Fault(fault) = ending {
-        return stopped(rt, fault.name());
+        return stopped(rt, fault);
     }
     let is_printed = match refused.told() {
         Some(error) => error.print(rt).is_ok(),
-        None => eprintln!(rt; "em_record: {refused}").is_ok(),
+        None => eprintln!(rt; "em_record: --mac: {MACS}").is_ok(),
     };
     ending.after_print(is_printed).status()
 }
 
-/// Makes the machine, then opens the script and records it.
+/// Says that the words ask for what may not be, and gives the status.
+fn refused_over<R: Eprint>(rt: &R, name: &str) -> u8 {
+    let _ = eprintln!(rt;
+        "em_record: {name}: standard output is this file too, and would be written over the script"
+    );
+    REFUSED
+}
+
+/// Makes the machine, then reads the script and records it.
 fn with_options<R: Files + Input + Print + Eprint + AllocGlobal>(
     rt: &R,
     options: &Options<'_>,
 ) -> u8 {
+    let name = options.script.unwrap_or(STANDARD_INPUT);
+    if is_one_file(rt, name, OUTPUT) {
+        return refused_over(rt, name);
+    }
     match Recorder::new(rt.alloc(), options.settings()) {
         Ok(mut recorder) => {
-            let status = with_recorder(rt, options.script, &mut recorder);
+            let status = with_recorder(rt, name, &mut recorder);
             // The system takes its memory back when the program ends, all at once.
             mem::forget(recorder);
             status
         }
-        Err(refusal) => {
-            let _ = eprintln!(rt; "em_record: {}", refusal.name());
-            match refusal {
-                SettingsRefusal::Size | SettingsRefusal::Budget => REFUSED,
-                SettingsRefusal::Memory => STOPPED,
-            }
+        Err(SettingsRefusal::Size) => {
+            let _ = eprintln!(rt; "em_record: --memory {}: {SIZES}", options.memory);
+            REFUSED
         }
+        Err(SettingsRefusal::Budget) => {
+            let _ = eprintln!(rt; "em_record: --budget {}: {BUDGETS}", options.budget);
+            REFUSED
+        }
+        Err(SettingsRefusal::Memory) => stopped(rt, BenchFault::Memory),
     }
 }
 
-/// Opens the script, which is standard input where it has no path, and records it.
+/// Reads the script, says what is wrong with its lines, and records it.
 fn with_recorder<R: Files + Input + Print + Eprint + AllocGlobal>(
     rt: &R,
-    script: Option<&str>,
+    name: &str,
     recorder: &mut Recorder,
 ) -> u8 {
-    match script {
-        None => with_reader(rt, recorder, &mut rt.reader()),
-        Some(path) => match File::open(rt, path) {
-            Ok(mut file) => with_reader(rt, recorder, &mut file),
-            Err(error) => match Ending::without_script(&error) {
-                Ending::Fault(fault) => stopped(rt, fault.name()),
-                ending => ending.status(),
-            },
+    match input_of(rt, name) {
+        Ok(script) => match tell_bad_lines(rt, name, script.as_slice()) {
+            Ok(()) => with_script(rt, recorder, script.as_slice()),
+            Err(AllocError) => stopped(rt, BenchFault::Memory),
         },
+        Err(refused) => without_script(rt, name, refused),
     }
 }
 
-/// Reads the script, and records it.
-fn with_reader<R: Print + Eprint + AllocGlobal, I: Read>(
+/// Says why there is no script, and gives the status.
+fn without_script<R: Eprint>(rt: &R, name: &str, refused: InputRefused) -> u8 {
+    let _ = match refused {
+        InputRefused::Missing => eprintln!(rt; "em_record: {name}: there is no such file"),
+        InputRefused::Unread => eprintln!(rt; "em_record: {name}: the script cannot be read"),
+        InputRefused::Memory => eprintln!(rt; "em_record: {name}: no memory"),
+        InputRefused::Compressed => eprintln!(rt;
+            "em_record: {name}: it is compressed by gzip: `gzip -dc` makes a script of it"
+        ),
+        InputRefused::TooLarge(Some(size)) => eprintln!(rt;
+            "em_record: {name}: it has {size} octets, and a script at most {MOST_INPUT}"
+        ),
+        InputRefused::TooLarge(None) => eprintln!(rt;
+            "em_record: {name}: it has more than {MOST_INPUT} octets"
+        ),
+    };
+    STOPPED
+}
+
+/// Says on standard error which lines of a script are bad, and why.
+fn tell_bad_lines<R: Eprint + AllocGlobal>(
     rt: &R,
-    recorder: &mut Recorder,
-    reader: &mut I,
-) -> u8 {
-    match read_script(rt.alloc(), reader) {
-        Ok(script) => with_script(rt, recorder, script.as_slice()),
-        Err(ReadFault::Read) => stopped(rt, BenchFault::Read.name()),
-        Err(ReadFault::TooLarge) => stopped(rt, BenchFault::TooLarge.name()),
-        Err(ReadFault::Memory) => stopped(rt, BenchFault::Memory.name()),
+    name: &str,
+    script: &[u8],
+) -> Result<(), AllocError> {
+    let mut rest = script;
+    let mut number = 0u64;
+    while !rest.is_empty() {
+        let (line, behind) = next_line(rest);
+        number = number.saturating_add(1);
+        if line.len() < MOST_INPUT {
+            if let Some(wrong) = wrong_in(rt.alloc(), line)? {
+                let wrong = String::from_utf8_lossy(rt.alloc(), wrong.as_slice())?;
+                let _ = eprintln!(rt; "em_record: {name}: line {number}: {wrong}");
+            }
+        }
+        rest = behind;
     }
+    Ok(())
 }
 
 /// Writes the record of a script to standard output.
@@ -164,11 +240,11 @@ fn with_script<R: Print + Eprint + AllocGlobal>(
         Ok(mut writer) => {
             let ran = recorder.record(&mut writer, script);
             if writer.flush().is_err() {
-                return stopped(rt, BenchFault::Write.name());
+                return stopped(rt, BenchFault::Write);
             }
             with_record(rt, ran)
         }
-        Err(_) => stopped(rt, BenchFault::Memory.name()),
+        Err(_) => stopped(rt, BenchFault::Memory),
     }
 }
 
@@ -177,7 +253,7 @@ fn with_record<R: Eprint>(rt: &R, ran: Result<bool, RecordFault>) -> u8 {
     match ran {
         Ok(false) => WELL,
         Ok(true) => UNRECORDED,
-        Err(RecordFault::Bench(fault)) => stopped(rt, fault.name()),
+        Err(RecordFault::Bench(fault)) => stopped(rt, fault),
         Err(RecordFault::TooManyEvents(line)) => {
             let _ = eprintln!(rt;
                 "em_record: line {line}: the run has more than {MOST_EVENTS} events"

@@ -1,8 +1,9 @@
 //! Playing a script, and writing its record as it goes.
 
 use crate::fault::{MOST_EVENTS, RecordFault};
-use crate::lines::refusal_in;
+use crate::line::{difference, kind_of, played, refusal_in};
 use em_journal::{Settings, SettingsRefusal};
+use em_line::{Line, Parts, parts_of};
 use em_named::Did;
 use em_output::Outcome;
 use em_recording::{
@@ -12,6 +13,7 @@ use em_recording::{
 use em_script::BenchFault;
 use em_tape::Tape;
 use em_text::{WriteFailed, next_line, write_pieces, write_whole};
+use em_trail::Note;
 use em_watch::{Difference, Sight, what};
 use std::alloc::{AllocError, Global};
 use std::io::Write;
@@ -36,9 +38,10 @@ pub struct Recorder {
     is_bad: bool,
 }
 
-/// What is told of an event: what it changed, and the frame that it stored.
+/// What is told of an event: what it was, what it changed, and the frame that it stored.
 #[derive(Drop)]
 struct Told {
+    note: Note,
     recorded: Recorded,
     stored: Option<Vec<u8>>,
 }
@@ -71,7 +74,7 @@ fn write_one<W: Write>(
         Some(octets) => Some(octets.as_slice()),
         None => None,
     };
-    write_event(writer, number, &one.recorded, stored)
+    write_event(writer, number, one.note, &one.recorded, stored)
 }
 
 /// Writes each line's text.
@@ -96,6 +99,23 @@ fn write_strings<W: Write>(writer: &mut W, text: &[u8]) -> Result<(), WriteFaile
         write_whole(writer, b"[")?;
     }
     write_whole(writer, b"]")
+}
+
+/// The first line of a text.
+fn first_of(text: &[u8]) -> &[u8] {
+    if text.is_empty() {
+        return text;
+    }
+    next_line(text).0
+}
+
+/// Writes a field that holds a text, behind its name, where there is a text.
+fn write_field<W: Write>(writer: &mut W, name: &[u8], text: &[u8]) -> Result<(), WriteFailed> {
+    if text.is_empty() {
+        return Ok(());
+    }
+    write_whole(writer, name)?;
+    write_string(writer, text)
 }
 
 impl Recorder {
@@ -142,8 +162,11 @@ impl Recorder {
     }
 
     /// Plays a line, and writes what it did.
-    fn write_line<W: Write>(&mut self, writer: &mut W, line: &[u8]) -> Result<(), RecordFault> {
-        self.tape.add(line)?;
+    fn write_line<W: Write>(&mut self, writer: &mut W, text: &[u8]) -> Result<(), RecordFault> {
+        let parts = parts_of(text);
+        let said = played(self.alloc, parts.said)?;
+        let line = Line::read(self.alloc, said.as_slice())?;
+        self.tape.add(said.as_slice())?;
         self.answer.clear();
         let outcome = match self.tape.perform_next(&mut self.answer) {
             Ok(outcome) => outcome.unwrap_or(Outcome::Silent),
@@ -152,9 +175,13 @@ impl Recorder {
         };
         let number = self.tape.len() as u64;
         write_number(writer, b"{\"line\":", number)?;
+        if let Some(kind) = kind_of(&line.says) {
+            write_pieces(writer, &[b",\"kind\":\"", kind, b"\""])?;
+        }
         write_whole(writer, b",\"answer\":")?;
         write_strings(writer, self.answer.as_slice())?;
         self.write_outcome(writer, outcome)?;
+        self.write_behind(writer, &parts, &line)?;
         match self.tape.performed_by(self.tape.len()) {
             Some(Did::Performed(count)) => self.write_events(writer, count)?,
             Some(Did::TookBack(count)) => {
@@ -164,6 +191,22 @@ impl Recorder {
             None => return Err(RecordFault::Bench(BenchFault::Memory)),
         }
         write_whole(writer, b"}")?;
+        Ok(())
+    }
+
+    /// Writes what stands behind what a line says: the answer that it expects, how its answer differs from that, and where
+    /// it comes from.
+    fn write_behind<W: Write>(
+        &self,
+        writer: &mut W,
+        parts: &Parts<'_>,
+        line: &Line<'_>,
+    ) -> Result<(), RecordFault> {
+        let expected = parts.expected.unwrap_or_default();
+        let differs = difference(self.alloc, line, expected, self.answer.as_slice())?;
+        write_field(writer, b",\"expected\":", expected)?;
+        write_field(writer, b",\"differs\":", first_of(differs.as_slice()))?;
+        write_field(writer, b",\"source\":", parts.source.unwrap_or_default())?;
         Ok(())
     }
 
@@ -251,12 +294,15 @@ impl Recorder {
         Ok(())
     }
 
-    /// What the event changed before which so many steps back lead; the newest at 1 with the frame that it stored.
+    /// What the event was and changed before which so many steps back lead; the newest at 1 with the frame that it stored.
     fn told(&self, back: usize) -> Result<Told, RecordFault> {
         let machine = self.tape.machine();
         if back == 0 || back > machine.can_go_back() {
             return Err(RecordFault::JournalTooSmall(self.tape.len()));
         }
+        let Some(note) = self.tape.note_back(back - 1) else {
+            return Err(RecordFault::JournalTooSmall(self.tape.len()));
+        };
         let recorded = record_of(self.alloc, machine, back)?;
         let stored = match recorded.frames {
             Some(step) if back == 1 && step.after > step.before => newest_frame(
@@ -264,7 +310,11 @@ impl Recorder {
             )?,
             _ => None,
         };
-        Ok(Told { recorded, stored })
+        Ok(Told {
+            note,
+            recorded,
+            stored,
+        })
     }
 
     /// Writes how many events stand, and how many lines were played.

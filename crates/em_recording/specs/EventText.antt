@@ -2,6 +2,7 @@
 use Rattle.std.specs.Prelude.{ℕ, Bool, List, [], ◌∷◌, ◌++◌, codes, take, Option, Some, None}
 use Rattle.std.specs.List.{flat_map}
 use Rattle.em_names.specs.Names.{name_of}
+use Rattle.em_trail.specs.declared.note.Note.{Note}
 use Rattle.em_watch.specs.declared.octets.MemoryChange.{MemoryChange}
 use Rattle.em_recording.specs.Rebuild.{sent_of}
 use Rattle.em_recording.specs.Text.{flag_text, number_text, numbers_text, octets_text}
@@ -9,6 +10,7 @@ use Rattle.em_recording.specs.declared.recorded.GatheredStep.{GatheredStep}
 use Rattle.em_recording.specs.declared.recorded.Recorded.{Recorded}
 use Rattle.em_recording.specs.declared.recorded.RegisterStep.{RegisterStep}
 use Rattle.em_recording.specs.declared.recorded.Step.{Step}
+use Rattle.em_recording.specs.Was.{was_text}
 
 -- things as a list behind a text; where there is none, there is no list
 abbrev pub list_text : {T : Type 0} → (T → List ℕ) → List ℕ → List T → List ℕ
@@ -50,14 +52,15 @@ way_text before (Some step) = flag_text before step.before ++ (flag_text (codes 
 abbrev pub ways_text : Recorded → List ℕ
 ways_text r = way_text (codes ",\"link\":[") r.link ++ way_text (codes ",\"interrupt\":[") r.line
 
--- the event of a number, and the frame that it stored, where that is known
-abbrev pub event_text : ℕ → Recorded → Option (List ℕ) → List ℕ
-event_text number r stored =
+-- the event of a number, what it was, and the frame that it stored, where that is known
+abbrev pub event_text : ℕ → Note → Recorded → Option (List ℕ) → List ℕ
+event_text number note r stored =
     number_text (codes "{\"event\":") number
+    ++ (was_text note
     ++ (list_text register_text (codes ",\"registers\":[") r.registers.items
     ++ (list_text change_text (codes ",\"memory\":[") r.octets.items
     ++ (frames_text r.frames
     ++ (frame_text (codes ",\"stored\":") stored
     ++ (gathered_text r.gathered
     ++ (frame_text (codes ",\"sent\":") (sent_of r)
-    ++ (ways_text r ++ codes "}")))))))
+    ++ (ways_text r ++ codes "}"))))))))

@@ -1,5 +1,6 @@
 pub mod Shown
 pub mod Steps
+pub mod Was
 pub mod Wire
 pub mod Sending
 pub mod Gathered

@@ -9,22 +9,26 @@ ghost use Rattle.em_recording.specs.Rebuild.{sent_of};
 
 use crate::numbers::{write_flag, write_hex, write_number, write_numbers};
 use crate::recorded::{GatheredStep, OctetStep, Recorded, RegisterStep, Step};
+use crate::was::write_was;
 use em_names::write_name;
 use em_text::{WriteFailed, write_whole};
+use em_trail::Note;
 use std::io::Write;
 
-/// Writes the record of the event of a number. `stored` are the octets of the frame that came into the FIFO, where they
-/// are known.
+/// Writes the record of the event of a number: what it was, by its note, and what it changed. `stored` are the octets of
+/// the frame that came into the FIFO, where they are known.
 pub fn write_event<W: Write>(
     writer: &mut W,
     number: u64,
+    note: Note,
     recorded: &Recorded,
     stored: Option<&[u8]>,
 ) -> Result<(), WriteFailed>
     ensures writes { Writes (W.contents writer.old) (W.contents writer.new) result
-        (event_text number recorded.now (option_map (λ octets. octets.now) stored.entry)) }
+        (event_text number note recorded.now (option_map (λ octets. octets.now) stored.entry)) }
 {
     write_number(writer, b"{\"event\":", number)?;
+    write_was(writer, note)?;
     write_registers(writer, recorded.registers.as_slice())?;
     write_memory(writer, recorded.octets.as_slice())?;
     write_frames(writer, recorded.frames)?;

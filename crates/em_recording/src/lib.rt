@@ -1,4 +1,4 @@
-//! What the events of a machine changed, as data, and as the JSON of a recording.
+//! What the events of a machine were and changed, as data, and as the JSON of a recording.
 //! [docs/recording.md](../../../docs/recording.md) has the format.
 //!
 //! From what a machine showed at the start and what its events changed, what it showed after each event can be rebuilt,
@@ -16,6 +16,7 @@ mod sending;
 mod start;
 mod stored;
 mod strings;
+mod was;
 
 pub use effects::record_of;
 pub use event_text::write_event;

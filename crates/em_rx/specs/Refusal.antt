@@ -1,5 +1,5 @@
--- The numbers of the refusals.
-use Rattle.std.specs.Prelude.{ℕ}
+-- The numbers and the names of the refusals.
+use Rattle.std.specs.Prelude.{ℕ, List, codes}
 use Rattle.em_rx.specs.declared.refusal.RxRefusal.{RxRefusal}
 use Rattle.em_rx.specs.declared.refusal.RxRefusal.TheVariants.{DmaRange, Memory}
 
@@ -7,3 +7,7 @@ use Rattle.em_rx.specs.declared.refusal.RxRefusal.TheVariants.{DmaRange, Memory}
 abbrev pub code_of : RxRefusal → ℕ
 code_of DmaRange = 4
 code_of Memory = 9
+
+abbrev pub name_of : RxRefusal → List ℕ
+name_of DmaRange = codes "DmaRange"
+name_of Memory = codes "Memory"

@@ -3,9 +3,11 @@ ghost use Rattle.std.specs.Prelude.{◌≡◌};
 
 use em_mem::MemRefusal;
 use std::alloc::{AllocError, AllocFailed};
+use thiserror::Error;
 
 /// Why a receive step was not made, or a frame not stored.
-#[derive(Clone, Copy, Debug, PartialEq, Eq)]
+#[derive(Clone, Copy, Debug, PartialEq, Eq, Error)]
+#[error("{}", self.name())]
 pub enum RxRefusal {
     /// The descriptor or its buffer leaves guest memory.
     DmaRange = 4,
@@ -14,13 +16,23 @@ pub enum RxRefusal {
 }
 
 impl RxRefusal {
-    ghost use Rattle.em_rx.specs.Refusal.{code_of};
+    ghost use Rattle.em_rx.specs.Refusal.{code_of, name_of};
 
     /// The refusal's number: 4 for `DmaRange`, 9 for `Memory`.
     pub fn code(self) -> u32
         ensures { result ≡ code_of self }
     {
         self as u32
+    }
+
+    /// The refusal's name, as it is printed.
+    pub fn name(self) -> &'static str
+        ensures { result.now ≡ name_of self }
+    {
+        match self {
+            RxRefusal::DmaRange => "DmaRange",
+            RxRefusal::Memory => "Memory",
+        }
     }
 }
 

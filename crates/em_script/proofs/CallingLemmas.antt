@@ -61,10 +61,10 @@ request_tells (sets_address octets) w =
 
 -- whatever was done to a request can be named
 pub request_happens : (request : Request) (w v : World) (events : ℕ) (answer : DriverAnswer)
-    → Follows w (course_of request w) events answer v
+    → Follows w (course_of request w) events answer v → w.spared ≡ None
     → Happens says_memory w (course_of request w) (record { events = events; answer = answer; world = v })
-request_happens request w v events answer follows =
-    call_happens says_memory (course_of request w) w v events answer (request_tells request w) follows
+request_happens request w v events answer follows alone =
+    call_happens says_memory (course_of request w) w v events answer (request_tells request w) follows alone
 
 -- what is named says so
 pub named_says : (named : Played DriverAnswer) (request : Request) (session : Session)

@@ -179,7 +179,7 @@ call_made {first = first} {now = now} {old = old} {new = new} {result = result} 
     let w = world_at first in
     let course = course_of request w in
     let did = did_of reply made.world in
-    let happens = request_happens request w made.world reply.events (plain_answer reply.answer) made.follows in
+    let happens = request_happens request w made.world reply.events (plain_answer reply.answer) made.follows refl in
     let runs = follows_run course w made.world reply.events (plain_answer reply.answer) made.follows in
     let text : driver_reply_text reply ≡ call_text first.plan did = told first.plan reply made.world made.plan in
     by_named number request did (has_driver request first) refl stands runs.calls runs.is happens.named happens.can

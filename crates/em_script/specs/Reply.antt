@@ -18,6 +18,8 @@ use Rattle.em_text.specs.declared.writer.WriteFailed.{WriteFailed}
 use Rattle.em_output.specs.declared.outcome.Outcome.{Outcome}
 use Rattle.em_output.specs.declared.outcome.Outcome.TheVariants as outcome
 use Rattle.em_script.specs.Session.{Session}
+use Rattle.em_line.specs.declared.look.Look.{Look}
+use Rattle.em_line.specs.declared.look.Look.TheVariants.{InterruptLine, Registers, Wire}
 use Rattle.em_line.specs.Command as command
 use Rattle.em_line.specs.Command.{Command, event}
 use Rattle.em_line.specs.ParsedLine.{ParsedLine, brings_octets, silent, bad, says, asks, plans}
@@ -83,19 +85,17 @@ peek_reply addr n machine =
     if nat_lt (length machine.present.memory) (addr + n) then refusal_reply (refusal_text Range) machine
     else done_reply (hex_line_text (part machine.present.memory addr n)) machine
 
--- to a look at the interrupt line
-abbrev pub interrupt_line_reply : View → Reply
-interrupt_line_reply machine =
+-- what a look shows
+abbrev pub look_text : Look → View → List ℕ
+look_text InterruptLine machine =
     let latches = machine.present.latches in
-    done_reply (bit_text (not (bit_and (causes latches) (mask latches) == 0))) machine
+    bit_text (not (bit_and (causes latches) (mask latches) == 0))
+look_text Registers machine = registers_text machine.present
+look_text Wire machine = wire_text machine.present.wire
 
--- to a look at the registers
-abbrev pub registers_reply : View → Reply
-registers_reply machine = done_reply (registers_text machine.present) machine
-
--- to a look at the wire
-abbrev pub wire_reply : View → Reply
-wire_reply machine = done_reply (wire_text machine.present.wire) machine
+-- to a look that one word asks for
+abbrev pub look_reply : Look → View → Reply
+look_reply what machine = done_reply (look_text what machine) machine
 
 -- to steps back: as many are taken as can be, at most so many
 abbrev pub back_by_reply : ℕ → View → Reply
@@ -106,11 +106,9 @@ back_by_reply most machine =
 abbrev pub reply : Option RefusedAt → Command → View → Reply
 reply memory (event e) machine = call_reply (event_call memory e machine) machine
 reply memory (command.peek addr n) machine = peek_reply addr n machine
-reply memory command.interrupt_line machine = interrupt_line_reply machine
+reply memory (command.look what) machine = look_reply what machine
 reply memory command.back machine = call_reply (back_call machine.past) machine
 reply memory (command.back_by most) machine = back_by_reply most machine
-reply memory command.registers machine = registers_reply machine
-reply memory command.wire machine = wire_reply machine
 
 -- ---- memory
 

@@ -15,6 +15,7 @@ use crate::no_driver::NoDriver;
 use crate::seat::Seat;
 use crate::session::Session;
 use em_driver::{Batch, DeviceStats, E1000, IxyDevice, Layout, Stopped, Turns};
+use em_journal::Acts;
 use em_line::{DriverCall, take_empty};
 use std::alloc::Global;
 use std::collections::VecDeque;
@@ -31,7 +32,7 @@ const LAYOUT: Layout = Layout {
 };
 
 /// Starts a driver on the machine of a session, in the place of one that stands.
-pub fn start_driver(alloc: Global, session: &mut Session) -> DriverReply
+pub fn start_driver<M: Acts>(alloc: Global, session: &mut Session<M>) -> DriverReply
     ensures { IsCalled starts session.old session.new result }
 {
     let turns = mem::replace(&mut session.seat, Seat::Moved).into_turns();
@@ -62,9 +63,9 @@ pub fn start_driver(alloc: Global, session: &mut Session) -> DriverReply
 }
 
 /// Has the driver of a session do what is asked, if one stands.
-pub fn call_driver(
+pub fn call_driver<M: Acts>(
     alloc: Global,
-    session: &mut Session,
+    session: &mut Session<M>,
     call: DriverCall,
 ) -> Result<DriverReply, NoDriver>
     ensures stands { OnOk result (session.old.started ≡ true) }
@@ -88,7 +89,11 @@ pub fn call_driver(
 
 /// Lets a plan go. It tells how many events a call performed that performed so many of its own, and
 /// what the turns of the plan came to, where one was set.
-fn end_plan(turns: &mut Turns, own: u32, planned: bool) -> (CallEvents, Option<PlanCounts>)
+fn end_plan<M: Acts>(
+    turns: &mut Turns<M>,
+    own: u32,
+    planned: bool,
+) -> (CallEvents, Option<PlanCounts>)
     ensures events { result.0 ≡ own + turns.old.performed }
     ensures counts { result.1 ≡ plan_counts (if planned then Some [] else None) turns.old }
     ensures turns { turns.new ≡ quiet turns.old.machine }
@@ -108,9 +113,9 @@ fn end_plan(turns: &mut Turns, own: u32, planned: bool) -> (CallEvents, Option<P
 
 /// What a driver does on a call: so many events, and its answer. What it receives comes into the
 /// spare queue.
-fn call_by(
+fn call_by<M: Acts>(
     alloc: Global,
-    driver: &mut E1000<Turns>,
+    driver: &mut E1000<Turns<M>>,
     spare: &mut VecDeque<Vec<u8>>,
     call: DriverCall,
 ) -> (u32, DriverAnswer)
@@ -129,7 +134,10 @@ fn call_by(
     }
 }
 
-fn send(driver: &mut E1000<Turns>, mut packets: VecDeque<Vec<u8>>) -> (u32, DriverAnswer)
+fn send<M: Acts>(
+    driver: &mut E1000<Turns<M>>,
+    mut packets: VecDeque<Vec<u8>>,
+) -> (u32, DriverAnswer)
     requires { driver.old.layout ≡ init_layout }
     ensures course { Follows driver.old.bus (course_of (sends (lists packets.items)) driver.old.bus)
         result.0 (plain result.1) driver.new.bus }
@@ -142,8 +150,8 @@ fn send(driver: &mut E1000<Turns>, mut packets: VecDeque<Vec<u8>>) -> (u32, Driv
     (events_of(&result), DriverAnswer::Batch(packets, result))
 }
 
-fn receive(
-    driver: &mut E1000<Turns>,
+fn receive<M: Acts>(
+    driver: &mut E1000<Turns<M>>,
     mut packets: VecDeque<Vec<u8>>,
     most: u32,
 ) -> (u32, DriverAnswer)
@@ -158,7 +166,7 @@ fn receive(
     (events_of(&result), DriverAnswer::Batch(packets, result))
 }
 
-fn count(driver: &mut E1000<Turns>) -> (u32, DriverAnswer)
+fn count<M: Acts>(driver: &mut E1000<Turns<M>>) -> (u32, DriverAnswer)
     ensures course { Follows driver.old.bus (course_of stats driver.old.bus) result.0 (plain result.1) driver.new.bus }
     ensures stands { is_started (plain result.1) ≡ true }
     ensures layout { driver.new.layout ≡ driver.old.layout }
@@ -168,7 +176,7 @@ fn count(driver: &mut E1000<Turns>) -> (u32, DriverAnswer)
     (6, DriverAnswer::Stats(counted))
 }
 
-fn tell_address(driver: &mut E1000<Turns>) -> (u32, DriverAnswer)
+fn tell_address<M: Acts>(driver: &mut E1000<Turns<M>>) -> (u32, DriverAnswer)
     ensures course { Follows driver.old.bus (course_of address driver.old.bus) result.0 (plain result.1)
         driver.new.bus }
     ensures stands { is_started (plain result.1) ≡ true }
@@ -177,7 +185,7 @@ fn tell_address(driver: &mut E1000<Turns>) -> (u32, DriverAnswer)
     (2, DriverAnswer::Address(driver.get_mac_addr()))
 }
 
-fn set_address(driver: &mut E1000<Turns>, octets: [u8; 6]) -> (u32, DriverAnswer)
+fn set_address<M: Acts>(driver: &mut E1000<Turns<M>>, octets: [u8; 6]) -> (u32, DriverAnswer)
     ensures course { Follows driver.old.bus (course_of (sets_address octets) driver.old.bus)
         result.0 (plain result.1) driver.new.bus }
     ensures stands { is_started (plain result.1) ≡ true }

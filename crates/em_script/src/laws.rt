@@ -1,5 +1,5 @@
 //! What the definitions of a script's text say together.
-ghost use Rattle.std.specs.Prelude.{ℕ, List, Option, Some};
+ghost use Rattle.std.specs.Prelude.{◌≡◌, ℕ, List, Option, None, Some};
 ghost use Rattle.em_driver.specs.World.{World};
 ghost use Rattle.em_driver.specs.Course.{Follows};
 ghost use Rattle.em_driver.specs.Play.{Played};
@@ -15,11 +15,11 @@ ghost use Rattle.em_script.specs.Reply.{after_line, IsAllowed};
 ghost use Rattle.em_script.specs.PlayedLine.{PlayedLine, after_all, AreAllowed};
 ghost use Rattle.em_script.specs.Did.{did_of, all_did, DidSo, AllDidSo};
 
-/// What a driver does on a request is its course as it is played, or memory was refused to the call
-/// or to a turn, and the text says so.
+/// What a driver does on a request, where nobody acts beside the plan, is its course as it is played, or
+/// memory was refused to the call or to a turn, and the text says so.
 pub fn a_request_is_played_or_says_so()
     ensures happens { (request : Request) (w v : World) (events : ℕ) (answer : DriverAnswer)
-        → Follows w (course_of request w) events answer v
+        → Follows w (course_of request w) events answer v → w.spared ≡ None
         → Happens says_memory w (course_of request w) (record { events = events; answer = answer; world = v }) }
     ensures says { (named : Played DriverAnswer) (request : Request) (session : Session)
         → CanBeDone (Some named) request session → SaysMemory (call_text session.plan named) }

@@ -25,6 +25,7 @@ pub use em_output::Outcome;
 pub use laws::{a_line_did_so, a_request_is_played_or_says_so};
 pub use no_driver::NoDriver;
 pub use player::Player;
+pub use reply::show_look;
 pub use runner::{BenchFault, run};
 pub use session::Session;
 pub use summary::Summary;

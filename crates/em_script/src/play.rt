@@ -12,9 +12,10 @@ ghost use Rattle.em_script.specs.Reply.{Performs, Plays};
 use crate::player::Player;
 use crate::reply::{ask, obey, set_plan};
 use crate::session::Session;
+use em_journal::Acts;
 use em_line::{
-    Command, MOST_PEEK, alone, arrive_form, back_form, is_comment, link_form, peek_form, poke_form,
-    read_form, request_form, turns_form, write_form,
+    Command, Look, MOST_PEEK, alone, arrive_form, back_form, is_comment, link_form, peek_form,
+    poke_form, read_form, request_form, turns_form, write_form,
 };
 use em_output::{Outcome, write_bad_line};
 use em_step::Event;
@@ -35,10 +36,10 @@ impl Player {
     /// done and nothing written.
     #[inline(always)]
     #[tactic(auto, unfolding(em_line::specs::Grammar::parsed_line))]
-    pub(crate) fn play_line<W: Write>(
+    pub(crate) fn play_line<W: Write, M: Acts>(
         &mut self,
         writer: &mut W,
-        session: &mut Session,
+        session: &mut Session<M>,
         number: u32,
         line: &[u8],
     ) -> Result<Result<Outcome, WriteFailed>, AllocError>
@@ -63,10 +64,10 @@ impl Player {
 
     /// Plays a line of a name.
     #[inline(always)]
-    fn play_named<W: Write>(
+    fn play_named<W: Write, M: Acts>(
         &mut self,
         writer: &mut W,
-        session: &mut Session,
+        session: &mut Session<M>,
         line: NamedLine<'_>,
     ) -> Result<Result<Outcome, WriteFailed>, AllocError>
         requires { length (words_of line.words.0.now) < 0x1_0000_0000 }
@@ -81,10 +82,10 @@ impl Player {
 
     /// Plays a line that says an event, or another command or request.
     #[inline(always)]
-    fn play_event<W: Write>(
+    fn play_event<W: Write, M: Acts>(
         &mut self,
         writer: &mut W,
-        session: &mut Session,
+        session: &mut Session<M>,
         line: NamedLine<'_>,
     ) -> Result<Result<Outcome, WriteFailed>, AllocError>
         ensures { Plays line.entry.number (command_form line.entry.name.now
@@ -139,10 +140,10 @@ impl Player {
 
     /// Plays a line that says a look or steps back, or asks something of a driver.
     #[inline(always)]
-    fn play_look<W: Write>(
+    fn play_look<W: Write, M: Acts>(
         &mut self,
         writer: &mut W,
-        session: &mut Session,
+        session: &mut Session<M>,
         line: NamedLine<'_>,
     ) -> Result<Result<Outcome, WriteFailed>, AllocError>
         ensures { Plays line.entry.number (look_form line.entry.name.now
@@ -158,16 +159,8 @@ impl Player {
                 &mut self.peek_buffer,
             ));
         }
-        if is_name(line.name, b"line") {
-            let command = alone(Command::InterruptLine, line.words);
-            return Ok(play_command(writer, session, line.number, command, &mut self.peek_buffer));
-        }
-        if is_name(line.name, b"regs") {
-            let command = alone(Command::Registers, line.words);
-            return Ok(play_command(writer, session, line.number, command, &mut self.peek_buffer));
-        }
-        if is_name(line.name, b"wire") {
-            let command = alone(Command::Wire, line.words);
+        if let Some(look) = Look::of(line.name) {
+            let command = alone(Command::Look(look), line.words);
             return Ok(play_command(writer, session, line.number, command, &mut self.peek_buffer));
         }
         if is_name(line.name, b"back") {
@@ -184,10 +177,10 @@ impl Player {
 
     /// Sets the plan that the words of a line say, if they say one.
     #[inline(never)]
-    fn play_turns<W: Write>(
+    fn play_turns<W: Write, M: Acts>(
         &mut self,
         writer: &mut W,
-        session: &mut Session,
+        session: &mut Session<M>,
         number: u32,
         words: Words<'_>,
     ) -> Result<Outcome, WriteFailed>
@@ -203,10 +196,10 @@ impl Player {
 
     /// Does what is asked of a driver by a line, if it asks something.
     #[inline(never)]
-    fn play_request<W: Write>(
+    fn play_request<W: Write, M: Acts>(
         &mut self,
         writer: &mut W,
-        session: &mut Session,
+        session: &mut Session<M>,
         number: u32,
         name: &[u8],
         words: Words<'_>,
@@ -224,9 +217,9 @@ impl Player {
 
 /// Does what a line says, if it says a command.
 #[inline(always)]
-fn play_command<W: Write>(
+fn play_command<W: Write, M: Acts>(
     writer: &mut W,
-    session: &mut Session,
+    session: &mut Session<M>,
     number: u32,
     command: Option<Command<'_>>,
     peek_buffer: &mut [u8; MOST_PEEK],

@@ -6,6 +6,7 @@ ghost use Rattle.em_script.specs.Reply.{Performs};
 
 use crate::runner::BenchFault;
 use crate::session::Session;
+use em_journal::Acts;
 use em_line::MOST_PEEK;
 use em_output::Outcome;
 use em_text::WriteFailed;
@@ -39,10 +40,10 @@ impl Player {
     /// It fails as `Write` where the writer fails, and what the line did stands; and as `Memory` where
     /// memory is refused for the octets of the line: then nothing was done and nothing written.
     #[inline(always)]
-    pub fn play<W: Write>(
+    pub fn play<W: Write, M: Acts>(
         &mut self,
         writer: &mut W,
-        session: &mut Session,
+        session: &mut Session<M>,
         number: u32,
         line: &[u8],
     ) -> Result<Outcome, BenchFault>

@@ -1,22 +1,22 @@
 //! Doing what a command or a request says, and writing its answer. What only some lines do is not
 //! inlined, since its room on the stack would be taken for every line.
-ghost use Rattle.std.specs.Prelude.{ℕ};
+ghost use Rattle.std.specs.Prelude.{ℕ, IsTrue, None};
 ghost use Rattle.em_step.specs.Event.{plain as plain_event};
-ghost use Rattle.em_line.specs.Command.{plain as plain_command, event as event_command};
+ghost use Rattle.em_line.specs.Command.{is_look, plain as plain_command, event as event_command};
 ghost use Rattle.em_text.specs.Words.{words_of};
 ghost use Rattle.em_line.specs.ParsedLine.{says, asks, plan_line};
 ghost use Rattle.em_line.specs.Plan.{plan_of};
 ghost use Rattle.em_line.specs.Request.{plain as plain_request};
-ghost use Rattle.em_script.specs.Reply.{peek_reply, interrupt_line_reply, registers_reply, back_call, call_reply};
-ghost use Rattle.em_script.specs.Reply.{back_by_reply, wire_reply, Gives, Obeys, Performs};
+ghost use Rattle.em_script.specs.Reply.{peek_reply, look_reply, reply, back_call, call_reply};
+ghost use Rattle.em_script.specs.Reply.{back_by_reply, Gives, Obeys, Performs};
 
 use crate::calling::{call_driver, start_driver};
 use crate::driver_output::{write_driver_reply, write_no_driver};
 use crate::no_driver::NoDriver;
 use crate::seat::Seat;
 use crate::session::Session;
-use em_journal::{Empty, Machine};
-use em_line::{Command, MOST_PEEK, PeekLen, PlanWords, Request, plan_of};
+use em_journal::{Acts, Empty, Machine};
+use em_line::{Command, Look, MOST_PEEK, PeekLen, PlanWords, Request, plan_of};
 use em_output::{
     Outcome, write_answer, write_back, write_bit, write_done, write_empty, write_octets,
     write_refusal, write_registers, write_wire,
@@ -28,10 +28,10 @@ use std::io::Write;
 
 /// Does what is asked of a driver.
 #[inline(never)]
-pub fn ask<W: Write>(
+pub fn ask<W: Write, M: Acts>(
     alloc: Global,
     writer: &mut W,
-    session: &mut Session,
+    session: &mut Session<M>,
     request: Request,
 ) -> Result<Outcome, WriteFailed>
     ensures { (number : ℕ) → Performs number (asks (plain_request request))
@@ -55,10 +55,10 @@ pub fn ask<W: Write>(
 
 /// Sets the plan for the next call of a driver.
 #[inline(never)]
-pub fn set_plan<W: Write>(
+pub fn set_plan<W: Write, M: Acts>(
     alloc: Global,
     writer: &mut W,
-    session: &mut Session,
+    session: &mut Session<M>,
     words: PlanWords<'_>,
 ) -> Result<Outcome, WriteFailed>
     ensures { (number : ℕ) → Performs number (plan_line (plan_of (words_of words.entry.words.0.now)))
@@ -75,9 +75,9 @@ pub fn set_plan<W: Write>(
 
 /// Does what a command says with the session's machine, which may be under a driver.
 #[inline(always)]
-pub fn obey<W: Write>(
+pub fn obey<W: Write, M: Acts>(
     writer: &mut W,
-    session: &mut Session,
+    session: &mut Session<M>,
     command: Command<'_>,
     peek_buffer: &mut [u8; MOST_PEEK],
 ) -> Result<Outcome, WriteFailed>
@@ -92,34 +92,32 @@ pub fn obey<W: Write>(
 }
 
 #[inline(always)]
-fn perform<W: Write>(
+fn perform<W: Write, M: Acts>(
     writer: &mut W,
-    machine: &mut Machine,
+    machine: &mut M,
     command: Command<'_>,
     peek_buffer: &mut [u8; MOST_PEEK],
 ) -> Result<Outcome, WriteFailed>
     ensures { Obeys (plain_command command.entry)
-        machine.old machine.new (W.contents writer.old) (W.contents writer.new) result }
+        (M.shows machine.old) (M.shows machine.new) (W.contents writer.old) (W.contents writer.new) result }
 {
     match command {
         Command::Event(event) => perform_event(writer, machine, event),
-        Command::Peek(addr, len) => peek(writer, machine, addr, len, peek_buffer),
-        Command::InterruptLine => interrupt_line(writer, machine),
+        Command::Peek(addr, len) => peek(writer, machine.machine(), addr, len, peek_buffer),
+        Command::Look(what) => look(writer, machine.machine(), what),
         Command::Back => back(writer, machine),
-        Command::BackBy(most) => back_by(writer, machine, most),
-        Command::Registers => registers(writer, machine),
-        Command::Wire => wire(writer, machine),
+        Command::BackBy(most) => back_by(writer, machine, most.events),
     }
 }
 
 #[inline(always)]
-fn perform_event<W: Write>(
+fn perform_event<W: Write, M: Acts>(
     writer: &mut W,
-    machine: &mut Machine,
+    machine: &mut M,
     event: Event<'_>,
 ) -> Result<Outcome, WriteFailed>
     ensures { Obeys (event_command (plain_event event.entry))
-        machine.old machine.new (W.contents writer.old) (W.contents writer.new) result }
+        (M.shows machine.old) (M.shows machine.new) (W.contents writer.old) (W.contents writer.new) result }
 {
     match machine.perform(event) {
         Ok(answer) => write_answer(writer, answer),
@@ -145,9 +143,22 @@ fn peek<W: Write>(
     }
 }
 
+/// Shows what one word asks for.
+#[inline(always)]
+fn look<W: Write>(writer: &mut W, machine: &Machine, what: Look) -> Result<Outcome, WriteFailed>
+    ensures { Gives (look_reply what machine.now)
+        machine.now (W.contents writer.old) (W.contents writer.new) result }
+{
+    match what {
+        Look::InterruptLine => interrupt_line(writer, machine),
+        Look::Registers => registers(writer, machine),
+        Look::Wire => wire(writer, machine),
+    }
+}
+
 #[inline(never)]
 fn interrupt_line<W: Write>(writer: &mut W, machine: &Machine) -> Result<Outcome, WriteFailed>
-    ensures { Gives (interrupt_line_reply machine.now)
+    ensures { Gives (look_reply Look.InterruptLine machine.now)
         machine.now (W.contents writer.old) (W.contents writer.new) result }
 {
     write_bit(writer, machine.line())
@@ -155,7 +166,7 @@ fn interrupt_line<W: Write>(writer: &mut W, machine: &Machine) -> Result<Outcome
 
 #[inline(never)]
 fn registers<W: Write>(writer: &mut W, machine: &Machine) -> Result<Outcome, WriteFailed>
-    ensures { Gives (registers_reply machine.now)
+    ensures { Gives (look_reply Look.Registers machine.now)
         machine.now (W.contents writer.old) (W.contents writer.new) result }
 {
     write_registers(writer, machine)?;
@@ -164,7 +175,7 @@ fn registers<W: Write>(writer: &mut W, machine: &Machine) -> Result<Outcome, Wri
 
 #[inline(never)]
 fn wire<W: Write>(writer: &mut W, machine: &Machine) -> Result<Outcome, WriteFailed>
-    ensures { Gives (wire_reply machine.now)
+    ensures { Gives (look_reply Look.Wire machine.now)
         machine.now (W.contents writer.old) (W.contents writer.new) result }
 {
     write_wire(writer, machine)?;
@@ -172,9 +183,9 @@ fn wire<W: Write>(writer: &mut W, machine: &Machine) -> Result<Outcome, WriteFai
 }
 
 #[inline(never)]
-fn back<W: Write>(writer: &mut W, machine: &mut Machine) -> Result<Outcome, WriteFailed>
-    ensures { Gives (call_reply (back_call machine.old.past) machine.old)
-        machine.new (W.contents writer.old) (W.contents writer.new) result }
+fn back<W: Write, M: Acts>(writer: &mut W, machine: &mut M) -> Result<Outcome, WriteFailed>
+    ensures { Gives (call_reply (back_call (M.shows machine.old).past) (M.shows machine.old))
+        (M.shows machine.new) (W.contents writer.old) (W.contents writer.new) result }
 {
     match machine.back() {
         Ok(()) => write_done(writer),
@@ -183,14 +194,34 @@ fn back<W: Write>(writer: &mut W, machine: &mut Machine) -> Result<Outcome, Writ
 }
 
 #[inline(never)]
-fn back_by<W: Write>(
+fn back_by<W: Write, M: Acts>(
     writer: &mut W,
-    machine: &mut Machine,
+    machine: &mut M,
     most: u32,
 ) -> Result<Outcome, WriteFailed>
-    ensures { Gives (back_by_reply most machine.old)
-        machine.new (W.contents writer.old) (W.contents writer.new) result }
+    ensures { Gives (back_by_reply most (M.shows machine.old))
+        (M.shows machine.new) (W.contents writer.old) (W.contents writer.new) result }
 {
     let count = machine.back_by(most as usize);
     write_back(writer, count as u32)
+}
+
+/// Writes what a look at a machine prints, a look at memory too. The machine stays as it is.
+pub fn show_look<W: Write>(
+    writer: &mut W,
+    machine: &Machine,
+    command: Command<'_>,
+) -> Result<Outcome, WriteFailed>
+    requires { IsTrue (is_look (plain_command command)) }
+    ensures { Gives (reply None (plain_command command.entry) machine.now)
+        machine.now (W.contents writer.old) (W.contents writer.new) result }
+{
+    match command {
+        Command::Peek(addr, len) => {
+            let mut peek_buffer = [0u8; MOST_PEEK];
+            peek(writer, machine, addr, len, &mut peek_buffer)
+        }
+        Command::Look(what) => look(writer, machine, what),
+        Command::Event(_) | Command::Back | Command::BackBy(_) => unreachable!(),
+    }
 }

@@ -8,6 +8,7 @@ ghost use Rattle.em_script.specs.Runner.{code_of, name_of, StopsBeforeLine, Stop
 use crate::player::Player;
 use crate::session::Session;
 use crate::summary::{Summary, count};
+use em_journal::Acts;
 use em_text::{ReadFault, next_line, read_script};
 use std::alloc::Global;
 use std::io::{Read, Write};
@@ -53,11 +54,11 @@ impl BenchFault {
 /// It reads by at most 4,194,305 calls of `read`, and writes by calls of `write` alone. A write
 /// that takes no octet is a Write fault. Memory is taken for the script and for the octets of a
 /// `poke` or an `arrive`.
-pub fn run<R: Read, W: Write>(
+pub fn run<R: Read, W: Write, M: Acts>(
     alloc: Global,
     reader: &mut R,
     writer: &mut W,
-    session: &mut Session,
+    session: &mut Session<M>,
 ) -> Result<Summary, BenchFault>
     // Where no line takes memory, what is written is the text of the script and nothing else.
     ensures text { OnOk result (IfSome (R.remaining reader.old) (λ script. TakesNoMemory script
@@ -101,10 +102,10 @@ pub fn run<R: Read, W: Write>(
 }
 
 /// Plays each line of a script.
-fn run_lines<W: Write>(
+fn run_lines<W: Write, M: Acts>(
     player: &mut Player,
     writer: &mut W,
-    session: &mut Session,
+    session: &mut Session<M>,
     script: &[u8],
 ) -> Result<Summary, BenchFault>
     requires { length script.now ≤ most_script }

@@ -3,19 +3,21 @@ ghost use Rattle.std.specs.Prelude.{◌≡◌, ◌≢◌};
 ghost use Rattle.em_script.specs.Seat.{world_in};
 
 use em_driver::{E1000, Turns};
+use em_journal::{Acts, Machine};
+use std::mem;
 
 /// A machine alone, or under a driver.
 #[derive(Drop)]
-pub enum Seat {
-    Bare(Turns),
-    Driven(E1000<Turns>),
+pub enum Seat<M: Acts = Machine> {
+    Bare(Turns<M>),
+    Driven(E1000<Turns<M>>),
     /// While a driver is started; never between two lines.
     Moved,
 }
 
-impl Seat {
+impl<M: Acts> Seat<M> {
     /// The machine with its plan, without the driver.
-    pub fn into_turns(self) -> Turns
+    pub fn into_turns(self) -> Turns<M>
         requires { self ≢ Seat.Moved }
         ensures { result ≡ world_in self }
     {
@@ -26,11 +28,14 @@ impl Seat {
         }
     }
 
-    /// Puts a machine into the seat. This has a function of its own, since the prover checks here that
-    /// what was in the seat may be dropped, which takes it long.
-    pub fn put(&mut self, seat: Seat)
+    /// Puts a machine into the seat from which one was moved.
+    pub fn put(&mut self, seat: Seat<M>)
+        requires { self.old ≡ Seat.Moved }
         ensures { self.new ≡ seat }
     {
-        *self = seat;
+        match mem::replace(self, seat) {
+            Seat::Moved => {}
+            Seat::Bare(_) | Seat::Driven(_) => unreachable!(),
+        }
     }
 }

@@ -9,7 +9,7 @@ use crate::call_events::CallEvents;
 use crate::driver_answer::DriverAnswer;
 use crate::seat::Seat;
 use em_driver::{PlanRefused, Turn, Turns};
-use em_journal::Machine;
+use em_journal::{Acts, Machine};
 use std::alloc::Global;
 use std::collections::VecDeque;
 use std::marker::Model;
@@ -17,8 +17,8 @@ use std::marker::Model;
 /// A machine, and what scripts keep beside it: whether a driver stands on it, and a plan of turns
 /// for the next call of a driver.
 #[derive(Drop)]
-pub struct Session {
-    pub(crate) seat: Seat,
+pub struct Session<M: Acts = Machine> {
+    pub(crate) seat: Seat<M>,
     // whether a plan was set since the last call of a driver
     pub(crate) planned: bool,
     // for the packets of the next call of a driver; what it holds until then is of no matter
@@ -27,7 +27,7 @@ pub struct Session {
     pub(crate) events: CallEvents,
 }
 
-impl Model for Session {
+impl<M: Acts> Model for Session<M> {
     ghost use Rattle.em_script.specs.Session.{Session, session_code};
     ghost use Rattle.em_script.specs.Seat.{session_of, IsSeated};
 
@@ -40,10 +40,10 @@ impl Model for Session {
     ghost invariant = { λ s. IsSeated s.seat s.planned };
 }
 
-impl Session {
+impl<M: Acts> Session<M> {
     /// A session over a machine, which stays as it is.
-    pub fn new(alloc: Global, machine: Machine) -> Session
-        ensures { result ≡ bare machine }
+    pub fn new(alloc: Global, machine: M) -> Session<M>
+        ensures { result ≡ bare (M.shows machine) }
     {
         Session {
             seat: Seat::Bare(Turns::new(alloc, machine)),
@@ -102,8 +102,8 @@ impl Session {
         ensures session { self.new ≡ record self.old { machine = after_backs most self.old.machine } }
     {
         match &mut self.seat {
-            Seat::Bare(turns) => turns.machine_mut().back_by(most),
-            Seat::Driven(driver) => driver.bus().machine_mut().back_by(most),
+            Seat::Bare(turns) => turns.back_by(most),
+            Seat::Driven(driver) => driver.bus().back_by(most),
             Seat::Moved => unreachable!(),
         }
     }
@@ -115,6 +115,17 @@ impl Session {
         match &self.seat {
             Seat::Bare(turns) => turns.machine(),
             Seat::Driven(driver) => driver.look_bus().machine(),
+            Seat::Moved => unreachable!(),
+        }
+    }
+
+    /// What performs the events, to look at: the machine, with what is kept beside it.
+    pub fn acts(&self) -> &M
+        ensures { M.shows result.now ≡ self.now.machine }
+    {
+        match &self.seat {
+            Seat::Bare(turns) => turns.acts(),
+            Seat::Driven(driver) => driver.look_bus().acts(),
             Seat::Moved => unreachable!(),
         }
     }

@@ -2,7 +2,7 @@
 
 use anyhow::{Result, bail};
 use em_names::nearest;
-use em_prompt::{Typed, prompted, write_help, write_whole_help, write_wrong};
+use em_prompt::{Shown, Typed, prompted, write_help, write_whole_help, write_wrong};
 use em_text::WriteFailed;
 use std::alloc::Global;
 use std::io::Write;
@@ -21,6 +21,10 @@ pub(crate) fn say<W: Write>(writer: &mut W, alloc: Global, behind: &[u8]) -> Res
         Ok(Typed::Line(line)) => {
             let written = line.write(writer);
             end(writer, written)
+        }
+        Ok(Typed::Show(shown)) => {
+            writeln!(writer, "{shown:?}")?;
+            Ok(())
         }
         Ok(typed) => {
             writeln!(writer, "{typed:?}")?;
@@ -48,8 +52,8 @@ pub(crate) fn show_help<W: Write>(writer: &mut W, line: &[u8]) -> Result<()> {
         bail!("a line is too long");
     }
     let written = match prompted(line) {
-        Ok(Typed::Help(Some(command))) => write_help(writer, command),
-        Ok(Typed::Help(None)) => write_whole_help(writer),
+        Ok(Typed::Show(Shown::Help(Some(command)))) => write_help(writer, command),
+        Ok(Typed::Show(Shown::Help(None))) => write_whole_help(writer),
         _ => bail!("no such command"),
     };
     if written.is_err() {

@@ -1,5 +1,5 @@
 //! What the definitions of steps say together, beyond what any crate above the adapter rests on.
-ghost use Rattle.std.specs.Prelude.{◌≡◌, ◌<◌, ◌≤◌, ◌∷◌, ℕ, List};
+ghost use Rattle.std.specs.Prelude.{◌≡◌, ◌<◌, ◌≤◌, ◌∷◌, ℕ, List, All};
 ghost use Rattle.em_regs.specs.Storage.{Registers};
 ghost use Rattle.em_regs.specs.Setup.{rx_setup};
 ghost use Rattle.em_rx.specs.Frame.{Frame};
@@ -7,8 +7,11 @@ ghost use Rattle.em_rx.specs.Pieces.{GoesInPieces, IsDelivered};
 ghost use Rattle.em_step.specs.State.{State};
 ghost use Rattle.em_step.specs.Event.{Event};
 ghost use Rattle.em_step.specs.Arrival.{arrival};
+ghost use Rattle.em_step.specs.Cells.{fresh, shows};
 ghost use Rattle.em_step.specs.Step.{step};
 ghost use Rattle.em_step.specs.declared.event.Answer.{Answer};
+ghost use Rattle.em_journal.specs.History.{Call, Leads};
+ghost use Rattle.em_journal.specs.View.{View, states};
 ghost use Rattle.em_step_laws.specs.Fate.{IsFate};
 ghost use Rattle.em_step_laws.specs.Inert.{AgreeInRules, Alike, IsNoRead};
 ghost use Rattle.em_step_laws.specs.Pieces.{AreReceived};
@@ -35,6 +38,13 @@ pub fn pieces()
 /// In every state that an adapter comes to, RDH can name each descriptor of the receive ring.
 pub fn rings_are_small()
     ensures { (s : State) → IsReached s → (rx_setup s.registers).count ≤ 65_536 }
+{}
+
+/// Every state that a machine with a new adapter comes to is reached, after any of its calls, and so is
+/// each that steps back lead to: the laws of such states hold of them.
+pub fn machines_are_reached()
+    ensures { (budget size : ℕ) (eeprom : List ℕ) (calls : List Call) (v : View)
+        → Leads budget (shows (fresh size eeprom)) calls v → All IsReached (states v) }
 {}
 
 /// Registers and bits without a rule are inert: what they hold changes no answer of any event but a

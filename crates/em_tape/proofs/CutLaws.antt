@@ -1,13 +1,13 @@
 -- Lines ahead of the place that are dropped.
-use Rattle.std.proofs.Common.{◌≡◌, ℕ, ◌+◌, ◌-◌, ◌<◌, ◌≤◌, zero, suc, true, List, [], ◌∷◌, ◌++◌, length, take, drop, Some, None, Option, Result}
+use Rattle.std.proofs.Common.{◌≡◌, ℕ, ◌+◌, ◌-◌, ◌<◌, ◌≤◌, zero, suc, List, [], ◌∷◌, ◌++◌, length, take, drop, Some, None, Ok}
 use Rattle.std.proofs.Common.{refl, sym, ap, ◌∙◌, subst, arith}
 use Rattle.std.specs.Prelude.{All, get_or, if◌then◌else◌, slice_get}
 use Rattle.std.proofs.lemmas.List.{append-nil, append_assoc, drop_more, get_or-take, length-append, length-take, length-take-le, take_all}
+use Rattle.std.proofs.lemmas.List.{take-append-le}
 use Rattle.std.proofs.lemmas.List.Elements.{All-append, All-cons}
 use Rattle.std.proofs.lemmas.Option.{get_or_from_slice_get, slice_get_within}
 use Rattle.em_line.specs.Grammar.{parsed_line}
-use Rattle.em_text.specs.declared.writer.WriteFailed.{WriteFailed}
-use Rattle.em_output.specs.declared.outcome.Outcome.{Outcome}
+use Rattle.em_output.specs.declared.outcome.Outcome.TheVariants.{Done}
 use Rattle.em_named.specs.Names.{after_line, names}
 use Rattle.em_named.specs.Place.{kept_of}
 use Rattle.em_named.specs.declared.did.Did.{Did}
@@ -17,8 +17,8 @@ use Rattle.em_named.proofs.NameLaws.{drop-drop, names-more}
 use Rattle.em_named.proofs.PlaceLaws.{kept-within, place-kept}
 use Rattle.em_tape.specs.Kind.{LeavesDriver, SaysBack, SaysOfDriver}
 use Rattle.em_tape.specs.Tape.{Tape, line_here, standing}
-use Rattle.em_tape.specs.Moves.{IsCut, IsCutPlace, Plays, TakesBack, has_at, noted}
-use Rattle.em_tape.proofs.NotedLaws.{has_is, noted_at}
+use Rattle.em_tape.specs.Moves.{IsCut, IsCutPlace, IsPartlyCut, Plays, TakesBack, TakesFewerBack, TakesNext, has_at, noted}
+use Rattle.em_tape.proofs.NotedLaws.{noted_at}
 
 abbrev IsBackLine : List ℕ → Type 0
 IsBackLine line = SaysBack (parsed_line line)
@@ -48,6 +48,18 @@ takes_none tape back whole did = record {
   stands = refl;
 }
 
+-- a line was added, and dropped again
+pub added_and_dropped : {old mid same new : Tape} (line : List ℕ) → old.whole ≡ length old.lines
+    → length old.did ≡ length old.lines → mid ≡ record old { lines = old.lines ++ line ∷ [] } → same ≡ mid
+    → new ≡ record same { lines = take same.whole same.lines; did = take same.whole same.did } → new ≡ old
+added_and_dropped {old = old} line whole did added stays dropped =
+    let lines : take old.whole (old.lines ++ line ∷ []) ≡ old.lines =
+    take-append-le old.whole old.lines (line ∷ []) (omega arith) ∙ take_all old.whole old.lines (omega arith) in
+    let all : take old.whole old.did ≡ old.did = take_all old.whole old.did (omega arith) in
+    dropped ∙ ap (λ (t : Tape). record t { lines = take t.whole t.lines; did = take t.whole t.did }) (stays ∙ added)
+    ∙ ap (λ ls. record old { lines = ls; did = take old.whole old.did }) lines
+    ∙ ap (λ ds. record old { lines = old.lines; did = ds }) all
+
 -- so much, and then more
 pub takes_more : {old mid new : Tape} (m n : ℕ) → TakesBack old mid m → TakesBack mid new n → TakesBack old new (m + n)
 takes_more {old = old} {mid = mid} {new = new} m n one two = record {
@@ -61,22 +73,31 @@ takes_more {old = old} {mid = mid} {new = new} m n one two = record {
   stands = two.stands ∙ ap (drop n) one.stands ∙ drop-drop m n (names old.did);
 }
 
+get-pushed : (xs : List (List ℕ)) (x : List ℕ) → slice_get (xs ++ x ∷ []) (length xs) ≡ Some x
+get-pushed [] x = refl
+get-pushed (y ∷ xs) x = get-pushed xs x
+
 -- by one line
-pub takes_line : {old mid new : Tape} {text text' : Option (List ℕ)} {replied : Result Outcome WriteFailed}
-    (line : List ℕ) (events : ℕ) → old.whole ≡ length old.lines → length old.did ≡ length old.lines
-    → IsBackLine line → mid ≡ record old { lines = old.lines ++ line ∷ [] } → Plays mid new text text' replied
-    → has_at (slice_get new.did old.whole) (TookBack events) ≡ true → TakesBack old new events
-takes_line {old = old} {mid = mid} {new = new} {text = text} {text' = text'} {replied = replied} line events whole did
-    says is plays found =
+pub takes_line : {old mid new : Tape} (line : List ℕ) (events : ℕ) → old.whole ≡ length old.lines
+    → length old.did ≡ length old.lines → mid ≡ record old { lines = old.lines ++ line ∷ [] } → TakesNext mid new events
+    → TakesBack old new events
+takes_line {old = old} {mid = mid} {new = new} line events whole did is next =
     let all = old.lines ++ line ∷ [] in
-    let from : Plays (record old { lines = all }) new text text' replied =
-    subst (λ m. Plays m new text text' replied) is plays in
+    let there : slice_get mid.lines mid.whole ≡ Some line =
+    ap (λ (t : Tape). slice_get t.lines t.whole) is ∙ ap (slice_get all) whole ∙ get-pushed old.lines line in
+    let some : Some next.line ≡ Some line = sym next.next ∙ there in
+    let one : next.line ≡ line = cc in
+    let says : IsBackLine line = subst IsBackLine one next.says in
+    let found : slice_get new.did old.whole ≡ Some (TookBack events) =
+    ap (λ (t : Tape). slice_get new.did t.whole) (sym is) ∙ next.did in
+    let from : Plays (record old { lines = all }) new None None (Ok Done) =
+    subst (λ m. Plays m new None None (Ok Done)) is next.plays in
     let d = from.did in
     let now : new.did ≡ old.did ++ d ∷ [] =
     ap (λ (t : Tape). t.did) from.tape ∙ none-noted old.whole d old.did (omega arith) in
     let at : slice_get new.did old.whole ≡ Some d =
     ap (λ ds. slice_get ds old.whole) (ap (λ (t : Tape). t.did) from.tape) ∙ noted_at old.whole d old.did (omega arith) in
-    let took : Some d ≡ Some (TookBack events) = sym at ∙ has_is (slice_get new.did old.whole) (TookBack events) found in
+    let took : Some d ≡ Some (TookBack events) = sym at ∙ found in
     let same : d ≡ TookBack events = cc in
     let lines : new.lines ≡ all = ap (λ (t : Tape). t.lines) from.tape in
     let long = length-append old.lines (line ∷ []) in
@@ -131,6 +152,19 @@ is_cut {old = old} {mid = mid} {cut = cut} {new = new} {place = place} here mid_
             ap (λ (t : Tape). t.lines) (same ∙ cut_of),
           );
     }
+
+-- the same where not all are taken back
+pub is_partly_cut : {old mid cut new : Tape} {place : Place} → IsCutPlace old place
+    → mid ≡ record old { whole = place.whole; back = 0; session = mid.session }
+    → cut ≡ record mid { lines = take mid.whole mid.lines; did = take mid.whole mid.did }
+    → TakesFewerBack cut new place.back → IsPartlyCut old new
+is_partly_cut {old = old} {mid = mid} {cut = cut} {new = new} {place = place} here mid_is cut_is takes = record {
+  place = place;
+  is = here;
+  session = mid.session;
+  takes = subst (λ t. TakesFewerBack t new place.back)
+      (cut_is ∙ ap (λ (t : Tape). record t { lines = take t.whole t.lines; did = take t.whole t.did }) mid_is) takes;
+}
 
 -- ---- where lines may be dropped
 

@@ -1,14 +1,16 @@
 -- What a line did, by what is seen of it.
-use Rattle.std.proofs.Common.{◌≡◌, ℕ, ◌-◌, ◌≤◌, Bool, true, false, List, [], ◌∷◌, length, Option, Some, Result, Ok, Err}
-use Rattle.std.proofs.Common.{refl, ap, arith}
+use Rattle.std.proofs.Common.{◌≡◌, ℕ, ◌-◌, ◌≤◌, Bool, true, false, List, [], ◌∷◌, length, Option, Some, None, Result, Ok, Err}
+use Rattle.std.proofs.Common.{refl, sym, ap, ◌∙◌, subst, inr, arith}
 use Rattle.std.specs.Prelude.{min}
 use Rattle.em_step.specs.State.{State}
 use Rattle.em_journal.specs.View.{View, after_back, after_backs}
 use Rattle.em_journal.proofs.BackLaws.{past_left}
 use Rattle.em_line.specs.Command.{back, back_by}
+use Rattle.em_line.specs.Grammar.{parsed_line}
 use Rattle.em_line.specs.ParsedLine.{ParsedLine, bad, says}
 use Rattle.em_output.specs.declared.outcome.Outcome.{Outcome}
-use Rattle.em_script.specs.Reply.{back_call, call_reply, line_outcome}
+use Rattle.em_output.specs.declared.outcome.Outcome.TheVariants.{Done}
+use Rattle.em_script.specs.Reply.{IsAllowed, after_line, back_call, call_reply, line_outcome}
 use Rattle.em_script.specs.RefusedAt.{RefusedAt}
 use Rattle.em_script.specs.Session.{Session}
 use Rattle.em_script.specs.declared.runner.BenchFault.{BenchFault}
@@ -18,6 +20,8 @@ use Rattle.em_named.specs.declared.did.Did.TheVariants.{TookBack}
 use Rattle.em_script.specs.Did.{did_of}
 use Rattle.em_tape.specs.Did.{IsSeen, outcome_where}
 use Rattle.em_tape.specs.Kind.{SaysBack}
+use Rattle.em_tape.specs.Moves.{IsPlayed}
+use Rattle.em_tape.specs.declared.known.Known.TheVariants.{Other}
 use Rattle.em_tape.specs.Replied.{replied_of}
 use Rattle.em_tape.specs.declared.did.Seen.{Seen}
 
@@ -47,3 +51,21 @@ pub replied_ok : (r : Result Outcome BenchFault) (o : Outcome) → replied_of r 
 replied_ok (Ok p) o is = cc
 replied_ok (Err Write) o is = absurd (cc)
 replied_ok (Err fault) o is = absurd (cc)
+
+-- a line that takes n events back, by its steps alone
+pub took_line : (number : ℕ) (line : List ℕ) (n : ℕ) (from now : Session) → parsed_line line ≡ says (back_by n)
+    → n ≤ length from.machine.past → now ≡ record from { machine = after_backs n from.machine }
+    → IsPlayed number line from now None None (record { replied = Ok Done; did = TookBack n; known = Other })
+took_line number line n from now said reach is =
+    let all : n ≡ min n (length from.machine.past) = omega (arith, reach) in
+    record {
+      performs = record {
+        memory = None;
+        allowed = subst (λ p. IsAllowed None p from) (sym said) tt;
+        prints = record { written = tt; ended = sym (ap (λ p. line_outcome None p from) said) };
+        session = is ∙ sym (ap (λ p. after_line None p from) said);
+      };
+      did = inr (ap TookBack all ∙ sym (ap (λ p. did_of None p from) said));
+      few = omega arith;
+      known = tt;
+    }

@@ -1,24 +1,29 @@
 -- What holds of a tape after each change of it.
-use Rattle.std.proofs.Common.{◌≡◌, ◌⊎◌, ℕ, ◌+◌, ◌*◌, ◌<◌, ◌≤◌, ◌^◌, zero, suc, Bool, true, false, List, [], ◌∷◌, ◌++◌, length, take, drop, Some, Option, Result}
+use Rattle.std.proofs.Common.{◌≡◌, ◌⊎◌, ℕ, ◌+◌, ◌*◌, ◌<◌, ◌≤◌, ◌^◌, zero, suc, Bool, true, false, List, [], ◌∷◌, ◌++◌, length, take, drop, Some, None, Option, Result, Ok}
 use Rattle.std.proofs.Common.{refl, sym, ap, ◌∙◌, subst, arith, inl, inr}
 use Rattle.std.specs.Prelude.{slice_get, min, insert, ◌&&◌, is_ok}
 use Rattle.std.proofs.lemmas.List.{take-append-le, take-take, length-append, length-take-le}
 use Rattle.std.proofs.lemmas.Bool.{false≢true}
 use Rattle.std.proofs.lemmas.List.Edits.{length-insert}
 use Rattle.std.proofs.lemmas.List.Elements.{All-append, All-cons, All-drop, All-take, All-push}
+use Rattle.em_journal.specs.View.{after_backs}
+use Rattle.em_journal.proofs.BackLaws.{past_left}
 use Rattle.em_line.specs.Grammar.{parsed_line}
 use Rattle.em_text.specs.declared.writer.WriteFailed.{WriteFailed}
 use Rattle.em_output.specs.declared.outcome.Outcome.{Outcome}
+use Rattle.em_output.specs.declared.outcome.Outcome.TheVariants.{Done}
 use Rattle.em_script.specs.Session.{Session}
 use Rattle.em_script.specs.Reply.{Performs}
 use Rattle.em_named.specs.Numbers.{end_of, performed_by}
 use Rattle.em_named.specs.declared.did.Did.{Did}
+use Rattle.em_named.specs.declared.did.Did.TheVariants.{TookBack}
 use Rattle.em_script.specs.Did.{did_of}
 use Rattle.em_tape.specs.Known.{Does, IsKnown}
 use Rattle.em_tape.specs.Holds.{Holds}
 use Rattle.em_tape.specs.Tape.{Tape, IsShort, taken_back}
 use Rattle.em_tape.specs.declared.known.Known.{Known}
-use Rattle.em_tape.specs.Moves.{Plays, noted}
+use Rattle.em_tape.specs.declared.known.Known.TheVariants.{Other}
+use Rattle.em_tape.specs.Moves.{IsPlayed, Plays, noted}
 use Rattle.em_tape.proofs.AgainLaws.{known_back, known_cut, known_first, known_lines, known_next, known_noted, noted_of, place_of}
 use Rattle.em_tape.proofs.NotedLaws.{counts_noted, counts_take, end_noted, end_whole, noted_within, take_noted}
 use Rattle.em_tape.proofs.TapeLaws.{past_back}
@@ -195,6 +200,39 @@ holds_play {first = first} {session = session} {new = new} {did = did} {answered
       known = next;
     }
 
+-- where each answer could be written, it is known what the line did
+pub told_of : (answered ok : Bool) {d e : Did} → (ok ≡ false) ⊎ (d ≡ e) → answered && ok ≡ true
+    → (answered ≡ true) × (d ≡ e)
+told_of true true (inl failed) is = absurd (false≢true (sym failed))
+told_of true true (inr same) is = (refl, same)
+told_of true false either is = absurd (false≢true is)
+told_of false ok either is = absurd (false≢true is)
+
+pub and_true : (b : Bool) → b && true ≡ b
+and_true true = refl
+and_true false = refl
+
+-- the next line is performed, which takes events back
+pub holds_taken : {first session new : Session} {did : List Did} {answered : Bool} {marks : List Known}
+    {whole events back number : ℕ} (lines : List (List ℕ)) (line : List ℕ) (n : ℕ)
+    → Holds first lines did answered marks whole events back session → back ≡ 0 → whole < length lines
+    → slice_get lines whole ≡ Some line
+    → IsPlayed number line session new None None (record { replied = Ok Done; did = TookBack n; known = Other })
+    → new ≡ record session { machine = after_backs n session.machine }
+    → Holds first lines (noted whole (TookBack n) did) answered (take whole marks ++ Other ∷ []) (whole + 1) events back new
+holds_taken {first = first} {session = session} {new = new} {did = did} {answered = answered} {marks = marks}
+    {whole = whole} {events = events} {back = back} lines line n holds none ahead is played back_is =
+    let d = TookBack n in
+    let left = past_left n session.machine (after_backs n session.machine) refl in
+    let room : length new.machine.past < 2 ^ 64 =
+    omega (arith, left, holds.tape.room, ap (λ (s : Session). length s.machine.past) back_is) in
+    let now = take whole marks ++ Other ∷ [] in
+    let plays = holds_play lines line d Other holds none ahead is played.performs
+    (told_of answered true played.did) played.few played.known room in
+    let same : events + performed_by d ≡ events = omega arith in
+    subst (λ b. Holds first lines (noted whole d did) b now (whole + 1) events back new) (and_true answered)
+    (subst (λ e. Holds first lines (noted whole d did) (answered && true) now (whole + 1) e back new) same plays)
+
 -- what is known of the first lines, of all of them
 pub known_more : {first new : Session} {lines some : List (List ℕ)} {did : List Did} {answered : Bool}
     {marks : List Known} {line count : ℕ} → count ≡ line → take line lines ≡ some → line ≤ length lines
@@ -266,14 +304,6 @@ pub same_tape : (first session : Session) (lines : List (List ℕ)) (did did' : 
     (whole back : ℕ) → did ≡ did' → answered ≡ answered' → back ≡ 0
     → tape_of first lines did answered whole back session ≡ tape_of first lines did' answered' whole 0 session
 same_tape first session lines did did' answered answered' whole back e f g = rw (e, f, g) refl
-
--- where each answer could be written, it is known what the line did
-pub told_of : (answered ok : Bool) {d e : Did} → (ok ≡ false) ⊎ (d ≡ e) → answered && ok ≡ true
-    → (answered ≡ true) × (d ≡ e)
-told_of true true (inl failed) is = absurd (false≢true (sym failed))
-told_of true true (inr same) is = (refl, same)
-told_of true false either is = absurd (false≢true is)
-told_of false ok either is = absurd (false≢true is)
 
 -- where it is known of each line what it did
 pub known_told : {first new : Session} {lines : List (List ℕ)} {did : List Did} {marks : List Known} {line : ℕ}

@@ -1,7 +1,8 @@
 -- The events that stand at a place led from state to state.
 use Rattle.std.proofs.Common.{◌≡◌, ℕ, ◌+◌, ◌<◌, ◌≤◌, zero, suc, true, List, [], ◌∷◌, length, take, Some}
 use Rattle.std.proofs.Common.{refl, sym, ap, ◌∙◌, subst, arith}
-use Rattle.std.specs.Prelude.{slice_get}
+use Rattle.std.specs.Prelude.{slice_get, unwrap_or, Option}
+use Rattle.std.proofs.lemmas.Option.{slice_get_within}
 use Rattle.em_step.specs.State.{State}
 use Rattle.em_journal.specs.History.{Call, Leads, Run}
 use Rattle.em_journal.specs.View.{View, after_back, after_backs, back_to, opening, states}
@@ -14,7 +15,9 @@ use Rattle.em_named.specs.declared.did.Name.{Name}
 use Rattle.em_named.proofs.LineLaws.{named_led}
 use Rattle.em_named.proofs.NameLaws.{get-drop, once}
 use Rattle.em_named.proofs.NumberLaws.{fit, found}
-use Rattle.em_tape.specs.Led.{HasLed}
+use Rattle.em_trail.specs.Trail.{Tells, TellsAt}
+use Rattle.em_trail.specs.declared.note.Note.{Note}
+use Rattle.em_tape.specs.Led.{HasLed, IsTold}
 use Rattle.em_tape.specs.Tape.{HoldsTape, Tape, standing}
 
 states-one : (l : List State) (v : View) → v.past ≡ l → 0 < length l → states (after_back v) ≡ v.past
@@ -74,6 +77,29 @@ has_led tape budget s k holds told opens lt =
         led = subst (λ w. NamedLed so.lines (states w) k one) (sym here)
             (led-back back k v one so.lines (omega arith) named.2);
         found = found tape.whole tape.did one holds.known fits;
+      },
+    )
+
+-- what lies at one place is one
+same_there : {X : Type 0} (x y : X) (o : Option X) → o ≡ Some x → o ≡ Some y → x ≡ y
+same_there x y o is is' = ap (λ p. unwrap_or p x) (sym is ∙ is')
+
+-- a note that tells of the event so many steps back tells of the one that is named there
+pub is_told : (tape : Tape) (budget : ℕ) (s : State) (k : ℕ) (note : Note) → HoldsTape tape → tape.answered ≡ true
+    → tape.first.machine ≡ opening budget s → TellsAt (states tape.session.machine) k note
+    → (one : Name) × IsTold tape k one note
+is_told tape budget s k note holds told opens at =
+    let past = tape.session.machine.past in
+    let lt : k < length past = slice_get_within past k at.before at.led_from in
+    let named = has_led tape budget s k holds told opens lt in
+    let led = named.1.led in
+    let all = states tape.session.machine in
+    let before : at.before ≡ led.before = same_there at.before led.before (slice_get all (suc k)) at.led_from led.led_from in
+    let after : at.after ≡ led.after = same_there at.after led.after (slice_get all k) at.led_to led.led_to in (
+      named.0,
+      record {
+        named = named.1;
+        tells = subst (λ b. Tells note b led.after) before (subst (λ a. Tells note at.before a) after at.tells);
       },
     )
 

@@ -2,7 +2,6 @@ pub mod TapeLaws
 pub mod AgainLaws
 pub mod NotedLaws
 pub mod StandingLaws
-pub mod KindLaws
 pub mod KeptLaws
 pub mod CutLaws
 pub mod DidLaws

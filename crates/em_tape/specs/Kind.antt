@@ -1,11 +1,8 @@
--- What a line says, by what its name tells of it.
-use Rattle.std.specs.Prelude.{◌≤◌, ℕ, if◌then◌else◌, List, codes, Option, None}
-use Rattle.std.specs.Str.{bytes_eq}
-use Rattle.em_line.specs.Arguments.{Arguments}
-use Rattle.em_line.specs.Grammar.{back_form}
-use Rattle.em_line.specs.Command.{event, peek, interrupt_line, registers, wire, back, back_by}
-use Rattle.em_line.specs.ParsedLine.{ParsedLine, silent, bad, says, asks, plans, request_line}
-use Rattle.em_line.specs.Request.{Request, alone, request_form, starts, sends, receives, stats, address, sets_address}
+-- What a line says, by what its form tells of it.
+use Rattle.std.specs.Prelude.{◌≤◌}
+use Rattle.em_line.specs.Command.{event, peek, look, back, back_by}
+use Rattle.em_line.specs.ParsedLine.{ParsedLine, silent, bad, says, asks, plans}
+use Rattle.em_line.specs.Request.{starts, sends, receives, stats, address, sets_address}
 use Rattle.em_tape.specs.declared.kind.Kind.{Kind}
 use Rattle.em_tape.specs.declared.kind.Kind.TheVariants.{Event, Look, Back, Start, Call, Plan, Nothing}
 
@@ -19,9 +16,7 @@ SaysEvent _ = ⊥
 abbrev pub SaysLook : ParsedLine → Type 0
 SaysLook bad = Unit {0}
 SaysLook (says (peek addr n)) = Unit {0}
-SaysLook (says interrupt_line) = Unit {0}
-SaysLook (says registers) = Unit {0}
-SaysLook (says wire) = Unit {0}
+SaysLook (says (look what)) = Unit {0}
 SaysLook _ = ⊥
 
 -- steps back, if it says anything
@@ -79,12 +74,3 @@ abbrev pub SaysOfDriver : ParsedLine → Type 0
 SaysOfDriver silent = ⊥
 SaysOfDriver (says command) = ⊥
 SaysOfDriver _ = Unit {0}
-
--- what a line says that is neither an event nor a look, by its name
-abbrev pub back_or_request : List ℕ → Arguments → ParsedLine
-back_or_request name words =
-    if bytes_eq name (codes "back") then back_form words else request_line (request_form name words)
-
--- what it asks that is no call of a driver
-abbrev pub start_form : List ℕ → Arguments → Option Request
-start_form name words = if bytes_eq name (codes "init") then alone starts words else None

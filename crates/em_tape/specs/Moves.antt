@@ -1,9 +1,10 @@
 -- What calls make of a tape.
 use Rattle.std.specs.Prelude.{◌≡◌, ◌⊎◌, ℕ, ◌+◌, ◌-◌, ◌<◌, ◌≤◌, ◌&&◌, nat_eq, Bool, false, if◌then◌else◌, List, [], ◌∷◌, ◌++◌, All}
-use Rattle.std.specs.Prelude.{length, take, drop, slice_get, is_ok, Option, Some, None, Result}
+use Rattle.std.specs.Prelude.{length, take, drop, slice_get, is_ok, Option, Some, None, Result, Ok}
 use Rattle.em_text.specs.declared.writer.WriteFailed.{WriteFailed}
 use Rattle.em_line.specs.Grammar.{parsed_line}
 use Rattle.em_output.specs.declared.outcome.Outcome.{Outcome}
+use Rattle.em_output.specs.declared.outcome.Outcome.TheVariants.{Done}
 use Rattle.em_script.specs.Session.{Session}
 use Rattle.em_script.specs.Reply.{Performs}
 use Rattle.em_named.specs.declared.did.Did.{Did}
@@ -89,6 +90,20 @@ pub record TakesBack (old new : Tape) (events : ℕ) : Type 0 where
   pub did : length new.did ≡ length new.lines
   pub stands : names new.did ≡ drop events (names old.did)
 
+-- not so many: only some of them were taken back so
+pub record TakesFewerBack (old new : Tape) (events : ℕ) : Type 0 where
+  pub taken : ℕ
+  pub fewer : taken < events
+  pub takes : TakesBack old new taken
+
+-- the next line, which takes so many events back, was performed
+pub record TakesNext (old new : Tape) (events : ℕ) : Type 0 where
+  pub line : List ℕ
+  pub next : slice_get old.lines old.whole ≡ Some line
+  pub says : SaysBack (parsed_line line)
+  pub plays : Plays old new None None (Ok Done)
+  pub did : slice_get new.did old.whole ≡ Some (TookBack events)
+
 -- Lines ahead of the place were dropped, and lines that take events back put behind the others, so that all stand whole and
 -- the same events stand behind them. Of the lines at the place only such were dropped as leave a driver and its plan.
 pub record IsCut (old new : Tape) (gone : ℕ) : Type 0 where
@@ -111,6 +126,21 @@ pub record IsCut (old new : Tape) (gone : ℕ) : Type 0 where
   pub did : length new.did ≡ length new.lines
   pub stands : standing new ≡ standing old
   pub here : old.back ≡ 0 → (new.session ≡ old.session) × (new.lines ≡ take line old.lines)
+
+-- The lines ahead of the place were dropped as in a cut, and all that stay stand whole, but only some of the events that lie
+-- ahead were taken back, by lines behind the others.
+pub record IsPartlyCut (old new : Tape) : Type 0 where
+  pub place : Place
+  pub is : IsCutPlace old place
+  -- what the lines that stay left
+  pub session : Session
+  pub takes : TakesFewerBack (record old {
+    lines = take place.whole old.lines;
+    did = take place.whole old.did;
+    whole = place.whole;
+    back = 0;
+    session = session;
+  }) new place.back
 
 -- the same is shown: the present state, whether a driver stands there, and its plan
 pub record ShowsTheSame (old new : Session) : Type 0 where

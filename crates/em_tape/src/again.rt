@@ -3,7 +3,7 @@ ghost use Rattle.std.specs.Prelude.{◌≡◌, ◌<◌, ◌≤◌, ◌^◌, ◌�
 ghost use Rattle.em_tape.specs.Texts.{texts};
 ghost use Rattle.em_line.specs.Grammar.{parsed_line};
 ghost use Rattle.em_script.specs.PlayedLine.{PlayedLine, after_all};
-ghost use Rattle.em_script.specs.Session.{Session};
+ghost use Rattle.em_script.specs.Session.{Session as View};
 ghost use Rattle.em_named.specs.declared.did.Did.{Did};
 ghost use Rattle.em_tape.specs.Known.{AllDo, AreDone, Does, IsKnown, PerformsOne, events_in};
 ghost use Rattle.em_tape.specs.Tape.{IsShort};
@@ -11,13 +11,14 @@ ghost use Rattle.em_tape.specs.Tape.{IsShort};
 use crate::known::{Known, events_of, line_before};
 use crate::text::Text;
 use em_script::{Player, Session};
+use em_trail::Traced;
 use std::io::sink;
 
 /// Goes to behind so many lines, from where `back` events of the first `whole` are taken back. False where other lines
 /// lie between, or where memory is refused: then the session stays.
 pub(crate) fn go_along(
     player: &mut Player,
-    session: &mut Session,
+    session: &mut Session<Traced>,
     lines: &[Text],
     known: &[Known],
     whole: usize,
@@ -28,10 +29,10 @@ pub(crate) fn go_along(
     requires known { length known.now ≤ length lines.now }
     requires within { whole ≤ length known.now }
     requires room { length session.old.machine.past < 2 ^ 64 }
-    ensures there { IsTrue result → (first : Session) (did : List Did) (answered : Bool)
+    ensures there { IsTrue result → (first : View) (did : List Did) (answered : Bool)
         → IsKnown first (texts lines.now) did answered known.now whole back session.old
         → IsKnown first (texts lines.now) did answered known.now line 0 session.new }
-    ensures same { result ≡ false → (first : Session) (did : List Did) (answered : Bool)
+    ensures same { result ≡ false → (first : View) (did : List Did) (answered : Bool)
         → IsKnown first (texts lines.now) did answered known.now whole back session.old → session.new ≡ session.old }
     ensures within { IsTrue result → line ≤ length known.now }
     ensures room { length session.new.machine.past < 2 ^ 64 }
@@ -50,9 +51,9 @@ pub(crate) fn go_along(
 
 /// Takes back what lines did, each of them no more than one event. False where one of them did something else: then the
 /// session stays.
-fn take_back(session: &mut Session, known: &[Known]) -> bool
+fn take_back(session: &mut Session<Traced>, known: &[Known]) -> bool
     requires room { length session.old.machine.past < 2 ^ 64 }
-    ensures there { IsTrue result → (all : List PlayedLine) (first : Session) → AllDo known.now all first
+    ensures there { IsTrue result → (all : List PlayedLine) (first : View) → AllDo known.now all first
         → session.old ≡ after_all (take (length known.now) all) first → session.new ≡ first }
     ensures same { result ≡ false → session.new ≡ session.old }
     ensures room { length session.new.machine.past < 2 ^ 64 }
@@ -70,7 +71,7 @@ fn take_back(session: &mut Session, known: &[Known]) -> bool
 /// not do so again: then the session stays.
 fn perform_again(
     player: &mut Player,
-    session: &mut Session,
+    session: &mut Session<Traced>,
     lines: &[Text],
     known: &[Known],
 ) -> bool
@@ -101,11 +102,16 @@ fn perform_again(
 
 /// Does again what a line did, and gives how many events that were. None where it did something else, or does nothing
 /// now: then the session stays.
-fn do_again(player: &mut Player, session: &mut Session, line: &[u8], known: Known) -> Option<usize>
+fn do_again(
+    player: &mut Player,
+    session: &mut Session<Traced>,
+    line: &[u8],
+    known: Known,
+) -> Option<usize>
     requires { IsShort line.now }
-    ensures does { IfSome result (λ events. (events_in (known ∷ []) ≡ Some events) × ((after : Session)
+    ensures does { IfSome result (λ events. (events_in (known ∷ []) ≡ Some events) × ((after : View)
         → Does known (parsed_line line.now) session.old after → session.new ≡ after)) }
-    ensures same { IsNone result → (after : Session) → Does known (parsed_line line.now) session.old after
+    ensures same { IsNone result → (after : View) → Does known (parsed_line line.now) session.old after
         → session.new ≡ session.old }
     ensures room { length session.old.machine.past < 2 ^ 64 → length session.new.machine.past < 2 ^ 64 }
 {
@@ -123,11 +129,11 @@ fn do_again(player: &mut Player, session: &mut Session, line: &[u8], known: Know
 }
 
 /// Performs a line again that did one event. False where it does nothing now.
-fn perform_one(player: &mut Player, session: &mut Session, line: &[u8]) -> bool
+fn perform_one(player: &mut Player, session: &mut Session<Traced>, line: &[u8]) -> bool
     requires { IsShort line.now }
-    ensures does { IsTrue result → (after : Session) → PerformsOne (parsed_line line.now) session.old after
+    ensures does { IsTrue result → (after : View) → PerformsOne (parsed_line line.now) session.old after
         → session.new ≡ after }
-    ensures same { result ≡ false → (after : Session) → PerformsOne (parsed_line line.now) session.old after
+    ensures same { result ≡ false → (after : View) → PerformsOne (parsed_line line.now) session.old after
         → session.new ≡ session.old }
     ensures room { length session.new.machine.past < 2 ^ 64 }
 {

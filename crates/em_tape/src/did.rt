@@ -11,11 +11,9 @@ ghost use Rattle.em_tape.specs.Kind.{IsKind};
 ghost use Rattle.em_tape.specs.Moves.{has_at, noted, same_did};
 
 use crate::kind::Kind;
+use em_line::MOST_BACK;
 use em_named::Did;
 use em_script::Outcome;
-
-/// How many events one line takes back at most.
-pub(crate) const MOST_BACK: usize = 65_536;
 
 /// What is seen of a session before a line and after it.
 #[derive(Clone, Copy)]
@@ -76,7 +74,11 @@ fn took_back(seen: Seen) -> Did
     ensures is { (took : ℕ) → took ≡ seen.before - seen.after → took ≤ 65536 → result ≡ Did.TookBack took }
     ensures few { performed_by result ≡ 0 }
 {
-    Did::TookBack(seen.before.saturating_sub(seen.after).min(MOST_BACK) as u32)
+    Did::TookBack(
+        seen.before
+            .saturating_sub(seen.after)
+            .min(MOST_BACK as usize) as u32,
+    )
 }
 
 /// Notes what the line behind the first `whole` did. Where it did something else before, no more is known of those

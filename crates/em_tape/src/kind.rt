@@ -1,13 +1,14 @@
-//! What lines do with events, by their names.
-ghost use Rattle.std.specs.Prelude.{◌≡◌, ℕ, List, ◌∷◌, false, IsTrue};
-ghost use Rattle.em_line.specs.Arguments.{Arguments};
-ghost use Rattle.em_line.specs.Grammar.{command_form, look_form, parsed_line, words_form};
-ghost use Rattle.em_line.specs.Request.{request_form};
-ghost use Rattle.em_tape.specs.Kind.{back_or_request, start_form, IsKind, SaysBack, SaysCall, SaysEvent, SaysLook, SaysOfDriver, LeavesDriver};
+//! What lines do with events, by their forms.
+ghost use Rattle.std.specs.Prelude.{◌≡◌, false, IsTrue};
+ghost use Rattle.em_line.specs.Command.{back_by, plain};
+ghost use Rattle.em_line.specs.Form.{said_by};
+ghost use Rattle.em_line.specs.Grammar.{parsed_line};
+ghost use Rattle.em_line.specs.ParsedLine.{says};
+ghost use Rattle.em_tape.specs.Kind.{IsKind, SaysBack, SaysOfDriver, LeavesDriver};
 
-use em_text::{Words, is_name};
+use em_line::{Command, LineForm, RequestName, form_of};
 
-/// What a line does with events, by its name.
+/// What a line does with events, if it says anything.
 #[derive(Clone, Copy, PartialEq, Eq, Debug)]
 pub(crate) enum Kind {
     /// It performs one.
@@ -27,68 +28,35 @@ pub(crate) enum Kind {
 }
 
 /// What a line does with events.
-#[tactic(auto, unfolding(em_line::specs::Grammar::parsed_line))]
 pub(crate) fn kind_of(line: &[u8]) -> Kind
     ensures { IsKind result (parsed_line line.now) }
 {
-    let mut words = Words(line);
-    match words.next_short() {
-        Some(name) => kind_named(name),
-        None => Kind::Nothing,
+    kind_of_form(form_of(line))
+}
+
+/// What a line of this form does with events.
+fn kind_of_form(form: LineForm<'_>) -> Kind
+    ensures { IsKind result (said_by form.entry) }
+{
+    match form {
+        LineForm::Silent | LineForm::Bad => Kind::Nothing,
+        LineForm::Command(command) => kind_of_command(command),
+        LineForm::Poke(_) | LineForm::Arrive(_) => Kind::Event,
+        LineForm::Request(RequestName::Start, _) => Kind::Start,
+        LineForm::Request(..) => Kind::Call,
+        LineForm::Plan(_) => Kind::Plan,
     }
 }
 
-fn kind_named(name: &[u8]) -> Kind
-    ensures { (words : List (List ℕ)) → IsKind result (words_form (name.now ∷ words)) }
+/// What a command does with events.
+fn kind_of_command(command: Command<'static>) -> Kind
+    ensures { IsKind result (says (plain command.entry)) }
 {
-    if performs_event(name) {
-        Kind::Event
-    } else if looks(name) {
-        Kind::Look
-    } else if is_name(name, b"back") {
-        Kind::Back
-    } else if is_name(name, b"init") {
-        Kind::Start
-    } else if calls_driver(name) {
-        Kind::Call
-    } else if is_name(name, b"turns") {
-        Kind::Plan
-    } else {
-        Kind::Nothing
+    match command {
+        Command::Event(_) => Kind::Event,
+        Command::Back | Command::BackBy(_) => Kind::Back,
+        Command::Peek(..) | Command::Look(_) => Kind::Look,
     }
-}
-
-fn performs_event(name: &[u8]) -> bool
-    ensures others { result ≡ false → (words : Arguments) → command_form name.now words ≡ look_form name.now words }
-    ensures says { IsTrue result → (words : List (List ℕ)) → SaysEvent (words_form (name.now ∷ words)) }
-{
-    is_name(name, b"r")
-        || is_name(name, b"w")
-        || is_name(name, b"poke")
-        || is_name(name, b"arrive")
-        || is_name(name, b"rx")
-        || is_name(name, b"tx")
-        || is_name(name, b"link")
-}
-
-fn looks(name: &[u8]) -> bool
-    ensures others { result ≡ false → (words : Arguments) → look_form name.now words ≡ back_or_request name.now words }
-    ensures says { IsTrue result → (words : List (List ℕ)) → SaysLook (words_form (name.now ∷ words)) }
-{
-    is_name(name, b"peek")
-        || is_name(name, b"line")
-        || is_name(name, b"regs")
-        || is_name(name, b"wire")
-}
-
-fn calls_driver(name: &[u8]) -> bool
-    ensures others { result ≡ false → (words : Arguments) → request_form name.now words ≡ start_form name.now words }
-    ensures says { IsTrue result → (words : List (List ℕ)) → SaysCall (words_form (name.now ∷ words)) }
-{
-    is_name(name, b"send")
-        || is_name(name, b"recv")
-        || is_name(name, b"stats")
-        || is_name(name, b"mac")
 }
 
 /// Whether a line leaves a driver and its plan as they are.
@@ -107,17 +75,13 @@ pub(crate) fn leaves_driver(line: &[u8]) -> bool
     }
 }
 
-/// Whether a line takes events back, if it says anything.
-pub(crate) fn goes_back(line: &[u8]) -> bool
-    ensures { IsTrue result → SaysBack (parsed_line line.now) }
+/// Whether a line takes so many events back.
+pub(crate) fn takes_back(line: &[u8], events: u32) -> bool
+    ensures is { IsTrue result → parsed_line line.now ≡ says (back_by events) }
+    ensures says { IsTrue result → SaysBack (parsed_line line.now) }
 {
-    match kind_of(line) {
-        Kind::Back => true,
-        Kind::Event => false,
-        Kind::Look => false,
-        Kind::Nothing => false,
-        Kind::Start => false,
-        Kind::Call => false,
-        Kind::Plan => false,
+    match form_of(line) {
+        LineForm::Command(Command::BackBy(count)) => count.events == events,
+        _ => false,
     }
 }

@@ -5,10 +5,12 @@ ghost use Rattle.em_line.specs.Grammar.{parsed_line};
 ghost use Rattle.em_script.specs.Session.{Session};
 ghost use Rattle.em_script.specs.Reply.{line_takes_memory};
 ghost use Rattle.em_step.specs.State.{State};
-ghost use Rattle.em_journal.specs.View.{opening};
+ghost use Rattle.em_journal.specs.View.{opening, states};
+ghost use Rattle.em_trail.specs.Trail.{TellsAt};
+ghost use Rattle.em_trail.specs.declared.note.Note.{Note};
 ghost use Rattle.em_named.specs.Names.{IsBefore};
 ghost use Rattle.em_named.specs.declared.did.Name.{Name};
-ghost use Rattle.em_tape.specs.Led.{HasLed};
+ghost use Rattle.em_tape.specs.Led.{HasLed, IsTold};
 ghost use Rattle.em_tape.specs.Tape.{HadMemory, HoldsTape, IsAt, Tape, session_at, standing};
 
 /// The same place shows the same each time. Where memory was refused to no line on the way there, the session at a
@@ -24,11 +26,15 @@ pub fn a_place_shows_the_same()
 
 /// The named event led, by `step`, from the state shown one step further back to the state shown there; its line stands
 /// whole, so it is never of a line ahead. This holds of each event that the journal can still take back, where each answer
-/// so far could be written. No two events that stand have the same name.
+/// so far could be written. A note of the event so many steps back tells of one that led from the same state to the same
+/// state. No two events that stand have the same name.
 pub fn a_named_event_led()
     ensures led { (tape : Tape) (budget : ℕ) (s : State) (k : ℕ) → HoldsTape tape → tape.answered ≡ true
         → tape.first.machine ≡ opening budget s → k < length tape.session.machine.past
         → (name : Name) × HasLed tape k name }
+    ensures told { (tape : Tape) (budget : ℕ) (s : State) (k : ℕ) (note : Note) → HoldsTape tape
+        → tape.answered ≡ true → tape.first.machine ≡ opening budget s
+        → TellsAt (states tape.session.machine) k note → (name : Name) × IsTold tape k name note }
     ensures once { (tape : Tape) (i j : ℕ) (newer older : Name) → i < j
         → slice_get (standing tape) i ≡ Some newer → slice_get (standing tape) j ≡ Some older
         → IsBefore older newer }

@@ -1,7 +1,11 @@
 //! Performing the lines of a tape, for the first time and again.
-ghost use Rattle.std.specs.Prelude.{◌≡◌, ◌<◌, ◌≤◌, ◌^◌, [], All, length, true, IfOk, IfErr, IfSome, OnOk, IsNone};
+ghost use Rattle.std.specs.Prelude.{◌≡◌, ◌<◌, ◌≤◌, ◌^◌, ℕ, List, [], All, length, true, IfOk, IfErr, IfSome, OnOk, IsNone, Ok, None};
+ghost use Rattle.em_line.specs.Command.{back_by};
+ghost use Rattle.em_line.specs.Grammar.{parsed_line};
+ghost use Rattle.em_line.specs.ParsedLine.{says};
 ghost use Rattle.em_tape.specs.Texts.{texts};
 ghost use Rattle.em_journal.specs.Settings.{new_machine, IsRefusedAs};
+ghost use Rattle.em_journal.specs.View.{after_backs};
 ghost use Rattle.em_script.specs.Session.{bare};
 ghost use Rattle.em_tape.specs.Replied.{replied_of};
 ghost use Rattle.em_tape.specs.Known.{IsKnown};
@@ -16,23 +20,27 @@ use em_journal::{Settings, SettingsRefusal};
 use em_named::Did;
 use em_script::{BenchFault, Outcome, Player, Session};
 use em_text::WriteFailed;
+use em_trail::Traced;
 use std::alloc::Global;
 use std::io::{Write, sink};
 
 /// The session over a new machine.
-pub(crate) fn opening(alloc: Global, settings: Settings) -> Result<Session, SettingsRefusal>
+pub(crate) fn opening(alloc: Global, settings: Settings) -> Result<Session<Traced>, SettingsRefusal>
     ensures ok { IfOk result (λ session. session ≡ bare (new_machine settings)) }
     ensures err { IfErr result (IsRefusedAs settings) }
 {
     match settings.machine(alloc) {
-        Ok(machine) => Ok(Session::new(alloc, machine)),
+        Ok(machine) => match Traced::new(alloc, machine) {
+            Ok(traced) => Ok(Session::new(alloc, traced)),
+            Err(_) => Err(SettingsRefusal::Memory),
+        },
         Err(refusal) => Err(refusal),
     }
 }
 
 /// Puts a session in the place of another. This has a function of its own, since the prover checks here that the
 /// other may be dropped, which takes it long.
-pub(crate) fn put(place: &mut Session, session: Session)
+pub(crate) fn put(place: &mut Session<Traced>, session: Session<Traced>)
     ensures { place.new ≡ session }
 {
     *place = session;
@@ -50,7 +58,7 @@ pub(crate) struct Played {
 pub(crate) fn play<W: Write>(
     player: &mut Player,
     writer: &mut W,
-    session: &mut Session,
+    session: &mut Session<Traced>,
     number: u32,
     line: &[u8],
 ) -> Option<Played>
@@ -86,6 +94,22 @@ pub(crate) fn play<W: Write>(
     }
 }
 
+/// Takes the newest events back as a line does that says so, without its text.
+pub(crate) fn take(session: &mut Session<Traced>, events: u32) -> Played
+    requires { events ≤ length session.old.machine.past }
+    ensures done { (number : ℕ) (line : List ℕ) → parsed_line line ≡ says (back_by events)
+        → IsPlayed number line session.old session.new None None result }
+    ensures played { result ≡ record { replied = Ok Outcome.Done; did = Did.TookBack events; known = Known.Other } }
+    ensures session { session.new ≡ record session.old { machine = after_backs events session.old.machine } }
+{
+    session.back_by(events as usize);
+    Played {
+        replied: Ok(Outcome::Done),
+        did: Did::TookBack(events),
+        known: Known::Other,
+    }
+}
+
 /// How a line came out that was played.
 fn replied_of(played: Result<Outcome, BenchFault>) -> Option<Result<Outcome, WriteFailed>>
     ensures { result ≡ replied_of played }
@@ -101,7 +125,7 @@ fn replied_of(played: Result<Outcome, BenchFault>) -> Option<Result<Outcome, Wri
 /// events what it did before: where one does not, memory was refused to it, now or then.
 fn replay(
     player: &mut Player,
-    session: &mut Session,
+    session: &mut Session<Traced>,
     lines: &[Text],
     did: &[Did],
     known: &mut Vec<Known>,
@@ -135,7 +159,7 @@ fn replay(
 
 /// A session that lines left, and what is known of each of them.
 pub(crate) struct Left {
-    pub(crate) session: Session,
+    pub(crate) session: Session<Traced>,
     pub(crate) known: Vec<Known>,
 }
 

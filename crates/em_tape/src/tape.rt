@@ -1,8 +1,10 @@
 //! A debugging session with a place in it.
 ghost use Rattle.std.specs.Prelude.{◌≡◌, ◌⊎◌, ◌&&◌, ℕ, ◌+◌, ◌-◌, ◌<◌, ◌≤◌, ◌↔◌, ◌∷◌, ◌++◌, [], List, insert, nat_eq, nat_lt, length, take, drop, min, slice_get};
-ghost use Rattle.std.specs.Prelude.{IfOk, IfErr, OnOk, OnErr, IfSome, IsErrOf, IsTrue, Ok, None, Some, false};
+ghost use Rattle.std.specs.Prelude.{IfOk, IfErr, OnOk, OnErr, IfSome, IsErrOf, IsNone, IsTrue, Ok, None, Some, false};
 ghost use Rattle.std.specs.Option.{option_map};
 ghost use Rattle.em_journal.specs.Settings.{new_machine, IsRefusedAs};
+ghost use Rattle.em_journal.specs.View.{states};
+ghost use Rattle.em_trail.specs.Trail.{TellsAt};
 ghost use Rattle.em_script.specs.Session.{bare};
 ghost use Rattle.em_named.specs.Names.{names};
 ghost use Rattle.em_named.specs.Numbers.{end_of, line_of, name_of};
@@ -10,23 +12,25 @@ ghost use Rattle.em_line.specs.Grammar.{parsed_line};
 ghost use Rattle.em_tape.specs.Kind.{LeavesDriver, SaysOfDriver};
 ghost use Rattle.em_tape.specs.Tape.{behind, empty_tape, event_at, event_of, line_at, line_here, standing, taken_back};
 ghost use Rattle.em_tape.specs.Tape.{IsNamed, IsNear, IsShort, IsTape};
-ghost use Rattle.em_tape.specs.Moves.{IsCut, IsCutPlace, Leaves, Plays, TakesBack};
+ghost use Rattle.em_tape.specs.Moves.{IsCut, IsCutPlace, IsPartlyCut, Leaves, Plays, TakesBack, TakesFewerBack, TakesNext};
 
 use crate::again::go_along;
-use crate::did::{MOST_BACK, is_noted, note};
-use crate::kind::{goes_back, leaves_driver};
+use crate::did::note;
+use crate::kind::{leaves_driver, takes_back};
 use crate::known::{Known, keep};
 use crate::lines::{back_line, push_line, put_line, text_at};
-use crate::playing::{Left, opening, play, put, replayed};
+use crate::playing::{Left, opening, play, put, replayed, take};
 use crate::text::Text;
 use em_journal::{Machine, Settings, SettingsRefusal};
+use em_line::MOST_BACK;
 use em_named::{
     Did, End, Name, Place, above, end_behind, end_of, name_at, name_of, performed_by, place_of,
 };
 use em_script::{BenchFault, Outcome, Player, Session};
 use em_text::WriteFailed;
+use em_trail::{Note, Traced};
 use std::alloc::Global;
-use std::io::{Write, sink};
+use std::io::Write;
 use std::marker::Model;
 
 /// A line has fewer octets.
@@ -44,7 +48,7 @@ pub struct Tape {
     alloc: Global,
     settings: Settings,
     player: Player,
-    session: Session,
+    session: Session<Traced>,
     lines: Vec<Text>,
     // what each line did with events that was performed so far
     did: Vec<Did>,
@@ -407,9 +411,13 @@ impl Tape {
     ///
     /// Where events of the lines that stay lie ahead, lines `back N` are put behind them, which take these events back: so
     /// the lines still lead to the place. A line that says something of a driver or a plan stays, since steps back leave both
-    /// as they are. It fails as `Memory`: then lines may be dropped or not.
+    /// as they are.
+    ///
+    /// It fails as `Memory`: then nothing is done; or the lines are dropped, all that stay stand whole, and of the events that
+    /// lie ahead only some are taken back, by lines behind the others.
     pub fn cut(&mut self) -> Result<usize, BenchFault>
         ensures ok { IfOk result (IsCut self.old self.new) }
+        ensures err { OnErr result ((self.new ≡ self.old) ⊎ IsPartlyCut self.old self.new) }
         ensures only { IfErr result (λ fault. fault ≡ BenchFault.Memory) }
     {
         // No more events are taken back than were performed.
@@ -487,42 +495,64 @@ impl Tape {
         requires did { length self.old.did ≡ length self.old.lines }
         ensures ok { OnOk result (TakesBack self.old self.new events) }
         ensures none { events ≡ 0 → (self.new ≡ self.old) }
+        ensures err { OnErr result (TakesFewerBack self.old self.new events) }
         ensures only { IfErr result (λ fault. fault ≡ BenchFault.Memory) }
     {
         let mut left = events;
         while left > 0 {
-            let step = left.min(MOST_BACK as u64);
+            let step = left.min(u64::from(MOST_BACK));
             self.take_by_line(step as u32)?;
             left -= step;
         }
         Ok(())
     }
 
-    /// Takes events back by a line behind the last.
+    /// Takes events back by a line behind the last. Where memory is refused, nothing is done.
     fn take_by_line(&mut self, events: u32) -> Result<(), BenchFault>
         requires back { self.old.back ≡ 0 }
         requires whole { self.old.whole ≡ length self.old.lines }
         requires did { length self.old.did ≡ length self.old.lines }
         ensures ok { OnOk result (TakesBack self.old self.new events) }
+        ensures err { OnErr result (self.new ≡ self.old) }
         ensures only { IfErr result (λ fault. fault ≡ BenchFault.Memory) }
     {
-        let whole = self.whole;
         let Ok(line) = back_line(self.alloc, u64::from(events)) else {
             return Err(BenchFault::Memory);
         };
-        if !goes_back(line.as_slice()) {
-            return Err(BenchFault::Memory);
-        }
         let Ok(()) = self.add(line.as_slice()) else {
             return Err(BenchFault::Memory);
         };
-        let Ok(Some(_)) = self.perform_next(&mut sink()) else {
-            return Err(BenchFault::Memory);
-        };
-        if !is_noted(self.did.as_slice(), whole, Did::TookBack(events)) {
+        if !self.take_next(events) {
+            self.drop_ahead();
             return Err(BenchFault::Memory);
         }
         Ok(())
+    }
+
+    /// Takes so many events back by the next line, from a place that is whole. False where memory is refused, where the line
+    /// does not say so, or where the journal does not reach: then nothing is done.
+    fn take_next(&mut self, events: u32) -> bool
+        requires whole { self.old.back ≡ 0 }
+        requires ahead { self.old.whole < length self.old.lines }
+        ensures done { IsTrue result → TakesNext self.old self.new events }
+        ensures none { result ≡ false → self.new ≡ self.old }
+    {
+        let line = self.lines[self.whole].as_slice();
+        if !takes_back(line, events) {
+            return false;
+        }
+        if self.session.machine().can_go_back() < events as usize {
+            return false;
+        }
+        // So that nothing can fail between the steps back and what is noted of them.
+        if self.did.reserve(1).is_err() || self.known.reserve(1).is_err() {
+            return false;
+        }
+        let played = take(&mut self.session, events);
+        note(&mut self.did, self.whole, played.did);
+        keep(&mut self.known, self.whole, played.known);
+        self.whole += 1;
+        true
     }
 
     /// The machine at the place, to look at: it is what the lines left as they were performed, with so many of the
@@ -561,6 +591,16 @@ impl Tape {
             return None;
         }
         name_at(&self.did.as_slice()[..self.whole], (self.back + k) as u64)
+    }
+
+    /// The note of the event so many steps back from the place, of the newest at 0: what kind of event it was, where, and with
+    /// which value. None exactly where the journal does not reach so far back.
+    pub fn note_back(&self, k: usize) -> Option<Note>
+        ensures none { IsNone result ↔ (length self.now.session.machine.past ≤ k) }
+        // it tells of the event that led from the state one step further back to the state there
+        ensures tells { IfSome result (λ note. TellsAt (states self.now.session.machine) k note) }
+    {
+        self.session.acts().note(k)
     }
 
     /// The name of an event by its number, among the lines that were performed so far; none where not so many were

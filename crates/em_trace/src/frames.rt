@@ -1,14 +1,13 @@
-//! The frames of a capture, as they arrive.
+//! The frames of a capture, as they arrive in a script.
 ghost use Rattle.std.specs.Prelude.{◌<◌};
 
-use crate::text::{write_arrival, write_text};
+use crate::arriving::{Arrival, Why};
+use crate::text::write_text;
 use anyhow::{Result, bail};
-use em_pcap::Capture;
+use em_frames::{LEAST_FRAME, is_unpadded, write_arrival};
+use em_pcap::{Capture, Packet};
 use std::alloc::Global;
 use std::io::Write;
-
-/// The shortest frame without its check sequence: a shorter one in a capture was padded on its way.
-const LEAST_FRAME: u32 = 60;
 
 /// The longest frame that can arrive.
 const MOST_FRAME: u32 = 20_000;
@@ -21,22 +20,36 @@ const BSIZE_AT: u32 = 16;
 /// RCTL's bit BSEX, by which buffers are 16 times as large.
 const BSEX: u32 = 0x0200_0000;
 
+/// How many nanoseconds a second has.
+const SECOND: u64 = 1_000_000_000;
+
 /// The frames of a capture that have not arrived yet.
 #[derive(Drop)]
 pub struct Frames<'a> {
-    capture: Option<Capture<'a>>,
+    arrivals: Vec<Arrival<'a>>,
+    /// How many of them have arrived, or are left out.
+    passed: usize,
     /// What RCTL holds.
     rctl: u32,
 }
 
 impl<'a> Frames<'a> {
-    /// The frames of this capture, if there is one.
-    pub fn new(alloc: Global, octets: Option<&'a [u8]>) -> Frames<'a> {
-        let capture = match octets {
-            Some(octets) => Some(Capture::new(alloc, octets)),
-            None => None,
-        };
-        Frames { capture, rctl: 0 }
+    /// No frame.
+    pub fn none(alloc: Global) -> Frames<'a> {
+        Frames {
+            arrivals: Vec::new(alloc),
+            passed: 0,
+            rctl: 0,
+        }
+    }
+
+    /// Those that arrive so.
+    pub fn new(arrivals: Vec<Arrival<'a>>) -> Frames<'a> {
+        Frames {
+            arrivals,
+            passed: 0,
+            rctl: 0,
+        }
     }
 
     /// RCTL was written: receive buffers may have another size.
@@ -44,26 +57,48 @@ impl<'a> Frames<'a> {
         self.rctl = rctl;
     }
 
-    /// Writes the lines of the next frame: it arrives, and the receive engine handles as many descriptors as it takes.
-    /// False where there is none.
-    pub fn write_next<W: Write>(&mut self, out: &mut W) -> Result<bool> {
-        let Some(capture) = &mut self.capture else {
-            return Ok(false);
-        };
-        let packet = match capture.next_packet() {
-            None => return Ok(false),
-            Some(Ok(packet)) => packet,
-            Some(Err(error)) => bail!("the capture: {error}"),
-        };
-        let len = packet.original.max(LEAST_FRAME);
-        if len > MOST_FRAME {
-            bail!("the capture: a frame of {len} octets cannot arrive");
+    /// Leaves out those that arrive before this line, and gives how many they are.
+    pub fn pass_over(&mut self, line: u64) -> u64 {
+        let mut count = 0u64;
+        for passed in self.passed..self.arrivals.len() {
+            if !self.next_line().is_some_and(|next| next < line) {
+                break;
+            }
+            self.passed = passed.saturating_add(1);
+            count = count.saturating_add(1);
         }
-        write_arrival(out, packet.octets, len)?;
+        count
+    }
+
+    /// The line before which the next one arrives, if it is not behind the last line.
+    fn next_line(&self) -> Option<u64> {
+        self.arrivals.get(self.passed)?.line
+    }
+
+    /// Whether one arrives right before this line.
+    pub fn is_due(&self, line: u64) -> bool {
+        self.next_line() == Some(line)
+    }
+
+    /// How many are left.
+    pub fn left(&self) -> u64 {
+        self.arrivals.len().saturating_sub(self.passed) as u64
+    }
+
+    /// Writes the lines of the next frame: it arrives, and the receive engine handles as many descriptors as it takes.
+    /// Gives the frame; none where there is none.
+    pub fn write_next<W: Write>(&mut self, out: &mut W) -> Result<Option<Arrival<'a>>> {
+        let Some(arrival) = self.arrivals.get(self.passed).copied() else {
+            return Ok(None);
+        };
+        self.passed = self.passed.saturating_add(1);
+        let len = len_of(&arrival.packet);
+        write_said(out, &arrival)?;
+        write_line(out, &arrival.packet, len)?;
         for step in 0..len.div_ceil(self.buffer_len()) {
             write_text(out, b"rx\n")?;
         }
-        Ok(true)
+        Ok(Some(arrival))
     }
 
     /// How many octets a receive buffer has.
@@ -81,4 +116,63 @@ impl<'a> Frames<'a> {
             _ => 2_048,
         }
     }
+}
+
+/// The frames of a capture, each of which can arrive.
+pub fn packets_of<'a>(alloc: Global, octets: &'a [u8]) -> Result<Vec<Packet<'a>>> {
+    let mut packets = Vec::new(alloc);
+    for given in Capture::new(alloc, octets) {
+        match given {
+            Ok(packet) => {
+                let len = len_of(&packet);
+                if len > MOST_FRAME {
+                    bail!("the capture: a frame of {len} octets cannot arrive");
+                }
+                packets.push(packet)?;
+            }
+            Err(error) => bail!("the capture: {error}"),
+        }
+    }
+    Ok(packets)
+}
+
+/// How many octets a frame has as it arrives.
+fn len_of(packet: &Packet<'_>) -> u32 {
+    packet.original.max(LEAST_FRAME)
+}
+
+/// Writes the line that brings a frame: its octets, and where they are fewer than those of the frame, its length.
+fn write_line<W: Write>(out: &mut W, packet: &Packet<'_>, len: u32) -> Result<()> {
+    if write_arrival(out, packet).is_err() {
+        bail!("the script cannot be written");
+    }
+    if !is_unpadded(packet) && packet.octets.len() < len as usize {
+        write!(out, " {len}")?;
+    }
+    write_text(out, b"\n")
+}
+
+/// Writes what is known of a frame, and what is guessed, as a comment.
+fn write_said<W: Write>(out: &mut W, arrival: &Arrival<'_>) -> Result<()> {
+    write!(out, "# frame {}", arrival.number)?;
+    if let Some(time) = arrival.packet.time {
+        write!(out, ", captured at {}.{:09}", time / SECOND, time % SECOND)?;
+    }
+    match arrival.why {
+        Why::Time(moment) => write!(out, ": at {moment} by its time")?,
+        Why::Later(moment) => write!(
+            out,
+            ": at {moment} by its time, and guessed to come before the next read of ICR with RXT0"
+        )?,
+        Why::Cause => write!(out, ": guessed, by a read of ICR with RXT0")?,
+        Why::Asked => write!(out, ": where --at says")?,
+        Why::Nothing => write!(out, ": guessed, since no read of ICR tells of it")?,
+    }
+    if !arrival.received {
+        write_text(out, b"; the receiver is disabled here")?;
+    }
+    if is_unpadded(&arrival.packet) {
+        write!(out, "; padded to {LEAST_FRAME} octets")?;
+    }
+    write_text(out, b"\n")
 }

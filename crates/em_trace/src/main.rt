@@ -7,17 +7,25 @@
 //! a comment, and is counted on standard error.
 #![tactic(auto)]
 
+mod arriving;
+mod clock;
 mod counts;
 mod done;
 mod frames;
 mod lines;
 mod missing;
 mod poll;
+mod ranges;
+mod shown;
+mod survey;
 mod text;
 mod translating;
 mod words;
 
+use crate::arriving::{Arrivals, Seen, arrivals_in};
 use crate::done::Done;
+use crate::frames::{Frames, packets_of};
+use crate::survey::Survey;
 use crate::translating::{Wanted, translate};
 use crate::words::{WordsRefused, parse, wanted};
 use anyhow::{Context, Result, bail};
@@ -80,56 +88,100 @@ fn told<R: Print + Eprint>(rt: &R, error: &Error) -> Result<u8> {
     })
 }
 
+/// Opens the log, and turns it into a script.
 fn with_matches<R: Files + Input + Print + Eprint + AllocGlobal>(
     rt: &R,
     matches: &ArgMatches<'_>,
 ) -> Result<u8> {
-    match wanted(matches) {
-        Ok(wanted) => with_capture(rt, &wanted, matches),
-        Err(WordsRefused::Base) => {
-            let _ = eprintln!(rt; "em_trace: --base wants 1 to 16 hexadecimal digits");
-            Ok(REFUSED)
-        }
-    }
-}
-
-/// Reads the capture, if there is one, opens the log, and turns it into a script.
-fn with_capture<R: Files + Input + Print + Eprint + AllocGlobal>(
-    rt: &R,
-    wanted: &Wanted<'_>,
-    matches: &ArgMatches<'_>,
-) -> Result<u8> {
-    let mut octets = Vec::new(rt.alloc());
-    let capture = match matches.get_str("frames") {
-        Some(name) => {
-            let mut file = File::open(rt, name).context("the capture cannot be opened")?;
-            file.read_to_end(&mut octets)
-                .context("the capture cannot be read")?;
-            Some(octets.as_slice())
-        }
-        None => None,
+    let wanted = match wanted(matches) {
+        Ok(wanted) => wanted,
+        Err(refused) => return refused_by(rt, refused),
     };
     let log = matches.get_str("log").unwrap_or("-");
     if log == "-" {
         let reader = BufReader::with_capacity(rt.alloc(), BUFFER, rt.reader())?;
-        with_reader(rt, wanted, capture, reader)
+        with_reader(rt, &wanted, matches, reader)
     } else {
         let file = File::open(rt, log).context("the log cannot be opened")?;
         let reader = BufReader::with_capacity(rt.alloc(), BUFFER, file)?;
-        with_reader(rt, wanted, capture, reader)
+        with_reader(rt, &wanted, matches, reader)
     }
 }
 
-/// Turns the log into a script, says what it does not do, and gives the status.
-fn with_reader<R: Print + Eprint + AllocGlobal, B: BufRead + Drop>(
+/// Says what is wanted of a word that was refused.
+fn refused_by<R: Eprint>(rt: &R, refused: WordsRefused) -> Result<u8> {
+    let _ = eprintln!(rt; "em_trace: {refused}");
+    Ok(REFUSED)
+}
+
+/// Turns the log into a script, with the frames of the capture if there is one.
+fn with_reader<R: Files + Print + Eprint + AllocGlobal, B: BufRead + Drop>(
     rt: &R,
     wanted: &Wanted<'_>,
-    capture: Option<&[u8]>,
+    matches: &ArgMatches<'_>,
     reader: B,
 ) -> Result<u8> {
     let mut lines = reader;
+    if is_gzip(lines.fill_buf().context("the log cannot be read")?) {
+        bail!("the log is compressed: unpack it first");
+    }
+    match matches.get_str("frames") {
+        Some(name) => with_capture(rt, wanted, name, &mut lines),
+        None => {
+            let frames = Frames::none(rt.alloc());
+            written(rt, wanted, frames, None, &mut lines)
+        }
+    }
+}
+
+/// Reads the capture and the whole log, finds where the frames arrive, and turns the log into a script.
+fn with_capture<R: Files + Print + Eprint + AllocGlobal, B: BufRead>(
+    rt: &R,
+    wanted: &Wanted<'_>,
+    name: &str,
+    reader: &mut B,
+) -> Result<u8> {
+    let mut octets = Vec::new(rt.alloc());
+    let mut file = File::open(rt, name).context("the capture cannot be opened")?;
+    file.read_to_end(&mut octets)
+        .context("the capture cannot be read")?;
+    if is_gzip(octets.as_slice()) {
+        bail!("the capture is compressed: unpack it first");
+    }
+    let packets = packets_of(rt.alloc(), octets.as_slice())?;
+    let mut log = Vec::new(rt.alloc());
+    reader
+        .read_to_end(&mut log)
+        .context("the log cannot be read")?;
+    let survey = Survey::new(rt.alloc(), wanted.log(), log.as_slice())?;
+    let address = wanted.address.or(survey.address());
+    let Arrivals { arrivals, seen } = arrivals_in(
+        rt.alloc(),
+        &survey,
+        address,
+        wanted.at,
+        packets.as_slice(),
+    )?;
+    let mut lines = log.as_slice();
+    written(rt, wanted, Frames::new(arrivals), Some(seen), &mut lines)
+}
+
+/// Whether a file that begins so is compressed by gzip.
+fn is_gzip(octets: &[u8]) -> bool {
+    matches!(octets, [0x1F, 0x8B, ..])
+}
+
+/// Writes the script, says what it does not do, and gives the status.
+fn written<R: Print + Eprint + AllocGlobal, B: BufRead>(
+    rt: &R,
+    wanted: &Wanted<'_>,
+    frames: Frames<'_>,
+    seen: Option<Seen>,
+    lines: &mut B,
+) -> Result<u8> {
     let mut out = BufWriter::with_capacity(rt.alloc(), BUFFER, io::writer(rt))?;
-    let done = translate(rt, wanted, capture, &mut lines, &mut out)?;
+    let mut done = translate(rt, wanted, frames, lines, &mut out)?;
+    done.seen = seen;
     out.flush().context("the script cannot be written")?;
     told_of(rt, &done)?;
     Ok(if done.is_well() { WELL } else { UNREAD })

@@ -1,5 +1,6 @@
 //! Reads that are repeated until something happens.
 
+use crate::clock::Moment;
 use em_log::{RegisterAccess, Way};
 use em_regs::{Kind, Reg};
 
@@ -11,6 +12,8 @@ pub struct Poll {
     pub more: u64,
     /// The log's line of the last of them.
     pub last: u64,
+    /// When that was logged.
+    pub moment: Option<Moment>,
 }
 
 impl Poll {
@@ -27,16 +30,18 @@ impl Poll {
             read: access,
             more: 0,
             last: 0,
+            moment: None,
         })
     }
 
     /// Whether the access of this line is one more read of the poll; then it is counted.
-    pub fn takes(&mut self, line: u64, access: RegisterAccess) -> bool {
+    pub fn takes(&mut self, line: u64, moment: Option<Moment>, access: RegisterAccess) -> bool {
         if access != self.read {
             return false;
         }
         self.more = self.more.saturating_add(1);
         self.last = line;
+        self.moment = moment;
         true
     }
 }

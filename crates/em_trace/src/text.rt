@@ -1,8 +1,9 @@
 //! The script's lines.
 
+use crate::clock::Moment;
 use anyhow::{Result, bail};
 use em_log::{RegisterAccess, Way};
-use em_text::{octet_digits, write_octets, write_pieces, write_whole};
+use em_text::{octet_digits, write_pieces, write_whole};
 use std::io::Write;
 
 /// How many digits of 32 bits an offset, which has 5, leaves out.
@@ -25,9 +26,24 @@ pub fn write_text<W: Write>(out: &mut W, text: &[u8]) -> Result<()> {
 }
 
 /// Writes the line of an access of four octets: `w 000D0 0000009D`, `r 000C0 = 00000004`, or `r 000C0` where the value
-/// is not known.
-#[inline]
+/// is not known; and when it was logged as a comment behind it, where that is known: ` # 1.500100`.
 pub fn write_access<W: Write>(
+    out: &mut W,
+    way: Way,
+    offset: u32,
+    value: Option<u32>,
+    moment: Option<Moment>,
+) -> Result<()> {
+    write_access_said(out, way, offset, value)?;
+    if let Some(moment) = moment {
+        write!(out, " # {moment}")?;
+    }
+    write_text(out, b"\n")
+}
+
+/// Writes what an access of four octets says.
+#[inline]
+fn write_access_said<W: Write>(
     out: &mut W,
     way: Way,
     offset: u32,
@@ -39,11 +55,11 @@ pub fn write_access<W: Write>(
         Some(value) => {
             let value = digits_of(value);
             match way {
-                Way::Write => write_parts(out, &[b"w ", offset, b" ", &value, b"\n"]),
-                Way::Read => write_parts(out, &[b"r ", offset, b" = ", &value, b"\n"]),
+                Way::Write => write_parts(out, &[b"w ", offset, b" ", &value]),
+                Way::Read => write_parts(out, &[b"r ", offset, b" = ", &value]),
             }
         }
-        None => write_parts(out, &[b"r ", offset, b"\n"]),
+        None => write_parts(out, &[b"r ", offset]),
     }
 }
 
@@ -66,25 +82,39 @@ fn digits_of(value: u32) -> [u8; VALUE_DIGITS] {
 }
 
 /// Writes an access of a register that the model lacks as a comment, with its line of the log and the register's name:
-/// `# line 17: r 00010 = 00000000 (EECD)`.
+/// `# line 17: r 00010 = 00000000 (EECD), at 1.500100`.
 pub fn write_missing<W: Write>(
     out: &mut W,
     line: u64,
     access: RegisterAccess,
     name: &str,
+    moment: Option<Moment>,
 ) -> Result<()> {
     write_said(out, line, access)?;
-    writeln!(out, " ({name})")?;
-    Ok(())
+    write!(out, " ({name})")?;
+    write_moment(out, moment)
 }
 
 /// Writes an access of another size than four octets as a comment, with its line of the log and its size:
-/// `# line 17: r 00008 = 00000083 (1 octet)`.
-pub fn write_other_size<W: Write>(out: &mut W, line: u64, access: RegisterAccess) -> Result<()> {
+/// `# line 17: r 00008 = 00000083 (1 octet), at 1.500100`.
+pub fn write_other_size<W: Write>(
+    out: &mut W,
+    line: u64,
+    access: RegisterAccess,
+    moment: Option<Moment>,
+) -> Result<()> {
     write_said(out, line, access)?;
     let octets = access.width.octets();
-    writeln!(out, " ({octets} {})", plural(octets, "octet", "octets"))?;
-    Ok(())
+    write!(out, " ({octets} {})", plural(octets, "octet", "octets"))?;
+    write_moment(out, moment)
+}
+
+/// Writes the end of a comment: when what it tells was logged, where that is known.
+fn write_moment<W: Write>(out: &mut W, moment: Option<Moment>) -> Result<()> {
+    if let Some(moment) = moment {
+        write!(out, ", at {moment}")?;
+    }
+    write_text(out, b"\n")
 }
 
 /// Writes the begin of a comment: the line of the log, and what it says.
@@ -101,14 +131,19 @@ fn write_said<W: Write>(out: &mut W, line: u64, access: RegisterAccess) -> Resul
 }
 
 /// Writes how many more reads gave what the line before says, and the log's line of the last of them:
-/// `# 31 more reads gave the same, the last in line 160`.
-pub fn write_poll<W: Write>(out: &mut W, more: u64, last: u64) -> Result<()> {
+/// `# 31 more reads gave the same, the last in line 160, at 1.500100`.
+pub fn write_poll<W: Write>(
+    out: &mut W,
+    more: u64,
+    last: u64,
+    moment: Option<Moment>,
+) -> Result<()> {
     let reads = plural(more, "read", "reads");
-    writeln!(
+    write!(
         out,
         "# {more} more {reads} gave the same, the last in line {last}"
     )?;
-    Ok(())
+    write_moment(out, moment)
 }
 
 /// Writes a line of the log as a comment.
@@ -117,14 +152,23 @@ pub fn write_kept<W: Write>(out: &mut W, line: u64, text: &[u8]) -> Result<()> {
     write_parts(out, &[text, b"\n"])
 }
 
-/// Writes the line of a frame that arrives: its octets, and where they are fewer than those of the frame, its length.
-pub fn write_arrival<W: Write>(out: &mut W, octets: &[u8], len: u32) -> Result<()> {
-    write_text(out, b"arrive ")?;
-    if write_octets(out, octets).is_err() {
-        bail!("the script cannot be written");
-    }
-    if octets.len() < len as usize {
-        write!(out, " {len}")?;
+/// How many octets of a line are told.
+const MOST_TOLD: usize = 100;
+
+/// Writes that a line looks like an access, and what it says: `line 3 looks like an access, and has none of the forms
+/// that are read: read at 0x8 = 0x5`. What is no printed ASCII is a dot.
+pub fn write_unlike<W: Write>(out: &mut W, line: u64, text: &[u8]) -> Result<()> {
+    write!(
+        out,
+        "line {line} looks like an access, and has none of the forms that are read: "
+    )?;
+    for octet in text.iter().take(MOST_TOLD) {
+        let shown = if (b' '..=b'~').contains(octet) {
+            *octet
+        } else {
+            b'.'
+        };
+        write_text(out, &[shown])?;
     }
     write_text(out, b"\n")
 }

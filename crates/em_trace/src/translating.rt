@@ -1,20 +1,21 @@
 //! A log becomes a script, line by line.
 
+use crate::clock::{Moment, moment_of};
 use crate::done::Done;
 use crate::frames::Frames;
 use crate::lines::read_line;
 use crate::missing::missing_name;
 use crate::poll::Poll;
+use crate::ranges::Lines;
+use crate::shown::{Address, value_of};
 use crate::text::{
-    write_access, write_kept, write_missing, write_other_size, write_poll, write_text,
+    write_access, write_kept, write_missing, write_other_size, write_poll, write_text, write_unlike,
 };
 use anyhow::{Context, Result};
-use em_log::{Entry, Form, Log, RegisterAccess, Way, Width};
+use em_log::{Entry, Form, Log, RegisterAccess, Way, Width, looks_like_access};
 use em_regs::Reg;
+use std::alloc::{AllocError, Global};
 use std::io::{BufRead, Write};
-
-/// ICR's bit RXT0: a frame has arrived.
-const RXT0: u32 = 0x0000_0080;
 
 /// What a link that is up from the start leaves: it is up, and no cause is raised by it.
 const LINK_UP: &[u8] = b"link up\nw 000C0 00000004\n";
@@ -35,6 +36,10 @@ pub struct Wanted<'a> {
     pub region: &'a str,
     /// Where the first register lies; without it the log says so.
     pub base: Option<u64>,
+    /// The lines that are translated.
+    pub lines: Lines,
+    /// The adapter's address; without it the log says so.
+    pub address: Option<Address>,
     /// The line before which all frames arrive.
     pub at: Option<u64>,
     pub link: Link,
@@ -42,6 +47,21 @@ pub struct Wanted<'a> {
     pub skips_others: bool,
     /// Whether each read of a poll becomes a line.
     pub keeps_polls: bool,
+}
+
+impl<'a> Wanted<'a> {
+    /// A log as it is asked for, of which nothing is read yet.
+    pub fn log(&self) -> Log<'a> {
+        Log::new(self.form, self.region.as_bytes(), self.base)
+    }
+}
+
+/// A line of a log that is an access.
+#[derive(Clone, Copy, Debug)]
+struct Logged {
+    number: u64,
+    moment: Option<Moment>,
+    access: RegisterAccess,
 }
 
 /// A script that is being written.
@@ -53,8 +73,6 @@ struct Script<'a> {
     lines: Vec<u8>,
     /// How the script begins, if it has not begun.
     begins: Option<Link>,
-    /// Whether frames arrive where reads of ICR tell of them.
-    by_icr: bool,
     skips_others: bool,
     keeps_polls: bool,
     /// The read that was written last, if more such reads would be a poll.
@@ -65,53 +83,92 @@ struct Script<'a> {
 pub fn translate<E: Eprint + AllocGlobal, R: BufRead, W: Write>(
     rt: &E,
     wanted: &Wanted<'_>,
-    capture: Option<&[u8]>,
+    frames: Frames<'_>,
     reader: &mut R,
     out: &mut W,
 ) -> Result<Done> {
-    let mut log = Log::new(wanted.form, wanted.region.as_bytes(), wanted.base);
-    let mut script = Script {
-        frames: Frames::new(rt.alloc(), capture),
-        done: Done::new(rt.alloc())?,
-        lines: Vec::new(rt.alloc()),
-        begins: Some(wanted.link),
-        by_icr: wanted.at.is_none(),
-        skips_others: wanted.skips_others,
-        keeps_polls: wanted.keeps_polls,
-        poll: None,
-    };
+    let mut log = wanted.log();
+    let mut script = Script::new(rt.alloc(), wanted, frames)?;
+    script.done.other_frames = script.frames.pass_over(wanted.lines.from);
     let mut line = Vec::new(rt.alloc());
     for number in 1..u64::MAX {
         if !read_line(reader, &mut line).context("the log cannot be read")? {
             break;
         }
-        if wanted.at == Some(number) {
-            script.write_frames(out)?;
-        }
         let text = line.as_slice();
         let entry = log.read(text);
-        if entry == Entry::Fault {
-            let _ = eprintln!(rt; "line {number} cannot be read");
+        if !script.done.passes(number) {
+            continue;
         }
-        script.take(number, text, entry)?;
+        script.arrive(number, out)?;
+        match entry {
+            Entry::Fault => {
+                let _ = eprintln!(rt; "line {number} cannot be read");
+            }
+            Entry::Nothing if looks_like_access(text) => script.tell_unlike(rt, number, text)?,
+            _ => {}
+        }
+        let moment = moment_of(log.form(), text);
+        script.take(number, moment, text, entry)?;
         script.pass(out)?;
     }
-    if script.done.accesses > 0 {
-        script.done.late_frames = script.write_frames(out)?;
-    }
-    script.end_poll()?;
-    script.pass(out)?;
+    script.end(out)?;
     Ok(script.done)
 }
 
-impl Script<'_> {
+impl<'a> Script<'a> {
+    /// Nothing is written yet.
+    fn new(
+        alloc: Global,
+        wanted: &Wanted<'_>,
+        frames: Frames<'a>,
+    ) -> Result<Script<'a>, AllocError> {
+        Ok(Script {
+            frames,
+            done: Done::new(alloc, wanted.lines)?,
+            lines: Vec::new(alloc),
+            begins: Some(wanted.link),
+            skips_others: wanted.skips_others,
+            keeps_polls: wanted.keeps_polls,
+            poll: None,
+        })
+    }
+
+    /// Counts a line that looks like an access and has no form, and tells the first of them.
+    fn tell_unlike<E: Eprint + AllocGlobal>(
+        &mut self,
+        rt: &E,
+        number: u64,
+        text: &[u8],
+    ) -> Result<()> {
+        if self.done.unlike == 0 {
+            let mut told = Vec::new(rt.alloc());
+            write_unlike(&mut told, number, text)?;
+            if let Ok(told) = str::from_utf8(told.as_slice()) {
+                let _ = eprint!(rt; "{told}");
+            }
+        }
+        self.done.unlike = self.done.unlike.saturating_add(1);
+        Ok(())
+    }
+
     /// Counts a line of the log, and gives it its lines of the script.
-    fn take(&mut self, number: u64, text: &[u8], entry: Entry) -> Result<()> {
+    fn take(
+        &mut self,
+        number: u64,
+        moment: Option<Moment>,
+        text: &[u8],
+        entry: Entry,
+    ) -> Result<()> {
         let done = &mut self.done;
         match entry {
             Entry::Access(access) => {
                 done.accesses = done.accesses.saturating_add(1);
-                self.take_access(number, access)
+                self.take_access(Logged {
+                    number,
+                    moment,
+                    access,
+                })
             }
             Entry::Elsewhere => {
                 done.elsewhere = done.elsewhere.saturating_add(1);
@@ -134,23 +191,20 @@ impl Script<'_> {
     }
 
     /// The line of an access, or nothing where a line before it stands for it.
-    fn take_access(&mut self, number: u64, access: RegisterAccess) -> Result<()> {
+    fn take_access(&mut self, logged: Logged) -> Result<()> {
         self.begin()?;
-        self.count_access(access);
+        self.count_access(logged.access);
         if let Some(poll) = &mut self.poll {
-            if poll.takes(number, access) {
+            if poll.takes(logged.number, logged.moment, logged.access) {
                 self.done.polls = self.done.polls.saturating_add(1);
                 return Ok(());
             }
         }
         self.end_poll()?;
-        if self.by_icr && has_frame(access) {
-            self.frames.write_next(&mut self.lines)?;
-        }
         if !self.keeps_polls {
-            self.poll = Poll::begun_by(access);
+            self.poll = Poll::begun_by(logged.access);
         }
-        self.write_line(number, access)
+        self.write_line(logged)
     }
 
     /// Counts an access that the model can't have.
@@ -163,44 +217,67 @@ impl Script<'_> {
     }
 
     /// Writes the line of an access, or a comment where the model can't have it.
-    fn write_line(&mut self, number: u64, access: RegisterAccess) -> Result<()> {
+    fn write_line(&mut self, logged: Logged) -> Result<()> {
+        let Logged {
+            number,
+            moment,
+            access,
+        } = logged;
         if access.width != Width::Four {
-            return write_other_size(&mut self.lines, number, access);
+            return write_other_size(&mut self.lines, number, access, moment);
         }
         let Some(reg) = Reg::of_offset(access.offset) else {
             let name = missing_name(access.offset).unwrap_or("no register");
-            return write_missing(&mut self.lines, number, access, name);
+            return write_missing(&mut self.lines, number, access, name, moment);
         };
-        let value = match access.value {
-            Some(value) => u32::try_from(value).ok(),
-            None => None,
-        };
+        let value = value_of(access);
         if let (Reg::Rctl, Way::Write, Some(rctl)) = (reg, access.way, value) {
             self.frames.set_rctl(rctl);
         }
-        write_access(&mut self.lines, access.way, access.offset, value)
+        write_access(&mut self.lines, access.way, access.offset, value, moment)
     }
 
     /// Says how many reads the line that was written last stands for, if it is more than its own.
     fn end_poll(&mut self) -> Result<()> {
         match self.poll.take() {
-            Some(poll) if poll.more > 0 => write_poll(&mut self.lines, poll.more, poll.last),
+            Some(poll) if poll.more > 0 => {
+                write_poll(&mut self.lines, poll.more, poll.last, poll.moment)
+            }
             _ => Ok(()),
         }
     }
 
-    /// Writes the lines of all frames that are left, and gives how many they were.
-    fn write_frames<W: Write>(&mut self, out: &mut W) -> Result<u64> {
-        self.begin()?;
-        self.end_poll()?;
-        for count in 0..u64::MAX {
-            let was_there = self.frames.write_next(&mut self.lines)?;
-            self.pass(out)?;
-            if !was_there {
-                return Ok(count);
+    /// Writes the lines of the frames that arrive before this line.
+    fn arrive<W: Write>(&mut self, number: u64, out: &mut W) -> Result<()> {
+        for count in 0..self.frames.left() {
+            if !self.frames.is_due(number) {
+                break;
+            }
+            self.write_frame(out)?;
+        }
+        Ok(())
+    }
+
+    /// Writes what is left behind the log's last line.
+    fn end<W: Write>(&mut self, out: &mut W) -> Result<()> {
+        if self.done.accesses > 0 && self.done.behind == 0 {
+            for count in 0..self.frames.left() {
+                self.write_frame(out)?;
             }
         }
-        Ok(u64::MAX)
+        self.done.other_frames = self.done.other_frames.saturating_add(self.frames.left());
+        self.end_poll()?;
+        self.pass(out)
+    }
+
+    /// Writes the lines of the next frame, and counts it.
+    fn write_frame<W: Write>(&mut self, out: &mut W) -> Result<()> {
+        self.begin()?;
+        self.end_poll()?;
+        if let Some(arrival) = self.frames.write_next(&mut self.lines)? {
+            self.done.count(&arrival);
+        }
+        self.pass(out)
     }
 
     /// How the script begins, if it has not begun.
@@ -219,14 +296,4 @@ impl Script<'_> {
         self.lines.clear();
         Ok(())
     }
-}
-
-/// Whether this is a read of ICR that tells of a frame.
-fn has_frame(access: RegisterAccess) -> bool {
-    access.way == Way::Read
-        && access.offset == Reg::Icr.offset()
-        && access.width == Width::Four
-        && access
-            .value
-            .is_some_and(|value| value & u64::from(RXT0) != 0)
 }

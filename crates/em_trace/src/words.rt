@@ -1,10 +1,13 @@
 //! The words of the command line.
 
+use crate::ranges::Lines;
+use crate::shown::Address;
 use crate::translating::{Link, Wanted};
 use clap::{Arg, ArgAction, ArgMatches, Command, Error, value_parser};
 use em_log::Form;
 use em_text::Words;
 use std::alloc::{AllocError, Global};
+use std::fmt;
 
 /// The version that `--version` prints.
 const VERSION: &str = "0.1.0";
@@ -29,6 +32,26 @@ bad, 3 where the run stopped.";
 pub enum WordsRefused {
     /// What stands behind `--base` is no address.
     Base,
+    /// What stands behind `--mac` is no address.
+    Mac,
+    /// `--from` and `--to` name no lines.
+    Lines,
+    /// `--at` names a line that is not translated.
+    At,
+}
+
+impl fmt::Display for WordsRefused {
+    fn fmt<W: fmt::Write>(&self, f: &mut fmt::Formatter<W>) -> fmt::Result {
+        f.write_str(match self {
+            WordsRefused::Base => "--base wants 1 to 16 hexadecimal digits",
+            WordsRefused::Mac =>
+                "--mac wants 6 octets of two hexadecimal digits, with colons between them or without",
+            WordsRefused::Lines =>
+                "--from and --to want lines of the log, from 1 on, and --to none before --from; \
+                 --form says what the log looks like",
+            WordsRefused::At => "--at wants a line from --from to --to",
+        })
+    }
 }
 
 /// The parser's matches.
@@ -39,19 +62,52 @@ pub fn parse<'a>(alloc: Global, words: &'a [String]) -> Result<ArgMatches<'a>, E
 
 /// The command with its options, in the order of the help.
 fn command<'a>(alloc: Global) -> Result<Command<'a>, AllocError> {
-    let from = "What the log looks like; without it, its first access says so";
-    let from = option(alloc, "from", "FORM", from).value_parser([
+    let command = Command::new(alloc, "em_trace")
+        .version(VERSION)
+        .about(ABOUT)
+        .after_help(LOGS);
+    let command = with_frames(alloc, with_log(alloc, command)?)?;
+    with_script(alloc, command)
+}
+
+/// Adds what is read of the log.
+fn with_log<'a>(alloc: Global, command: Command<'a>) -> Result<Command<'a>, AllocError> {
+    let form = "What the log looks like; without it, its first access says so";
+    let form = option(alloc, "form", "FORM", form).value_parser([
         "qemu",
         "mmiotrace",
         "plain",
     ].as_slice());
+    let from =
+        "The first line of the log that is translated; those before it only say where the registers lie";
+    let to = "The last line of the log that is translated";
     let region = "What QEMU calls the adapter's registers";
     let region = option(alloc, "region", "NAME", region).default_value("e1000-mmio");
     let base = "The address of the first register, hexadecimal; without it, the log says so";
-    let frames = "A capture, pcap or pcapng, of the frames that arrived";
-    let at =
-        "The line of the log before which they all arrive; without it, each arrives before a read of ICR that has RXT0";
+    command
+        .arg(form)?
+        .arg(option(alloc, "from", "LINE", from))?
+        .arg(option(alloc, "to", "LINE", to))?
+        .arg(region)?
+        .arg(option(alloc, "base", "ADDR", base))
+}
+
+/// Adds where frames come from.
+fn with_frames<'a>(alloc: Global, command: Command<'a>) -> Result<Command<'a>, AllocError> {
+    let frames =
+        "A capture, pcap or pcapng: its frames arrive by its times and the log's, but for the adapter's own";
+    let mac =
+        "The adapter's address, by which its own frames are known; without it, the log says so";
+    let at = "The line of the log before which all frames arrive";
     let at = option(alloc, "at", "LINE", at).value_parser(value_parser!(u64));
+    command
+        .arg(option(alloc, "frames", "PCAP", frames))?
+        .arg(option(alloc, "mac", "MAC", mac))?
+        .arg(at)
+}
+
+/// Adds what is written, and the log.
+fn with_script<'a>(alloc: Global, command: Command<'a>) -> Result<Command<'a>, AllocError> {
     let link = "Whether the link is up where the log begins";
     let link = option(alloc, "link", "WAY", link)
         .value_parser(["up", "down"].as_slice())
@@ -72,19 +128,7 @@ fn command<'a>(alloc: Global) -> Result<Command<'a>, AllocError> {
         .value_name("LOG")
         .required(true)
         .help("The log, or - for standard input");
-    Command::new(alloc, "em_trace")
-        .version(VERSION)
-        .about(ABOUT)
-        .after_help(LOGS)
-        .arg(from)?
-        .arg(region)?
-        .arg(option(alloc, "base", "ADDR", base))?
-        .arg(option(alloc, "frames", "PCAP", frames))?
-        .arg(at)?
-        .arg(link)?
-        .arg(skip)?
-        .arg(keep)?
-        .arg(log)
+    command.arg(link)?.arg(skip)?.arg(keep)?.arg(log)
 }
 
 /// `--name VALUE`
@@ -102,11 +146,22 @@ pub fn wanted<'a>(matches: &ArgMatches<'a>) -> Result<Wanted<'a>, WordsRefused> 
         Some(text) => Some(address_of(text)?),
         None => None,
     };
+    let address = match matches.get_str("mac") {
+        Some(text) => Some(mac_of(text)?),
+        None => None,
+    };
+    let lines = lines_of(matches.get_str("from"), matches.get_str("to"))?;
+    let at = matches.get_one::<u64>("at");
+    if at.is_some_and(|line| !lines.has(line)) {
+        return Err(WordsRefused::At);
+    }
     Ok(Wanted {
-        form: form_of(matches.get_str("from").unwrap_or("")),
+        form: form_of(matches.get_str("form").unwrap_or("")),
         region: matches.get_str("region").unwrap_or(""),
         base,
-        at: matches.get_one::<u64>("at"),
+        lines,
+        address,
+        at,
         link: match matches.get_str("link") {
             Some("down") => Link::Down,
             _ => Link::Up,
@@ -135,5 +190,63 @@ fn address_of(text: &str) -> Result<u64, WordsRefused> {
     match words.hex_address() {
         Some(address) if words.is_over() => Ok(address),
         _ => Err(WordsRefused::Base),
+    }
+}
+
+/// The lines from one to another, as `--from` and `--to` say.
+fn lines_of(from: Option<&str>, to: Option<&str>) -> Result<Lines, WordsRefused> {
+    let from = match from {
+        Some(text) => line_of(text)?,
+        None => Lines::ALL.from,
+    };
+    let to = match to {
+        Some(text) => line_of(text)?,
+        None => Lines::ALL.to,
+    };
+    Lines::between(from, to).ok_or(WordsRefused::Lines)
+}
+
+fn line_of(text: &str) -> Result<u64, WordsRefused> {
+    text.parse::<u64>().map_err(|_| WordsRefused::Lines)
+}
+
+/// The address that 12 hexadecimal digits write, with a colon between each two of them or without.
+fn mac_of(text: &str) -> Result<Address, WordsRefused> {
+    match text.as_bytes() {
+        [
+            a,
+            b,
+            b':',
+            c,
+            d,
+            b':',
+            e,
+            f,
+            b':',
+            g,
+            h,
+            b':',
+            i,
+            j,
+            b':',
+            k,
+            l,
+        ] => { address_by([*a, *b, *c, *d, *e, *f, *g, *h, *i, *j, *k, *l]) }
+        [a, b, c, d, e, f, g, h, i, j, k, l] => {
+            address_by([*a, *b, *c, *d, *e, *f, *g, *h, *i, *j, *k, *l])
+        }
+        _ => Err(WordsRefused::Mac),
+    }
+}
+
+/// The address that these digits write.
+fn address_by(digits: [u8; 12]) -> Result<Address, WordsRefused> {
+    let mut words = Words(digits.as_slice());
+    match words.hex_address() {
+        Some(address) if words.is_over() => {
+            let [_, _, a, b, c, d, e, f] = address.to_be_bytes();
+            Ok([a, b, c, d, e, f])
+        }
+        _ => Err(WordsRefused::Mac),
     }
 }

@@ -1,6 +1,7 @@
 //! A machine that knows what each event of its journal was, and who asked for it.
 #![tactic(auto)]
 
+mod acts;
 mod note;
 mod traced;
 

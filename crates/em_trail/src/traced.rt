@@ -1,13 +1,16 @@
 //! A machine with its trail.
-ghost use Rattle.std.specs.Prelude.{◌≡◌, ◌==◌, ◌<◌, ◌∷◌, [], length, take, slice_get, IfOk, IfErr, IfSome, OnOk, OnErr};
-ghost use Rattle.em_step.specs.Event.{plain};
+ghost use Rattle.std.specs.Prelude.{◌≡◌, ◌==◌, ◌<◌, ◌≤◌, ◌↔◌, ◌∷◌, [], length, min, take, slice_get};
+ghost use Rattle.std.specs.Prelude.{IfOk, IfErr, IfSome, IsNone, OnOk, OnErr};
+ghost use Rattle.em_regs.specs.Table.{IsReg, offset_of};
+ghost use Rattle.em_step.specs.Event.{plain, reads, writes};
 ghost use Rattle.em_step.specs.Step.{Refuses};
-ghost use Rattle.em_journal.specs.View.{states};
+ghost use Rattle.em_journal.specs.View.{after_backs, states};
 ghost use Rattle.em_trail.specs.Trail.{Noted, TakesBack, TellsAt, starting};
 
 use crate::note::{Note, note_of};
 use circular_buffer::HeapCircularBuffer;
 use em_journal::{Empty, Machine};
+use em_regs::Reg;
 use em_step::{Answer, Event, Refusal};
 use std::alloc::Global;
 use std::marker::Model;
@@ -62,6 +65,7 @@ impl Traced {
         ensures ok { IfOk result (λ answer. Noted self.old self.new tag (plain event.entry) answer) }
         // a performed event can always be taken back
         ensures kept { OnOk result (0 < length self.new.notes) }
+        ensures past { OnOk result (0 < length self.new.view.past) }
         ensures err { IfErr result (λ refusal. Refuses self.old.view.present (plain event.entry) refusal) }
         ensures same { OnErr result (self.new ≡ self.old) }
     {
@@ -72,11 +76,54 @@ impl Traced {
         Ok(answer)
     }
 
+    /// Software reads a register: the event of a read at its offset.
+    #[inline(always)]
+    pub fn read_register(&mut self, tag: u64, reg: Reg) -> u32
+        requires { IsReg reg }
+        ensures noted { Noted self.old self.new tag (reads (offset_of reg)) (Answer.Value result) }
+        ensures past { 0 < length self.new.view.past }
+    {
+        let value = self.machine.read_register(reg);
+        prove!(self.machine.can_go_back() <= self.notes.capacity());
+        self.notes.push_front(note_of(Event::Read(reg.offset()), Answer::Value(value), tag));
+        value
+    }
+
+    /// Software writes a register: the event of a write at its offset. Refused only as Memory, where it is a reset.
+    #[inline(always)]
+    pub fn write_register(&mut self, tag: u64, reg: Reg, value: u32) -> Result<(), Refusal>
+        requires { IsReg reg }
+        ensures ok { OnOk result (Noted self.old self.new tag (writes (offset_of reg) value) Answer.Done) }
+        ensures past { OnOk result (0 < length self.new.view.past) }
+        ensures err { IfErr result (λ refusal. Refuses self.old.view.present (writes (offset_of reg) value) refusal) }
+        ensures same { OnErr result (self.new ≡ self.old) }
+    {
+        self.machine.write_register(reg, value)?;
+        prove!(self.machine.can_go_back() <= self.notes.capacity());
+        self.notes.push_front(note_of(Event::Write(reg.offset(), value), Answer::Done, tag));
+        Ok(())
+    }
+
+    /// Takes the newest events back, at most so many, and gives how many.
+    pub fn back_by(&mut self, most: usize) -> usize
+        ensures count { result ≡ min most (length self.old.view.past) }
+        ensures view { self.new.view ≡ after_backs most self.old.view }
+    {
+        for done in 0..most {
+            match self.back() {
+                Ok(_) => {}
+                Err(Empty) => return done,
+            }
+        }
+        most
+    }
+
     /// Takes the newest event back, and gives its note. Refused exactly where there is none.
     #[inline(always)]
     pub fn back(&mut self) -> Result<Note, Empty>
         ensures ok { IfOk result (TakesBack self.old self.new) }
         ensures empty { OnErr result (self.old.notes ≡ []) }
+        ensures past { OnErr result (self.old.view.past ≡ []) }
         ensures same { OnErr result (self.new ≡ self.old) }
     {
         match self.machine.back() {
@@ -99,6 +146,7 @@ impl Traced {
     /// The note of an event that can be taken back, that of the newest at 0; none where there are not so many.
     pub fn note(&self, k: usize) -> Option<Note>
         ensures value { result ≡ slice_get self.now.notes k }
+        ensures none { IsNone result ↔ (length self.now.view.past ≤ k) }
         // it tells of the event that led from the state behind to the state k steps back
         ensures tells { IfSome result (λ note. TellsAt (states self.now.view) k note) }
     {

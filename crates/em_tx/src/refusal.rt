@@ -1,11 +1,13 @@
 //! Why a step was refused.
 ghost use Rattle.std.specs.Prelude.{◌≡◌};
-ghost use Rattle.em_tx.specs.Refusal.{code_of};
+ghost use Rattle.em_tx.specs.Refusal.{code_of, name_of};
 
 use std::alloc::AllocError;
+use thiserror::Error;
 
 /// Why a step of the transmit engine was refused. It then changed nothing that is shown.
-#[derive(Clone, Copy, PartialEq, Eq, Debug)]
+#[derive(Clone, Copy, PartialEq, Eq, Debug, Error)]
+#[error("{}", self.name())]
 pub enum TxRefusal {
     /// The descriptor or its buffer leaves guest memory.
     DmaRange = 4,
@@ -23,6 +25,18 @@ impl TxRefusal {
         ensures { result ≡ code_of self }
     {
         self as u32
+    }
+
+    /// The refusal's name, as it is printed.
+    pub fn name(self) -> &'static str
+        ensures { result.now ≡ name_of self }
+    {
+        match self {
+            TxRefusal::DmaRange => "DmaRange",
+            TxRefusal::Extended => "Extended",
+            TxRefusal::TooLong => "TooLong",
+            TxRefusal::Memory => "Memory",
+        }
     }
 }
 

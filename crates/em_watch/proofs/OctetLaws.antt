@@ -137,6 +137,15 @@ module _ (v : View) (back : ℕ) (range : MemoryRange) (before after : List ℕ)
       subst (LeavesOctet v back) place
       (left_there (a - range.addr) (omega (arith, held, below)) (same (a - range.addr) (omega (arith, below, from))))
 
+  -- so were those at its end
+  pub back_left : (n : ℕ) → ((j : ℕ) → n ≤ j → j < range.len → get_or before j 0 ≡ get_or after j 0)
+      → LeavesOctets v back (range.addr + n) (range.addr + range.len)
+  back_left n same a from below =
+      let place : range.addr + (a - range.addr) ≡ a = omega (arith, from) in
+      subst (LeavesOctet v back) place
+      (left_there (a - range.addr) (omega (arith, below, from))
+      (same (a - range.addr) (omega (arith, from)) (omega (arith, below, from))))
+
   -- where the first octet and the last one were changed, so were the octets
   pub is_change : 0 < range.len → ChangesOctet v back range.addr
       → ChangesOctet v back (range.addr + range.len - 1)

@@ -138,6 +138,8 @@ fn changed_in(machine: &Machine, back: usize, window: MemoryRange) -> Option<Mem
     ensures from { IfSome result (λ change. window.addr ≤ change.range.addr) }
     ensures to { IfSome result (λ change. change.range.addr + change.range.len ≤ window.addr + window.len) }
     ensures first { IfSome result (λ change. LeavesOctets machine.now back window.addr change.range.addr) }
+    ensures rest { IfSome result (λ change.
+        LeavesOctets machine.now back (change.range.addr + change.range.len) (window.addr + window.len)) }
     ensures none { IfNone result (LeavesOctets machine.now back window.addr (window.addr + window.len)) }
 {
     let (before, after) = octets_around(machine, back, window);
@@ -197,6 +199,7 @@ fn last_other(
     ensures from { known ≤ result }
     ensures within { result < len }
     ensures other { slice_index before.now result ≢ slice_index after.now result }
+    ensures rest { (j : ℕ) → result < j → j < len → slice_index before.now j ≡ slice_index after.now j }
 {
     let mut last = known;
     for i in known..len {

@@ -20,7 +20,7 @@ use Rattle.em_driver.specs.DeviceOff.{IsOff, Rests}
 use Rattle.em_turn.specs.Turn.{event_of, stored_by}
 use Rattle.em_turn.specs.declared.turn.Turn.{Turn}
 use Rattle.em_turn.specs.declared.turn.Turn.TheVariants.{Arrive, RxStep, TxStep}
-use Rattle.em_driver.proofs.order.DrivenWorld.{ok_is}
+use Rattle.em_driver.proofs.order.Accessed.{ok_is}
 
 -- ---- transmitting is not enabled
 

@@ -1,8 +1,9 @@
 -- Registers that hold what was written to them, and what they then say of a ring.
-use Rattle.std.proofs.Common.{◌≡◌, ◌∙◌, ℕ, ◌*◌, ◌/◌, ◌%◌, ◌<◌, ◌≤◌, List, [], ◌∷◌}
-use Rattle.std.proofs.Common.{arith, refl, Bool, true, false, ◌==◌, if◌then◌else◌}
-use Rattle.std.proofs.lemmas.Bool.{eqb-false}
-use Rattle.std.specs.Prelude.{bit_and}
+use Rattle.std.proofs.Common.{◌≡◌, ◌∙◌, ◌⊎◌, ℕ, ◌*◌, ◌/◌, ◌%◌, ◌<◌, ◌≤◌, List, [], ◌∷◌}
+use Rattle.std.proofs.Common.{arith, refl, sym, subst, inl, inr, Bool, true, false, ◌==◌, if◌then◌else◌}
+use Rattle.std.proofs.lemmas.Bool.{eqb-false, leb-true}
+use Rattle.std.specs.FinMap as map
+use Rattle.std.specs.Prelude.{bit_and, nat_le}
 use Rattle.std.proofs.lemmas.Nat.{and_mask}
 use Rattle.std.proofs.lemmas.Nat.Bits.{and_high_mask}
 use Rattle.std.proofs.Math.Nat.{mod-eq_of_lt}
@@ -11,7 +12,9 @@ use Rattle.em_regs.specs.RegFile as registers
 use Rattle.em_regs.specs.Setup.{value_of, pair}
 use Rattle.em_regs.specs.Storage.{Registers}
 use Rattle.em_regs.specs.Table.{offset_of}
+use Rattle.em_regs.proofs.Entries.{at-insert_other}
 use Rattle.em_step.proofs.SetupLaws.{put_other}
+use Rattle.em_driver.specs.Others.{IsNoDriverRegister}
 
 -- registers with numbers
 abbrev pub Entries : Type 0
@@ -40,6 +43,40 @@ hold_other m reg v (entry ∷ entries) others h =
       put_other m reg entry.0 v (eqb-false (offset_of entry.0) (offset_of reg) two.0) ∙ h.0,
       hold_other m reg v entries two.1 h.1,
     )
+
+-- each of them lies from one offset to another
+abbrev pub lie_in : ℕ → ℕ → Entries → Bool
+lie_in low high [] = true
+lie_in low high (entry ∷ entries) =
+    if nat_le low (offset_of entry.0) then (if nat_le (offset_of entry.0) high then lie_in low high entries else false)
+    else false
+
+first_lies : (a b c : Bool) → (if a then (if b then c else false) else false) ≡ true
+    → (a ≡ true) × (b ≡ true) × (c ≡ true)
+first_lies true true c h = (refl, refl, h)
+first_lies true false c h = cc
+first_lies false b c h = cc
+
+-- a word that lies elsewhere
+hold_insert : (m : Registers) (o v low high : ℕ) (entries : Entries) → lie_in low high entries ≡ true
+    → (low ≤ o → high < o) → Hold m entries → Hold (map.insert m o v) entries
+hold_insert m o v low high [] lie out h = tt
+hold_insert m o v low high (entry ∷ entries) lie out h =
+    let at : ℕ = offset_of entry.0 in
+    let three = first_lies (nat_le low at) (nat_le at high) (lie_in low high entries) lie in
+    let least = leb-true low at three.0 in
+    let most = leb-true at high three.1 in (
+      at-insert_other m o v at (λ e. omega (arith, e, out, least, most)) ∙ h.0,
+      hold_insert m o v low high entries three.2 out h.1,
+    )
+
+-- what an event of others leaves of a driver's registers
+pub hold_elsewhere : (m n : Registers) (low high : ℕ) (entries : Entries) → lie_in low high entries ≡ true
+    → ((o : ℕ) → IsNoDriverRegister o → low ≤ o → high < o)
+    → (n ≡ m) ⊎ ((o : ℕ) × (v : ℕ) × IsNoDriverRegister o × (n ≡ map.insert m o v)) → Hold m entries → Hold n entries
+hold_elsewhere m n low high entries lie apart (inl same) h = subst (λ x. Hold x entries) (sym same) h
+hold_elsewhere m n low high entries lie apart (inr (o, v, out, is)) h =
+    subst (λ x. Hold x entries) (sym is) (hold_insert m o v low high entries lie (apart o out) h)
 
 -- ---- what a ring's registers keep of what is written
 

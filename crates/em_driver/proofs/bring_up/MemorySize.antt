@@ -39,7 +39,7 @@ use Rattle.em_step.specs.declared.refusal.Refusal.TheVariants.{Length}
 use Rattle.em_turn.specs.Turn.{event_of}
 use Rattle.em_turn.specs.declared.turn.Turn.{Turn}
 use Rattle.em_turn.specs.declared.turn.Turn.TheVariants.{Arrive, RxStep, TxStep}
-use Rattle.em_driver.proofs.order.DrivenWorld.{ok_is}
+use Rattle.em_driver.proofs.order.Accessed.{ok_is}
 
 -- the octets of memory are as many
 abbrev SameSize : State → State → Type 0

@@ -1,5 +1,5 @@
 -- The stages of a start while the device is off: it was reset, and its receive ring is made.
-use Rattle.std.proofs.Common.{◌≡◌, ◌≢◌, ◌∙◌, ℕ, ◌+◌, ◌-◌, ◌*◌, ◌/◌, ◌%◌, ◌<◌, ◌==◌, Bool, true, false}
+use Rattle.std.proofs.Common.{◌≡◌, ◌≢◌, ◌∙◌, ℕ, ◌+◌, ◌-◌, ◌*◌, ◌/◌, ◌%◌, ◌<◌, ◌≤◌, ◌==◌, Bool, true, false}
 use Rattle.std.proofs.Common.{List, [], ◌∷◌, ◌++◌, length, refl, sym, ap, subst, inl, inr, arith, append-nil}
 use Rattle.std.proofs.Common.{Some, if◌then◌else◌}
 use Rattle.std.specs.FinMap as map
@@ -31,13 +31,14 @@ use Rattle.em_turn.specs.Turn.{stored_by}
 use Rattle.em_driver.specs.declared.layout.Layout.{Layout}
 use Rattle.em_driver.proofs.order.HandedOver.{put_whole}
 use Rattle.em_driver.proofs.bring_up.HeldRegisters.{Entries, Hold, are_others, hold_other, base_low, base_high}
-use Rattle.em_driver.proofs.bring_up.HeldRegisters.{ring_length, index}
+use Rattle.em_driver.proofs.bring_up.HeldRegisters.{ring_length, index, lie_in, hold_elsewhere}
 use Rattle.em_driver.proofs.bring_up.DeviceOff.{off_turn}
 use Rattle.em_driver.proofs.rings.ReceiveRing.{writes as writes_unit}
-use Rattle.em_driver.proofs.order.Stages.{IsClosed, Brings, BringsWith, brings_both, brings_write}
-use Rattle.em_driver.proofs.order.Stages.{brings_memory, brings_all, brings_eeprom}
+use Rattle.em_driver.proofs.order.EventsOfOthers.{IsElsewhere, same_sides}
+use Rattle.em_driver.proofs.order.Stages.{IsClosed, IsClosedElsewhere, closed_by, Brings, BringsWith, brings_both}
+use Rattle.em_driver.proofs.order.Stages.{brings_write, brings_memory, brings_all, brings_eeprom}
 use Rattle.em_driver.proofs.rings.MemoryUnits.{rx_ring, unit, unit_at}
-use Rattle.em_driver.proofs.order.DrivenWorld.{poked, read_keeps, written, written_so}
+use Rattle.em_driver.proofs.order.Accessed.{poked, read_keeps, written, written_so}
 
 -- ---- a device that is off
 
@@ -55,6 +56,17 @@ off_rests s t h k = record {
   fifo = k.fifo ∙ h.fifo;
   gathered = k.gathered ∙ h.gathered;
 }
+
+off_elsewhere : (l : Layout) (s t : State) → IsOff s → IsElsewhere l s t → IsOff t
+off_elsewhere l s t h k =
+    let both = same_sides s.registers t.registers k.registers in
+    record {
+      rctl = both.0.setup.control ∙ h.rctl;
+      tctl = both.1.setup.control ∙ h.tctl;
+      untagged = both.0.setup.vme ∙ h.untagged;
+      fifo = k.fifo ∙ h.fifo;
+      gathered = k.gathered ∙ h.gathered;
+    }
 
 off_insert : (s : State) (o x : ℕ) → IsNoSwitch o → IsOff s
     → IsOff (record s { registers = map.insert s.registers o x })
@@ -98,10 +110,25 @@ making_same : (l : Layout) (sent : List (List ℕ)) (entries : Entries) (k : ℕ
 making_same l sent entries k s t stored h r =
     subst (IsMaking l sent entries k t) (append-nil stored) (making_rests l sent entries k s t stored [] h r refl)
 
-pub making_closed : (l : Layout) (sent : List (List ℕ)) (entries : Entries) (k : ℕ) → IsClosed
-    (IsMaking l sent entries k)
-making_closed l sent entries k s stored t r h is =
-    let o = off_turn s t r h.off is in making_rests l sent entries k s r.1 stored (stored_by t r.0) h o.0 o.1
+making_elsewhere : (l : Layout) (sent : List (List ℕ)) (entries : Entries) (k : ℕ) → k ≤ l.rx_count
+    → lie_in 0x2800 0x2818 entries ≡ true → IsClosedElsewhere l (IsMaking l sent entries k)
+making_elsewhere l sent entries k few own s t stored h e = record {
+  off = off_elsewhere l s t h.off e;
+  good = subst (λ n. IsGoodLayout n l) (sym e.size) h.good;
+  holds = hold_elsewhere s.registers t.registers 0x2800 0x2818 entries own (λ o out. out.rx_ring) e.registers h.holds;
+  fresh = λ i low. e.units rx_ring i (omega arith) ∙ h.fresh i low;
+  none = h.none;
+  wire = e.wire ∙ h.wire;
+}
+
+-- of the registers that are held none lies outside the ring's
+pub making_closed : (l : Layout) (sent : List (List ℕ)) (entries : Entries) (k : ℕ) → k ≤ l.rx_count
+    → lie_in 0x2800 0x2818 entries ≡ true → IsClosed l (IsMaking l sent entries k)
+making_closed l sent entries k few own =
+    closed_by l (IsMaking l sent entries k)
+    (λ s stored t r h is.
+    let o = off_turn s t r h.off is in making_rests l sent entries k s r.1 stored (stored_by t r.0) h o.0 o.1)
+    (making_elsewhere l sent entries k few own)
 
 -- ---- registers
 
@@ -120,16 +147,16 @@ making_put l sent entries k s stored reg v u other others kept h = record {
   wire = h.wire;
 }
 
-making_write : (l : Layout) (sent : List (List ℕ)) (entries : Entries) (k : ℕ) (reg : Reg) (v u : ℕ) → IsNoSwitch
-    (offset_of reg)
+making_write : (l : Layout) (sent : List (List ℕ)) (entries : Entries) (k : ℕ) (reg : Reg) (v u : ℕ) → k ≤ l.rx_count
+    → lie_in 0x2800 0x2818 entries ≡ true → IsNoSwitch (offset_of reg)
     → are_others (offset_of reg) entries ≡ true → reg_at (offset_of reg) ≡ Some reg → is_latched reg ≡ false
     → ((x : State) → after_write x reg v
     ≡ (if is_latched reg then x else record x { registers = registers.put x.registers reg v }))
     → bit_and v (mask_of reg) ≡ u
-    → Brings (IsMaking l sent entries k) (IsMaking l sent ((reg, u) ∷ entries) k) (write reg v)
-making_write l sent entries k reg v u other others there latched by kept =
-    brings_write (IsMaking l sent entries k) (IsMaking l sent ((reg, u) ∷ entries) k) reg v
-    (making_closed l sent entries k)
+    → Brings l (IsMaking l sent entries k) (IsMaking l sent ((reg, u) ∷ entries) k) (write reg v)
+making_write l sent entries k reg v u few own other others there latched by kept =
+    brings_write l (IsMaking l sent entries k) (IsMaking l sent ((reg, u) ∷ entries) k) reg v
+    (making_closed l sent entries k few own)
     (λ s t stored h is.
     subst (λ x. IsMaking l sent ((reg, u) ∷ entries) k x stored)
     (sym (written s t (offset_of reg) reg v there latched by is))
@@ -137,7 +164,7 @@ making_write l sent entries k reg v u other others there latched by kept =
 
 -- what a register holds is not told on
 making_less : (l : Layout) (sent : List (List ℕ)) (entry : Reg × ℕ) (k : ℕ) (part : Part)
-    → Brings (IsMaking l sent [] k) (IsMaking l sent (entry ∷ []) k) part → Brings (IsMaking l sent [] k)
+    → Brings l (IsMaking l sent [] k) (IsMaking l sent (entry ∷ []) k) part → Brings l (IsMaking l sent [] k)
     (IsMaking l sent [] k) part
 making_less l sent entry k part brings before w v more n h f =
     let r = brings before w v more n h f in
@@ -155,16 +182,18 @@ making_less l sent entry k part brings before w v more n h f =
           none = r.at.holds.none;
           wire = r.at.holds.wire;
         };
+        spared = r.at.spared;
       };
       follows = r.follows;
     }
 
 -- ---- the link
 
-masked : (l : Layout) (sent : List (List ℕ)) → Brings (IsMaking l sent [] 0) (IsMaking l sent [] 0)
+masked : (l : Layout) (sent : List (List ℕ)) → Brings l (IsMaking l sent [] 0) (IsMaking l sent [] 0)
     (write Imc 0xFFFF_FFFF)
 masked l sent =
-    brings_write (IsMaking l sent [] 0) (IsMaking l sent [] 0) Imc 0xFFFF_FFFF (making_closed l sent [] 0)
+    brings_write l (IsMaking l sent [] 0) (IsMaking l sent [] 0) Imc 0xFFFF_FFFF
+    (making_closed l sent [] 0 (omega arith) refl)
     (λ s t stored h is.
     subst (λ x. IsMaking l sent [] 0 x stored)
     (sym (written_so s t (offset_of Imc) Imc 0xFFFF_FFFF (reg_at-offset_of Imc (omega arith)) is))
@@ -188,19 +217,20 @@ link_put l sent s stored h = record {
   wire = h.wire;
 }
 
-linked : (l : Layout) (sent : List (List ℕ)) → Brings (IsMaking l sent [] 0) (IsMaking l sent [] 0)
+linked : (l : Layout) (sent : List (List ℕ)) → Brings l (IsMaking l sent [] 0) (IsMaking l sent [] 0)
     (write Ctrl 0x0000_0041)
 linked l sent =
-    brings_write (IsMaking l sent [] 0) (IsMaking l sent [] 0) Ctrl 0x41 (making_closed l sent [] 0)
+    brings_write l (IsMaking l sent [] 0) (IsMaking l sent [] 0) Ctrl 0x41
+    (making_closed l sent [] 0 (omega arith) refl)
     (λ s t stored h is.
     subst (λ x. IsMaking l sent [] 0 x stored)
     (sym (written s t (offset_of Ctrl) Ctrl 0x41 (reg_at-offset_of Ctrl (omega arith)) refl (λ x. refl) is))
     (link_put l sent s stored h))
 
-pub link_made : (l : Layout) (sent : List (List ℕ)) → Brings (IsMaking l sent [] 0) (IsMaking l sent [] 0) set_link_up
+pub link_made : (l : Layout) (sent : List (List ℕ)) → Brings l (IsMaking l sent [] 0) (IsMaking l sent [] 0) set_link_up
 unfolding set_link_up
 link_made l sent =
-    brings_both (IsMaking l sent [] 0) (IsMaking l sent [] 0) (IsMaking l sent [] 0)
+    brings_both l (IsMaking l sent [] 0) (IsMaking l sent [] 0) (IsMaking l sent [] 0)
     (λ more. write Imc 0xFFFF_FFFF more)
     (λ more. write Ctrl 0x0000_0041 more) (masked l sent) (linked l sent)
 
@@ -229,9 +259,10 @@ eerd_by l sent s stored false a v h = record {
   wire = h.wire;
 }
 
-pub eeprom_made : (l : Layout) (sent : List (List ℕ)) → BringsWith (IsMaking l sent [] 0) (IsMaking l sent [] 0) eeprom
+pub eeprom_made : (l : Layout) (sent : List (List ℕ))
+    → BringsWith l (IsMaking l sent [] 0) (IsMaking l sent [] 0) eeprom
 eeprom_made l sent =
-    brings_eeprom (IsMaking l sent [] 0) (making_closed l sent [] 0)
+    brings_eeprom l (IsMaking l sent [] 0) (making_closed l sent [] 0 (omega arith) refl)
     (λ v s t stored h is.
     subst (λ x. IsMaking l sent [] 0 x stored)
     (sym (written_so s t (offset_of Eerd) Eerd v (reg_at-offset_of Eerd (omega arith)) is))
@@ -245,39 +276,40 @@ high_switch : (o : ℕ) → 0x0400 < o → IsNoSwitch o
 high_switch o low = record { ctrl = λ e. omega arith; rctl = λ e. omega arith; tctl = λ e. omega arith }
 
 pub address_made : (l : Layout) (sent : List (List ℕ)) (words : List ℕ)
-    → Brings (IsMaking l sent [] 0) (IsMaking l sent [] 0) (receive_address words)
+    → Brings l (IsMaking l sent [] 0) (IsMaking l sent [] 0) (receive_address words)
 unfolding receive_address
 address_made l sent words =
     let low : ℕ = slice_index words 0 + 0x1_0000 * slice_index words 1 in
     let high : ℕ = slice_index words 2 + 0x8000_0000 in
-    brings_both (IsMaking l sent [] 0) (IsMaking l sent [] 0) (IsMaking l sent [] 0) (λ more. write (Ral 0) low more)
+    brings_both l (IsMaking l sent [] 0) (IsMaking l sent [] 0) (IsMaking l sent [] 0) (λ more. write (Ral 0) low more)
     (λ more. write (Rah 0) high more)
     (making_less l sent (Ral 0, bit_and low 0xFFFF_FFFF) 0 _
-    (making_write l sent [] 0 (Ral 0) low _ (high_switch (offset_of (Ral 0)) (omega arith)) refl
+    (making_write l sent [] 0 (Ral 0) low _ (omega arith) refl (high_switch (offset_of (Ral 0)) (omega arith)) refl
     (reg_at-offset_of (Ral 0) (omega arith)) refl (λ x. refl) refl))
     (making_less l sent (Rah 0, bit_and high 0x8003_FFFF) 0 _
-    (making_write l sent [] 0 (Rah 0) high _ (high_switch (offset_of (Rah 0)) (omega arith)) refl
+    (making_write l sent [] 0 (Rah 0) high _ (omega arith) refl (high_switch (offset_of (Rah 0)) (omega arith)) refl
     (reg_at-offset_of (Rah 0) (omega arith)) refl (λ x. refl) refl))
 
-pub table_made : (l : Layout) (sent : List (List ℕ)) → Brings (IsMaking l sent [] 0)
+pub table_made : (l : Layout) (sent : List (List ℕ)) → Brings l (IsMaking l sent [] 0)
     (IsMaking l sent [] 0) multicast_table
 unfolding multicast_table
 table_made l sent =
-    brings_all (λ i. IsMaking l sent [] 0) (λ i. write (Mta i) 0) 128
+    brings_all l (λ i. IsMaking l sent [] 0) (λ i. write (Mta i) 0) 128
     (λ i low.
     making_less l sent (Mta i, 0) 0 _
-    (making_write l sent [] 0 (Mta i) 0 0 (high_switch (offset_of (Mta i)) (omega arith)) refl
+    (making_write l sent [] 0 (Mta i) 0 0 (omega arith) refl (high_switch (offset_of (Mta i)) (omega arith)) refl
     (reg_at-offset_of (Mta i) (omega arith)) refl (λ x. refl) refl))
 
 -- ---- the receive ring
 
 -- one descriptor more
 descriptor_made : (l : Layout) (sent : List (List ℕ)) (k : ℕ) → k < l.rx_count
-    → Brings (IsMaking l sent [] k) (IsMaking l sent [] (k + 1))
+    → Brings l (IsMaking l sent [] k) (IsMaking l sent [] (k + 1))
     (memory (l.rx_ring + 16 * k) (fresh_descriptor (l.rx_buffers + 2048 * k)))
 descriptor_made l sent k low =
     let d : List ℕ = fresh_descriptor (rx_buffer l k) in
-    brings_memory (IsMaking l sent [] k) (IsMaking l sent [] (k + 1)) (l.rx_ring + 16 * k) d (making_closed l sent [] k)
+    brings_memory l (IsMaking l sent [] k) (IsMaking l sent [] (k + 1)) (l.rx_ring + 16 * k) d
+    (making_closed l sent [] k (omega arith) refl)
     (λ s t stored h is.
     let m : List ℕ = put s.memory (rx_descriptor l k) d in
     let long : length d ≡ 16 = refl in
@@ -305,10 +337,10 @@ descriptor_made l sent k low =
     subst (λ x. IsMaking l sent [] (k + 1) x stored) (sym (poked s t (rx_descriptor l k) d is)) made)
 
 pub descriptors_made : (l : Layout) (sent : List (List ℕ))
-    → Brings (IsMaking l sent [] 0) (IsMaking l sent [] l.rx_count) (descriptors l.rx_ring l.rx_count l.rx_buffers)
+    → Brings l (IsMaking l sent [] 0) (IsMaking l sent [] l.rx_count) (descriptors l.rx_ring l.rx_count l.rx_buffers)
 unfolding descriptors
 descriptors_made l sent =
-    brings_all (IsMaking l sent []) (λ i. memory (l.rx_ring + 16 * i) (fresh_descriptor (l.rx_buffers + 2048 * i)))
+    brings_all l (IsMaking l sent []) (λ i. memory (l.rx_ring + 16 * i) (fresh_descriptor (l.rx_buffers + 2048 * i)))
     l.rx_count (descriptor_made l sent)
 
 -- what the ring's registers hold in the end
@@ -326,7 +358,7 @@ rx_registers l more =
     (write Rdt (l.rx_count - 1) more))))
 
 pub registers_made : (l : Layout) (sent : List (List ℕ)) (size : ℕ) → IsGoodLayout size l → IsPlaced l
-    → Brings (IsMaking l sent [] l.rx_count) (IsMaking l sent (rx_entries l) l.rx_count) (rx_registers l)
+    → Brings l (IsMaking l sent [] l.rx_count) (IsMaking l sent (rx_entries l) l.rx_count) (rx_registers l)
 registers_made l sent size good placed =
     let n : ℕ = l.rx_count in
     let low : ℕ = l.rx_ring % 0x1_0000_0000 in
@@ -337,20 +369,21 @@ registers_made l sent size good placed =
     let c : Entries = (Rdlen, 16 * n) ∷ b in
     let d : Entries = (Rdh, 0) ∷ c in
     let inside = placed.receive.inside.ring in
-    brings_both (at []) (at a) (at (rx_entries l)) (write Rdbal low) _
-    (making_write l sent [] n Rdbal low low (high_switch (offset_of Rdbal) (omega arith)) refl
+    let all : n ≤ l.rx_count = omega arith in
+    brings_both l (at []) (at a) (at (rx_entries l)) (write Rdbal low) _
+    (making_write l sent [] n Rdbal low low all refl (high_switch (offset_of Rdbal) (omega arith)) refl
     (reg_at-offset_of Rdbal (omega arith)) refl (λ x. refl) (base_low l.rx_ring good.receive.aligned))
-    (brings_both (at a) (at b) (at (rx_entries l)) (write Rdbah high) _
-    (making_write l sent a n Rdbah high high (high_switch (offset_of Rdbah) (omega arith)) refl
+    (brings_both l (at a) (at b) (at (rx_entries l)) (write Rdbah high) _
+    (making_write l sent a n Rdbah high high all refl (high_switch (offset_of Rdbah) (omega arith)) refl
     (reg_at-offset_of Rdbah (omega arith)) refl (λ x. refl) (base_high l.rx_ring (omega (arith, inside))))
-    (brings_both (at b) (at c) (at (rx_entries l)) (write Rdlen (16 * n)) _
-    (making_write l sent b n Rdlen (16 * n) (16 * n) (high_switch (offset_of Rdlen) (omega arith))
+    (brings_both l (at b) (at c) (at (rx_entries l)) (write Rdlen (16 * n)) _
+    (making_write l sent b n Rdlen (16 * n) (16 * n) all refl (high_switch (offset_of Rdlen) (omega arith))
     refl
     (reg_at-offset_of Rdlen (omega arith)) refl (λ x. refl) (ring_length n good.receive.count.eights good.receive.count.most))
-    (brings_both (at c) (at d) (at (rx_entries l)) (write Rdh 0) _
-    (making_write l sent c n Rdh 0 0 (high_switch (offset_of Rdh) (omega arith))
+    (brings_both l (at c) (at d) (at (rx_entries l)) (write Rdh 0) _
+    (making_write l sent c n Rdh 0 0 all refl (high_switch (offset_of Rdh) (omega arith))
     refl
     (reg_at-offset_of Rdh (omega arith)) refl (λ x. refl) refl)
-    (making_write l sent d n Rdt (n - 1) (n - 1) (high_switch (offset_of Rdt) (omega arith))
+    (making_write l sent d n Rdt (n - 1) (n - 1) all refl (high_switch (offset_of Rdt) (omega arith))
     refl
     (reg_at-offset_of Rdt (omega arith)) refl (λ x. refl) (index (n - 1) (omega (arith, good.receive.count.most)))))))

@@ -17,7 +17,7 @@ use Rattle.em_driver.specs.DeviceOff.{IsOff}
 use Rattle.em_driver.specs.Start.{Start, device_reset, until_reset, after_reset, start, eeprom}
 use Rattle.em_driver.specs.Start.{receive_address, multicast_table, receive_ring, transmit_ring, descriptors}
 use Rattle.em_driver.specs.Started.{StartsInOrder}
-use Rattle.em_driver.specs.World.{World, Accesses, present}
+use Rattle.em_driver.specs.World.{World, Accesses, IsSpared, present}
 use Rattle.em_driver.specs.declared.layout.Layout.{Layout}
 use Rattle.em_driver.specs.declared.outcome.Cause.{Cause}
 use Rattle.em_driver.specs.declared.outcome.Cause.TheVariants.{Memory}
@@ -28,8 +28,8 @@ use Rattle.em_driver.proofs.bring_up.RxRingMade.{IsMaking, link_made, eeprom_mad
 use Rattle.em_driver.proofs.bring_up.RxRingMade.{descriptors_made}
 use Rattle.em_driver.proofs.bring_up.RxRingMade.{registers_made, rx_registers}
 use Rattle.em_driver.proofs.bring_up.MemorySize.{turn_size}
-use Rattle.em_driver.proofs.order.Stages.{Stage, At, IsClosed, event_at, not_none}
-use Rattle.em_driver.proofs.order.DrivenWorld.{written_so}
+use Rattle.em_driver.proofs.order.Stages.{Stage, At, IsClosed, closed_by, event_at, not_none}
+use Rattle.em_driver.proofs.order.Accessed.{written_so}
 
 -- ---- until the reset
 
@@ -37,8 +37,9 @@ use Rattle.em_driver.proofs.order.DrivenWorld.{written_so}
 abbrev IsSized : ℕ → Stage
 IsSized size s stored = length s.memory ≡ size
 
-sized_closed : (size : ℕ) → IsClosed (IsSized size)
-sized_closed size s stored t r h is = turn_size s t r is ∙ h
+sized_closed : (l : Layout) (size : ℕ) → IsClosed l (IsSized size)
+sized_closed l size =
+    closed_by l (IsSized size) (λ s stored t r h is. turn_size s t r is ∙ h) (λ s t stored h e. e.size ∙ h)
 
 masked : (size : ℕ) (s t : State) (stored : List (List ℕ)) → IsSized size s stored
     → step s (writes (offset_of Imc) 0xFFFF_FFFF) ≡ Ok (Done, t) → IsSized size t stored
@@ -73,11 +74,11 @@ made_by_reset l size s t stored good h is =
 
 -- ---- from the reset on
 
-made_from_reset : (l : Layout) (sent : List (List ℕ)) (w v : World) (n : ℕ) → IsPlaced l
+made_from_reset : (l : Layout) (sent : List (List ℕ)) (w v : World) (n : ℕ) → IsPlaced l → IsSpared l w.spared
     → IsMaking l sent [] 0 (present w) []
-    → Follows w (after_reset l) n None v → At (IsStarted l sent) w.stored v
+    → Follows w (after_reset l) n None v → At l (IsStarted l sent) w.stored v
 unfolding after_reset receive_ring transmit_ring Follows
-made_from_reset l sent w v n placed h f =
+made_from_reset l sent w v n placed spared h f =
     let good = h.good in
     let size : ℕ = length (present w).memory in
     let before : List (List ℕ) = w.stored in
@@ -88,7 +89,7 @@ made_from_reset l sent w v n placed h f =
     let table : Start = multicast_table receive in
     let behind = λ (words : List ℕ). receive_address words table in
     let a = link_made l sent before w v (eeprom behind) n
-    (record { stored = []; is = sym (append-nil before); holds = h }) f in
+    (record { stored = []; is = sym (append-nil before); holds = h; spared = spared }) f in
     let b = eeprom_made l sent before a.world v behind a.events a.at a.follows in
     let c = address_made l sent b.0 before b.1.world v table b.1.events b.1.at b.1.follows in
     let d = table_made l sent before c.world v receive c.events c.at c.follows in
@@ -98,7 +99,7 @@ made_from_reset l sent w v n placed h f =
     let j = tx_descriptors_made l sent before i.world v (tx_registers l sending) i.events i.at i.follows in
     let k = tx_registers_made l sent size good placed before j.world v sending j.events j.at j.follows in
     let o = sending_enabled l sent before k.world v (done None) k.events k.at k.follows in
-    subst (At (IsStarted l sent) before) {x = o.world} {y = v} (sym {a = v} {b = o.world} o.follows.world_is) o.at
+    subst (At l (IsStarted l sent) before) {x = o.world} {y = v} (sym {a = v} {b = o.world} o.follows.world_is) o.at
 
 -- ---- the whole
 
@@ -112,20 +113,21 @@ reset_follows w m r first second =
     (resets_on m r r (Some Memory) end 1 0 started second refl (ends r started))
 
 from_mask : (l : Layout) (w m v : World) (n k : ℕ) → IsGoodLayout (length (present w).memory) l → IsPlaced l
+    → IsSpared l w.spared
     → Accesses w (writes (offset_of Imc) 0xFFFF_FFFF) Done m → n ≡ 1 + k
     → Follows m (device_reset (after_reset l)) k None v → StartsInOrder l w n v
 unfolding Follows until_reset
-from_mask l w m v n k good placed first count (inl (refused, none, is)) = absurd (not_none _ is)
-from_mask l w m v n k good placed first count (inr step) =
+from_mask l w m v n k good placed spared first count (inl (refused, none, is)) = absurd (not_none _ is)
+from_mask l w m v n k good placed spared first count (inr step) =
     let size : ℕ = length (present w).memory in
     let r : World = step.mid in
-    let sized = event_at (IsSized size) (IsSized size) w.stored w m (writes (offset_of Imc) 0xFFFF_FFFF) Done
-    (sized_closed size) (masked size)
-    (record { stored = []; is = sym (append-nil w.stored); holds = refl }) first in
-    let made = event_at (IsSized size) (λ s stored. IsMaking l s.wire [] 0 s []) w.stored m r
-    (writes (offset_of Ctrl) 0x0400_0000) Done (sized_closed size)
+    let sized = event_at l (IsSized size) (IsSized size) w.stored w m (writes (offset_of Imc) 0xFFFF_FFFF) Done
+    (sized_closed l size) (masked size)
+    (record { stored = []; is = sym (append-nil w.stored); holds = refl; spared = spared }) first in
+    let made = event_at l (IsSized size) (λ s stored. IsMaking l s.wire [] 0 s []) w.stored m r
+    (writes (offset_of Ctrl) 0x0400_0000) Done (sized_closed l size)
     (λ s t stored h is. made_by_reset l size s t stored good h is) sized step.step in
-    let started = made_from_reset l (present r).wire r v step.others placed made.holds step.more in
+    let started = made_from_reset l (present r).wire r v step.others placed made.spared made.holds step.more in
     record {
       reset = r;
       others = step.others;
@@ -134,13 +136,14 @@ from_mask l w m v n k good placed first count (inr step) =
       counted = omega (arith, count, step.count);
       stored = started.stored;
       is_stored = started.is;
-      driven = started.holds.driven;
+      undisturbed = record { driven = started.holds.driven; spared = started.spared };
       queued = started.holds.queued;
       waiting = started.holds.waits;
       wire = started.holds.wire;
     }
 
 pub start_order : (l : Layout) (w v : World) (n : ℕ) → IsGoodLayout (length (present w).memory) l → IsPlaced l
-    → Follows w (start l) n None v → StartsInOrder l w n v
+    → IsSpared l w.spared → Follows w (start l) n None v → StartsInOrder l w n v
 unfolding Follows start until_reset
-start_order l w v n good placed f = from_mask l w f.mid v n f.others good placed f.step f.count f.more
+start_order l w v n good placed spared f =
+    from_mask l w f.mid v n f.others good placed spared f.step f.count f.more

@@ -37,17 +37,19 @@ use Rattle.em_driver.specs.declared.layout.Layout.{Layout}
 use Rattle.em_turn.specs.declared.turn.Turn.TheVariants.{Arrive, RxStep, TxStep}
 use Rattle.em_driver.proofs.order.HandedOver.{put_whole}
 use Rattle.em_driver.proofs.bring_up.HeldRegisters.{Entries, Hold, are_others, hold_other, base_low, base_high, base_is}
-use Rattle.em_driver.proofs.bring_up.HeldRegisters.{ring_length}
+use Rattle.em_driver.proofs.bring_up.HeldRegisters.{ring_length, lie_in, hold_elsewhere}
 use Rattle.em_driver.proofs.bring_up.RxRingMade.{IsMaking, making_closed, rx_entries}
 use Rattle.em_driver.proofs.bring_up.DeviceOff.{tx_idle}
 use Rattle.em_driver.proofs.rings.RingPlaces.{among_none, between_none}
 use Rattle.em_driver.proofs.rings.ReceiveRing.{RxMoves, rx_same, same_ring}
 use Rattle.em_driver.proofs.rings.ReceiveRing.{writes as writes_unit}
 use Rattle.em_driver.proofs.rings.SideRegisters.{rx_side, is_rx_side, same_side, IsOther, put_other_side}
-use Rattle.em_driver.proofs.order.Stages.{IsClosed, Brings, brings_all, brings_both, brings_memory, brings_write}
+use Rattle.em_driver.proofs.order.EventsOfOthers.{rx_elsewhere, same_sides}
+use Rattle.em_driver.proofs.order.Stages.{IsClosed, IsClosedByTurns, IsClosedElsewhere, closed_by, Brings, brings_all}
+use Rattle.em_driver.proofs.order.Stages.{brings_both, brings_memory, brings_write}
 use Rattle.em_driver.proofs.rings.OneTurn.{RxTurn, arrival_turn, receive_turn, laid_same}
 use Rattle.em_driver.proofs.rings.MemoryUnits.{rx_ring, rx_buffers, tx_ring, unit, unit_at}
-use Rattle.em_driver.proofs.order.DrivenWorld.{poked, written}
+use Rattle.em_driver.proofs.order.Accessed.{poked, written}
 
 -- ---- fresh descriptors
 
@@ -97,17 +99,42 @@ listening_turn l sent entries k s t stored added few others h r = record {
   wire = r.sending.wire ∙ h.wire;
 }
 
-pub listening_closed : (l : Layout) (sent : List (List ℕ)) (entries : Entries) (k : ℕ) → k ≤ l.tx_count
-    → are_others (offset_of Rdh) entries ≡ true → IsClosed (IsListening l sent entries k)
-listening_closed l sent entries k few others s stored (Arrive f) r h is =
+listening_turns : (l : Layout) (sent : List (List ℕ)) (entries : Entries) (k : ℕ) → k ≤ l.tx_count
+    → are_others (offset_of Rdh) entries ≡ true → IsClosedByTurns (IsListening l sent entries k)
+listening_turns l sent entries k few others s stored (Arrive f) r h is =
     listening_turn l sent entries k s r.1 stored (stored_by (Arrive f) r.0) few others h
     (arrival_turn l s f r h.layout h.receiving is)
-listening_closed l sent entries k few others s stored RxStep r h is =
+listening_turns l sent entries k few others s stored RxStep r h is =
     listening_turn l sent entries k s r.1 stored [] few others h (receive_turn l s r h.layout h.receiving is)
-listening_closed l sent entries k few others s stored TxStep r h is =
+listening_turns l sent entries k few others s stored TxStep r h is =
     let same : s ≡ r.1 = ap (λ x. x.1) (tx_idle s r h.tctl is) in
     subst (IsListening l sent entries k r.1) (sym (append-nil stored))
     (subst (λ x. IsListening l sent entries k x stored) same h)
+
+listening_elsewhere : (l : Layout) (sent : List (List ℕ)) (entries : Entries) (k : ℕ) → k ≤ l.tx_count
+    → lie_in 0x3800 0x3818 entries ≡ true → IsClosedElsewhere l (IsListening l sent entries k)
+listening_elsewhere l sent entries k few own s t stored h e =
+    let r = rx_elsewhere l s t h.receiving e in
+    record {
+      layout = laid_same l s t e.size h.layout;
+      receiving = r.but;
+      marked = r.mark h.marked;
+      waits = r.waiting ∙ append-nil (waiting l s) ∙ h.waits;
+      tctl = (same_sides s.registers t.registers e.registers).1.setup.control ∙ h.tctl;
+      gathered = e.gathered ∙ h.gathered;
+      holds = hold_elsewhere s.registers t.registers 0x3800 0x3818 entries own (λ o out. out.tx_ring) e.registers
+          h.holds;
+      fresh = λ i low. e.units tx_ring i (omega arith) ∙ h.fresh i low;
+      wire = e.wire ∙ h.wire;
+    }
+
+-- of the registers that are held none lies outside the ring's
+pub listening_closed : (l : Layout) (sent : List (List ℕ)) (entries : Entries) (k : ℕ) → k ≤ l.tx_count
+    → are_others (offset_of Rdh) entries ≡ true → lie_in 0x3800 0x3818 entries ≡ true
+    → IsClosed l (IsListening l sent entries k)
+listening_closed l sent entries k few others own =
+    closed_by l (IsListening l sent entries k) (listening_turns l sent entries k few others)
+    (listening_elsewhere l sent entries k few own)
 
 -- ---- receiving begins
 
@@ -164,10 +191,10 @@ enabled_receiving l sent s stored placed h =
     }
 
 pub receiving_enabled : (l : Layout) (sent : List (List ℕ)) → IsPlaced l
-    → Brings (IsMaking l sent (rx_entries l) l.rx_count) (IsListening l sent [] 0) (write Rctl 0x0000_801A)
+    → Brings l (IsMaking l sent (rx_entries l) l.rx_count) (IsListening l sent [] 0) (write Rctl 0x0000_801A)
 receiving_enabled l sent placed =
-    brings_write (IsMaking l sent (rx_entries l) l.rx_count) (IsListening l sent [] 0) Rctl 0x801A
-    (making_closed l sent (rx_entries l) l.rx_count)
+    brings_write l (IsMaking l sent (rx_entries l) l.rx_count) (IsListening l sent [] 0) Rctl 0x801A
+    (making_closed l sent (rx_entries l) l.rx_count (omega arith) refl)
     (λ s t stored h is.
     subst (λ x. IsListening l sent [] 0 x stored)
     (sym (written s t (offset_of Rctl) Rctl 0x801A (reg_at-offset_of Rctl (omega arith)) refl (λ x. refl) is))
@@ -203,30 +230,59 @@ listening_put l sent entries k s stored reg v u quiet others kept h =
     }
 
 listening_write : (l : Layout) (sent : List (List ℕ)) (entries : Entries) (k : ℕ) (reg : Reg) (v u : ℕ) → k ≤ l.tx_count
-    → are_others (offset_of Rdh) entries ≡ true → IsQuiet (offset_of reg)
+    → are_others (offset_of Rdh) entries ≡ true → lie_in 0x3800 0x3818 entries ≡ true → IsQuiet (offset_of reg)
     → are_others (offset_of reg) entries ≡ true → reg_at (offset_of reg) ≡ Some reg → is_latched reg ≡ false
     → ((x : State) → after_write x reg v
     ≡ (if is_latched reg then x else record x { registers = registers.put x.registers reg v }))
     → bit_and v (mask_of reg) ≡ u
-    → Brings (IsListening l sent entries k) (IsListening l sent ((reg, u) ∷ entries) k) (write reg v)
-listening_write l sent entries k reg v u few no_head quiet others there latched by kept =
-    brings_write (IsListening l sent entries k) (IsListening l sent ((reg, u) ∷ entries) k) reg v
-    (listening_closed l sent entries k few no_head)
+    → Brings l (IsListening l sent entries k) (IsListening l sent ((reg, u) ∷ entries) k) (write reg v)
+listening_write l sent entries k reg v u few no_head own quiet others there latched by kept =
+    brings_write l (IsListening l sent entries k) (IsListening l sent ((reg, u) ∷ entries) k) reg v
+    (listening_closed l sent entries k few no_head own)
     (λ s t stored h is.
     subst (λ x. IsListening l sent ((reg, u) ∷ entries) k x stored)
     (sym (written s t (offset_of reg) reg v there latched by is))
     (listening_put l sent entries k s stored reg v u quiet others kept h))
 
+-- what a register holds is not told on: others may write TIPG
+listening_less : (l : Layout) (sent : List (List ℕ)) (entry : Reg × ℕ) (entries : Entries) (k : ℕ) (part : Part)
+    → Brings l (IsListening l sent entries k) (IsListening l sent (entry ∷ entries) k) part
+    → Brings l (IsListening l sent entries k) (IsListening l sent entries k) part
+listening_less l sent entry entries k part brings before w v more n h f =
+    let r = brings before w v more n h f in
+    let at = r.at.holds in
+    record {
+      world = r.world;
+      events = r.events;
+      at = record {
+        stored = r.at.stored;
+        is = r.at.is;
+        holds = record {
+          layout = at.layout;
+          receiving = at.receiving;
+          marked = at.marked;
+          waits = at.waits;
+          tctl = at.tctl;
+          gathered = at.gathered;
+          holds = at.holds.1;
+          fresh = at.fresh;
+          wire = at.wire;
+        };
+        spared = r.at.spared;
+      };
+      follows = r.follows;
+    }
+
 -- ---- the transmit ring
 
 -- one descriptor more
 descriptor_made : (l : Layout) (sent : List (List ℕ)) (k : ℕ) → k < l.tx_count
-    → Brings (IsListening l sent [] k) (IsListening l sent [] (k + 1))
+    → Brings l (IsListening l sent [] k) (IsListening l sent [] (k + 1))
     (memory (l.tx_ring + 16 * k) (fresh_descriptor (l.tx_buffers + 2048 * k)))
 descriptor_made l sent k low =
     let d : List ℕ = fresh_descriptor (tx_buffer l k) in
-    brings_memory (IsListening l sent [] k) (IsListening l sent [] (k + 1)) (l.tx_ring + 16 * k) d
-    (listening_closed l sent [] k (omega arith) refl)
+    brings_memory l (IsListening l sent [] k) (IsListening l sent [] (k + 1)) (l.tx_ring + 16 * k) d
+    (listening_closed l sent [] k (omega arith) refl refl)
     (λ s t stored h is.
     let m : List ℕ = put s.memory (tx_descriptor l k) d in
     let now : State = record s { memory = m } in
@@ -259,17 +315,17 @@ descriptor_made l sent k low =
     subst (λ x. IsListening l sent [] (k + 1) x stored) (sym (poked s t (tx_descriptor l k) d is)) made)
 
 pub tx_descriptors_made : (l : Layout) (sent : List (List ℕ))
-    → Brings (IsListening l sent [] 0) (IsListening l sent [] l.tx_count)
+    → Brings l (IsListening l sent [] 0) (IsListening l sent [] l.tx_count)
     (descriptors l.tx_ring l.tx_count l.tx_buffers)
 unfolding descriptors
 tx_descriptors_made l sent =
-    brings_all (IsListening l sent []) (λ i. memory (l.tx_ring + 16 * i) (fresh_descriptor (l.tx_buffers + 2048 * i)))
+    brings_all l (IsListening l sent []) (λ i. memory (l.tx_ring + 16 * i) (fresh_descriptor (l.tx_buffers + 2048 * i)))
     l.tx_count (descriptor_made l sent)
 
 -- what the ring's registers hold in the end
 abbrev pub tx_entries : Layout → Entries
 tx_entries l =
-    (Tipg, 0x0060_200A) ∷ (Tdt, 0) ∷ (Tdh, 0) ∷ (Tdlen, 16 * l.tx_count) ∷ (Tdbah, l.tx_ring / 0x1_0000_0000)
+    (Tdt, 0) ∷ (Tdh, 0) ∷ (Tdlen, 16 * l.tx_count) ∷ (Tdbah, l.tx_ring / 0x1_0000_0000)
     ∷ (Tdbal, l.tx_ring % 0x1_0000_0000) ∷ []
 
 abbrev pub tx_registers : Layout → Part
@@ -290,7 +346,7 @@ quiet o low ring =
     }
 
 pub tx_registers_made : (l : Layout) (sent : List (List ℕ)) (size : ℕ) → IsGoodLayout size l → IsPlaced l
-    → Brings (IsListening l sent [] l.tx_count) (IsListening l sent (tx_entries l) l.tx_count) (tx_registers l)
+    → Brings l (IsListening l sent [] l.tx_count) (IsListening l sent (tx_entries l) l.tx_count) (tx_registers l)
 tx_registers_made l sent size good placed =
     let n : ℕ = l.tx_count in
     let low : ℕ = l.tx_ring % 0x1_0000_0000 in
@@ -303,25 +359,28 @@ tx_registers_made l sent size good placed =
     let e : Entries = (Tdt, 0) ∷ d in
     let inside = placed.transmit.inside.ring in
     let all : n ≤ l.tx_count = omega arith in
-    brings_both (at []) (at a) (at (tx_entries l)) (write Tdbal low) _
-    (listening_write l sent [] n Tdbal low low all refl (quiet (offset_of Tdbal) (omega arith) (λ x. omega arith)) refl
+    brings_both l (at []) (at a) (at (tx_entries l)) (write Tdbal low) _
+    (listening_write l sent [] n Tdbal low low all refl refl
+    (quiet (offset_of Tdbal) (omega arith) (λ x. omega arith)) refl
     (reg_at-offset_of Tdbal (omega arith)) refl (λ x. refl) (base_low l.tx_ring good.transmit.aligned))
-    (brings_both (at a) (at b) (at (tx_entries l)) (write Tdbah high) _
-    (listening_write l sent a n Tdbah high high all refl (quiet (offset_of Tdbah) (omega arith) (λ x. omega arith)) refl
+    (brings_both l (at a) (at b) (at (tx_entries l)) (write Tdbah high) _
+    (listening_write l sent a n Tdbah high high all refl refl
+    (quiet (offset_of Tdbah) (omega arith) (λ x. omega arith)) refl
     (reg_at-offset_of Tdbah (omega arith)) refl (λ x. refl) (base_high l.tx_ring (omega (arith, inside))))
-    (brings_both (at b) (at c) (at (tx_entries l)) (write Tdlen (16 * n)) _
-    (listening_write l sent b n Tdlen (16 * n) (16 * n) all refl
+    (brings_both l (at b) (at c) (at (tx_entries l)) (write Tdlen (16 * n)) _
+    (listening_write l sent b n Tdlen (16 * n) (16 * n) all refl refl
     (quiet (offset_of Tdlen) (omega arith) (λ x. omega arith)) refl
     (reg_at-offset_of Tdlen (omega arith)) refl (λ x. refl) (ring_length n good.transmit.count.eights good.transmit.count.most))
-    (brings_both (at c) (at d) (at (tx_entries l)) (write Tdh 0) _
-    (listening_write l sent c n Tdh 0 0 all refl (quiet (offset_of Tdh) (omega arith) (λ x. omega arith)) refl
+    (brings_both l (at c) (at d) (at (tx_entries l)) (write Tdh 0) _
+    (listening_write l sent c n Tdh 0 0 all refl refl (quiet (offset_of Tdh) (omega arith) (λ x. omega arith)) refl
     (reg_at-offset_of Tdh (omega arith)) refl (λ x. refl) refl)
-    (brings_both (at d) (at e) (at (tx_entries l)) (write Tdt 0) _
-    (listening_write l sent d n Tdt 0 0 all refl (quiet (offset_of Tdt) (omega arith) (λ x. omega arith)) refl
+    (brings_both l (at d) (at e) (at (tx_entries l)) (write Tdt 0) _
+    (listening_write l sent d n Tdt 0 0 all refl refl (quiet (offset_of Tdt) (omega arith) (λ x. omega arith)) refl
     (reg_at-offset_of Tdt (omega arith)) refl (λ x. refl) refl)
-    (listening_write l sent e n Tipg 0x0060_200A 0x0060_200A all refl
+    (listening_less l sent (Tipg, 0x0060_200A) e n _
+    (listening_write l sent e n Tipg 0x0060_200A 0x0060_200A all refl refl
     (quiet (offset_of Tipg) (omega arith) (λ x. omega arith)) refl
-    (reg_at-offset_of Tipg (omega arith)) refl (λ x. refl) refl)))))
+    (reg_at-offset_of Tipg (omega arith)) refl (λ x. refl) refl))))))
 
 -- ---- sending begins
 
@@ -340,8 +399,8 @@ enabled_sending l sent s stored h =
     let t : State = record s { registers = registers.put s.registers Tctl 0x4_010A } in
     let least = h.layout.good.transmit.count.least in
     let kept = hold_other s.registers Tctl 0x4_010A (tx_entries l) refl h.holds in
-    let tail : tdt t ≡ 0 = kept.1.0 in
-    let head : tdh t ≡ 0 = kept.1.1.0 in
+    let tail : tdt t ≡ 0 = kept.0 in
+    let head : tdh t ≡ 0 = kept.1.0 in
     let none : (i : ℕ) → is_queued l t i ≡ false = λ i. (λ p. is_among n (head p) (tail p) i) ∙ among_none n 0 i in
     let inside = h.layout.placed.transmit.inside.buffers in
     let r : RxMoves l s t []
@@ -357,8 +416,8 @@ enabled_sending l sent s stored h =
           receiving = r.but;
           sending = record {
             tctl = put_same s.registers Tctl 0x4_010A;
-            base = base_is t.registers Tdbah Tdbal l.tx_ring kept.1.1.1.1.0 kept.1.1.1.1.1.0;
-            len = kept.1.1.1.0;
+            base = base_is t.registers Tdbah Tdbal l.tx_ring kept.1.1.1.0 kept.1.1.1.1.0;
+            len = kept.1.1.0;
             head = omega (arith, head, least);
             tail = omega (arith, tail, least);
             untagged = r.but.untagged;
@@ -377,10 +436,10 @@ enabled_sending l sent s stored h =
     }
 
 pub sending_enabled : (l : Layout) (sent : List (List ℕ))
-    → Brings (IsListening l sent (tx_entries l) l.tx_count) (IsStarted l sent) (write Tctl 0x0004_010A)
+    → Brings l (IsListening l sent (tx_entries l) l.tx_count) (IsStarted l sent) (write Tctl 0x0004_010A)
 sending_enabled l sent =
-    brings_write (IsListening l sent (tx_entries l) l.tx_count) (IsStarted l sent) Tctl 0x4_010A
-    (listening_closed l sent (tx_entries l) l.tx_count (omega arith) refl)
+    brings_write l (IsListening l sent (tx_entries l) l.tx_count) (IsStarted l sent) Tctl 0x4_010A
+    (listening_closed l sent (tx_entries l) l.tx_count (omega arith) refl refl)
     (λ s t stored h is.
     subst (λ x. IsStarted l sent x stored)
     (sym (written s t (offset_of Tctl) Tctl 0x4_010A (reg_at-offset_of Tctl (omega arith)) refl (λ x. refl) is))

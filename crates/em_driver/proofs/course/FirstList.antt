@@ -1,8 +1,8 @@
 -- How a plan's first list passes, and what an access is after it.
 use Rattle.std.proofs.Common.{◌≡◌, ◌∙◌, Bool, true, false, List, [], ◌∷◌, ◌++◌, Ok, Err, Result, refl, sym, ap}
+use Rattle.std.proofs.Common.{Option, None}
 use Rattle.std.proofs.Common.{subst}
 use Rattle.std.proofs.Common.{inl, inr, length, arith}
-use Rattle.std.specs.Prelude.{OnOk}
 use Rattle.std.proofs.lemmas.List.{length-append}
 use Rattle.em_step.specs.Event.{Event}
 use Rattle.em_step.specs.Step.{step, Refuses}
@@ -15,7 +15,8 @@ use Rattle.em_journal.specs.View.{View}
 use Rattle.em_driver.specs.Taking.{TakesAll}
 use Rattle.em_turn.specs.Turn.{event_of}
 use Rattle.em_driver.specs.World.{World, Accesses, IsRefused, Passes, quiet, first, rest}
-use Rattle.em_driver.specs.World.{after_outcome, after_turn, after_turns}
+use Rattle.em_driver.specs.World.{after_outcome, after_turn, after_turns, after_others, Spare}
+use Rattle.em_driver.specs.declared.layout.Layout.{Layout}
 use Rattle.em_turn.specs.declared.turn.Turn.{Turn}
 
 -- ---- a plan beside the turns
@@ -37,6 +38,13 @@ turns_planning w (t ∷ turns) plan starved =
     ap (λ x. after_turns x turns) (outcome_planning w t (step w.machine.present (event_of t)) plan starved)
     ∙ turns_planning (after_turn w t) turns plan starved
 
+-- where nobody acts beside the plan no event passes but for its turns
+pub none_beside : (spared : Option Layout) (events : List Event) → spared ≡ None → Spare spared events → events ≡ []
+none_beside spared events alone h = subst (λ x. Spare x events) alone h
+
+spare_none : (spared : Option Layout) → spared ≡ None → Spare spared []
+spare_none spared alone = subst (λ x. Spare x []) (sym alone) refl
+
 -- where the turns led, but for the plan
 led : (w v : World) (turns : List Turn) (plan left : List (List Turn)) (starved wanting : Bool)
     → v ≡ after_turns w turns
@@ -48,18 +56,21 @@ led w v turns plan left starved wanting is =
 
 -- whole
 pub pass_whole : (w v : World) (turns : List Turn) (plan left : List (List Turn)) (starved : Bool)
-    → plan ≡ turns ∷ left → TakesAll w turns true v → Passes (planning plan starved w) (planning left starved v)
-pass_whole w v turns plan left starved e takes = record {
+    → w.spared ≡ None → plan ≡ turns ∷ left → TakesAll w turns true v
+    → Passes (planning plan starved w) (planning left starved v)
+pass_whole w v turns plan left starved alone e takes = record {
   turns = turns;
   taken = inl (ap first (sym e), sym (ap rest e), refl);
+  events = [];
+  spare = spare_none w.spared alone;
   is = led w v turns plan left starved starved (takes.is ∙ ap (after_turns w) takes.which);
 }
 
 -- up to a turn that finds no memory
 pub pass_starved : (w v : World) (turns : List Turn) (plan left dropped : List (List Turn)) (starved : Bool)
-    → plan ≡ turns ∷ left → dropped ≡ [] → TakesAll w turns false v
+    → w.spared ≡ None → plan ≡ turns ∷ left → dropped ≡ [] → TakesAll w turns false v
     → Passes (planning plan starved w) (planning dropped true v)
-pass_starved w v turns plan left dropped starved e none takes = record {
+pass_starved w v turns plan left dropped starved alone e none takes = record {
   turns = takes.taken;
   taken = inr (
     record {
@@ -72,7 +83,20 @@ pass_starved w v turns plan left dropped starved e none takes = record {
     none,
     refl,
   );
+  events = [];
+  spare = spare_none w.spared alone;
   is = led w v takes.taken plan dropped starved true takes.is;
+}
+
+-- where there is none
+pub pass_empty : (w : World) (plan left : List (List Turn)) (starved : Bool) → w.spared ≡ None → plan ≡ [] → left ≡ []
+    → Passes (planning plan starved w) (planning left starved w)
+pass_empty w plan left starved alone none same = record {
+  turns = [];
+  taken = inl (sym (ap first none), same ∙ sym (ap rest none), refl);
+  events = [];
+  spare = spare_none w.spared alone;
+  is = refl;
 }
 
 -- ---- no plan
@@ -81,20 +105,25 @@ no_more : (turns dropped : List Turn) (wanting : Turn) → [] ≡ turns ++ wanti
 no_more turns dropped wanting e =
     omega (arith, ap length e, length-append turns (wanting ∷ dropped))
 
--- nothing passes where nothing is planned
-pub pass_none : (w v : World) → w.plan ≡ [] → Passes w v → v ≡ w
-pass_none w v e p = elim p.taken [
-  | inl whole ↦ p.is ∙ ap (λ ts. planning v.plan v.starved (after_turns w ts)) (whole.0 ∙ ap first e)
-      ∙ ap (λ plan. planning plan v.starved w) (whole.1 ∙ ap rest e ∙ sym e) ∙ ap (λ b. planning w.plan b w) whole.2
-  | inr stop ↦ absurd (no_more p.turns stop.0.dropped stop.0.wanting (sym (ap first e) ∙ stop.0.is))
-]
+-- nothing passes where nothing is planned, and nobody acts beside the plan
+pub pass_none : (w v : World) → w.spared ≡ None → w.plan ≡ [] → Passes w v → v ≡ w
+pass_none w v alone e p =
+    let none = none_beside w.spared p.events alone p.spare in
+    let is : v ≡ planning v.plan v.starved (after_turns w p.turns)
+    = p.is ∙ ap (λ events. planning v.plan v.starved (after_others (after_turns w p.turns) events)) none in
+    elim p.taken [
+      | inl whole ↦ is ∙ ap (λ ts. planning v.plan v.starved (after_turns w ts)) (whole.0 ∙ ap first e)
+          ∙ ap (λ plan. planning plan v.starved w) (whole.1 ∙ ap rest e ∙ sym e)
+          ∙ ap (λ b. planning w.plan b w) whole.2
+      | inr stop ↦ absurd (no_more p.turns stop.0.dropped stop.0.wanting (sym (ap first e) ∙ stop.0.is))
+    ]
 
 -- ---- an access of the machine alone, after the others
 
 pub passed_access : (w m : World) (n : View) (e : Event) (answer : Answer) → Passes w m
     → Accesses (quiet m.machine) e answer (quiet n) → Accesses w e answer (record m { machine = n })
 passed_access w m n e answer p a =
-    let same = pass_none (quiet m.machine) a.mid refl a.passes in
+    let same = pass_none (quiet m.machine) a.mid refl refl a.passes in
     record {
       mid = m;
       passes = p;
@@ -105,14 +134,9 @@ passed_access w m n e answer p a =
 pub passed_refusal : (w m : World) (n : View) (e : Event) (refusal : Refusal) → m.scarce ≡ true → Passes w m
     → IsRefused (quiet m.machine) e refusal (quiet n) → IsRefused w e refusal (record m { machine = n })
 passed_refusal w m n e refusal is p a =
-    let same : n ≡ m.machine = ap (λ (x : World). x.machine) (pass_none (quiet m.machine) (quiet n) refl a.passes) in
+    let same : n ≡ m.machine = ap (λ (x : World). x.machine) (pass_none (quiet m.machine) (quiet n) refl refl a.passes) in
     record {
       passes = subst (λ v. Passes w (record m { machine = v })) (sym same) p;
       refuses = a.refuses;
       asked = λ want. is;
     }
-
--- what follows from an access
-pub on_ok : {T E P Q : Type 0} (result : Result T E) → (P → Q) → OnOk result P → OnOk result Q
-on_ok (Ok value) f h = f h
-on_ok (Err e) f h = tt

@@ -10,26 +10,26 @@ use Rattle.em_driver.specs.HappenedCall.{Happens}
 use Rattle.em_driver.proofs.course.PlayedCourse.{followed_is_played, neither}
 
 by_want : {A : Type 0} (says : A → Bool) (course : Course A) (w v : World) (n : ℕ) (a : A) (b : Bool)
-    → wants_memory says a v ≡ b → Tells says course → Follows w course n a v
+    → wants_memory says a v ≡ b → Tells says course → Follows w course n a v → w.spared ≡ None
     → Happens says w course (record { events = n; answer = a; world = v })
-by_want says course w v n a true want tells follows = record {
+by_want says course w v n a true want tells follows alone = record {
   named = Some (record { events = n; answer = a; world = v });
   can = (follows, want);
   is = refl;
 }
-by_want says course w v n a false fed tells follows =
+by_want says course w v n a false fed tells follows alone =
     let none = neither (says a) v.starved fed in
     record {
       named = None;
       can = tt;
-      is = sym (followed_is_played says says course w v n a tells follows none.0 (inl none.0) none.1);
+      is = sym (followed_is_played says says course w v n a tells follows alone none.0 (inl none.0) none.1);
     }
 
 pub call_happens : {A : Type 0} (says : A → Bool) (course : Course A) (w v : World) (n : ℕ) (a : A)
-    → Tells says course → Follows w course n a v
+    → Tells says course → Follows w course n a v → w.spared ≡ None
     → Happens says w course (record { events = n; answer = a; world = v })
-call_happens says course w v n a tells follows =
-    by_want says course w v n a (wants_memory says a v) refl tells follows
+call_happens says course w v n a tells follows alone =
+    by_want says course w v n a (wants_memory says a v) refl tells follows alone
 
 -- ---- without a plan no turn finds memory wanting
 

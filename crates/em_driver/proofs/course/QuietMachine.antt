@@ -10,7 +10,7 @@ use Rattle.em_driver.specs.World.{quiet, Passes, Accesses, IsRefused}
 use Rattle.em_driver.proofs.course.WriteAnswers.{poke_answer}
 
 pub quiet_passes : (m : View) → Passes (quiet m) (quiet m)
-quiet_passes m = record { turns = []; taken = inl (refl, refl, refl); is = refl }
+quiet_passes m = record { turns = []; taken = inl (refl, refl, refl); events = []; spare = refl; is = refl }
 
 pub quiet_access : (v w : View) (e : Event) (answer : Answer) → Does v (performs e answer) w
     → Accesses (quiet v) e answer (quiet w)

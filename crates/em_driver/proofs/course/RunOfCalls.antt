@@ -15,7 +15,7 @@ use Rattle.em_journal.proofs.HistoryLaws.{run_join}
 use Rattle.em_turn.specs.Turn.{event_of}
 use Rattle.em_turn.specs.declared.turn.Turn.{Turn}
 use Rattle.em_driver.specs.World.{World, present, after_outcome, after_turn, after_turns, first, Passes, Accesses}
-use Rattle.em_driver.specs.World.{IsRefused}
+use Rattle.em_driver.specs.World.{IsRefused, after_tried, after_other, after_others}
 use Rattle.em_driver.specs.Course.{Course, done, read, write, reset, peek, poke, room, Follows}
 use Rattle.em_driver.specs.Play as plays
 use Rattle.em_driver.specs.Play.{Played, ended, after_access, passed, performed, value_of, play}
@@ -117,12 +117,24 @@ runs_both u v w first more =
 runs_one : (v w : View) (call : Call) → Does v call w → Runs v w
 runs_one v w call did = record { calls = call ∷ []; is = (w, did, refl) }
 
+tried_runs : (w : World) (e : Event) (r : Result (Answer × State) Refusal) → step (present w) e ≡ r
+    → Runs w.machine (after_tried w e r).machine
+tried_runs w e (Ok r) is = runs_one w.machine (after_tried w e (Ok r)).machine (performs e r.0) (is, refl)
+tried_runs w e (Err refusal) is = runs_none w.machine
+
+others_run : (w : World) (events : List Event) → Runs w.machine (after_others w events).machine
+others_run w [] = runs_none w.machine
+others_run w (e ∷ events) =
+    runs_both w.machine (after_other w e).machine (after_others w (e ∷ events)).machine
+    (tried_runs w e (step (present w) e) refl) (others_run (after_other w e) events)
+
 passes_run : (w v : World) → Passes w v → Runs w.machine v.machine
-passes_run w v passes = record {
-  calls = turns_calls w passes.turns;
-  is = subst (Run w.machine (turns_calls w passes.turns)) (sym (ap (λ x. x.machine) passes.is))
-      (turns_run w passes.turns);
-}
+passes_run w v passes =
+    let mid : World = after_turns w passes.turns in
+    let turns : Runs w.machine mid.machine
+    = record { calls = turns_calls w passes.turns; is = turns_run w passes.turns } in
+    subst (Runs w.machine) (sym (ap (λ x. x.machine) passes.is))
+    (runs_both w.machine mid.machine (after_others mid passes.events).machine turns (others_run mid passes.events))
 
 accesses_run : (w v : World) {e : Event} {answer : Answer} → Accesses w e answer v → Runs w.machine v.machine
 accesses_run w v {e = e} {answer = answer} access =

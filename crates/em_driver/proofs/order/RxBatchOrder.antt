@@ -16,8 +16,8 @@ use Rattle.em_step.specs.declared.event.Answer.TheVariants.{Done, Value}
 use Rattle.em_step.specs.declared.refusal.Refusal.TheVariants as refusal
 use Rattle.em_driver.specs.Course.{Course, done, Follows}
 use Rattle.em_driver.specs.Descriptor.{length_of, is_done, is_whole}
-use Rattle.em_driver.specs.Driven.{rdt, rx_at, first, is_filled, IsMarked, IsDriven, IsDrivenBut}
-use Rattle.em_driver.specs.Order.{InOrder, IsSound, Receives, rx_packet_at, waiting, queued}
+use Rattle.em_driver.specs.Driven.{rdt, rx_at, first, is_filled, IsMarked, IsDrivenBut}
+use Rattle.em_driver.specs.Order.{InOrder, IsSound, IsUndisturbed, Receives, rx_packet_at, waiting, queued}
 use Rattle.em_driver.specs.Outcome.{cause_of}
 use Rattle.em_regs.specs.Ring.{following}
 use Rattle.em_driver.specs.Receive.{Answered, rx_buffer, rx_descriptor, received, stopped, rx_packet}
@@ -31,10 +31,10 @@ use Rattle.em_driver.proofs.rings.ReceiveRing.{first_same}
 use Rattle.em_driver.proofs.rings.TransmitRing.{tx_moves_on}
 use Rattle.em_driver.proofs.order.GivenBack.{clears, cleared_moves, first_packet, gives_back}
 use Rattle.em_driver.proofs.rings.MemoryUnits.{rx_ring, rx_buffers, unit_held}
-use Rattle.em_driver.proofs.order.DrivenWorld.{passed, passed_but, passed_driven, order_on, order_none, order_passes}
-use Rattle.em_driver.proofs.order.DrivenWorld.{order_read}
-use Rattle.em_driver.proofs.order.Stages.{stored_same}
-use Rattle.em_driver.proofs.order.DrivenWorld.{written, read_gives, read_keeps, poked, poke_refused}
+use Rattle.em_driver.proofs.order.Accessed.{written, read_gives, read_keeps, poked, poke_refused}
+use Rattle.em_driver.proofs.order.Stages.{beside_access}
+use Rattle.em_driver.proofs.order.DrivenWorld.{passed, passed_by, passed_but, passed_driven, still_undisturbed}
+use Rattle.em_driver.proofs.order.DrivenWorld.{beside_spared, order_on, order_none, order_passes, order_read}
 
 -- ---- one packet goes from the ring to the queue's end
 
@@ -43,13 +43,13 @@ pub record Took (l : Layout) (w v : World) : Type 0 where
   pub order : InOrder l w v (rx_packet_at l (present w) (first l (present w)) ∷ []) []
   pub next : first l (present v) ≡ following l.rx_count (first l (present w))
 
-pub took : (l : Layout) (i : ℕ) (w u v : World) → IsDriven l (present w) → i ≡ first l (present w)
+pub took : (l : Layout) (i : ℕ) (w u v : World) → IsUndisturbed l w → i ≡ first l (present w)
     → is_filled l (present w) (first l (present w)) ≡ true
     → Accesses w (pokes (rx_descriptor l i + 12) (0 ∷ [])) Done u → Accesses u (writes (offset_of Rdt) i) Done v
     → Took l w v
 took l i w u v h at filled a b =
-    let p = passed l w a.mid h.but a.passes in
-    let h1 = passed_driven l w a.mid h p in
+    let p = passed_by l w a.mid h a.passes in
+    let h1 = passed_driven l w a.mid h.driven p in
     let s1 = present a.mid in
     let at1 : i ≡ first l s1 = at ∙ sym (first_same l (present w) s1 p.holds.receiving.tail) in
     let filled1 : is_filled l s1 (first l s1) ≡ true
@@ -57,7 +57,9 @@ took l i w u v h at filled a b =
     let c = clears l s1 (present u) h1 filled1
     (poked s1 (present u) (rx_descriptor l i + 12) (0 ∷ []) a.does.0
     ∙ ap (λ k. record s1 { memory = put s1.memory (rx_descriptor l k + 12) (0 ∷ []) }) at1) in
-    let q = passed l u b.mid c.but b.passes in
+    let cleared = beside_access w u _ _ a in
+    let q = passed l u b.mid c.but (beside_spared l w a.mid u p cleared) b.passes in
+    let given = beside_access u v _ _ b in
     let s2 = present b.mid in
     let first_u : first l (present u) ≡ first l s1 = first_same l s1 (present u) c.tail in
     let first_2 : first l s2 ≡ first l (present u) = first_same l (present u) s2 q.holds.receiving.tail in
@@ -73,15 +75,15 @@ took l i w u v h at filled a b =
     ∙ ap (rx_packet_at l (present u)) first_u
     ∙ c.packet
     ∙ ap (rx_packet_at l s1) (first_same l (present w) s1 p.holds.receiving.tail)
-    ∙ first_packet l (present w) s1 p.stored h.but.receiving p.holds.receiving filled in
+    ∙ first_packet l (present w) s1 p.stored h.driven.but.receiving p.holds.receiving filled in
     let sent = tx_moves_on l (present w) s2 (present v)
     (tx_moves_on l (present w) (present u) s2
     (tx_moves_on l (present w) s1 (present u) p.holds.sending c.sending) q.holds.sending) g.sending in
     record {
       order = record {
-        driven = g.driven;
+        undisturbed = record { driven = g.driven; spared = beside_spared l u b.mid v q given };
         stored = p.stored ++ q.stored;
-        is_stored = stored_same u v _ _ b ∙ q.is ∙ ap (λ x. x ++ q.stored) (stored_same w u _ _ a ∙ p.is)
+        is_stored = given.stored ∙ q.is ∙ ap (λ x. x ++ q.stored) (cleared.stored ∙ p.is)
             ∙ append_assoc w.stored p.stored q.stored;
         sent = sent.sent;
         is_sent = sent.is_sent;
@@ -127,9 +129,9 @@ buffer_held l w i h low = unit_held l (length (present w).memory) h.layout.good 
 
 -- from the look at the packet on
 packet_order : (l : Layout) (i count len : ℕ) (queue : List (List ℕ)) (more : List (List ℕ) → Course Answered)
-    (w v : World) (events : ℕ) (a : Answered) → IsDriven l (present w) → i ≡ first l (present w)
+    (w v : World) (events : ℕ) (a : Answered) → IsUndisturbed l w → i ≡ first l (present w)
     → is_filled l (present w) (first l (present w)) ≡ true → len ≡ length_of (rx_at l (present w) (first l (present w)))
-    → ((x : World) (others : ℕ) (packet : List ℕ) → IsDriven l (present x) → following l.rx_count i ≡ first l
+    → ((x : World) (others : ℕ) (packet : List ℕ) → IsUndisturbed l x → following l.rx_count i ≡ first l
     (present x)
     → Follows x (more (queue ++ packet ∷ [])) others a v → Receives l x v (queue ++ packet ∷ []) a)
     → Follows w (rx_packet l i count queue len more) events a v → Receives l w v queue a
@@ -137,17 +139,17 @@ unfolding Follows
 packet_order l i count len queue more w v events a h at filled long rest (inl end) =
     memory_sound l w v queue count a end.answer_is (order_none l w v h end.world_is)
 packet_order l i count len queue more w v events a h at filled long rest (inr (inl (past, none, is))) =
-    let p = passed l w v h.but past.passes in
-    let low = following_in l.rx_count (rdt (present w)) h.but.receiving.tail in
+    let p = passed_by l w v h past.passes in
+    let low = following_in l.rx_count (rdt (present w)) h.driven.but.receiving.tail in
     let held = buffer_held l v (first l (present w)) (passed_but l w v p) low in
-    let usual = h.but.receiving.lengths (first l (present w)) low filled in
+    let usual = h.driven.but.receiving.lengths (first l (present w)) low filled in
     absurd (omega (arith, past.past, held, usual.most, long, ap (rx_buffer l) at))
 packet_order l i count len queue more w v events a h at filled long rest
     (inr (inr (octets, m, peeks, inl (why, refused, none, is)))) =
-    let p = passed l w m h.but peeks.passes in
-    let hm = passed_driven l w m h p in
-    let q = passed l m v hm.but refused.passes in
-    let low = following_in l.rx_count (rdt (present w)) h.but.receiving.tail in
+    let p = passed_by l w m h peeks.passes in
+    let hm = still_undisturbed l w m h p in
+    let q = passed_by l m v hm refused.passes in
+    let low = following_in l.rx_count (rdt (present w)) h.driven.but.receiving.tail in
     let held = descriptor_held l v (first l (present w)) (passed_but l m v q) low in
     let only : why ≡ refusal.Memory
     = poke_refused (present v) (rx_descriptor l i + 12) (0 ∷ []) why (omega (arith, held, ap (rx_descriptor l) at))
@@ -155,8 +157,8 @@ packet_order l i count len queue more w v events a h at filled long rest
     memory_sound l w v queue count a (is ∙ ap (λ x. (queue, stopped count (cause_of x))) only)
     (order_on l w m v [] [] [] [] (order_passes l w m h peeks.passes) (order_passes l m v hm refused.passes))
 packet_order l i count len queue more w v events a h at filled long rest (inr (inr (octets, m, peeks, inr cleared))) =
-    let p = passed l w m h.but peeks.passes in
-    let hm = passed_driven l w m h p in
+    let p = passed_by l w m h peeks.passes in
+    let hm = still_undisturbed l w m h p in
     let there : first l (present m) ≡ first l (present w) = first_same l (present w)
     (present m) p.holds.receiving.tail in
     let filled_m : is_filled l (present m) (first l (present m)) ≡ true
@@ -168,7 +170,7 @@ packet_order l i count len queue more w v events a h at filled long rest (inr (i
     ∙ (λ k. part (present m).memory (rx_buffer l ((at ∙ sym there) k)) (long k))
     ∙ ap (λ d. part (present m).memory (rx_buffer l (first l (present m))) (length_of d))
     (sym (p.holds.receiving.descriptor filled) ∙ ap (rx_at l (present m)) (sym there)) in
-    let left = rest given.mid given.others octets t.order.driven
+    let left = rest given.mid given.others octets t.order.undisturbed
     (ap (following l.rx_count) (at ∙ sym there) ∙ sym t.next) given.more in
     let order : InOrder l m given.mid (octets ∷ []) []
     = subst (λ x. InOrder l m given.mid (x ∷ []) []) (sym whole) t.order in
@@ -189,9 +191,9 @@ by_mark : (b : Bool) (d : List ℕ) → IsMarked b d → b ≡ true → IsMarked
 by_mark b d m e = subst (λ x. IsMarked x d) e m
 
 looked_order : (l : Layout) (i count : ℕ) (queue : List (List ℕ)) (more : List (List ℕ) → Course Answered)
-    (w v : World) (events : ℕ) (a : Answered) (d : List ℕ) (x y : Bool) → IsDriven l (present w)
+    (w v : World) (events : ℕ) (a : Answered) (d : List ℕ) (x y : Bool) → IsUndisturbed l w
     → i ≡ first l (present w) → d ≡ rx_at l (present w) (first l (present w)) → is_done d ≡ x → is_whole d ≡ y
-    → ((u : World) (others : ℕ) (packet : List ℕ) → IsDriven l (present u) → following l.rx_count i ≡ first l
+    → ((u : World) (others : ℕ) (packet : List ℕ) → IsUndisturbed l u → following l.rx_count i ≡ first l
     (present u)
     → Follows u (more (queue ++ packet ∷ [])) others a v → Receives l u v (queue ++ packet ∷ []) a)
     → Follows w (if not x then done (queue, received count) else if not y then done (queue, stopped count Broken)
@@ -204,40 +206,40 @@ looked_order l i count queue more w v events a d false y h at is x_is y_is rest 
 looked_order l i count queue more w v events a d true false h at is x_is y_is rest end =
     let s = present w in
     let j : ℕ = first l s in
-    let low = following_in l.rx_count (rdt s) h.but.receiving.tail in
-    let filled = mark_says (is_filled l s j) (rx_at l s j) h.marked (ap is_done (sym is) ∙ x_is) in
+    let low = following_in l.rx_count (rdt s) h.driven.but.receiving.tail in
+    let filled = mark_says (is_filled l s j) (rx_at l s j) h.driven.marked (ap is_done (sym is) ∙ x_is) in
     let whole : is_whole (rx_at l s j) ≡ true
-    = marked_whole (rx_at l s j) (by_mark (is_filled l s j) (rx_at l s j) h.marked filled)
-    (h.but.receiving.lengths j low filled) in
+    = marked_whole (rx_at l s j) (by_mark (is_filled l s j) (rx_at l s j) h.driven.marked filled)
+    (h.driven.but.receiving.lengths j low filled) in
     absurd (let not_so : true ≡ false = sym whole ∙ ap is_whole (sym is) ∙ y_is in cc)
 looked_order l i count queue more w v events a d true true h at is x_is y_is rest f =
     let s = present w in
     let j : ℕ = first l s in
-    let filled = mark_says (is_filled l s j) (rx_at l s j) h.marked (ap is_done (sym is) ∙ x_is) in
+    let filled = mark_says (is_filled l s j) (rx_at l s j) h.driven.marked (ap is_done (sym is) ∙ x_is) in
     packet_order l i count (length_of d) queue more w v events a h at filled (ap length_of is) rest f
 
 -- from descriptor i on, the first one
 pub rx_order : (l : Layout) (left i count : ℕ) (queue : List (List ℕ)) (w v : World) (events : ℕ) (a : Answered)
-    → IsDriven l (present w) → i ≡ first l (present w) → Follows w (rx_from l left i count queue) events a v
+    → IsUndisturbed l w → i ≡ first l (present w) → Follows w (rx_from l left i count queue) events a v
     → Receives l w v queue a
 unfolding Follows rx_from
 rx_order l zero i count queue w v events a h at end =
     received_none l w v queue a (ap (λ z. z.0) end.answer_is) (order_none l w v h end.world_is)
     (subst (λ (z : Answered). IsSound z.1) (sym end.answer_is) tt)
 rx_order l (suc left) i count queue w v events a h at (inl (past, none, is)) =
-    let p = passed l w v h.but past.passes in
+    let p = passed_by l w v h past.passes in
     let held = descriptor_held l v (first l (present w)) (passed_but l w v p)
-    (following_in l.rx_count (rdt (present w)) h.but.receiving.tail) in
+    (following_in l.rx_count (rdt (present w)) h.driven.but.receiving.tail) in
     absurd (omega (arith, past.past, held, ap (rx_descriptor l) at))
 rx_order l (suc left) i count queue w v events a h at (inr (d, m, peeks, f)) =
-    let p = passed l w m h.but peeks.passes in
+    let p = passed_by l w m h peeks.passes in
     let there : first l (present m) ≡ first l (present w) = first_same l (present w)
     (present m) p.holds.receiving.tail in
     let at_m : i ≡ first l (present m) = at ∙ sym there in
     received_on l w m v queue a (order_passes l w m h peeks.passes)
     (looked_order l i count queue (rx_from l left (following l.rx_count i) (count + 1)) m v events a d (is_done d)
     (is_whole d)
-    (passed_driven l w m h p) at_m (peeks.gives ∙ ap (rx_at l (present m)) at_m) refl refl
+    (still_undisturbed l w m h p) at_m (peeks.gives ∙ ap (rx_at l (present m)) at_m) refl refl
     (λ x others packet hx next g. rx_order l left (following l.rx_count i) (count + 1)
     (queue ++ packet ∷ []) x v others a hx next g)
     f)
@@ -245,7 +247,7 @@ rx_order l (suc left) i count queue w v events a h at (inr (d, m, peeks, f)) =
 -- ---- a whole call
 
 pub rx_batch_order : (l : Layout) (number n : ℕ) (queue : List (List ℕ)) (w v : World) (events : ℕ) (a : Answered)
-    → IsDriven l (present w) → Follows w (rx_batch l number n queue) events a v → Receives l w v queue a
+    → IsUndisturbed l w → Follows w (rx_batch l number n queue) events a v → Receives l w v queue a
 unfolding Follows rx_batch
 rx_batch_order l (suc number) n queue w v events a h end =
     received_none l w v queue a (ap (λ z. z.0) end.answer_is) (order_none l w v h end.world_is)
@@ -262,9 +264,9 @@ rx_batch_order l zero (suc n) queue w v events a h (tail, step) =
     let same = (read_keeps s (present m) (offset_of Rdt) (Value tail) step.step.does.0).registers in
     let is : tail ≡ rdt (present m) = gives ∙ sym (ap (λ r. value_of r Rdt) same) in
     let below : nat_lt tail l.rx_count ≡ true
-    = lt-ltb tail l.rx_count (omega (arith, is, order.driven.but.receiving.tail)) in
+    = lt-ltb tail l.rx_count (omega (arith, is, order.undisturbed.driven.but.receiving.tail)) in
     received_on l w m v queue a order
-    (rx_order l (min (suc n) 65536) (following l.rx_count tail) 0 queue m v step.others a order.driven
+    (rx_order l (min (suc n) 65536) (following l.rx_count tail) 0 queue m v step.others a order.undisturbed
     (ap (following l.rx_count) is)
     (subst (λ b. Follows m (if b then rx_from l (min (suc n) 65536) (following l.rx_count tail) 0 queue
     else done (queue, stopped 0 Broken)) step.others a v) below step.more))

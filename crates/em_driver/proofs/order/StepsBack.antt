@@ -2,7 +2,7 @@
 use Rattle.std.proofs.Common.{◌≡◌, ◌∙◌, ℕ, zero, suc, ◌+◌, ◌≤◌, List, [], ◌∷◌, ◌++◌, length, drop, refl, sym}
 use Rattle.std.proofs.Common.{◌⊎◌, ap, subst}
 use Rattle.std.proofs.Common.{inl, inr, arith, append_assoc, append-nil, Result, Ok, Err}
-use Rattle.std.proofs.lemmas.List.{drop-drop, length-drop, take-append-drop}
+use Rattle.std.proofs.lemmas.List.{drop-drop, take-append-drop}
 use Rattle.em_step.specs.Cost.{cost}
 use Rattle.em_step.specs.Event.{Event}
 use Rattle.em_step.specs.State.{State}
@@ -10,11 +10,12 @@ use Rattle.em_step.specs.Step.{step}
 use Rattle.em_step.specs.declared.event.Answer.{Answer}
 use Rattle.em_step.specs.declared.refusal.Refusal.{Refusal}
 use Rattle.em_journal.specs.View.{View, after_backs, after_event, back_to, reach, states}
-use Rattle.em_driver.specs.Back.{Leg, IsCall, IsEvent, AreLegs, after_legs, all_steps}
+use Rattle.em_driver.specs.Back.{Leg, IsCall, IsEvent, AreLegs, Begins, after_legs, all_steps}
 use Rattle.em_driver.specs.Course.{Course, done, read, write, reset, peek, poke, room, Follows}
 use Rattle.em_driver.specs.Driven.{IsDriven}
 use Rattle.em_turn.specs.Turn.{event_of}
 use Rattle.em_driver.specs.World.{World, Accesses, Passes, after_outcome, after_turn, after_turns}
+use Rattle.em_driver.specs.World.{after_theirs, after_tried, after_other, after_others}
 use Rattle.em_driver.specs.declared.layout.Layout.{Layout}
 use Rattle.em_turn.specs.declared.turn.Turn.{Turn}
 
@@ -54,13 +55,16 @@ behind_on w v u a b h j =
 behind_as : (w v : World) (a b : ℕ) → b ≡ a → Behind w v a → Behind w v b
 behind_as w v a b e h = subst (Behind w v) (sym e) h
 
-outcome_behind : (w : World) (t : Turn) (r : Result (Answer × State) Refusal) → Behind w (after_outcome w t r) 0
-outcome_behind w t (Ok r) = record {
+theirs_behind : (w : World) (e : Event) (r : Answer × State) → Behind w (after_theirs w e r) 0
+theirs_behind w e r = record {
   k = 1;
   count = omega arith;
-  rest = drop (reach w.machine.budget (cost w.machine.present (event_of t) ∷ w.machine.costs)) (states w.machine);
-  is = event_behind w.machine r.1 (cost w.machine.present (event_of t));
+  rest = drop (reach w.machine.budget (cost w.machine.present e ∷ w.machine.costs)) (states w.machine);
+  is = event_behind w.machine r.1 (cost w.machine.present e);
 }
+
+outcome_behind : (w : World) (t : Turn) (r : Result (Answer × State) Refusal) → Behind w (after_outcome w t r) 0
+outcome_behind w t (Ok r) = theirs_behind w (event_of t) r
 outcome_behind w t (Err refusal) =
     record { k = 0; count = refl; rest = []; is = sym (append-nil (states w.machine)) }
 
@@ -70,9 +74,20 @@ turns_behind w (t ∷ turns) =
     behind_on w (after_turn w t) (after_turns (after_turn w t) turns) 0 0
     (outcome_behind w t (step w.machine.present (event_of t))) (turns_behind (after_turn w t) turns)
 
+tried_behind : (w : World) (e : Event) (r : Result (Answer × State) Refusal) → Behind w (after_tried w e r) 0
+tried_behind w e (Ok r) = theirs_behind w e r
+tried_behind w e (Err refusal) = behind_none w
+
+others_behind : (w : World) (events : List Event) → Behind w (after_others w events) 0
+others_behind w [] = behind_none w
+others_behind w (e ∷ events) =
+    behind_on w (after_other w e) (after_others (after_other w e) events) 0 0
+    (tried_behind w e (step w.machine.present e)) (others_behind (after_other w e) events)
+
 passes_behind : (w v : World) → Passes w v → Behind w v 0
 passes_behind w v p =
-    let b = turns_behind w p.turns in
+    let mid : World = after_turns w p.turns in
+    let b = behind_on w mid (after_others mid p.events) 0 0 (turns_behind w p.turns) (others_behind mid p.events) in
     subst (λ x. Behind w x 0) (sym p.is) (record { k = b.k; count = b.count; rest = b.rest; is = b.is })
 
 access_behind : (w v : World) {e : Event} {answer : Answer} → Accesses w e answer v → Behind w v 1
@@ -125,29 +140,20 @@ follows_behind (room stopped more) w v events answer (inr f) = follows_behind mo
 
 -- ---- where steps back lead
 
-some_state : (xs : List State) → 1 ≤ length xs → (s : State) × (rest : List State) × (xs ≡ s ∷ rest)
-some_state [] h = absurd (omega arith)
-some_state (s ∷ rest) h = (s, rest, refl)
-
 heads : (s t : State) (xs ys : List State) → ◌≡◌ {A = List State} (s ∷ xs) (t ∷ ys) → s ≡ t
 heads s t xs ys h = cc
 
-none_left : (k : ℕ) (s : State) (rest : List State) → drop k [] ≡ s ∷ rest → ⊥
-none_left zero s rest h = cc
-none_left (suc k) s rest h = cc
+back_shows : (k : ℕ) (m : View) (past : List State) → suc k ≤ length past
+    → ((x : View) → k ≤ length x.past → states (after_backs k x) ≡ drop k (states x))
+    → states (after_backs k (back_to past m)) ≡ drop k past
+back_shows k m [] few on = absurd (omega arith)
+back_shows k m (newest ∷ older) few on =
+    on (record m { present = newest; past = older; costs = drop 1 m.costs }) (omega arith)
 
-back_leads : (k : ℕ) (m : View) (past : List State) (s : State) (rest : List State) → drop k past ≡ s ∷ rest
-    → ((x : View) → drop k (states x) ≡ s ∷ rest → (after_backs k x).present ≡ s)
-    → (after_backs k (back_to past m)).present ≡ s
-back_leads k m [] s rest none on = absurd (none_left k s rest none)
-back_leads k m (newest ∷ older) s rest some on =
-    on (record m { present = newest; past = older; costs = drop 1 m.costs }) some
-
--- k steps back lead to the state that is k behind the newest
-backs_lead : (k : ℕ) (m : View) (s : State) (rest : List State) → drop k (states m) ≡ s ∷ rest
-    → (after_backs k m).present ≡ s
-backs_lead zero m s rest h = heads m.present s m.past rest h
-backs_lead (suc k) m s rest h = back_leads k m m.past s rest h (λ x e. backs_lead k x s rest e)
+-- after k steps back, what was shown behind the newest k states
+backs_show : (k : ℕ) (m : View) → k ≤ length m.past → states (after_backs k m) ≡ drop k (states m)
+backs_show zero m few = refl
+backs_show (suc k) m few = back_shows k m m.past few (λ x e. backs_show k x e)
 
 -- ---- calls and events, one after another
 
@@ -192,23 +198,31 @@ leg_behind : (A : Type 0) (m : View) (leg : Leg) → IsCall A m leg ⊎ IsEvent 
 leg_behind A m leg (inl call) = call_behind A m leg call
 leg_behind A m leg (inr event) = one_behind m leg event
 
+begins_behind : (m v : View) → Begins v m → IsBehind m v 0
+begins_behind m v h = record { rest = h.0; is = h.1 }
+
 legs_behind : (A : Type 0) (m : View) (legs : List Leg) → AreLegs A m legs
     → IsBehind m (after_legs m legs) (all_steps legs)
 legs_behind A m [] are = record { rest = []; is = sym (append-nil (states m)) }
-legs_behind A m (leg ∷ legs) are =
-    is_behind_on m leg.now (after_legs leg.now legs) leg.steps (all_steps legs)
-    (leg_behind A m leg are.0) (legs_behind A leg.now legs are.1)
+legs_behind A m (leg ∷ legs) (from, begins, which, are) =
+    let rest : ℕ = leg.steps + all_steps legs in
+    let n : View = after_legs leg.now legs in
+    subst (IsBehind m n) {x = 0 + rest} {y = rest} (omega arith)
+    (is_behind_on m from n 0 rest (begins_behind m from begins)
+    (is_behind_on from leg.now n leg.steps (all_steps legs) (leg_behind A from leg which) (legs_behind A leg.now legs are)))
 
-pub back_to_start : (A : Type 0) (l : Layout) (m : View) (legs : List Leg) → AreLegs A m legs
-    → all_steps legs ≤ length (after_legs m legs).past
-    → ((after_backs (all_steps legs) (after_legs m legs)).present ≡ m.present)
-    × (IsDriven l m.present → IsDriven l (after_backs (all_steps legs) (after_legs m legs)).present)
-back_to_start A l m legs are inside =
+pub back_to_start : (A : Type 0) (l : Layout) (m v : View) (legs : List Leg) → AreLegs A m legs
+    → Begins v (after_legs m legs) → all_steps legs ≤ length v.past
+    → ((after_backs (all_steps legs) v).present ≡ m.present)
+    × Begins (after_backs (all_steps legs) v) m
+    × (IsDriven l m.present → IsDriven l (after_backs (all_steps legs) v).present)
+back_to_start A l m v legs are begins inside =
     let k : ℕ = all_steps legs in
     let n : View = after_legs m legs in
-    let b = legs_behind A m legs are in
-    let some = some_state (drop k (states n)) (omega (arith, length-drop k (states n))) in
-    let shown : states m ≡ (some.0 ∷ some.1) ++ b.rest = b.is ∙ ap (λ x. x ++ b.rest) some.2 in
-    let is : (after_backs k n).present ≡ m.present
-    = backs_lead k n some.0 some.1 some.2 ∙ sym (heads m.present some.0 m.past (some.1 ++ b.rest) shown) in
-    (is, λ h. subst (IsDriven l) (sym is) h)
+    let u : View = after_backs k v in
+    let b = is_behind_on m n v k 0 (legs_behind A m legs are) (begins_behind n v begins) in
+    let shown : states m ≡ states u ++ b.rest
+    = b.is ∙ ap (λ j. drop j (states v) ++ b.rest) (omega arith)
+    ∙ ap (λ x. x ++ b.rest) (sym (backs_show k v inside)) in
+    let is : u.present ≡ m.present = sym (heads m.present u.present m.past (u.past ++ b.rest) shown) in
+    (is, (b.rest, shown), λ h. subst (IsDriven l) (sym is) h)

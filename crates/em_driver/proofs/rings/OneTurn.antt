@@ -9,8 +9,6 @@ use Rattle.em_regs.specs.Setup.{rx_setup, tx_setup}
 use Rattle.em_rx.specs.Frame.{Frame}
 use Rattle.em_rx.specs.Receive as rx
 use Rattle.em_tx.specs.Ring as tx
-use Rattle.em_latch.specs.Latches.{after_raise}
-use Rattle.em_step.specs.Access.{after_link, differ}
 use Rattle.em_step.specs.Event.{arrives, receives}
 use Rattle.em_step.specs.State.{State}
 use Rattle.em_step.specs.Step.{step}
@@ -192,13 +190,3 @@ moves_on l s t u a b h k = record {
   receiving = rx_moves_on l s t u a b h.receiving k.receiving;
   sending = tx_moves_on l s t u h.sending k.sending;
 }
-
--- ---- the link
-
-link_by : (l : Layout) (s : State) (up b : Bool) → IsDrivenBut l s
-    → Moves l s (if b then record s { link = up; latches = after_raise s.latches 0x4 } else s) []
-link_by l s up true h = moves_same l s _ h refl refl refl refl refl
-link_by l s up false h = moves_none l s h
-
-pub moves_link : (l : Layout) (s : State) (up : Bool) → IsDrivenBut l s → Moves l s (after_link s up) []
-moves_link l s up h = link_by l s up (differ up s.link) h

@@ -1,16 +1,12 @@
-use Rattle.std.proofs.Common.{◌+◌, length}
+use Rattle.std.proofs.Common.{length}
 use Rattle.em_tape.specs.Texts.{texts}
-use Rattle.em_debugger.proofs.FilesLaws.{AddedSo, ExpectedSo}
+use Rattle.em_debugger.proofs.FilesLaws.{AddedSo}
 use Rattle.em_debugger.proofs.files.add_all.Given as goal
 
 -- the lines of the text were added as far as the rest, with the answers that they expect
 abbrev pub invariant-loop-rest : goal.invariant-loop-rest
 invariant-loop-rest l =
-    record {
-      added : AddedSo l.fn.tape l.tape l.fn.text l.rest;
-      expected : ExpectedSo (length l.fn.tape.lines + 1) (length l.tape.lines + 1)
-          (texts l.fn.wanted.answers.items) (texts l.wanted.answers.items) l.fn.text l.rest;
-    }
+    AddedSo l.fn.tape l.tape (texts l.fn.wanted.answers.items) (texts l.wanted.answers.items) l.fn.text l.rest
 
 abbrev pub decreases-loop-rest : goal.decreases-loop-rest
 decreases-loop-rest l = length l.rest

@@ -1,7 +1,7 @@
 use Rattle.std.proofs.Common.{◌++◌, refl}
 use Rattle.std.proofs.lemmas.Result.{MatchResult-from_err}
 use Rattle.em_text.proofs.WritingLemmas.{WroteFront-more, WroteFront-none, WroteFront-part, Writes-more}
-use Rattle.em_debugger.specs.Files.{disk_text}
+use Rattle.em_debugger.specs.Disk.{disk_text}
 use Rattle.em_debugger.proofs.files.write_disk_fault.Goals as goal
 
 pub returns-in_err-write_whole : goal.returns-in_err-write_whole

@@ -4,10 +4,11 @@ use Rattle.em_turn.specs.declared.turn.Turn.TheVariants.{RxStep}
 use Rattle.em_driver.proofs.taking.receive.Goals as goal
 
 pub returns-in-Ok : goal.returns-in-Ok
-returns-in-Ok c =
-    engine_performed c.args.machine.now c.perform.new.self RxStep c.in-Ok.field-0 refl c.in-Ok.ensures.ok.does
+returns-in-Ok g c =
+    engine_performed (g.M.Acts.shows c.args.machine.now) (g.M.Acts.shows c.perform.new.self) RxStep c.in-Ok.field-0
+    refl c.in-Ok.ensures.ok.does
 
 pub returns-in-Err : goal.returns-in-Err
-returns-in-Err c =
-    engine_refused c.args.machine.now c.perform.new.self RxStep c.in-Err.refusal c.not_performed.result
-    c.not_performed.ensures c.in-Err.ensures.err
+returns-in-Err g c =
+    engine_refused (g.M.Acts.shows c.args.machine.now) (g.M.Acts.shows c.perform.new.self) RxStep c.in-Err.refusal
+    c.not_performed.result c.not_performed.ensures c.in-Err.ensures.err

@@ -6,7 +6,7 @@ use Rattle.em_driver.proofs.course.TakenTurns.{performed_more, refused_more}
 use Rattle.em_driver.proofs.taking.take_all.Goals as goal
 
 pub loop-turn-preserved-in-Performed : goal.loop-turn-preserved-in-Performed
-loop-turn-preserved-in-Performed c =
+loop-turn-preserved-in-Performed g c =
     let here = c.loop-turn.invariant.2 in
     let step = c.in-Some.ensures.steps.0 in
     let list = ap length step in
@@ -16,9 +16,9 @@ loop-turn-preserved-in-Performed c =
       record {
         list = here.list ∙ ap (λ q. c.loop-turn.yielded ++ q) step
             ∙ sym (append_assoc c.loop-turn.yielded (c.in-Some.turn ∷ []) (into_iter_items c.next.new.self));
-        world = performed_more (world_with c.args.machine.now c.args.stored.now.items c.args.counts.now)
-            c.loop-turn.yielded
-            c.loop-turn.machine c.take.new.machine c.loop-turn.stored.items c.take.new.stored.items c.loop-turn.counts
+        world = performed_more (world_with (g.M.Acts.shows c.args.machine.now) c.args.stored.now.items
+            c.args.counts.now) c.loop-turn.yielded (g.M.Acts.shows c.loop-turn.machine)
+            (g.M.Acts.shows c.take.new.machine) c.loop-turn.stored.items c.take.new.stored.items c.loop-turn.counts
             c.in-Some.turn here.world c.in-Performed.ensures.takes;
         few = omega (arith, list, here.few);
         room = omega (arith, some, here.room, c.take.ensures.room);
@@ -27,7 +27,7 @@ loop-turn-preserved-in-Performed c =
     )
 
 pub loop-turn-preserved : goal.loop-turn-preserved
-loop-turn-preserved c =
+loop-turn-preserved g c =
     let here = c.loop-turn.invariant.2 in
     let step = c.in-Some.ensures.steps.0 in
     let list = ap length step in
@@ -37,9 +37,9 @@ loop-turn-preserved c =
       record {
         list = here.list ∙ ap (λ q. c.loop-turn.yielded ++ q) step
             ∙ sym (append_assoc c.loop-turn.yielded (c.in-Some.turn ∷ []) (into_iter_items c.next.new.self));
-        world = refused_more (world_with c.args.machine.now c.args.stored.now.items c.args.counts.now)
-            c.loop-turn.yielded
-            c.loop-turn.machine c.take.new.machine c.loop-turn.stored.items c.take.new.stored.items c.loop-turn.counts
+        world = refused_more (world_with (g.M.Acts.shows c.args.machine.now) c.args.stored.now.items
+            c.args.counts.now) c.loop-turn.yielded (g.M.Acts.shows c.loop-turn.machine)
+            (g.M.Acts.shows c.take.new.machine) c.loop-turn.stored.items c.take.new.stored.items c.loop-turn.counts
             c.in-Some.turn here.world c.in-Refused.ensures.takes;
         few = omega (arith, list, here.few);
         room = omega (arith, some, here.room, c.take.ensures.room);

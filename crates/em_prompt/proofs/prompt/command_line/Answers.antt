@@ -2,5 +2,5 @@ use Rattle.std.proofs.Common.{arith}
 use Rattle.em_text.proofs.WordsLemmas.{words_of-few}
 use Rattle.em_prompt.proofs.prompt.command_line.Goals as goal
 
-pub form_fault-requires : goal.form_fault-requires
-form_fault-requires c = omega (arith, words_of-few c.args.rest.now, c.requires)
+pub says-requires : goal.says-requires
+says-requires c = omega (arith, words_of-few c.args.rest.now, c.requires)

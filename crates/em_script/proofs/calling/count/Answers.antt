@@ -5,7 +5,7 @@ use Rattle.em_script.proofs.CallingLemmas.{counted, is_no_stats}
 use Rattle.em_script.proofs.calling.count.Goals as goal
 
 pub returns-clause-course : goal.returns-clause-course
-returns-clause-course c =
+returns-clause-course g c =
     let w = c.args.driver.now.bus in
     let v = c.read_stats.new.self.bus in
     let zero = c.default-counted.ensures in

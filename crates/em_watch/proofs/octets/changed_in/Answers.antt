@@ -1,7 +1,7 @@
 use Rattle.std.proofs.Common.{◌≡◌, ◌+◌, ◌-◌, ◌<◌, ◌≤◌, ℕ, arith, subst, sym}
 use Rattle.em_watch.specs.MemoryChange.{ChangesOctet, LeavesOctets}
 use Rattle.em_watch.proofs.DifferenceLaws.{none_is}
-use Rattle.em_watch.proofs.OctetLaws.{changed_there, front_left, is_change}
+use Rattle.em_watch.proofs.OctetLaws.{back_left, changed_there, front_left, is_change}
 use Rattle.em_watch.proofs.octets.changed_in.Goals as goal
 
 pub returns-in_err-first-clause-none : goal.returns-in_err-first-clause-none
@@ -52,3 +52,16 @@ returns-clause-first c =
     subst (LeavesOctets c.args.machine.now c.args.back window.addr) (sym c.between-range.ensures.addr)
     (front_left c.args.machine.now c.args.back window around.result.0 around.result.1 around.ensures.before
     around.ensures.after c.in_ok-first.first (omega arith) c.in_ok-first.ensures.first)
+
+pub returns-clause-rest : goal.returns-clause-rest
+returns-clause-rest c =
+    let window = c.args.window in
+    let around = c.octets_around in
+    let last : ℕ = c.last_other-last.result in
+    let range = c.between-range.result in
+    let ends : window.addr + (last + 1) ≡ range.addr + range.len
+    = omega (arith, c.between-range.ensures.addr, c.between-range.ensures.len, c.last_other-last.ensures.from) in
+    subst (λ a. LeavesOctets c.args.machine.now c.args.back a (window.addr + window.len)) ends
+    (back_left c.args.machine.now c.args.back window around.result.0 around.result.1 around.ensures.before
+    around.ensures.after (last + 1)
+    (λ j from l. c.last_other-last.ensures.rest j (omega (arith, from)) (omega (arith, c.len-2.ensures.len, l))))

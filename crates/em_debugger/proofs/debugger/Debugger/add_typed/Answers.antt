@@ -1,17 +1,24 @@
-use Rattle.std.proofs.Common.{refl, subst}
-use Rattle.em_tape.specs.Texts.{texts}
-use Rattle.em_debugger.specs.Expected.{Expects}
+use Rattle.std.proofs.Common.{refl}
+use Rattle.std.proofs.lemmas.Result.{MatchResult-from_err}
+use Rattle.em_debugger.specs.Performing.{cut_alone, uncut}
 use Rattle.em_debugger.proofs.debugger.Debugger.add_typed.Goals as goal
 
-pub returns-in-Ok-clause-ok : goal.returns-in-Ok-clause-ok
-returns-in-Ok-clause-ok c =
-    let between = c.cut.new.self in
-    let held = texts between.wanted.answers.items in
-    let holds = texts c.expect.new.all.answers.items in
-    record {
-      between = between;
-      cut = c.in_ok-dropped.ensures.ok;
-      tape = c.in_ok-add.ensures.ok;
-      expects = subst (λ n. Expects n c.args.asked.now held holds) c.len.ensures.len c.in-Ok.ensures.ok;
-      rest = record { settings = refl; told = refl; asked = refl; warns = refl; score = refl; engines = refl; offered = refl };
-    }
+pub returns-clause-ok : goal.returns-clause-ok
+returns-clause-ok c = record {
+  between = c.cut.new.self;
+  cut = c.in_ok-dropped.ensures.ok;
+  tape = c.in_ok-add_expecting.ensures.ok;
+  expects = c.in_ok-add_expecting.ensures.expect;
+  rest = record { settings = refl; told = refl; asked = refl; warns = refl; score = refl; engines = refl; offered = refl };
+}
+
+pub returns-in_err-dropped-clause-err : goal.returns-in_err-dropped-clause-err
+returns-in_err-dropped-clause-err c =
+    MatchResult-from_err _ _ _ c.from_residual.ensures.0 (λ _. uncut c.in_err-dropped.ensures.err)
+
+pub returns-in_err-add_expecting-clause-err : goal.returns-in_err-add_expecting-clause-err
+returns-in_err-add_expecting-clause-err c =
+    MatchResult-from_err _ _ _ c.from_residual-in_err-add_expecting.ensures.0 (λ _.
+    cut_alone c.cut.new.self c.in_ok-dropped.dropped c.in_ok-dropped.ensures.ok c.in_err-add_expecting.ensures.err
+    c.in_err-add_expecting.ensures.stay
+    (record { settings = refl; told = refl; asked = refl; warns = refl; score = refl; engines = refl; offered = refl }))

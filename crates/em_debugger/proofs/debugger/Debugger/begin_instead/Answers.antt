@@ -19,5 +19,5 @@ pub returns-in-Err : goal.returns-in-Err
 returns-in-Err g c = record {
   ok = OnOk-written _ _ _ (fault_text c.in-Err.fault)
       (BeginsInstead c.args.step c.args.self.now c.cut.new.self c.args.script.now) c.write_fault.ensures.writes
-      (uncut c.in-Err.fault refl);
+      (uncut c.in-Err.fault refl c.in-Err.ensures.err);
 }

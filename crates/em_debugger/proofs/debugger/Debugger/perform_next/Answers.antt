@@ -1,3 +1,8 @@
+use Rattle.std.proofs.Common.{ap}
+use Rattle.std.proofs.lemmas.Result.{MatchResult-from_err}
+use Rattle.em_debugger.specs.declared.debugger.Debugger.{Debugger}
+use Rattle.em_debugger.specs.Performing.{unengaged}
+use Rattle.em_debugger.proofs.RefusedLaws.{keeps_beside}
 use Rattle.em_debugger.proofs.debugger.Debugger.perform_next.Goals as goal
 
 pub returns-in_ok-engage-in-Some-clause-some : goal.returns-in_ok-engage-in-Some-clause-some
@@ -6,3 +11,16 @@ returns-in_ok-engage-in-Some-clause-some c = record {
   performs = rw c.in-Some.is at c.in_ok-performed.ensures.some;
   engages = rw c.event-before.ensures at c.in_ok-engage-in-Some.ensures.ok;
 }
+
+pub returns-in_err-engage-in-Some-clause-err : goal.returns-in_err-engage-in-Some-clause-err
+returns-in_err-engage-in-Some-clause-err c =
+    let between = c.perform_ahead.new.self in
+    let new = c.engage.new.self in
+    let refused = c.in_err-engage-in-Some.ensures.err in
+    MatchResult-from_err _ _ _ c.from_residual-in_err-engage-in-Some.ensures.0 (λ _.
+    unengaged between c.in-Some.performed (rw c.in-Some.is at c.in_ok-performed.ensures.some)
+    (ap (λ (d : Debugger). d.tape) refused) (keeps_beside between new refused c.in_err-engage-in-Some.ensures.kept))
+
+pub returns-in_err-performed-clause-err : goal.returns-in_err-performed-clause-err
+returns-in_err-performed-clause-err c =
+    MatchResult-from_err _ _ _ c.from_residual.ensures.0 (λ _. c.in_err-performed.ensures.err)

@@ -19,5 +19,5 @@ returns-in-Ok g c =
 pub returns-in-Err : goal.returns-in-Err
 returns-in-Err g c = record {
   ok = OnOk-written _ _ _ (fault_text c.in-Err.fault) (PlaysText c.args.self.now c.add_lines.new.self c.args.script.now)
-      c.write_fault.ensures.writes (unplayed c.in-Err.fault refl);
+      c.write_fault.ensures.writes (unplayed c.in-Err.fault refl c.in-Err.ensures.err);
 }

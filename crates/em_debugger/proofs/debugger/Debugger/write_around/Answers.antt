@@ -1,45 +1,9 @@
-use Rattle.std.proofs.Common.{◌++◌, refl}
-use Rattle.std.proofs.lemmas.Result.{MatchResult-from_err}
-use Rattle.em_text.proofs.WritingLemmas.{WroteFront-more, WroteFront-none, WroteFront-part, Writes-more}
-use Rattle.std.proofs.Common.{length, take}
-use Rattle.em_debugger.specs.History.{around_text, last_of, lines_between}
-use Rattle.em_debugger.specs.History.{lines_text}
-use Rattle.em_debugger.specs.History.{start_text}
+use Rattle.em_debugger.proofs.HistoryLaws.{around_shown}
 use Rattle.em_debugger.proofs.debugger.Debugger.write_around.Goals as goal
 
-pub returns-in_err-write_start : goal.returns-in_err-write_start
-returns-in_err-write_start g c =
-    let wrote-0 = WroteFront-none (g.W.Write.contents c.args.writer.now) (around_text c.args.self.now c.args.most
-    c.args.here) in
-    record {
-      writes = MatchResult-from_err _ _ _ c.from_residual.ensures.0 (λ _.
-          WroteFront-part ((lines_text c.args.self.now c.args.here (last_of c.args.most (lines_between
-          c.args.self.now.tape.did 0 c.args.here))) ++ (lines_text c.args.self.now c.args.here (take c.args.most
-          (lines_between c.args.self.now.tape.did c.args.here (length c.args.self.now.tape.did))))) wrote-0 refl
-          c.in_err-write_start.ensures.writes);
-    }
-
-pub returns-in_err-write_newest : goal.returns-in_err-write_newest
-returns-in_err-write_newest g c =
-    let wrote-0 = WroteFront-none (g.W.Write.contents c.args.writer.now) (around_text c.args.self.now c.args.most
-    c.args.here) in
-    let wrote-1 = WroteFront-more (start_text c.args.here) wrote-0 refl c.in_ok-write_start.ensures.writes in
-    record {
-      writes = MatchResult-from_err _ _ _ c.from_residual-in_err-write_newest.ensures.0 (λ _.
-          WroteFront-part (lines_text c.args.self.now c.args.here (take c.args.most (lines_between
-          c.args.self.now.tape.did c.args.here (length c.args.self.now.tape.did)))) wrote-1 refl
-          c.in_err-write_newest.ensures.writes);
-    }
-
 pub returns : goal.returns
-returns g c =
-    let wrote-0 = WroteFront-none (g.W.Write.contents c.args.writer.now) (around_text c.args.self.now c.args.most
-    c.args.here) in
-    let wrote-1 = WroteFront-more (start_text c.args.here) wrote-0 refl c.in_ok-write_start.ensures.writes in
-    let wrote-2 = WroteFront-more (lines_text c.args.self.now c.args.here (last_of c.args.most (lines_between
-    c.args.self.now.tape.did 0 c.args.here))) wrote-1 refl c.in_ok-write_newest.ensures.writes in
-    record {
-      writes = Writes-more _ _ _ _ wrote-2.front (lines_text c.args.self.now c.args.here (take c.args.most
-          (lines_between c.args.self.now.tape.did c.args.here (length c.args.self.now.tape.did)))) _ wrote-2.written
-          c.write_ahead.ensures.writes wrote-2.whole;
-    }
+returns g c = record {
+  ok = around_shown _ _ _ _ c.write_ahead.result c.args.self.now c.args.most c.args.here c.opened.result
+      c.opened.ensures.opened c.in_ok-write_so_far.ensures.writes c.in_ok-write_opened.ensures.ok
+      c.write_ahead.ensures.writes;
+}

@@ -15,4 +15,5 @@ returns-in_ok-insert c =
       ok = rw (lt-ltb c.args.lines (length (texts old)) within) (ap texts c.in_ok-insert.ensures.items
           ∙ texts-insert old c.args.lines c.new.result
           ∙ ap (λ l. insert (texts old) c.args.lines l) c.new.ensures.items);
+      err = tt;
     }

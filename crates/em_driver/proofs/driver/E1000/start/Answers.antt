@@ -16,9 +16,9 @@ returns-in-Ok-clause-good g c =
 pub returns-in-Ok-clause-order : goal.returns-in-Ok-clause-order
 returns-in-Ok-clause-order g c =
     let good = c.is_good.ensures.0 c.if-is_good.true in
-    start_order c.args.layout (g.B.Bus.world c.args.bus) (g.B.Bus.world c.initialize.new.self.driver.bus)
+    λ spared. start_order c.args.layout (g.B.Bus.world c.args.bus) (g.B.Bus.world c.initialize.new.self.driver.bus)
     c.initialize.new.self.events (subst (λ n. IsGoodLayout n c.args.layout) c.size.ensures good)
-    (placed c.size.result c.args.layout good (omega (arith, c.size.type_inv))) c.in-Ok.ensures.ok
+    (placed c.size.result c.args.layout good (omega (arith, c.size.type_inv))) spared c.in-Ok.ensures.ok
 
 pub returns-in-Err-clause-untouched : goal.returns-in-Err-clause-untouched
 returns-in-Err-clause-untouched g c = λ bad.

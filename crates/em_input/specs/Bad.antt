@@ -1,0 +1,37 @@
+-- What is wrong with a line of a script.
+use Rattle.std.specs.Prelude.{◌≡◌, ℕ, Bool, true, false, ◌&&◌, List, codes, Option, Some, None, Result, Ok, Err}
+use Rattle.em_regs.specs.declared.reg.Reg.{Reg}
+use Rattle.em_line.specs.Grammar.{parsed_line}
+use Rattle.em_line.specs.ParsedLine.{ParsedLine, bad}
+use Rattle.em_line.specs.Parts.{said_in}
+use Rattle.em_prompt.specs.Prompt.{Wrong, prompted}
+use Rattle.em_prompt.specs.Scripted.{played}
+use Rattle.em_prompt.specs.Typed.{Typed}
+use Rattle.em_prompt.specs.WrongText.{wrong_text}
+
+-- a line has no form
+abbrev pub is_none : ParsedLine → Bool
+is_none bad = true
+is_none line = false
+
+-- what is played has no form
+abbrev pub has_no_form : List ℕ → Bool
+has_no_form text = is_none (parsed_line (said_in text))
+
+-- a line that says this has none, and what is played of it has none either
+abbrev pub is_bad : List ℕ → Bool
+is_bad said = has_no_form said && has_no_form (played said)
+
+-- it is said what is wrong with words, and, where one names no register, which may be meant
+abbrev pub IsToldWrong : Wrong → List ℕ → Type 0
+IsToldWrong wrong text = (near : Option (List Reg)) × (text ≡ wrong_text near wrong)
+
+-- what is no line of a script is said to be one that is typed; or it is said what is wrong with its words
+abbrev pub IsReason : Result Typed Wrong → List ℕ → Type 0
+IsReason (Ok typed) text = text ≡ codes "it is typed into a debugger, and no line of a script"
+IsReason (Err wrong) text = IsToldWrong wrong text
+
+-- a line that is bad has a reason, and no other line has one
+abbrev pub IsWrong : List ℕ → Option (List ℕ) → Type 0
+IsWrong line None = is_bad (said_in line) ≡ false
+IsWrong line (Some text) = (is_bad (said_in line) ≡ true) × IsReason (prompted (said_in line)) text

@@ -1,0 +1,116 @@
+//! What is wrong with a line of a script.
+ghost use Rattle.std.specs.Prelude.{◌≡◌, ◌<◌, ℕ, List, IfOk, OnOk, length};
+ghost use Rattle.std.specs.Option.{option_map};
+ghost use Rattle.std.specs.Io.KnownBytes.{Appends};
+ghost use Rattle.em_line.specs.Said.{plain as plain_said};
+ghost use Rattle.em_prompt.specs.Prompt.{plain_wrong, prompted};
+ghost use Rattle.em_prompt.specs.Scripted.{played};
+ghost use Rattle.em_input.specs.Bad.{IsReason, IsToldWrong, IsWrong, has_no_form, is_bad, is_none};
+
+use em_line::{Line, Said, parts_of};
+use em_names::nearest;
+use em_prompt::{Fault, Typed, Wrong, prompted, scripted, write_wrong};
+use em_regs::Reg;
+use em_text::{WriteFailed, write_whole};
+use std::alloc::{AllocError, Global};
+use std::io::Write;
+
+/// What is wrong with a line of a script, as a text without a newline; none where it is not bad.
+pub fn wrong_in(alloc: Global, line: &[u8]) -> Result<Option<Vec<u8>>, AllocError>
+    requires { length line.now < 0xFFFF_FFFF }
+    ensures { IfOk result (λ wrong. IsWrong line.now (option_map (λ text. text.items) wrong)) }
+{
+    let said = parts_of(line).said;
+    if !is_bad(alloc, said)? {
+        return Ok(None);
+    }
+    let mut text = Vec::new(alloc);
+    match write_reason(alloc, &mut text, said) {
+        Ok(()) => Ok(Some(text)),
+        // A vector fails only where memory is refused.
+        Err(_) => Err(AllocError),
+    }
+}
+
+/// Whether a line that says this has no form, and what is played of it has none either. Most lines have one as they stand, which
+/// is seen soonest.
+fn is_bad(alloc: Global, said: &[u8]) -> Result<bool, AllocError>
+    ensures { IfOk result (λ bad. bad ≡ is_bad said.now) }
+{
+    if has_no_form(alloc, said)? {
+        plays_none(alloc, said)
+    } else {
+        Ok(false)
+    }
+}
+
+/// Whether what is played of a line that says this has no form.
+fn plays_none(alloc: Global, said: &[u8]) -> Result<bool, AllocError>
+    ensures { IfOk result (λ none. none ≡ has_no_form (played said.now)) }
+{
+    let Some(line) = scripted(said) else {
+        return has_no_form(alloc, said);
+    };
+    let mut text = Vec::new(alloc);
+    if line.write(&mut text).is_err() {
+        return Err(AllocError);
+    }
+    has_no_form(alloc, text.as_slice())
+}
+
+/// Whether a line has no form.
+fn has_no_form(alloc: Global, text: &[u8]) -> Result<bool, AllocError>
+    ensures { IfOk result (λ bad. bad ≡ has_no_form text.now) }
+{
+    let line = Line::read(alloc, text)?;
+    Ok(is_none(&line.says))
+}
+
+fn is_none(says: &Said) -> bool
+    ensures { result ≡ is_none (plain_said says.now) }
+{
+    match says {
+        Said::Bad => true,
+        Said::Silent
+        | Said::Command(_)
+        | Said::Poke(..)
+        | Said::Arrive(_)
+        | Said::Request(_)
+        | Said::Plan(_) => false,
+    }
+}
+
+/// Writes what is wrong with a line that says this.
+fn write_reason<W: Write>(alloc: Global, writer: &mut W, said: &[u8]) -> Result<(), WriteFailed>
+    requires { length said.now < 0xFFFF_FFFF }
+    ensures ok { OnOk result ((text : List ℕ) × Appends (W.contents writer.old) (W.contents writer.new) text
+        × IsReason (prompted said.now) text) }
+{
+    match prompted(said) {
+        Ok(_) => write_whole(
+            writer,
+            b"it is typed into a debugger, and no line of a script",
+        ),
+        Err(wrong) => write_wrong_of(alloc, writer, wrong),
+    }
+}
+
+/// Writes what is wrong with the words of a line, and which registers may be meant, where one names none.
+pub fn write_wrong_of<W: Write>(
+    alloc: Global,
+    writer: &mut W,
+    wrong: Wrong<'_>,
+) -> Result<(), WriteFailed>
+    ensures ok { OnOk result ((text : List ℕ) × Appends (W.contents writer.old) (W.contents writer.new) text
+        × IsToldWrong (plain_wrong wrong.entry) text) }
+{
+    write_wrong(writer, wrong, near_of(alloc, wrong))
+}
+
+/// The registers that may be meant, where a word should name one and does not.
+fn near_of(alloc: Global, wrong: Wrong<'_>) -> Option<[Reg; 3]> {
+    match wrong {
+        Wrong::Behind(_, Fault::NoRegister(word)) => nearest(alloc, word).ok(),
+        _ => None,
+    }
+}

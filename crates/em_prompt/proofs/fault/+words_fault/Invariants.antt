@@ -1,5 +1,0 @@
-use Rattle.std.proofs.Common.{length}
-use Rattle.em_prompt.proofs.fault.+words_fault.Given as goal
-
-abbrev pub decreases-words_fault : goal.decreases-words_fault
-decreases-words_fault l = length l.kinds.now

@@ -1,0 +1,302 @@
+-- What each command says by the words behind its name, or their first fault, from the left.
+use Rattle.std.specs.Prelude.{ℕ, Bool, List, [], ◌∷◌, ◌++◌, codes, if◌then◌else◌, Option, Some, None, Result, Ok, Err}
+use Rattle.std.specs.Str.{bytes_eq}
+use Rattle.em_text.specs.Numbers.{decimal_number}
+use Rattle.em_text.specs.Words.{words_of}
+use Rattle.em_line.specs.ParsedLine.{ParsedLine, bad}
+use Rattle.em_line.specs.Grammar.{turns_form}
+use Rattle.em_prompt.specs.declared.command.Command.{Command}
+use Rattle.em_prompt.specs.declared.command.Command.TheVariants as command
+use Rattle.em_prompt.specs.declared.kind.Choice.TheVariants.{Way as Ways, Side as Sides, Until as Untils, Changes as Change}
+use Rattle.em_prompt.specs.declared.kind.Choice.TheVariants.{Switch}
+use Rattle.em_prompt.specs.declared.kind.Kind.{Kind}
+use Rattle.em_prompt.specs.declared.kind.Kind.TheVariants.{Register, Known, Value, Address, Data, Turn, Watch as Watches}
+use Rattle.em_prompt.specs.declared.kind.Kind.TheVariants.{File, Number as Numbers, Choice}
+use Rattle.em_prompt.specs.declared.number.Number.{Number}
+use Rattle.em_prompt.specs.declared.number.Number.TheVariants.{Peeked, Watched, Packets, Count, Line as LineNumber, Event, Index}
+use Rattle.em_prompt.specs.declared.says.Way.{Way}
+use Rattle.em_prompt.specs.declared.says.Way.TheVariants.{Back, Forward}
+use Rattle.em_prompt.specs.declared.typed.Shown.TheVariants.{Look, History, Effect, Ring, Frame, Memory, Why, Help}
+use Rattle.em_prompt.specs.declared.typed.Until.TheVariants.{Refused, Dropped, Differs, Line, Changes}
+use Rattle.em_prompt.specs.declared.typed.Which.{Which}
+use Rattle.em_prompt.specs.declared.typed.Which.TheVariants.{Newest}
+use Rattle.em_prompt.specs.declared.watch.Watch.{Watch}
+use Rattle.em_prompt.specs.declared.watch.Watch.TheVariants.{Octets}
+use Rattle.em_prompt.specs.declared.fault.Fault.{Fault as LentFault}
+use Rattle.em_prompt.specs.declared.typed.Typed.{Typed as LentTyped}
+use Rattle.em_prompt.specs.Fault as faults
+use Rattle.em_prompt.specs.Fault.{Fault, missing, too_many, no}
+use Rattle.em_prompt.specs.Kept.{spaced}
+use Rattle.em_prompt.specs.Told.{without_blanks}
+use Rattle.em_prompt.specs.Typed as typed
+use Rattle.em_prompt.specs.Typed.{Typed, line, show, who, who_again, back, back_to, forward, forward_to, goto, next, run}
+use Rattle.em_prompt.specs.Typed.{run_until, load, save, save_over, warnings, auto, arrive_next, arrive_all, pcap, pcap_over}
+use Rattle.em_prompt.specs.Typed.{quit}
+use Rattle.em_prompt.specs.Value.{Offset, address_in, command_in, data_in, ethernet_in, frame_len_in, kept_number_in, known_in}
+use Rattle.em_prompt.specs.Value.{number_in, offset_in, shown_address_in, side_in, switch_in, value_in, watch_in, way_in}
+use Rattle.em_prompt.specs.Value.{which_in, within}
+use Rattle.em_prompt.specs.Word.{hex_address_in}
+
+-- what the code says, without where words lie in memory
+abbrev pub plain : Result LentTyped LentFault → Result Typed Fault
+plain (Ok said) = Ok (typed.plain said)
+plain (Err fault) = Err (faults.plain fault)
+
+-- ---- words one after another
+
+-- what is completed by a thing that was read, or what is wrong with that
+abbrev pub with : {A B : Type 0} → Result A Fault → (A → Result B Fault) → Result B Fault
+with (Err fault) complete = Err fault
+with (Ok value) complete = complete value
+
+-- this is said, unless one more word stands there
+abbrev pub alone : Typed → List (List ℕ) → Result Typed Fault
+alone said [] = Ok said
+alone said (word ∷ words) = Err (too_many word)
+
+-- one word, which must stand there
+abbrev pub one : {T : Type 0} → Kind → (List ℕ → Result T Fault) → (T → Typed) → List (List ℕ) → Result Typed Fault
+one kind read said [] = Err (missing kind)
+one kind read said (word ∷ words) = with (read word) (λ value. alone (said value) words)
+
+-- one word, or else this
+abbrev pub one_or : {T : Type 0} → Typed → (List ℕ → Result T Fault) → (T → Typed) → List (List ℕ) → Result Typed Fault
+one_or other read said [] = Ok other
+one_or other read said (word ∷ words) = with (read word) (λ value. alone (said value) words)
+
+-- ---- em_bench's lines
+
+-- a line with what is kept behind its name
+abbrev pub bench : Command → List ℕ → Typed
+bench command behind = line (record { command = command; behind = behind })
+
+-- r OFF
+abbrev pub read_of : List (List ℕ) → Result Typed Fault
+read_of words = one Register offset_in (λ offset. bench command.Read (spaced offset.text)) words
+
+-- w OFF VAL
+abbrev pub value_of : Offset → List (List ℕ) → Result Typed Fault
+value_of offset words =
+    one Value (value_in offset.reg) (λ value. bench command.Write (spaced offset.text ++ spaced value)) words
+
+abbrev pub write_of : List (List ℕ) → Result Typed Fault
+write_of [] = Err (missing Register)
+write_of (word ∷ words) = with (offset_in word) (λ offset. value_of offset words)
+
+-- poke ADDR DATA
+abbrev pub poke_of : List (List ℕ) → Result Typed Fault
+poke_of [] = Err (missing Address)
+poke_of (word ∷ words) =
+    with (address_in word) (λ addr. one Data data_in (λ octets. bench command.Poke (spaced addr ++ spaced octets)) words)
+
+-- peek ADDR LEN
+abbrev pub peek_of : List (List ℕ) → Result Typed Fault
+peek_of [] = Err (missing Address)
+peek_of (word ∷ words) =
+    with (address_in word) (λ addr. one (Numbers Peeked) (kept_number_in Peeked)
+    (λ len. bench command.Peek (spaced addr ++ spaced len)) words)
+
+-- DATA, or DATA LEN
+abbrev pub len_of : Command → List ℕ → List ℕ → List (List ℕ) → Result Typed Fault
+len_of command word octets words =
+    one_or (bench command (spaced octets)) (frame_len_in word) (λ len. bench command (spaced octets ++ spaced len)) words
+
+abbrev pub frame_line : Command → List ℕ → List (List ℕ) → Result Typed Fault
+frame_line command word words = with (data_in word) (λ octets. len_of command word octets words)
+
+-- arrive DATA, arrive DATA LEN, arrive next, arrive all
+abbrev pub arrive_of : List (List ℕ) → Result Typed Fault
+arrive_of [] = Err (missing Data)
+arrive_of (word ∷ words) =
+    if bytes_eq word (codes "next") then alone arrive_next words else
+    if bytes_eq word (codes "all") then alone arrive_all words else
+    frame_line command.Arrive word words
+
+-- send DATA, send DATA LEN
+abbrev pub send_of : List (List ℕ) → Result Typed Fault
+send_of [] = Err (missing Data)
+send_of (word ∷ words) = frame_line command.Send word words
+
+-- link up, link down
+abbrev pub link_of : List (List ℕ) → Result Typed Fault
+link_of words = one (Choice Ways) way_in (λ way. bench command.Link (spaced way)) words
+
+-- recv N
+abbrev pub recv_of : List (List ℕ) → Result Typed Fault
+recv_of words = one (Numbers Packets) (kept_number_in Packets) (λ most. bench command.Recv (spaced most)) words
+
+-- mac, mac DATA
+abbrev pub mac_of : List (List ℕ) → Result Typed Fault
+mac_of words = one_or (bench command.Mac []) ethernet_in (λ address. bench command.Mac (spaced address)) words
+
+-- turns WORD .., one word or more, as em_bench reads them; they stay as they stand
+abbrev pub plan_of : List ℕ → List (List ℕ) → ParsedLine → Result Typed Fault
+plan_of rest [] said = Err (missing Turn)
+plan_of rest (word ∷ words) bad = Err (no Turn)
+plan_of rest (word ∷ words) said = Ok (bench command.Turns rest)
+
+-- ---- the debugger's own
+
+-- the number that stands there, if a word does, with the words behind it
+abbrev pub number_if : Number → List (List ℕ) → Result (Option ℕ × List (List ℕ)) Fault
+number_if number [] = Ok (None, [])
+number_if number (word ∷ words) = with (number_in number word) (λ n. Ok (Some n, words))
+
+-- look NAME, look OFF
+abbrev pub look_of : List (List ℕ) → Result Typed Fault
+look_of words = one Known known_in (λ reg. show (Look reg)) words
+
+-- WATCH, which begins with a word: ADDR LEN, or that word alone
+abbrev pub octets_at : ℕ → List (List ℕ) → Result (Watch × List (List ℕ)) Fault
+octets_at addr [] = Err (missing (Numbers Watched))
+octets_at addr (word ∷ words) = with (number_in Watched word) (λ len. Ok (Octets addr len, words))
+
+abbrev pub watch_with : Option ℕ → List ℕ → List (List ℕ) → Result (Watch × List (List ℕ)) Fault
+watch_with None word words = with (watch_in word) (λ watch. Ok (watch, words))
+watch_with (Some addr) word words = octets_at addr words
+
+abbrev pub watch_at : List ℕ → List (List ℕ) → Result (Watch × List (List ℕ)) Fault
+watch_at word words = watch_with (hex_address_in word) word words
+
+-- again, all, or no word
+abbrev pub which_if : List (List ℕ) → Result (Which × List (List ℕ)) Fault
+which_if [] = Ok (Newest, [])
+which_if (word ∷ words) = with (which_in word) (λ which. Ok (which, words))
+
+-- who again, who WATCH, who WATCH again, who WATCH all
+abbrev pub who_of : List (List ℕ) → Result Typed Fault
+who_of [] = Err (missing Watches)
+who_of (word ∷ words) =
+    if bytes_eq word (codes "again") then alone who_again words else
+    with (watch_at word words) (λ watch. with (which_if watch.1) (λ which. alone (who watch.0 which.0) which.1))
+
+-- back, back N, back to LINE; and forward so
+abbrev pub moves_by : Way → ℕ → Typed
+moves_by Back n = back n
+moves_by Forward n = forward n
+
+abbrev pub moves_to : Way → ℕ → Typed
+moves_to Back n = back_to n
+moves_to Forward n = forward_to n
+
+abbrev pub move_of : Way → List (List ℕ) → Result Typed Fault
+move_of way [] = Ok (moves_by way 1)
+move_of way (word ∷ words) =
+    if bytes_eq word (codes "to") then one (Numbers LineNumber) (number_in LineNumber) (moves_to way) words else
+    with (number_in Count word) (λ n. alone (moves_by way n) words)
+
+-- goto EVENT
+abbrev pub goto_of : List (List ℕ) → Result Typed Fault
+goto_of words = one (Numbers Event) (number_in Event) goto words
+
+-- next, next N
+abbrev pub next_of : List (List ℕ) → Result Typed Fault
+next_of words = one_or (next 1) (number_in Count) next words
+
+-- WATCH changes
+abbrev pub ends_changes : Watch → List (List ℕ) → Result Typed Fault
+ends_changes watch [] = Err (missing (Choice Change))
+ends_changes watch (word ∷ words) =
+    if bytes_eq word (codes "changes") then alone (run_until (Changes watch)) words else Err (no (Choice Change))
+
+abbrev pub changes_of : List ℕ → List (List ℕ) → Result Typed Fault
+changes_of word words = with (watch_at word words) (λ watch. ends_changes watch.0 watch.1)
+
+-- LINE, alone, or WATCH changes
+abbrev pub line_or_changes : Option ℕ → List ℕ → List (List ℕ) → Result Typed Fault
+line_or_changes (Some n) word [] = with (within LineNumber n) (λ n. Ok (run_until (Line n)))
+line_or_changes at word words = changes_of word words
+
+-- refused, dropped, differs, LINE, or WATCH changes
+abbrev pub until_of : List (List ℕ) → Result Typed Fault
+until_of [] = Err (missing Watches)
+until_of (word ∷ words) =
+    if bytes_eq word (codes "refused") then alone (run_until Refused) words else
+    if bytes_eq word (codes "dropped") then alone (run_until Dropped) words else
+    if bytes_eq word (codes "differs") then alone (run_until Differs) words else
+    line_or_changes (decimal_number word) word words
+
+-- run, or run until ..
+abbrev pub run_of : List (List ℕ) → Result Typed Fault
+run_of [] = Ok run
+run_of (word ∷ words) = if bytes_eq word (codes "until") then until_of words else Err (no (Choice Untils))
+
+-- FILE: all that stands there, without the blanks around it
+abbrev pub file_in : List ℕ → List (List ℕ) → Result (List ℕ) Fault
+file_in rest [] = Err (missing File)
+file_in rest (word ∷ words) = Ok (without_blanks rest)
+
+abbrev pub file_of : (List ℕ → Typed) → List ℕ → Result Typed Fault
+file_of said rest = with (file_in rest (words_of rest)) (λ name. Ok (said name))
+
+-- history, history N; effect, effect EVENT; frame, frame I
+abbrev pub history_of : List (List ℕ) → Result Typed Fault
+history_of words = with (number_if Count words) (λ most. alone (show (History most.0)) most.1)
+
+abbrev pub effect_of : List (List ℕ) → Result Typed Fault
+effect_of words = with (number_if Event words) (λ event. alone (show (Effect event.0)) event.1)
+
+abbrev pub frame_of : List (List ℕ) → Result Typed Fault
+frame_of words = with (number_if Index words) (λ index. alone (show (Frame index.0)) index.1)
+
+-- ring rx, ring tx
+abbrev pub ring_of : List (List ℕ) → Result Typed Fault
+ring_of words = one (Choice Sides) side_in (λ side. show (Ring side)) words
+
+-- memory ADDR LEN
+abbrev pub memory_of : List (List ℕ) → Result Typed Fault
+memory_of [] = Err (missing Address)
+memory_of (word ∷ words) =
+    with (shown_address_in word) (λ addr. one (Numbers Peeked) (number_in Peeked) (λ len. show (Memory addr len)) words)
+
+-- warnings on, warnings off; auto on, auto off
+abbrev pub warnings_of : List (List ℕ) → Result Typed Fault
+warnings_of words = one (Choice Switch) switch_in warnings words
+
+abbrev pub auto_of : List (List ℕ) → Result Typed Fault
+auto_of words = one (Choice Switch) switch_in auto words
+
+-- help, help COMMAND
+abbrev pub help_of : List (List ℕ) → Result Typed Fault
+help_of words = one_or (show (Help None)) command_in (λ command. show (Help (Some command))) words
+
+-- ---- each command, with all that stands behind its name
+
+abbrev pub says : Command → List ℕ → Result Typed Fault
+says command.Read rest = read_of (words_of rest)
+says command.Write rest = write_of (words_of rest)
+says command.Poke rest = poke_of (words_of rest)
+says command.Peek rest = peek_of (words_of rest)
+says command.Arrive rest = arrive_of (words_of rest)
+says command.Link rest = link_of (words_of rest)
+says command.Send rest = send_of (words_of rest)
+says command.Recv rest = recv_of (words_of rest)
+says command.Mac rest = mac_of (words_of rest)
+says command.Turns rest = plan_of rest (words_of rest) (turns_form (words_of rest))
+says command.Rx rest = alone (bench command.Rx []) (words_of rest)
+says command.Tx rest = alone (bench command.Tx []) (words_of rest)
+says (command.Bench look) rest = alone (bench (command.Bench look) []) (words_of rest)
+says command.Init rest = alone (bench command.Init []) (words_of rest)
+says command.Stats rest = alone (bench command.Stats []) (words_of rest)
+says command.Look rest = look_of (words_of rest)
+says command.Who rest = who_of (words_of rest)
+says command.Back rest = move_of Back (words_of rest)
+says command.Forward rest = move_of Forward (words_of rest)
+says command.Goto rest = goto_of (words_of rest)
+says command.Next rest = next_of (words_of rest)
+says command.Run rest = run_of (words_of rest)
+says command.Load rest = file_of load rest
+says command.Save rest = file_of save rest
+says command.SaveOver rest = file_of save_over rest
+says command.Pcap rest = file_of pcap rest
+says command.PcapOver rest = file_of pcap_over rest
+says command.History rest = history_of (words_of rest)
+says command.Effect rest = effect_of (words_of rest)
+says command.Ring rest = ring_of (words_of rest)
+says command.Frame rest = frame_of (words_of rest)
+says command.Memory rest = memory_of (words_of rest)
+says command.Why rest = alone (show Why) (words_of rest)
+says command.Warnings rest = warnings_of (words_of rest)
+says command.Auto rest = auto_of (words_of rest)
+says command.Help rest = help_of (words_of rest)
+says command.Quit rest = alone quit (words_of rest)

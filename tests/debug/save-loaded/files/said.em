@@ -1,0 +1,3 @@
+# a comment = not expected
+link up
+r 00008

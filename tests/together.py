@@ -1,0 +1,154 @@
+"""Tries many wrong bodies of a crate by a few checks: in each check another function has each of them.
+
+The prover checks a function by the contracts of those that it calls. So a wrong body in one changes nothing of what it says
+of another, and a check that goes on past functions that are not proved (`rt check --allow-holes`) judges as many as it has
+functions. What an edit changes that is no line of a function's body is not tried here, nor is one on which such a check gives
+no clear word: `rt must-fail` tries those alone.
+"""
+import re
+import subprocess
+from dataclasses import dataclass
+from pathlib import Path
+
+REFUSED = "refused, as it must be"
+FUNCTION = re.compile(r'(\s*)(?:pub(?:\(\w+\))? )?(?:const |unsafe |extern "C" )*fn (\w+)')
+IMPL = re.compile(r"impl\b(?:<[^{]*?>)? (?:.*? for )?&?(?:mut )?(\w+)")
+NOTE = re.compile(r"^note: (src/\S+?):(\d+):\d+: (.*)$", re.M)
+ERROR = re.compile(r"^(?:\./)?(proofs/\S+?)\.antt:\d+:\d+: error: (.*)$", re.M)
+VERDICT = re.compile(r"^fn (\S+): (.*)$", re.M)
+# a proof file that names what the edit took away, which says nothing of the contract
+FOR_A_NAME = re.compile(r"has no field|is not in scope|has no `|was not admitted")
+# what a function's line says where it is proved, or where nothing but a function that it calls is not
+PROVED = re.compile(r"no holes$|proved$|no proof: it calls [^;]*$")
+
+
+@dataclass(frozen=True)
+class Function:
+    """A function of the crate: its file, its lines, its attributes among them, its name, and the type whose it is."""
+
+    file: str
+    first: int
+    last: int
+    name: str
+    type: str
+
+
+def changes_of(edit: Path) -> list[tuple[str, str, str]]:
+    """What the edit changes: a file, a text that stands there once, and the text that takes its place."""
+    found, file, old = [], "", ""
+    for line in edit.read_text().splitlines():
+        kind, _, rest = line.partition(": ")
+        if kind == "file":
+            file = rest
+        elif kind == "old":
+            old = rest
+        elif kind in ("new", "new:"):
+            found.append((file, old, rest))
+    return found
+
+
+def functions_of(file: str, text: str) -> list[Function]:
+    """The functions of a file as rt fmt writes them: a body ends with a brace below the first letter of its head."""
+    found, lines, of = [], text.split("\n"), ""
+    for at, line in enumerate(lines):
+        if not line.startswith((" ", "}", "/")) and (named := IMPL.match(line)):
+            of = named[1]
+        elif line.startswith("}"):
+            of = ""
+        if head := FUNCTION.match(line):
+            last = next((it for it in range(at, len(lines)) if lines[it].startswith(head[1] + "}")), at)
+            first = next(it for it in range(at, -1, -1) if not it or not lines[it - 1].startswith(head[1] + "#["))
+            found.append(Function(file, first + 1, last + 1, head[2], of if head[1] else ""))
+    return found
+
+
+def function_of(crate: Path, edit: Path) -> Function | None:
+    """The function that has all that the edit changes in its body, if one has."""
+    found = set()
+    for file, old, _ in changes_of(edit):
+        path = crate / file
+        if not file.startswith("src/") or not path.is_file() or (text := path.read_text()).count(old) != 1:
+            return None
+        line = text[: text.index(old)].count("\n") + 1
+        inside = [it for it in functions_of(file, text) if it.first <= line <= it.last]
+        lines = text.split("\n")
+        if not inside or not any(re.match(r"\s*\{$|.*[^ ] \{$", it) for it in lines[inside[-1].first - 1 : line]):
+            return None
+        found.add(inside[-1])
+    return found.pop() if len(found) == 1 else None
+
+
+def in_rounds(crate: Path, edits: list[Path]) -> list[dict[Function, Path]]:
+    """The edits that can be tried together, in rounds of one edit a function."""
+    rounds: list[dict[Function, Path]] = []
+    for edit in edits:
+        if function := function_of(crate, edit):
+            free = next((it for it in rounds if function not in it), None)
+            if free is None:
+                rounds.append(free := {})
+            free[function] = edit
+    return rounds
+
+
+def says_of(function: Function, said: str) -> str:
+    """What a check says against a function, or nothing: by the lines of its body, and of its proofs."""
+    notes = [text for file, line, text in NOTE.findall(said) if file == function.file and function.first <= int(line) <= function.last]
+    module = function.file.removeprefix("src/").removesuffix(".rt").removesuffix("lib").removesuffix("main").strip("/")
+    below = f"proofs/{module}/" if module else "proofs/"
+    for path, text in ERROR.findall(said):
+        if not path.startswith(below):
+            continue
+        *of, _ = path.removeprefix(below).split("/") if "/" in path.removeprefix(below) else ["", ""]
+        is_its = of[-1:] == [function.name] and (not function.type or any(it.startswith(function.type) for it in of))
+        if is_its and not FOR_A_NAME.search(text):
+            notes.append(f"{path}.antt: {text}")
+    return notes[0] if notes else ""
+
+
+def is_not_proved(crate: str, function: Function, said: str) -> bool:
+    """Whether a check says that the function itself is not proved."""
+    module = function.file.removeprefix("src/").removesuffix(".rt").replace("/", "::")
+    module = "" if module in ("lib", "main") else f"{module}::"
+    for name, verdict in VERDICT.findall(said):
+        rest = name.removeprefix(f"{crate}::{module}")
+        *of, last = rest.split("::")
+        if rest != name and last == function.name and (not function.type or any(it.startswith(function.type) for it in of)):
+            if not PROVED.match(verdict):
+                return True
+    return False
+
+
+def judge_together(crate: Path, edits: list[Path]) -> dict[str, str]:
+    """By edit what the prover says against it, of those that some checks together refuse. `crate` is a folder to change,
+    in a copy of the crates with their libraries."""
+    found: dict[str, str] = {}
+    left = in_rounds(crate, edits)
+    while left:
+        some = left.pop()
+        said = checked(crate, list(some.values()))
+        if not VERDICT.search(said) and len(some) > 1:
+            half = len(some) // 2
+            left += [dict([*some.items()][:half]), dict([*some.items()][half:])]
+        for function, edit in some.items():
+            why = says_of(function, said)
+            if why and is_not_proved(crate.name, function, said):
+                found[edit.name] = f"{REFUSED}: {why}"
+    return found
+
+
+def checked(crate: Path, edits: list[Path]) -> str:
+    """What a check of the crate with all these edits says; it is then as it was."""
+    were: dict[Path, str] = {}
+    for edit in edits:
+        for file, old, new in changes_of(edit):
+            path = crate / file
+            text = path.read_text()
+            were.setdefault(path, text)
+            path.write_text(text.replace(old, new))
+    ran = subprocess.run(
+        ["rt", "check", "--allow-holes"], cwd=crate, stdin=subprocess.DEVNULL, stdout=subprocess.PIPE,
+        stderr=subprocess.STDOUT, text=True, errors="replace", check=False,
+    )
+    for path, text in were.items():
+        path.write_text(text)
+    return ran.stdout
