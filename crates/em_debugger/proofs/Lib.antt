@@ -8,6 +8,7 @@ pub mod FilesLaws
 pub mod HistoryLaws
 pub mod LedLaws
 pub mod ListingLaws
+pub mod LostLaws
 pub mod MovesLaws
 pub mod NextLaws
 pub mod NotedLaws

@@ -15,6 +15,7 @@ pub mod Files
 pub mod History
 pub mod Led
 pub mod Listing
+pub mod Lost
 pub mod Moves
 pub mod Next
 pub mod Offers

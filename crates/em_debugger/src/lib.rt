@@ -19,6 +19,7 @@ mod files;
 mod history;
 mod laws;
 mod listing;
+mod lost;
 mod moves;
 mod next;
 mod offers;
