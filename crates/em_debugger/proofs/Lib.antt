@@ -18,6 +18,7 @@ pub mod PlaceLaws
 pub mod PlayedLaws
 pub mod RefusedLaws
 pub mod SavedLaws
+pub mod SendingLaws
 pub mod StepsLaws
 pub mod StopsLaws
 pub mod TextLaws

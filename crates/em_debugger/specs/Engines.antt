@@ -92,6 +92,7 @@ pub record PutsStep (side : Side) (old new : Debugger) : Type 0 where
   pub tape : new.tape ≡ record old.tape { lines = insert old.tape.lines old.tape.whole (step_line side) }
   pub engines : new.engines + 1 ≡ old.engines
   pub wanted : texts new.wanted.answers.items ≡ moved old.tape.whole (texts old.wanted.answers.items)
+  pub times : texts new.times.answers.items ≡ moved old.tape.whole (texts old.times.answers.items)
   pub told : new.told ≡ old.told
   pub settings : new.settings ≡ old.settings
   pub answer : new.answer ≡ old.answer
@@ -99,6 +100,13 @@ pub record PutsStep (side : Side) (old new : Debugger) : Type 0 where
   pub warns : new.warns ≡ old.warns
   pub score : new.score ≡ old.score
   pub offered : new.offered ≡ old.offered
+  pub sent : new.sent ≡ old.sent
+
+-- memory was refused to that: all is as it was, and so is what stands beside the lines
+pub record PutsNone (old new : Debugger) : Type 0 where
+  pub rest : new ≡ record old { wanted = new.wanted; times = new.times }
+  pub wanted : texts new.wanted.answers.items ≡ texts old.wanted.answers.items
+  pub times : texts new.times.answers.items ≡ texts old.times.answers.items
 
 abbrev pub EngagesBy : Option Side → Debugger → Debugger → Type 0
 EngagesBy None old new = new ≡ old

@@ -22,6 +22,7 @@ pub mod Performing
 pub mod Place
 pub mod Played
 pub mod Search
+pub mod Sending
 pub mod Stops
 pub mod Told
 pub mod Who

@@ -19,6 +19,7 @@ use Rattle.em_debugger.specs.Debugger.{KeepsSome, told}
 use Rattle.em_debugger.specs.Engines.{Engages}
 use Rattle.em_debugger.specs.Expected.{Expects, compared_text, scored, wanted}
 use Rattle.em_debugger.specs.Place.{line_here, text_of}
+use Rattle.em_debugger.specs.Sending.{KeepsFirst, StaysSent, first_sent}
 use Rattle.em_debugger.specs.Told.{Notes, Stay}
 
 -- the tape with the line at its place whole
@@ -37,6 +38,9 @@ pub record Performs (old new : Debugger) (performed : Performed) : Type 0 where
   pub asked : new.asked ≡ old.asked
   pub warns : new.warns ≡ old.warns
   pub wanted : new.wanted ≡ old.wanted
+  pub times : new.times ≡ old.times
+  pub sent : KeepsFirst performed.line (first_sent (length before.session.machine.present.wire)
+      (length new.tape.session.machine.present.wire)) old.sent.firsts.items new.sent.firsts.items
   pub score : new.score ≡ scored (record new { score = old.score }) performed.line
   pub engines : new.engines ≡ old.engines
   pub offered : new.offered ≡ old.offered
@@ -49,10 +53,12 @@ pub record PerformsNext (old new : Debugger) (performed : Performed) : Type 0 wh
 
 -- ---- a line that is not performed, since memory is refused
 
--- all but the tape is as it was, and beside each line stands what was told of it and what it expects
+-- all but the tape is as it was, and beside each line stands what was told of it, what it expects, its time, and what it sent
 pub record KeepsBeside (old new : Debugger) : Type 0 where
   pub told : (line : ℕ) → told line new ≡ told line old
   pub wanted : (line : ℕ) → wanted line new ≡ wanted line old
+  pub times : Stay (texts old.times.answers.items) (texts new.times.answers.items)
+  pub sent : StaysSent old.sent.firsts.items new.sent.firsts.items
   pub settings : new.settings ≡ old.settings
   pub asked : new.asked ≡ old.asked
   pub warns : new.warns ≡ old.warns
@@ -118,7 +124,8 @@ is_among_lines tape = nat_lt tape.whole (length tape.lines) || nat_lt 0 tape.bac
 abbrev pub kept : Tape → ℕ → ℕ
 kept tape dropped = length tape.lines - dropped
 
--- the lines ahead of the place were dropped, so many of them, and what was told of them, what they expect and what was asked
+-- the lines ahead of the place were dropped, so many of them, and what was told of them, what they expect, their times, what
+-- they sent, and what was asked
 pub record Cuts (old new : Debugger) (dropped : ℕ) : Type 0 where
   pub tape : IsCut old.tape new.tape dropped
   pub told : texts new.told.answers.items ≡ take (kept old.tape dropped) (texts old.told.answers.items)
@@ -126,6 +133,8 @@ pub record Cuts (old new : Debugger) (dropped : ℕ) : Type 0 where
   pub settings : new.settings ≡ old.settings
   pub warns : new.warns ≡ old.warns
   pub wanted : texts new.wanted.answers.items ≡ take (kept old.tape dropped) (texts old.wanted.answers.items)
+  pub times : texts new.times.answers.items ≡ take (kept old.tape dropped) (texts old.times.answers.items)
+  pub sent : new.sent.firsts.items ≡ take (kept old.tape dropped) old.sent.firsts.items
   pub score : new.score ≡ old.score
   pub engines : new.engines ≡ old.engines
   pub offered : new.offered ≡ old.offered
@@ -137,6 +146,7 @@ pub record AddsLine (old new : Debugger) (line asked : List ℕ) (dropped : ℕ)
   pub tape : new.tape ≡ record between.tape { lines = between.tape.lines ++ line ∷ [] }
   pub expects : Expects (length between.tape.lines + 1) asked (texts between.wanted.answers.items)
       (texts new.wanted.answers.items)
+  pub times : new.times ≡ between.times
   pub rest : KeepsSome between new
 
 -- memory was refused to what drops them: all beside the tape stays
@@ -148,7 +158,8 @@ Uncut old new = new ≡ record old { tape = new.tape }
 pub data Unadded (old new : Debugger) : Type 0 where
   uncut : Uncut old new → Unadded old new
   cut_alone : (between : Debugger) (dropped : ℕ) → Cuts old between dropped → new.tape ≡ between.tape
-      → Stay (texts between.wanted.answers.items) (texts new.wanted.answers.items) → KeepsSome between new
+      → Stay (texts between.wanted.answers.items) (texts new.wanted.answers.items) → new.times ≡ between.times
+      → KeepsSome between new
       → Unadded old new
 
 -- what drivers get wrong, if that is to be said

@@ -7,6 +7,7 @@ ghost use Rattle.em_tape.specs.Tape.{empty_tape};
 ghost use Rattle.em_debugger.specs.Debugger.{Begins};
 
 use crate::expected::Score;
+use crate::sending::Sent;
 use crate::told::Told;
 use crate::who::Asked;
 use em_journal::{Settings, SettingsRefusal};
@@ -30,6 +31,10 @@ pub struct Debugger {
     pub(crate) warns: bool,
     // the answers that lines expect
     pub(crate) wanted: Told,
+    // the times of lines, as their comments have them
+    pub(crate) times: Told,
+    // which frames the lines sent that were performed
+    pub(crate) sent: Sent,
     // how many were given so
     pub(crate) score: Score,
     // how many steps the engines may still make by themselves; none where they stand still
@@ -54,6 +59,8 @@ impl Debugger {
                 asked: None,
                 warns: true,
                 wanted: Told::new(alloc),
+                times: Told::new(alloc),
+                sent: Sent::new(alloc),
                 score: Score::none(),
                 engines: 0,
                 offered: VecDeque::new(alloc),

@@ -26,6 +26,7 @@ mod performing;
 mod place;
 mod played;
 mod search;
+mod sending;
 mod stops;
 mod told;
 mod warned;

@@ -114,6 +114,8 @@ impl Debugger {
         let kept = lines.saturating_sub(dropped);
         self.told.keep(kept);
         self.wanted.keep(kept);
+        self.times.keep(kept);
+        self.sent.keep(kept);
         self.asked = None;
         Ok(dropped)
     }
@@ -215,7 +217,7 @@ impl Debugger {
         Ok(())
     }
 
-    /// Performs the line behind the place, and keeps its answer; none where no line lies ahead.
+    /// Performs the line behind the place, and keeps its answer, and which frames it sent; none where no line lies ahead.
     fn perform_ahead(&mut self) -> Result<Option<Performed>, BenchFault>
         ensures some { IfOk result (λ performed. IfSome performed (Performs self.old self.new)) }
         ensures none { result ≡ Ok None → (self.new ≡ self.old) × IsLast self.old }
@@ -228,6 +230,7 @@ impl Debugger {
         }
         self.tape.to_line(line)?;
         self.answer.clear();
+        let sent = self.tape.machine().wire_len();
         let outcome = match self.tape.perform_next(&mut self.answer) {
             Ok(Some(outcome)) => outcome,
             Ok(None) => return Ok(None),
@@ -235,8 +238,13 @@ impl Debugger {
             Err(_) => return Err(BenchFault::Memory),
         };
         let line = line + 1;
+        let now = self.tape.machine().wire_len();
+        let Ok(()) = self.sent.make_ready(line, sent, now) else {
+            return Err(BenchFault::Memory);
+        };
         match self.told.note(line, self.answer.as_slice()) {
             Ok(()) => {
+                self.sent.set(line, sent, now);
                 self.count_answer(line);
                 Ok(Some(Performed { line, outcome }))
             }

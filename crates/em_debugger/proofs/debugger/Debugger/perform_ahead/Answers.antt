@@ -27,6 +27,8 @@ returns-in-Ok-clause-some c =
       asked = refl;
       warns = refl;
       wanted = refl;
+      times = refl;
+      sent = ?;
       score = refl;
       engines = refl;
       offered = refl;
@@ -37,6 +39,8 @@ returns-in_err-to_line-clause-err c =
     MatchResult-from_err _ _ _ c.from_residual.ensures.0 (λ _. unplayed (record {
       told = λ line. refl;
       wanted = λ line. refl;
+      times = λ line. refl;
+      sent = λ line. refl;
       settings = refl;
       asked = refl;
       warns = refl;
@@ -59,6 +63,8 @@ returns-in-Err-clause-err c =
     }) (ap Some c.clear.ensures.items) (record {
       told = λ line. refl;
       wanted = λ line. refl;
+      times = λ line. refl;
+      sent = λ line. refl;
       settings = refl;
       asked = refl;
       warns = refl;
@@ -78,6 +84,8 @@ returns-in-Err-note-clause-err c =
     unnoted (record {
       told = c.in-Err-note.ensures.err;
       wanted = λ line. refl;
+      times = λ line. refl;
+      sent = λ line. refl;
       settings = refl;
       asked = refl;
       warns = refl;

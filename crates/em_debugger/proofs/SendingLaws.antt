@@ -1,0 +1,41 @@
+-- What is kept of lines that sent frames.
+use Rattle.std.proofs.Common.{◌≡◌, ◌+◌, ◌<◌, ◌≤◌, ℕ, zero, suc, List, [], ◌∷◌, ◌++◌, length, get_or, refl, ap, sym, arith}
+use Rattle.std.specs.Prelude.{◌≢◌, slice_set, Option, Some, None}
+use Rattle.em_debugger.specs.Sending.{PutsFirst, first_of}
+
+-- nothing that is kept of one line more changes what is kept of others
+none-pushed : (xs : List (Option ℕ)) (k : ℕ) → get_or (xs ++ None ∷ []) k None ≡ get_or xs k None
+none-pushed [] zero = refl
+none-pushed [] (suc k) = refl
+none-pushed (x ∷ xs) zero = refl
+none-pushed (x ∷ xs) (suc k) = none-pushed xs k
+
+pub first-pushed : (n : ℕ) (xs : List (Option ℕ)) → first_of n (xs ++ None ∷ []) ≡ first_of n xs
+first-pushed zero xs = refl
+first-pushed (suc k) xs = none-pushed xs k
+
+set-same : (xs : List (Option ℕ)) (i : ℕ) (v : Option ℕ) → i < length xs → get_or (slice_set xs i v) i None ≡ v
+set-same [] i v lt = absurd (omega arith)
+set-same (x ∷ xs) zero v lt = refl
+set-same (x ∷ xs) (suc i) v lt = set-same xs i v (omega arith)
+
+set-other : (xs : List (Option ℕ)) (k i : ℕ) (v : Option ℕ) → k ≢ i
+    → get_or (slice_set xs i v) k None ≡ get_or xs k None
+set-other [] k i v ne = refl
+set-other (x ∷ xs) zero zero v ne = absurd (ne refl)
+set-other (x ∷ xs) zero (suc i) v ne = refl
+set-other (x ∷ xs) (suc k) zero v ne = refl
+set-other (x ∷ xs) (suc k) (suc i) v ne = set-other xs k i v (λ e. ne (ap suc e))
+
+first-others : (xs : List (Option ℕ)) (k i : ℕ) (v : Option ℕ) → k ≢ suc i
+    → first_of k (slice_set xs i v) ≡ first_of k xs
+first-others xs zero i v ne = refl
+first-others xs (suc k) i v ne = set-other xs k i v (λ same. ne (ap suc same))
+
+-- it is kept of one line
+pub puts_first : (xs : List (Option ℕ)) (number i first : ℕ) → number ≡ suc i → i < length xs
+    → PutsFirst number first xs (slice_set xs i (Some first))
+puts_first xs number i first e lt = rw e record {
+  this = set-same xs i (Some first) lt;
+  others = λ n ne. first-others xs n i (Some first) ne;
+}
