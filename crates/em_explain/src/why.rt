@@ -117,9 +117,7 @@ fn why_idle(machine: &Machine, event: Event<'_>) -> Option<Why>
             Some(reason) => Some(Why::TxIdle(reason)),
             None => None,
         },
-        Event::Read(_) | Event::Write(..) | Event::Poke(..) | Event::Arrive(_) | Event::Link(_) => {
-            None
-        }
+        _ => None,
     }
 }
 
@@ -129,11 +127,6 @@ fn why_lost(machine: &Machine, event: Event<'_>, reason: Reason) -> Option<Why>
 {
     match event {
         Event::Arrive(frame) => Some(Why::Dropped(why_dropped(machine, frame, reason))),
-        Event::Read(_)
-        | Event::Write(..)
-        | Event::Poke(..)
-        | Event::Link(_)
-        | Event::RxStep
-        | Event::TxStep => None,
+        _ => None,
     }
 }

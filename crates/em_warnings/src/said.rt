@@ -1,7 +1,6 @@
 //! What is said of a warning.
 ghost use Rattle.em_text.specs.Writer.{Writes};
-ghost use Rattle.em_warnings.specs.Said.{again_text, dropped_text, early_text, enabled_text, given_text, head_text};
-ghost use Rattle.em_warnings.specs.Said.{past_text, said, warning_text};
+ghost use Rattle.em_warnings.specs.Said.{given_text, head_text, said, warning_text};
 
 use crate::warning::Warning;
 use em_pieces::{Piece, write_text};
@@ -68,7 +67,8 @@ fn write_dropped<W: Write>(
     kept: u32,
     written: u32,
 ) -> Result<(), WriteFailed>
-    ensures writes { Writes (W.contents writer.old) (W.contents writer.new) result (dropped_text reg kept written) }
+    ensures writes { Writes (W.contents writer.old) (W.contents writer.new) result
+        (said (Warning.BitsDropped reg kept written)) }
 {
     let mask = reg.row().mask;
     write_text(
@@ -91,7 +91,8 @@ fn write_past<W: Write>(
     index: u64,
     count: u64,
 ) -> Result<(), WriteFailed>
-    ensures writes { Writes (W.contents writer.old) (W.contents writer.new) result (past_text tail index count) }
+    ensures writes { Writes (W.contents writer.old) (W.contents writer.new) result
+        (said (Warning.TailPastRing tail index count)) }
 {
     write_text(
         writer,
@@ -107,7 +108,8 @@ fn write_past<W: Write>(
 }
 
 fn write_enabled<W: Write>(writer: &mut W, control: Reg, length: Reg) -> Result<(), WriteFailed>
-    ensures writes { Writes (W.contents writer.old) (W.contents writer.new) result (enabled_text control length) }
+    ensures writes { Writes (W.contents writer.old) (W.contents writer.new) result
+        (said (Warning.EnabledBeforeRing control length)) }
 {
     write_text(
         writer,
@@ -145,7 +147,8 @@ fn write_given<W: Write>(
 }
 
 fn write_early<W: Write>(writer: &mut W, causes: u32, length: Reg) -> Result<(), WriteFailed>
-    ensures writes { Writes (W.contents writer.old) (W.contents writer.new) result (early_text causes length) }
+    ensures writes { Writes (W.contents writer.old) (W.contents writer.new) result
+        (said (Warning.InterruptsBeforeRings causes length)) }
 {
     write_text(
         writer,
@@ -160,7 +163,7 @@ fn write_early<W: Write>(writer: &mut W, causes: u32, length: Reg) -> Result<(),
 }
 
 fn write_again<W: Write>(writer: &mut W, causes: u32) -> Result<(), WriteFailed>
-    ensures writes { Writes (W.contents writer.old) (W.contents writer.new) result (again_text causes) }
+    ensures writes { Writes (W.contents writer.old) (W.contents writer.new) result (said (Warning.ReadAgain causes)) }
 {
     write_text(
         writer,

@@ -4,9 +4,6 @@ ghost use Rattle.em_warnings.specs.Names.{name_of};
 
 use em_regs::Reg;
 
-/// How many rules a write is asked.
-pub const RULES: usize = 6;
-
 /// What a driver seems to get wrong by an access of a register, with the numbers of the rule that says so.
 #[derive(Clone, Copy, Debug, PartialEq, Eq)]
 pub enum Warning {
