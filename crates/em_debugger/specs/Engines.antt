@@ -73,7 +73,7 @@ behind_step s (Some Transmit) = sending s
 behind_step s _ = running s
 
 abbrev pub is_refused : Outcome → Bool
-is_refused Refused = true
+is_refused (Refused why) = true
 is_refused _ = false
 
 -- behind a line that was performed, before which this event was the newest: none where engines stand still, or lines that lie

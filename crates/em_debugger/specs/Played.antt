@@ -16,7 +16,7 @@ use Rattle.em_debugger.specs.Performing.{PerformsNext, IsLast, Unperformed, faul
 
 -- a line that was refused, or is none
 abbrev pub is_wrong_outcome : Outcome → Bool
-is_wrong_outcome Refused = true
+is_wrong_outcome (Refused why) = true
 is_wrong_outcome Bad = true
 is_wrong_outcome _ = false
 

@@ -1,6 +1,5 @@
 -- Running until something happens.
 use Rattle.std.specs.Prelude.{◌≡◌, ℕ, ◌+◌, ◌<◌, ◌≤◌, ◌==◌, suc, List, ◌++◌, codes, length, Bool, true, false}
-use Rattle.em_output.specs.declared.outcome.Outcome.TheVariants.{Refused}
 use Rattle.em_tape.specs.Tape.{behind, event_of}
 use Rattle.em_watch.specs.Change.{IsNextChange}
 use Rattle.em_watch.specs.declared.change.Change.{Change}
@@ -15,6 +14,7 @@ use Rattle.em_debugger.specs.declared.stops.Stop.{Stop}
 use Rattle.em_debugger.specs.declared.stops.Stop.TheVariants as stop
 use Rattle.em_debugger.specs.declared.stops.Ran.{Ran}
 use Rattle.em_debugger.specs.declared.stops.Ran.TheVariants as ran
+use Rattle.em_debugger.specs.Engines.{is_refused}
 use Rattle.em_debugger.specs.Expected.{answers_otherwise}
 use Rattle.em_debugger.specs.Lost.{NoneLost, OneLost, held_of}
 use Rattle.em_debugger.specs.Place.{line_here, text_of}
@@ -38,7 +38,7 @@ pub record ChangedSince (watch : Watch) (event : ℕ) (d : Debugger) : Type 0 wh
 
 -- the run ends behind a line, before which this event was the newest
 abbrev pub EndsSince : Stop → ℕ → Debugger → Performed → Type 0
-EndsSince stop.Refused event d performed = performed.outcome ≡ Refused
+EndsSince stop.Refused event d performed = is_refused performed.outcome ≡ true
 EndsSince stop.Dropped event d performed = OneLost d.tape (held_of performed.line d.tape)
 EndsSince stop.Differs event d performed = answers_otherwise d performed.line ≡ true
 EndsSince (stop.Line n) event d performed = ⊥

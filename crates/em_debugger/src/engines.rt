@@ -3,7 +3,7 @@ ghost use Rattle.std.specs.Prelude.{◌≡◌, ◌<◌, ◌≤◌, OnOk, OnErr, 
 ghost use Rattle.em_text.specs.Writer.{Writes};
 ghost use Rattle.em_tape.specs.Texts.{texts};
 ghost use Rattle.em_debugger.specs.Engines.{Engages, PutsStep, engine_behind, engines_are, behind_refused};
-ghost use Rattle.em_debugger.specs.Engines.{behind_step, running, sending, step_line, step_of, steps_of};
+ghost use Rattle.em_debugger.specs.Engines.{behind_step, is_refused, running, sending, step_line, step_of, steps_of};
 
 use crate::debugger::Debugger;
 use crate::performing::Performed;
@@ -77,7 +77,7 @@ impl Debugger {
         }
         let machine = self.tape.machine();
         let step = step_of(text_of(&self.tape, performed.line));
-        if performed.outcome == Outcome::Refused {
+        if is_refused(performed.outcome) {
             return behind_refused(machine, step);
         }
         if self.tape.event() <= before {
@@ -110,6 +110,13 @@ impl Debugger {
             }
         }
     }
+}
+
+/// Whether a line was refused that came out so.
+pub(crate) fn is_refused(outcome: Outcome) -> bool
+    ensures { result ≡ is_refused outcome }
+{
+    matches!(outcome, Outcome::Refused(_))
 }
 
 /// The engine whose step a line is.

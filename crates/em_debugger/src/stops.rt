@@ -7,12 +7,13 @@ ghost use Rattle.em_debugger.specs.Stops.{RunsUntil, TellsRan, TellsStopped, bef
 ghost use Rattle.em_debugger.specs.Stops.{played_text, unchanged_text};
 
 use crate::debugger::Debugger;
+use crate::engines::is_refused;
 use crate::lost::lost_in;
 use crate::performing::{Performed, write_fault};
 use crate::place::{line_here, text_of};
 use em_looks::{watch_of, write_counted, write_number, write_short, write_watch};
 use em_prompt::Until;
-use em_script::{BenchFault, Outcome};
+use em_script::BenchFault;
 use em_text::{WriteFailed, write_whole};
 use em_watch::{Watch, last_change};
 use std::io::Write;
@@ -129,7 +130,7 @@ impl Debugger {
         ensures goes_on { result ≡ false → GoesOnSince stop before self.now performed }
     {
         match stop {
-            Stop::Refused => matches!(performed.outcome, Outcome::Refused),
+            Stop::Refused => is_refused(performed.outcome),
             Stop::Dropped => lost_in(&self.tape, performed.line),
             Stop::Differs => self.answers_otherwise(performed.line),
             Stop::Line(_) => false,

@@ -7,7 +7,7 @@ mod read_back;
 mod registers;
 mod wire;
 
-pub use outcome::Outcome;
+pub use outcome::{Outcome, Refused};
 pub use output::{
     write_answer, write_back, write_bad_line, write_bit, write_count, write_done, write_empty,
     write_octets, write_refusal,

@@ -2,10 +2,11 @@
 //! for its own text alone.
 ghost use Rattle.std.specs.Prelude.{◌≡◌, ◌≤◌, ◌++◌, length};
 ghost use Rattle.em_text.specs.Writer.{hex_line_text, value_text, decimal_line_text};
+ghost use Rattle.em_output.specs.Outcome.{answer_outcome, refused_by};
 ghost use Rattle.em_output.specs.Output.{Prints, answer_text, reason_text, done_text, bit_text, back_text};
 ghost use Rattle.em_output.specs.Output.{bad_line_text, refusal_text, empty_text, sent_text};
 
-use crate::outcome::Outcome;
+use crate::outcome::{Outcome, Refused};
 use em_journal::Empty;
 use em_step::{Answer, Reason, Refusal};
 use em_text::{
@@ -17,26 +18,35 @@ use std::io::Write;
 /// What a performed event answered.
 #[inline(always)]
 pub fn write_answer<W: Write>(writer: &mut W, answer: Answer) -> Result<Outcome, WriteFailed>
-    ensures { Prints (answer_text answer) Outcome.Done (W.contents writer.old) (W.contents writer.new) result }
+    ensures { Prints (answer_text answer) (answer_outcome answer) (W.contents writer.old) (W.contents writer.new) result }
 {
     match answer {
         Answer::Done => write_done(writer),
         Answer::Value(value) => write_read(writer, value),
-        Answer::Idle => write_text(writer, b"idle\n"),
+        Answer::Idle => write_idle(writer),
         Answer::Wrote { index } => write_count(writer, b"wrote ", u64::from(index)),
         Answer::Fetched { index } => write_count(writer, b"fetched ", u64::from(index)),
         Answer::Sent { index, octets } => write_sent(writer, u64::from(index), u64::from(octets)),
-        Answer::Stored => write_text(writer, b"stored\n"),
+        Answer::Stored => write_stored(writer),
         Answer::Dropped(reason) => write_dropped(writer, reason),
     }
 }
 
-/// A text of its own for what was done.
+/// That an engine's step had nothing to do.
 #[inline(never)]
-fn write_text<W: Write>(writer: &mut W, text: &[u8]) -> Result<Outcome, WriteFailed>
-    ensures { Prints text.now Outcome.Done (W.contents writer.old) (W.contents writer.new) result }
+fn write_idle<W: Write>(writer: &mut W) -> Result<Outcome, WriteFailed>
+    ensures { Prints (answer_text Answer.Idle) Outcome.Idle (W.contents writer.old) (W.contents writer.new) result }
 {
-    write_whole(writer, text)?;
+    write_whole(writer, b"idle\n")?;
+    Ok(Outcome::Idle)
+}
+
+/// That a frame was stored.
+#[inline(never)]
+fn write_stored<W: Write>(writer: &mut W) -> Result<Outcome, WriteFailed>
+    ensures { Prints (answer_text Answer.Stored) Outcome.Done (W.contents writer.old) (W.contents writer.new) result }
+{
+    write_whole(writer, b"stored\n")?;
     Ok(Outcome::Done)
 }
 
@@ -76,14 +86,14 @@ fn write_sent<W: Write>(writer: &mut W, index: u64, octets: u64) -> Result<Outco
 /// That a frame was dropped, and why.
 #[inline(never)]
 fn write_dropped<W: Write>(writer: &mut W, reason: Reason) -> Result<Outcome, WriteFailed>
-    ensures { Prints (answer_text (Answer.Dropped reason)) Outcome.Done
+    ensures { Prints (answer_text (Answer.Dropped reason)) (Outcome.Dropped reason)
         (W.contents writer.old) (W.contents writer.new) result }
 {
     write_pieces(
         writer,
         &[b"dropped ", reason_name(reason).as_bytes(), b"\n"],
     )?;
-    Ok(Outcome::Done)
+    Ok(Outcome::Dropped(reason))
 }
 
 /// Why a frame was dropped, as it is printed.
@@ -147,16 +157,17 @@ pub fn write_bad_line<W: Write>(writer: &mut W, number: u32) -> Result<Outcome, 
 /// Why an event or a look at memory was refused.
 #[inline(never)]
 pub fn write_refusal<W: Write>(writer: &mut W, refusal: Refusal) -> Result<Outcome, WriteFailed>
-    ensures { Prints (refusal_text refusal) Outcome.Refused (W.contents writer.old) (W.contents writer.new) result }
+    ensures { Prints (refusal_text refusal) (Outcome.Refused (refused_by refusal))
+        (W.contents writer.old) (W.contents writer.new) result }
 {
     write_pieces(writer, &[b"refused ", refusal.name().as_bytes(), b"\n"])?;
-    Ok(Outcome::Refused)
+    Ok(Outcome::Refused(Refused::by(refusal)))
 }
 
 /// That there was nothing to take back.
 pub fn write_empty<W: Write>(writer: &mut W) -> Result<Outcome, WriteFailed>
-    ensures { Prints empty_text Outcome.Refused (W.contents writer.old) (W.contents writer.new) result }
+    ensures { Prints empty_text (Outcome.Refused Refused.Empty) (W.contents writer.old) (W.contents writer.new) result }
 {
     write_pieces(writer, &[b"refused ", Empty.name().as_bytes(), b"\n"])?;
-    Ok(Outcome::Refused)
+    Ok(Outcome::Refused(Refused::Empty))
 }

@@ -1,7 +1,7 @@
 //! Playing a script, and writing its record as it goes.
 
 use crate::fault::{MOST_EVENTS, RecordFault};
-use crate::line::{difference, kind_of, played, refusal_in};
+use crate::line::{difference, kind_of, played};
 use em_journal::{Settings, SettingsRefusal};
 use em_line::{Line, Parts, parts_of};
 use em_named::Did;
@@ -217,10 +217,10 @@ impl Recorder {
         outcome: Outcome,
     ) -> Result<(), WriteFailed> {
         match outcome {
-            Outcome::Silent | Outcome::Done => Ok(()),
-            Outcome::Refused => {
+            Outcome::Silent | Outcome::Done | Outcome::Idle | Outcome::Dropped(_) => Ok(()),
+            Outcome::Refused(refused) => {
                 write_whole(writer, b",\"refused\":")?;
-                write_string(writer, refusal_in(self.answer.as_slice()))
+                write_string(writer, refused.name().as_bytes())
             }
             Outcome::Bad => {
                 self.is_bad = true;

@@ -8,6 +8,7 @@ use Rattle.em_driver.specs.TellsMemory.{start_says, result_says}
 use Rattle.em_driver.specs.declared.outcome.Batch.{Batch}
 use Rattle.em_driver.specs.declared.outcome.Stopped.{Stopped}
 use Rattle.em_driver.specs.declared.outcome.Cause.{Cause}
+use Rattle.em_driver.specs.declared.outcome.Cause.TheVariants as cause
 use Rattle.em_driver.specs.declared.stats.DeviceStats.{DeviceStats}
 use Rattle.em_turn.specs.Planned.{lists}
 use Rattle.em_script.specs.declared.driver_reply.DriverReply.{DriverReply}
@@ -16,6 +17,8 @@ use Rattle.em_script.specs.declared.driver_answer.DriverAnswer.{DriverAnswer as 
 use Rattle.em_script.specs.declared.driver_answer.DriverAnswer.TheVariants as code
 use Rattle.em_output.specs.declared.outcome.Outcome.{Outcome}
 use Rattle.em_output.specs.declared.outcome.Outcome.TheVariants.{Done, Refused}
+use Rattle.em_output.specs.declared.outcome.Refused.{Refused as Why}
+use Rattle.em_output.specs.declared.outcome.Refused.TheVariants as why
 use Rattle.em_output.specs.Output.{done_text}
 use Rattle.em_output.specs.Wire.{frames_text}
 use Rattle.em_script.specs.DriverText.{started_text, batch_text, stopped_text, stats_text, address_text, turns_text}
@@ -34,7 +37,7 @@ pub data DriverAnswer : Type 0 where
 
 -- a response of the code without where its packets lie in memory
 abbrev pub plain : Code → DriverAnswer
-plain (code.Start cause) = start cause
+plain (code.Start c) = start c
 plain (code.Batch packets result) = batch (lists packets.items) result
 plain (code.Stats counted) = stats counted
 plain (code.Address octets) = address octets
@@ -49,29 +52,38 @@ result_text (Err stopped) = stopped_text stopped.count stopped.events stopped.ca
 -- with so many events
 abbrev pub driver_answer_text : ℕ → DriverAnswer → List ℕ
 driver_answer_text events (start None) = started_text events
-driver_answer_text events (start (Some cause)) = stopped_text 0 events cause
+driver_answer_text events (start (Some c)) = stopped_text 0 events c
 driver_answer_text events (batch packets result) = result_text result ++ frames_text packets
 driver_answer_text events (stats counted) = stats_text counted
 driver_answer_text events (address octets) = address_text octets
 driver_answer_text events set = done_text
 
+-- what stopped a call
+abbrev pub stopped_by : Cause → Why
+stopped_by cause.Memory = why.Memory
+stopped_by cause.Layout = why.Layout
+stopped_by cause.Checksum = why.Checksum
+stopped_by cause.Queue = why.Queue
+stopped_by cause.PacketLength = why.PacketLength
+stopped_by cause.Broken = why.Broken
+
 abbrev pub result_outcome : Result Batch Stopped → Outcome
 result_outcome (Ok moved) = Done
-result_outcome (Err stopped) = Refused
+result_outcome (Err stopped) = Refused (stopped_by stopped.cause)
 
 abbrev pub driver_answer_outcome : DriverAnswer → Outcome
-driver_answer_outcome (start (Some cause)) = Refused
+driver_answer_outcome (start (Some c)) = Refused (stopped_by c)
 driver_answer_outcome (batch packets result) = result_outcome result
 driver_answer_outcome _ = Done
 
 -- whether a driver stands afterwards
 abbrev pub is_started : DriverAnswer → Bool
-is_started (start (Some cause)) = false
+is_started (start (Some c)) = false
 is_started _ = true
 
 -- the answers that say that memory was refused
 abbrev pub says_memory : DriverAnswer → Bool
-says_memory (start cause) = start_says cause
+says_memory (start c) = start_says c
 says_memory (batch packets result) = result_says result
 says_memory _ = false
 

@@ -17,6 +17,9 @@ use Rattle.em_text.specs.Writer.{hex_line_text}
 use Rattle.em_text.specs.declared.writer.WriteFailed.{WriteFailed}
 use Rattle.em_output.specs.declared.outcome.Outcome.{Outcome}
 use Rattle.em_output.specs.declared.outcome.Outcome.TheVariants as outcome
+use Rattle.em_output.specs.declared.outcome.Refused.{Refused}
+use Rattle.em_output.specs.declared.outcome.Refused.TheVariants as refused_as
+use Rattle.em_output.specs.Outcome.{answer_outcome, refused_by}
 use Rattle.em_script.specs.Session.{Session}
 use Rattle.em_line.specs.declared.look.Look.{Look}
 use Rattle.em_line.specs.declared.look.Look.TheVariants.{InterruptLine, Registers, Wire}
@@ -66,23 +69,29 @@ pub record Reply : Type 0 where
 abbrev pub done_reply : List ℕ → View → Reply
 done_reply text machine = record { text = text; outcome = outcome.Done; machine = machine }
 
+-- an event was performed, and answered so
+abbrev pub answered_reply : Answer → View → Reply
+answered_reply answer machine =
+    record { text = answer_text answer; outcome = answer_outcome answer; machine = machine }
+
 -- what was refused changed nothing
-abbrev pub refusal_reply : List ℕ → View → Reply
-refusal_reply text machine = record { text = text; outcome = outcome.Refused; machine = machine }
+abbrev pub refusal_reply : List ℕ → Refused → View → Reply
+refusal_reply text refused machine = record { text = text; outcome = outcome.Refused refused; machine = machine }
 
 -- to a single call: a performed event prints its answer
 abbrev pub call_reply : Call → View → Reply
 call_reply (performs e answer) machine =
     let s = machine.present in
-    done_reply (answer_text answer) (after_event machine (after_step s (step s e)) (cost s e))
-call_reply (refuses e refusal) machine = refusal_reply (refusal_text refusal) machine
+    answered_reply answer (after_event machine (after_step s (step s e)) (cost s e))
+call_reply (refuses e refusal) machine = refusal_reply (refusal_text refusal) (refused_by refusal) machine
 call_reply goes_back machine = done_reply done_text (after_back machine)
-call_reply is_empty machine = refusal_reply empty_text machine
+call_reply is_empty machine = refusal_reply empty_text refused_as.Empty machine
 
 -- to a look at n octets of memory, from an address on
 abbrev pub peek_reply : ℕ → ℕ → View → Reply
 peek_reply addr n machine =
-    if nat_lt (length machine.present.memory) (addr + n) then refusal_reply (refusal_text Range) machine
+    if nat_lt (length machine.present.memory) (addr + n) then
+    refusal_reply (refusal_text Range) (refused_by Range) machine
     else done_reply (hex_line_text (part machine.present.memory addr n)) machine
 
 -- what a look shows
@@ -131,7 +140,7 @@ plan_reply (Some refused) = refusal_text Memory
 
 abbrev pub plan_outcome : Option RefusedAt → Outcome
 plan_outcome None = outcome.Done
-plan_outcome (Some refused) = outcome.Refused
+plan_outcome (Some refused) = outcome.Refused (refused_by Memory)
 
 -- a plan that finds no memory leaves the one before it
 abbrev pub after_plan : Option RefusedAt → List (List Turn) → Session → Session

@@ -21,7 +21,7 @@ mod seat;
 mod session;
 mod summary;
 
-pub use em_output::Outcome;
+pub use em_output::{Outcome, Refused};
 pub use laws::{a_line_did_so, a_request_is_played_or_says_so};
 pub use no_driver::NoDriver;
 pub use player::Player;

@@ -31,8 +31,8 @@ pub fn count(summary: &mut Summary, outcome: Outcome)
             summary.lines += 1;
             summary.bad += 1;
         }
-        Outcome::Done => summary.lines += 1,
-        Outcome::Refused => {
+        Outcome::Done | Outcome::Idle | Outcome::Dropped(_) => summary.lines += 1,
+        Outcome::Refused(_) => {
             summary.lines += 1;
             summary.refused += 1;
         }
