@@ -148,7 +148,7 @@ def seconds(time):
 
 
 def arrival(frame, number, why, is_open, rctl):
-    """A frame's comment, the line that brings it, and the receive engine's steps."""
+    """A frame's comment, the line that brings it, with its moment if it has one, and the receive engine's steps."""
     size = max(60, frame.size)
     unpadded = frame.size < 60 and len(frame.octets) < 60
     captured = f", captured at {frame.time // 10**9}.{frame.time % 10**9:09}" if frame.time is not None else ""
@@ -156,7 +156,8 @@ def arrival(frame, number, why, is_open, rctl):
     said += "" if is_open else "; the receiver is disabled here"
     said += "; padded to 60 octets" if unpadded else ""
     padded = f" {size}" if size > len(frame.octets) else ""
-    return [said, f"arrive {frame.octets.hex().upper()}{padded}", *["rx"] * -(-size // buffer_size(rctl))]
+    came = " # " + why.split()[1] if why.startswith("at ") else ""
+    return [said, f"arrive {frame.octets.hex().upper()}{padded}{came}", *["rx"] * -(-size // buffer_size(rctl))]
 
 
 BY_TIME = "at {} by its time"

@@ -1,5 +1,6 @@
 //! Comparing a script's answers with those that its lines expect.
 
+use crate::faults::bench_text;
 use crate::session::Served;
 use anyhow::{Result, bail};
 use em_debugger::{Compared, Debugger, Differing, Disk};
@@ -13,6 +14,11 @@ use std::io::{BufWriter, Write};
 
 /// How many digits a register's value has.
 const DIGITS: usize = 8;
+
+/// The last digit of a value, and how many bits it has.
+const DIGIT: u32 = 0xF;
+
+const DIGIT_BITS: u32 = 4;
 
 /// Which of the answers that differ are shown.
 #[derive(Clone, Copy, Debug)]
@@ -65,13 +71,12 @@ impl Tally {
         let Some(reg) = differing.reg else {
             return false;
         };
-        let here = debugger.newest_answer();
-        match (
-            wanted_value(debugger.line_expects(differing.line), here),
-            value_of(here),
-        ) {
-            (Some(wanted), Some(here)) => is_known(self.causes, reg, wanted, here),
-            _ => false,
+        let Some(here) = differing.value else {
+            return false;
+        };
+        match wanted_value(debugger.line_expects(differing.line), here) {
+            Some(wanted) => is_known(self.causes, reg, wanted, here),
+            None => false,
         }
     }
 }
@@ -104,7 +109,7 @@ pub fn compare<R: Print + AllocGlobal, D: Disk + Drop>(
                     break;
                 }
             }
-            Compared::Stopped(fault) => bail!("{}", fault.name()),
+            Compared::Stopped(fault) => bail!("{}", bench_text(fault)),
         }
     }
     if wanted.all {
@@ -113,7 +118,7 @@ pub fn compare<R: Print + AllocGlobal, D: Disk + Drop>(
         }
     }
     if writer.flush().is_err() {
-        bail!("{}", BenchFault::Write.name());
+        bail!("{}", bench_text(BenchFault::Write));
     }
     Ok(tally.known)
 }
@@ -136,41 +141,30 @@ fn tell<W: Write>(
     let is_first = tally.note(differing.reg)?;
     let is_shown = is_first || (is_known && !wanted.all);
     if is_shown && debugger.tell_differs(writer, differing, is_known).is_err() {
-        bail!("{}", BenchFault::Write.name());
+        bail!("{}", bench_text(BenchFault::Write));
     }
     Ok(!is_known && !wanted.all)
 }
 
-/// The value of a register that an answer has: 8 hexadecimal digits in its first line.
-fn value_of(answer: &[u8]) -> Option<u32> {
-    if answer.len() < DIGITS {
-        return None;
-    }
-    number_of(&answer[..DIGITS])
-}
-
-fn number_of(digits: &[u8]) -> Option<u32> {
-    let text = str::from_utf8(digits).ok()?;
-    u32::from_str_radix(text, 16).ok()
-}
-
 /// The value that is wanted, where a number is: of a digit that does not matter, the one that is there.
-fn wanted_value(expected: &[u8], answer: &[u8]) -> Option<u32> {
+fn wanted_value(expected: &[u8], here: u32) -> Option<u32> {
     let digits = match expected {
         [b'0', b'x' | b'X', digits @ ..] => digits,
         digits => digits,
     };
-    if answer.len() < DIGITS {
-        return None;
-    }
     let mut wanted = [b'0'; DIGITS];
-    let last = digits.len().min(DIGITS);
-    for at in 0..last {
+    let mut kept = 0;
+    for at in 0..digits.len().min(DIGITS) {
         let digit = digits[digits.len() - 1 - at];
-        let place = DIGITS - 1 - at;
-        wanted[place] = if digit == b'-' { answer[place] } else { digit };
+        if digit == b'-' {
+            kept |= DIGIT << (DIGIT_BITS * at as u32);
+        } else {
+            wanted[DIGITS - 1 - at] = digit;
+        }
     }
-    number_of(&wanted)
+    let text = str::from_utf8(&wanted).ok()?;
+    let number = u32::from_str_radix(text, 16).ok()?;
+    Some(number | (here & kept))
 }
 
 /// Writes how often a register's answers differed.
@@ -180,7 +174,7 @@ fn write_count<W: Write>(writer: &mut W, count: &Count) -> Result<()> {
         None => write!(writer, "other lines").is_ok(),
     };
     if !named || writeln!(writer, ": {} differed", count.differed).is_err() {
-        bail!("{}", BenchFault::Write.name());
+        bail!("{}", bench_text(BenchFault::Write));
     }
     Ok(())
 }

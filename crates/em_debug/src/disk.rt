@@ -4,6 +4,7 @@ ghost use Rattle.std.specs.Io.KnownBytes.{Appends};
 ghost use Rattle.em_debug.specs.Host.{Does};
 
 use em_debugger::{Disk, DiskFault};
+use em_input::is_compressed;
 use em_text::{ReadFault, read_script, write_whole};
 use std::fs::{self, File};
 use std::io::{self, ErrorKind, Write};
@@ -27,6 +28,7 @@ impl<R: Files + AllocGlobal> Disk for Host<'_, R> {
             Err(error) => return Err(fault_of(&error)),
         };
         match read_script(self.rt.alloc(), &mut file) {
+            Ok(script) if is_compressed(script.as_slice()) => Err(DiskFault::Compressed),
             Ok(script) => {
                 *text = script;
                 Ok(())

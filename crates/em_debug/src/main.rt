@@ -11,6 +11,7 @@
 
 mod compare;
 mod disk;
+mod faults;
 mod files;
 mod help;
 mod marks;
@@ -19,6 +20,7 @@ mod words;
 
 use crate::compare::{Wanted, compare};
 use crate::disk::Host;
+use crate::faults::{NO_MEMORY, bench_text, console_fault, open_fault, see_commands};
 use crate::files::{file_fault, read_script, tell_bad_lines, tell_marks};
 use crate::help::{HELP, VERSION};
 use crate::marks::Marks;
@@ -65,7 +67,7 @@ fn debug<R: Env + Files + Input + Print + Eprint + AllocGlobal>(rt: &R, prompt: 
             let _ = eprintln!(rt; "em_debug: {error}");
             Ending::without_words(&error).status()
         }
-        Err(WordsRefused::Memory) => failed(rt, BenchFault::Memory.name()),
+        Err(WordsRefused::Memory) => failed(rt, NO_MEMORY),
         Err(WordsRefused::NoFile(option)) => {
             let _ = eprintln!(rt; "em_debug: {option} wants a file");
             REFUSED
@@ -119,7 +121,7 @@ fn refused<R: Eprint>(rt: &R, why: &str) -> u8 {
 fn without_options<R: Print + Eprint>(rt: &R, refused: &OptionsRefused) -> u8 {
     let ending = Ending::without_options(refused);
     if let Ending::Fault(fault) = ending {
-        return failed(rt, fault.name());
+        return failed(rt, bench_text(fault));
     }
     let is_printed = match refused.told() {
         Some(error) => error.print(rt).is_ok(),
@@ -141,7 +143,7 @@ fn with_options<R: Files + Input + Print + Eprint + AllocGlobal>(
     match file_fault(rt, words, options.script) {
         Ok(None) => {}
         Ok(Some(fault)) => return refused(rt, fault.as_str()),
-        Err(_) => return failed(rt, BenchFault::Memory.name()),
+        Err(_) => return failed(rt, NO_MEMORY),
     }
     match Debugger::new(rt.alloc(), options.settings()) {
         Ok(debugger) => {
@@ -177,7 +179,7 @@ fn without_machine<R: Eprint>(rt: &R, options: &Options<'_>, refusal: SettingsRe
             let _ = eprintln!(rt; "em_debug: --budget {}: {BUDGETS}", options.budget);
             REFUSED
         }
-        SettingsRefusal::Memory => failed(rt, refusal.name()),
+        SettingsRefusal::Memory => failed(rt, NO_MEMORY),
     }
 }
 
@@ -260,7 +262,7 @@ fn with_session<R: Files + Input + Print + Eprint + AllocGlobal>(
             .debugger
             .begin_text(&mut text, script.as_slice(), words.step);
         if begun.is_err() {
-            bail!("{}", BenchFault::Memory.name());
+            bail!("{NO_MEMORY}");
         }
     }
     match &words.commands {
@@ -273,7 +275,11 @@ fn with_session<R: Files + Input + Print + Eprint + AllocGlobal>(
         }
         None => {
             let reader = BufReader::new(rt.alloc(), rt.reader())?;
-            with_reader(rt, served, reader, text.as_slice(), prompt)?;
+            let source = Source {
+                name: "standard input",
+                prompt,
+            };
+            with_reader(rt, served, reader, text.as_slice(), source)?;
             Ok(Found { bad, known: 0 })
         }
     }
@@ -287,7 +293,7 @@ fn play<R: Print + AllocGlobal, D: Disk + Drop>(
     script: &[u8],
 ) -> Result<u64> {
     if let Err(fault) = served.debugger.add_lines(script) {
-        bail!("{}", fault.name());
+        bail!("{}", bench_text(fault));
     }
     if words.batch {
         list(rt, served)?;
@@ -307,13 +313,24 @@ fn with_commands<R: Files + Print + Eprint + AllocGlobal, D: Disk + Drop>(
     path: &str,
     text: &[u8],
 ) -> Result<u64> {
-    let Ok(file) = File::open(rt, path) else {
-        bail!("-x {path}: the file cannot be read");
+    let file = match File::open(rt, path) {
+        Ok(file) => file,
+        Err(error) => return Err(open_fault(path, &error)),
     };
-    let reader = BufReader::new(rt.alloc(), file)?;
+    let mut reader = BufReader::new(rt.alloc(), file)?;
+    see_commands(path, &mut reader)?;
     let head = format!(in rt.alloc(); "em_debug: {path}")?;
     served.marks = Some(Marks::new(rt.alloc(), head.into_bytes()));
-    let ended = with_reader(rt, served, reader, text, b"");
+    let ended = with_reader(
+        rt,
+        served,
+        reader,
+        text,
+        Source {
+            name: path,
+            prompt: b"",
+        },
+    );
     let wrong = match &served.marks {
         Some(marks) => tell_marks(rt, marks),
         None => 0,
@@ -326,9 +343,16 @@ fn with_commands<R: Files + Print + Eprint + AllocGlobal, D: Disk + Drop>(
 fn list<R: Print + AllocGlobal, D: Disk + Drop>(rt: &R, served: &mut Served<D>) -> Result<()> {
     let mut writer = BufWriter::new(rt.alloc(), io::writer(rt))?;
     if served.debugger.list_all(&mut writer).is_err() || writer.flush().is_err() {
-        bail!("{}", BenchFault::Write.name());
+        bail!("{}", bench_text(BenchFault::Write));
     }
     Ok(())
+}
+
+/// Where lines come from, and what each is asked for with.
+#[derive(Clone, Copy, Debug)]
+struct Source<'a> {
+    name: &'a str,
+    prompt: &'a [u8],
 }
 
 /// Tells what the script did, and answers each line of a reader.
@@ -337,15 +361,15 @@ fn with_reader<R: Print + AllocGlobal, S: Answers, B: BufRead + Drop>(
     served: &mut S,
     reader: B,
     text: &[u8],
-    prompt: &[u8],
+    source: Source<'_>,
 ) -> Result<()> {
     let writer = BufWriter::new(rt.alloc(), io::writer(rt))?;
-    let mut console = LineConsole::new(reader, writer, prompt);
+    let mut console = LineConsole::new(reader, writer, source.prompt);
     if let Err(fault) = console.tell(text) {
-        bail!("{}", fault.name());
+        return Err(console_fault(fault, source.name));
     }
     match serve(rt.alloc(), &mut console, served) {
         Ok(_) => Ok(()),
-        Err(fault) => bail!("{}", fault.name()),
+        Err(fault) => Err(console_fault(fault, source.name)),
     }
 }

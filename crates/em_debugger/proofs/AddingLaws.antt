@@ -4,7 +4,7 @@ use Rattle.std.proofs.Common.{Some, None, sym, ap, subst, arith}
 use Rattle.std.specs.Prelude.{slice_get, unwrap_or, ◌&&◌}
 use Rattle.std.proofs.lemmas.List.{length-map, length-take-le}
 use Rattle.em_journal.specs.declared.settings.Settings.{Settings}
-use Rattle.em_output.specs.declared.outcome.Outcome.{Outcome}
+use Rattle.em_script.specs.declared.outcome.Outcome.{Outcome}
 use Rattle.em_named.specs.declared.did.Did.{Did}
 use Rattle.em_tape.specs.Moves.{Plays, noted}
 use Rattle.em_tape.specs.Tape.{HoldsTape, Tape, line_at}

@@ -16,51 +16,57 @@ use Rattle.em_tape.specs.Tape.{Tape}
 use Rattle.em_tape.proofs.TapeLaws.{take-more}
 use Rattle.em_debugger.specs.Files.{SomeAdded, played_in, script_of}
 use Rattle.em_debugger.specs.Place.{line_here, text_of}
-use Rattle.em_debugger.specs.Told.{Stay}
+use Rattle.em_debugger.specs.Sending.{timed_in}
+use Rattle.em_debugger.specs.Told.{KeepsText, KeepsTexts, Stay}
 
--- the lines of a text were added as far as this rest of it, and what they expect was kept
-pub record AddedSo (first now : Tape) (held holds : List (List ℕ)) (text rest : List ℕ) : Type 0 where
+-- the lines of a text were added as far as this rest of it, and what they expect was kept, and their times
+pub record AddedSo (first now : Tape) (held holds had has : List (List ℕ)) (text rest : List ℕ) : Type 0 where
   pub lines : List (List ℕ)
   pub tape : now ≡ record first { lines = first.lines ++ map played_in lines }
   pub all : lines_of text ≡ lines ++ lines_of rest
   pub expect : AllExpect (length first.lines + 1) lines held holds
+  pub times : KeepsTexts timed_in (length first.lines + 1) lines had has
 
 abbrev with_lines : Tape → List (List ℕ) → Tape
 with_lines tape lines = record tape { lines = lines }
 
-pub AddedSo-none : (first : Tape) (held : List (List ℕ)) (text : List ℕ) → AddedSo first first held held text text
-AddedSo-none first held text = record {
+pub AddedSo-none : (first : Tape) (held had : List (List ℕ)) (text : List ℕ)
+    → AddedSo first first held held had had text text
+AddedSo-none first held had text = record {
   lines = [];
   tape = ap (with_lines first) (sym (append-nil first.lines));
   all = refl;
   expect = refl;
+  times = refl;
 }
 
--- what one line more expects
-AllExpect-more : (number : ℕ) (lines : List (List ℕ)) (line : List ℕ) (old now new : List (List ℕ))
-    → AllExpect number lines old now → Expects (number + length lines) (wanted_in line) now new
-    → AllExpect number (lines ++ line ∷ []) old new
-AllExpect-more number [] line old now new same expects =
+-- what is kept beside one line more
+KeepsTexts-more : (kept : List ℕ → List ℕ) (number : ℕ) (lines : List (List ℕ)) (line : List ℕ)
+    (old now new : List (List ℕ)) → KeepsTexts kept number lines old now
+    → KeepsText (number + length lines) (kept line) now new → KeepsTexts kept number (lines ++ line ∷ []) old new
+KeepsTexts-more kept number [] line old now new same keeps =
     let here : number + 0 ≡ number = omega arith in (
       new,
-      subst (λ n. Expects n (wanted_in line) old new) here (subst (λ l. Expects (number + 0) (wanted_in line) l new)
-          same expects),
+      subst (λ n. KeepsText n (kept line) old new) here (subst (λ l. KeepsText (number + 0) (kept line) l new)
+          same keeps),
       refl,
     )
-AllExpect-more number (first ∷ lines) line old now new h expects =
+KeepsTexts-more kept number (first ∷ lines) line old now new h keeps =
     let here : number + suc (length lines) ≡ number + 1 + length lines = omega arith in (
       h.0,
       h.1,
-      AllExpect-more (number + 1) lines line h.0 now new h.2
-          (subst (λ n. Expects n (wanted_in line) now new) here expects),
+      KeepsTexts-more kept (number + 1) lines line h.0 now new h.2
+          (subst (λ n. KeepsText n (kept line) now new) here keeps),
     )
 
 -- one line more
-pub AddedSo-more : (first now next : Tape) (held holds then : List (List ℕ)) (text rest line behind : List ℕ)
-    → AddedSo first now held holds text rest → lines_of rest ≡ line ∷ lines_of behind
-    → next ≡ record now { lines = now.lines ++ played_in line ∷ [] }
-    → Expects (length now.lines + 1) (wanted_in line) holds then → AddedSo first next held then text behind
-AddedSo-more first now next held holds then text rest line behind h is added expects =
+pub AddedSo-more : (first now next : Tape) (held holds then had has timed : List (List ℕ))
+    (text rest line behind : List ℕ) → AddedSo first now held holds had has text rest
+    → lines_of rest ≡ line ∷ lines_of behind → next ≡ record now { lines = now.lines ++ played_in line ∷ [] }
+    → Expects (length now.lines + 1) (wanted_in line) holds then
+    → KeepsText (length now.lines + 1) (timed_in line) has timed
+    → AddedSo first next held then had timed text behind
+AddedSo-more first now next held holds then had has timed text rest line behind h is added expects times =
     let long : length now.lines ≡ length first.lines + length h.lines =
     ap (λ (t : Tape). length t.lines) h.tape ∙ length-append first.lines (map played_in h.lines)
     ∙ ap (λ n. length first.lines + n) (length-map h.lines played_in) in
@@ -71,36 +77,44 @@ AddedSo-more first now next held holds then text rest line behind h is added exp
           ∙ ap (with_lines first) (append_assoc first.lines (map played_in h.lines) (played_in line ∷ [])
           ∙ ap (λ l. first.lines ++ l) (sym (map-append played_in h.lines (line ∷ []))));
       all = h.all ∙ ap (λ l. h.lines ++ l) is ∙ sym (append_assoc h.lines (line ∷ []) (lines_of behind));
-      expect = AllExpect-more (length first.lines + 1) h.lines line held holds then h.expect
-          (subst (λ n. Expects n (wanted_in line) holds then) number expects);
+      expect = KeepsTexts-more wanted_in (length first.lines + 1) h.lines line held holds then h.expect
+          (subst (λ n. KeepsText n (wanted_in line) holds then) number expects);
+      times = KeepsTexts-more timed_in (length first.lines + 1) h.lines line had has timed h.times
+          (subst (λ n. KeepsText n (timed_in line) has timed) number times);
     }
 
 pub none_left : (rest : List ℕ) → length rest ≡ 0 → lines_of rest ≡ []
 none_left rest none = ap lines_of (nil_from_length rest none) ∙ lines_of-nil
 
 -- all lines were added, where nothing is left
-added_all : {first now : Tape} {held holds : List (List ℕ)} {text rest : List ℕ}
-    (h : AddedSo first now held holds text rest) → length rest ≡ 0 → h.lines ≡ lines_of text
+added_all : {first now : Tape} {held holds had has : List (List ℕ)} {text rest : List ℕ}
+    (h : AddedSo first now held holds had has text rest) → length rest ≡ 0 → h.lines ≡ lines_of text
 added_all {rest = rest} h none =
     sym (h.all ∙ ap (λ l. h.lines ++ l) (none_left rest none) ∙ append-nil h.lines)
 
-pub AddedSo-all : (first now : Tape) (held holds : List (List ℕ)) (text rest : List ℕ)
-    → AddedSo first now held holds text rest → length rest ≡ 0
+pub AddedSo-all : (first now : Tape) (held holds had has : List (List ℕ)) (text rest : List ℕ)
+    → AddedSo first now held holds had has text rest → length rest ≡ 0
     → now ≡ record first { lines = first.lines ++ map played_in (lines_of text) }
-AddedSo-all first now held holds text rest h none =
+AddedSo-all first now held holds had has text rest h none =
     h.tape ∙ ap (λ l. with_lines first (first.lines ++ map played_in l)) (added_all h none)
 
-pub AddedSo-expect : (first now : Tape) (held holds : List (List ℕ)) (text rest : List ℕ)
-    → AddedSo first now held holds text rest → length rest ≡ 0
+pub AddedSo-expect : (first now : Tape) (held holds had has : List (List ℕ)) (text rest : List ℕ)
+    → AddedSo first now held holds had has text rest → length rest ≡ 0
     → AllExpect (length first.lines + 1) (lines_of text) held holds
-AddedSo-expect first now held holds text rest h none =
+AddedSo-expect first now held holds had has text rest h none =
     subst (λ l. AllExpect (length first.lines + 1) l held holds) (added_all h none) h.expect
 
+pub AddedSo-times : (first now : Tape) (held holds had has : List (List ℕ)) (text rest : List ℕ)
+    → AddedSo first now held holds had has text rest → length rest ≡ 0
+    → KeepsTexts timed_in (length first.lines + 1) (lines_of text) had has
+AddedSo-times first now held holds had has text rest h none =
+    subst (λ l. KeepsTexts timed_in (length first.lines + 1) l had has) (added_all h none) h.times
+
 -- no more were added
-pub AddedSo-some : (first now new : Tape) (held holds then : List (List ℕ)) (text rest : List ℕ)
-    → AddedSo first now held holds text rest → new ≡ now → Stay holds then
-    → SomeAdded first new held then (lines_of text)
-AddedSo-some first now new held holds then text rest h same stay = record {
+pub AddedSo-some : (first now new : Tape) (held holds then had has timed : List (List ℕ)) (text rest : List ℕ)
+    → AddedSo first now held holds had has text rest → new ≡ now → Stay holds then → Stay has timed
+    → SomeAdded first new held then had timed (lines_of text)
+AddedSo-some first now new held holds then had has timed text rest h same stay still = record {
   added = h.lines;
   others = lines_of rest;
   all = h.all;
@@ -108,6 +122,9 @@ AddedSo-some first now new held holds then text rest h same stay = record {
   expected = holds;
   expect = h.expect;
   stay = stay;
+  timed = has;
+  times = h.times;
+  still = still;
 }
 
 -- ---- a script

@@ -1,13 +1,16 @@
 pub mod AccessedLaws
 pub mod AddingLaws
 pub mod AnsweringLaws
+pub mod CameLaws
 pub mod DeeperLaws
 pub mod EffectLaws
+pub mod EventBefore
 pub mod ExpectingLaws
 pub mod FilesLaws
 pub mod HistoryLaws
 pub mod LedLaws
 pub mod ListingLaws
+pub mod LostLaws
 pub mod MovesLaws
 pub mod NextLaws
 pub mod NotedLaws
@@ -18,6 +21,7 @@ pub mod PlaceLaws
 pub mod PlayedLaws
 pub mod RefusedLaws
 pub mod SavedLaws
+pub mod SendingLaws
 pub mod StepsLaws
 pub mod StopsLaws
 pub mod TextLaws

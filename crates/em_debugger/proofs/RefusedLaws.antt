@@ -7,9 +7,12 @@ use Rattle.em_script.specs.declared.runner.BenchFault.TheVariants as fault
 use Rattle.em_tape.specs.Moves.{Leaves, Plays}
 use Rattle.em_tape.specs.Tape.{Tape}
 use Rattle.em_tape.specs.Texts.{texts}
+use Rattle.em_debugger.specs.Came.{came_of}
 use Rattle.em_debugger.specs.declared.debugger.Debugger.{Debugger}
+use Rattle.em_debugger.specs.Engines.{PutsNone}
 use Rattle.em_debugger.specs.Performing.{IsWhole, KeepsBeside, StaysAt, Unperformed, is_whole, unnoted, unplayed}
 use Rattle.em_debugger.specs.Place.{line_here}
+use Rattle.em_debugger.specs.Sending.{first_of}
 use Rattle.em_debugger.specs.Told.{told_of}
 
 abbrev whole_at : Tape → Tape → Tape
@@ -39,12 +42,14 @@ unplayed_by old new before text text' why whole none keeps (inl is) wrote left =
 unplayed_by old new before text text' why whole none keeps (inr is) wrote left =
     unplayed keeps (stays_whole old.tape before new.tape whole.tape (left is).0)
 
--- all but what lines expect is the same, and beside each line the same stands
-pub keeps_beside : (old new : Debugger) → new ≡ record old { wanted = new.wanted }
-    → texts new.wanted.answers.items ≡ texts old.wanted.answers.items → KeepsBeside old new
-keeps_beside old new e same = record {
+-- all but what lines expect and their times is the same, and beside each line the same stands
+pub keeps_beside : (old new : Debugger) → PutsNone old new → KeepsBeside old new
+keeps_beside old new none = let e = none.rest in record {
   told = λ line. ap (λ (d : Debugger). told_of line (texts d.told.answers.items)) e;
-  wanted = λ line. ap (told_of line) same;
+  came = λ line. ap (λ (d : Debugger). came_of line d.came.outcomes.items) e;
+  wanted = λ line. ap (told_of line) none.wanted;
+  times = λ line. ap (told_of line) none.times;
+  sent = λ line. ap (λ (d : Debugger). first_of line d.sent.firsts.items) e;
   settings = ap (λ (d : Debugger). d.settings) e;
   asked = ap (λ (d : Debugger). d.asked) e;
   warns = ap (λ (d : Debugger). d.warns) e;

@@ -5,7 +5,7 @@ use Rattle.em_debugger.specs.declared.performing.Performed.{Performed}
 use Rattle.em_debugger.specs.declared.stops.Stop.{Stop}
 use Rattle.em_debugger.specs.Performing.{PerformsNext, IsLast}
 use Rattle.em_debugger.specs.Place.{line_here}
-use Rattle.em_debugger.specs.Stops.{EndsBefore, EndsBehind, Runs, RanTo, is_before, none, more}
+use Rattle.em_debugger.specs.Stops.{EndsBefore, EndsBehind, GoesOnBehind, Runs, RanTo, is_before, none, more}
 use Rattle.em_debugger.proofs.PlayedLaws.{performs_on, to_do}
 use Rattle.em_debugger.proofs.TextLaws.{is_not}
 
@@ -19,7 +19,7 @@ pub RunsSo-none : (s : Stop) (first : Debugger) → RunsSo s first first 0
 RunsSo-none s first = record { runs = none; here = omega arith; left = omega arith }
 
 pub RunsSo-more : (s : Stop) (first now after : Debugger) (lines : ℕ) (p : Performed) → RunsSo s first now lines
-    → (EndsBefore s now → ⊥) → PerformsNext now after p → (EndsBehind s now after p → ⊥)
+    → (EndsBefore s now → ⊥) → PerformsNext now after p → GoesOnBehind s now after p
     → RunsSo s first after (lines + 1)
 RunsSo-more s first now after lines p h goes_on performs stays =
     let goes = performs_on now after p performs in

@@ -5,17 +5,17 @@ use Rattle.std.proofs.lemmas.List.{take_all}
 use Rattle.em_reasons.specs.declared.look.Look.{Look}
 use Rattle.em_tape.specs.Tape.{Tape}
 use Rattle.em_debugger.specs.declared.debugger.Debugger.{Debugger}
-use Rattle.em_debugger.specs.Debugger.{told}
+use Rattle.em_debugger.specs.Debugger.{came}
 use Rattle.em_debugger.specs.Why.{TellsLook, TellsLooks, TellsWhyNewest, TellsWhyOf, is_undone, newest_undone, next, over}
 
-pub undone_before : (d : Debugger) (line : ℕ) → 0 < line → is_undone (told line d) ≡ false
+pub undone_before : (d : Debugger) (line : ℕ) → 0 < line → is_undone (came line d) ≡ false
     → newest_undone d line ≡ newest_undone d (line - 1)
 undone_before d zero some none = absurd (omega arith)
 undone_before d (suc k) some none =
     let same : k ≡ suc k - 1 = omega arith in
     ap (λ b. cond b (suc k) (newest_undone d k)) none ∙ ap (newest_undone d) same
 
-pub undone_here : (d : Debugger) (line : ℕ) → 0 < line → is_undone (told line d) ≡ true → newest_undone d line ≡ line
+pub undone_here : (d : Debugger) (line : ℕ) → 0 < line → is_undone (came line d) ≡ true → newest_undone d line ≡ line
 undone_here d zero some is = absurd (omega arith)
 undone_here d (suc k) some is = ap (λ b. cond b (suc k) (newest_undone d k)) is
 

@@ -10,11 +10,10 @@ use Rattle.em_prompt.specs.BenchLine.{BenchLine}
 use Rattle.em_prompt.specs.Help.{line_of, help_text}
 use Rattle.em_prompt.specs.Prompt.{Wrong, prompted}
 use Rattle.em_prompt.specs.Scripted.{bench_in}
-use Rattle.em_prompt.specs.Typed.{Typed, line, show, who, who_again, back, back_to, forward, forward_to, goto}
-use Rattle.em_prompt.specs.Typed.{next, run, run_until, load, save, save_over, warnings, auto, arrive_next, arrive_all}
-use Rattle.em_prompt.specs.Typed.{pcap, pcap_over, quit}
+use Rattle.em_prompt.specs.Typed as typed
+use Rattle.em_prompt.specs.Typed.{Typed}
 use Rattle.em_prompt.specs.declared.typed.Shown.{Shown}
-use Rattle.em_prompt.specs.declared.typed.Shown.TheVariants.{Look, History, Effect, Ring, Frame, Memory, Why, Help}
+use Rattle.em_prompt.specs.declared.typed.Shown.TheVariants as shown
 use Rattle.em_prompt.specs.WrongText.{wrong_text}
 use Rattle.em_debugger.specs.declared.debugger.Debugger.{Debugger}
 use Rattle.em_debugger.specs.Disk.{Deed}
@@ -39,46 +38,46 @@ warnings_are false = codes "warnings are off\n"
 
 -- what is shown of a debugger
 abbrev pub Shows : Debugger → Shown → List ℕ → Type 0
-Shows d (Look reg) text = text ≡ register_text d.tape.session.machine.present reg
-Shows d (History most) text = ShowsHistory d most text
-Shows d (Effect event) text = AnswersEffect d (asked_event event d.tape) text
-Shows d (Ring side) text = text ≡ ring_text d.tape.session.machine.present side
-Shows d (Frame None) text = text ≡ waiting_text d.tape.session.machine.present.fifo
-Shows d (Frame (Some index)) text = text ≡ sent_text d.tape.session.machine.present.wire index
-Shows d (Memory addr len) text = text ≡ memory_text d.tape.session.machine.present addr len
-Shows d Why text = TellsWhy d text
-Shows d (Help (Some command)) text = text ≡ line_of command
-Shows d (Help None) text = text ≡ help_text
+Shows d (shown.Look reg) text = text ≡ register_text d.tape.session.machine.present reg
+Shows d (shown.History most) text = ShowsHistory d most text
+Shows d (shown.Effect event) text = AnswersEffect d (asked_event event d.tape) text
+Shows d (shown.Ring side) text = text ≡ ring_text d.tape.session.machine.present side
+Shows d (shown.Frame None) text = text ≡ waiting_text d.tape.session.machine.present.fifo
+Shows d (shown.Frame (Some index)) text = text ≡ sent_text d.tape.session.machine.present.wire index
+Shows d (shown.Memory addr len) text = text ≡ memory_text d.tape.session.machine.present addr len
+Shows d shown.Why text = TellsWhy d text
+Shows d (shown.Help (Some command)) text = text ≡ line_of command
+Shows d (shown.Help None) text = text ≡ help_text
 
 -- By what was typed without a file's name, what it made of the debugger, and what is said. A command that only looks
 -- changes nothing.
 abbrev pub ObeysAlone : Debugger → Debugger → Typed → List ℕ → Type 0
-ObeysAlone old new (line typed) text = AnswersTyped old new typed [] text
-ObeysAlone old new (next count) text = TellsNext count old new text
-ObeysAlone old new run text = RunsAll old new text
-ObeysAlone old new (run_until until) text = AnswersRun old new until text
-ObeysAlone old new (back count) text = GoesBack count old new text
-ObeysAlone old new (back_to number) text = GoesBeforeLine number old new text
-ObeysAlone old new (forward_to number) text = GoesBeforeLine number old new text
-ObeysAlone old new (forward events) text = GoesToEvent (forward_by events old.tape) old new text
-ObeysAlone old new (goto event) text = GoesToEvent event old new text
-ObeysAlone old new (who watch which) text = AnswersWho old new watch which text
-ObeysAlone old new who_again text = TellsAgain old new old.asked text
-ObeysAlone old new (warnings on) text = (new ≡ record old { warns = on }) × (text ≡ warnings_are on)
-ObeysAlone old new (auto on) text = (new ≡ record old { engines = steps_of on }) × (text ≡ engines_are on)
-ObeysAlone old new arrive_next text = ArrivesNext old new text
-ObeysAlone old new arrive_all text = ArrivesAll old new text
-ObeysAlone old new (show shown) text = (new ≡ old) × Shows old shown text
+ObeysAlone old new (typed.line bench) text = AnswersTyped old new bench [] text
+ObeysAlone old new (typed.next count) text = TellsNext count old new text
+ObeysAlone old new typed.run text = RunsAll old new text
+ObeysAlone old new (typed.run_until until) text = AnswersRun old new until text
+ObeysAlone old new (typed.back count) text = GoesBack count old new text
+ObeysAlone old new (typed.back_to number) text = GoesBeforeLine number old new text
+ObeysAlone old new (typed.forward_to number) text = GoesBeforeLine number old new text
+ObeysAlone old new (typed.forward events) text = GoesToEvent (forward_by events old.tape) old new text
+ObeysAlone old new (typed.goto event) text = GoesToEvent event old new text
+ObeysAlone old new (typed.who watch which) text = AnswersWho old new watch which text
+ObeysAlone old new typed.who_again text = TellsAgain old new old.asked text
+ObeysAlone old new (typed.warnings on) text = (new ≡ record old { warns = on }) × (text ≡ warnings_are on)
+ObeysAlone old new (typed.auto on) text = (new ≡ record old { engines = steps_of on }) × (text ≡ engines_are on)
+ObeysAlone old new typed.arrive_next text = ArrivesNext old new text
+ObeysAlone old new typed.arrive_all text = ArrivesAll old new text
+ObeysAlone old new (typed.show shown) text = (new ≡ old) × Shows old shown text
 ObeysAlone old new _ text = (new ≡ old) × (text ≡ [])
 
 -- By what was typed, what was done at the disk, what it made of the debugger, and what is said. At the disk nothing is
 -- done, but what a command with a file's name asks for.
 abbrev pub Obeys : (Option Deed → Type 0) → Debugger → Debugger → Typed → List ℕ → Type 0
-Obeys did old new (load name) text = Loads did old new name text
-Obeys did old new (save name) text = (new ≡ old) × Saves did false old name text
-Obeys did old new (save_over name) text = (new ≡ old) × Saves did true old name text
-Obeys did old new (pcap name) text = (new ≡ old) × SavesFrames did false old name text
-Obeys did old new (pcap_over name) text = (new ≡ old) × SavesFrames did true old name text
+Obeys did old new (typed.load name) text = Loads did old new name text
+Obeys did old new (typed.save name) text = (new ≡ old) × Saves did false old name text
+Obeys did old new (typed.save_over name) text = (new ≡ old) × Saves did true old name text
+Obeys did old new (typed.pcap name) text = (new ≡ old) × SavesFrames did false old name text
+Obeys did old new (typed.pcap_over name) text = (new ≡ old) × SavesFrames did true old name text
 Obeys did old new typed text = did None × ObeysAlone old new typed text
 
 -- what is wrong is said; where a word names no register, with those that may be meant
@@ -88,7 +87,7 @@ pub record TellsWrong (wrong : Wrong) (text : List ℕ) : Type 0 where
 
 -- the session goes on, but behind quit
 abbrev pub flow_of : Typed → Flow
-flow_of quit = Ends
+flow_of typed.quit = Ends
 flow_of _ = Goes
 
 -- what is typed is obeyed, or it is said what is wrong with it

@@ -4,6 +4,9 @@ use Rattle.em_regs.specs.declared.reg.Reg.{Reg}
 use Rattle.em_text.specs.Words.{words_of}
 use Rattle.em_expect.specs.Difference.{register_read}
 use Rattle.em_named.specs.Numbers.{end_of}
+use Rattle.em_script.specs.declared.outcome.Outcome.{Outcome}
+use Rattle.em_script.specs.declared.outcome.Outcome.TheVariants.{Answered}
+use Rattle.em_step.specs.declared.event.Answer.TheVariants.{Value}
 use Rattle.em_tape.specs.Tape.{behind}
 use Rattle.em_watch.specs.declared.watch.Watch.TheVariants.{Register}
 use Rattle.em_debugger.specs.declared.compare.Compared.{Compared}
@@ -20,11 +23,17 @@ use Rattle.em_debugger.specs.Place.{text_of}
 use Rattle.em_debugger.specs.Stops.{RanSo}
 use Rattle.em_debugger.specs.Who.{TellsNewest}
 
--- a line whose answer differs, with the register that it reads
+-- the value that a read gave which came out so
+abbrev pub value_of : Outcome → Option ℕ
+value_of (Answered (Value value)) = Some value
+value_of _ = None
+
+-- a line whose answer differs, with the register that it reads and the value that it gave
 abbrev pub differing : Performed → Debugger → Differing
 differing p d = record {
   line = p.line;
   reg = register_read (words_of (text_of p.line d.tape));
+  value = value_of p.outcome;
   performed = p;
 }
 

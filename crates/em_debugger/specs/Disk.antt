@@ -1,7 +1,7 @@
 -- What is done at a disk, and what is said of it.
 use Rattle.std.specs.Prelude.{◌≡◌, ℕ, Bool, true, false, List, ◌++◌, codes, Option, Some, None}
 use Rattle.em_debugger.specs.declared.disk.DiskFault.{DiskFault}
-use Rattle.em_debugger.specs.declared.disk.DiskFault.TheVariants.{Missing, Exists, Name, TooLarge, Memory, Failed}
+use Rattle.em_debugger.specs.declared.disk.DiskFault.TheVariants.{Missing, Exists, Name, TooLarge, Compressed, Memory, Failed}
 
 -- one thing that is done at a disk, with a file of a name
 pub data Deed : Type 0 where
@@ -30,6 +30,7 @@ disk_text Missing = codes ": there is no such file\n"
 disk_text Exists = codes ": the file is there already; save! and pcap! replace it\n"
 disk_text Name = codes ": this is no name of a file\n"
 disk_text TooLarge = codes ": it has more than 4194304 octets\n"
+disk_text Compressed = codes ": it is compressed by gzip: unpack it first\n"
 disk_text Memory = codes ": no memory for it\n"
 disk_text Failed = codes ": the system refuses it\n"
 

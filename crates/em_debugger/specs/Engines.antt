@@ -7,8 +7,8 @@ use Rattle.em_line.specs.ParsedLine.{command_in}
 use Rattle.em_step.specs.Event.{receives, transmits}
 use Rattle.em_tape.specs.Texts.{texts}
 use Rattle.em_step.specs.State.{State}
-use Rattle.em_output.specs.declared.outcome.Outcome.{Outcome}
-use Rattle.em_output.specs.declared.outcome.Outcome.TheVariants.{Refused}
+use Rattle.em_script.specs.declared.outcome.Outcome.{Outcome}
+use Rattle.em_script.specs.declared.outcome.Outcome.TheVariants.{Refused}
 use Rattle.em_tape.specs.Tape.{event_of}
 use Rattle.em_prompt.specs.declared.typed.Side.{Side}
 use Rattle.em_prompt.specs.declared.typed.Side.TheVariants.{Receive, Transmit}
@@ -73,7 +73,7 @@ behind_step s (Some Transmit) = sending s
 behind_step s _ = running s
 
 abbrev pub is_refused : Outcome → Bool
-is_refused Refused = true
+is_refused (Refused why) = true
 is_refused _ = false
 
 -- behind a line that was performed, before which this event was the newest: none where engines stand still, or lines that lie
@@ -92,6 +92,7 @@ pub record PutsStep (side : Side) (old new : Debugger) : Type 0 where
   pub tape : new.tape ≡ record old.tape { lines = insert old.tape.lines old.tape.whole (step_line side) }
   pub engines : new.engines + 1 ≡ old.engines
   pub wanted : texts new.wanted.answers.items ≡ moved old.tape.whole (texts old.wanted.answers.items)
+  pub times : texts new.times.answers.items ≡ moved old.tape.whole (texts old.times.answers.items)
   pub told : new.told ≡ old.told
   pub settings : new.settings ≡ old.settings
   pub answer : new.answer ≡ old.answer
@@ -99,6 +100,13 @@ pub record PutsStep (side : Side) (old new : Debugger) : Type 0 where
   pub warns : new.warns ≡ old.warns
   pub score : new.score ≡ old.score
   pub offered : new.offered ≡ old.offered
+  pub sent : new.sent ≡ old.sent
+
+-- memory was refused to that: all is as it was, and so is what stands beside the lines
+pub record PutsNone (old new : Debugger) : Type 0 where
+  pub rest : new ≡ record old { wanted = new.wanted; times = new.times }
+  pub wanted : texts new.wanted.answers.items ≡ texts old.wanted.answers.items
+  pub times : texts new.times.answers.items ≡ texts old.times.answers.items
 
 abbrev pub EngagesBy : Option Side → Debugger → Debugger → Type 0
 EngagesBy None old new = new ≡ old

@@ -1,17 +1,19 @@
 -- The answers that lines expect, and how many were given so.
-use Rattle.std.specs.Prelude.{◌≡◌, ℕ, ◌+◌, ◌&&◌, not, Bool, true, false, if◌then◌else◌, List, [], ◌∷◌, Option, unwrap_or}
+use Rattle.std.specs.Prelude.{ℕ, ◌+◌, ◌&&◌, not, Bool, true, false, if◌then◌else◌, List, [], ◌∷◌, Option, unwrap_or}
 use Rattle.em_step.specs.Event.{Event}
 use Rattle.em_line.specs.Grammar.{parsed_line}
 use Rattle.em_line.specs.ParsedLine.{access_in}
+use Rattle.em_script.specs.Outcome.{event_came}
 use Rattle.em_tape.specs.Texts.{texts}
 use Rattle.em_expect.specs.Agreement.{agrees_of}
 use Rattle.em_expect.specs.Difference.{difference_text, register_of}
 use Rattle.em_expect.specs.Expectation.{expected_in}
 use Rattle.em_debugger.specs.declared.debugger.Debugger.{Debugger}
 use Rattle.em_debugger.specs.declared.expected.Score.{Score}
+use Rattle.em_debugger.specs.Debugger.{came}
 use Rattle.em_debugger.specs.Place.{text_of}
 use Rattle.em_debugger.specs.Counted.{counted}
-use Rattle.em_debugger.specs.Told.{Puts, told_of}
+use Rattle.em_debugger.specs.Told.{KeepsText, KeepsTexts, told_of}
 use Rattle.em_debugger.specs.Warned.{warnings_of_line}
 
 -- the answer that a line expects, by its number; where it expects none, no octet
@@ -50,7 +52,7 @@ with_warnings score more = record score { warnings = counted (score.warnings + m
 -- how many a line has, if they are to be said
 abbrev pub warnings_behind : Debugger → ℕ → ℕ
 warnings_behind d line =
-    if d.warns then warnings_of_line d.tape.session.machine (text_of line d.tape) d.answer.items else 0
+    if d.warns then warnings_of_line d.tape.session.machine (text_of line d.tape) (event_came (came line d)) else 0
 
 -- the answer to a line is counted, where one is expected
 abbrev pub scored_answer : Debugger → ℕ → Score
@@ -69,12 +71,8 @@ compared_text d line =
 
 -- it is kept which answer a line expects, if it expects one
 abbrev pub Expects : ℕ → List ℕ → List (List ℕ) → List (List ℕ) → Type 0
-Expects line [] old new = new ≡ old
-Expects line (octet ∷ octets) old new = Puts line (octet ∷ octets) old new
+Expects line answer old new = KeepsText line answer old new
 
 -- the same of lines, the first of them with this number
 abbrev pub AllExpect : ℕ → List (List ℕ) → List (List ℕ) → List (List ℕ) → Type 0
-AllExpect number [] old new = new ≡ old
-AllExpect number (line ∷ lines) old new =
-    (between : List (List ℕ)) × Expects number (wanted_in line) old between
-    × AllExpect (number + 1) lines between new
+AllExpect number lines old new = KeepsTexts wanted_in number lines old new

@@ -16,21 +16,25 @@ use Rattle.em_debugger.specs.Disk.{Deed, Stores}
 use Rattle.em_debugger.specs.Expected.{AllExpect}
 use Rattle.em_debugger.specs.Played.{RunsAll}
 use Rattle.em_debugger.specs.Performing.{Cuts, Uncut, dropped_text, fault_text}
-use Rattle.em_debugger.specs.Told.{Stay}
+use Rattle.em_debugger.specs.Sending.{timed_in}
+use Rattle.em_debugger.specs.Told.{KeepsTexts, Stay}
 
 -- what is played of a line of a script: what it says, in the words that em_bench reads
 abbrev pub played_in : List ℕ → List ℕ
 played_in line = played (said_in line)
 
--- what these lines say was put behind the last one, and which answers they expect; none of them is performed
+-- what these lines say was put behind the last one, which answers they expect, and their times; none of them is performed
 pub record AddsLines (old new : Debugger) (lines : List (List ℕ)) : Type 0 where
   pub tape : new.tape ≡ record old.tape { lines = old.tape.lines ++ map played_in lines }
   pub expect : AllExpect (length old.tape.lines + 1) lines (texts old.wanted.answers.items)
       (texts new.wanted.answers.items)
+  pub times : KeepsTexts timed_in (length old.tape.lines + 1) lines (texts old.times.answers.items)
+      (texts new.times.answers.items)
   pub rest : KeepsSome old new
 
--- The first of these lines were put behind the last one of a tape, and no more; and it was kept what those expect.
-pub record SomeAdded (old new : Tape) (held holds lines : List (List ℕ)) : Type 0 where
+-- The first of these lines were put behind the last one of a tape, and no more; and it was kept what those expect, and their
+-- times.
+pub record SomeAdded (old new : Tape) (held holds had has lines : List (List ℕ)) : Type 0 where
   pub added : List (List ℕ)
   pub others : List (List ℕ)
   pub all : lines ≡ added ++ others
@@ -38,9 +42,13 @@ pub record SomeAdded (old new : Tape) (held holds lines : List (List ℕ)) : Typ
   pub expected : List (List ℕ)
   pub expect : AllExpect (length old.lines + 1) added held expected
   pub stay : Stay expected holds
+  pub timed : List (List ℕ)
+  pub times : KeepsTexts timed_in (length old.lines + 1) added had timed
+  pub still : Stay timed has
 
 pub record AddsSome (old new : Debugger) (lines : List (List ℕ)) : Type 0 where
-  pub some : SomeAdded old.tape new.tape (texts old.wanted.answers.items) (texts new.wanted.answers.items) lines
+  pub some : SomeAdded old.tape new.tape (texts old.wanted.answers.items) (texts new.wanted.answers.items)
+      (texts old.times.answers.items) (texts new.times.answers.items) lines
   pub rest : KeepsSome old new
 
 -- why lines were not all added: one is too long or they are too many, or there is no memory

@@ -1,6 +1,7 @@
 pub mod Accessed
 pub mod Answering
 pub mod BenchLooks
+pub mod Came
 pub mod Compare
 pub mod Counted
 pub mod Debugger
@@ -15,6 +16,7 @@ pub mod Files
 pub mod History
 pub mod Led
 pub mod Listing
+pub mod Lost
 pub mod Moves
 pub mod Next
 pub mod Offers
@@ -22,6 +24,7 @@ pub mod Performing
 pub mod Place
 pub mod Played
 pub mod Search
+pub mod Sending
 pub mod Stops
 pub mod Told
 pub mod Who

@@ -15,6 +15,7 @@ use Rattle.em_debugger.specs.declared.disk.DiskFault.{DiskFault}
 use Rattle.em_debugger.specs.Disk.{Deed, Read, Refused, Stores, disk_text}
 use Rattle.em_debugger.specs.Files.{BeginsInstead}
 use Rattle.em_debugger.specs.Performing.{AnswersNew}
+use Rattle.em_debugger.specs.Sending.{times_of}
 
 -- a name that ends so
 abbrev pub ends_with : List ℕ → List ℕ → Bool
@@ -36,23 +37,27 @@ none_left_text = codes "no frame of a capture is left\n"
 abbrev pub cut_text : ℕ → List ℕ
 cut_text cut = if nat_lt 0 cut then number_text (codes ", ") cut (codes " of them cut short") else []
 
-abbrev pub offered_text : ℕ → ℕ → List ℕ
-offered_text count cut =
-    codes "loaded " ++ (count_text count (codes "1 frame") (codes " frames") ++ cut_text cut)
+abbrev pub padded_text : ℕ → List ℕ
+padded_text padded =
+    if nat_lt 0 padded then number_text (codes ", ") padded (codes " of them padded to 60 octets") else []
+
+abbrev pub offered_text : ℕ → ℕ → ℕ → List ℕ
+offered_text count cut padded =
+    codes "loaded " ++ (count_text count (codes "1 frame") (codes " frames") ++ (cut_text cut ++ padded_text padded))
 
 -- why there are no more, if not for the capture's end; no contract says in which words
 abbrev pub EndsOffer : Option CaptureError → List ℕ → Type 0
 EndsOffer None text = text ≡ codes "\n"
 EndsOffer (Some error) text = (why : List ℕ) × (text ≡ codes ", and then " ++ (why ++ codes "\n"))
 
-pub record TellsOffer (count cut : ℕ) (error : Option CaptureError) (text : List ℕ) : Type 0 where
+pub record TellsOffer (count cut padded : ℕ) (error : Option CaptureError) (text : List ℕ) : Type 0 where
   pub end : List ℕ
   pub ends : EndsOffer error end
-  pub told : text ≡ offered_text count cut ++ end
+  pub told : text ≡ offered_text count cut padded ++ end
 
--- the frames that were sent, as a capture
+-- the frames that were sent, as a capture: each with the time of the line that sent it
 abbrev pub capture_of : Debugger → List ℕ
-capture_of d = sent_capture d.tape.session.machine.present.wire
+capture_of d = sent_capture (times_of d) d.tape.session.machine.present.wire
 
 abbrev pub wrote_text : ℕ → List ℕ
 wrote_text count = counted_text (codes "wrote ") count (codes " frame\n") (codes " frames\n")
@@ -64,7 +69,7 @@ pub record OffersFrames (old new : Debugger) (file text : List ℕ) : Type 0 whe
   pub arrivals : Arrivals
   pub are : AreArrivals (reading_of file) arrivals
   pub offers : new ≡ record old { offered = arrivals.lines }
-  pub told : TellsOffer (length arrivals.lines.items) arrivals.cut arrivals.error text
+  pub told : TellsOffer (length arrivals.lines.items) arrivals.cut arrivals.padded arrivals.error text
 
 -- by its name a file is a capture, or a script
 abbrev pub LoadsAs : Bool → Debugger → Debugger → List ℕ → List ℕ → Type 0

@@ -2,8 +2,9 @@
 use Rattle.std.specs.Prelude.{◌≡◌, ℕ, ◌+◌, ◌-◌, ◌==◌, ◌<◌, ◌≤◌, nat_lt, Bool, true, false, ◌&&◌, ◌||◌, if◌then◌else◌}
 use Rattle.std.specs.Prelude.{List, [], ◌∷◌, ◌++◌, codes, length, take, Option, Some, None, Result, Ok}
 use Rattle.em_text.specs.declared.writer.WriteFailed.{WriteFailed}
-use Rattle.em_output.specs.declared.outcome.Outcome.{Outcome}
+use Rattle.em_script.specs.declared.outcome.Outcome.{Outcome}
 use Rattle.em_tape.specs.Texts.{texts}
+use Rattle.em_script.specs.Outcome.{event_came}
 use Rattle.em_script.specs.Runner.{name_of}
 use Rattle.em_script.specs.declared.runner.BenchFault.{BenchFault}
 use Rattle.em_tape.specs.Tape.{Tape, event_of}
@@ -15,10 +16,12 @@ use Rattle.em_warnings.specs.Warnings.{warnings_text}
 use Rattle.em_debugger.specs.declared.debugger.Debugger.{Debugger}
 use Rattle.em_debugger.specs.declared.performing.Performed.{Performed}
 use Rattle.em_debugger.specs.BenchLooks.{is_look, look_text}
-use Rattle.em_debugger.specs.Debugger.{KeepsSome, told}
+use Rattle.em_debugger.specs.Came.{Comes}
+use Rattle.em_debugger.specs.Debugger.{KeepsSome, came, told}
 use Rattle.em_debugger.specs.Engines.{Engages}
 use Rattle.em_debugger.specs.Expected.{Expects, compared_text, scored, wanted}
 use Rattle.em_debugger.specs.Place.{line_here, text_of}
+use Rattle.em_debugger.specs.Sending.{KeepsFirst, StaysSent, first_sent}
 use Rattle.em_debugger.specs.Told.{Notes, Stay}
 
 -- the tape with the line at its place whole
@@ -26,17 +29,22 @@ pub record IsWhole (old whole : Tape) : Type 0 where
   pub tape : whole ≡ record old { whole = line_here old; back = 0; session = whole.session }
   pub here : old.back ≡ 0 → whole ≡ old
 
--- the line behind the place was performed, and answered as em_bench answers it; what is kept of the answer was noted
+-- the line behind the place was performed, and answered as em_bench answers it; what is kept of the answer was noted,
+-- and how the line came out
 pub record Performs (old new : Debugger) (performed : Performed) : Type 0 where
   pub number : performed.line ≡ line_here old.tape + 1
   pub before : Tape
   pub whole : IsWhole old.tape before
   pub plays : Plays before new.tape (Some []) (Some new.answer.items) (Ok performed.outcome)
   pub noted : Notes performed.line new.answer.items (texts old.told.answers.items) (texts new.told.answers.items)
+  pub came : Comes performed.line performed.outcome old.came.outcomes.items new.came.outcomes.items
   pub settings : new.settings ≡ old.settings
   pub asked : new.asked ≡ old.asked
   pub warns : new.warns ≡ old.warns
   pub wanted : new.wanted ≡ old.wanted
+  pub times : new.times ≡ old.times
+  pub sent : KeepsFirst performed.line (first_sent (length before.session.machine.present.wire)
+      (length new.tape.session.machine.present.wire)) old.sent.firsts.items new.sent.firsts.items
   pub score : new.score ≡ scored (record new { score = old.score }) performed.line
   pub engines : new.engines ≡ old.engines
   pub offered : new.offered ≡ old.offered
@@ -49,10 +57,14 @@ pub record PerformsNext (old new : Debugger) (performed : Performed) : Type 0 wh
 
 -- ---- a line that is not performed, since memory is refused
 
--- all but the tape is as it was, and beside each line stands what was told of it and what it expects
+-- all but the tape is as it was, and beside each line stands what was told of it, how it came out, what it expects, its
+-- time, and what it sent
 pub record KeepsBeside (old new : Debugger) : Type 0 where
   pub told : (line : ℕ) → told line new ≡ told line old
+  pub came : (line : ℕ) → came line new ≡ came line old
   pub wanted : (line : ℕ) → wanted line new ≡ wanted line old
+  pub times : Stay (texts old.times.answers.items) (texts new.times.answers.items)
+  pub sent : StaysSent old.sent.firsts.items new.sent.firsts.items
   pub settings : new.settings ≡ old.settings
   pub asked : new.asked ≡ old.asked
   pub warns : new.warns ≡ old.warns
@@ -118,14 +130,18 @@ is_among_lines tape = nat_lt tape.whole (length tape.lines) || nat_lt 0 tape.bac
 abbrev pub kept : Tape → ℕ → ℕ
 kept tape dropped = length tape.lines - dropped
 
--- the lines ahead of the place were dropped, so many of them, and what was told of them, what they expect and what was asked
+-- the lines ahead of the place were dropped, so many of them, with what was told of them, how they came out, what they
+-- expect, their times, what they sent, and what was asked
 pub record Cuts (old new : Debugger) (dropped : ℕ) : Type 0 where
   pub tape : IsCut old.tape new.tape dropped
   pub told : texts new.told.answers.items ≡ take (kept old.tape dropped) (texts old.told.answers.items)
+  pub came : new.came.outcomes.items ≡ take (kept old.tape dropped) old.came.outcomes.items
   pub asked : new.asked ≡ None
   pub settings : new.settings ≡ old.settings
   pub warns : new.warns ≡ old.warns
   pub wanted : texts new.wanted.answers.items ≡ take (kept old.tape dropped) (texts old.wanted.answers.items)
+  pub times : texts new.times.answers.items ≡ take (kept old.tape dropped) (texts old.times.answers.items)
+  pub sent : new.sent.firsts.items ≡ take (kept old.tape dropped) old.sent.firsts.items
   pub score : new.score ≡ old.score
   pub engines : new.engines ≡ old.engines
   pub offered : new.offered ≡ old.offered
@@ -137,6 +153,7 @@ pub record AddsLine (old new : Debugger) (line asked : List ℕ) (dropped : ℕ)
   pub tape : new.tape ≡ record between.tape { lines = between.tape.lines ++ line ∷ [] }
   pub expects : Expects (length between.tape.lines + 1) asked (texts between.wanted.answers.items)
       (texts new.wanted.answers.items)
+  pub times : new.times ≡ between.times
   pub rest : KeepsSome between new
 
 -- memory was refused to what drops them: all beside the tape stays
@@ -148,13 +165,14 @@ Uncut old new = new ≡ record old { tape = new.tape }
 pub data Unadded (old new : Debugger) : Type 0 where
   uncut : Uncut old new → Unadded old new
   cut_alone : (between : Debugger) (dropped : ℕ) → Cuts old between dropped → new.tape ≡ between.tape
-      → Stay (texts between.wanted.answers.items) (texts new.wanted.answers.items) → KeepsSome between new
+      → Stay (texts between.wanted.answers.items) (texts new.wanted.answers.items) → new.times ≡ between.times
+      → KeepsSome between new
       → Unadded old new
 
 -- what drivers get wrong, if that is to be said
 abbrev pub warned_text : Debugger → ℕ → List ℕ
 warned_text d line =
-    if d.warns then warnings_text d.tape.session.machine (text_of line d.tape) d.answer.items else []
+    if d.warns then warnings_text d.tape.session.machine (text_of line d.tape) (event_came (came line d)) else []
 
 -- what stands behind the answer to a line: its warnings, and how it differs from what the line expects
 abbrev pub behind_text : Debugger → ℕ → List ℕ
@@ -164,7 +182,8 @@ behind_text d line = warned_text d line ++ compared_text d line
 -- warnings stand behind that, and how it differs from what the line expects
 pub record AnswersPerformed (d : Debugger) (p : Performed) (text : List ℕ) : Type 0 where
   pub explained : List ℕ
-  pub because : Explains d.tape.session.machine.present (text_of p.line d.tape) d.answer.items explained
+  pub because : Explains d.tape.session.machine.present (text_of p.line d.tape) d.answer.items (event_came p.outcome)
+      explained
   pub told : text ≡ explained ++ behind_text d p.line
 
 -- the line, and then its answer

@@ -3,8 +3,8 @@ use Rattle.std.specs.Prelude.{◌≡◌, ℕ, ◌-◌, nat_lt, Bool, true, false
 use Rattle.std.specs.Prelude.{slice_get}
 use Rattle.std.specs.Prelude.{List, [], ◌++◌, codes, length, filter, Option, Some, None}
 use Rattle.em_console.specs.Turns.{Leads}
-use Rattle.em_output.specs.declared.outcome.Outcome.{Outcome}
-use Rattle.em_output.specs.declared.outcome.Outcome.TheVariants.{Refused, Bad}
+use Rattle.em_script.specs.declared.outcome.Outcome.{Outcome}
+use Rattle.em_script.specs.declared.outcome.Outcome.TheVariants.{Refused, Bad}
 use Rattle.em_script.specs.declared.runner.BenchFault.{BenchFault}
 use Rattle.em_looks.specs.Numbers.{number_text, count_text}
 use Rattle.em_debugger.specs.declared.debugger.Debugger.{Debugger}
@@ -16,7 +16,7 @@ use Rattle.em_debugger.specs.Performing.{PerformsNext, IsLast, Unperformed, faul
 
 -- a line that was refused, or is none
 abbrev pub is_wrong_outcome : Outcome → Bool
-is_wrong_outcome Refused = true
+is_wrong_outcome (Refused why) = true
 is_wrong_outcome Bad = true
 is_wrong_outcome _ = false
 

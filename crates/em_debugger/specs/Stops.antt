@@ -1,7 +1,5 @@
 -- Running until something happens.
-use Rattle.std.specs.Prelude.{◌≡◌, ℕ, ◌+◌, ◌<◌, ◌≤◌, ◌==◌, suc, List, ◌++◌, codes, take, length, Bool, true, false}
-use Rattle.std.specs.Str.{bytes_eq}
-use Rattle.em_output.specs.declared.outcome.Outcome.TheVariants.{Refused}
+use Rattle.std.specs.Prelude.{◌≡◌, ℕ, ◌+◌, ◌<◌, ◌≤◌, ◌==◌, suc, List, ◌++◌, codes, length, Bool, true, false}
 use Rattle.em_tape.specs.Tape.{behind, event_of}
 use Rattle.em_watch.specs.Change.{IsNextChange}
 use Rattle.em_watch.specs.declared.change.Change.{Change}
@@ -16,7 +14,9 @@ use Rattle.em_debugger.specs.declared.stops.Stop.{Stop}
 use Rattle.em_debugger.specs.declared.stops.Stop.TheVariants as stop
 use Rattle.em_debugger.specs.declared.stops.Ran.{Ran}
 use Rattle.em_debugger.specs.declared.stops.Ran.TheVariants as ran
+use Rattle.em_debugger.specs.Engines.{is_refused}
 use Rattle.em_debugger.specs.Expected.{answers_otherwise}
+use Rattle.em_debugger.specs.Lost.{LosesSo, held_of}
 use Rattle.em_debugger.specs.Place.{line_here, text_of}
 use Rattle.em_debugger.specs.Performing.{PerformsNext, IsLast, ShowsPerformed, Unperformed, fault_text}
 use Rattle.em_debugger.specs.Who.{TellsNewest}
@@ -30,10 +30,6 @@ is_before _ line = false
 abbrev pub EndsBefore : Stop → Debugger → Type 0
 EndsBefore s d = (is_before s (line_here d.tape + 1) ≡ true) × (line_here d.tape < length d.tape.lines)
 
--- an answer that says that a frame was lost
-abbrev pub says_dropped : List ℕ → Bool
-says_dropped answer = bytes_eq (take 7 answer) (codes "dropped")
-
 -- since an event was the newest, one changed this
 pub record ChangedSince (watch : Watch) (event : ℕ) (d : Debugger) : Type 0 where
   pub change : Change
@@ -42,20 +38,28 @@ pub record ChangedSince (watch : Watch) (event : ℕ) (d : Debugger) : Type 0 wh
 
 -- the run ends behind a line, before which this event was the newest
 abbrev pub EndsSince : Stop → ℕ → Debugger → Performed → Type 0
-EndsSince stop.Refused event d performed = performed.outcome ≡ Refused
-EndsSince stop.Dropped event d performed = says_dropped d.answer.items ≡ true
+EndsSince stop.Refused event d performed = is_refused performed.outcome ≡ true
+EndsSince stop.Dropped event d performed = LosesSo performed.outcome (held_of performed.line d.tape) d.tape true
 EndsSince stop.Differs event d performed = answers_otherwise d performed.line ≡ true
 EndsSince (stop.Line n) event d performed = ⊥
 EndsSince (stop.Changes watch) event d performed = ChangedSince watch event d
 
+-- it goes on behind a line: no event of it lost a frame; or what would end the run did not happen
+abbrev pub GoesOnSince : Stop → ℕ → Debugger → Performed → Type 0
+GoesOnSince stop.Dropped event d performed = LosesSo performed.outcome (held_of performed.line d.tape) d.tape false
+GoesOnSince s event d performed = EndsSince s event d performed → ⊥
+
 abbrev pub EndsBehind : Stop → Debugger → Debugger → Performed → Type 0
 EndsBehind s before after performed = EndsSince s (event_of before.tape) after performed
+
+abbrev pub GoesOnBehind : Stop → Debugger → Debugger → Performed → Type 0
+GoesOnBehind s before after performed = GoesOnSince s (event_of before.tape) after performed
 
 -- so many lines were performed, and none of them ended the run
 pub data Runs (s : Stop) (first : Debugger) : ℕ → Debugger → Type 0 where
   none : Runs s first 0 first
   more : (n : ℕ) (d after : Debugger) (p : Performed) → Runs s first n d → (EndsBefore s d → ⊥) → PerformsNext d after p
-      → (EndsBehind s d after p → ⊥) → Runs s first (suc n) after
+      → GoesOnBehind s d after p → Runs s first (suc n) after
 
 -- ---- texts
 

@@ -1,5 +1,5 @@
 -- What the lines were answered, as it is kept.
-use Rattle.std.specs.Prelude.{◌≡◌, ◌≢◌, ℕ, List, [], insert, length, nat_lt, if◌then◌else◌, remove, take, get_or, unwrap_or}
+use Rattle.std.specs.Prelude.{◌≡◌, ◌≢◌, ℕ, ◌+◌, List, [], ◌∷◌, insert, length, nat_lt, if◌then◌else◌, remove, take, get_or, unwrap_or}
 use Rattle.em_text.specs.Lines.{lines_of}
 use Rattle.em_tape.specs.Tape.{line_at}
 
@@ -15,6 +15,18 @@ told_of n answers = unwrap_or (line_at n answers) []
 pub record Puts (number : ℕ) (text : List ℕ) (old new : List (List ℕ)) : Type 0 where
   pub this : told_of number new ≡ text
   pub others : (n : ℕ) → n ≢ number → told_of n new ≡ told_of n old
+
+-- a text is kept beside one line, if it has an octet
+abbrev pub KeepsText : ℕ → List ℕ → List (List ℕ) → List (List ℕ) → Type 0
+KeepsText number [] old new = new ≡ old
+KeepsText number (octet ∷ octets) old new = Puts number (octet ∷ octets) old new
+
+-- the same of lines, the first of them with this number, and what is kept beside each
+abbrev pub KeepsTexts : (List ℕ → List ℕ) → ℕ → List (List ℕ) → List (List ℕ) → List (List ℕ) → Type 0
+KeepsTexts kept number [] old new = new ≡ old
+KeepsTexts kept number (line ∷ lines) old new =
+    (between : List (List ℕ)) × KeepsText number (kept line) old between
+    × KeepsTexts kept (number + 1) lines between new
 
 -- beside each line the same stands
 abbrev pub Stay : List (List ℕ) → List (List ℕ) → Type 0

@@ -1,19 +1,23 @@
 -- Why an event did nothing, and which events set what decided that.
-use Rattle.std.specs.Prelude.{◌≡◌, ℕ, zero, suc, Bool, ◌||◌, if◌then◌else◌, List, [], ◌∷◌, ◌++◌, codes, take}
+use Rattle.std.specs.Prelude.{◌≡◌, ℕ, zero, suc, Bool, true, false, if◌then◌else◌, List, [], ◌∷◌, ◌++◌, codes}
 use Rattle.std.specs.Prelude.{Option, Some, None}
-use Rattle.std.specs.Str.{bytes_eq}
 use Rattle.em_explain.specs.Explain.{Explains}
 use Rattle.em_explain.specs.Looked.{LookedAt}
 use Rattle.em_explain.specs.LookText.{look_text}
 use Rattle.em_explain.specs.Watched.{IsWatchOf}
 use Rattle.em_reasons.specs.declared.look.Look.{Look}
+use Rattle.em_script.specs.Outcome.{event_came}
+use Rattle.em_script.specs.declared.outcome.Outcome.{Outcome}
+use Rattle.em_script.specs.declared.outcome.Outcome.TheVariants as outcome
+use Rattle.em_script.specs.declared.outcome.Refused.TheVariants.{Stopped}
+use Rattle.em_step.specs.declared.event.Answer.TheVariants as answer
 use Rattle.em_tape.specs.Tape.{Tape}
 use Rattle.em_watch.specs.declared.watch.Watch.{Watch}
 use Rattle.em_debugger.specs.declared.debugger.Debugger.{Debugger}
 use Rattle.em_debugger.specs.declared.search.Found.{Found}
 use Rattle.em_debugger.specs.declared.search.Sought.{Sought}
 use Rattle.em_debugger.specs.declared.search.Sought.TheVariants as sought
-use Rattle.em_debugger.specs.Debugger.{told}
+use Rattle.em_debugger.specs.Debugger.{came, told}
 use Rattle.em_debugger.specs.declared.deeper.Unseen.{Unseen}
 use Rattle.em_debugger.specs.declared.deeper.Unseen.TheVariants.{Memory, TooLong}
 use Rattle.em_debugger.specs.Deeper.{IsAgainTo, StandsBehind, too_long_text}
@@ -24,18 +28,19 @@ use Rattle.em_debugger.specs.Who.{event_text}
 
 -- ---- which line
 
-abbrev pub begins_with : List ℕ → List ℕ → Bool
-begins_with answer front = bytes_eq (take 8 answer) front
+-- a line did nothing that came out so: a step was idle, a frame was dropped, or it was refused; a call of a driver that
+-- stopped did something
+abbrev pub is_undone : Outcome → Bool
+is_undone (outcome.Answered answer.Idle) = true
+is_undone (outcome.Answered (answer.Dropped reason)) = true
+is_undone (outcome.Refused (Stopped cause)) = false
+is_undone (outcome.Refused why) = true
+is_undone _ = false
 
--- an answer that says that an event did nothing
-abbrev pub is_undone : List ℕ → Bool
-is_undone answer =
-    bytes_eq answer (codes "idle") || begins_with answer (codes "dropped ") || begins_with answer (codes "refused ")
-
--- of the first k lines the last that was answered so; 0 where none was
+-- of the first k lines the last that came out so; 0 where none did
 abbrev pub newest_undone : Debugger → ℕ → ℕ
 newest_undone d zero = 0
-newest_undone d (suc k) = if is_undone (told (suc k) d) then suc k else newest_undone d k
+newest_undone d (suc k) = if is_undone (came (suc k) d) then suc k else newest_undone d k
 
 -- ---- texts
 
@@ -90,15 +95,15 @@ pub data TellsLooks (d : Debugger) (tape : Tape) : List Look → List ℕ → Ty
 -- the line, and its answer with the reason, over a tape that stands behind the line
 pub record TellsReason (d : Debugger) (tape : Tape) (line : ℕ) (answer text : List ℕ) : Type 0 where
   pub explained : List ℕ
-  pub because : Explains tape.session.machine.present (text_of line d.tape) answer explained
+  pub because : Explains tape.session.machine.present (text_of line d.tape) answer (event_came (came line d)) explained
   pub said : text ≡ front_text d line ++ explained
 
--- by what is kept of the answer, the reason, and what was looked at
+-- what is kept of the answer, the reason by how the line came out, and what was looked at
 pub record TellsWhyAt (d : Debugger) (tape : Tape) (line : ℕ) (text : List ℕ) : Type 0 where
   pub reason : List ℕ
   pub because : TellsReason d tape line (told line d ++ codes "\n") reason
   pub looks : List Look
-  pub looked : LookedAt tape.session.machine.present (text_of line d.tape) (told line d ++ codes "\n") looks
+  pub looked : LookedAt tape.session.machine.present (text_of line d.tape) (event_came (came line d)) looks
   pub rest : List ℕ
   pub tells : TellsLooks d tape looks rest
   pub said : text ≡ reason ++ rest

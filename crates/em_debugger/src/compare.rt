@@ -1,7 +1,8 @@
 //! Comparing the answers of a script with those that its lines expect.
 ghost use Rattle.std.specs.Prelude.{◌≡◌, ℕ, List, OnOk};
 ghost use Rattle.std.specs.Io.KnownBytes.{Appends};
-ghost use Rattle.em_debugger.specs.Compare.{Compares, TellsDiffers, TellsParts, TellsRegister, before_line, differing, known_of};
+ghost use Rattle.em_debugger.specs.Compare.{Compares, TellsDiffers, TellsParts, TellsRegister, before_line, differing};
+ghost use Rattle.em_debugger.specs.Compare.{known_of, value_of};
 ghost use Rattle.em_text.specs.Writer.{Writes};
 ghost use Rattle.em_debugger.specs.Expected.{wanted};
 ghost use Rattle.em_debugger.specs.Place.{text_of};
@@ -13,7 +14,8 @@ use crate::place::text_of;
 use crate::stops::{Ran, Stop};
 use em_expect::register_read;
 use em_regs::Reg;
-use em_script::BenchFault;
+use em_script::{BenchFault, Outcome};
+use em_step::Answer;
 use em_text::WriteFailed;
 use em_watch::Watch;
 use std::io::Write;
@@ -25,6 +27,8 @@ pub struct Differing {
     pub line: usize,
     /// The register that it reads, if it reads one.
     pub reg: Option<Reg>,
+    /// The value that the read gave.
+    pub value: Option<u32>,
     performed: Performed,
 }
 
@@ -60,6 +64,7 @@ impl Debugger {
         Differing {
             line: performed.line,
             reg: register_read(text_of(&self.tape, performed.line)),
+            value: value_of(performed.outcome),
             performed,
         }
     }
@@ -76,13 +81,6 @@ impl Debugger {
         ensures { result.now ≡ wanted line self.now }
     {
         self.wanted.of(line)
-    }
-
-    /// The answer of the line that was performed last.
-    pub fn newest_answer(&self) -> &[u8]
-        ensures { result.now ≡ self.now.answer.items }
-    {
-        self.answer.as_slice()
     }
 
     /// Shows a line whose answer differs, right behind it, what is known of that, if it is a known difference, and who changed
@@ -150,5 +148,15 @@ fn write_known<W: Write>(writer: &mut W, reg: Reg, is_known: bool) -> Result<(),
         write_departure(writer, reg)
     } else {
         Ok(())
+    }
+}
+
+/// The value that a read gave which came out so.
+fn value_of(outcome: Outcome) -> Option<u32>
+    ensures { result ≡ value_of outcome }
+{
+    match outcome {
+        Outcome::Answered(Answer::Value(value)) => Some(value),
+        _ => None,
     }
 }

@@ -6,7 +6,9 @@ ghost use Rattle.em_script.specs.Session.{bare};
 ghost use Rattle.em_tape.specs.Tape.{empty_tape};
 ghost use Rattle.em_debugger.specs.Debugger.{Begins};
 
+use crate::came::Came;
 use crate::expected::Score;
+use crate::sending::Sent;
 use crate::told::Told;
 use crate::who::Asked;
 use em_journal::{Settings, SettingsRefusal};
@@ -22,6 +24,8 @@ pub struct Debugger {
     pub(crate) tape: Tape,
     // what the lines were answered
     pub(crate) told: Told,
+    // how the lines came out
+    pub(crate) came: Came,
     // the answer of the line that was performed last
     pub(crate) answer: Vec<u8>,
     // what was asked for last
@@ -30,6 +34,10 @@ pub struct Debugger {
     pub(crate) warns: bool,
     // the answers that lines expect
     pub(crate) wanted: Told,
+    // the times of lines, as their comments have them
+    pub(crate) times: Told,
+    // which frames the lines sent that were performed
+    pub(crate) sent: Sent,
     // how many were given so
     pub(crate) score: Score,
     // how many steps the engines may still make by themselves; none where they stand still
@@ -50,10 +58,13 @@ impl Debugger {
                 settings,
                 tape,
                 told: Told::new(alloc),
+                came: Came::new(alloc),
                 answer: Vec::new(alloc),
                 asked: None,
                 warns: true,
                 wanted: Told::new(alloc),
+                times: Told::new(alloc),
+                sent: Sent::new(alloc),
                 score: Score::none(),
                 engines: 0,
                 offered: VecDeque::new(alloc),

@@ -13,6 +13,8 @@ pub enum DiskFault {
     Name,
     /// It is longer than a script may be.
     TooLarge,
+    /// It is a file of gzip.
+    Compressed,
     /// Memory was refused.
     Memory,
     /// The system failed otherwise.
@@ -29,6 +31,7 @@ impl DiskFault {
             DiskFault::Exists => b": the file is there already; save! and pcap! replace it\n",
             DiskFault::Name => b": this is no name of a file\n",
             DiskFault::TooLarge => b": it has more than 4194304 octets\n",
+            DiskFault::Compressed => b": it is compressed by gzip: unpack it first\n",
             DiskFault::Memory => b": no memory for it\n",
             DiskFault::Failed => b": the system refuses it\n",
         }

@@ -1,9 +1,8 @@
 //! Engines that run by themselves: their steps are lines of the session.
 ghost use Rattle.std.specs.Prelude.{◌≡◌, ◌<◌, ◌≤◌, OnOk, OnErr, IfSome, length, nat_lt};
 ghost use Rattle.em_text.specs.Writer.{Writes};
-ghost use Rattle.em_tape.specs.Texts.{texts};
-ghost use Rattle.em_debugger.specs.Engines.{Engages, PutsStep, engine_behind, engines_are, behind_refused};
-ghost use Rattle.em_debugger.specs.Engines.{behind_step, running, sending, step_line, step_of, steps_of};
+ghost use Rattle.em_debugger.specs.Engines.{Engages, PutsNone, PutsStep, engine_behind, engines_are, behind_refused};
+ghost use Rattle.em_debugger.specs.Engines.{behind_step, is_refused, running, sending, step_line, step_of, steps_of};
 
 use crate::debugger::Debugger;
 use crate::performing::Performed;
@@ -56,8 +55,7 @@ impl Debugger {
     /// so many events stood.
     pub(crate) fn engage(&mut self, performed: Performed, before: u64) -> Result<(), BenchFault>
         ensures ok { OnOk result (Engages before performed self.old self.new) }
-        ensures err { OnErr result (self.new ≡ record self.old { wanted = self.new.wanted }) }
-        ensures kept { OnErr result (texts self.new.wanted.answers.items ≡ texts self.old.wanted.answers.items) }
+        ensures err { OnErr result (PutsNone self.old self.new) }
         ensures settings { self.new.settings ≡ self.old.settings }
     {
         match self.engine_behind(performed, before) {
@@ -77,7 +75,7 @@ impl Debugger {
         }
         let machine = self.tape.machine();
         let step = step_of(text_of(&self.tape, performed.line));
-        if performed.outcome == Outcome::Refused {
+        if is_refused(performed.outcome) {
             return behind_refused(machine, step);
         }
         if self.tape.event() <= before {
@@ -91,12 +89,15 @@ impl Debugger {
         requires left { 0 < self.old.engines }
         requires newest { length self.old.tape.did ≤ self.old.tape.whole }
         ensures ok { OnOk result (PutsStep side self.old self.new) }
-        ensures err { OnErr result (self.new ≡ record self.old { wanted = self.new.wanted }) }
-        ensures kept { OnErr result (texts self.new.wanted.answers.items ≡ texts self.old.wanted.answers.items) }
+        ensures err { OnErr result (PutsNone self.old self.new) }
         ensures settings { self.new.settings ≡ self.old.settings }
     {
         let whole = self.tape.whole();
         let Ok(()) = self.wanted.make_way(whole) else {
+            return Err(BenchFault::Memory);
+        };
+        let Ok(()) = self.times.make_way(whole) else {
+            self.wanted.close_up(whole);
             return Err(BenchFault::Memory);
         };
         match self.tape.put_next(step_line(side)) {
@@ -106,10 +107,18 @@ impl Debugger {
             }
             Err(fault) => {
                 self.wanted.close_up(whole);
+                self.times.close_up(whole);
                 Err(fault)
             }
         }
     }
+}
+
+/// Whether a line was refused that came out so.
+pub(crate) fn is_refused(outcome: Outcome) -> bool
+    ensures { result ≡ is_refused outcome }
+{
+    matches!(outcome, Outcome::Refused(_))
 }
 
 /// The engine whose step a line is.

@@ -97,7 +97,7 @@ impl Debugger {
         warnings_of_line(
             self.tape.machine(),
             text_of(&self.tape, line),
-            self.answer.as_slice(),
+            self.came.of(line).event(),
         )
     }
 

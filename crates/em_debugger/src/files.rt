@@ -8,7 +8,8 @@ ghost use Rattle.em_text.specs.Lines.{lines_of};
 ghost use Rattle.em_text.specs.Writer.{Writes};
 ghost use Rattle.em_debugger.specs.Disk.{Deed, Did, Refused, Unmade, disk_text, making};
 ghost use Rattle.em_debugger.specs.Place.{text_of};
-ghost use Rattle.em_debugger.specs.Told.{Stay};
+ghost use Rattle.em_debugger.specs.Sending.{timed_in};
+ghost use Rattle.em_debugger.specs.Told.{KeepsText, KeepsTexts, Stay};
 ghost use Rattle.em_debugger.specs.Files.{AddsLines, AddsSome, BeginsBehind, BeginsInstead, BeginsText, IsUnadded, SomeAdded, played_in};
 ghost use Rattle.em_debugger.specs.Offers.{Loads, LoadsAs, is_capture};
 ghost use Rattle.em_debugger.specs.Files.{LoadsText, PlaysText, Saves, loaded_text, saved_text, script_here};
@@ -18,8 +19,9 @@ use crate::disk::{Disk, DiskFault};
 use crate::offers::is_capture;
 use crate::performing::{write_dropped, write_fault};
 use crate::place::{line_here, text_of};
+use crate::sending::time_of;
 use crate::told::Told;
-use em_expect::expectation;
+use em_line::parts_of;
 use em_looks::write_counted;
 use em_prompt::scripted;
 use em_script::BenchFault;
@@ -39,7 +41,13 @@ impl Debugger {
         ensures count { IfOk result (λ count. count ≡ length (lines_of text.now)) }
         ensures only { IfErr result IsUnadded }
     {
-        add_all(self.alloc, &mut self.tape, &mut self.wanted, text)
+        add_all(
+            self.alloc,
+            &mut self.tape,
+            &mut self.wanted,
+            &mut self.times,
+            text,
+        )
     }
 
     /// Begins with a text: loads its lines behind the last one, and plays them unless they are to be stepped through.
@@ -203,6 +211,7 @@ fn add_all(
     alloc: Global,
     tape: &mut Tape,
     wanted: &mut Told,
+    times: &mut Told,
     text: &[u8],
 ) -> Result<usize, BenchFault>
     ensures ok { OnOk result (tape.new ≡ record tape.old {
@@ -210,43 +219,56 @@ fn add_all(
     }) }
     ensures expect { OnOk result (AllExpect (length tape.old.lines + 1) (lines_of text.now)
         (texts wanted.old.answers.items) (texts wanted.new.answers.items)) }
+    ensures times { OnOk result (KeepsTexts timed_in (length tape.old.lines + 1) (lines_of text.now)
+        (texts times.old.answers.items) (texts times.new.answers.items)) }
     ensures count { IfOk result (λ count. count ≡ length (lines_of text.now)) }
     ensures err { OnErr result (SomeAdded tape.old tape.new (texts wanted.old.answers.items)
-        (texts wanted.new.answers.items) (lines_of text.now)) }
+        (texts wanted.new.answers.items) (texts times.old.answers.items) (texts times.new.answers.items)
+        (lines_of text.now)) }
     ensures only { IfErr result IsUnadded }
 {
     let before = tape.len();
     let mut rest = text;
     while !rest.is_empty() {
         let (line, behind) = next_line(rest);
-        add_line(alloc, tape, wanted, line)?;
+        add_line(alloc, tape, wanted, times, line)?;
         rest = behind;
     }
     Ok(tape.len().saturating_sub(before))
 }
 
-/// Puts what a line says behind the last line of a tape, and keeps which answer it expects.
+/// Puts what a line says behind the last line of a tape, and keeps which answer it expects, and its time, if its comment is
+/// one.
 fn add_line(
     alloc: Global,
     tape: &mut Tape,
     wanted: &mut Told,
+    times: &mut Told,
     line: &[u8],
 ) -> Result<(), BenchFault>
     ensures ok { OnOk result (tape.new ≡ record tape.old { lines = tape.old.lines ++ played_in line.now ∷ [] }) }
     ensures expect { OnOk result (Expects (length tape.old.lines + 1) (wanted_in line.now)
         (texts wanted.old.answers.items) (texts wanted.new.answers.items)) }
+    ensures timed { OnOk result (KeepsText (length tape.old.lines + 1) (timed_in line.now)
+        (texts times.old.answers.items) (texts times.new.answers.items)) }
     ensures err { OnErr result (tape.new ≡ tape.old) }
     ensures stay { OnErr result (Stay (texts wanted.old.answers.items) (texts wanted.new.answers.items)) }
+    ensures still { OnErr result (Stay (texts times.old.answers.items) (texts times.new.answers.items)) }
     ensures only { IfErr result IsUnadded }
 {
-    let asked = expectation(line);
-    add_played(
-        alloc,
-        tape,
-        wanted,
-        asked.line,
-        asked.answer.unwrap_or_default(),
-    )
+    let parts = parts_of(line);
+    let answer = parts.expected.unwrap_or_default();
+    let time = time_of(parts.comment);
+    if time.is_empty() {
+        return add_played(alloc, tape, wanted, parts.said, answer);
+    }
+    let before = tape.len();
+    let Ok(time) = times.make_ready(before + 1, time) else {
+        return Err(BenchFault::Memory);
+    };
+    add_played(alloc, tape, wanted, parts.said, answer)?;
+    times.set(before, time);
+    Ok(())
 }
 
 /// Puts what is played of a line that says this behind the last line of a tape, and keeps which answer it expects: names

@@ -6,7 +6,7 @@ ghost use Rattle.em_turn.specs.Planned.{lists};
 ghost use Rattle.em_debugger.specs.Disk.{Did, Unmade, making};
 ghost use Rattle.em_debugger.specs.Offers.{ArrivesAll, ArrivesNext, EndsOffer, OffersFrames, SavesFrames, TellsOffer};
 ghost use Rattle.em_debugger.specs.Offers.{capture_of, cut_text, ends_with, is_capture, none_left_text, offered_line, offered_script};
-ghost use Rattle.em_debugger.specs.Offers.{offered_text, wrote_text};
+ghost use Rattle.em_debugger.specs.Offers.{offered_text, padded_text, wrote_text};
 
 use crate::debugger::Debugger;
 use crate::disk::{Disk, DiskFault};
@@ -34,10 +34,15 @@ impl Debugger {
         ensures ok { OnOk result ((text : List ℕ) × Appends (W.contents writer.old) (W.contents writer.new) text
             × OffersFrames self.old self.new file.now text) }
     {
-        let Arrivals { lines, cut, error } = arrivals_of(self.alloc, file);
+        let Arrivals {
+            lines,
+            cut,
+            padded,
+            error,
+        } = arrivals_of(self.alloc, file);
         let count = lines.len();
         self.offered = lines;
-        write_offer(self.alloc, writer, count, cut, error)
+        write_offer(self.alloc, writer, count, cut, padded, error)
     }
 
     /// Brings the next frame that is offered.
@@ -93,8 +98,11 @@ impl Debugger {
         ensures ok { OnOk result (D.passes disk.old (making over name.now (capture_of self.now)) disk.new) }
         ensures err { IfErr result (Unmade (Did D.passes disk.old disk.new) name.now) }
     {
+        let Ok(times) = self.times_sent() else {
+            return Err(DiskFault::Memory);
+        };
         let mut capture = Vec::new(self.alloc);
-        match write_sent(&mut capture, self.tape.machine()) {
+        match write_sent(&mut capture, self.tape.machine(), times.as_slice()) {
             Ok(()) => write_file(disk, name, capture.as_slice(), over),
             Err(_) => Err(DiskFault::Memory),
         }
@@ -127,21 +135,38 @@ fn write_offer<W: Write>(
     writer: &mut W,
     count: usize,
     cut: u64,
+    padded: u64,
     error: Option<CaptureError>,
 ) -> Result<(), WriteFailed>
     ensures ok { OnOk result ((text : List ℕ) × Appends (W.contents writer.old) (W.contents writer.new) text
-        × TellsOffer count cut error text) }
+        × TellsOffer count cut padded error text) }
 {
-    write_offered(writer, count, cut)?;
+    write_offered(writer, count, cut, padded)?;
     write_end(alloc, writer, error)
 }
 
-fn write_offered<W: Write>(writer: &mut W, count: usize, cut: u64) -> Result<(), WriteFailed>
-    ensures writes { Writes (W.contents writer.old) (W.contents writer.new) result (offered_text count cut) }
+fn write_offered<W: Write>(
+    writer: &mut W,
+    count: usize,
+    cut: u64,
+    padded: u64,
+) -> Result<(), WriteFailed>
+    ensures writes { Writes (W.contents writer.old) (W.contents writer.new) result (offered_text count cut padded) }
 {
     write_whole(writer, b"loaded ")?;
     write_count(writer, count as u64, b"1 frame", b" frames")?;
-    write_cut(writer, cut)
+    write_cut(writer, cut)?;
+    write_padded(writer, padded)
+}
+
+/// Writes how many of them are padded, if any are.
+fn write_padded<W: Write>(writer: &mut W, padded: u64) -> Result<(), WriteFailed>
+    ensures writes { Writes (W.contents writer.old) (W.contents writer.new) result (padded_text padded) }
+{
+    if padded > 0 {
+        return write_number(writer, b", ", padded, b" of them padded to 60 octets");
+    }
+    Ok(())
 }
 
 /// Writes how many of them are cut, if any are.

@@ -3,6 +3,7 @@ ghost use Rattle.std.specs.Prelude.{◌≡◌, ◌<◌, List, ℕ, Ok, None, OnO
 ghost use Rattle.std.specs.Io.KnownBytes.{Appends};
 ghost use Rattle.em_text.specs.Writer.{Writes};
 ghost use Rattle.em_prompt.specs.BenchLine.{plain as plain_line};
+ghost use Rattle.em_tape.specs.Tape.{event_of};
 ghost use Rattle.em_debugger.specs.Place.{line_here};
 ghost use Rattle.em_debugger.specs.Performing.{Performs, PerformsNext, IsLast, Cuts, AddsLine, AnswersNext, AnswersTyped, ShowsSteps};
 ghost use Rattle.em_debugger.specs.Performing.{AnswersNew, AnswersAdded, AnswersPerformed, ShowsPerformed, Unadded, Uncut, Unperformed};
@@ -113,7 +114,10 @@ impl Debugger {
         // Lines that take events back may stand where others were dropped.
         let kept = lines.saturating_sub(dropped);
         self.told.keep(kept);
+        self.came.keep(kept);
         self.wanted.keep(kept);
+        self.times.keep(kept);
+        self.sent.keep(kept);
         self.asked = None;
         Ok(dropped)
     }
@@ -147,7 +151,15 @@ impl Debugger {
     {
         let machine = self.tape.machine();
         let line = text_of(&self.tape, performed.line);
-        write_explained(self.alloc, writer, machine, line, self.answer.as_slice())?;
+        let answer = self.answer.as_slice();
+        write_explained(
+            self.alloc,
+            writer,
+            machine,
+            line,
+            answer,
+            performed.outcome.event(),
+        )?;
         self.write_behind(writer, performed.line)
     }
 
@@ -171,7 +183,7 @@ impl Debugger {
             writer,
             machine,
             text_of(&self.tape, line),
-            self.answer.as_slice(),
+            self.came.of(line).event(),
         )
     }
 
@@ -183,13 +195,25 @@ impl Debugger {
         ensures err { OnErr result (Unperformed self.old self.new) }
         ensures settings { self.new.settings ≡ self.old.settings }
     {
-        let before = self.tape.event();
+        let before = self.event_before();
         match self.perform_ahead()? {
             Some(performed) => {
                 self.engage(performed, before)?;
                 Ok(Some(performed))
             }
             None => Ok(None),
+        }
+    }
+
+    /// The number of the newest event, where that will be asked for: where engines run by themselves. To find it takes as
+    /// long as events were taken back.
+    fn event_before(&self) -> u64
+        ensures { 0 < self.now.engines → result ≡ event_of self.now.tape }
+    {
+        if self.engines == 0 {
+            0
+        } else {
+            self.tape.event()
         }
     }
 
@@ -215,7 +239,7 @@ impl Debugger {
         Ok(())
     }
 
-    /// Performs the line behind the place, and keeps its answer; none where no line lies ahead.
+    /// Performs the line behind the place, and keeps its answer, and which frames it sent; none where no line lies ahead.
     fn perform_ahead(&mut self) -> Result<Option<Performed>, BenchFault>
         ensures some { IfOk result (λ performed. IfSome performed (Performs self.old self.new)) }
         ensures none { result ≡ Ok None → (self.new ≡ self.old) × IsLast self.old }
@@ -226,17 +250,26 @@ impl Debugger {
         if line >= self.tape.len() {
             return Ok(None);
         }
+        self.came.make_ready(line + 1)?;
         self.tape.to_line(line)?;
         self.answer.clear();
+        let sent = self.tape.machine().wire_len();
         let outcome = match self.tape.perform_next(&mut self.answer) {
             Ok(Some(outcome)) => outcome,
             Ok(None) => return Ok(None),
             // A vector fails only where memory is refused.
             Err(_) => return Err(BenchFault::Memory),
         };
+        let before = line;
         let line = line + 1;
+        let now = self.tape.machine().wire_len();
+        let Ok(()) = self.sent.make_ready(line, sent, now) else {
+            return Err(BenchFault::Memory);
+        };
         match self.told.note(line, self.answer.as_slice()) {
             Ok(()) => {
+                self.sent.set(line, sent, now);
+                self.came.set(before, outcome);
                 self.count_answer(line);
                 Ok(Some(Performed { line, outcome }))
             }

@@ -62,7 +62,7 @@ impl Played {
 fn is_wrong(performed: Performed) -> bool
     ensures { result ≡ is_wrong performed }
 {
-    matches!(performed.outcome, Outcome::Refused | Outcome::Bad)
+    matches!(performed.outcome, Outcome::Refused(_) | Outcome::Bad)
 }
 
 impl Debugger {

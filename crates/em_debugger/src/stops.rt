@@ -1,23 +1,22 @@
 //! Running until something happens.
-ghost use Rattle.std.specs.Prelude.{◌≡◌, ◌↔◌, ℕ, List, IsTrue, IsNone, IfSome, OnOk};
+ghost use Rattle.std.specs.Prelude.{◌≡◌, ◌↔◌, ℕ, List, false, IsTrue, IsNone, IfSome, OnOk};
 ghost use Rattle.std.specs.Io.KnownBytes.{Appends};
 ghost use Rattle.em_text.specs.Writer.{Writes};
-ghost use Rattle.em_debugger.specs.Stops.{AnswersRun, ChangedSince, EndsSince, HasNoStop, IsStop, RanSo, RunsUntil};
-ghost use Rattle.em_debugger.specs.Stops.{TellsRan, TellsStopped, before_text, is_before, missed_text, played_text};
-ghost use Rattle.em_debugger.specs.Stops.{says_dropped, unchanged_text};
+ghost use Rattle.em_debugger.specs.Stops.{AnswersRun, ChangedSince, EndsSince, GoesOnSince, HasNoStop, IsStop, RanSo};
+ghost use Rattle.em_debugger.specs.Stops.{RunsUntil, TellsRan, TellsStopped, before_text, is_before, missed_text};
+ghost use Rattle.em_debugger.specs.Stops.{played_text, unchanged_text};
 
 use crate::debugger::Debugger;
+use crate::engines::is_refused;
+use crate::lost::loses;
 use crate::performing::{Performed, write_fault};
 use crate::place::{line_here, text_of};
 use em_looks::{watch_of, write_counted, write_number, write_short, write_watch};
 use em_prompt::Until;
-use em_script::{BenchFault, Outcome};
-use em_text::{WriteFailed, is_name, write_whole};
+use em_script::BenchFault;
+use em_text::{WriteFailed, write_whole};
 use em_watch::{Watch, last_change};
 use std::io::Write;
-
-/// What the answer of a frame that is lost begins with.
-const DROPPED: &[u8; 7] = b"dropped";
 
 /// Where a run ends.
 #[derive(Clone, Copy, PartialEq, Eq, Debug)]
@@ -51,13 +50,6 @@ impl Stop {
             _ => false,
         }
     }
-}
-
-/// Whether an answer says that a frame was lost.
-fn says_dropped(answer: &[u8]) -> bool
-    ensures { result ≡ says_dropped answer.now }
-{
-    is_name(&answer[..answer.len().min(DROPPED.len())], DROPPED)
 }
 
 impl Debugger {
@@ -134,11 +126,12 @@ impl Debugger {
 
     /// Whether a run ends behind a line, before which this event was the newest.
     fn stops_here(&self, stop: Stop, performed: Performed, before: u64) -> bool
-        ensures { IsTrue result ↔ EndsSince stop before self.now performed }
+        ensures ends { IsTrue result → EndsSince stop before self.now performed }
+        ensures goes_on { result ≡ false → GoesOnSince stop before self.now performed }
     {
         match stop {
-            Stop::Refused => matches!(performed.outcome, Outcome::Refused),
-            Stop::Dropped => says_dropped(self.answer.as_slice()),
+            Stop::Refused => is_refused(performed.outcome),
+            Stop::Dropped => loses(&self.tape, performed),
             Stop::Differs => self.answers_otherwise(performed.line),
             Stop::Line(_) => false,
             Stop::Changes(watch) => self.is_changed(watch, before),

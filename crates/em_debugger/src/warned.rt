@@ -7,17 +7,20 @@ ghost use Rattle.em_warnings.specs.WriteLine.{written_by};
 use em_expect::register_of;
 use em_journal::Machine;
 use em_line::accessed;
-use em_output::told;
 use em_regs::Reg;
 use em_step::{Answer, Event, Refusal};
 use em_warnings::{Warning, read_again, warnings_of};
 
-/// How many warnings a line has with its answer, as `write_warnings` of em_warnings writes them. The machine is as the line
-/// left it.
-pub(crate) fn warnings_of_line(machine: &Machine, line: &[u8], answer: &[u8]) -> usize
-    ensures { result ≡ warnings_of_line machine.now line.now answer.now }
+/// How many warnings a line has whose event came to this, as `write_warnings` of em_warnings writes them. The machine is
+/// as the line left it.
+pub(crate) fn warnings_of_line(
+    machine: &Machine,
+    line: &[u8],
+    came: Option<Result<Answer, Refusal>>,
+) -> usize
+    ensures { result ≡ warnings_of_line machine.now line.now came }
 {
-    match (accessed(line), told(answer)) {
+    match (accessed(line), came) {
         (Some(event), Some(outcome)) => event_warnings(machine, event, outcome),
         _ => 0,
     }
@@ -86,11 +89,6 @@ fn written_by(event: Event<'_>) -> Option<(Reg, u32)>
             Some(reg) => Some((reg, value)),
             None => None,
         },
-        Event::Read(_)
-        | Event::Poke(..)
-        | Event::Arrive(_)
-        | Event::Link(_)
-        | Event::RxStep
-        | Event::TxStep => None,
+        _ => None,
     }
 }

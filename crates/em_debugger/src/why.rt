@@ -4,7 +4,7 @@ ghost use Rattle.std.specs.Io.KnownBytes.{Appends};
 ghost use Rattle.em_text.specs.Writer.{Writes};
 ghost use Rattle.em_debugger.specs.Performing.{heading_text};
 ghost use Rattle.em_debugger.specs.Why.{TellsLook, TellsLooks, TellsReason, TellsSetter, TellsWatch, TellsWhy};
-ghost use Rattle.em_debugger.specs.Why.{TellsWhyAt, TellsWhyOf, begins_with, found_setter, front_text, is_undone};
+ghost use Rattle.em_debugger.specs.Why.{TellsWhyAt, TellsWhyOf, found_setter, front_text, is_undone};
 ghost use Rattle.em_debugger.specs.Why.{look_line, newest_undone, setter_text, unseen_setter};
 
 use crate::debugger::Debugger;
@@ -14,8 +14,10 @@ use crate::search::{Found, Sought, search};
 use crate::who::write_event;
 use em_explain::{looked_at, watch_of, write_explained, write_look};
 use em_reasons::Look;
+use em_script::{Outcome, Refused};
+use em_step::Answer;
 use em_tape::Tape;
-use em_text::{WriteFailed, is_name, write_pieces, write_whole};
+use em_text::{WriteFailed, write_pieces, write_whole};
 use em_watch::Watch;
 use std::io::Write;
 
@@ -36,14 +38,14 @@ impl Debugger {
         self.why_of(writer, line)
     }
 
-    /// Of the first so many lines the newest whose answer says that it did nothing; 0 where none does.
+    /// Of the first so many lines the newest that did nothing; 0 where none did.
     fn newest_undone(&self, last: usize) -> usize
         ensures newest { result ≡ newest_undone self.now last }
         ensures within { result ≤ last }
     {
         let mut line = last;
         while line > 0 {
-            if is_undone(self.told.of(line)) {
+            if is_undone(self.came.of(line)) {
                 return line;
             }
             line -= 1;
@@ -89,7 +91,7 @@ impl Debugger {
             self.alloc,
             tape.machine(),
             text_of(&self.tape, line),
-            answer,
+            self.came.of(line).event(),
         ) {
             Ok(looks) => self.write_looks(writer, tape, looks.as_slice()),
             Err(_) => Err(WriteFailed),
@@ -109,7 +111,8 @@ impl Debugger {
     {
         self.write_front(writer, line)?;
         let text = text_of(&self.tape, line);
-        write_explained(self.alloc, writer, tape.machine(), text, answer)
+        let came = self.came.of(line).event();
+        write_explained(self.alloc, writer, tape.machine(), text, answer, came)
     }
 
     /// Writes a line, and the blanks before its answer.
@@ -228,16 +231,15 @@ fn write_found_setter<W: Write>(
     write_whole(writer, b"\n")
 }
 
-/// Whether an answer says that an event did nothing.
-fn is_undone(answer: &[u8]) -> bool
-    ensures { result ≡ is_undone answer.now }
+/// Whether a line did nothing that came out so: an engine's step was idle, a frame was dropped, or it was refused. A call
+/// of a driver that stopped did something.
+fn is_undone(outcome: Outcome) -> bool
+    ensures { result ≡ is_undone outcome }
 {
-    is_name(answer, b"idle") || begins_with(answer, b"dropped ") || begins_with(answer, b"refused ")
-}
-
-/// Whether an answer begins with these octets.
-fn begins_with(answer: &[u8], front: &[u8; 8]) -> bool
-    ensures { result ≡ begins_with answer.now front.now }
-{
-    is_name(&answer[..answer.len().min(8)], front)
+    match outcome {
+        Outcome::Answered(Answer::Idle | Answer::Dropped(_)) => true,
+        Outcome::Refused(Refused::Stopped(_)) => false,
+        Outcome::Refused(_) => true,
+        _ => false,
+    }
 }

@@ -1,9 +1,8 @@
 -- Outcomes of events that did nothing.
-use Rattle.std.specs.Prelude.{ℕ, List, Option, Some, None, Result, Ok, Err, option_and_then}
+use Rattle.std.specs.Prelude.{Option, Some, None, Result, Ok, Err, option_and_then}
 use Rattle.em_step.specs.declared.event.Answer.{Answer}
 use Rattle.em_step.specs.declared.event.Answer.TheVariants as answer
 use Rattle.em_step.specs.declared.refusal.Refusal.{Refusal as StepRefusal}
-use Rattle.em_output.specs.ReadBack.{told}
 use Rattle.em_explain.specs.declared.undone.Undone.{Undone}
 use Rattle.em_explain.specs.declared.undone.Undone.TheVariants.{Idle, Dropped, Refused}
 
@@ -14,6 +13,6 @@ undone_by (Ok (answer.Dropped reason)) = Some (Dropped reason)
 undone_by (Ok _) = None
 undone_by (Err refusal) = Some (Refused refusal)
 
--- the same by the answer that was printed
-abbrev pub undone_of : List ℕ → Option Undone
-undone_of text = option_and_then undone_by (told text)
+-- the same of a line, by what its event came to, if it had one
+abbrev pub undone_of : Option (Result Answer StepRefusal) → Option Undone
+undone_of came = option_and_then undone_by came

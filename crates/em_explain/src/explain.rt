@@ -6,11 +6,12 @@ ghost use Rattle.em_explain.specs.Explain.{Explains, why_text, with_reason};
 
 use crate::why::{Why, why_of_line};
 use em_journal::Machine;
+use em_step::{Answer, Refusal};
 use em_text::{WriteFailed, write_pieces, write_whole};
 use std::alloc::Global;
 use std::io::Write;
 
-/// Writes the answer that em_bench gives to a line, and where the line is one event that did nothing, why: `idle: the
+/// Writes the answer that em_bench gives to a line, and where the line is one event that came to nothing, why: `idle: the
 /// ring is empty (RDH = RDT = 3)`. The machine is as the line left it. It fails too where memory is refused.
 pub fn write_explained<W: Write>(
     alloc: Global,
@@ -18,11 +19,12 @@ pub fn write_explained<W: Write>(
     machine: &Machine,
     line: &[u8],
     answer: &[u8],
+    came: Option<Result<Answer, Refusal>>,
 ) -> Result<(), WriteFailed>
-    ensures ok { OnOk result (WritesSuch (Explains machine.now.present line.now answer.now)
+    ensures ok { OnOk result (WritesSuch (Explains machine.now.present line.now answer.now came)
         (W.contents writer.old) (W.contents writer.new)) }
 {
-    let Ok(why) = why_of_line(alloc, machine, line, answer) else {
+    let Ok(why) = why_of_line(alloc, machine, line, came) else {
         return Err(WriteFailed);
     };
     let mut reason = Vec::new(alloc);

@@ -2,7 +2,6 @@
 ghost use Rattle.std.specs.Prelude.{◌≡◌};
 ghost use Rattle.em_explain.specs.Undone.{undone_by, undone_of};
 
-use em_output::told;
 use em_step::{Answer, Reason, Refusal};
 
 /// How an event did nothing.
@@ -28,11 +27,11 @@ pub(crate) fn undone_by(outcome: Result<Answer, Refusal>) -> Option<Undone>
     }
 }
 
-/// The same by the answer that was printed.
-pub(crate) fn undone_of(answer: &[u8]) -> Option<Undone>
-    ensures { result ≡ undone_of answer.now }
+/// The same of a line, by what its event came to, if it had one.
+pub(crate) fn undone_of(came: Option<Result<Answer, Refusal>>) -> Option<Undone>
+    ensures { result ≡ undone_of came }
 {
-    match told(answer) {
+    match came {
         Some(outcome) => undone_by(outcome),
         None => None,
     }

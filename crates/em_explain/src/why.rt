@@ -73,17 +73,17 @@ pub fn why_of(machine: &Machine, event: Event<'_>, outcome: Result<Answer, Refus
     }
 }
 
-/// Why the event of a line did nothing, if its answer says so. The machine is as the line left it.
+/// Why the event of a line did nothing that came to this, if it did nothing. The machine is as the line left it.
 pub(crate) fn why_of_line(
     alloc: Global,
     machine: &Machine,
     line: &[u8],
-    answer: &[u8],
+    came: Option<Result<Answer, Refusal>>,
 ) -> Result<Option<Why>, AllocError>
     ensures { IfOk result
-        (IsWhyOf machine.now.present (event_in (parsed_line (said_in line.now))) (undone_of answer.now)) }
+        (IsWhyOf machine.now.present (event_in (parsed_line (said_in line.now))) (undone_of came)) }
 {
-    let Some(undone) = undone_of(answer) else {
+    let Some(undone) = undone_of(came) else {
         return Ok(None);
     };
     let line = Line::read(alloc, line)?;
@@ -117,9 +117,7 @@ fn why_idle(machine: &Machine, event: Event<'_>) -> Option<Why>
             Some(reason) => Some(Why::TxIdle(reason)),
             None => None,
         },
-        Event::Read(_) | Event::Write(..) | Event::Poke(..) | Event::Arrive(_) | Event::Link(_) => {
-            None
-        }
+        _ => None,
     }
 }
 
@@ -129,11 +127,6 @@ fn why_lost(machine: &Machine, event: Event<'_>, reason: Reason) -> Option<Why>
 {
     match event {
         Event::Arrive(frame) => Some(Why::Dropped(why_dropped(machine, frame, reason))),
-        Event::Read(_)
-        | Event::Write(..)
-        | Event::Poke(..)
-        | Event::Link(_)
-        | Event::RxStep
-        | Event::TxStep => None,
+        _ => None,
     }
 }

@@ -1,2 +1,3 @@
 pub mod ArrivalLaws
+pub mod MomentLaws
 pub mod SentLaws

@@ -38,12 +38,17 @@ counted n = min n 0xFFFF_FFFF_FFFF_FFFF
 abbrev pub with_frame : ℕ → Frame → ℕ
 with_frame cut frame = if is_cut frame then counted (cut + 1) else cut
 
+-- how many are padded, with one frame more
+abbrev pub with_padded : ℕ → Frame → ℕ
+with_padded padded frame = if is_unpadded frame then counted (padded + 1) else padded
+
 -- one frame more; or memory was refused, and there is none more
 abbrev pub Adds : Frame → Arrivals → Arrivals → Bool → Type 0
 Adds frame old new true =
     (lists new.lines.items ≡ lists old.lines.items ++ arrival_of frame ∷ []) × ((new.error ≡ old.error)
-    × (new.cut ≡ with_frame old.cut frame))
-Adds frame old new false = (new.lines.items ≡ old.lines.items) × (new.cut ≡ old.cut)
+    × ((new.cut ≡ with_frame old.cut frame) × (new.padded ≡ with_padded old.padded frame)))
+Adds frame old new false =
+    (new.lines.items ≡ old.lines.items) × ((new.cut ≡ old.cut) × (new.padded ≡ old.padded))
 
 -- why there are no more: the capture's end, its fault, or that memory was refused
 abbrev pub EndsBy : Option CaptureError → Reading → Type 0
@@ -51,11 +56,12 @@ EndsBy None rest = rest ≡ nothing
 EndsBy (Some (Fault fault)) rest = rest ≡ record { packets = []; fault = Some fault }
 EndsBy (Some Memory) rest = Unit {0}
 
--- the frames that a capture gives, each as a line, how many of them are cut, and what came behind them
+-- the frames that a capture gives, each as a line, how many of them are cut, how many are padded, and what came behind them
 pub record AreArrivals (reading : Reading) (a : Arrivals) : Type 0 where
   pub given : List Frame
   pub rest : Reading
   pub all : reading ≡ record { packets = given ++ rest.packets; fault = rest.fault }
   pub lines : lists a.lines.items ≡ map arrival_of given
   pub cut : a.cut ≡ counted (length (filter is_cut given))
+  pub padded : a.padded ≡ counted (length (filter is_unpadded given))
   pub ended : EndsBy a.error rest

@@ -4,6 +4,7 @@ ghost use Rattle.em_pcap.specs.Frame.{frame_of};
 ghost use Rattle.em_pcap.specs.Reading.{reading_of};
 ghost use Rattle.em_text.specs.Writer.{Writes};
 ghost use Rattle.em_frames.specs.Arrivals.{Adds, AreArrivals, arrival_of, is_unpadded, padding_text, with_frame};
+ghost use Rattle.em_frames.specs.Arrivals.{with_padded};
 
 use em_pcap::{Capture, CaptureError, Packet};
 use em_text::{WriteFailed, write_octets, write_whole};
@@ -21,17 +22,20 @@ pub struct Arrivals {
     pub lines: VecDeque<Vec<u8>>,
     /// How many of the frames were cut.
     pub cut: u64,
+    /// How many of the lines pad the frame that they bring.
+    pub padded: u64,
     /// Why there are no more, where not for the capture's end.
     pub error: Option<CaptureError>,
 }
 
 impl Arrivals {
     fn none(alloc: Global) -> Arrivals
-        ensures { (result.lines.items ≡ []) × ((result.cut ≡ 0) × (result.error ≡ None)) }
+        ensures { (result.lines.items ≡ []) × ((result.cut ≡ 0) × ((result.padded ≡ 0) × (result.error ≡ None))) }
     {
         Arrivals {
             lines: VecDeque::new(alloc),
             cut: 0,
+            padded: 0,
             error: None,
         }
     }
@@ -48,6 +52,7 @@ impl Arrivals {
             return false;
         }
         self.cut = with_frame(self.cut, packet);
+        self.padded = with_padded(self.padded, packet);
         true
     }
 }
@@ -84,6 +89,17 @@ fn with_frame(cut: u64, packet: &Packet<'_>) -> u64
         cut.saturating_add(1)
     } else {
         cut
+    }
+}
+
+/// How many frames are padded, with one frame more.
+fn with_padded(padded: u64, packet: &Packet<'_>) -> u64
+    ensures { result ≡ with_padded padded (frame_of packet.now) }
+{
+    if is_unpadded(packet) {
+        padded.saturating_add(1)
+    } else {
+        padded
     }
 }
 

@@ -2,7 +2,9 @@
 #![tactic(auto)]
 
 mod arrivals;
+mod moment;
 mod sent;
 
 pub use arrivals::{Arrivals, LEAST_FRAME, arrivals_of, is_unpadded, write_arrival};
+pub use moment::time_in;
 pub use sent::write_sent;

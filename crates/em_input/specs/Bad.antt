@@ -1,24 +1,19 @@
 -- What is wrong with a line of a script.
-use Rattle.std.specs.Prelude.{◌≡◌, ℕ, Bool, true, false, ◌&&◌, List, codes, Option, Some, None, Result, Ok, Err}
+use Rattle.std.specs.Prelude.{◌≡◌, ℕ, Bool, true, false, not, ◌&&◌, List, codes, Option, Some, None, Result, Ok, Err}
 use Rattle.em_regs.specs.declared.reg.Reg.{Reg}
 use Rattle.em_line.specs.Grammar.{parsed_line}
-use Rattle.em_line.specs.ParsedLine.{ParsedLine, bad}
+use Rattle.em_line.specs.ParsedLine.{is_read}
 use Rattle.em_line.specs.Parts.{said_in}
 use Rattle.em_prompt.specs.Prompt.{Wrong, prompted}
 use Rattle.em_prompt.specs.Scripted.{played}
 use Rattle.em_prompt.specs.Typed.{Typed}
 use Rattle.em_prompt.specs.WrongText.{wrong_text}
 
--- a line has no form
-abbrev pub is_none : ParsedLine → Bool
-is_none bad = true
-is_none line = false
-
--- what is played has no form
+-- em_bench does not read a line
 abbrev pub has_no_form : List ℕ → Bool
-has_no_form text = is_none (parsed_line (said_in text))
+has_no_form text = not (is_read (parsed_line text))
 
--- a line that says this has none, and what is played of it has none either
+-- it does not read a line that says this, nor what is played of it
 abbrev pub is_bad : List ℕ → Bool
 is_bad said = has_no_form said && has_no_form (played said)
 

@@ -1,13 +1,12 @@
 //! What is wrong with a line of a script.
-ghost use Rattle.std.specs.Prelude.{◌≡◌, ◌<◌, ℕ, List, IfOk, OnOk, length};
+ghost use Rattle.std.specs.Prelude.{◌≡◌, ◌<◌, ℕ, List, true, IfOk, OnOk, length};
 ghost use Rattle.std.specs.Option.{option_map};
 ghost use Rattle.std.specs.Io.KnownBytes.{Appends};
-ghost use Rattle.em_line.specs.Said.{plain as plain_said};
 ghost use Rattle.em_prompt.specs.Prompt.{plain_wrong, prompted};
 ghost use Rattle.em_prompt.specs.Scripted.{played};
-ghost use Rattle.em_input.specs.Bad.{IsReason, IsToldWrong, IsWrong, has_no_form, is_bad, is_none};
+ghost use Rattle.em_input.specs.Bad.{IsReason, IsToldWrong, IsWrong, has_no_form, is_bad};
 
-use em_line::{Line, Said, parts_of};
+use em_line::{is_line, parts_of};
 use em_names::nearest;
 use em_prompt::{Fault, Typed, Wrong, prompted, scripted, write_wrong};
 use em_regs::Reg;
@@ -32,52 +31,31 @@ pub fn wrong_in(alloc: Global, line: &[u8]) -> Result<Option<Vec<u8>>, AllocErro
     }
 }
 
-/// Whether a line that says this has no form, and what is played of it has none either. Most lines have one as they stand, which
-/// is seen soonest.
+/// Whether em_bench reads neither a line that says this, nor what is played of it. Most lines it reads as they stand, which is
+/// seen soonest, and takes no memory.
 fn is_bad(alloc: Global, said: &[u8]) -> Result<bool, AllocError>
     ensures { IfOk result (λ bad. bad ≡ is_bad said.now) }
 {
-    if has_no_form(alloc, said)? {
-        plays_none(alloc, said)
-    } else {
+    if is_line(said) {
         Ok(false)
+    } else {
+        plays_none(alloc, said)
     }
 }
 
-/// Whether what is played of a line that says this has no form.
+/// Whether em_bench does not read what is played of a line that says this, and that it does not read as it stands.
 fn plays_none(alloc: Global, said: &[u8]) -> Result<bool, AllocError>
+    requires { has_no_form said.now ≡ true }
     ensures { IfOk result (λ none. none ≡ has_no_form (played said.now)) }
 {
     let Some(line) = scripted(said) else {
-        return has_no_form(alloc, said);
+        return Ok(true);
     };
     let mut text = Vec::new(alloc);
     if line.write(&mut text).is_err() {
         return Err(AllocError);
     }
-    has_no_form(alloc, text.as_slice())
-}
-
-/// Whether a line has no form.
-fn has_no_form(alloc: Global, text: &[u8]) -> Result<bool, AllocError>
-    ensures { IfOk result (λ bad. bad ≡ has_no_form text.now) }
-{
-    let line = Line::read(alloc, text)?;
-    Ok(is_none(&line.says))
-}
-
-fn is_none(says: &Said) -> bool
-    ensures { result ≡ is_none (plain_said says.now) }
-{
-    match says {
-        Said::Bad => true,
-        Said::Silent
-        | Said::Command(_)
-        | Said::Poke(..)
-        | Said::Arrive(_)
-        | Said::Request(_)
-        | Said::Plan(_) => false,
-    }
+    Ok(!is_line(text.as_slice()))
 }
 
 /// Writes what is wrong with a line that says this.

@@ -1,11 +1,10 @@
 -- A line in which no mark stands is what it says, and nothing stands behind that.
-use Rattle.std.proofs.Common.{◌≡◌, ℕ, ◌||◌, true, false, List, [], ◌∷◌, length, Option, Some, None, refl, sym, ap, ◌∙◌}
-use Rattle.std.specs.Prelude.{Bool, cond, find, if◌then◌else◌}
+use Rattle.std.proofs.Common.{◌≡◌, ℕ, ◌&&◌, ◌==◌, ◌||◌, true, false, List, [], ◌∷◌, length, Option, Some, None, refl, ap, ◌∙◌}
+use Rattle.std.specs.Prelude.{Bool, cond, find, if◌then◌else◌, slice_index}
 use Rattle.std.specs.List.{range_with_len}
-use Rattle.std.proofs.Math.Bool.{or-true}
 use Rattle.em_text.specs.Words.{words_of}
-use Rattle.em_line.specs.Parts.{before, behind, first_place, marks_at, stands_at, place_of, front_of, behind_of, said_before}
-use Rattle.em_line.specs.Parts.{said_in, expected_in, source_in, comment_in, is_comment_line}
+use Rattle.em_line.specs.Parts.{before, begins_at, behind, behind_of, first_place, front_of, marks_at, place_of}
+use Rattle.em_line.specs.Parts.{said_before, said_in, stands_at, expected_in, source_in, is_comment_line}
 
 -- where a test finds nothing, a narrower one finds nothing
 find_fewer : (wide narrow : ℕ → Bool) (xs : List ℕ) → ((x : ℕ) → narrow x ≡ true → wide x ≡ true)
@@ -29,11 +28,26 @@ pub record Unmarked (line : List ℕ) : Type 0 where
   pub at : place_of 64 line ≡ None
   pub hash : place_of 35 line ≡ None
 
+by_first : (x y p : Bool) → (x && p) ≡ true → ((x || y) && p) ≡ true
+by_first true y p e = e
+by_first false y p e = cc
+
+by_second : (x y p : Bool) → (y && p) ≡ true → ((x || y) && p) ≡ true
+by_second true true p e = e
+by_second true false p e = cc
+by_second false y p e = e
+
 pub unmarked : (line : List ℕ) → first_place (marks_at line) line ≡ None → Unmarked line
 unmarked line none = record {
-  equals = none_stands 61 line (λ at t. rw t refl) none;
-  at = none_stands 64 line (λ at t. rw t (ap (λ b. b || stands_at 35 line at) (or-true (stands_at 61 line at)))) none;
-  hash = none_stands 35 line (λ at t. rw t (or-true (stands_at 61 line at || stands_at 64 line at))) none;
+  equals = none_stands 61 line
+      (λ at t. by_first (slice_index line at == 61 || slice_index line at == 64) _ (begins_at line at)
+      (by_first (slice_index line at == 61) (slice_index line at == 64) (begins_at line at) t)) none;
+  at = none_stands 64 line
+      (λ at t. by_first (slice_index line at == 61 || slice_index line at == 64) _ (begins_at line at)
+      (by_second (slice_index line at == 61) (slice_index line at == 64) (begins_at line at) t)) none;
+  hash = none_stands 35 line
+      (λ at t. by_second (slice_index line at == 61 || slice_index line at == 64) (slice_index line at == 35)
+      (begins_at line at) t) none;
 }
 
 pub says_all : (line : List ℕ) → first_place (marks_at line) line ≡ None → said_in line ≡ line

@@ -2,17 +2,17 @@
 use Rattle.std.specs.Prelude.{ℕ, List, [], ◌∷◌, codes, Option, find}
 use Rattle.std.specs.Str.{bytes_eq}
 use Rattle.em_line.specs.declared.look.Look.{Look}
-use Rattle.em_line.specs.declared.look.Look.TheVariants.{InterruptLine, Registers, Wire}
+use Rattle.em_line.specs.declared.look.Look.TheVariants as look
 
 -- the word that asks for a look, and what it shows, in a line of a help
 abbrev pub row_of : Look → List ℕ × List ℕ
-row_of InterruptLine = (codes "line", codes "line: shows the interrupt line")
-row_of Registers = (codes "regs", codes "regs: shows every register that is not zero")
-row_of Wire = (codes "wire", codes "wire: shows the frames that were sent")
+row_of look.InterruptLine = (codes "line", codes "line: shows the interrupt line")
+row_of look.Registers = (codes "regs", codes "regs: shows every register that is not zero")
+row_of look.Wire = (codes "wire", codes "wire: shows the frames that were sent")
 
 -- all of them, as a help shows them
 abbrev pub looks : List Look
-looks = InterruptLine ∷ Registers ∷ Wire ∷ []
+looks = look.InterruptLine ∷ look.Registers ∷ look.Wire ∷ []
 
 abbrev pub name_of : Look → List ℕ
 name_of look = (row_of look).0

@@ -62,9 +62,13 @@ source_in line = behind_of 64 (front_of 35 line)
 abbrev pub expected_in : List ℕ → Option (List ℕ)
 expected_in line = behind_of 61 (front_of 64 (front_of 35 line))
 
+-- one of these parts begins with this octet
+abbrev pub is_mark : ℕ → Bool
+is_mark octet = octet == 61 || octet == 64 || octet == 35
+
 -- one of these parts begins at this place
 abbrev pub marks_at : List ℕ → ℕ → Bool
-marks_at line at = (stands_at 61 line at || stands_at 64 line at) || stands_at 35 line at
+marks_at line at = is_mark (slice_index line at) && begins_at line at
 
 -- a line whose first word begins a comment
 abbrev pub is_comment_line : List (List ℕ) → Bool

@@ -15,8 +15,56 @@ pub enum Look {
     Wire,
 }
 
+/// The table of looks, as a help shows them: each with the word that asks for it, as octets and as a text, and its line of
+/// a help. What is made of its rows is a macro of this file, which takes them with an argument.
+macro_rules! table {
+    ($made:ident $argument:expr) => {
+        $made! { $argument;
+            InterruptLine, b"line", "line", "line: shows the interrupt line";
+            Registers, b"regs", "regs", "regs: shows every register that is not zero";
+            Wire, b"wire", "wire", "wire: shows the frames that were sent";
+        }
+    };
+}
+
+/// All looks, as an array.
+macro_rules! all {
+    ($none:expr; $($look:ident, $octets:literal, $word:literal, $help:literal;)*) => { [$(Look::$look),*] };
+}
+
+/// How many there are, beside so many others.
+macro_rules! count {
+    ($others:expr; $($look:ident, $octets:literal, $word:literal, $help:literal;)*) => { $others $(+ one!($look))* };
+}
+
+macro_rules! one {
+    ($look:ident) => { 1 };
+}
+
+/// The row of a look.
+macro_rules! row {
+    ($of:expr; $($look:ident, $octets:literal, $word:literal, $help:literal;)*) => {
+        match $of {
+            $(Look::$look => ($word, $help),)*
+        }
+    };
+}
+
+/// The look that a word asks for. The names are tested one by one, for speed.
+macro_rules! asked {
+    ($by:expr; $($look:ident, $octets:literal, $word:literal, $help:literal;)*) => {{
+        $(if is_name($by, $octets) {
+            return Some(Look::$look);
+        })*
+        None
+    }};
+}
+
+/// How many looks there are.
+const COUNT: usize = table!(count 0);
+
 /// All of them, as a help shows them.
-pub static LOOKS: [Look; 3] = [Look::InterruptLine, Look::Registers, Look::Wire];
+pub static LOOKS: [Look; COUNT] = table!(all());
 
 impl Look {
     ghost use Rattle.std.specs.Prelude.{◌≡◌};
@@ -28,11 +76,7 @@ impl Look {
         ensures name { result.0.now ≡ (row_of self).0 }
         ensures help { result.1.now ≡ (row_of self).1 }
     {
-        match self {
-            Look::InterruptLine => ("line", "line: shows the interrupt line"),
-            Look::Registers => ("regs", "regs: shows every register that is not zero"),
-            Look::Wire => ("wire", "wire: shows the frames that were sent"),
-        }
+        table!(row self)
     }
 
     /// The word that asks for it.
@@ -50,20 +94,11 @@ impl Look {
         self.row().1
     }
 
-    /// The look that a word asks for, if it asks for one. The names are tested one by one, for speed.
+    /// The look that a word asks for, if it asks for one.
     #[inline(always)]
     pub fn of(word: &[u8]) -> Option<Look>
         ensures { result ≡ look_called word.now }
     {
-        if is_name(word, b"line") {
-            return Some(Look::InterruptLine);
-        }
-        if is_name(word, b"regs") {
-            return Some(Look::Registers);
-        }
-        if is_name(word, b"wire") {
-            return Some(Look::Wire);
-        }
-        None
+        table!(asked word)
     }
 }

@@ -4,7 +4,7 @@ ghost use Rattle.std.specs.List.{prefix_len, suffix_len};
 ghost use Rattle.std.specs.Option.{option_map};
 ghost use Rattle.em_text.specs.Words.{is_blank, words_of};
 ghost use Rattle.em_line.specs.Parts.{AreParts, begins_at, behind_of, first_place, front_of, is_comment_line, mark_in};
-ghost use Rattle.em_line.specs.Parts.{marks_at, place_of, said_in, stands_at, without_blanks, without_end};
+ghost use Rattle.em_line.specs.Parts.{is_mark, marks_at, place_of, said_in, stands_at, without_blanks, without_end};
 
 use crate::grammar::{HASH, is_comment};
 use em_text::Words;
@@ -100,7 +100,15 @@ fn marks_at(line: &[u8], at: usize) -> bool
     requires { at < length line.now }
     ensures { result ≡ marks_at line.now at }
 {
-    stands_at(line, at, EQUALS) || stands_at(line, at, AT) || stands_at(line, at, HASH)
+    is_mark(line[at]) && begins_at(line, at)
+}
+
+/// Whether a part that stands behind what a line says begins with an octet.
+#[inline(always)]
+fn is_mark(octet: u8) -> bool
+    ensures { result ≡ is_mark octet }
+{
+    matches!(octet, EQUALS | AT | HASH)
 }
 
 /// Whether a line is a comment.

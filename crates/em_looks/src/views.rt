@@ -60,9 +60,6 @@ pub fn show_memory<W: Write>(
     let octets = &mut octets[..(len as usize).min(MOST_PEEK)];
     match machine.peek(addr, octets) {
         Ok(()) => write_octet_lines(writer, addr, octets),
-        Err(refusal) => {
-            let _ = write_refusal(writer, refusal)?;
-            Ok(())
-        }
+        Err(refusal) => write_refusal(writer, refusal),
     }
 }

@@ -1,3 +1,2 @@
-pub mod PrintLemmas
 pub mod RegisterLemmas
 pub mod WireLemmas

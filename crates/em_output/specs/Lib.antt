@@ -1,4 +1,3 @@
 pub mod Registers
 pub mod Wire
 pub mod Output
-pub mod ReadBack

@@ -1,5 +1,5 @@
 -- The texts of answers.
-use Rattle.std.specs.Prelude.{◌≡◌, ℕ, Bool, if◌then◌else◌, List, ◌++◌, codes, Option, Result, IfOk}
+use Rattle.std.specs.Prelude.{ℕ, Bool, if◌then◌else◌, List, ◌++◌, codes}
 use Rattle.em_step.specs.declared.event.Answer.{Answer}
 use Rattle.em_step.specs.declared.event.Answer.TheVariants as answer
 use Rattle.em_step.specs.declared.event.Reason.{Reason}
@@ -7,9 +7,7 @@ use Rattle.em_step.specs.declared.event.Reason.TheVariants.{Down, Disabled, Reje
 use Rattle.em_step.specs.declared.refusal.Refusal.{Refusal}
 use Rattle.em_step.specs.Refusal.{name_of}
 use Rattle.em_journal.specs.Refusal.{name_of_empty}
-use Rattle.em_text.specs.Writer.{Writes, value_text, decimal_line_text, numbers_text}
-use Rattle.em_text.specs.declared.writer.WriteFailed.{WriteFailed}
-use Rattle.em_output.specs.declared.outcome.Outcome.{Outcome}
+use Rattle.em_text.specs.Writer.{value_text, decimal_line_text, numbers_text}
 
 abbrev pub done_text : List ℕ
 done_text = codes "ok\n"
@@ -57,9 +55,3 @@ refusal_text refusal = named_refusal_text (name_of refusal)
 -- of a step back where the journal is empty
 abbrev pub empty_text : List ℕ
 empty_text = named_refusal_text name_of_empty
-
--- the text was written, or a front of it where the writer failed; with the text whole, the line came out so
-pub record Prints (text : List ℕ) (outcome : Outcome) (old new : Option (List ℕ)) (result : Result Outcome WriteFailed)
-    : Type 0 where
-  pub written : Writes old new result text
-  pub ended : IfOk result (λ o. o ≡ outcome)

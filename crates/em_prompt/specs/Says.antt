@@ -16,7 +16,7 @@ use Rattle.em_prompt.specs.declared.number.Number.{Number}
 use Rattle.em_prompt.specs.declared.number.Number.TheVariants.{Peeked, Watched, Packets, Count, Line as LineNumber, Event, Index}
 use Rattle.em_prompt.specs.declared.says.Way.{Way}
 use Rattle.em_prompt.specs.declared.says.Way.TheVariants.{Back, Forward}
-use Rattle.em_prompt.specs.declared.typed.Shown.TheVariants.{Look, History, Effect, Ring, Frame, Memory, Why, Help}
+use Rattle.em_prompt.specs.declared.typed.Shown.TheVariants as shown
 use Rattle.em_prompt.specs.declared.typed.Until.TheVariants.{Refused, Dropped, Differs, Line, Changes}
 use Rattle.em_prompt.specs.declared.typed.Which.{Which}
 use Rattle.em_prompt.specs.declared.typed.Which.TheVariants.{Newest}
@@ -29,9 +29,7 @@ use Rattle.em_prompt.specs.Fault.{Fault, missing, too_many, no}
 use Rattle.em_prompt.specs.Kept.{spaced}
 use Rattle.em_prompt.specs.Told.{without_blanks}
 use Rattle.em_prompt.specs.Typed as typed
-use Rattle.em_prompt.specs.Typed.{Typed, line, show, who, who_again, back, back_to, forward, forward_to, goto, next, run}
-use Rattle.em_prompt.specs.Typed.{run_until, load, save, save_over, warnings, auto, arrive_next, arrive_all, pcap, pcap_over}
-use Rattle.em_prompt.specs.Typed.{quit}
+use Rattle.em_prompt.specs.Typed.{Typed}
 use Rattle.em_prompt.specs.Value.{Offset, address_in, command_in, data_in, ethernet_in, frame_len_in, kept_number_in, known_in}
 use Rattle.em_prompt.specs.Value.{number_in, offset_in, shown_address_in, side_in, switch_in, value_in, watch_in, way_in}
 use Rattle.em_prompt.specs.Value.{which_in, within}
@@ -68,7 +66,7 @@ one_or other read said (word ∷ words) = with (read word) (λ value. alone (sai
 
 -- a line with what is kept behind its name
 abbrev pub bench : Command → List ℕ → Typed
-bench command behind = line (record { command = command; behind = behind })
+bench command behind = typed.line (record { command = command; behind = behind })
 
 -- r OFF
 abbrev pub read_of : List (List ℕ) → Result Typed Fault
@@ -108,8 +106,8 @@ frame_line command word words = with (data_in word) (λ octets. len_of command w
 abbrev pub arrive_of : List (List ℕ) → Result Typed Fault
 arrive_of [] = Err (missing Data)
 arrive_of (word ∷ words) =
-    if bytes_eq word (codes "next") then alone arrive_next words else
-    if bytes_eq word (codes "all") then alone arrive_all words else
+    if bytes_eq word (codes "next") then alone typed.arrive_next words else
+    if bytes_eq word (codes "all") then alone typed.arrive_all words else
     frame_line command.Arrive word words
 
 -- send DATA, send DATA LEN
@@ -144,7 +142,7 @@ number_if number (word ∷ words) = with (number_in number word) (λ n. Ok (Some
 
 -- look NAME, look OFF
 abbrev pub look_of : List (List ℕ) → Result Typed Fault
-look_of words = one Known known_in (λ reg. show (Look reg)) words
+look_of words = one Known known_in (λ reg. typed.show (shown.Look reg)) words
 
 -- WATCH, which begins with a word: ADDR LEN, or that word alone
 abbrev pub octets_at : ℕ → List (List ℕ) → Result (Watch × List (List ℕ)) Fault
@@ -167,17 +165,17 @@ which_if (word ∷ words) = with (which_in word) (λ which. Ok (which, words))
 abbrev pub who_of : List (List ℕ) → Result Typed Fault
 who_of [] = Err (missing Watches)
 who_of (word ∷ words) =
-    if bytes_eq word (codes "again") then alone who_again words else
-    with (watch_at word words) (λ watch. with (which_if watch.1) (λ which. alone (who watch.0 which.0) which.1))
+    if bytes_eq word (codes "again") then alone typed.who_again words else
+    with (watch_at word words) (λ watch. with (which_if watch.1) (λ which. alone (typed.who watch.0 which.0) which.1))
 
 -- back, back N, back to LINE; and forward so
 abbrev pub moves_by : Way → ℕ → Typed
-moves_by Back n = back n
-moves_by Forward n = forward n
+moves_by Back n = typed.back n
+moves_by Forward n = typed.forward n
 
 abbrev pub moves_to : Way → ℕ → Typed
-moves_to Back n = back_to n
-moves_to Forward n = forward_to n
+moves_to Back n = typed.back_to n
+moves_to Forward n = typed.forward_to n
 
 abbrev pub move_of : Way → List (List ℕ) → Result Typed Fault
 move_of way [] = Ok (moves_by way 1)
@@ -187,38 +185,38 @@ move_of way (word ∷ words) =
 
 -- goto EVENT
 abbrev pub goto_of : List (List ℕ) → Result Typed Fault
-goto_of words = one (Numbers Event) (number_in Event) goto words
+goto_of words = one (Numbers Event) (number_in Event) typed.goto words
 
 -- next, next N
 abbrev pub next_of : List (List ℕ) → Result Typed Fault
-next_of words = one_or (next 1) (number_in Count) next words
+next_of words = one_or (typed.next 1) (number_in Count) typed.next words
 
 -- WATCH changes
 abbrev pub ends_changes : Watch → List (List ℕ) → Result Typed Fault
 ends_changes watch [] = Err (missing (Choice Change))
 ends_changes watch (word ∷ words) =
-    if bytes_eq word (codes "changes") then alone (run_until (Changes watch)) words else Err (no (Choice Change))
+    if bytes_eq word (codes "changes") then alone (typed.run_until (Changes watch)) words else Err (no (Choice Change))
 
 abbrev pub changes_of : List ℕ → List (List ℕ) → Result Typed Fault
 changes_of word words = with (watch_at word words) (λ watch. ends_changes watch.0 watch.1)
 
 -- LINE, alone, or WATCH changes
 abbrev pub line_or_changes : Option ℕ → List ℕ → List (List ℕ) → Result Typed Fault
-line_or_changes (Some n) word [] = with (within LineNumber n) (λ n. Ok (run_until (Line n)))
+line_or_changes (Some n) word [] = with (within LineNumber n) (λ n. Ok (typed.run_until (Line n)))
 line_or_changes at word words = changes_of word words
 
 -- refused, dropped, differs, LINE, or WATCH changes
 abbrev pub until_of : List (List ℕ) → Result Typed Fault
 until_of [] = Err (missing Watches)
 until_of (word ∷ words) =
-    if bytes_eq word (codes "refused") then alone (run_until Refused) words else
-    if bytes_eq word (codes "dropped") then alone (run_until Dropped) words else
-    if bytes_eq word (codes "differs") then alone (run_until Differs) words else
+    if bytes_eq word (codes "refused") then alone (typed.run_until Refused) words else
+    if bytes_eq word (codes "dropped") then alone (typed.run_until Dropped) words else
+    if bytes_eq word (codes "differs") then alone (typed.run_until Differs) words else
     line_or_changes (decimal_number word) word words
 
 -- run, or run until ..
 abbrev pub run_of : List (List ℕ) → Result Typed Fault
-run_of [] = Ok run
+run_of [] = Ok typed.run
 run_of (word ∷ words) = if bytes_eq word (codes "until") then until_of words else Err (no (Choice Untils))
 
 -- FILE: all that stands there, without the blanks around it
@@ -231,34 +229,34 @@ file_of said rest = with (file_in rest (words_of rest)) (λ name. Ok (said name)
 
 -- history, history N; effect, effect EVENT; frame, frame I
 abbrev pub history_of : List (List ℕ) → Result Typed Fault
-history_of words = with (number_if Count words) (λ most. alone (show (History most.0)) most.1)
+history_of words = with (number_if Count words) (λ most. alone (typed.show (shown.History most.0)) most.1)
 
 abbrev pub effect_of : List (List ℕ) → Result Typed Fault
-effect_of words = with (number_if Event words) (λ event. alone (show (Effect event.0)) event.1)
+effect_of words = with (number_if Event words) (λ event. alone (typed.show (shown.Effect event.0)) event.1)
 
 abbrev pub frame_of : List (List ℕ) → Result Typed Fault
-frame_of words = with (number_if Index words) (λ index. alone (show (Frame index.0)) index.1)
+frame_of words = with (number_if Index words) (λ index. alone (typed.show (shown.Frame index.0)) index.1)
 
 -- ring rx, ring tx
 abbrev pub ring_of : List (List ℕ) → Result Typed Fault
-ring_of words = one (Choice Sides) side_in (λ side. show (Ring side)) words
+ring_of words = one (Choice Sides) side_in (λ side. typed.show (shown.Ring side)) words
 
 -- memory ADDR LEN
 abbrev pub memory_of : List (List ℕ) → Result Typed Fault
 memory_of [] = Err (missing Address)
 memory_of (word ∷ words) =
-    with (shown_address_in word) (λ addr. one (Numbers Peeked) (number_in Peeked) (λ len. show (Memory addr len)) words)
+    with (shown_address_in word) (λ addr. one (Numbers Peeked) (number_in Peeked) (λ len. typed.show (shown.Memory addr len)) words)
 
 -- warnings on, warnings off; auto on, auto off
 abbrev pub warnings_of : List (List ℕ) → Result Typed Fault
-warnings_of words = one (Choice Switch) switch_in warnings words
+warnings_of words = one (Choice Switch) switch_in typed.warnings words
 
 abbrev pub auto_of : List (List ℕ) → Result Typed Fault
-auto_of words = one (Choice Switch) switch_in auto words
+auto_of words = one (Choice Switch) switch_in typed.auto words
 
 -- help, help COMMAND
 abbrev pub help_of : List (List ℕ) → Result Typed Fault
-help_of words = one_or (show (Help None)) command_in (λ command. show (Help (Some command))) words
+help_of words = one_or (typed.show (shown.Help None)) command_in (λ command. typed.show (shown.Help (Some command))) words
 
 -- ---- each command, with all that stands behind its name
 
@@ -285,18 +283,18 @@ says command.Forward rest = move_of Forward (words_of rest)
 says command.Goto rest = goto_of (words_of rest)
 says command.Next rest = next_of (words_of rest)
 says command.Run rest = run_of (words_of rest)
-says command.Load rest = file_of load rest
-says command.Save rest = file_of save rest
-says command.SaveOver rest = file_of save_over rest
-says command.Pcap rest = file_of pcap rest
-says command.PcapOver rest = file_of pcap_over rest
+says command.Load rest = file_of typed.load rest
+says command.Save rest = file_of typed.save rest
+says command.SaveOver rest = file_of typed.save_over rest
+says command.Pcap rest = file_of typed.pcap rest
+says command.PcapOver rest = file_of typed.pcap_over rest
 says command.History rest = history_of (words_of rest)
 says command.Effect rest = effect_of (words_of rest)
 says command.Ring rest = ring_of (words_of rest)
 says command.Frame rest = frame_of (words_of rest)
 says command.Memory rest = memory_of (words_of rest)
-says command.Why rest = alone (show Why) (words_of rest)
+says command.Why rest = alone (typed.show shown.Why) (words_of rest)
 says command.Warnings rest = warnings_of (words_of rest)
 says command.Auto rest = auto_of (words_of rest)
 says command.Help rest = help_of (words_of rest)
-says command.Quit rest = alone quit (words_of rest)
+says command.Quit rest = alone typed.quit (words_of rest)

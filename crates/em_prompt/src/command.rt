@@ -1,7 +1,7 @@
 //! The commands by their names.
 ghost use Rattle.std.specs.Prelude.{◌≡◌};
 ghost use Rattle.std.specs.Str.{bytes_eq};
-ghost use Rattle.em_prompt.specs.Command.{name_of, command_of, other_command};
+ghost use Rattle.em_prompt.specs.Command.{name_of, command_of, help_of, other_command, row_of};
 
 use em_line::Look as Bench;
 
@@ -53,62 +53,103 @@ pub enum Command {
 /// How many commands stand before em_bench's looks in the help.
 pub(crate) const LOOKS_AT: usize = 8;
 
+/// The table of all commands but em_bench's looks, as the help shows them: each with its name and its line of the help.
+/// What is made of its rows is a macro of this file, which takes them with an argument.
+macro_rules! table {
+    ($made:ident $argument:expr) => {
+        $made! { $argument;
+            Read, "r", "r NAME|OFF: reads a register";
+            Write, "w", "w NAME|OFF VAL: writes a register; VAL may be bits, as EN|BAM";
+            Poke, "poke", "poke ADDR DATA: writes octets to guest memory";
+            Peek, "peek", "peek ADDR LEN: shows octets of guest memory";
+            Arrive, "arrive",
+                "arrive DATA [LEN]: a frame arrives, with zeros up to LEN octets; arrive next|all: of a capture";
+            Rx, "rx", "rx: the receive engine handles a descriptor";
+            Tx, "tx", "tx: the transmit engine handles a descriptor";
+            Link, "link", "link up|down: takes the link up or down";
+            Init, "init", "init: starts the driver";
+            Send, "send", "send DATA [LEN]: gives the driver a packet to send";
+            Recv, "recv", "recv N: takes at most N packets from the driver";
+            Stats, "stats", "stats: reads the driver's counters";
+            Mac, "mac", "mac [DATA]: reads or sets the driver's Ethernet address";
+            Turns, "turns", "turns WORD ..: what others do between the accesses of the driver's next call";
+            Look, "look", "look NAME|OFF: shows a register with its bits, and no event";
+            Who, "who", "who WATCH [again|all]: the last event that changed it; who again: the one before";
+            Back, "back", "back [N]: N events back; back to LINE";
+            Forward, "forward", "forward [N]: N events forward; forward to LINE";
+            Goto, "goto", "goto EVENT: to where so many events are performed";
+            Next, "next", "next [N]: performs N lines";
+            Run, "run", "run [until refused|dropped|differs|LINE|WATCH changes]: performs lines";
+            Load, "load", "load FILE: puts the lines of a file behind the others, or offers the frames of a capture";
+            Save, "save", "save FILE: writes the lines to a new file";
+            SaveOver, "save!", "save! FILE: the same, over a file that is there";
+            History, "history", "history [N]: shows the newest N events";
+            Effect, "effect", "effect [EVENT]: shows what an event changed";
+            Ring, "ring", "ring rx|tx: shows the descriptors of a ring";
+            Frame, "frame", "frame [I]: shows the frames that wait in the adapter, or octets of sent frame I, from 0";
+            Memory, "memory", "memory ADDR LEN: shows guest memory in lines";
+            Why, "why", "why: the rule by which the newest event did nothing, and who set what it looked at";
+            Warnings, "warnings", "warnings on|off: says what drivers get wrong, or does not";
+            Auto, "auto", "auto on|off: lets the engines run by themselves, or not";
+            Pcap, "pcap", "pcap FILE: writes the frames that were sent to a new capture";
+            PcapOver, "pcap!", "pcap! FILE: the same, over a file that is there";
+            Help, "help", "help [COMMAND]: shows this";
+            Quit, "quit", "quit: ends the session";
+        }
+    };
+}
+
+/// Those commands, as an array.
+macro_rules! all {
+    ($none:expr; $($command:ident, $name:literal, $help:literal;)*) => { [$(Command::$command),*] };
+}
+
+/// How many they are, beside so many others.
+macro_rules! count {
+    ($others:expr; $($command:ident, $name:literal, $help:literal;)*) => { $others $(+ one!($command))* };
+}
+
+macro_rules! one {
+    ($command:ident) => { 1 };
+}
+
+/// The row of a command.
+macro_rules! row {
+    ($of:expr; $($command:ident, $name:literal, $help:literal;)*) => {
+        match $of {
+            Command::Bench(look) => (look.name(), look.help()),
+            $(Command::$command => ($name, $help),)*
+        }
+    };
+}
+
+/// How many commands there are beside em_bench's looks.
+const COUNT: usize = table!(count 0);
+
 /// All of them but em_bench's looks, as the help shows them.
-#[rattlefmt::skip]
-pub(crate) static COMMANDS: [Command; 36] = [
-    Command::Read, Command::Write, Command::Poke, Command::Peek, Command::Arrive, Command::Rx,
-    Command::Tx, Command::Link,
-    Command::Init, Command::Send, Command::Recv, Command::Stats, Command::Mac, Command::Turns,
-    Command::Look, Command::Who, Command::Back, Command::Forward, Command::Goto, Command::Next, Command::Run,
-    Command::Load, Command::Save, Command::SaveOver, Command::History, Command::Effect,
-    Command::Ring, Command::Frame, Command::Memory, Command::Why, Command::Warnings,
-    Command::Auto, Command::Pcap, Command::PcapOver, Command::Help, Command::Quit,
-];
+pub(crate) static COMMANDS: [Command; COUNT] = table!(all());
 
 impl Command {
+    /// Its row in the table of commands: its name, and its line of the help.
+    fn row(self) -> (&'static str, &'static str)
+        ensures name { result.0.now ≡ (row_of self).0 }
+        ensures help { result.1.now ≡ (row_of self).1 }
+    {
+        table!(row self)
+    }
+
     /// Its name.
     pub fn name(self) -> &'static str
         ensures { result.now ≡ name_of self }
     {
-        match self {
-            Command::Read => "r",
-            Command::Write => "w",
-            Command::Poke => "poke",
-            Command::Peek => "peek",
-            Command::Arrive => "arrive",
-            Command::Rx => "rx",
-            Command::Tx => "tx",
-            Command::Link => "link",
-            Command::Bench(look) => look.name(),
-            Command::Init => "init",
-            Command::Send => "send",
-            Command::Recv => "recv",
-            Command::Stats => "stats",
-            Command::Mac => "mac",
-            Command::Turns => "turns",
-            Command::Look => "look",
-            Command::Who => "who",
-            Command::Back => "back",
-            Command::Forward => "forward",
-            Command::Goto => "goto",
-            Command::Next => "next",
-            Command::Run => "run",
-            Command::Load => "load",
-            Command::Save => "save",
-            Command::SaveOver => "save!",
-            Command::History => "history",
-            Command::Effect => "effect",
-            Command::Ring => "ring",
-            Command::Frame => "frame",
-            Command::Memory => "memory",
-            Command::Why => "why",
-            Command::Warnings => "warnings",
-            Command::Auto => "auto",
-            Command::Pcap => "pcap",
-            Command::PcapOver => "pcap!",
-            Command::Help => "help",
-            Command::Quit => "quit",
-        }
+        self.row().0
+    }
+
+    /// What it does, in a line.
+    pub fn help(self) -> &'static str
+        ensures { result.now ≡ help_of self }
+    {
+        self.row().1
     }
 
     /// The command that a word names.

@@ -6,7 +6,7 @@ use em_line::{Command, Line, Said};
 use em_prompt::scripted;
 use em_script::BenchFault;
 use em_step::Event;
-use em_text::{WriteFailed, next_line};
+use em_text::WriteFailed;
 use std::alloc::{AllocError, Global};
 
 /// What is played of a line that says this: names of registers and bits, `0x` and the like in the words that em_bench reads,
@@ -70,16 +70,4 @@ pub fn difference(
 /// A vector fails only where memory is refused.
 fn without_memory(_: WriteFailed) -> RecordFault {
     RecordFault::Bench(BenchFault::Memory)
-}
-
-/// The name of the refusal in an answer: the last word of its first line.
-pub fn refusal_in(answer: &[u8]) -> &[u8] {
-    if answer.is_empty() {
-        return answer;
-    }
-    let (first, _) = next_line(answer);
-    match first.rsplit(|octet| *octet == b' ').next() {
-        Some(name) => name,
-        None => first,
-    }
 }

@@ -1,16 +1,15 @@
 //! Playing a script, and writing its record as it goes.
 
 use crate::fault::{MOST_EVENTS, RecordFault};
-use crate::line::{difference, kind_of, played, refusal_in};
+use crate::line::{difference, kind_of, played};
 use em_journal::{Settings, SettingsRefusal};
 use em_line::{Line, Parts, parts_of};
 use em_named::Did;
-use em_output::Outcome;
 use em_recording::{
     Recorded, newest_frame, record_of, write_event, write_number, write_settings, write_start,
     write_string,
 };
-use em_script::BenchFault;
+use em_script::{BenchFault, Outcome};
 use em_tape::Tape;
 use em_text::{WriteFailed, next_line, write_pieces, write_whole};
 use em_trail::Note;
@@ -217,10 +216,10 @@ impl Recorder {
         outcome: Outcome,
     ) -> Result<(), WriteFailed> {
         match outcome {
-            Outcome::Silent | Outcome::Done => Ok(()),
-            Outcome::Refused => {
+            Outcome::Silent | Outcome::Done | Outcome::Answered(_) => Ok(()),
+            Outcome::Refused(refused) => {
                 write_whole(writer, b",\"refused\":")?;
-                write_string(writer, refusal_in(self.answer.as_slice()))
+                write_string(writer, refused.name().as_bytes())
             }
             Outcome::Bad => {
                 self.is_bad = true;

@@ -26,6 +26,7 @@ use Rattle.em_script.specs.Calling.{has_driver, course_of, world_at, done_by, af
 use Rattle.em_script.specs.Calling.{asked_calls, MayBeRefusedAt}
 use Rattle.em_turn.specs.declared.turn.Turn.{Turn}
 use Rattle.em_driver.proofs.course.RunOfCalls.{play_runs}
+use Rattle.em_script.specs.declared.outcome.Refused.{Refused}
 use Rattle.em_script.specs.Reply.{step_call, back_call, call_reply, done_reply, refusal_reply, calls_of, reply}
 use Rattle.em_script.specs.Reply.{line_calls, after_line, after_plan, IsAllowed, IsAllowedTo}
 use Rattle.em_script.specs.PlayedLine.{PlayedLine, AreAllowed, played_calls, after_played, calls, after_all}
@@ -68,10 +69,10 @@ backs_run most machine =
     ]
 
 -- a look leaves the machine as it was
-look_leaves : (b : Bool) (machine : View) (text other : List ℕ)
-    → (cond b (refusal_reply text machine) (done_reply other machine)).machine ≡ machine
-look_leaves true machine text other = refl
-look_leaves false machine text other = refl
+look_leaves : (b : Bool) (machine : View) (text other : List ℕ) (why : Refused)
+    → (cond b (refusal_reply text why machine) (done_reply other machine)).machine ≡ machine
+look_leaves true machine text other why = refl
+look_leaves false machine text other why = refl
 
 pub command_runs : (memory : Option RefusedAt) (command : Command) (machine : View) → IsAllowedTo memory command machine
     → Run machine (calls_of memory command machine) (reply memory command machine).machine
@@ -84,7 +85,7 @@ command_runs memory back machine allowed =
     run_one machine _ (back_call machine.past) (back_does machine machine.past refl)
 command_runs memory (back_by most) machine allowed = backs_run most machine
 command_runs memory (peek addr n) machine allowed =
-    look_leaves (nat_lt (length machine.present.memory) (addr + n)) machine _ _
+    look_leaves (nat_lt (length machine.present.memory) (addr + n)) machine _ _ _
 command_runs memory _ machine allowed = refl
 
 -- what is asked of a driver

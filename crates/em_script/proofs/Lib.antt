@@ -1,3 +1,4 @@
+pub mod PrintLemmas
 pub mod SeatLemmas
 pub mod ReplyLemmas
 pub mod RunLemmas

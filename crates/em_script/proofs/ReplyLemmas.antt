@@ -12,8 +12,8 @@ use Rattle.em_step.specs.declared.refusal.Refusal.{Refusal}
 use Rattle.em_journal.specs.View.{View, after_event}
 use Rattle.em_journal.specs.History.{Call, performs, refuses, goes_back, is_empty, Does, after_step}
 use Rattle.em_text.specs.declared.writer.WriteFailed.{WriteFailed}
-use Rattle.em_output.specs.declared.outcome.Outcome.{Outcome}
-use Rattle.em_output.specs.declared.outcome.Outcome.TheVariants as outcome
+use Rattle.em_script.specs.declared.outcome.Outcome.{Outcome}
+use Rattle.em_script.specs.declared.outcome.Outcome.TheVariants as outcome
 use Rattle.em_line.specs.Command.{Command, event}
 use Rattle.em_step.specs.declared.refusal.Refusal.TheVariants.{Memory}
 use Rattle.em_turn.specs.declared.turn.Turn.{Turn}
@@ -35,7 +35,9 @@ use Rattle.em_script.specs.declared.driver_reply.DriverReply.{DriverReply}
 use Rattle.std.specs.Prelude.{IsSome, IsTrue}
 use Rattle.em_script.specs.Session.{Session}
 use Rattle.em_script.specs.RefusedAt.{before, within}
-use Rattle.em_output.specs.Output.{Prints, answer_text, refusal_text, done_text}
+use Rattle.em_output.specs.Output.{answer_text, refusal_text, done_text}
+use Rattle.em_script.specs.Outcome.{Prints}
+use Rattle.em_script.specs.declared.outcome.Refused.TheVariants.{By}
 use Rattle.em_script.specs.Reply.{step_call, event_call, back_call, call_reply, Gives, Obeys, Performs}
 
 -- ---- what prints one call's reply prints that of the same call
@@ -56,7 +58,7 @@ by_step gives = record { memory = None; allowed = tt; gives = gives }
 -- an event was performed
 pub event_performed : {e : Event} {first now : View} {old new : Option (List ℕ)}
     {result : Result Outcome WriteFailed} (answer : Answer) → Does first (performs e answer) now
-    → Prints (answer_text answer) outcome.Done old new result
+    → Prints (answer_text answer) (outcome.Answered answer) old new result
     → Obeys (event e) first now old new result
 event_performed {e = e} {first = first} {now = now} answer did prints =
     let s = first.present in
@@ -67,7 +69,7 @@ event_performed {e = e} {first = first} {now = now} answer did prints =
 -- an event was refused, by its step or for memory
 pub event_refused : {e : Event} {first now : View} {old new : Option (List ℕ)}
     {result : Result Outcome WriteFailed} (refusal : Refusal) → Does first (refuses e refusal) now
-    → Prints (refusal_text refusal) outcome.Refused old new result
+    → Prints (refusal_text refusal) (outcome.Refused (By refusal)) old new result
     → Obeys (event e) first now old new result
 event_refused {e = e} {first = first} refusal did prints =
     elim did.0 [
@@ -128,7 +130,7 @@ plan_set {first = first} number (Some said) plan is after prints = record {
 -- a plan found no memory
 pub plan_refused : {first now : Session} {old new : Option (List ℕ)} {result : Result Outcome WriteFailed} (number : ℕ)
     (said : Option (List (List Turn))) → IsSome said → now ≡ first
-    → Prints (refusal_text Memory) outcome.Refused old new result
+    → Prints (refusal_text Memory) (outcome.Refused (By Memory)) old new result
     → Performs number (plan_line said) first now old new result
 plan_refused number None some same prints = cc some
 plan_refused number (Some said) some same prints =

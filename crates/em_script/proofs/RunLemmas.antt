@@ -7,8 +7,8 @@ use Rattle.std.proofs.lemmas.List.Sums.{sum_by_push}
 use Rattle.em_text.specs.Lines.{lines_of}
 use Rattle.em_text.specs.Writer.{WritesPart}
 use Rattle.em_text.proofs.WritingLemmas.{Appends-more}
-use Rattle.em_output.specs.declared.outcome.Outcome.{Outcome}
-use Rattle.em_output.specs.declared.outcome.Outcome.TheVariants.{Silent, Bad, Done, Refused}
+use Rattle.em_script.specs.declared.outcome.Outcome.{Outcome}
+use Rattle.em_script.specs.declared.outcome.Outcome.TheVariants.{Silent, Bad, Answered, Done, Refused}
 use Rattle.em_script.specs.declared.summary.Summary.{Summary}
 use Rattle.em_line.specs.Grammar.{parsed_line}
 use Rattle.em_line.specs.ParsedLine.{brings_octets}
@@ -88,9 +88,12 @@ counts-push all Bad =
 counts-push all Done =
     same_summary (count_by_push is_counted all Done) (count_by_push is_bad all Done ∙ add-zero _)
     (count_by_push is_refused all Done ∙ add-zero _)
-counts-push all Refused =
-    same_summary (count_by_push is_counted all Refused) (count_by_push is_bad all Refused ∙ add-zero _)
-    (count_by_push is_refused all Refused)
+counts-push all (Answered answer) =
+    same_summary (count_by_push is_counted all (Answered answer)) (count_by_push is_bad all (Answered answer) ∙ add-zero _)
+    (count_by_push is_refused all (Answered answer) ∙ add-zero _)
+counts-push all (Refused why) =
+    same_summary (count_by_push is_counted all (Refused why)) (count_by_push is_bad all (Refused why) ∙ add-zero _)
+    (count_by_push is_refused all (Refused why))
 
 pub Ran-more : {lines rest behind : List (List ℕ)} {first now after : Session} {old mid new : Option (List ℕ)}
     {number : ℕ} {summary more : Summary} (x : PlayedLine) → Ran lines rest first now old mid number summary

@@ -16,8 +16,9 @@ use Rattle.em_driver.specs.Calls.{read_stats, get_mac_addr, set_mac_addr}
 use Rattle.em_driver.specs.declared.layout.Layout.{Layout}
 use Rattle.em_driver.specs.declared.outcome.Cause.TheVariants as cause
 use Rattle.em_driver.specs.declared.stats.DeviceStats.{DeviceStats}
-use Rattle.em_output.specs.declared.outcome.Outcome.{Outcome}
-use Rattle.em_output.specs.declared.outcome.Outcome.TheVariants.{Refused}
+use Rattle.em_script.specs.declared.outcome.Outcome.{Outcome}
+use Rattle.em_script.specs.declared.outcome.Outcome.TheVariants.{Refused}
+use Rattle.em_script.specs.declared.outcome.Refused.TheVariants.{NoDriver}
 use Rattle.em_script.specs.Session.{Session}
 use Rattle.em_line.specs.Request as request
 use Rattle.em_line.specs.Request.{Request}
@@ -86,7 +87,8 @@ asked_text named request session =
 
 abbrev pub asked_outcome : Option (Played DriverAnswer) → Request → Session → Outcome
 asked_outcome named request session =
-    if has_driver request session then driver_answer_outcome (done_by named request session).answer else Refused
+    if has_driver request session then driver_answer_outcome (done_by named request session).answer else
+    Refused NoDriver
 
 abbrev pub after_call : Played DriverAnswer → Session
 after_call did = record {

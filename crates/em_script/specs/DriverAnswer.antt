@@ -14,8 +14,9 @@ use Rattle.em_script.specs.declared.driver_reply.DriverReply.{DriverReply}
 use Rattle.em_script.specs.declared.driver_reply.PlanCounts.{PlanCounts}
 use Rattle.em_script.specs.declared.driver_answer.DriverAnswer.{DriverAnswer as Code}
 use Rattle.em_script.specs.declared.driver_answer.DriverAnswer.TheVariants as code
-use Rattle.em_output.specs.declared.outcome.Outcome.{Outcome}
-use Rattle.em_output.specs.declared.outcome.Outcome.TheVariants.{Done, Refused}
+use Rattle.em_script.specs.declared.outcome.Outcome.{Outcome}
+use Rattle.em_script.specs.declared.outcome.Outcome.TheVariants.{Done, Refused}
+use Rattle.em_script.specs.declared.outcome.Refused.TheVariants.{Stopped as stopped_by}
 use Rattle.em_output.specs.Output.{done_text}
 use Rattle.em_output.specs.Wire.{frames_text}
 use Rattle.em_script.specs.DriverText.{started_text, batch_text, stopped_text, stats_text, address_text, turns_text}
@@ -57,10 +58,10 @@ driver_answer_text events set = done_text
 
 abbrev pub result_outcome : Result Batch Stopped → Outcome
 result_outcome (Ok moved) = Done
-result_outcome (Err stopped) = Refused
+result_outcome (Err stopped) = Refused (stopped_by stopped.cause)
 
 abbrev pub driver_answer_outcome : DriverAnswer → Outcome
-driver_answer_outcome (start (Some cause)) = Refused
+driver_answer_outcome (start (Some cause)) = Refused (stopped_by cause)
 driver_answer_outcome (batch packets result) = result_outcome result
 driver_answer_outcome _ = Done
 

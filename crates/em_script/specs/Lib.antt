@@ -1,6 +1,7 @@
 pub mod Session
 pub mod Seat
 pub mod NoDriver
+pub mod Outcome
 pub mod DriverText
 pub mod DriverAnswer
 pub mod RefusedAt

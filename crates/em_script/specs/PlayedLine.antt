@@ -1,7 +1,7 @@
 -- The lines of a script that were played.
 use Rattle.std.specs.Prelude.{◌≡◌, ℕ, ◌+◌, List, [], ◌∷◌, ◌++◌, map, Option, None}
 use Rattle.em_journal.specs.History.{Call}
-use Rattle.em_output.specs.declared.outcome.Outcome.{Outcome}
+use Rattle.em_script.specs.declared.outcome.Outcome.{Outcome}
 use Rattle.em_script.specs.Session.{Session}
 use Rattle.em_line.specs.Grammar.{parsed_line}
 use Rattle.em_script.specs.RefusedAt.{RefusedAt}

@@ -15,8 +15,11 @@ use Rattle.em_journal.specs.View.{View, after_event, after_back, after_backs}
 use Rattle.em_journal.specs.History.{Call, performs, refuses, goes_back, is_empty, after_step}
 use Rattle.em_text.specs.Writer.{hex_line_text}
 use Rattle.em_text.specs.declared.writer.WriteFailed.{WriteFailed}
-use Rattle.em_output.specs.declared.outcome.Outcome.{Outcome}
-use Rattle.em_output.specs.declared.outcome.Outcome.TheVariants as outcome
+use Rattle.em_script.specs.declared.outcome.Outcome.{Outcome}
+use Rattle.em_script.specs.declared.outcome.Outcome.TheVariants as outcome
+use Rattle.em_script.specs.declared.outcome.Refused.{Refused}
+use Rattle.em_script.specs.declared.outcome.Refused.TheVariants.{By, Empty}
+use Rattle.em_script.specs.Outcome.{Prints}
 use Rattle.em_script.specs.Session.{Session}
 use Rattle.em_line.specs.declared.look.Look.{Look}
 use Rattle.em_line.specs.declared.look.Look.TheVariants.{InterruptLine, Registers, Wire}
@@ -27,7 +30,6 @@ use Rattle.em_script.specs.RefusedAt.{RefusedAt, before, within, named_of}
 use Rattle.em_script.specs.Calling.{asked_text, asked_outcome, after_asked, asked_calls, MayBeRefusedAt}
 use Rattle.em_turn.specs.declared.turn.Turn.{Turn}
 use Rattle.em_output.specs.Output.{done_text, bit_text, back_text, bad_line_text, answer_text, refusal_text, empty_text}
-use Rattle.em_output.specs.Output.{Prints}
 use Rattle.em_output.specs.Registers.{registers_text}
 use Rattle.em_output.specs.Wire.{wire_text}
 
@@ -66,23 +68,29 @@ pub record Reply : Type 0 where
 abbrev pub done_reply : List ℕ → View → Reply
 done_reply text machine = record { text = text; outcome = outcome.Done; machine = machine }
 
+-- an event was performed, and answered so
+abbrev pub answered_reply : Answer → View → Reply
+answered_reply answer machine =
+    record { text = answer_text answer; outcome = outcome.Answered answer; machine = machine }
+
 -- what was refused changed nothing
-abbrev pub refusal_reply : List ℕ → View → Reply
-refusal_reply text machine = record { text = text; outcome = outcome.Refused; machine = machine }
+abbrev pub refusal_reply : List ℕ → Refused → View → Reply
+refusal_reply text refused machine = record { text = text; outcome = outcome.Refused refused; machine = machine }
 
 -- to a single call: a performed event prints its answer
 abbrev pub call_reply : Call → View → Reply
 call_reply (performs e answer) machine =
     let s = machine.present in
-    done_reply (answer_text answer) (after_event machine (after_step s (step s e)) (cost s e))
-call_reply (refuses e refusal) machine = refusal_reply (refusal_text refusal) machine
+    answered_reply answer (after_event machine (after_step s (step s e)) (cost s e))
+call_reply (refuses e refusal) machine = refusal_reply (refusal_text refusal) (By refusal) machine
 call_reply goes_back machine = done_reply done_text (after_back machine)
-call_reply is_empty machine = refusal_reply empty_text machine
+call_reply is_empty machine = refusal_reply empty_text Empty machine
 
 -- to a look at n octets of memory, from an address on
 abbrev pub peek_reply : ℕ → ℕ → View → Reply
 peek_reply addr n machine =
-    if nat_lt (length machine.present.memory) (addr + n) then refusal_reply (refusal_text Range) machine
+    if nat_lt (length machine.present.memory) (addr + n) then
+    refusal_reply (refusal_text Range) (By Range) machine
     else done_reply (hex_line_text (part machine.present.memory addr n)) machine
 
 -- what a look shows
@@ -131,7 +139,7 @@ plan_reply (Some refused) = refusal_text Memory
 
 abbrev pub plan_outcome : Option RefusedAt → Outcome
 plan_outcome None = outcome.Done
-plan_outcome (Some refused) = outcome.Refused
+plan_outcome (Some refused) = outcome.Refused (By Memory)
 
 -- a plan that finds no memory leaves the one before it
 abbrev pub after_plan : Option RefusedAt → List (List Turn) → Session → Session

@@ -2,8 +2,8 @@
 ghost use Rattle.std.specs.Prelude.{◌≡◌, ◌++◌};
 ghost use Rattle.em_text.specs.Writer.{Writes};
 ghost use Rattle.em_turn.specs.Planned.{lists};
-ghost use Rattle.em_output.specs.Output.{Prints};
 ghost use Rattle.em_output.specs.Wire.{frames_text};
+ghost use Rattle.em_script.specs.Outcome.{Prints};
 ghost use Rattle.em_script.specs.DriverAnswer.{plain, driver_reply_text, counts_text};
 ghost use Rattle.em_script.specs.DriverAnswer.{driver_answer_text, driver_answer_outcome};
 ghost use Rattle.em_script.specs.DriverAnswer.{result_text, result_outcome};
@@ -13,8 +13,9 @@ ghost use Rattle.em_script.specs.DriverText.{turns_text, turns_end, no_driver_te
 use crate::driver_answer::DriverAnswer;
 use crate::driver_reply::{DriverReply, PlanCounts};
 use crate::no_driver::NoDriver;
+use crate::outcome::{Outcome, Refused};
+use crate::printed::{write_count, write_done};
 use em_driver::{Batch, Cause, DeviceStats, Stopped};
-use em_output::{Outcome, write_count, write_done};
 use em_text::{WriteFailed, octet_digits, write_numbers_line, write_octets_line, write_pieces};
 use itoa::Buffer;
 use std::collections::VecDeque;
@@ -128,7 +129,7 @@ fn write_stopped<W: Write>(
     events: u32,
     cause: Cause,
 ) -> Result<Outcome, WriteFailed>
-    ensures { Prints (stopped_text count events cause) Outcome.Refused
+    ensures { Prints (stopped_text count events cause) (Outcome.Refused (Refused.Stopped cause))
         (W.contents writer.old) (W.contents writer.new) result }
 {
     let mut packets = Buffer::new();
@@ -140,7 +141,7 @@ fn write_stopped<W: Write>(
         writer,
         &[b"stopped ", packets, b" ", own, b" ", name, b"\n"],
     )?;
-    Ok(Outcome::Refused)
+    Ok(Outcome::Refused(Refused::Stopped(cause)))
 }
 
 /// The packets and octets that a driver counted.
@@ -211,8 +212,9 @@ fn turns_end(starved: bool) -> &'static [u8]
 
 /// That there is no driver.
 pub fn write_no_driver<W: Write>(writer: &mut W) -> Result<Outcome, WriteFailed>
-    ensures { Prints no_driver_text Outcome.Refused (W.contents writer.old) (W.contents writer.new) result }
+    ensures { Prints no_driver_text (Outcome.Refused Refused.NoDriver)
+        (W.contents writer.old) (W.contents writer.new) result }
 {
     write_pieces(writer, &[b"refused ", NoDriver.name().as_bytes(), b"\n"])?;
-    Ok(Outcome::Refused)
+    Ok(Outcome::Refused(Refused::NoDriver))
 }

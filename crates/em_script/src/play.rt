@@ -9,7 +9,9 @@ ghost use Rattle.em_line.specs.ParsedLine.{command_line, request_line};
 ghost use Rattle.em_line.specs.Request.{request_form};
 ghost use Rattle.em_script.specs.Reply.{Performs, Plays};
 
+use crate::outcome::Outcome;
 use crate::player::Player;
+use crate::printed::write_bad_line;
 use crate::reply::{ask, obey, set_plan};
 use crate::session::Session;
 use em_journal::Acts;
@@ -17,7 +19,6 @@ use em_line::{
     Command, Look, MOST_PEEK, alone, arrive_form, back_form, is_comment, link_form, peek_form,
     poke_form, read_form, request_form, turns_form, write_form,
 };
-use em_output::{Outcome, write_bad_line};
 use em_step::Event;
 use em_text::{Words, WriteFailed, is_name};
 use std::alloc::AllocError;

@@ -1,5 +1,5 @@
-//! Doing what a command or a request says, and writing its answer. What only some lines do is not
-//! inlined, since its room on the stack would be taken for every line.
+//! Doing what a command or a request says, and writing its answer. What is asked of a driver is not inlined, nor a plan, since
+//! the room on the stack would be taken for every line.
 ghost use Rattle.std.specs.Prelude.{ℕ, IsTrue, None};
 ghost use Rattle.em_step.specs.Event.{plain as plain_event};
 ghost use Rattle.em_line.specs.Command.{is_look, plain as plain_command, event as event_command};
@@ -13,14 +13,15 @@ ghost use Rattle.em_script.specs.Reply.{back_by_reply, Gives, Obeys, Performs};
 use crate::calling::{call_driver, start_driver};
 use crate::driver_output::{write_driver_reply, write_no_driver};
 use crate::no_driver::NoDriver;
+use crate::outcome::Outcome;
+use crate::printed::{
+    write_answer, write_back, write_bit, write_done, write_empty, write_octets, write_refusal,
+};
 use crate::seat::Seat;
 use crate::session::Session;
 use em_journal::{Acts, Empty, Machine};
 use em_line::{Command, Look, MOST_PEEK, PeekLen, PlanWords, Request, plan_of};
-use em_output::{
-    Outcome, write_answer, write_back, write_bit, write_done, write_empty, write_octets,
-    write_refusal, write_registers, write_wire,
-};
+use em_output::{write_registers, write_wire};
 use em_step::{Event, Refusal};
 use em_text::WriteFailed;
 use std::alloc::Global;
@@ -125,7 +126,7 @@ fn perform_event<W: Write, M: Acts>(
     }
 }
 
-#[inline(never)]
+#[inline(always)]
 fn peek<W: Write>(
     writer: &mut W,
     machine: &Machine,
@@ -156,7 +157,7 @@ fn look<W: Write>(writer: &mut W, machine: &Machine, what: Look) -> Result<Outco
     }
 }
 
-#[inline(never)]
+#[inline(always)]
 fn interrupt_line<W: Write>(writer: &mut W, machine: &Machine) -> Result<Outcome, WriteFailed>
     ensures { Gives (look_reply Look.InterruptLine machine.now)
         machine.now (W.contents writer.old) (W.contents writer.new) result }
@@ -164,7 +165,7 @@ fn interrupt_line<W: Write>(writer: &mut W, machine: &Machine) -> Result<Outcome
     write_bit(writer, machine.line())
 }
 
-#[inline(never)]
+#[inline(always)]
 fn registers<W: Write>(writer: &mut W, machine: &Machine) -> Result<Outcome, WriteFailed>
     ensures { Gives (look_reply Look.Registers machine.now)
         machine.now (W.contents writer.old) (W.contents writer.new) result }
@@ -173,7 +174,7 @@ fn registers<W: Write>(writer: &mut W, machine: &Machine) -> Result<Outcome, Wri
     Ok(Outcome::Done)
 }
 
-#[inline(never)]
+#[inline(always)]
 fn wire<W: Write>(writer: &mut W, machine: &Machine) -> Result<Outcome, WriteFailed>
     ensures { Gives (look_reply Look.Wire machine.now)
         machine.now (W.contents writer.old) (W.contents writer.new) result }
@@ -182,7 +183,7 @@ fn wire<W: Write>(writer: &mut W, machine: &Machine) -> Result<Outcome, WriteFai
     Ok(Outcome::Done)
 }
 
-#[inline(never)]
+#[inline(always)]
 fn back<W: Write, M: Acts>(writer: &mut W, machine: &mut M) -> Result<Outcome, WriteFailed>
     ensures { Gives (call_reply (back_call (M.shows machine.old).past) (M.shows machine.old))
         (M.shows machine.new) (W.contents writer.old) (W.contents writer.new) result }
@@ -193,7 +194,7 @@ fn back<W: Write, M: Acts>(writer: &mut W, machine: &mut M) -> Result<Outcome, W
     }
 }
 
-#[inline(never)]
+#[inline(always)]
 fn back_by<W: Write, M: Acts>(
     writer: &mut W,
     machine: &mut M,

@@ -2,7 +2,7 @@
 ghost use Rattle.std.specs.Prelude.{◌≡◌, ◌+◌, ◌≤◌, ◌<◌, ◌^◌};
 ghost use Rattle.em_script.specs.Summary.{after_outcome};
 
-use em_output::Outcome;
+use crate::outcome::Outcome;
 
 /// How the lines of a script are counted.
 #[derive(Clone, Copy, Debug, PartialEq, Eq)]
@@ -31,8 +31,8 @@ pub fn count(summary: &mut Summary, outcome: Outcome)
             summary.lines += 1;
             summary.bad += 1;
         }
-        Outcome::Done => summary.lines += 1,
-        Outcome::Refused => {
+        Outcome::Done | Outcome::Answered(_) => summary.lines += 1,
+        Outcome::Refused(_) => {
             summary.lines += 1;
             summary.refused += 1;
         }

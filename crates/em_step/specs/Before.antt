@@ -1,7 +1,11 @@
 -- What a record tells of the state before the event, without being put back.
-use Rattle.std.specs.Prelude.{◌≡◌, ℕ, ◌+◌, ◌-◌, Bool, false, if◌then◌else◌, List, length, unwrap_or, Option, None}
+use Rattle.std.specs.Prelude.{◌≡◌, ℕ, ◌+◌, ◌-◌, Bool, false, if◌then◌else◌, List, [], ◌∷◌, length, unwrap_or}
+use Rattle.std.specs.Prelude.{Option, None}
 use Rattle.em_mem.specs.Extent as extent
 use Rattle.em_mem.specs.Extent.{SameUpTo}
+use Rattle.em_mem.specs.declared.needs.Range.{Range}
+use Rattle.em_mem.specs.Memory.{Patch}
+use Rattle.em_mem.specs.Needs.{no_octets, with_octets_of}
 use Rattle.em_mem.specs.Window.{IsWindow, lay_over}
 use Rattle.em_regs.specs.declared.reg.Reg.{Reg}
 use Rattle.em_regs.specs.declared.reg.Reg.TheVariants.{Ics, Imc, Rdh, Tdh}
@@ -13,6 +17,7 @@ use Rattle.em_latch.specs.Latches as latches
 use Rattle.em_latch.specs.Latches.{Growth}
 use Rattle.em_rx.specs.Before as rx
 use Rattle.em_tx.specs.Before as tx
+use Rattle.em_tx.specs.Needs as tx_needs
 use Rattle.em_tx.specs.Undo.{gathered_of, last_of}
 use Rattle.em_step.specs.Cells.{Cells, shows}
 use Rattle.em_step.specs.State.{State}
@@ -32,6 +37,11 @@ PutsBackWindow r a now before =
 -- no octet of memory from address a on, up to the next one, or to the end where there is none, is another one then
 abbrev pub LeavesUpTo : Undo → ℕ → Option ℕ → Type 0
 LeavesUpTo r a next = (c : Cells) → Fits c r → SameUpTo (shows c).memory (shows (undo c r)).memory a next
+
+-- memory before the event is as it is now, but in these ranges
+abbrev pub WroteOnly : Undo → List Range → Type 0
+WroteOnly r ranges = (c : Cells) → Fits c r
+    → with_octets_of (shows c).memory (shows (undo c r)).memory ranges ≡ (shows (undo c r)).memory
 
 -- one frame comes off the wire, or none
 abbrev pub TakesOffWire : Undo → Bool → Type 0
@@ -96,6 +106,18 @@ next_octet (RxStep head old) a = rx.next_of_step old a
 next_octet (TxStep old head) a = tx.next_of_status old.status a
 next_octet (Reset old) a = tx.next_of old.gathered a
 next_octet effect a = None
+
+-- the range of a patch
+abbrev pub range_of : Patch → Range
+range_of p = record { at = p.at; len = length p.octets }
+
+-- the ranges of memory that it wrote
+abbrev pub written : Changed → List Range
+written (Octets old) = range_of old ∷ no_octets ∷ []
+written (RxStep head old) = range_of old.first ∷ range_of old.second ∷ []
+written (TxStep old head) = tx_needs.written_at old.status ∷ no_octets ∷ []
+written (Reset old) = tx_needs.written_by old.gathered
+written effect = no_octets ∷ no_octets ∷ []
 
 -- of the number of frames in the FIFO
 abbrev pub frames_before : Changed → ℕ → ℕ

@@ -8,14 +8,14 @@ ghost use Rattle.em_regs.specs.RegFile.{IsStored};
 ghost use Rattle.em_latch.specs.Latches.{IsLatched};
 ghost use Rattle.em_step.specs.Access.{gives};
 ghost use Rattle.em_step.specs.Before.{LeavesUpTo, PutsBack, PutsBackGathered, PutsBackWindow, TakesOffWire};
-ghost use Rattle.em_step.specs.Before.{frames_before, gathered_before, has_sent};
+ghost use Rattle.em_step.specs.Before.{WroteOnly, frames_before, gathered_before, has_sent, written};
 ghost use Rattle.em_step.specs.Before.{latched_before, link_before, next_octet, octets_before, register_before};
 ghost use Rattle.em_step.specs.Before.{status_before, stored_before};
 ghost use Rattle.em_step.specs.Undo.{IsPlaced, held, past_of, piece, word};
 
 use crate::adapter::status_of;
 use crate::undo::{Effect, HEAD_OCTETS, Record};
-use em_mem::{OldOctets, Saved, lay_both_over, next_in};
+use em_mem::{OldOctets, Range, Saved, lay_both_over, next_in};
 use em_regs::{Kind, Reg};
 use em_rx::OldPiece;
 use std::alloc::AllocError;
@@ -87,6 +87,16 @@ impl<'a> Past<'a> {
         ensures before { LeavesUpTo self.now addr result }
     {
         self.next_told(addr)
+    }
+
+    /// The ranges of guest memory that the event wrote. Where there are fewer than two, one of 0 octets stands. Before
+    /// the event memory was as it is now, but in these.
+    #[inline(always)]
+    pub fn written(&self) -> [Range; 2]
+        ensures ranges { result ≡ written self.now.effect }
+        ensures before { WroteOnly self.now result }
+    {
+        self.written_told()
     }
 
     /// Whether the link was up before the event, where it is `now` after it.
@@ -228,6 +238,32 @@ impl<'a> Past<'a> {
             Effect::TxStep(old, _) => old.next_octet(addr),
             Effect::Reset(old) => old.gathered.next_octet(addr),
             _ => None,
+        }
+    }
+
+    /// The ranges of memory that were written.
+    #[inline(always)]
+    fn written_told(&self) -> [Range; 2]
+        ensures { result ≡ written self.now.effect }
+    {
+        match &self.record.effect {
+            Effect::Octets { at, len, .. } => {
+                let range = Range {
+                    at: u64::from(*at),
+                    len: u64::from(*len),
+                };
+                [range, Range::none()]
+            }
+            Effect::RxStep {
+                left,
+                len,
+                buffer,
+                end_at,
+                ..
+            } => piece_of(*left, *len, *buffer, *end_at).written(),
+            Effect::TxStep(old, _) => [old.written(), Range::none()],
+            Effect::Reset(old) => old.gathered.written(),
+            _ => [Range::none(), Range::none()],
         }
     }
 

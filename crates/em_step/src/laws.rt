@@ -1,5 +1,7 @@
 //! What the definitions of steps and records say together.
 ghost use Rattle.std.specs.Prelude.{◌≡◌, ◌≢◌, ◌⊎◌, ◌+◌, ◌≤◌, [], ◌∷◌, ℕ, true, false, All, List, None, Ok};
+ghost use Rattle.std.specs.Prelude.{length, take};
+ghost use Rattle.em_mem.specs.Needs.{AgreeOn};
 ghost use Rattle.em_regs.specs.declared.reg.Reg.{Reg};
 ghost use Rattle.em_regs.specs.Table.{IsReg};
 ghost use Rattle.em_regs.specs.RegFile.{address_low, address_high, put_eerd};
@@ -12,6 +14,7 @@ ghost use Rattle.em_step.specs.Access.{gives, reset, after_eeprom_read};
 ghost use Rattle.em_step.specs.Cells.{Cells, fresh, shows, MorePages};
 ghost use Rattle.em_step.specs.Undo.{Fits, Undo, undo};
 ghost use Rattle.em_step.specs.Event.{Event, arrives, receives, transmits};
+ghost use Rattle.em_step.specs.Needs.{over, rx_needs, taken_into, tx_needs};
 ghost use Rattle.em_step.specs.Step.{step};
 ghost use Rattle.em_step.specs.Whole.{Admits, IsPlain, IsWhole, KeepsAllButFifo, ReceivesWhole, SendsWhole};
 ghost use Rattle.em_step.specs.Cost.{cost, most_cost};
@@ -74,4 +77,24 @@ pub fn an_eeprom_stays()
     ensures stays { (s : State) (e : Event) (r : Answer × State) → step s e ≡ Ok r → r.1.eeprom ≡ s.eeprom }
     ensures above { (s : State) (a : ℕ) → IsEeprom s.eeprom → 64 ≤ a →
         after_eeprom_read s a ≡ record s { registers = put_eerd s.registers a 0 } }
+{}
+
+/// A step of an engine depends on no other octets of guest memory than those that it reads, and it changes none but
+/// those that it writes. So a guest whose memory lies elsewhere needs no copy of all of it here, but of these ranges.
+pub fn needs()
+    // of memories of one size no octet says what is read first, and the first octets what else is read and written
+    ensures rx_first { (s : State) (n : List ℕ) → length s.memory ≡ length n →
+        take 1 (rx_needs s).reads ≡ take 1 (rx_needs (over s n)).reads }
+    ensures tx_first { (s : State) (n : List ℕ) → length s.memory ≡ length n →
+        take 1 (tx_needs s).reads ≡ take 1 (tx_needs (over s n)).reads }
+    ensures rx_others { (s : State) (n : List ℕ) → AgreeOn s.memory n (take 1 (rx_needs (over s n)).reads) →
+        rx_needs s ≡ rx_needs (over s n) }
+    ensures tx_others { (s : State) (n : List ℕ) → AgreeOn s.memory n (take 1 (tx_needs (over s n)).reads) →
+        tx_needs s ≡ tx_needs (over s n) }
+    // where n agrees on all that is read, a step over the adapter's memory is that over n, with the octets that this
+    // one wrote
+    ensures receives { (s : State) (n : List ℕ) → AgreeOn s.memory n (rx_needs (over s n)).reads →
+        step s receives ≡ taken_into s.memory (rx_needs (over s n)).writes (step (over s n) receives) }
+    ensures transmits { (s : State) (n : List ℕ) → AgreeOn s.memory n (tx_needs (over s n)).reads →
+        step s transmits ≡ taken_into s.memory (tx_needs (over s n)).writes (step (over s n) transmits) }
 {}

@@ -18,7 +18,7 @@ use Rattle.em_tape.specs.declared.known.Known.{Known}
 use Rattle.em_tape.specs.declared.known.Known.TheVariants.{Nothing, OneEvent, Other}
 use Rattle.em_tape.proofs.TapeLaws.{after_all-append, allowed_push, take-more, taken-plus}
 use Rattle.em_text.specs.declared.writer.WriteFailed.{WriteFailed}
-use Rattle.em_output.specs.declared.outcome.Outcome.{Outcome}
+use Rattle.em_script.specs.declared.outcome.Outcome.{Outcome}
 
 -- ---- some of the lines
 

@@ -7,7 +7,7 @@ use Rattle.std.proofs.lemmas.List.{take-append-le}
 use Rattle.std.proofs.lemmas.List.Elements.{All-append, All-cons}
 use Rattle.std.proofs.lemmas.Option.{get_or_from_slice_get, slice_get_within}
 use Rattle.em_line.specs.Grammar.{parsed_line}
-use Rattle.em_output.specs.declared.outcome.Outcome.TheVariants.{Done}
+use Rattle.em_script.specs.declared.outcome.Outcome.TheVariants.{Done}
 use Rattle.em_named.specs.Names.{after_line, names}
 use Rattle.em_named.specs.Place.{kept_of}
 use Rattle.em_named.specs.declared.did.Did.{Did}

@@ -8,8 +8,8 @@ use Rattle.em_journal.proofs.BackLaws.{past_left}
 use Rattle.em_line.specs.Command.{back, back_by}
 use Rattle.em_line.specs.Grammar.{parsed_line}
 use Rattle.em_line.specs.ParsedLine.{ParsedLine, bad, says}
-use Rattle.em_output.specs.declared.outcome.Outcome.{Outcome}
-use Rattle.em_output.specs.declared.outcome.Outcome.TheVariants.{Done}
+use Rattle.em_script.specs.declared.outcome.Outcome.{Outcome}
+use Rattle.em_script.specs.declared.outcome.Outcome.TheVariants.{Done}
 use Rattle.em_script.specs.Reply.{IsAllowed, after_line, back_call, call_reply, line_outcome}
 use Rattle.em_script.specs.RefusedAt.{RefusedAt}
 use Rattle.em_script.specs.Session.{Session}
@@ -18,7 +18,7 @@ use Rattle.em_script.specs.declared.runner.BenchFault.TheVariants.{Write}
 use Rattle.em_named.specs.declared.did.Did.{Did}
 use Rattle.em_named.specs.declared.did.Did.TheVariants.{TookBack}
 use Rattle.em_script.specs.Did.{did_of}
-use Rattle.em_tape.specs.Did.{IsSeen, outcome_where}
+use Rattle.em_tape.specs.Did.{IsSeen, done_in}
 use Rattle.em_tape.specs.Kind.{SaysBack}
 use Rattle.em_tape.specs.Moves.{IsPlayed}
 use Rattle.em_tape.specs.declared.known.Known.TheVariants.{Other}
@@ -33,7 +33,7 @@ back_one (s ∷ older) v is = past_left 1 v (after_back v) refl
 
 -- steps back, as many as the journal's reach went back
 pub back_did : (done : Bool) (memory : Option RefusedAt) (parsed : ParsedLine) (from : Session) (seen : Seen) (d : Did)
-    → SaysBack parsed → outcome_where done ≡ line_outcome memory parsed from → IsSeen seen memory parsed from
+    → SaysBack parsed → done_in (line_outcome memory parsed from) ≡ Some done → IsSeen seen memory parsed from
     → ((took : ℕ) → took ≡ seen.before - seen.after → took ≤ 65536 → d ≡ TookBack took)
     → d ≡ did_of memory parsed from
 back_did true memory bad from seen d kind out is took = absurd (cc)

@@ -10,8 +10,8 @@ use Rattle.em_journal.specs.View.{after_backs}
 use Rattle.em_journal.proofs.BackLaws.{past_left}
 use Rattle.em_line.specs.Grammar.{parsed_line}
 use Rattle.em_text.specs.declared.writer.WriteFailed.{WriteFailed}
-use Rattle.em_output.specs.declared.outcome.Outcome.{Outcome}
-use Rattle.em_output.specs.declared.outcome.Outcome.TheVariants.{Done}
+use Rattle.em_script.specs.declared.outcome.Outcome.{Outcome}
+use Rattle.em_script.specs.declared.outcome.Outcome.TheVariants.{Done}
 use Rattle.em_script.specs.Session.{Session}
 use Rattle.em_script.specs.Reply.{Performs}
 use Rattle.em_named.specs.Numbers.{end_of, performed_by}

@@ -12,7 +12,7 @@ use Rattle.em_journal.specs.View.{View, after_back, after_backs}
 use Rattle.em_journal.proofs.BackLaws.{no_more_back, past_left}
 use Rattle.em_line.specs.Grammar.{parsed_line}
 use Rattle.em_text.specs.declared.writer.WriteFailed.{WriteFailed}
-use Rattle.em_output.specs.declared.outcome.Outcome.{Outcome}
+use Rattle.em_script.specs.declared.outcome.Outcome.{Outcome}
 use Rattle.em_script.specs.Session.{Session}
 use Rattle.em_script.specs.Reply.{Performs}
 use Rattle.em_script.specs.PlayedLine.{PlayedLine, after_played, after_all, IsAllowed, AreAllowed}

@@ -1,8 +1,8 @@
 -- What is seen of a session, by which it is known what a line did with events.
-use Rattle.std.specs.Prelude.{◌≡◌, Bool, true, false, length, Option}
+use Rattle.std.specs.Prelude.{◌≡◌, Bool, true, false, length, Option, Some, None}
 use Rattle.em_line.specs.ParsedLine.{ParsedLine}
-use Rattle.em_output.specs.declared.outcome.Outcome.{Outcome}
-use Rattle.em_output.specs.declared.outcome.Outcome.TheVariants.{Done, Refused}
+use Rattle.em_script.specs.declared.outcome.Outcome.{Outcome}
+use Rattle.em_script.specs.declared.outcome.Outcome.TheVariants.{Silent, Bad, Refused}
 use Rattle.em_script.specs.RefusedAt.{RefusedAt}
 use Rattle.em_script.specs.Reply.{after_line}
 use Rattle.em_script.specs.Session.{Session}
@@ -15,7 +15,9 @@ pub record IsSeen (seen : Seen) (memory : Option RefusedAt) (parsed : ParsedLine
   pub started : seen.started ≡ from.started
   pub called : seen.called ≡ (after_line memory parsed from).events
 
--- how a line comes out that says something
-abbrev pub outcome_where : Bool → Outcome
-outcome_where true = Done
-outcome_where false = Refused
+-- whether a line that says something was done or refused; none where it says nothing
+abbrev pub done_in : Outcome → Option Bool
+done_in Silent = None
+done_in Bad = None
+done_in (Refused why) = Some false
+done_in _ = Some true

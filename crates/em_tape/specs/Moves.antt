@@ -3,8 +3,8 @@ use Rattle.std.specs.Prelude.{◌≡◌, ◌⊎◌, ℕ, ◌+◌, ◌-◌, ◌<�
 use Rattle.std.specs.Prelude.{length, take, drop, slice_get, is_ok, Option, Some, None, Result, Ok}
 use Rattle.em_text.specs.declared.writer.WriteFailed.{WriteFailed}
 use Rattle.em_line.specs.Grammar.{parsed_line}
-use Rattle.em_output.specs.declared.outcome.Outcome.{Outcome}
-use Rattle.em_output.specs.declared.outcome.Outcome.TheVariants.{Done}
+use Rattle.em_script.specs.declared.outcome.Outcome.{Outcome}
+use Rattle.em_script.specs.declared.outcome.Outcome.TheVariants.{Done}
 use Rattle.em_script.specs.Session.{Session}
 use Rattle.em_script.specs.Reply.{Performs}
 use Rattle.em_named.specs.declared.did.Did.{Did}

@@ -1,12 +1,12 @@
 //! What a line did with events.
-ghost use Rattle.std.specs.Prelude.{◌≡◌, ℕ, ◌-◌, ◌<◌, ◌≤◌, Option, length, slice_get, vec_len, vec_capacity};
+ghost use Rattle.std.specs.Prelude.{◌≡◌, ℕ, ◌-◌, ◌<◌, ◌≤◌, Option, Some, length, slice_get, vec_len, vec_capacity};
 ghost use Rattle.em_line.specs.ParsedLine.{ParsedLine};
 ghost use Rattle.em_script.specs.RefusedAt.{RefusedAt};
 ghost use Rattle.em_script.specs.Reply.{line_outcome};
 ghost use Rattle.em_script.specs.Session.{Session};
 ghost use Rattle.em_named.specs.Numbers.{performed_by};
 ghost use Rattle.em_script.specs.Did.{did_of};
-ghost use Rattle.em_tape.specs.Did.{outcome_where, IsSeen};
+ghost use Rattle.em_tape.specs.Did.{done_in, IsSeen};
 ghost use Rattle.em_tape.specs.Kind.{IsKind};
 ghost use Rattle.em_tape.specs.Moves.{has_at, noted, same_did};
 
@@ -39,8 +39,8 @@ pub(crate) fn did_of(kind: Kind, outcome: Outcome, seen: Seen) -> Did
     match outcome {
         Outcome::Silent => Did::Performed(0),
         Outcome::Bad => Did::Performed(0),
-        Outcome::Refused => did_where(kind, false, seen),
-        Outcome::Done => did_where(kind, true, seen),
+        Outcome::Refused(_) => did_where(kind, false, seen),
+        Outcome::Done | Outcome::Answered(_) => did_where(kind, true, seen),
     }
 }
 
@@ -48,7 +48,7 @@ pub(crate) fn did_of(kind: Kind, outcome: Outcome, seen: Seen) -> Did
 fn did_where(kind: Kind, done: bool, seen: Seen) -> Did
     requires { seen.called ≤ 0x2_0000_0000 }
     ensures is { (memory : Option RefusedAt) (parsed : ParsedLine) (before : Session) → IsKind kind parsed
-        → outcome_where done ≡ line_outcome memory parsed before → IsSeen seen memory parsed before
+        → done_in (line_outcome memory parsed before) ≡ Some done → IsSeen seen memory parsed before
         → result ≡ did_of memory parsed before }
     ensures few { performed_by result ≤ 0x2_0000_0000 }
 {

@@ -1,10 +1,11 @@
 //! What is known of lines, so that they can be done again by themselves, or taken back.
-ghost use Rattle.std.specs.Prelude.{◌≡◌, ◌<◌, ◌≤◌, ◌-◌, ◌∷◌, ◌++◌, [], Some, Option, IfSome, length, take, drop};
+ghost use Rattle.std.specs.Prelude.{◌≡◌, ◌<◌, ◌≤◌, ◌-◌, ◌∷◌, ◌++◌, [], true, false, Some, Option, IfSome, length, take, drop};
 ghost use Rattle.std.specs.Prelude.{vec_len, vec_capacity};
 ghost use Rattle.em_line.specs.ParsedLine.{ParsedLine};
 ghost use Rattle.em_script.specs.RefusedAt.{RefusedAt};
 ghost use Rattle.em_script.specs.Reply.{after_line, line_outcome};
 ghost use Rattle.em_script.specs.Session.{Session};
+ghost use Rattle.em_tape.specs.Did.{done_in};
 ghost use Rattle.em_tape.specs.Kind.{IsKind};
 ghost use Rattle.em_tape.specs.Known.{Does, events_in};
 
@@ -34,15 +35,15 @@ pub(crate) fn known_of(kind: Kind, outcome: Outcome, seen: Seen) -> Known
     match outcome {
         Outcome::Silent => Known::Nothing,
         Outcome::Bad => Known::Nothing,
-        Outcome::Refused => refused(kind),
-        Outcome::Done => done(kind, seen),
+        Outcome::Refused(_) => refused(kind),
+        Outcome::Done | Outcome::Answered(_) => done(kind, seen),
     }
 }
 
 /// What a line did that was refused.
 fn refused(kind: Kind) -> Known
     ensures { (memory : Option RefusedAt) (parsed : ParsedLine) (before : Session) → IsKind kind parsed
-        → Outcome.Refused ≡ line_outcome memory parsed before
+        → done_in (line_outcome memory parsed before) ≡ Some false
         → Does result parsed before (after_line memory parsed before) }
 {
     match kind {
@@ -59,7 +60,7 @@ fn refused(kind: Kind) -> Known
 /// What a line did that was done.
 fn done(kind: Kind, seen: Seen) -> Known
     ensures { (memory : Option RefusedAt) (parsed : ParsedLine) (before : Session) → IsKind kind parsed
-        → Outcome.Done ≡ line_outcome memory parsed before → seen.before ≡ length before.machine.past
+        → done_in (line_outcome memory parsed before) ≡ Some true → seen.before ≡ length before.machine.past
         → seen.before ≡ length before.machine.costs
         → seen.after ≡ length (after_line memory parsed before).machine.past
         → Does result parsed before (after_line memory parsed before) }

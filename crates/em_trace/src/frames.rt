@@ -94,7 +94,7 @@ impl<'a> Frames<'a> {
         self.passed = self.passed.saturating_add(1);
         let len = len_of(&arrival.packet);
         write_said(out, &arrival)?;
-        write_line(out, &arrival.packet, len)?;
+        write_line(out, &arrival, len)?;
         for step in 0..len.div_ceil(self.buffer_len()) {
             write_text(out, b"rx\n")?;
         }
@@ -118,19 +118,21 @@ impl<'a> Frames<'a> {
     }
 }
 
-/// The frames of a capture, each of which can arrive.
-pub fn packets_of<'a>(alloc: Global, octets: &'a [u8]) -> Result<Vec<Packet<'a>>> {
+/// The frames of the capture of this name, each of which can arrive.
+pub fn packets_of<'a>(alloc: Global, name: &str, octets: &'a [u8]) -> Result<Vec<Packet<'a>>> {
     let mut packets = Vec::new(alloc);
     for given in Capture::new(alloc, octets) {
         match given {
             Ok(packet) => {
                 let len = len_of(&packet);
                 if len > MOST_FRAME {
-                    bail!("the capture: a frame of {len} octets cannot arrive");
+                    bail!(
+                        "{name}: a frame of {len} octets cannot arrive: it has at most {MOST_FRAME}"
+                    );
                 }
                 packets.push(packet)?;
             }
-            Err(error) => bail!("the capture: {error}"),
+            Err(error) => bail!("{name}: {error}"),
         }
     }
     Ok(packets)
@@ -141,13 +143,18 @@ fn len_of(packet: &Packet<'_>) -> u32 {
     packet.original.max(LEAST_FRAME)
 }
 
-/// Writes the line that brings a frame: its octets, and where they are fewer than those of the frame, its length.
-fn write_line<W: Write>(out: &mut W, packet: &Packet<'_>, len: u32) -> Result<()> {
+/// Writes the line that brings a frame: its octets, where they are fewer than those of the frame its length, and behind
+/// that its moment in the log's clock, if it has one, as behind the line of an access.
+fn write_line<W: Write>(out: &mut W, arrival: &Arrival<'_>, len: u32) -> Result<()> {
+    let packet = &arrival.packet;
     if write_arrival(out, packet).is_err() {
         bail!("the script cannot be written");
     }
     if !is_unpadded(packet) && packet.octets.len() < len as usize {
         write!(out, " {len}")?;
+    }
+    if let Why::Time(moment) | Why::Later(moment) = arrival.why {
+        write!(out, " # {moment}")?;
     }
     write_text(out, b"\n")
 }

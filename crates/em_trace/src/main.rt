@@ -11,6 +11,7 @@ mod arriving;
 mod clock;
 mod counts;
 mod done;
+mod faults;
 mod frames;
 mod lines;
 mod missing;
@@ -24,6 +25,7 @@ mod words;
 
 use crate::arriving::{Arrivals, Seen, arrivals_in};
 use crate::done::Done;
+use crate::faults::{is_gzip, open_fault, packed, read_fault};
 use crate::frames::{Frames, packets_of};
 use crate::survey::Survey;
 use crate::translating::{Wanted, translate};
@@ -48,6 +50,11 @@ const REFUSED: u8 = 2;
 
 /// The status of a run that failed.
 const FAILED: u8 = 3;
+
+/// What the files are that are read.
+const LOG: &str = "log";
+
+const CAPTURE: &str = "capture";
 
 /// How many octets are read or written at once: each may be a call of the system.
 const BUFFER: usize = 65_536;
@@ -102,7 +109,10 @@ fn with_matches<R: Files + Input + Print + Eprint + AllocGlobal>(
         let reader = BufReader::with_capacity(rt.alloc(), BUFFER, rt.reader())?;
         with_reader(rt, &wanted, matches, reader)
     } else {
-        let file = File::open(rt, log).context("the log cannot be opened")?;
+        let file = match File::open(rt, log) {
+            Ok(file) => file,
+            Err(error) => return Err(open_fault(log, LOG, &error)),
+        };
         let reader = BufReader::with_capacity(rt.alloc(), BUFFER, file)?;
         with_reader(rt, &wanted, matches, reader)
     }
@@ -121,9 +131,12 @@ fn with_reader<R: Files + Print + Eprint + AllocGlobal, B: BufRead + Drop>(
     matches: &ArgMatches<'_>,
     reader: B,
 ) -> Result<u8> {
+    let log = matches.get_str("log").unwrap_or("-");
     let mut lines = reader;
-    if is_gzip(lines.fill_buf().context("the log cannot be read")?) {
-        bail!("the log is compressed: unpack it first");
+    match lines.fill_buf() {
+        Ok(octets) if is_gzip(octets) => return Err(packed(log)),
+        Ok(_) => {}
+        Err(error) => return Err(read_fault(log, LOG, &error)),
     }
     match matches.get_str("frames") {
         Some(name) => with_capture(rt, wanted, name, &mut lines),
@@ -142,13 +155,17 @@ fn with_capture<R: Files + Print + Eprint + AllocGlobal, B: BufRead>(
     reader: &mut B,
 ) -> Result<u8> {
     let mut octets = Vec::new(rt.alloc());
-    let mut file = File::open(rt, name).context("the capture cannot be opened")?;
-    file.read_to_end(&mut octets)
-        .context("the capture cannot be read")?;
-    if is_gzip(octets.as_slice()) {
-        bail!("the capture is compressed: unpack it first");
+    let mut file = match File::open(rt, name) {
+        Ok(file) => file,
+        Err(error) => return Err(open_fault(name, CAPTURE, &error)),
+    };
+    if let Err(error) = file.read_to_end(&mut octets) {
+        return Err(read_fault(name, CAPTURE, &error));
     }
-    let packets = packets_of(rt.alloc(), octets.as_slice())?;
+    if is_gzip(octets.as_slice()) {
+        return Err(packed(name));
+    }
+    let packets = packets_of(rt.alloc(), name, octets.as_slice())?;
     let mut log = Vec::new(rt.alloc());
     reader
         .read_to_end(&mut log)
@@ -164,11 +181,6 @@ fn with_capture<R: Files + Print + Eprint + AllocGlobal, B: BufRead>(
     )?;
     let mut lines = log.as_slice();
     written(rt, wanted, Frames::new(arrivals), Some(seen), &mut lines)
-}
-
-/// Whether a file that begins so is compressed by gzip.
-fn is_gzip(octets: &[u8]) -> bool {
-    matches!(octets, [0x1F, 0x8B, ..])
 }
 
 /// Writes the script, says what it does not do, and gives the status.

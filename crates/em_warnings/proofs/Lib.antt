@@ -1,1 +1,2 @@
 mod FindLemmas
+mod WrittenLaws

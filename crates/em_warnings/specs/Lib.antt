@@ -1,4 +1,3 @@
-pub mod Names
 pub mod Flaw
 pub mod Written
 pub mod Descriptors

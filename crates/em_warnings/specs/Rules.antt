@@ -36,14 +36,7 @@ use Rattle.em_regs.specs.Ring.{descriptor_at}
 use Rattle.em_warnings.specs.declared.flaw.Flaw.{Flaw}
 use Rattle.em_warnings.specs.declared.flaw.Flaw.TheVariants as flaw
 use Rattle.em_warnings.specs.declared.warning.Warning.{Warning}
-use Rattle.em_warnings.specs.declared.warning.Warning.TheVariants.{
-  BitsDropped,
-  TailPastRing,
-  EnabledBeforeRing,
-  DescriptorUnwritten,
-  StatusLeft,
-  InterruptsBeforeRings,
-}
+use Rattle.em_warnings.specs.declared.warning.Warning.TheVariants as warning
 use Rattle.em_warnings.specs.Descriptors.{first_flawed}
 use Rattle.em_warnings.specs.Rings.{length_of, ring_of_control, ring_of_tail}
 
@@ -58,14 +51,14 @@ only_stores _ = false
 abbrev pub bits_dropped : Reg → ℕ → Option Warning
 bits_dropped reg v =
     let kept = bit_and v (mask_of reg) in
-    if only_stores (row_of reg).kind && not (kept == v) then Some (BitsDropped reg kept v) else None
+    if only_stores (row_of reg).kind && not (kept == v) then Some (warning.BitsDropped reg kept v) else None
 
 -- ---- tail-past-ring (manual, chapters on the descriptor queues: the tail is an index of the ring)
 
 -- a ring of some descriptors, whose tail is none of their indices
 abbrev pub past_ring : Reg → SidedRing → Option Warning
 past_ring tail r =
-    if nat_lt 0 r.setup.count && nat_le r.setup.count r.setup.tail then Some (TailPastRing tail r.setup.tail r.setup.count) else None
+    if nat_lt 0 r.setup.count && nat_le r.setup.count r.setup.tail then Some (warning.TailPastRing tail r.setup.tail r.setup.count) else None
 
 abbrev pub tail_past_ring : State → Reg → Option Warning
 tail_past_ring s tail = option_and_then (past_ring tail) (ring_of_tail s.registers tail)
@@ -75,7 +68,7 @@ tail_past_ring s tail = option_and_then (past_ring tail) (ring_of_tail s.registe
 -- EN is set, and the ring has no descriptor; its base may be 0, since a ring can lie there
 abbrev pub without_ring : Reg → SidedRing → Option Warning
 without_ring control r =
-    if r.setup.enabled && r.setup.count == 0 then Some (EnabledBeforeRing control (length_of r.side)) else None
+    if r.setup.enabled && r.setup.count == 0 then Some (warning.EnabledBeforeRing control (length_of r.side)) else None
 
 abbrev pub enabled_before_ring : State → Reg → Option Warning
 enabled_before_ring s control = option_and_then (without_ring control) (ring_of_control s.registers control)
@@ -84,7 +77,7 @@ enabled_before_ring s control = option_and_then (without_ring control) (ring_of_
 
 abbrev pub given_unwritten : View → Reg → SidedRing → Option Warning
 given_unwritten v tail r =
-    option_map (λ i. DescriptorUnwritten tail i (descriptor_at r.setup i)) (first_flawed r.setup v flaw.Unwritten)
+    option_map (λ i. warning.DescriptorUnwritten tail i (descriptor_at r.setup i)) (first_flawed r.setup v flaw.Unwritten)
 
 abbrev pub descriptor_unwritten : View → Reg → Option Warning
 descriptor_unwritten v tail = option_and_then (given_unwritten v tail) (ring_of_tail v.present.registers tail)
@@ -99,7 +92,7 @@ left_flaw Transmit = flaw.SentBefore
 
 abbrev pub given_with_status : View → Reg → SidedRing → Option Warning
 given_with_status v tail r =
-    option_map (λ i. StatusLeft tail i (descriptor_at r.setup i)) (first_flawed r.setup v (left_flaw r.side))
+    option_map (λ i. warning.StatusLeft tail i (descriptor_at r.setup i)) (first_flawed r.setup v (left_flaw r.side))
 
 abbrev pub status_left : View → Reg → Option Warning
 status_left v tail = option_and_then (given_with_status v tail) (ring_of_tail v.present.registers tail)
@@ -116,7 +109,7 @@ tx_causes = 0x0000_8003
 
 -- of a ring of so many descriptors these causes are let through, and it has none
 abbrev pub early : ℕ → ℕ → Reg → Option Warning
-early count causes length = if count == 0 && nat_lt 0 causes then Some (InterruptsBeforeRings causes length) else None
+early count causes length = if count == 0 && nat_lt 0 causes then Some (warning.InterruptsBeforeRings causes length) else None
 
 -- by the mask, of the receive ring or else of the transmit ring
 abbrev pub early_by : State → ℕ → Option Warning

@@ -9,7 +9,6 @@ use Rattle.em_step.specs.declared.event.Answer.TheVariants as answer
 use Rattle.em_step.specs.declared.refusal.Refusal.{Refusal}
 use Rattle.em_line.specs.Grammar.{parsed_line}
 use Rattle.em_line.specs.ParsedLine.{access_in}
-use Rattle.em_output.specs.ReadBack.{told}
 use Rattle.em_expect.specs.Difference.{register_of}
 use Rattle.em_journal.specs.View.{View}
 use Rattle.em_warnings.specs.declared.warning.Warning.{Warning}
@@ -42,10 +41,10 @@ event_warnings v e (Ok answer.Done) = lines_of_write v (written_by e)
 event_warnings v e (Ok (answer.Value value)) = if value == 0 then lines_of_read v (register_of (Some e)) else []
 event_warnings v e _ = []
 
-abbrev pub told_warnings : View → Option Event → Option (Result Answer Refusal) → List ℕ
-told_warnings v (Some e) (Some outcome) = event_warnings v e outcome
-told_warnings v _ _ = []
+abbrev pub line_warnings : View → Option Event → Option (Result Answer Refusal) → List ℕ
+line_warnings v (Some e) (Some outcome) = event_warnings v e outcome
+line_warnings v _ _ = []
 
--- of a line with its answer
-abbrev pub warnings_text : View → List ℕ → List ℕ → List ℕ
-warnings_text v line answer = told_warnings v (access_in (parsed_line line)) (told answer)
+-- of a line whose event came to this
+abbrev pub warnings_text : View → List ℕ → Option (Result Answer Refusal) → List ℕ
+warnings_text v line came = line_warnings v (access_in (parsed_line line)) came

@@ -17,4 +17,4 @@ pub use lines::{write_event_warnings, write_warnings};
 pub use reads::read_again;
 pub use rules::warnings_of;
 pub use said::write_warning;
-pub use warning::{RULES, Warning};
+pub use warning::Warning;

@@ -11,24 +11,23 @@ use crate::write_line::written_by;
 use em_expect::register_of;
 use em_journal::Machine;
 use em_line::accessed;
-use em_output::told;
 use em_regs::Reg;
 use em_step::{Answer, Event, Refusal};
 use em_text::WriteFailed;
 use std::io::Write;
 
-/// Writes the warnings of a line, one in a line each, if it has any: only a line `w OFF VALUE` that was answered `ok`
-/// has some, and a line that read 0 from ICR one. The machine is as the line left it.
+/// Writes the warnings of a line whose event came to this, one in a line each, if it has any: only a line `w OFF VALUE`
+/// that was done has some, and a line that read 0 from ICR one. The machine is as the line left it.
 pub fn write_warnings<W: Write>(
     writer: &mut W,
     machine: &Machine,
     line: &[u8],
-    answer: &[u8],
+    came: Option<Result<Answer, Refusal>>,
 ) -> Result<(), WriteFailed>
     ensures writes { Writes (W.contents writer.old) (W.contents writer.new) result
-        (warnings_text machine.now line.now answer.now) }
+        (warnings_text machine.now line.now came) }
 {
-    match (accessed(line), told(answer)) {
+    match (accessed(line), came) {
         (Some(event), Some(outcome)) => write_event_warnings(writer, machine, event, outcome),
         _ => Ok(()),
     }

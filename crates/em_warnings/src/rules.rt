@@ -2,13 +2,12 @@
 ghost use Rattle.std.specs.Prelude.{◌≡◌};
 ghost use Rattle.em_step.specs.Access.{gives};
 ghost use Rattle.em_regs.specs.declared.reg.Reg.TheVariants as named;
-ghost use Rattle.em_warnings.specs.Rules.{bits_dropped, descriptor_unwritten, early, early_by, enabled_before_ring};
-ghost use Rattle.em_warnings.specs.Rules.{interrupts_before_rings, left_flaw, status_left, tail_past_ring, warnings_of};
+ghost use Rattle.em_warnings.specs.Rules as rules;
 
 use crate::descriptors::first_flawed;
 use crate::flaw::Flaw;
 use crate::rings::{length_of, ring_of_control, ring_of_tail};
-use crate::warning::{RULES, Warning};
+use crate::warning::Warning;
 use em_inspect::Side;
 use em_journal::Machine;
 use em_regs::{Kind, Reg};
@@ -21,8 +20,8 @@ const TX_CAUSES: u32 = 0x0000_8003;
 
 /// What each rule says of a write of a value to a register, in the order of the rules; none where it says nothing. The
 /// machine is as the write left it.
-pub fn warnings_of(machine: &Machine, reg: Reg, value: u32) -> [Option<Warning>; RULES]
-    ensures { result ≡ warnings_of machine.now reg value }
+pub fn warnings_of(machine: &Machine, reg: Reg, value: u32) -> [Option<Warning>; 6]
+    ensures { result ≡ rules.warnings_of machine.now reg value }
 {
     [
         bits_dropped(reg, value),
@@ -36,7 +35,7 @@ pub fn warnings_of(machine: &Machine, reg: Reg, value: u32) -> [Option<Warning>;
 
 /// The register keeps less than was written, and a write of it only stores.
 fn bits_dropped(reg: Reg, written: u32) -> Option<Warning>
-    ensures { result ≡ bits_dropped reg written }
+    ensures { result ≡ rules.bits_dropped reg written }
 {
     let row = reg.row();
     let kept = written & row.mask;
@@ -49,7 +48,7 @@ fn bits_dropped(reg: Reg, written: u32) -> Option<Warning>
 
 /// The register is a tail, and past its ring.
 fn tail_past_ring(machine: &Machine, tail: Reg) -> Option<Warning>
-    ensures { result ≡ tail_past_ring machine.now.present tail }
+    ensures { result ≡ rules.tail_past_ring machine.now.present tail }
 {
     let ring = ring_of_tail(machine, tail)?;
     if 0 < ring.setup.count && ring.setup.count <= ring.setup.tail {
@@ -65,7 +64,7 @@ fn tail_past_ring(machine: &Machine, tail: Reg) -> Option<Warning>
 
 /// The register enables a ring that has no descriptor.
 fn enabled_before_ring(machine: &Machine, control: Reg) -> Option<Warning>
-    ensures { result ≡ enabled_before_ring machine.now.present control }
+    ensures { result ≡ rules.enabled_before_ring machine.now.present control }
 {
     let ring = ring_of_control(machine, control)?;
     if ring.setup.enabled && ring.setup.count == 0 {
@@ -80,7 +79,7 @@ fn enabled_before_ring(machine: &Machine, control: Reg) -> Option<Warning>
 
 /// The register is a tail, and a descriptor before it is all zeros.
 fn descriptor_unwritten(machine: &Machine, tail: Reg) -> Option<Warning>
-    ensures { result ≡ descriptor_unwritten machine.now tail }
+    ensures { result ≡ rules.descriptor_unwritten machine.now tail }
 {
     let ring = ring_of_tail(machine, tail)?;
     let index = first_flawed(machine, &ring.setup, Flaw::Unwritten)?;
@@ -90,7 +89,7 @@ fn descriptor_unwritten(machine: &Machine, tail: Reg) -> Option<Warning>
 
 /// The register is a tail, and a descriptor before it has DD from the lap before.
 fn status_left(machine: &Machine, tail: Reg) -> Option<Warning>
-    ensures { result ≡ status_left machine.now tail }
+    ensures { result ≡ rules.status_left machine.now tail }
 {
     let ring = ring_of_tail(machine, tail)?;
     let index = first_flawed(machine, &ring.setup, left_flaw(ring.side))?;
@@ -100,7 +99,7 @@ fn status_left(machine: &Machine, tail: Reg) -> Option<Warning>
 
 /// What a descriptor has against it whose DD was left: a driver that sends can go by TDH, and then has written it anew.
 fn left_flaw(side: Side) -> Flaw
-    ensures { result ≡ left_flaw side }
+    ensures { result ≡ rules.left_flaw side }
 {
     match side {
         Side::Receive(_) => Flaw::StatusLeft,
@@ -110,7 +109,7 @@ fn left_flaw(side: Side) -> Flaw
 
 /// The register is IMS, and lets causes of a ring through that has no descriptor.
 fn interrupts_before_rings(machine: &Machine, reg: Reg) -> Option<Warning>
-    ensures { result ≡ interrupts_before_rings machine.now.present reg }
+    ensures { result ≡ rules.interrupts_before_rings machine.now.present reg }
 {
     match reg {
         Reg::Ims => early_by(machine, mask_of(machine)),
@@ -128,7 +127,7 @@ fn mask_of(machine: &Machine) -> u32
 
 /// By the mask, of the receive ring or else of the transmit ring.
 fn early_by(machine: &Machine, mask: u32) -> Option<Warning>
-    ensures { result ≡ early_by machine.now.present mask }
+    ensures { result ≡ rules.early_by machine.now.present mask }
 {
     let rx = machine.ring_rx();
     match early(rx.count, mask & RX_CAUSES, Reg::Rdlen) {
@@ -142,7 +141,7 @@ fn early_by(machine: &Machine, mask: u32) -> Option<Warning>
 
 /// Of a ring of so many descriptors these causes are let through, and it has none.
 fn early(count: u32, causes: u32, length: Reg) -> Option<Warning>
-    ensures { result ≡ early count causes length }
+    ensures { result ≡ rules.early count causes length }
 {
     if count == 0 && 0 < causes {
         Some(Warning::InterruptsBeforeRings { causes, length })

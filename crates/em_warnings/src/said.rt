@@ -1,13 +1,68 @@
 //! What is said of a warning.
+ghost use Rattle.std.specs.Prelude.{◌≡◌};
 ghost use Rattle.em_text.specs.Writer.{Writes};
-ghost use Rattle.em_warnings.specs.Said.{again_text, dropped_text, early_text, enabled_text, given_text, head_text};
-ghost use Rattle.em_warnings.specs.Said.{past_text, said, warning_text};
+ghost use Rattle.em_warnings.specs.Said.{head_text, name_of, said, warning_text};
 
 use crate::warning::Warning;
 use em_pieces::{Piece, write_text};
-use em_regs::Reg;
 use em_text::{WriteFailed, write_whole};
 use std::io::Write;
+
+/// The table of warnings: each with the name of its rule, and then piece by piece what the rule says, with its numbers, and
+/// what to do. What is made of its rows is a macro of this file, which takes them with its arguments.
+macro_rules! table {
+    ($made:ident $($argument:expr),+) => {
+        $made! { $($argument),+;
+            BitsDropped { reg, kept, written }, "bits-dropped",
+                Name(reg) Text(b" keeps ") Value(kept) Text(b" of ") Value(written)
+                Text(b", its bits are ") Value(reg.row().mask);
+            TailPastRing { tail, index, count }, "tail-past-ring",
+                Name(tail) Text(b" ") Number(u64::from(index)) Text(b" is past the ring of ") Number(u64::from(count))
+                Text(b", write an index below that");
+            EnabledBeforeRing { control, length }, "enabled-before-ring",
+                Name(control) Text(b".EN is set while ") Name(length) Text(b" is 0, set up the ring first");
+            DescriptorUnwritten { tail, index, at }, "descriptor-unwritten",
+                Name(tail) Text(b" gives the adapter descriptor ") Number(u64::from(index)) Text(b" at ") Address(at)
+                Text(b", all zeros, write it first");
+            StatusLeft { tail, index, at }, "status-left",
+                Name(tail) Text(b" gives the adapter descriptor ") Number(u64::from(index)) Text(b" at ") Address(at)
+                Text(b" with DD set, clear its status first");
+            InterruptsBeforeRings { causes, length }, "interrupts-before-rings",
+                Text(b"IMS lets ") Value(causes) Text(b" through while ") Name(length)
+                Text(b" is 0, set up the ring first");
+            ReadAgain { causes }, "read-again",
+                Text(b"ICR is 0, an earlier event cleared ") Value(causes)
+                Text(b" there and the frame still waits, read it once and keep it");
+        }
+    };
+}
+
+/// The name of a warning's rule.
+macro_rules! name {
+    ($of:expr; $($warning:ident { $($number:ident),* }, $name:literal, $($piece:ident($value:expr))*;)*) => {
+        match $of {
+            $(Warning::$warning { .. } => $name,)*
+        }
+    };
+}
+
+/// Writes what its rule says.
+macro_rules! told {
+    ($to:expr, $of:expr; $($warning:ident { $($number:ident),* }, $name:literal, $($piece:ident($value:expr))*;)*) => {
+        match $of {
+            $(Warning::$warning { $($number),* } => write_text($to, &[$(Piece::$piece($value)),*]),)*
+        }
+    };
+}
+
+impl Warning {
+    /// The name of the rule, as it is printed.
+    pub fn name(self) -> &'static str
+        ensures { result.now ≡ name_of self }
+    {
+        table!(name self)
+    }
+}
 
 /// Writes a warning as a line: `warning tail-past-ring: RDT 8 is past the ring of 8, write an index below that`.
 pub fn write_warning<W: Write>(writer: &mut W, warning: Warning) -> Result<(), WriteFailed>
@@ -36,138 +91,5 @@ fn write_head<W: Write>(writer: &mut W, warning: Warning) -> Result<(), WriteFai
 fn write_said<W: Write>(writer: &mut W, warning: Warning) -> Result<(), WriteFailed>
     ensures writes { Writes (W.contents writer.old) (W.contents writer.new) result (said warning) }
 {
-    match warning {
-        Warning::BitsDropped { reg, kept, written } => write_dropped(writer, reg, kept, written),
-        Warning::TailPastRing { tail, index, count } => write_past(
-            writer,
-            tail,
-            u64::from(index),
-            u64::from(count),
-        ),
-        Warning::EnabledBeforeRing { control, length } => write_enabled(writer, control, length),
-        Warning::DescriptorUnwritten { tail, index, at } => {
-            write_given(writer, tail, index, at, b", all zeros, write it first")
-        }
-        Warning::StatusLeft { tail, index, at } => {
-            write_given(
-                writer,
-                tail,
-                index,
-                at,
-                b" with DD set, clear its status first",
-            )
-        }
-        Warning::InterruptsBeforeRings { causes, length } => write_early(writer, causes, length),
-        Warning::ReadAgain { causes } => write_again(writer, causes),
-    }
-}
-
-fn write_dropped<W: Write>(
-    writer: &mut W,
-    reg: Reg,
-    kept: u32,
-    written: u32,
-) -> Result<(), WriteFailed>
-    ensures writes { Writes (W.contents writer.old) (W.contents writer.new) result (dropped_text reg kept written) }
-{
-    let mask = reg.row().mask;
-    write_text(
-        writer,
-        &[
-            Piece::Name(reg),
-            Piece::Text(b" keeps "),
-            Piece::Value(kept),
-            Piece::Text(b" of "),
-            Piece::Value(written),
-            Piece::Text(b", its bits are "),
-            Piece::Value(mask),
-        ],
-    )
-}
-
-fn write_past<W: Write>(
-    writer: &mut W,
-    tail: Reg,
-    index: u64,
-    count: u64,
-) -> Result<(), WriteFailed>
-    ensures writes { Writes (W.contents writer.old) (W.contents writer.new) result (past_text tail index count) }
-{
-    write_text(
-        writer,
-        &[
-            Piece::Name(tail),
-            Piece::Text(b" "),
-            Piece::Number(index),
-            Piece::Text(b" is past the ring of "),
-            Piece::Number(count),
-            Piece::Text(b", write an index below that"),
-        ],
-    )
-}
-
-fn write_enabled<W: Write>(writer: &mut W, control: Reg, length: Reg) -> Result<(), WriteFailed>
-    ensures writes { Writes (W.contents writer.old) (W.contents writer.new) result (enabled_text control length) }
-{
-    write_text(
-        writer,
-        &[
-            Piece::Name(control),
-            Piece::Text(b".EN is set while "),
-            Piece::Name(length),
-            Piece::Text(b" is 0, set up the ring first"),
-        ],
-    )
-}
-
-/// Writes which descriptor is given to the adapter, and a text behind it.
-fn write_given<W: Write>(
-    writer: &mut W,
-    tail: Reg,
-    index: u32,
-    at: u128,
-    text: &[u8],
-) -> Result<(), WriteFailed>
-    ensures writes { Writes (W.contents writer.old) (W.contents writer.new) result
-        (given_text tail index at text.now) }
-{
-    write_text(
-        writer,
-        &[
-            Piece::Name(tail),
-            Piece::Text(b" gives the adapter descriptor "),
-            Piece::Number(u64::from(index)),
-            Piece::Text(b" at "),
-            Piece::Address(at),
-            Piece::Text(text),
-        ],
-    )
-}
-
-fn write_early<W: Write>(writer: &mut W, causes: u32, length: Reg) -> Result<(), WriteFailed>
-    ensures writes { Writes (W.contents writer.old) (W.contents writer.new) result (early_text causes length) }
-{
-    write_text(
-        writer,
-        &[
-            Piece::Text(b"IMS lets "),
-            Piece::Value(causes),
-            Piece::Text(b" through while "),
-            Piece::Name(length),
-            Piece::Text(b" is 0, set up the ring first"),
-        ],
-    )
-}
-
-fn write_again<W: Write>(writer: &mut W, causes: u32) -> Result<(), WriteFailed>
-    ensures writes { Writes (W.contents writer.old) (W.contents writer.new) result (again_text causes) }
-{
-    write_text(
-        writer,
-        &[
-            Piece::Text(b"ICR is 0, an earlier event cleared "),
-            Piece::Value(causes),
-            Piece::Text(b" there and the frame still waits, read it once and keep it"),
-        ],
-    )
+    table!(told writer, warning)
 }

@@ -1,11 +1,6 @@
 //! The warnings, each by the rule that gives it.
-ghost use Rattle.std.specs.Prelude.{◌≡◌};
-ghost use Rattle.em_warnings.specs.Names.{name_of};
 
 use em_regs::Reg;
-
-/// How many rules a write is asked.
-pub const RULES: usize = 6;
 
 /// What a driver seems to get wrong by an access of a register, with the numbers of the rule that says so.
 #[derive(Clone, Copy, Debug, PartialEq, Eq)]
@@ -25,21 +20,4 @@ pub enum Warning {
     InterruptsBeforeRings { causes: u32, length: Reg },
     /// `read-again`: a read of ICR gave 0, since an earlier event cleared these causes there, and the frame still waits.
     ReadAgain { causes: u32 },
-}
-
-impl Warning {
-    /// The name of the rule, as it is printed.
-    pub fn name(self) -> &'static str
-        ensures { result.now ≡ name_of self }
-    {
-        match self {
-            Warning::BitsDropped { .. } => "bits-dropped",
-            Warning::TailPastRing { .. } => "tail-past-ring",
-            Warning::EnabledBeforeRing { .. } => "enabled-before-ring",
-            Warning::DescriptorUnwritten { .. } => "descriptor-unwritten",
-            Warning::StatusLeft { .. } => "status-left",
-            Warning::InterruptsBeforeRings { .. } => "interrupts-before-rings",
-            Warning::ReadAgain { .. } => "read-again",
-        }
-    }
 }

@@ -15,11 +15,6 @@ pub(crate) fn written_by(event: Event<'_>) -> Option<(Reg, u32)>
             Some(reg) => Some((reg, value)),
             None => None,
         },
-        Event::Read(_)
-        | Event::Poke(..)
-        | Event::Arrive(_)
-        | Event::Link(_)
-        | Event::RxStep
-        | Event::TxStep => None,
+        _ => None,
     }
 }

@@ -1,66 +1,42 @@
 //! Whether the driver wrote a descriptor since the adapter set DD in it, by what the journal holds.
-ghost use Rattle.std.specs.Prelude.{◌≡◌};
-ghost use Rattle.em_warnings.specs.Written.{changed_back, is_other, is_rewritten, is_status, octets_back, octets_of};
+ghost use Rattle.std.specs.Prelude.{◌≡◌, Some};
+ghost use Rattle.em_warnings.specs.Written.{Watches, is_rewritten, status_of};
 
 use crate::flaw::STATUS;
 use em_journal::Machine;
 use em_regs::DESCRIPTOR_OCTETS;
-use em_watch::{MemoryRange, Sight, Watch, seen_back};
+use em_watch::{MemoryRange, Sight, Watch, change_within, seen};
 
-/// Behind the last of the steps back that are looked at.
-const TOO_FAR: usize = 65;
+/// How many of the newest events are looked at.
+const LAST_EVENTS: usize = 64;
 
 /// Whether the newest change of the descriptor at an address, in the last 64 events, left its status as it is.
 pub(crate) fn is_rewritten(machine: &Machine, at: u64) -> bool
     ensures { result ≡ is_rewritten machine.now at }
 {
-    match changed_back(machine, at) {
-        Some(back) => is_status(machine, at, back),
+    let watch = watched(at);
+    match change_within(machine, watch, LAST_EVENTS) {
+        Some(change) => status_of(change.before) == status_of(seen(machine, watch)),
         None => false,
     }
 }
 
-/// How many steps back lead to where it was another.
-fn changed_back(machine: &Machine, at: u64) -> Option<usize>
-    ensures { result ≡ changed_back machine.now at }
-{
-    (1..TOO_FAR).find(|back| is_other(machine, at, *back))
-}
-
-/// Whether it was another so many steps back.
-fn is_other(machine: &Machine, at: u64, back: usize) -> bool
-    ensures { result ≡ is_other machine.now at back }
-{
-    let then = octets_back(machine, at, back);
-    let now = octets_back(machine, at, 0);
-    then.as_slice() != now.as_slice()
-}
-
-/// Whether its status was the same so many steps back.
-fn is_status(machine: &Machine, at: u64, back: usize) -> bool
-    ensures { result ≡ is_status machine.now at back }
-{
-    let then = octets_back(machine, at, back);
-    let now = octets_back(machine, at, 0);
-    then[STATUS] == now[STATUS]
-}
-
-/// The descriptor so many steps back; where it leaves memory, or steps back do not lead so far, zeros.
-fn octets_back(machine: &Machine, at: u64, back: usize) -> [u8; DESCRIPTOR_OCTETS]
-    ensures { result ≡ octets_back machine.now at back }
+/// What watches the descriptor at an address.
+fn watched(at: u64) -> Watch
+    ensures { Watches at result }
 {
     match MemoryRange::new(at, DESCRIPTOR_OCTETS) {
-        Some(range) => octets_of(seen_back(machine, Watch::Octets(range), back)),
+        Some(range) => Watch::Octets(range),
         None => unreachable!(),
     }
 }
 
-/// The octets that were seen, or zeros.
-fn octets_of(sight: Option<Sight>) -> [u8; DESCRIPTOR_OCTETS]
-    ensures { result ≡ octets_of sight }
+/// The status in what is seen of a descriptor; 0 where it leaves memory.
+fn status_of(seen: Sight) -> u8
+    ensures { result ≡ status_of (Some seen) }
 {
-    match sight {
-        Some(Sight::Octets(octets)) => octets,
-        _ => [0; DESCRIPTOR_OCTETS],
+    match seen {
+        Sight::Octets(octets) => octets[STATUS],
+        _ => 0,
     }
 }

@@ -1,6 +1,6 @@
 -- What an event did, from what was traced before it and after it.
 use Rattle.std.proofs.Common.{◌≡◌, ℕ, ◌+◌, ◌-◌, ◌%◌, ◌<◌, ◌⊎◌, inl, inr, Some, None, sym, ap, ◌∙◌, subst, arith}
-use Rattle.std.specs.Prelude.{◌≢◌, Option, IfSome, IfNone}
+use Rattle.std.specs.Prelude.{◌≢◌, Option, IfNone}
 use Rattle.std.proofs.lemmas.Bool.{cases_lt}
 use Rattle.std.proofs.lemmas.Bool.Decides.{nat_tests}
 use Rattle.em_regs.specs.declared.reg.Reg.{Reg}
@@ -8,8 +8,7 @@ use Rattle.em_regs.specs.Table.{IsReg, NoneFrom, offset_of, reg_at}
 use Rattle.em_regs.proofs.TableLaws.{reg_at-offset_of, whole_word}
 use Rattle.em_journal.specs.View.{View}
 use Rattle.em_watch.specs.Difference.{IsDifference, LeavesAsItIs, LeavesOffset, LeavesRegisters}
-use Rattle.em_watch.specs.Traced.{IsTraced, LeadsBack, traced, shown}
-use Rattle.em_watch.specs.declared.registers.RegisterChange.{RegisterChange}
+use Rattle.em_watch.specs.Traced.{IsTraced, shown}
 use Rattle.em_watch.specs.declared.watch.Watch.{Watch}
 use Rattle.em_watch.specs.declared.watch.Watch.TheVariants.{Register}
 use Rattle.em_watch.specs.declared.watch.Sight.{Sight}

@@ -6,8 +6,8 @@ use Rattle.std.proofs.lemmas.Bool.Decides.{nat_tests}
 use Rattle.std.proofs.lemmas.List.{length-map}
 use Rattle.std.proofs.lemmas.Option.{slice_get_within, slice_get_past}
 use Rattle.em_journal.specs.View.{View, states}
-use Rattle.em_watch.specs.Change.{SeesSame, IsNextChange, NeverDiffers}
-use Rattle.em_watch.specs.Traced.{IsTraced, traced, shown, LeadsBack, ChangesNext, StaysAsItIs}
+use Rattle.em_watch.specs.Change.{SeesSame, IsNextChange}
+use Rattle.em_watch.specs.Traced.{IsTraced, traced, shown, LeadsBack, ChangesNext}
 use Rattle.em_watch.specs.Watching.{sight, sights}
 use Rattle.em_watch.specs.declared.change.Change.{Change}
 use Rattle.em_watch.specs.declared.watch.Watch.{Watch}
@@ -47,11 +47,6 @@ changed w v from k t u seen l is since at same other = record {
   since = λ i n m. since i n (omega arith);
 }
 
--- the last step showed the same
-pub never : (w : Watch) (v : View) (from k : ℕ) → length v.past ≤ k
-    → ((i : ℕ) → from ≤ i → i ≤ k → SeesSame w v i from) → NeverDiffers w v from
-never w v from k all since i l m = since i l (omega arith)
-
 -- ---- of whatever is watched
 
 pub same_more : (v : View) (from k : ℕ) (t u : Traced) → LeadsBack v from t (k + 1) u → shown u ≡ shown t
@@ -66,11 +61,6 @@ pub changes_next : (v : View) (from k : ℕ) (t u : Traced) → from ≤ k → L
     → ChangesNext v from t (k + 1) u
 changes_next v from k t u l back other since w is =
     changed w v from k t u (shown u) l is (since w is) (back w is) refl other
-
-pub stays : (v : View) (from k : ℕ) (t : Traced) → length v.past ≤ k
-    → ((w : Watch) → IsTraced w v from t → (i : ℕ) → from ≤ i → i ≤ k → SeesSame w v i from)
-    → StaysAsItIs v from t
-stays v from k t all since w is = never w v from k all (since w is)
 
 -- each change leaves fewer
 pub fewer_left : (w : Watch) (v : View) (from : ℕ) (change : Change) → IsNextChange w v from change

@@ -17,6 +17,10 @@ pub record IsNextChange (w : Watch) (v : View) (from : ℕ) (change : Change) : 
   pub another : slice_get (sights w v) from ≢ Some change.before
   pub since : (i : ℕ) → from ≤ i → i < change.back → SeesSame w v i from
 
+-- from so many steps back on, the same is seen to so many
+abbrev pub StaysTo : Watch → View → ℕ → ℕ → Type 0
+StaysTo w v from to = (i : ℕ) → from ≤ i → i ≤ to → SeesSame w v i from
+
 -- from so many steps back on, the same is seen as far as steps back lead
 abbrev pub NeverDiffers : Watch → View → ℕ → Type 0
-NeverDiffers w v from = (i : ℕ) → from ≤ i → i ≤ length v.past → SeesSame w v i from
+NeverDiffers w v from = StaysTo w v from (length v.past)

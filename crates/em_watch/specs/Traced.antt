@@ -11,7 +11,7 @@ use Rattle.em_step.specs.Cells.{Cells, shows}
 use Rattle.em_step.specs.Undo.{Undo, Fits, undo}
 use Rattle.em_journal.specs.View.{View, states}
 use Rattle.em_step.specs.Before.{PutsBackWindow}
-use Rattle.em_watch.specs.Change.{IsNextChange, NeverDiffers}
+use Rattle.em_watch.specs.Change.{IsNextChange, StaysTo}
 use Rattle.em_watch.specs.Watching.{is_asserted}
 use Rattle.em_watch.specs.declared.range.TheConstants.{MOST_WATCHED}
 use Rattle.em_watch.specs.declared.range.MemoryRange.{MemoryRange}
@@ -87,6 +87,6 @@ abbrev pub ChangesNext : View → ℕ → Traced → ℕ → Traced → Type 0
 ChangesNext v from t to u =
     (w : Watch) → IsTraced w v from t → IsNextChange w v from (record { back = to; before = shown u })
 
--- what is traced so many steps back is seen so as far as steps back lead
-abbrev pub StaysAsItIs : View → ℕ → Traced → Type 0
-StaysAsItIs v from t = (w : Watch) → IsTraced w v from t → NeverDiffers w v from
+-- what is traced so many steps back is seen so to so many
+abbrev pub StaysAsItIs : View → ℕ → ℕ → Traced → Type 0
+StaysAsItIs v from to t = (w : Watch) → IsTraced w v from t → StaysTo w v from to

@@ -17,5 +17,5 @@ pub use effect::{Effect, what};
 pub use octets::{MemoryChange, MemoryChanges};
 pub use range::{MOST_WATCHED, MemoryRange};
 pub use registers::{RegisterChange, RegisterChanges};
-pub use search::{ChangeIter, change_before, changes, last_change, seen, seen_back};
+pub use search::{ChangeIter, change_before, change_within, changes, last_change, seen, seen_back};
 pub use watch::{Sight, Watch};

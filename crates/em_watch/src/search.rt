@@ -1,6 +1,6 @@
 //! Which event changed what is watched.
-ghost use Rattle.std.specs.Prelude.{◌≡◌, ◌≢◌, true, false, ◌+◌, ◌<◌, ◌≤◌, IfSome, IfNone, length, slice_get};
-ghost use Rattle.em_watch.specs.Change.{IsNextChange, NeverDiffers};
+ghost use Rattle.std.specs.Prelude.{◌≡◌, ◌≢◌, true, false, ◌+◌, ◌<◌, ◌≤◌, IfSome, IfNone, length, min, slice_get};
+ghost use Rattle.em_watch.specs.Change.{IsNextChange, NeverDiffers, StaysTo};
 ghost use Rattle.em_watch.specs.Traced.{IsTraceable, LeadsBack, ChangesNext, StaysAsItIs};
 ghost use Rattle.em_watch.specs.Watching.{sight, sights};
 
@@ -51,6 +51,21 @@ pub fn change_before(machine: &Machine, watch: Watch, back: usize) -> Option<Cha
     let mut search = changes(machine, watch);
     search.skip_to(back);
     search.next()
+}
+
+/// The newest change of a watched thing in the last `most` events; none where none of them shows another.
+pub fn change_within(machine: &Machine, watch: Watch, most: usize) -> Option<Change>
+    ensures change { IfSome result (IsNextChange watch machine.now 0) }
+    ensures within { IfSome result (λ change. change.back ≤ most) }
+    ensures none { IfNone result (StaysTo watch machine.now 0 (min most (length machine.now.past))) }
+{
+    let to = most.min(machine.can_go_back());
+    let now = Traced::of(machine, watch);
+    let (back, traced) = next_other(machine, 0, to, now)?;
+    Some(Change {
+        back,
+        before: traced.sight(),
+    })
 }
 
 /// All changes of a watched thing, the newest first.
@@ -114,7 +129,8 @@ impl<'a> Iterator for ChangeIter<'a> {
 
     /// The next older change.
     fn next(&mut self) -> Option<Change> {
-        let (back, traced) = next_other(self.machine, self.back, self.traced)?;
+        let to = self.machine.can_go_back();
+        let (back, traced) = next_other(self.machine, self.back, to, self.traced)?;
         self.traced = traced;
         self.back = back;
         Some(Change {
@@ -138,17 +154,19 @@ pub(crate) fn follow(machine: &Machine, from: usize, to: usize, traced: Traced) 
     before
 }
 
-/// Follows a watched thing from so many steps back to where it is seen as another: how many steps back that is, and
-/// the thing there.
-fn next_other(machine: &Machine, from: usize, traced: Traced) -> Option<(usize, Traced)>
-    requires { IsTraceable traced }
+/// Follows a watched thing from so many steps back to where it is seen as another, at most to so many: how many steps back
+/// that is, and the thing there.
+fn next_other(machine: &Machine, from: usize, to: usize, traced: Traced) -> Option<(usize, Traced)>
+    requires there { to ≤ length machine.now.past }
+    requires register { IsTraceable traced }
     ensures there { IfSome result (λ found. LeadsBack machine.now from traced found.0 found.1) }
     ensures change { IfSome result (λ found. ChangesNext machine.now from traced found.0 found.1) }
-    ensures none { IfNone result (StaysAsItIs machine.now from traced) }
+    ensures within { IfSome result (λ found. found.0 ≤ to) }
+    ensures none { IfNone result (StaysAsItIs machine.now from to traced) }
 {
     let now = traced.sight();
     let mut before = traced;
-    for k in from..machine.can_go_back() {
+    for k in from..to {
         before = step_back(machine, k, before);
         if differ(before.sight(), now) {
             return Some((k + 1, before));

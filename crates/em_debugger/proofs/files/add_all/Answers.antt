@@ -4,21 +4,22 @@ use Rattle.em_debugger.specs.Files.{played_in}
 use Rattle.em_tape.specs.Texts.{texts}
 use Rattle.em_text.specs.Lines.{lines_of}
 use Rattle.em_tape.specs.Tape.{Tape}
-use Rattle.em_debugger.proofs.FilesLaws.{AddedSo-all, AddedSo-expect, AddedSo-more, AddedSo-none}
+use Rattle.em_debugger.proofs.FilesLaws.{AddedSo-all, AddedSo-expect, AddedSo-more, AddedSo-none, AddedSo-times}
 use Rattle.em_debugger.proofs.files.add_all.Goals as goal
 
 pub loop-rest-init : goal.loop-rest-init
-loop-rest-init c = AddedSo-none c.args.tape.now (texts c.args.wanted.now.answers.items) c.args.text.now
+loop-rest-init c = AddedSo-none c.args.tape.now (texts c.args.wanted.now.answers.items) (texts c.args.times.now.answers.items)
+    c.args.text.now
 
 pub returns-clause-ok : goal.returns-clause-ok
 returns-clause-ok c =
     let none : length c.loop-rest.rest.now ≡ 0 = search rules in
-    AddedSo-all c.args.tape.now c.loop-rest.tape _ _ c.args.text.now c.loop-rest.rest.now c.loop-rest.invariant none
+    AddedSo-all c.args.tape.now c.loop-rest.tape _ _ _ _ c.args.text.now c.loop-rest.rest.now c.loop-rest.invariant none
 
 pub returns-clause-count : goal.returns-clause-count
 returns-clause-count c =
     let none : length c.loop-rest.rest.now ≡ 0 = search rules in
-    let all = AddedSo-all c.args.tape.now c.loop-rest.tape _ _ c.args.text.now c.loop-rest.rest.now c.loop-rest.invariant none
+    let all = AddedSo-all c.args.tape.now c.loop-rest.tape _ _ _ _ c.args.text.now c.loop-rest.rest.now c.loop-rest.invariant none
     in
     let some = length-map (lines_of c.args.text.now) played_in in
     let long : length c.loop-rest.tape.lines ≡ length c.args.tape.now.lines + length (map played_in (lines_of c.args.text.now)) =
@@ -28,10 +29,16 @@ returns-clause-count c =
 pub returns-clause-expect : goal.returns-clause-expect
 returns-clause-expect c =
     let none : length c.loop-rest.rest.now ≡ 0 = search rules in
-    AddedSo-expect c.args.tape.now c.loop-rest.tape _ _ c.args.text.now c.loop-rest.rest.now c.loop-rest.invariant none
+    AddedSo-expect c.args.tape.now c.loop-rest.tape _ _ _ _ c.args.text.now c.loop-rest.rest.now c.loop-rest.invariant none
+
+pub returns-clause-times : goal.returns-clause-times
+returns-clause-times c =
+    let none : length c.loop-rest.rest.now ≡ 0 = search rules in
+    AddedSo-times c.args.tape.now c.loop-rest.tape _ _ _ _ c.args.text.now c.loop-rest.rest.now c.loop-rest.invariant none
 
 pub loop-rest-preserved : goal.loop-rest-preserved
 loop-rest-preserved c =
-    AddedSo-more c.args.tape.now c.loop-rest.tape c.add_line.new.tape _ _ (texts c.add_line.new.wanted.answers.items)
-    c.args.text.now c.loop-rest.rest.now c.next_line.result.0.now c.next_line.result.1.now c.loop-rest.invariant
-    c.next_line.ensures.lines c.in_ok-add_line.ensures.ok c.in_ok-add_line.ensures.expect
+    AddedSo-more c.args.tape.now c.loop-rest.tape c.add_line.new.tape _ _ (texts c.add_line.new.wanted.answers.items) _ _
+    (texts c.add_line.new.times.answers.items) c.args.text.now c.loop-rest.rest.now c.next_line.result.0.now
+    c.next_line.result.1.now c.loop-rest.invariant c.next_line.ensures.lines c.in_ok-add_line.ensures.ok
+    c.in_ok-add_line.ensures.expect c.in_ok-add_line.ensures.timed

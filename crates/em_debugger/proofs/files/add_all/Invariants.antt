@@ -3,10 +3,11 @@ use Rattle.em_tape.specs.Texts.{texts}
 use Rattle.em_debugger.proofs.FilesLaws.{AddedSo}
 use Rattle.em_debugger.proofs.files.add_all.Given as goal
 
--- the lines of the text were added as far as the rest, with the answers that they expect
+-- the lines of the text were added as far as the rest, with the answers that they expect and their times
 abbrev pub invariant-loop-rest : goal.invariant-loop-rest
 invariant-loop-rest l =
-    AddedSo l.fn.tape l.tape (texts l.fn.wanted.answers.items) (texts l.wanted.answers.items) l.fn.text l.rest
+    AddedSo l.fn.tape l.tape (texts l.fn.wanted.answers.items) (texts l.wanted.answers.items)
+    (texts l.fn.times.answers.items) (texts l.times.answers.items) l.fn.text l.rest
 
 abbrev pub decreases-loop-rest : goal.decreases-loop-rest
 decreases-loop-rest l = length l.rest

@@ -8,4 +8,4 @@ use Rattle.em_frames.proofs.sent.write_sent.Given as goal
 abbrev pub invariant-loop-index : goal.invariant-loop-index
 invariant-loop-index g l =
     Appends (g.W.Write.contents l.fn.writer) (g.W.Write.contents l.writer)
-    (header_text ++ frames_text 0 (take l.index l.machine.present.wire))
+    (header_text ++ frames_text l.times (take l.index l.machine.present.wire))

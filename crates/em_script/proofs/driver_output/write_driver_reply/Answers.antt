@@ -1,6 +1,6 @@
 use Rattle.std.proofs.Common.{refl}
 use Rattle.em_script.specs.DriverAnswer.{plain, counts_text, driver_answer_outcome, driver_answer_text}
-use Rattle.em_output.proofs.PrintLemmas.{prints_part}
+use Rattle.em_script.proofs.PrintLemmas.{prints_part}
 use Rattle.em_script.proofs.driver_output.write_driver_reply.Goals as goal
 
 pub returns-in_err-write_plan : goal.returns-in_err-write_plan

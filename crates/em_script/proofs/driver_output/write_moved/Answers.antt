@@ -2,7 +2,7 @@ use Rattle.std.proofs.Common.{refl}
 use Rattle.em_turn.specs.Planned.{lists}
 use Rattle.em_script.specs.DriverAnswer.{result_outcome, result_text}
 use Rattle.em_output.specs.Wire.{frames_text}
-use Rattle.em_output.proofs.PrintLemmas.{prints_part}
+use Rattle.em_script.proofs.PrintLemmas.{prints_part}
 use Rattle.em_script.proofs.driver_output.write_moved.Goals as goal
 
 pub returns-in_err-write_packets : goal.returns-in_err-write_packets

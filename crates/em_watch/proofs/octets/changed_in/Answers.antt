@@ -1,4 +1,4 @@
-use Rattle.std.proofs.Common.{◌≡◌, ◌+◌, ◌-◌, ◌<◌, ◌≤◌, ℕ, arith, subst, sym}
+use Rattle.std.proofs.Common.{◌≡◌, ◌+◌, ◌-◌, ℕ, arith, subst, sym}
 use Rattle.em_watch.specs.MemoryChange.{ChangesOctet, LeavesOctets}
 use Rattle.em_watch.proofs.DifferenceLaws.{none_is}
 use Rattle.em_watch.proofs.OctetLaws.{back_left, changed_there, front_left, is_change}

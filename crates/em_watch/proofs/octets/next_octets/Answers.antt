@@ -1,5 +1,5 @@
-use Rattle.std.proofs.Common.{◌+◌, ◌≤◌, arith, refl, length}
-use Rattle.em_watch.proofs.OctetLaws.{leaves_both, leaves_rest}
+use Rattle.std.proofs.Common.{arith, refl}
+use Rattle.em_watch.proofs.OctetLaws.{leaves_both}
 use Rattle.em_watch.proofs.octets.next_octets.Goals as goal
 
 pub returns-in-Some-changed_in-clause-first : goal.returns-in-Some-changed_in-clause-first

@@ -1,4 +1,3 @@
-use Rattle.std.proofs.Common.{arith}
 use Rattle.em_watch.proofs.OctetLaws.{left_to, left_to_end, place_from}
 use Rattle.em_watch.proofs.octets.next_place.Goals as goal
 

@@ -1,6 +1,5 @@
-use Rattle.std.proofs.Common.{◌<◌, ◌≤◌, arith, inl, inr}
-use Rattle.std.proofs.lemmas.Bool.{cases_lt}
-use Rattle.em_watch.specs.MemoryChange.{LeavesOctets, LeavesRest}
+use Rattle.std.proofs.Common.{arith}
+use Rattle.em_watch.specs.MemoryChange.{LeavesRest}
 use Rattle.em_watch.proofs.DifferenceLaws.{none_is}
 use Rattle.em_watch.proofs.OctetLaws.{leaves_rest, past_the_end}
 use Rattle.em_watch.proofs.octets.next_window.Goals as goal

@@ -1,6 +1,6 @@
-use Rattle.std.proofs.Common.{◌≡◌, ◌+◌, ◌≤◌, ◌%◌, arith, subst, sym}
+use Rattle.std.proofs.Common.{arith, subst, sym}
 use Rattle.em_watch.specs.Difference.{LeavesRegisters}
-use Rattle.em_watch.proofs.DifferenceLaws.{leaves_bare, leaves_both, leaves_within, leaves_word}
+use Rattle.em_watch.proofs.DifferenceLaws.{leaves_bare, leaves_both, leaves_word}
 use Rattle.em_watch.proofs.registers.next_changed.Goals as goal
 
 pub returns-in-Some-changed_at-clause-first : goal.returns-in-Some-changed_at-clause-first

@@ -9,7 +9,18 @@ returns-clause-ok c = record {
   cut = c.in_ok-dropped.ensures.ok;
   tape = c.in_ok-add_expecting.ensures.ok;
   expects = c.in_ok-add_expecting.ensures.expect;
-  rest = record { settings = refl; told = refl; asked = refl; warns = refl; score = refl; engines = refl; offered = refl };
+  times = refl;
+  rest = record {
+    settings = refl;
+    told = refl;
+    came = refl;
+    asked = refl;
+    warns = refl;
+    score = refl;
+    engines = refl;
+    offered = refl;
+    sent = refl;
+  };
 }
 
 pub returns-in_err-dropped-clause-err : goal.returns-in_err-dropped-clause-err
@@ -20,5 +31,14 @@ pub returns-in_err-add_expecting-clause-err : goal.returns-in_err-add_expecting-
 returns-in_err-add_expecting-clause-err c =
     MatchResult-from_err _ _ _ c.from_residual-in_err-add_expecting.ensures.0 (λ _.
     cut_alone c.cut.new.self c.in_ok-dropped.dropped c.in_ok-dropped.ensures.ok c.in_err-add_expecting.ensures.err
-    c.in_err-add_expecting.ensures.stay
-    (record { settings = refl; told = refl; asked = refl; warns = refl; score = refl; engines = refl; offered = refl }))
+    c.in_err-add_expecting.ensures.stay refl (record {
+      settings = refl;
+      told = refl;
+      came = refl;
+      asked = refl;
+      warns = refl;
+      score = refl;
+      engines = refl;
+      offered = refl;
+      sent = refl;
+    }))

@@ -1,5 +1,5 @@
 use Rattle.std.proofs.Common.{◌≡◌, ◌<◌, true, false, ap, sym, ◌∙◌, arith}
-use Rattle.em_debugger.specs.Debugger.{told}
+use Rattle.em_debugger.specs.Debugger.{came}
 use Rattle.em_debugger.specs.Why.{is_undone, newest_undone}
 use Rattle.em_debugger.proofs.WhyLaws.{undone_before, undone_here}
 use Rattle.em_debugger.proofs.debugger.Debugger.newest_undone.Goals as goal
@@ -8,7 +8,7 @@ pub loop-line-preserved : goal.loop-line-preserved
 loop-line-preserved c =
     let d = c.args.self.now in
     let some : 0 < c.loop-line.line = omega arith in
-    let none : is_undone (told c.loop-line.line d) ≡ false =
+    let none : is_undone (came c.loop-line.line d) ≡ false =
     ap is_undone (sym c.of.ensures) ∙ sym c.is_undone.ensures ∙ c.if-is_undone.false in
     record {
       same = sym (undone_before d c.loop-line.line some none) ∙ c.loop-line.invariant.same;
@@ -19,7 +19,7 @@ pub returns-then-is_undone-clause-newest : goal.returns-then-is_undone-clause-ne
 returns-then-is_undone-clause-newest c =
     let d = c.args.self.now in
     let some : 0 < c.loop-line.line = omega arith in
-    let is : is_undone (told c.loop-line.line d) ≡ true =
+    let is : is_undone (came c.loop-line.line d) ≡ true =
     ap is_undone (sym c.of.ensures) ∙ sym c.is_undone.ensures ∙ c.if-is_undone.true in
     sym (undone_here d c.loop-line.line some is) ∙ c.loop-line.invariant.same
 

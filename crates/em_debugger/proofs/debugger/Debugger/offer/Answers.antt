@@ -10,7 +10,7 @@ returns g c =
     let new = record old { offered = a.lines } in
     let count : c.len-count.result ≡ length a.lines.items = c.len-count.ensures ∙ a.lines.ok.0 in
     record {
-      ok = OnOk-told _ _ c.write_offer.result (TellsOffer (length a.lines.items) a.cut a.error)
+      ok = OnOk-told _ _ c.write_offer.result (TellsOffer (length a.lines.items) a.cut a.padded a.error)
           (OffersFrames old new c.args.file.now)
           (λ t h. record { arrivals = a; are = c.arrivals_of-lines.ensures; offers = refl; told = h })
           (rw count at c.write_offer.ensures.ok);

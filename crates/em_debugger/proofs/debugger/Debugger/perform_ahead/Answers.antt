@@ -3,16 +3,20 @@ use Rattle.std.specs.Prelude.{Err, Some, min}
 use Rattle.std.proofs.lemmas.Result.{MatchResult-from_err}
 use Rattle.em_debugger.specs.Performing.{stays, unnoted, unplayed}
 use Rattle.em_debugger.specs.Place.{line_here}
+use Rattle.em_debugger.proofs.CameLaws.{comes_set}
 use Rattle.em_debugger.proofs.RefusedLaws.{unplayed_by}
+use Rattle.em_debugger.proofs.SendingLaws.{keeps_ready}
 use Rattle.em_debugger.proofs.debugger.Debugger.perform_ahead.Goals as goal
 
-pub returns-in-Ok-clause-some : goal.returns-in-Ok-clause-some
-returns-in-Ok-clause-some c =
+pub returns-in-Ok-note-clause-some : goal.returns-in-Ok-note-clause-some
+returns-in-Ok-note-clause-some c =
     let old = c.args.self.now.tape in
     let line = c.line_here-line.result in
     let all : min line (length old.did) ≡ line = omega (arith, c.line_here-line.ensures.performed) in
     let there : min line (length old.did) ≡ line_here old = all ∙ c.line_here-line.ensures.line in
     let before = c.to_line.new.self in
+    let first = rw c.machine.ensures.value at c.wire_len-sent.ensures in
+    let behind = rw c.machine-2.ensures.value at c.wire_len-now.ensures in
     rw c.count_answer.ensures (record {
       number = ap (λ n. n + 1) c.line_here-line.ensures.line;
       before = before;
@@ -22,21 +26,44 @@ returns-in-Ok-clause-some c =
         here = λ none. c.to_line.ensures.here none (all ∙ c.line_here-line.ensures.whole none);
       };
       plays = rw c.clear.ensures.items at (rw c.in-Ok-Some.field-0-is at c.in-Ok-Some.ensures.ok);
-      noted = rw c.as_slice.ensures.value at c.in-Ok.ensures.ok;
+      noted = rw c.as_slice.ensures.value at c.in-Ok-note.ensures.ok;
+      came = comes_set _ _ _ line _ c.make_ready.ensures.stay c.in_ok-make_ready.ensures.place c.set-in-Ok-note.ensures;
       settings = refl;
       asked = refl;
       warns = refl;
       wanted = refl;
+      times = refl;
+      sent = rw (first, behind) at (keeps_ready (line + 1) c.wire_len-sent.result c.wire_len-now.result _ _ _
+          c.make_ready-2.ensures.stay c.make_ready-2.ensures.none c.set.ensures);
       score = refl;
       engines = refl;
       offered = refl;
     })
 
-pub returns-in_err-to_line-clause-err : goal.returns-in_err-to_line-clause-err
-returns-in_err-to_line-clause-err c =
+pub returns-in_err-make_ready-clause-err : goal.returns-in_err-make_ready-clause-err
+returns-in_err-make_ready-clause-err c =
     MatchResult-from_err _ _ _ c.from_residual.ensures.0 (λ _. unplayed (record {
       told = λ line. refl;
+      came = c.make_ready.ensures.stay;
       wanted = λ line. refl;
+      times = λ line. refl;
+      sent = λ line. refl;
+      settings = refl;
+      asked = refl;
+      warns = refl;
+      score = refl;
+      engines = refl;
+      offered = refl;
+    }) (stays refl))
+
+pub returns-in_err-to_line-clause-err : goal.returns-in_err-to_line-clause-err
+returns-in_err-to_line-clause-err c =
+    MatchResult-from_err _ _ _ c.from_residual-in_err-to_line.ensures.0 (λ _. unplayed (record {
+      told = λ line. refl;
+      came = c.make_ready.ensures.stay;
+      wanted = λ line. refl;
+      times = λ line. refl;
+      sent = λ line. refl;
       settings = refl;
       asked = refl;
       warns = refl;
@@ -58,7 +85,10 @@ returns-in-Err-clause-err c =
       here = λ none. c.to_line.ensures.here none (all ∙ c.line_here-line.ensures.whole none);
     }) (ap Some c.clear.ensures.items) (record {
       told = λ line. refl;
+      came = c.make_ready.ensures.stay;
       wanted = λ line. refl;
+      times = λ line. refl;
+      sent = λ line. refl;
       settings = refl;
       asked = refl;
       warns = refl;
@@ -77,7 +107,41 @@ returns-in-Err-note-clause-err c =
     let before = c.to_line.new.self in
     unnoted (record {
       told = c.in-Err-note.ensures.err;
+      came = c.make_ready.ensures.stay;
       wanted = λ line. refl;
+      times = λ line. refl;
+      sent = c.make_ready-2.ensures.stay;
+      settings = refl;
+      asked = refl;
+      warns = refl;
+      score = refl;
+      engines = refl;
+      offered = refl;
+    }) (record {
+      before = before;
+      whole = record {
+        tape = c.in_ok-to_line.ensures.ok
+            ∙ ap (λ n. record old { whole = n; back = 0; session = before.session }) there;
+        here = λ none. c.to_line.ensures.here none (all ∙ c.line_here-line.ensures.whole none);
+      };
+      text = _;
+      replied = _;
+      plays = rw c.clear.ensures.items at (rw c.in-Ok-Some.field-0-is at c.in-Ok-Some.ensures.ok);
+    })
+
+pub returns-in_default-clause-err : goal.returns-in_default-clause-err
+returns-in_default-clause-err c =
+    let old = c.args.self.now.tape in
+    let line = c.line_here-line.result in
+    let all : min line (length old.did) ≡ line = omega (arith, c.line_here-line.ensures.performed) in
+    let there : min line (length old.did) ≡ line_here old = all ∙ c.line_here-line.ensures.line in
+    let before = c.to_line.new.self in
+    unnoted (record {
+      told = λ line. refl;
+      came = c.make_ready.ensures.stay;
+      wanted = λ line. refl;
+      times = λ line. refl;
+      sent = c.make_ready-2.ensures.stay;
       settings = refl;
       asked = refl;
       warns = refl;

@@ -1,8 +1,7 @@
 use Rattle.std.proofs.Common.{◌≡◌, ◌∙◌, ◌+◌, ap, sym, subst}
 use Rattle.em_debugger.specs.Place.{line_here}
-use Rattle.em_debugger.specs.Stops.{EndsSince}
+use Rattle.em_debugger.specs.Stops.{EndsSince, GoesOnSince}
 use Rattle.em_debugger.proofs.StopsLaws.{RanTo-here, RunsSo-more, RunsSo-none, not_before}
-use Rattle.em_debugger.proofs.TextLaws.{is_not}
 use Rattle.em_debugger.proofs.debugger.Debugger.play_until.Goals as goal
 
 pub loop-lines-init : goal.loop-lines-init
@@ -17,7 +16,7 @@ returns-then-stops_here c =
     (not_before c.args.stop now (c.line_here-here.result + 1) (sym c.is_before.ensures ∙ c.if-is_before.false) next)
     (rw c.in-Ok-Some.field-0-is at c.in-Ok-Some.ensures.some)
     (subst (λ e. EndsSince c.args.stop e c.perform_next.new.self c.in-Ok-Some.performed) c.event-before.ensures
-    (c.stops_here.ensures.0 c.if-stops_here.true))
+    (c.stops_here.ensures.ends c.if-stops_here.true))
 
 pub loop-lines-preserved : goal.loop-lines-preserved
 loop-lines-preserved c =
@@ -27,6 +26,5 @@ loop-lines-preserved c =
     RunsSo-more c.args.stop c.args.self.now now c.perform_next.new.self c.loop-lines.lines c.in-Ok-Some.performed h
     (not_before c.args.stop now (c.line_here-here.result + 1) (sym c.is_before.ensures ∙ c.if-is_before.false) next)
     (rw c.in-Ok-Some.field-0-is at c.in-Ok-Some.ensures.some)
-    (λ ends. is_not c.if-stops_here.false (c.stops_here.ensures.1
-    (subst (λ e. EndsSince c.args.stop e c.perform_next.new.self c.in-Ok-Some.performed) (sym c.event-before.ensures)
-    ends)))
+    (subst (λ e. GoesOnSince c.args.stop e c.perform_next.new.self c.in-Ok-Some.performed) c.event-before.ensures
+    (c.stops_here.ensures.goes_on c.if-stops_here.false))

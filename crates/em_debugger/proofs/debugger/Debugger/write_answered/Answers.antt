@@ -8,7 +8,7 @@ returns g c =
     let d = c.args.self.now in
     let p = c.args.performed in
     let said =
-    rw (c.machine-machine.ensures.value, c.text_of-line.ensures, c.as_slice.ensures.value) at
+    rw (c.machine-machine.ensures.value, c.text_of-line.ensures, c.as_slice-answer.ensures.value, c.event.ensures) at
     c.in_ok-write_explained.ensures.ok in
     record {
       ok = OnOk-behind-written _ _ _ c.write_behind.result said.text (behind_text d p.line) (AnswersPerformed d p) said.written

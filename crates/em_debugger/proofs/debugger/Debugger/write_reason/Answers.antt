@@ -11,5 +11,5 @@ returns g c =
       ok = OnOk-such-behind _ _ _ c.write_explained.result (front_text d c.args.line) _
           (TellsReason d tape c.args.line c.args.answer.now) c.in_ok-write_front.ensures.writes
           (λ t h. record { explained = t; because = h; said = refl })
-          (rw (c.machine.ensures.value, c.text_of-text.ensures) at c.write_explained.ensures.ok);
+          (rw (c.machine.ensures.value, c.text_of-text.ensures, c.event-came.ensures, c.of.ensures) at c.write_explained.ensures.ok);
     }

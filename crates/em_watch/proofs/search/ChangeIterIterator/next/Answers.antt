@@ -4,8 +4,8 @@ use Rattle.em_watch.proofs.SearchLaws.{fewer_left}
 use Rattle.em_watch.proofs.TracedLaws.{traceable_there}
 use Rattle.em_watch.proofs.search.ChangeIterIterator.next.Goals as goal
 
-pub next_other-requires : goal.next_other-requires
-next_other-requires c =
+pub next_other-requires-clause-register : goal.next_other-requires-clause-register
+next_other-requires-clause-register c =
     let s = c.self.inside in
     traceable_there s.watch s.machine.now s.back s.traced c.self.invariant
 

@@ -1,0 +1,121 @@
+//! Which octets of guest memory the next transmit step reads, and which it writes (manual, chapter on transmit
+//! description, legacy format).
+ghost use Rattle.std.specs.Prelude.{◌≡◌, ◌≤◌, ◌∷◌, [], length};
+ghost use Rattle.em_mem.specs.Needs.{AreHeld, with_octets_of};
+ghost use Rattle.em_tx.specs.Cells.{Cells};
+ghost use Rattle.em_tx.specs.Needs.{buffer, needs, status, written_at, written_by};
+ghost use Rattle.em_tx.specs.Undo.{ChangeFits, undo_change};
+
+use crate::change::{Change, Status};
+use crate::descriptor::{STATUS, TxDescriptor};
+use crate::engine::refusal_of;
+use crate::gather::Gather;
+use crate::ring;
+use crate::undo::TxUndo;
+use em_mem::laws::places_are_small;
+use em_mem::{GuestMemory, Needs, Range};
+use em_regs::{DESCRIPTOR_OCTETS, TxSetup};
+
+/// What the next step reads of guest memory, and what it writes there: it reads its descriptor and then the buffer, and
+/// writes the status octet where RS asks for it. What lies behind the first range the descriptor's octets say, as they
+/// are in memory now.
+pub fn needs(gather: &Gather, memory: &GuestMemory, setup: &TxSetup) -> Needs
+    ensures needs { result ≡ needs setup.now gather.now.octets memory.now.octets }
+    ensures reads { AreHeld memory.now.octets result.reads }
+    ensures writes { AreHeld memory.now.octets result.writes }
+{
+    if setup.ring().is_idle() {
+        return Needs::nothing();
+    }
+    let Some(found) = ring::first(memory, setup) else {
+        return Needs::nothing();
+    };
+    let descriptor = Range {
+        at: found.place,
+        len: DESCRIPTOR_OCTETS as u64,
+    };
+    if refusal_of(gather, memory, &found.descriptor).is_some() {
+        return Needs::reads_only(descriptor);
+    }
+    places_are_small(memory);
+    Needs {
+        reads: [descriptor, buffer_of(&found.descriptor)],
+        writes: [status_of(found.place, &found.descriptor), Range::none()],
+    }
+}
+
+/// The buffer's range.
+fn buffer_of(descriptor: &TxDescriptor) -> Range
+    ensures { result ≡ buffer descriptor.now }
+{
+    let len = u64::from(descriptor.length());
+    if len == 0 {
+        return Range::none();
+    }
+    Range {
+        at: descriptor.address(),
+        len,
+    }
+}
+
+/// The range of the status octet, of the descriptor at this place.
+fn status_of(at: u64, descriptor: &TxDescriptor) -> Range
+    requires { at ≤ 16_777_216 }
+    ensures { result ≡ status at descriptor.now }
+{
+    if !descriptor.rs() {
+        return Range::none();
+    }
+    Range {
+        at: at + STATUS as u64,
+        len: 1,
+    }
+}
+
+impl Change {
+    /// The range of guest memory that the step wrote. Before it memory was as it is, but there.
+    #[inline(always)]
+    pub fn written(&self) -> Range
+        ensures range { result ≡ written_at self.now.status }
+        ensures before { (c : Cells) → ChangeFits c self.now
+            → with_octets_of c.memory.octets (undo_change c self.now).memory.octets (result ∷ [])
+            ≡ (undo_change c self.now).memory.octets }
+    {
+        range_of(&self.status)
+    }
+}
+
+impl TxUndo {
+    /// The ranges of guest memory that the change wrote.
+    pub fn written(&self) -> [Range; 2]
+        ensures { result ≡ written_by self.now }
+    {
+        match self {
+            TxUndo::Nothing | TxUndo::Cleared(_) => [Range::none(), Range::none()],
+            TxUndo::Step(change) => [change.written(), Range::none()],
+        }
+    }
+}
+
+impl Status {
+    /// The range of the octet.
+    fn range(&self) -> Range
+        ensures { result ≡ record { at = self.now.at; len = length self.now.octets } }
+    {
+        let octet: &[u8] = &self.octet;
+        Range {
+            at: self.place.addr(),
+            len: octet.len() as u64,
+        }
+    }
+}
+
+/// The range of a status octet, where one was overwritten.
+fn range_of(status: &Option<Status>) -> Range
+    ensures { result ≡ written_at status.now }
+{
+    match status {
+        Some(status) => status.range(),
+        None => Range::none(),
+    }
+}

@@ -1,0 +1,5 @@
+init
+mac
+turns arrive:FFFFFFFFFFFF:60
+mac
+link up
