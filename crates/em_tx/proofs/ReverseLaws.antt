@@ -27,6 +27,7 @@ front_of-append w f = ap (λ n. take n (w ++ f ∷ [])) (length-before_last w f)
 -- memory that is as it was has the same pages made
 MorePages-same : (m n : mem.Cells) → n ≡ m → mem.MorePages m n
 MorePages-same m n is = record {
+  base = ap (λ x. x.base) is;
   octets = ap (λ x. x.octets) is;
   made = λ p made. subst (λ x. mem.IsPageMade x p) (sym is) made;
 }
