@@ -9,7 +9,7 @@ from functools import cache
 from typing import NamedTuple
 
 from second_notes import spoken
-from second_reading import FORMS, ICR, IMS, IN_ORDER, IN_WORDS, Session, State
+from second_reading import ICR, IMS, IN_ORDER, IN_WORDS, Session, State
 
 MOST_BACK = 65_536
 SHORT = 72
@@ -84,70 +84,6 @@ def after_line(before: Behind, number: int, line: str) -> Behind:
         machine, standing, before.performed + len(machine.led), [f"bad line {number}"] if is_bad else said,
         len(machine.led), took, bool(words) and words[0] in OF_DRIVER,
     )
-
-
-# ---- what is wrong with a line that is typed
-
-# what stands behind each name: how many words must, and what each is
-WORDS = {
-    "r": (1, ["OFF"]), "w": (2, ["OFF", "VAL"]), "poke": (2, ["ADDR", "DATA"]), "peek": (2, ["ADDR", "LEN"]),
-    "arrive": (1, ["DATA", "zeros"]), "rx": (0, []), "tx": (0, []), "link": (1, ["up or down"]), "line": (0, []),
-    "regs": (0, []), "wire": (0, []), "init": (0, []), "send": (1, ["DATA", "zeros"]), "recv": (1, ["N"]), "stats": (0, []),
-    "mac": (0, ["address"]),
-}
-CALLED = {"zeros": "LEN", "address": "DATA"}
-RULES = {
-    "VAL": " is 1 to 8 hexadecimal digits, or names of bits", "ADDR": " is 1 to 16 hexadecimal digits",
-    "DATA": " is octets, of two hexadecimal digits each", "LEN": " is 1 to 16384", "N": " is 0 to 1024",
-    "zeros": " is at most 32768, and not below DATA's octets", "address": " is 6 octets", "up or down": " is wanted",
-}
-
-
-def is_hex(word: str, most: int) -> bool:
-    return bool(re.fullmatch(f"(?:0[xX])?[0-9a-fA-F]{{1,{most}}}", word))
-
-
-def octets_in(word: str) -> int | None:
-    """How many octets DATA is; None where it is none."""
-    digits = word.replace(":", "") if re.fullmatch("(?:[0-9a-fA-F]{2}:){5}[0-9a-fA-F]{2}", word) else word
-    return len(digits) // 2 if re.fullmatch("(?:[0-9a-fA-F]{2})+", digits) else None
-
-
-def fits(kind: str, word: str, before: str) -> bool:
-    """Whether a word is what stands at its place, behind another word. Names of bits are not read here."""
-    if kind == "OFF":
-        return word.upper() in NUMBERS or is_hex(word, 8)
-    if kind in ("VAL", "ADDR"):
-        return is_hex(word, 8 if kind == "VAL" else 16)
-    if kind in ("DATA", "address"):
-        return octets_in(word) is not None if kind == "DATA" else octets_in(word) == 6
-    if kind == "up or down":
-        return word in ("up", "down")
-    low, high = (octets_in(before), 32768) if kind == "zeros" else {"LEN": (1, 16384), "N": (0, 1024)}[kind]
-    return bool(re.fullmatch("[0-9]{1,7}", word)) and low <= int(word) <= high
-
-
-def fault_of(name: str, kind: str, word: str) -> str:
-    if kind == "OFF":
-        return f"no register {word}"
-    if kind == "DATA" and len(word) % 2 and re.fullmatch("[0-9a-fA-F]+", word):
-        return f"{name}: {len(word)} digits are no octets"
-    return f"{name}: {CALLED.get(kind, kind)}{RULES[kind]}"
-
-
-def wrong_in(line: str) -> str | None:
-    """What is wrong with a typed line of a script: the first fault from the left. None where nothing is."""
-    name, *words = words_of(line)
-    if name == "turns":
-        is_plan = FORMS[name].fullmatch(" ".join(words)) and Session().planned(words) is not None
-        return None if is_plan else "turns: a turn is rx, tx, ., arrive:DATA or arrive:DATA:LEN"
-    must, kinds = WORDS[name]
-    for at, word in enumerate(words):
-        if at == len(kinds):
-            return f"{name}: {word} is too much"
-        if not fits(kinds[at], word, words[at - 1]):
-            return fault_of(name, kinds[at], word)
-    return f"{name}: {CALLED.get(kinds[len(words)], kinds[len(words)])} is missing" if len(words) < must else None
 
 
 class Debugger:
