@@ -28,7 +28,7 @@ use crate::session::Served;
 use crate::words::{Asked, Words, WordsRefused};
 use anyhow::{Result, bail};
 use em_console::{Answers, Console, LineConsole, prompt_for, serve};
-use em_debugger::{Debugger, Disk, Score};
+use em_debugger::{Added, Debugger, Disk, Score};
 use em_ending::Ending;
 use em_input::{BUDGETS, MACS, SIZES};
 use em_journal::SettingsRefusal;
@@ -253,14 +253,16 @@ fn with_session<R: Files + Input + Print + Eprint + AllocGlobal>(
     let mut bad = 0;
     if let Some(name) = script {
         let script = read_script(rt, name)?;
-        bad = tell_bad_lines(rt, name, script.as_slice())?;
+        let added = served.debugger.add_lines(script.as_slice());
+        // Where all were added and none is bad, they need not be looked at again.
+        if !matches!(added, Ok(Added { are_read: true, .. })) {
+            bad = tell_bad_lines(rt, name, script.as_slice())?;
+        }
         if words.batch || words.compare {
-            let known = play(rt, served, words, script.as_slice())?;
+            let known = play(rt, served, words, added)?;
             return Ok(Found { bad, known });
         }
-        let begun = served
-            .debugger
-            .begin_text(&mut text, script.as_slice(), words.step);
+        let begun = served.debugger.begin_added(&mut text, added, words.step);
         if begun.is_err() {
             bail!("{NO_MEMORY}");
         }
@@ -285,14 +287,15 @@ fn with_session<R: Files + Input + Print + Eprint + AllocGlobal>(
     }
 }
 
-/// Plays a script to its end, and lists its lines or compares their answers. Gives how many differed for a known cause.
+/// Plays lines that were added to their end, and lists them or compares their answers. Gives how many differed for a known
+/// cause.
 fn play<R: Print + AllocGlobal, D: Disk + Drop>(
     rt: &R,
     served: &mut Served<D>,
     words: &Words,
-    script: &[u8],
+    added: Result<Added, BenchFault>,
 ) -> Result<u64> {
-    if let Err(fault) = served.debugger.add_lines(script) {
+    if let Err(fault) = added {
         bail!("{}", bench_text(fault));
     }
     if words.batch {

@@ -1,7 +1,7 @@
 -- Lines that are added one after another, and lines as a script.
 use Rattle.std.proofs.Common.{◌≡◌, ◌∙◌, ℕ, zero, suc, ◌+◌, ◌<◌, ◌≤◌, List, [], ◌∷◌, ◌++◌, length, length-append, length-take, codes, append-nil, append_assoc}
 use Rattle.std.proofs.Common.{refl, sym, ap, subst, arith, take, map}
-use Rattle.std.specs.Prelude.{IfErr, Option, Some, Result, Ok, Err, slice_get, unwrap_or}
+use Rattle.std.specs.Prelude.{◌&&◌, Bool, true, false, IfErr, Option, Some, Result, Ok, Err, slice_get, unwrap_or}
 use Rattle.std.specs.Io.KnownBytes.{Appends}
 use Rattle.std.proofs.lemmas.List.Concat.{flat_map-append}
 use Rattle.std.proofs.lemmas.List.{length-map, map-append, nil_from_length}
@@ -14,7 +14,8 @@ use Rattle.em_text.proofs.WritingLemmas.{Appends-more}
 use Rattle.em_text.proofs.LinesLemmas.{lines_of-nil}
 use Rattle.em_tape.specs.Tape.{Tape}
 use Rattle.em_tape.proofs.TapeLaws.{take-more}
-use Rattle.em_debugger.specs.Files.{SomeAdded, played_in, script_of}
+use Rattle.em_debugger.specs.declared.files.Added.{Added}
+use Rattle.em_debugger.specs.Files.{SomeAdded, added_of, are_read, played_in, reads, script_of}
 use Rattle.em_debugger.specs.Place.{line_here, text_of}
 use Rattle.em_debugger.specs.Sending.{timed_in}
 use Rattle.em_debugger.specs.Told.{KeepsText, KeepsTexts, Stay}
@@ -109,6 +110,32 @@ pub AddedSo-times : (first now : Tape) (held holds had has : List (List ℕ)) (t
     → KeepsTexts timed_in (length first.lines + 1) (lines_of text) had has
 AddedSo-times first now held holds had has text rest h none =
     subst (λ l. KeepsTexts timed_in (length first.lines + 1) l had has) (added_all h none) h.times
+
+three : (a b c : Bool) → ((a && b) && c) ≡ (a && (b && c))
+three true b c = refl
+three false b c = refl
+
+alone : (a : Bool) → (a && true) ≡ a
+alone true = refl
+alone false = refl
+
+-- whether the lines so far are read, and the next one
+pub read_more : (so one : Bool) (text rest line behind : List ℕ) → lines_of rest ≡ line ∷ lines_of behind
+    → one ≡ reads (played_in line) → (so && are_read (lines_of rest)) ≡ are_read (lines_of text)
+    → ((so && one) && are_read (lines_of behind)) ≡ are_read (lines_of text)
+read_more so one text rest line behind is read h =
+    three so one (are_read (lines_of behind)) ∙ ap (λ b. so && (b && are_read (lines_of behind))) read
+    ∙ ap (λ l. so && are_read l) (sym is) ∙ h
+
+-- so many lines were added, and this is known of whether they are read
+pub added_so : (count : ℕ) (so : Bool) (text rest : List ℕ) → count ≡ length (lines_of text) → length rest ≡ 0
+    → (so && are_read (lines_of rest)) ≡ are_read (lines_of text)
+    → record { lines = count; are_read = so } ≡ added_of (lines_of text)
+added_so count so text rest many none h =
+    let read : so ≡ are_read (lines_of text) =
+    sym (alone so) ∙ ap (λ l. so && are_read l) (sym (none_left rest none)) ∙ h in
+    ap (λ n. record { lines = n; are_read = so }) many
+    ∙ ap (λ b. record { lines = length (lines_of text); are_read = b }) read
 
 -- no more were added
 pub AddedSo-some : (first now new : Tape) (held holds then had has timed : List (List ℕ)) (text rest : List ℕ)

@@ -1,6 +1,7 @@
 pub mod AccessedLaws
 pub mod AddingLaws
 pub mod AnsweringLaws
+pub mod BeginningLaws
 pub mod CameLaws
 pub mod DeeperLaws
 pub mod EffectLaws

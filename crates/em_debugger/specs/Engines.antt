@@ -87,20 +87,13 @@ engine_behind before p d =
 
 -- ---- a step is a line
 
--- the step stands right behind the lines that stand whole
+-- the step stands right behind the lines that stand whole, and one less is left; all else is as it was
 pub record PutsStep (side : Side) (old new : Debugger) : Type 0 where
   pub tape : new.tape ≡ record old.tape { lines = insert old.tape.lines old.tape.whole (step_line side) }
   pub engines : new.engines + 1 ≡ old.engines
   pub wanted : texts new.wanted.answers.items ≡ moved old.tape.whole (texts old.wanted.answers.items)
   pub times : texts new.times.answers.items ≡ moved old.tape.whole (texts old.times.answers.items)
-  pub told : new.told ≡ old.told
-  pub settings : new.settings ≡ old.settings
-  pub answer : new.answer ≡ old.answer
-  pub asked : new.asked ≡ old.asked
-  pub warns : new.warns ≡ old.warns
-  pub score : new.score ≡ old.score
-  pub offered : new.offered ≡ old.offered
-  pub sent : new.sent ≡ old.sent
+  pub rest : new ≡ record old { tape = new.tape; engines = new.engines; wanted = new.wanted; times = new.times }
 
 -- memory was refused to that: all is as it was, and so is what stands beside the lines
 pub record PutsNone (old new : Debugger) : Type 0 where

@@ -1,5 +1,5 @@
 -- The answers that lines expect, and how many were given so.
-use Rattle.std.specs.Prelude.{ℕ, ◌+◌, ◌&&◌, not, Bool, true, false, if◌then◌else◌, List, [], ◌∷◌, Option, unwrap_or}
+use Rattle.std.specs.Prelude.{ℕ, ◌+◌, ◌&&◌, not, Bool, true, false, if◌then◌else◌, List, [], ◌∷◌, Option, None, unwrap_or}
 use Rattle.em_step.specs.Event.{Event}
 use Rattle.em_line.specs.Grammar.{parsed_line}
 use Rattle.em_line.specs.ParsedLine.{access_in}
@@ -14,7 +14,8 @@ use Rattle.em_debugger.specs.Debugger.{came}
 use Rattle.em_debugger.specs.Place.{text_of}
 use Rattle.em_debugger.specs.Counted.{counted}
 use Rattle.em_debugger.specs.Told.{KeepsText, KeepsTexts, told_of}
-use Rattle.em_debugger.specs.Warned.{warnings_of_line}
+use Rattle.em_warnings.specs.Warnings.{found_count, found_in}
+use Rattle.em_warnings.specs.declared.warning.Warning.{Warning}
 
 -- the answer that a line expects, by its number; where it expects none, no octet
 abbrev pub wanted : ℕ → Debugger → List ℕ
@@ -49,10 +50,10 @@ with_answer score false = record score { agreed = counted (score.agreed + 1) }
 abbrev pub with_warnings : Score → ℕ → Score
 with_warnings score more = record score { warnings = counted (score.warnings + more) }
 
--- how many a line has, if they are to be said
-abbrev pub warnings_behind : Debugger → ℕ → ℕ
-warnings_behind d line =
-    if d.warns then warnings_of_line d.tape.session.machine (text_of line d.tape) (event_came (came line d)) else 0
+-- what the rules say of a line, if that is to be said and they are asked
+abbrev pub warned_behind : Debugger → ℕ → Option (List (Option Warning))
+warned_behind d line =
+    if d.warns then found_in d.tape.session.machine (text_of line d.tape) (event_came (came line d)) else None
 
 -- the answer to a line is counted, where one is expected
 abbrev pub scored_answer : Debugger → ℕ → Score
@@ -60,7 +61,7 @@ scored_answer d line = if is_wanted (wanted line d) then with_answer d.score (an
 
 -- and its warnings
 abbrev pub scored : Debugger → ℕ → Score
-scored d line = with_warnings (scored_answer d line) (warnings_behind d line)
+scored d line = with_warnings (scored_answer d line) (found_count (warned_behind d line))
 
 -- how it differs, if it does
 abbrev pub compared_text : Debugger → ℕ → List ℕ

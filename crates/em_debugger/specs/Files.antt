@@ -1,11 +1,14 @@
 -- Loading and saving lines.
-use Rattle.std.specs.Prelude.{◌≡◌, ◌⊎◌, ℕ, ◌+◌, All, Bool, true, false, List, [], ◌++◌, codes, length, map, Option, Some}
-use Rattle.std.specs.List.{flat_map}
+use Rattle.std.specs.Prelude.{◌≡◌, ℕ, ◌+◌, All, Bool, true, false, List, [], ◌++◌, codes, length, map, Option, Some, Result, Ok, Err}
+use Rattle.std.specs.List.{flat_map, list_all}
 use Rattle.em_text.specs.Lines.{is_newline, lines_of}
+use Rattle.em_line.specs.Grammar.{parsed_line}
+use Rattle.em_line.specs.ParsedLine.{is_read}
 use Rattle.em_script.specs.declared.runner.BenchFault.{BenchFault}
 use Rattle.em_script.specs.declared.runner.BenchFault.TheVariants as fault
 use Rattle.em_looks.specs.Numbers.{counted_text}
 use Rattle.em_debugger.specs.declared.debugger.Debugger.{Debugger}
+use Rattle.em_debugger.specs.declared.files.Added.{Added}
 use Rattle.em_tape.specs.Tape.{Tape}
 use Rattle.em_tape.specs.Texts.{texts}
 use Rattle.em_expect.specs.Expectation.{said_in}
@@ -16,12 +19,25 @@ use Rattle.em_debugger.specs.Disk.{Deed, Stores}
 use Rattle.em_debugger.specs.Expected.{AllExpect}
 use Rattle.em_debugger.specs.Played.{RunsAll}
 use Rattle.em_debugger.specs.Performing.{Cuts, Uncut, dropped_text, fault_text}
+pub use Rattle.em_debugger.specs.Performing.{IsUnadded}
 use Rattle.em_debugger.specs.Sending.{timed_in}
 use Rattle.em_debugger.specs.Told.{KeepsTexts, Stay}
 
 -- what is played of a line of a script: what it says, in the words that em_bench reads
 abbrev pub played_in : List ℕ → List ℕ
 played_in line = played (said_in line)
+
+-- em_bench reads a line
+abbrev pub reads : List ℕ → Bool
+reads text = is_read (parsed_line text)
+
+-- it reads what is played of each of these lines: none is bad
+abbrev pub are_read : List (List ℕ) → Bool
+are_read lines = list_all (λ line. reads (played_in line)) lines
+
+-- what is said of lines that were added
+abbrev pub added_of : List (List ℕ) → Added
+added_of lines = record { lines = length lines; are_read = are_read lines }
 
 -- what these lines say was put behind the last one, which answers they expect, and their times; none of them is performed
 pub record AddsLines (old new : Debugger) (lines : List (List ℕ)) : Type 0 where
@@ -51,10 +67,6 @@ pub record AddsSome (old new : Debugger) (lines : List (List ℕ)) : Type 0 wher
       (texts old.times.answers.items) (texts new.times.answers.items) lines
   pub rest : KeepsSome old new
 
--- why lines were not all added: one is too long or they are too many, or there is no memory
-abbrev pub IsUnadded : BenchFault → Type 0
-IsUnadded why = (why ≡ fault.TooLarge) ⊎ (why ≡ fault.Memory)
-
 -- ---- texts
 
 abbrev pub loaded_text : ℕ → List ℕ
@@ -81,15 +93,25 @@ script_here d = script_of (lines_here d.tape)
 pub data LoadsText (old new : Debugger) (script text : List ℕ) : Type 0 where
   loads : AddsLines old new (lines_of script) → text ≡ loaded_text (length (lines_of script))
       → LoadsText old new script text
-  stops : (fault : BenchFault) → text ≡ fault_text fault → AddsSome old new (lines_of script)
+  stops : (why : BenchFault) → IsUnadded why → text ≡ fault_text why → AddsSome old new (lines_of script)
       → LoadsText old new script text
 
 -- the script's lines were put behind the last one, and played; or it is said why there are not more of them
 pub data PlaysText (old new : Debugger) (script text : List ℕ) : Type 0 where
   plays : (between : Debugger) → AddsLines old between (lines_of script) → RunsAll between new text
       → PlaysText old new script text
-  unplayed : (fault : BenchFault) → text ≡ fault_text fault → AddsSome old new (lines_of script)
+  unplayed : (why : BenchFault) → IsUnadded why → text ≡ fault_text why → AddsSome old new (lines_of script)
       → PlaysText old new script text
+
+-- it is said how many lines there are that are to be stepped through, or they are played to their end
+abbrev pub BeginsLines : Bool → ℕ → Debugger → Debugger → List ℕ → Type 0
+BeginsLines true count old new text = (new ≡ old) × (text ≡ loaded_text count)
+BeginsLines false count old new text = RunsAll old new text
+
+-- so it begins with lines that were added; or it is said why there are not more of them
+abbrev pub BeginsAdded : Bool → Result Added BenchFault → Debugger → Debugger → List ℕ → Type 0
+BeginsAdded step (Ok added) old new text = BeginsLines step added.lines old new text
+BeginsAdded step (Err fault) old new text = (new ≡ old) × (text ≡ fault_text fault)
 
 -- the script is stepped through, or played to its end
 abbrev pub BeginsText : Bool → Debugger → Debugger → List ℕ → List ℕ → Type 0
@@ -106,7 +128,7 @@ pub record BeginsBehind (step : Bool) (dropped : ℕ) (old new : Debugger) (scri
 pub data BeginsInstead (step : Bool) (old new : Debugger) (script text : List ℕ) : Type 0 where
   cuts : (between : Debugger) (dropped : ℕ) → Cuts old between dropped
       → BeginsBehind step dropped between new script text → BeginsInstead step old new script text
-  uncut : (fault : BenchFault) → text ≡ fault_text fault → Uncut old new → BeginsInstead step old new script text
+  uncut : text ≡ fault_text fault.Memory → Uncut old new → BeginsInstead step old new script text
 
 -- a file holds exactly the lines up to the place, and it is told how many they are
 abbrev pub Saves : (Option Deed → Type 0) → Bool → Debugger → List ℕ → List ℕ → Type 0

@@ -10,7 +10,6 @@ pub mod Departures
 pub mod Disk
 pub mod Effect
 pub mod Engines
-pub mod Warned
 pub mod Expected
 pub mod Files
 pub mod History

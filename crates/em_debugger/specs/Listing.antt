@@ -8,7 +8,7 @@ use Rattle.em_looks.specs.Numbers.{short_text}
 use Rattle.em_debugger.specs.declared.debugger.Debugger.{Debugger}
 use Rattle.em_debugger.specs.declared.performing.Performed.{Performed}
 use Rattle.em_debugger.specs.Next.{Shown, shown_text}
-use Rattle.em_debugger.specs.Performing.{PerformsNext, IsLast, AnswersPerformed, Unperformed, fault_text}
+use Rattle.em_debugger.specs.Performing.{PerformsNext, IsLast, AnswersPerformed, IsUnadded, Unperformed, fault_text}
 use Rattle.em_debugger.specs.Place.{text_of}
 
 -- ---- texts
@@ -59,7 +59,7 @@ pub record ListsNext (old : Debugger) (shown : Shown) (new : Debugger) : Type 0 
 -- no line lies ahead any more; or it is said why the next was not performed
 pub data ListingEnds (before after : Debugger) (text : List ℕ) : Type 0 where
   over : IsLast before → after ≡ before → text ≡ [] → ListingEnds before after text
-  stopped : (fault : BenchFault) → text ≡ fault_text fault → Unperformed before after
+  stopped : (fault : BenchFault) → IsUnadded fault → text ≡ fault_text fault → Unperformed before after
       → ListingEnds before after text
 
 -- the lines ahead of the place were performed and listed, one after another

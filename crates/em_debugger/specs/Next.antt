@@ -5,7 +5,7 @@ use Rattle.em_console.specs.Turns.{Leads}
 use Rattle.em_script.specs.declared.runner.BenchFault.{BenchFault}
 use Rattle.em_debugger.specs.declared.debugger.Debugger.{Debugger}
 use Rattle.em_debugger.specs.declared.performing.Performed.{Performed}
-use Rattle.em_debugger.specs.Performing.{PerformsNext, IsLast, ShowsPerformed, ShowsSteps, Unperformed, no_line_text, fault_text}
+use Rattle.em_debugger.specs.Performing.{PerformsNext, IsLast, ShowsPerformed, ShowsSteps, IsUnadded, Unperformed, no_line_text, fault_text}
 
 -- a line that was performed, and what was shown of it
 pub record Shown : Type 0 where
@@ -31,7 +31,7 @@ shown_text shown = flat_map (λ s. s.text) shown
 pub data EndsBy (asked count : ℕ) (before after : Debugger) (text : List ℕ) : Type 0 where
   reached : count ≡ asked → after ≡ before → text ≡ [] → EndsBy asked count before after text
   over : IsLast before → after ≡ before → text ≡ no_line_text count → EndsBy asked count before after text
-  stopped : (fault : BenchFault) → text ≡ fault_text fault → Unperformed before after
+  stopped : (fault : BenchFault) → IsUnadded fault → text ≡ fault_text fault → Unperformed before after
       → EndsBy asked count before after text
 
 -- so many lines at most were performed, one after another, and each was shown with its answer; and what came then

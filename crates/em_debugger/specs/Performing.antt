@@ -1,5 +1,5 @@
 -- Performing the line behind the place.
-use Rattle.std.specs.Prelude.{◌≡◌, ℕ, ◌+◌, ◌-◌, ◌==◌, ◌<◌, ◌≤◌, nat_lt, Bool, true, false, ◌&&◌, ◌||◌, if◌then◌else◌}
+use Rattle.std.specs.Prelude.{◌≡◌, ◌⊎◌, ℕ, ◌+◌, ◌-◌, ◌==◌, ◌<◌, ◌≤◌, nat_lt, Bool, true, false, ◌&&◌, ◌||◌, if◌then◌else◌}
 use Rattle.std.specs.Prelude.{List, [], ◌∷◌, ◌++◌, codes, length, take, Option, Some, None, Result, Ok}
 use Rattle.em_text.specs.declared.writer.WriteFailed.{WriteFailed}
 use Rattle.em_script.specs.declared.outcome.Outcome.{Outcome}
@@ -7,19 +7,20 @@ use Rattle.em_tape.specs.Texts.{texts}
 use Rattle.em_script.specs.Outcome.{event_came}
 use Rattle.em_script.specs.Runner.{name_of}
 use Rattle.em_script.specs.declared.runner.BenchFault.{BenchFault}
+use Rattle.em_script.specs.declared.runner.BenchFault.TheVariants as fault
 use Rattle.em_tape.specs.Tape.{Tape, event_of}
 use Rattle.em_tape.specs.Moves.{IsCut, Plays}
 use Rattle.em_prompt.specs.BenchLine.{BenchLine, text_of as text_of_line}
 use Rattle.em_explain.specs.Explain.{Explains}
 use Rattle.em_looks.specs.Numbers.{counted_text, number_text, short_text}
-use Rattle.em_warnings.specs.Warnings.{warnings_text}
+use Rattle.em_warnings.specs.Warnings.{found_text}
 use Rattle.em_debugger.specs.declared.debugger.Debugger.{Debugger}
 use Rattle.em_debugger.specs.declared.performing.Performed.{Performed}
 use Rattle.em_debugger.specs.BenchLooks.{is_look, look_text}
 use Rattle.em_debugger.specs.Came.{Comes}
 use Rattle.em_debugger.specs.Debugger.{KeepsSome, came, told}
 use Rattle.em_debugger.specs.Engines.{Engages}
-use Rattle.em_debugger.specs.Expected.{Expects, compared_text, scored, wanted}
+use Rattle.em_debugger.specs.Expected.{Expects, compared_text, scored, wanted, warned_behind}
 use Rattle.em_debugger.specs.Place.{line_here, text_of}
 use Rattle.em_debugger.specs.Sending.{KeepsFirst, StaysSent, first_sent}
 use Rattle.em_debugger.specs.Told.{Notes, Stay}
@@ -45,6 +46,7 @@ pub record Performs (old new : Debugger) (performed : Performed) : Type 0 where
   pub times : new.times ≡ old.times
   pub sent : KeepsFirst performed.line (first_sent (length before.session.machine.present.wire)
       (length new.tape.session.machine.present.wire)) old.sent.firsts.items new.sent.firsts.items
+  pub warned : new.warned ≡ warned_behind new performed.line
   pub score : new.score ≡ scored (record new { score = old.score }) performed.line
   pub engines : new.engines ≡ old.engines
   pub offered : new.offered ≡ old.offered
@@ -55,7 +57,11 @@ pub record PerformsNext (old new : Debugger) (performed : Performed) : Type 0 wh
   pub performs : Performs old between performed
   pub engages : Engages (event_of old.tape) performed between new
 
--- ---- a line that is not performed, since memory is refused
+-- ---- a line that is not performed
+
+-- why a line is not put behind others, or not performed: it is too long or there are too many, or memory is refused
+abbrev pub IsUnadded : BenchFault → Type 0
+IsUnadded why = (why ≡ fault.TooLarge) ⊎ (why ≡ fault.Memory)
 
 -- all but the tape is as it was, and beside each line stands what was told of it, how it came out, what it expects, its
 -- time, and what it sent
@@ -118,7 +124,7 @@ dropped_text n = if n == 0 then [] else dropped_lines_text n
 
 -- why a line was not performed
 abbrev pub fault_text : BenchFault → List ℕ
-fault_text fault = codes "stopped: " ++ (name_of fault ++ codes "\n")
+fault_text why = codes "stopped: " ++ (name_of why ++ codes "\n")
 
 -- ---- a line that is typed
 
@@ -169,14 +175,10 @@ pub data Unadded (old new : Debugger) : Type 0 where
       → KeepsSome between new
       → Unadded old new
 
--- what drivers get wrong, if that is to be said
-abbrev pub warned_text : Debugger → ℕ → List ℕ
-warned_text d line =
-    if d.warns then warnings_text d.tape.session.machine (text_of line d.tape) (event_came (came line d)) else []
-
--- what stands behind the answer to a line: its warnings, and how it differs from what the line expects
+-- what stands behind the answer to the line that was performed last: its warnings, if they are to be said, and how it
+-- differs from what the line expects
 abbrev pub behind_text : Debugger → ℕ → List ℕ
-behind_text d line = warned_text d line ++ compared_text d line
+behind_text d line = found_text d.warned ++ compared_text d line
 
 -- a line that was performed is answered as em_bench answers it, where its event did nothing with the reason, and its
 -- warnings stand behind that, and how it differs from what the line expects
@@ -200,15 +202,16 @@ pub data ShowsSteps : ℕ → Debugger → Debugger → List ℕ → Type 0 wher
       → PerformsNext old between p → ShowsPerformed between p one → ShowsSteps (length old.tape.lines) between new rest
       → ShowsSteps lines old new (one ++ rest)
   over : (lines : ℕ) (d : Debugger) → IsLast d → ShowsSteps lines d d []
-  stopped : (lines : ℕ) (old new : Debugger) (fault : BenchFault) → Unperformed old new
-      → ShowsSteps lines old new (fault_text fault)
+  stopped : (lines : ℕ) (old new : Debugger) (why : BenchFault) → IsUnadded why → Unperformed old new
+      → ShowsSteps lines old new (fault_text why)
 
 -- a line that lay ahead is answered so, and then come the steps of engines; or it is said why it was not performed
 pub data AnswersNext (old new : Debugger) (text : List ℕ) : Type 0 where
   performed : (between : Debugger) (p : Performed) (answer rest : List ℕ) → PerformsNext old between p
       → AnswersPerformed between p answer → ShowsSteps (length old.tape.lines) between new rest
       → text ≡ answer ++ rest → AnswersNext old new text
-  unperformed : (fault : BenchFault) → text ≡ fault_text fault → Unperformed old new → AnswersNext old new text
+  unperformed : (why : BenchFault) → IsUnadded why → text ≡ fault_text why → Unperformed old new
+      → AnswersNext old new text
 
 -- what was dropped is said, and then the line is answered
 pub record AnswersAdded (old new : Debugger) (dropped : ℕ) (text : List ℕ) : Type 0 where
@@ -220,7 +223,8 @@ pub record AnswersAdded (old new : Debugger) (dropped : ℕ) (text : List ℕ) :
 pub data AnswersNew (old new : Debugger) (line asked text : List ℕ) : Type 0 where
   added : (between : Debugger) (dropped : ℕ) → AddsLine old between line asked dropped
       → AnswersAdded between new dropped text → AnswersNew old new line asked text
-  refused : (fault : BenchFault) → text ≡ fault_text fault → Unadded old new → AnswersNew old new line asked text
+  refused : (why : BenchFault) → IsUnadded why → text ≡ fault_text why → Unadded old new
+      → AnswersNew old new line asked text
 
 -- a line that only looks, where lines or events lie ahead
 abbrev pub looks_back : Tape → BenchLine → Bool

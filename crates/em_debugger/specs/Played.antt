@@ -12,7 +12,7 @@ use Rattle.em_debugger.specs.declared.performing.Performed.{Performed}
 use Rattle.em_debugger.specs.declared.played.Played.{Played}
 use Rattle.em_debugger.specs.Counted.{counted}
 use Rattle.em_debugger.specs.Debugger.{told}
-use Rattle.em_debugger.specs.Performing.{PerformsNext, IsLast, Unperformed, fault_text}
+use Rattle.em_debugger.specs.Performing.{PerformsNext, IsLast, IsUnadded, Unperformed, fault_text}
 
 -- a line that was refused, or is none
 abbrev pub is_wrong_outcome : Outcome → Bool
@@ -36,7 +36,7 @@ pub record CountsUp (lines : List Performed) (played : Played) : Type 0 where
 -- how it ended: no line lies ahead; or the next one was not performed
 abbrev pub PlayedTo : Option BenchFault → Debugger → Debugger → Type 0
 PlayedTo None before after = (after ≡ before) × IsLast before
-PlayedTo (Some fault) before after = Unperformed before after
+PlayedTo (Some fault) before after = IsUnadded fault × Unperformed before after
 
 -- the lines ahead of the place were performed, one after another
 pub record PlaysAll (old new : Debugger) (played : Played) (fault : Option BenchFault) : Type 0 where

@@ -18,7 +18,7 @@ use Rattle.em_debugger.specs.Engines.{is_refused}
 use Rattle.em_debugger.specs.Expected.{answers_otherwise}
 use Rattle.em_debugger.specs.Lost.{LosesSo, held_of}
 use Rattle.em_debugger.specs.Place.{line_here, text_of}
-use Rattle.em_debugger.specs.Performing.{PerformsNext, IsLast, ShowsPerformed, Unperformed, fault_text}
+use Rattle.em_debugger.specs.Performing.{PerformsNext, IsLast, IsUnadded, ShowsPerformed, Unperformed, fault_text}
 use Rattle.em_debugger.specs.Who.{TellsNewest}
 
 -- the run ends before the line of this number
@@ -94,7 +94,7 @@ pub record RanTo (s : Stop) (first new : Debugger) (n : ℕ) (performed : Perfor
   pub performs : PerformsNext before new performed
   pub ends : EndsBehind s before new performed
 
--- lines were performed, and then memory was refused
+-- lines were performed, and the next one was not
 pub record RanShort (s : Stop) (first new : Debugger) (n : ℕ) : Type 0 where
   pub before : Debugger
   pub runs : Runs s first n before
@@ -105,7 +105,7 @@ abbrev pub RanSo : Stop → Debugger → Debugger → ℕ → Ran → Type 0
 RanSo s first new n (ran.Behind performed) = RanTo s first new n performed
 RanSo s first new n (ran.Before line) = Runs s first n new × (line ≡ line_here new.tape + 1) × EndsBefore s new
 RanSo s first new n ran.End = Runs s first n new × IsLast new
-RanSo s first new n (ran.Fault fault) = RanShort s first new n
+RanSo s first new n (ran.Fault fault) = IsUnadded fault × RanShort s first new n
 
 -- what is said where a line ended the run: who changed it, or the line and its answer
 abbrev pub TellsStopped : Stop → Debugger → Debugger → Performed → List ℕ → Type 0

@@ -130,13 +130,12 @@ abbrev pub asked_after : Option Asked → Watch → Sought → Option Asked
 asked_after asked watch (sought.Found found) = Some (record { watch = watch; event = found.event })
 asked_after asked watch _ = asked
 
--- the newest change from so many steps back on was told, and is what was asked for last
+-- the newest change from so many steps back on was told, and is what was asked for last; all else is as it was
 pub record TellsNewest (old new : Debugger) (watch : Watch) (back : ℕ) (text : List ℕ) : Type 0 where
   pub given : Sought
   pub sought : SeeksHere old watch back given
   pub said : TellsSought old.tape watch back given text
-  pub asked : new.asked ≡ asked_after old.asked watch given
-  pub tape : new.tape ≡ old.tape
+  pub asked : new ≡ record old { asked = asked_after old.asked watch given }
 
 -- how many steps back lead before an event
 abbrev pub before : ℕ → Tape → ℕ

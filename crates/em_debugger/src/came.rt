@@ -1,5 +1,5 @@
 //! How the lines came out.
-ghost use Rattle.std.specs.Prelude.{◌≡◌, ◌<◌, ◌≤◌, OnOk, [], length, take, slice_set};
+ghost use Rattle.std.specs.Prelude.{◌≡◌, ◌<◌, ◌≤◌, IfErr, OnOk, [], length, take, slice_set};
 ghost use Rattle.em_debugger.specs.Came.{Stays, came_of};
 
 use em_script::{BenchFault, Outcome};
@@ -25,6 +25,7 @@ impl Came {
     pub(crate) fn make_ready(&mut self, number: usize) -> Result<(), BenchFault>
         ensures stay { Stays self.old.outcomes.items self.new.outcomes.items }
         ensures place { OnOk result (number ≤ length self.new.outcomes.items) }
+        ensures only { IfErr result (λ fault. fault ≡ BenchFault.Memory) }
     {
         while self.outcomes.len() < number {
             let Ok(()) = self.outcomes.push(Outcome::Silent) else {

@@ -13,6 +13,7 @@ use crate::told::Told;
 use crate::who::Asked;
 use em_journal::{Settings, SettingsRefusal};
 use em_tape::Tape;
+use em_warnings::Warning;
 use std::alloc::Global;
 use std::collections::VecDeque;
 
@@ -28,6 +29,8 @@ pub struct Debugger {
     pub(crate) came: Came,
     // the answer of the line that was performed last
     pub(crate) answer: Vec<u8>,
+    // what the rules say of it that tell what drivers get wrong, if they are asked
+    pub(crate) warned: Option<[Option<Warning>; 6]>,
     // what was asked for last
     pub(crate) asked: Option<Asked>,
     // whether it is said what drivers get wrong
@@ -60,6 +63,7 @@ impl Debugger {
                 told: Told::new(alloc),
                 came: Came::new(alloc),
                 answer: Vec::new(alloc),
+                warned: None,
                 asked: None,
                 warns: true,
                 wanted: Told::new(alloc),

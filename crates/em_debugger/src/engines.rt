@@ -1,8 +1,9 @@
 //! Engines that run by themselves: their steps are lines of the session.
-ghost use Rattle.std.specs.Prelude.{◌≡◌, ◌<◌, ◌≤◌, OnOk, OnErr, IfSome, length, nat_lt};
+ghost use Rattle.std.specs.Prelude.{◌≡◌, ◌<◌, ◌≤◌, IfErr, IfSome, OnOk, OnErr, length, nat_lt};
 ghost use Rattle.em_text.specs.Writer.{Writes};
 ghost use Rattle.em_debugger.specs.Engines.{Engages, PutsNone, PutsStep, engine_behind, engines_are, behind_refused};
 ghost use Rattle.em_debugger.specs.Engines.{behind_step, is_refused, running, sending, step_line, step_of, steps_of};
+ghost use Rattle.em_debugger.specs.Performing.{IsUnadded};
 
 use crate::debugger::Debugger;
 use crate::performing::Performed;
@@ -56,6 +57,7 @@ impl Debugger {
     pub(crate) fn engage(&mut self, performed: Performed, before: u64) -> Result<(), BenchFault>
         ensures ok { OnOk result (Engages before performed self.old self.new) }
         ensures err { OnErr result (PutsNone self.old self.new) }
+        ensures only { IfErr result IsUnadded }
         ensures settings { self.new.settings ≡ self.old.settings }
     {
         match self.engine_behind(performed, before) {
@@ -90,6 +92,7 @@ impl Debugger {
         requires newest { length self.old.tape.did ≤ self.old.tape.whole }
         ensures ok { OnOk result (PutsStep side self.old self.new) }
         ensures err { OnErr result (PutsNone self.old self.new) }
+        ensures only { IfErr result IsUnadded }
         ensures settings { self.new.settings ≡ self.old.settings }
     {
         let whole = self.tape.whole();

@@ -5,15 +5,15 @@ ghost use Rattle.em_step.specs.Event.{plain as plain_event};
 ghost use Rattle.em_text.specs.Writer.{Writes};
 ghost use Rattle.em_tape.specs.Texts.{texts};
 ghost use Rattle.em_debugger.specs.Expected.{answers_otherwise, compared_text, differs, scored, scored_answer, wanted};
-ghost use Rattle.em_debugger.specs.Expected.{warnings_behind, with_answer};
+ghost use Rattle.em_debugger.specs.Expected.{warned_behind, with_answer};
 
 use crate::debugger::Debugger;
 use crate::place::text_of;
-use crate::warned::warnings_of_line;
 use em_expect::{agrees_of, write_difference};
 use em_line::accessed;
 use em_step::Event;
 use em_text::WriteFailed;
+use em_warnings::{Warning, count_found, found_in};
 use std::io::Write;
 
 /// How many answers were as their lines expect, how many were not, and how many warnings lines had.
@@ -78,23 +78,26 @@ impl Debugger {
         self.score
     }
 
-    /// Counts the warnings of a line, if they are to be said, and its answer, if it expects one.
+    /// Keeps which warnings a line has, if they are to be said, and counts them, and its answer, if it expects one.
     pub(crate) fn count_answer(&mut self, line: usize)
-        ensures { self.new ≡ record self.old { score = scored self.old line } }
+        ensures { self.new ≡ record self.old {
+          score = scored self.old line;
+          warned = warned_behind self.old line;
+        } }
     {
-        let warnings = self.warnings_behind(line);
         self.count_expected(line);
-        self.score = self.score.with_warnings(warnings);
+        self.warned = self.warned_behind(line);
+        self.score = self.score.with_warnings(count_found(&self.warned));
     }
 
-    /// How many warnings a line has, if they are to be said.
-    fn warnings_behind(&self, line: usize) -> usize
-        ensures { result ≡ warnings_behind self.now line }
+    /// What the rules say of a line, if that is to be said and they are asked.
+    fn warned_behind(&self, line: usize) -> Option<[Option<Warning>; 6]>
+        ensures { result ≡ warned_behind self.now line }
     {
         if !self.warns {
-            return 0;
+            return None;
         }
-        warnings_of_line(
+        found_in(
             self.tape.machine(),
             text_of(&self.tape, line),
             self.came.of(line).event(),
@@ -115,8 +118,16 @@ impl Debugger {
     pub(crate) fn answers_otherwise(&self, line: usize) -> bool
         ensures { result ≡ answers_otherwise self.now line }
     {
-        let event = accessed(text_of(&self.tape, line));
-        differs(event, self.wanted.of(line), self.answer.as_slice())
+        let wanted = self.wanted.of(line);
+        // Most lines expect none, and need not be read again.
+        if wanted.is_empty() {
+            return false;
+        }
+        differs(
+            accessed(text_of(&self.tape, line)),
+            wanted,
+            self.answer.as_slice(),
+        )
     }
 
     /// Writes how the answer to a line differs from the one that the line expects, if it does.

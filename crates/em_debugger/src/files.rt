@@ -10,9 +10,10 @@ ghost use Rattle.em_debugger.specs.Disk.{Deed, Did, Refused, Unmade, disk_text, 
 ghost use Rattle.em_debugger.specs.Place.{text_of};
 ghost use Rattle.em_debugger.specs.Sending.{timed_in};
 ghost use Rattle.em_debugger.specs.Told.{KeepsText, KeepsTexts, Stay};
-ghost use Rattle.em_debugger.specs.Files.{AddsLines, AddsSome, BeginsBehind, BeginsInstead, BeginsText, IsUnadded, SomeAdded, played_in};
+ghost use Rattle.em_debugger.specs.Files.{AddsLines, AddsSome, BeginsAdded, BeginsBehind, BeginsInstead, BeginsLines, BeginsText};
+ghost use Rattle.em_debugger.specs.Files.{IsUnadded, SomeAdded, added_of, played_in, reads};
 ghost use Rattle.em_debugger.specs.Offers.{Loads, LoadsAs, is_capture};
-ghost use Rattle.em_debugger.specs.Files.{LoadsText, PlaysText, Saves, loaded_text, saved_text, script_here};
+ghost use Rattle.em_debugger.specs.Files.{Saves, loaded_text, saved_text, script_here};
 
 use crate::debugger::Debugger;
 use crate::disk::{Disk, DiskFault};
@@ -21,7 +22,7 @@ use crate::performing::{write_dropped, write_fault};
 use crate::place::{line_here, text_of};
 use crate::sending::time_of;
 use crate::told::Told;
-use em_line::parts_of;
+use em_line::{is_line, parts_of};
 use em_looks::write_counted;
 use em_prompt::scripted;
 use em_script::BenchFault;
@@ -30,15 +31,25 @@ use em_text::{WriteFailed, next_line, write_pieces, write_whole};
 use std::alloc::Global;
 use std::io::Write;
 
+/// Lines that were added.
+#[derive(Clone, Copy, PartialEq, Eq, Debug)]
+pub struct Added {
+    /// How many they are.
+    pub lines: usize,
+    /// Whether em_bench reads what is played of each of them: none is bad.
+    pub are_read: bool,
+}
+
 impl Debugger {
-    /// Puts the lines of a text behind the last line, and gives how many they are. They are not performed.
+    /// Puts the lines of a text behind the last line, and says how many they are, and whether none is bad. They are not
+    /// performed.
     ///
     /// Refused as `TooLarge` where a line is too long or there are too many, and as `Memory`; the lines before are there
     /// then.
-    pub fn add_lines(&mut self, text: &[u8]) -> Result<usize, BenchFault>
+    pub fn add_lines(&mut self, text: &[u8]) -> Result<Added, BenchFault>
         ensures ok { OnOk result (AddsLines self.old self.new (lines_of text.now)) }
         ensures err { OnErr result (AddsSome self.old self.new (lines_of text.now)) }
-        ensures count { IfOk result (λ count. count ≡ length (lines_of text.now)) }
+        ensures are { IfOk result (λ added. added ≡ added_of (lines_of text.now)) }
         ensures only { IfErr result IsUnadded }
     {
         add_all(
@@ -50,8 +61,8 @@ impl Debugger {
         )
     }
 
-    /// Begins with a text: loads its lines behind the last one, and plays them unless they are to be stepped through.
-    pub fn begin_text<W: Write>(
+    /// Loads the lines of a text behind the last one, and plays them unless they are to be stepped through.
+    fn begin_text<W: Write>(
         &mut self,
         writer: &mut W,
         script: &[u8],
@@ -60,25 +71,41 @@ impl Debugger {
         ensures ok { OnOk result ((text : List ℕ) × Appends (W.contents writer.old) (W.contents writer.new) text
             × BeginsText step self.old self.new script.now text) }
     {
-        if step {
-            self.load_text(writer, script)
-        } else {
-            self.play_text(writer, script)
+        let added = self.add_lines(script);
+        self.begin_added(writer, added, step)
+    }
+
+    /// Begins with lines that were added: says how many they are, or plays them, unless they are to be stepped through. Where
+    /// they were not all added, it says why.
+    pub fn begin_added<W: Write>(
+        &mut self,
+        writer: &mut W,
+        added: Result<Added, BenchFault>,
+        step: bool,
+    ) -> Result<(), WriteFailed>
+        ensures ok { OnOk result ((text : List ℕ) × Appends (W.contents writer.old) (W.contents writer.new) text
+            × BeginsAdded step added self.old self.new text) }
+    {
+        match added {
+            Ok(added) => self.begin_lines(writer, added.lines, step),
+            Err(fault) => write_fault(writer, fault),
         }
     }
 
-    /// Loads the lines of a text, and plays them.
-    pub(crate) fn play_text<W: Write>(
+    /// Begins with so many lines that were added.
+    fn begin_lines<W: Write>(
         &mut self,
         writer: &mut W,
-        script: &[u8],
+        count: usize,
+        step: bool,
     ) -> Result<(), WriteFailed>
         ensures ok { OnOk result ((text : List ℕ) × Appends (W.contents writer.old) (W.contents writer.new) text
-            × PlaysText self.old self.new script.now text) }
+            × BeginsLines step count self.old self.new text) }
     {
-        match self.add_lines(script) {
-            Ok(_) => self.run_all(writer),
-            Err(fault) => write_fault(writer, fault),
+        if step {
+            write_loaded(writer, count)
+        } else {
+            self.run_all(writer)
         }
     }
 
@@ -147,17 +174,6 @@ impl Debugger {
         self.begin_text(writer, script, step)
     }
 
-    /// Loads the lines of a text behind the last line.
-    fn load_text<W: Write>(&mut self, writer: &mut W, script: &[u8]) -> Result<(), WriteFailed>
-        ensures ok { OnOk result ((text : List ℕ) × Appends (W.contents writer.old) (W.contents writer.new) text
-            × LoadsText self.old self.new script.now text) }
-    {
-        match self.add_lines(script) {
-            Ok(count) => write_loaded(writer, count),
-            Err(fault) => write_fault(writer, fault),
-        }
-    }
-
     /// Saves the lines up to the place.
     pub(crate) fn save<W: Write, D: Disk>(
         &self,
@@ -206,14 +222,14 @@ impl Debugger {
     }
 }
 
-/// Puts the lines of a text behind the last line of a tape, and gives how many they are.
+/// Puts the lines of a text behind the last line of a tape.
 fn add_all(
     alloc: Global,
     tape: &mut Tape,
     wanted: &mut Told,
     times: &mut Told,
     text: &[u8],
-) -> Result<usize, BenchFault>
+) -> Result<Added, BenchFault>
     ensures ok { OnOk result (tape.new ≡ record tape.old {
       lines = tape.old.lines ++ map played_in (lines_of text.now);
     }) }
@@ -221,36 +237,41 @@ fn add_all(
         (texts wanted.old.answers.items) (texts wanted.new.answers.items)) }
     ensures times { OnOk result (KeepsTexts timed_in (length tape.old.lines + 1) (lines_of text.now)
         (texts times.old.answers.items) (texts times.new.answers.items)) }
-    ensures count { IfOk result (λ count. count ≡ length (lines_of text.now)) }
+    ensures are { IfOk result (λ added. added ≡ added_of (lines_of text.now)) }
     ensures err { OnErr result (SomeAdded tape.old tape.new (texts wanted.old.answers.items)
         (texts wanted.new.answers.items) (texts times.old.answers.items) (texts times.new.answers.items)
         (lines_of text.now)) }
     ensures only { IfErr result IsUnadded }
 {
     let before = tape.len();
+    let mut are_read = true;
     let mut rest = text;
     while !rest.is_empty() {
         let (line, behind) = next_line(rest);
-        add_line(alloc, tape, wanted, times, line)?;
+        are_read &= add_line(alloc, tape, wanted, times, line)?;
         rest = behind;
     }
-    Ok(tape.len().saturating_sub(before))
+    Ok(Added {
+        lines: tape.len().saturating_sub(before),
+        are_read,
+    })
 }
 
 /// Puts what a line says behind the last line of a tape, and keeps which answer it expects, and its time, if its comment is
-/// one.
+/// one. Says whether em_bench reads what is played of it.
 fn add_line(
     alloc: Global,
     tape: &mut Tape,
     wanted: &mut Told,
     times: &mut Told,
     line: &[u8],
-) -> Result<(), BenchFault>
+) -> Result<bool, BenchFault>
     ensures ok { OnOk result (tape.new ≡ record tape.old { lines = tape.old.lines ++ played_in line.now ∷ [] }) }
     ensures expect { OnOk result (Expects (length tape.old.lines + 1) (wanted_in line.now)
         (texts wanted.old.answers.items) (texts wanted.new.answers.items)) }
     ensures timed { OnOk result (KeepsText (length tape.old.lines + 1) (timed_in line.now)
         (texts times.old.answers.items) (texts times.new.answers.items)) }
+    ensures read { IfOk result (λ read. read ≡ reads (played_in line.now)) }
     ensures err { OnErr result (tape.new ≡ tape.old) }
     ensures stay { OnErr result (Stay (texts wanted.old.answers.items) (texts wanted.new.answers.items)) }
     ensures still { OnErr result (Stay (texts times.old.answers.items) (texts times.new.answers.items)) }
@@ -266,35 +287,43 @@ fn add_line(
     let Ok(time) = times.make_ready(before + 1, time) else {
         return Err(BenchFault::Memory);
     };
-    add_played(alloc, tape, wanted, parts.said, answer)?;
+    let read = add_played(alloc, tape, wanted, parts.said, answer)?;
     times.set(before, time);
-    Ok(())
+    Ok(read)
 }
 
 /// Puts what is played of a line that says this behind the last line of a tape, and keeps which answer it expects: names
-/// of registers and bits and the like in the words that em_bench reads.
+/// of registers and bits and the like in the words that em_bench reads. Says whether em_bench reads it.
 fn add_played(
     alloc: Global,
     tape: &mut Tape,
     wanted: &mut Told,
     said: &[u8],
     answer: &[u8],
-) -> Result<(), BenchFault>
+) -> Result<bool, BenchFault>
     ensures ok { OnOk result (tape.new ≡ record tape.old { lines = tape.old.lines ++ played said.now ∷ [] }) }
     ensures expect { OnOk result (Expects (length tape.old.lines + 1) answer.now
         (texts wanted.old.answers.items) (texts wanted.new.answers.items)) }
+    ensures read { IfOk result (λ read. read ≡ reads (played said.now)) }
     ensures err { OnErr result (tape.new ≡ tape.old) }
     ensures stay { OnErr result (Stay (texts wanted.old.answers.items) (texts wanted.new.answers.items)) }
     ensures only { IfErr result IsUnadded }
 {
+    // Most lines em_bench reads as they stand, and they are looked at once.
+    if is_line(said) {
+        add_expecting(tape, wanted, said, answer)?;
+        return Ok(true);
+    }
     let Some(line) = scripted(said) else {
-        return add_expecting(tape, wanted, said, answer);
+        add_expecting(tape, wanted, said, answer)?;
+        return Ok(false);
     };
     let mut text = Vec::new(alloc);
     if line.write(&mut text).is_err() {
         return Err(BenchFault::Memory);
     }
-    add_expecting(tape, wanted, text.as_slice(), answer)
+    add_expecting(tape, wanted, text.as_slice(), answer)?;
+    Ok(is_line(text.as_slice()))
 }
 
 /// Puts a line behind the last line of a tape, and keeps which answer it expects, if it expects one. Where that is

@@ -31,7 +31,6 @@ mod search;
 mod sending;
 mod stops;
 mod told;
-mod warned;
 mod who;
 mod why;
 
@@ -39,4 +38,5 @@ pub use compare::{Compared, Differing};
 pub use debugger::Debugger;
 pub use disk::{Disk, DiskFault};
 pub use expected::Score;
+pub use files::Added;
 pub use laws::{saved_lines_are_read, the_found_event_led};

@@ -6,10 +6,10 @@ ghost use Rattle.em_prompt.specs.BenchLine.{plain as plain_line};
 ghost use Rattle.em_tape.specs.Tape.{event_of};
 ghost use Rattle.em_debugger.specs.Place.{line_here};
 ghost use Rattle.em_debugger.specs.Performing.{Performs, PerformsNext, IsLast, Cuts, AddsLine, AnswersNext, AnswersTyped, ShowsSteps};
-ghost use Rattle.em_debugger.specs.Performing.{AnswersNew, AnswersAdded, AnswersPerformed, ShowsPerformed, Unadded, Uncut, Unperformed};
+ghost use Rattle.em_debugger.specs.Performing.{AnswersNew, AnswersAdded, AnswersPerformed, IsUnadded, ShowsPerformed, Unadded, Uncut, Unperformed};
 ghost use Rattle.em_debugger.specs.Performing.{heading_text, looks_back};
 ghost use Rattle.em_debugger.specs.Performing.{is_among_lines, dropped_text, dropped_lines_text};
-ghost use Rattle.em_debugger.specs.Performing.{behind_text, fault_text, warned_text};
+ghost use Rattle.em_debugger.specs.Performing.{behind_text, fault_text};
 
 use crate::bench_looks::{answer_look, is_look};
 use crate::debugger::Debugger;
@@ -20,7 +20,7 @@ use em_looks::{write_counted, write_number, write_short};
 use em_prompt::BenchLine;
 use em_script::{BenchFault, Outcome};
 use em_text::{WriteFailed, write_pieces, write_whole};
-use em_warnings::write_warnings;
+use em_warnings::write_found;
 use std::io::Write;
 
 /// A line that was performed: its number, and how it came out.
@@ -97,6 +97,7 @@ impl Debugger {
         ensures ok { IfOk result (AddsLine self.old self.new text.now asked.now) }
         ensures ahead { OnOk result (line_here self.new.tape < length self.new.tape.lines) }
         ensures err { OnErr result (Unadded self.old self.new) }
+        ensures only { IfErr result IsUnadded }
     {
         let dropped = self.cut()?;
         add_expecting(&mut self.tape, &mut self.wanted, text, asked)?;
@@ -163,28 +164,12 @@ impl Debugger {
         self.write_behind(writer, performed.line)
     }
 
-    /// Writes what stands behind the answer to a line.
+    /// Writes what stands behind the answer to the line that was performed last.
     fn write_behind<W: Write>(&self, writer: &mut W, line: usize) -> Result<(), WriteFailed>
         ensures writes { Writes (W.contents writer.old) (W.contents writer.new) result (behind_text self.now line) }
     {
-        self.write_warned(writer, line)?;
+        write_found(writer, &self.warned)?;
         self.write_compared(writer, line)
-    }
-
-    /// Writes the warnings of a line, if they are to be said.
-    fn write_warned<W: Write>(&self, writer: &mut W, line: usize) -> Result<(), WriteFailed>
-        ensures writes { Writes (W.contents writer.old) (W.contents writer.new) result (warned_text self.now line) }
-    {
-        if !self.warns {
-            return Ok(());
-        }
-        let machine = self.tape.machine();
-        write_warnings(
-            writer,
-            machine,
-            text_of(&self.tape, line),
-            self.came.of(line).event(),
-        )
     }
 
     /// Performs the line behind the place, keeps its answer, and puts the step behind it that an engine makes by itself;
@@ -193,6 +178,7 @@ impl Debugger {
         ensures some { IfOk result (λ performed. IfSome performed (PerformsNext self.old self.new)) }
         ensures none { result ≡ Ok None → (self.new ≡ self.old) × IsLast self.old }
         ensures err { OnErr result (Unperformed self.old self.new) }
+        ensures only { IfErr result IsUnadded }
         ensures settings { self.new.settings ≡ self.old.settings }
     {
         let before = self.event_before();
@@ -244,6 +230,7 @@ impl Debugger {
         ensures some { IfOk result (λ performed. IfSome performed (Performs self.old self.new)) }
         ensures none { result ≡ Ok None → (self.new ≡ self.old) × IsLast self.old }
         ensures err { OnErr result (Unperformed self.old self.new) }
+        ensures only { IfErr result (λ fault. fault ≡ BenchFault.Memory) }
         ensures settings { self.new.settings ≡ self.old.settings }
     {
         let line = line_here(&self.tape);

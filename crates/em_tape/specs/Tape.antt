@@ -1,5 +1,5 @@
 -- The lines of a debugging session, and the place in it.
-use Rattle.std.specs.Prelude.{◌≡◌, ℕ, ◌+◌, ◌*◌, ◌<◌, ◌≤◌, ◌^◌, Bool, true, List, [], All, length, take, drop}
+use Rattle.std.specs.Prelude.{◌≡◌, ◌≢◌, ◌⊎◌, ℕ, ◌+◌, ◌*◌, ◌<◌, ◌≤◌, ◌^◌, Bool, true, List, [], All, length, take, drop}
 use Rattle.std.specs.Prelude.{zero, suc, refl, Option, None, slice_get}
 use Rattle.std.specs.Coded.{Coded, code_by, coded×, coded_list, coded_ℕ, coded_bool}
 use Rattle.std.specs.List.{AllByRecursion}
@@ -120,6 +120,10 @@ behind n tape = above n tape.did (standing tape)
 -- the line of the place: where it is whole, that of its last line; else so many lines as do not lie ahead of it
 abbrev pub line_here : Tape → ℕ
 line_here tape = (place_of (take tape.whole tape.did) tape.back).whole
+
+-- no steps back lead to right behind event n: it does not stand, or the journal does not reach back to it
+abbrev pub IsOutOfReach : ℕ → Tape → Type 0
+IsOutOfReach n tape = (event_at (behind n tape) tape ≢ n) ⊎ (length tape.session.machine.past < behind n tape)
 
 -- at event n; or at the end, where not so many events were performed; or as near behind it as the journal reaches
 pub data IsNear (n : ℕ) (tape : Tape) : Type 0 where

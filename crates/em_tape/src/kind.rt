@@ -1,12 +1,16 @@
 //! What lines do with events, by their forms.
-ghost use Rattle.std.specs.Prelude.{◌≡◌, false, IsTrue};
+ghost use Rattle.std.specs.Prelude.{◌≡◌, false, IsTrue, Option};
 ghost use Rattle.em_line.specs.Command.{back_by, plain};
 ghost use Rattle.em_line.specs.Form.{said_by};
 ghost use Rattle.em_line.specs.Grammar.{parsed_line};
 ghost use Rattle.em_line.specs.ParsedLine.{says};
+ghost use Rattle.em_script.specs.RefusedAt.{RefusedAt};
+ghost use Rattle.em_script.specs.Reply.{line_outcome};
+ghost use Rattle.em_script.specs.Session.{Session};
 ghost use Rattle.em_tape.specs.Kind.{IsKind, SaysBack, SaysOfDriver, LeavesDriver};
 
 use em_line::{Command, LineForm, RequestName, form_of};
+use em_script::Outcome;
 
 /// What a line does with events, if it says anything.
 #[derive(Clone, Copy, PartialEq, Eq, Debug)]
@@ -32,6 +36,17 @@ pub(crate) fn kind_of(line: &[u8]) -> Kind
     ensures { IsKind result (parsed_line line.now) }
 {
     kind_of_form(form_of(line))
+}
+
+/// The same of a line that came out so. Only an event is answered, so such a line need not be read again.
+pub(crate) fn kind_by(line: &[u8], outcome: Outcome) -> Kind
+    ensures { (memory : Option RefusedAt) (before : Session) → outcome ≡ line_outcome memory (parsed_line line.now) before
+        → IsKind result (parsed_line line.now) }
+{
+    match outcome {
+        Outcome::Answered(_) => Kind::Event,
+        _ => kind_of(line),
+    }
 }
 
 /// What a line of this form does with events.

@@ -13,7 +13,7 @@ ghost use Rattle.em_tape.specs.Moves.{IsPlayed};
 ghost use Rattle.em_tape.specs.Tape.{IsShort};
 
 use crate::did::{Seen, did_of, is_noted};
-use crate::kind::kind_of;
+use crate::kind::{kind_by, kind_of};
 use crate::known::{Known, known_of};
 use crate::text::Text;
 use em_journal::{Settings, SettingsRefusal};
@@ -78,17 +78,19 @@ pub(crate) fn play<W: Write>(
         started,
         called: session.events_of_call(),
     };
-    let kind = kind_of(line);
     match replied {
-        Ok(outcome) => Some(Played {
-            replied,
-            did: did_of(kind, outcome, seen),
-            known: known_of(kind, outcome, seen),
-        }),
+        Ok(outcome) => {
+            let kind = kind_by(line, outcome);
+            Some(Played {
+                replied,
+                did: did_of(kind, outcome, seen),
+                known: known_of(kind, outcome, seen),
+            })
+        }
         // No outcome is known: it is taken for done.
         Err(WriteFailed) => Some(Played {
             replied,
-            did: did_of(kind, Outcome::Done, seen),
+            did: did_of(kind_of(line), Outcome::Done, seen),
             known: Known::Other,
         }),
     }

@@ -11,7 +11,7 @@ ghost use Rattle.em_named.specs.Numbers.{end_of, line_of, name_of};
 ghost use Rattle.em_line.specs.Grammar.{parsed_line};
 ghost use Rattle.em_tape.specs.Kind.{LeavesDriver, SaysOfDriver};
 ghost use Rattle.em_tape.specs.Tape.{behind, empty_tape, event_at, event_of, line_at, line_here, standing, taken_back};
-ghost use Rattle.em_tape.specs.Tape.{IsNamed, IsNear, IsShort, IsTape};
+ghost use Rattle.em_tape.specs.Tape.{IsNamed, IsNear, IsOutOfReach, IsShort, IsTape};
 ghost use Rattle.em_tape.specs.Moves.{IsCut, IsCutPlace, IsPartlyCut, Leaves, Plays, TakesBack, TakesFewerBack, TakesNext};
 
 use crate::again::go_along;
@@ -266,6 +266,7 @@ impl Tape {
           session = self.new.session;
         }) }
         ensures err { OnErr result (self.new ≡ self.old) }
+        ensures beyond { OnErr result (IsOutOfReach event self.old) }
         ensures only { IfErr result (λ fault. fault ≡ BenchFault.Memory) }
     {
         if self.steps_back_to(event) {
@@ -286,6 +287,7 @@ impl Tape {
           session = self.new.session;
         } }
         ensures same { result ≡ false → self.new ≡ self.old }
+        ensures beyond { result ≡ false → IsOutOfReach event self.old }
     {
         let steps = self.behind(event);
         if steps > self.session.machine().can_go_back() || self.event_back(steps) != event {
@@ -304,6 +306,7 @@ impl Tape {
           session = self.new.session;
         }) }
         ensures err { OnErr result (self.new ≡ self.old) }
+        ensures beyond { OnErr result (IsOutOfReach (min (event_of self.old + events) 0xFFFF_FFFF_FFFF_FFFF) self.old) }
         ensures only { IfErr result (λ fault. fault ≡ BenchFault.Memory) }
     {
         self.goto(self.event().saturating_add(events))

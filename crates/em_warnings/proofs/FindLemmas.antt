@@ -1,14 +1,16 @@
 -- What a search finds.
 use Rattle.std.proofs.Common.{◌≡◌, ◌∙◌, ◌+◌, ◌-◌, ◌<◌, ◌≤◌, ℕ, zero, suc, Bool, true, false, List, [], ◌∷◌, Option}
 use Rattle.std.proofs.Common.{Some, None, cond, refl, sym, ap, arith, add-zero, inl, inr}
-use Rattle.std.specs.Prelude.{find}
-use Rattle.std.specs.Option.{option_or}
+use Rattle.std.specs.Prelude.{◌&&◌, find, min}
+use Rattle.std.specs.Option.{option_map_or, option_or}
 use Rattle.std.specs.List.{range_with_len}
 use Rattle.std.proofs.lemmas.Bool.{cases_lt}
 use Rattle.em_journal.specs.View.{View}
 use Rattle.em_regs.specs.declared.ring.Ring.{Ring}
 use Rattle.em_warnings.specs.declared.flaw.Flaw.{Flaw}
-use Rattle.em_warnings.specs.Descriptors.{first_flawed, first_from, is_flawed}
+use Rattle.em_inspect.specs.Ring.{is_adapters, octets_at}
+use Rattle.em_regs.specs.Ring.{descriptor_at}
+use Rattle.em_warnings.specs.Descriptors.{first_flawed, first_from, has_flaw, is_flawed}
 
 same_some : {X : Type 0} (x y : X) → Some x ≡ Some y → x ≡ y
 same_some x y e = cc
@@ -43,6 +45,41 @@ find_fails p a (suc n) zero e less =
 find_fails p a (suc n) (suc k) e less =
     let next : a + suc k ≡ (a + 1) + k = omega arith in
     ap p next ∙ find_fails p (a + 1) n k (rest_fails a (find p (range_with_len (a + 1) n)) (p a) e) (omega arith)
+
+-- nothing is found in a range of which no number passes
+finds_none : (p : ℕ → Bool) (a n : ℕ) → ((i : ℕ) → a ≤ i → i < a + n → p i ≡ false)
+    → find p (range_with_len a n) ≡ None
+finds_none p a zero none = refl
+finds_none p a (suc n) none =
+    ap (λ b. cond b (Some a) (find p (range_with_len (a + 1) n))) (none a (omega arith) (omega arith))
+    ∙ finds_none p (a + 1) n (λ i from below. none i (omega arith) (omega arith))
+
+-- a search may stop where no number passes any more
+finds_before : (p : ℕ → Bool) (a n k : ℕ) → k ≤ n → ((i : ℕ) → a + k ≤ i → i < a + n → p i ≡ false)
+    → find p (range_with_len a k) ≡ find p (range_with_len a n)
+finds_before p a n zero less none =
+    sym (finds_none p a n (λ i from below. none i (omega arith) below))
+finds_before p a zero (suc k) less none = absurd (omega arith)
+finds_before p a (suc n) (suc k) less none =
+    ap (λ rest. cond (p a) (Some a) rest)
+    (finds_before p (a + 1) n k (omega arith) (λ i from below. none i (omega arith) (omega arith)))
+
+-- the same of the numbers from one on, below another
+pub finds_below : (p : ℕ → Bool) (a b held : ℕ) → ((i : ℕ) → held ≤ i → p i ≡ false)
+    → find p (range_with_len a (min b held - a)) ≡ find p (range_with_len a (b - a))
+finds_below p a b held none =
+    finds_before p a (b - a) (min b held - a) (grind arith) (λ i from below. none i (grind arith))
+
+both_fail : (b : Bool) → (b && false) ≡ false
+both_fail true = refl
+both_fail false = refl
+
+-- a descriptor outside guest memory has no flaw
+pub unflawed : (r : Ring) (v : View) (flaw : Flaw) (i : ℕ) → octets_at r v.present.memory i ≡ None
+    → is_flawed r v flaw i ≡ false
+unflawed r v flaw i none =
+    ap (λ (o : Option (List ℕ)). is_adapters r i && option_map_or (has_flaw v flaw (descriptor_at r i)) o false) none
+    ∙ both_fail (is_adapters r i)
 
 -- the same of a number from one on, below another
 fails_from : (p : ℕ → Bool) (a b i : ℕ) → find p (range_with_len a (b - a)) ≡ None → a ≤ i → i < b → p i ≡ false

@@ -1,2 +1,3 @@
 mod FindLemmas
 mod WrittenLaws
+mod RulesLaws

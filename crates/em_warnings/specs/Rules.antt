@@ -123,6 +123,15 @@ interrupts_before_rings s _ = None
 
 -- ---- all of them
 
+-- rules besides the first ask about the register
+abbrev pub is_of_ring : Reg → Bool
+is_of_ring reg.Rdt = true
+is_of_ring reg.Tdt = true
+is_of_ring reg.Rctl = true
+is_of_ring reg.Tctl = true
+is_of_ring reg.Ims = true
+is_of_ring _ = false
+
 -- what each rule says of a write of a value to a register, in their order
 abbrev pub warnings_of : View → Reg → ℕ → List (Option Warning)
 warnings_of v reg value =

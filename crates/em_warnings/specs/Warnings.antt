@@ -1,5 +1,5 @@
 -- The warnings of a line.
-use Rattle.std.specs.Prelude.{ℕ, ◌==◌, if◌then◌else◌, List, [], Option, Some, None, Result, Ok}
+use Rattle.std.specs.Prelude.{ℕ, suc, ◌==◌, if◌then◌else◌, Bool, true, false, List, [], ◌∷◌, Option, Some, None, Result, Ok}
 use Rattle.std.specs.List.{flat_map}
 use Rattle.em_regs.specs.declared.reg.Reg.{Reg}
 use Rattle.em_regs.specs.declared.reg.Reg.TheVariants.{Icr}
@@ -25,26 +25,59 @@ line_of (Some warning) = warning_text warning
 abbrev pub lines_of : List (Option Warning) → List ℕ
 lines_of warnings = flat_map line_of warnings
 
+-- how many are there
+abbrev pub there : List (Option Warning) → ℕ
+there [] = 0
+there (None ∷ warnings) = there warnings
+there (Some warning ∷ warnings) = suc (there warnings)
+
+-- ---- what each rule says, if the rules are asked
+
 -- of a write of a value to a register
-abbrev pub lines_of_write : View → Option (Reg × ℕ) → List ℕ
-lines_of_write v None = []
-lines_of_write v (Some write) = lines_of (warnings_of v write.0 write.1)
+abbrev pub of_write : View → Option (Reg × ℕ) → Option (List (Option Warning))
+of_write v None = None
+of_write v (Some write) = Some (warnings_of v write.0 write.1)
 
--- of a read of a register that gave 0
-abbrev pub lines_of_read : View → Option Reg → List ℕ
-lines_of_read v (Some Icr) = line_of (read_again v)
-lines_of_read v _ = []
+-- of an access that was done, if it is a write
+abbrev pub of_access : View → Option Event → Option (List (Option Warning))
+of_access v None = None
+of_access v (Some e) = of_write v (written_by e)
 
--- of an event with its outcome, as it left the machine: a write that was performed, and a read that gave 0
+-- of a read of a register that gave 0: one rule asks about ICR
+abbrev pub of_read : View → Option Reg → Option (List (Option Warning))
+of_read v (Some Icr) = Some (read_again v ∷ None ∷ None ∷ None ∷ None ∷ None ∷ [])
+of_read v _ = None
+
+-- of an access with its outcome, as it left the machine: a write that was performed, and a read that gave 0
+abbrev pub found_of : View → Option Event → Option (Result Answer Refusal) → Option (List (Option Warning))
+found_of v access (Some (Ok answer.Done)) = of_access v access
+found_of v access (Some (Ok (answer.Value value))) = if value == 0 then of_read v (register_of access) else None
+found_of v access _ = None
+
+-- they are asked where it came to this
+abbrev pub is_asked : Option (Result Answer Refusal) → Bool
+is_asked (Some (Ok answer.Done)) = true
+is_asked (Some (Ok (answer.Value value))) = value == 0
+is_asked _ = false
+
+-- of a line whose event came to this
+abbrev pub found_in : View → List ℕ → Option (Result Answer Refusal) → Option (List (Option Warning))
+found_in v line came = found_of v (access_in (parsed_line line)) came
+
+-- ---- how many warnings these are, and a line for each
+
+abbrev pub found_count : Option (List (Option Warning)) → ℕ
+found_count None = 0
+found_count (Some warnings) = there warnings
+
+abbrev pub found_text : Option (List (Option Warning)) → List ℕ
+found_text None = []
+found_text (Some warnings) = lines_of warnings
+
+-- of an event with its outcome
 abbrev pub event_warnings : View → Event → Result Answer Refusal → List ℕ
-event_warnings v e (Ok answer.Done) = lines_of_write v (written_by e)
-event_warnings v e (Ok (answer.Value value)) = if value == 0 then lines_of_read v (register_of (Some e)) else []
-event_warnings v e _ = []
-
-abbrev pub line_warnings : View → Option Event → Option (Result Answer Refusal) → List ℕ
-line_warnings v (Some e) (Some outcome) = event_warnings v e outcome
-line_warnings v _ _ = []
+event_warnings v e outcome = found_text (found_of v (Some e) (Some outcome))
 
 -- of a line whose event came to this
 abbrev pub warnings_text : View → List ℕ → Option (Result Answer Refusal) → List ℕ
-warnings_text v line came = line_warnings v (access_in (parsed_line line)) came
+warnings_text v line came = found_text (found_in v line came)

@@ -1,6 +1,7 @@
 //! The first of the adapter's descriptors that has a flaw.
-ghost use Rattle.std.specs.Prelude.{◌≡◌, ◌%◌, ◌^◌};
+ghost use Rattle.std.specs.Prelude.{◌≡◌, ◌≤◌, ◌%◌, ◌^◌, ℕ, None};
 ghost use Rattle.em_regs.specs.Ring.{descriptor_at};
+ghost use Rattle.em_inspect.specs.Ring.{octets_at};
 ghost use Rattle.em_warnings.specs.Descriptors.{first_flawed, first_from, has_flaw, is_excused, is_flawed};
 
 use crate::flaw::Flaw;
@@ -24,7 +25,25 @@ pub(crate) fn first_flawed(machine: &Machine, ring: &Ring, flaw: Flaw) -> Option
 fn first_from(machine: &Machine, ring: &Ring, flaw: Flaw, from: u32, to: u32) -> Option<u32>
     ensures { result ≡ first_from ring.now machine.now flaw from to }
 {
+    match u32::try_from(held(machine, ring)) {
+        Ok(held) => first_below(machine, ring, flaw, from, to.min(held)),
+        Err(_) => first_below(machine, ring, flaw, from, to),
+    }
+}
+
+/// The same, where all of these are looked at.
+fn first_below(machine: &Machine, ring: &Ring, flaw: Flaw, from: u32, to: u32) -> Option<u32>
+    ensures { result ≡ first_from ring.now machine.now flaw from to }
+{
     (from..to).find(|index| is_flawed(machine, ring, flaw, *index))
+}
+
+/// How many of a ring's first descriptors lie in guest memory, if it had as many. None behind them does, so a ring outside
+/// memory, which a register may name, is not gone over.
+fn held(machine: &Machine, ring: &Ring) -> u64
+    ensures { (i : ℕ) → result ≤ i → octets_at ring.now machine.now.present.memory i ≡ None }
+{
+    machine.memory_size().saturating_sub(ring.base) / 16
 }
 
 /// Whether the descriptor of an index is such.

@@ -1,7 +1,10 @@
 //! The warnings of a line.
+ghost use Rattle.std.specs.Prelude.{◌≡◌, [], ◌∷◌};
+ghost use Rattle.std.specs.Option.{option_map};
 ghost use Rattle.em_step.specs.Event.{plain};
 ghost use Rattle.em_text.specs.Writer.{Writes};
-ghost use Rattle.em_warnings.specs.Warnings.{event_warnings, line_of, lines_of, lines_of_read, lines_of_write, warnings_text};
+ghost use Rattle.em_warnings.specs.Warnings.{event_warnings, found_count, found_in, found_of, found_text, is_asked};
+ghost use Rattle.em_warnings.specs.Warnings.{line_of, lines_of, of_access, of_read, of_write, there, warnings_text};
 
 use crate::reads::read_again;
 use crate::rules::warnings_of;
@@ -16,8 +19,8 @@ use em_step::{Answer, Event, Refusal};
 use em_text::WriteFailed;
 use std::io::Write;
 
-/// Writes the warnings of a line whose event came to this, one in a line each, if it has any: only a line `w OFF VALUE`
-/// that was done has some, and a line that read 0 from ICR one. The machine is as the line left it.
+/// Writes the warnings of a line whose event came to this, one in a line each, if it has any. The machine is as the line
+/// left it.
 pub fn write_warnings<W: Write>(
     writer: &mut W,
     machine: &Machine,
@@ -27,10 +30,7 @@ pub fn write_warnings<W: Write>(
     ensures writes { Writes (W.contents writer.old) (W.contents writer.new) result
         (warnings_text machine.now line.now came) }
 {
-    match (accessed(line), came) {
-        (Some(event), Some(outcome)) => write_event_warnings(writer, machine, event, outcome),
-        _ => Ok(()),
-    }
+    write_found(writer, &found_in(machine, line, came))
 }
 
 /// Writes the warnings of an event with this outcome. The machine is as the event left it.
@@ -43,39 +43,112 @@ pub fn write_event_warnings<W: Write>(
     ensures writes { Writes (W.contents writer.old) (W.contents writer.new) result
         (event_warnings machine.now (plain event.entry) outcome) }
 {
-    match outcome {
-        Ok(Answer::Done) => write_of_write(writer, machine, written_by(event)),
-        Ok(Answer::Value(0)) => write_of_read(writer, machine, register_of(Some(event))),
-        _ => Ok(()),
+    write_found(writer, &found_of(machine, Some(event), Some(outcome)))
+}
+
+/// What each rule says of a line whose event came to this, in the order of the rules, if they are asked: only a line `w OFF
+/// VALUE` that was done has warnings, and a line that read 0 from ICR one. The machine is as the line left it.
+pub fn found_in(
+    machine: &Machine,
+    line: &[u8],
+    came: Option<Result<Answer, Refusal>>,
+) -> Option<[Option<Warning>; 6]>
+    ensures { result ≡ found_in machine.now line.now came }
+{
+    // What most lines came to has no warning, which is seen sooner than what they say.
+    if is_asked(came) {
+        found_of(machine, accessed(line), came)
+    } else {
+        None
     }
 }
 
-/// Writes the warnings of a write of a value to a register.
-fn write_of_write<W: Write>(
-    writer: &mut W,
+/// Whether the rules are asked of an access that came to this.
+fn is_asked(came: Option<Result<Answer, Refusal>>) -> bool
+    ensures { result ≡ is_asked came }
+{
+    matches!(came, Some(Ok(Answer::Done | Answer::Value(0))))
+}
+
+/// What each rule says of an access that came to this, if they are asked.
+fn found_of(
     machine: &Machine,
-    write: Option<(Reg, u32)>,
-) -> Result<(), WriteFailed>
-    ensures writes { Writes (W.contents writer.old) (W.contents writer.new) result
-        (lines_of_write machine.now write) }
+    access: Option<Event<'_>>,
+    came: Option<Result<Answer, Refusal>>,
+) -> Option<[Option<Warning>; 6]>
+    ensures { result ≡ found_of machine.now (option_map plain access.entry) came }
+{
+    match came {
+        Some(Ok(Answer::Done)) => of_access(machine, access),
+        Some(Ok(Answer::Value(0))) => of_read(machine, register_of(access)),
+        _ => None,
+    }
+}
+
+/// What each rule says of an access that was done, if it is a write.
+fn of_access(machine: &Machine, access: Option<Event<'_>>) -> Option<[Option<Warning>; 6]>
+    ensures { result ≡ of_access machine.now (option_map plain access.entry) }
+{
+    match access {
+        Some(event) => of_write(machine, written_by(event)),
+        None => None,
+    }
+}
+
+/// What each rule says of a write of a value to a register.
+fn of_write(machine: &Machine, write: Option<(Reg, u32)>) -> Option<[Option<Warning>; 6]>
+    ensures { result ≡ of_write machine.now write }
 {
     match write {
-        Some((reg, value)) => write_each(writer, &warnings_of(machine, reg, value)),
-        None => Ok(()),
+        Some((reg, value)) => Some(warnings_of(machine, reg, value)),
+        None => None,
     }
 }
 
-/// Writes the warning of a read of a register that gave 0.
-fn write_of_read<W: Write>(
-    writer: &mut W,
-    machine: &Machine,
-    read: Option<Reg>,
-) -> Result<(), WriteFailed>
-    ensures writes { Writes (W.contents writer.old) (W.contents writer.new) result (lines_of_read machine.now read) }
+/// What the rule of a read says of a read of a register that gave 0.
+fn of_read(machine: &Machine, read: Option<Reg>) -> Option<[Option<Warning>; 6]>
+    ensures { result ≡ of_read machine.now read }
 {
     match read {
-        Some(Reg::Icr) => write_line(writer, read_again(machine)),
-        _ => Ok(()),
+        Some(Reg::Icr) => Some([read_again(machine), None, None, None, None, None]),
+        _ => None,
+    }
+}
+
+/// How many warnings were found.
+pub fn count_found(found: &Option<[Option<Warning>; 6]>) -> usize
+    ensures { result ≡ found_count found.now }
+{
+    match found {
+        Some(warnings) => count_of(warnings),
+        None => 0,
+    }
+}
+
+/// How many warnings are there.
+fn count_of(warnings: &[Option<Warning>]) -> usize
+    ensures { result ≡ there warnings.now }
+{
+    let mut count = 0;
+    for warning in warnings {
+        match warning {
+            Some(_) => count += 1,
+            None => {}
+        }
+    }
+    count
+}
+
+/// Writes a line for each warning that was found.
+pub fn write_found<W: Write>(
+    writer: &mut W,
+    found: &Option<[Option<Warning>; 6]>,
+) -> Result<(), WriteFailed>
+    ensures writes { Writes (W.contents writer.old) (W.contents writer.new) result (found_text found.now) }
+{
+    match found {
+        Some(warnings) => write_each(writer, warnings),
+        None => Ok(()),
     }
 }
 

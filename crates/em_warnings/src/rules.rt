@@ -20,9 +20,13 @@ const TX_CAUSES: u32 = 0x0000_8003;
 
 /// What each rule says of a write of a value to a register, in the order of the rules; none where it says nothing. The
 /// machine is as the write left it.
+#[tactic(auto, using(crate::proofs::RulesLaws::dropped_alone))]
 pub fn warnings_of(machine: &Machine, reg: Reg, value: u32) -> [Option<Warning>; 6]
     ensures { result ≡ rules.warnings_of machine.now reg value }
 {
+    if !is_of_ring(reg) {
+        return [bits_dropped(reg, value), None, None, None, None, None];
+    }
     [
         bits_dropped(reg, value),
         tail_past_ring(machine, reg),
@@ -31,6 +35,13 @@ pub fn warnings_of(machine: &Machine, reg: Reg, value: u32) -> [Option<Warning>;
         status_left(machine, reg),
         interrupts_before_rings(machine, reg),
     ]
+}
+
+/// Whether rules besides the first ask about a register: a tail, what enables a ring, or IMS.
+fn is_of_ring(reg: Reg) -> bool
+    ensures { result ≡ rules.is_of_ring reg }
+{
+    matches!(reg, Reg::Rdt | Reg::Tdt | Reg::Rctl | Reg::Tctl | Reg::Ims)
 }
 
 /// The register keeps less than was written, and a write of it only stores.

@@ -1,44 +1,51 @@
-use Rattle.std.proofs.Common.{◌≡◌, ◌∙◌, ◌+◌, ap, map, length, length-append, arith, rules}
+use Rattle.std.proofs.Common.{◌≡◌, ◌∙◌, ◌+◌, ap, map, length, length-append, arith, refl, rules}
 use Rattle.std.proofs.lemmas.List.{length-map}
 use Rattle.em_debugger.specs.Files.{played_in}
 use Rattle.em_tape.specs.Texts.{texts}
 use Rattle.em_text.specs.Lines.{lines_of}
 use Rattle.em_tape.specs.Tape.{Tape}
-use Rattle.em_debugger.proofs.FilesLaws.{AddedSo-all, AddedSo-expect, AddedSo-more, AddedSo-none, AddedSo-times}
+use Rattle.em_debugger.proofs.FilesLaws.{AddedSo-all, AddedSo-expect, AddedSo-more, AddedSo-none, AddedSo-times, added_so, read_more}
 use Rattle.em_debugger.proofs.files.add_all.Goals as goal
 
 pub loop-rest-init : goal.loop-rest-init
-loop-rest-init c = AddedSo-none c.args.tape.now (texts c.args.wanted.now.answers.items) (texts c.args.times.now.answers.items)
-    c.args.text.now
+loop-rest-init c = (
+  AddedSo-none c.args.tape.now (texts c.args.wanted.now.answers.items) (texts c.args.times.now.answers.items)
+      c.args.text.now,
+  refl,
+)
 
 pub returns-clause-ok : goal.returns-clause-ok
 returns-clause-ok c =
     let none : length c.loop-rest.rest.now ≡ 0 = search rules in
-    AddedSo-all c.args.tape.now c.loop-rest.tape _ _ _ _ c.args.text.now c.loop-rest.rest.now c.loop-rest.invariant none
+    AddedSo-all c.args.tape.now c.loop-rest.tape _ _ _ _ c.args.text.now c.loop-rest.rest.now c.loop-rest.invariant.0 none
 
-pub returns-clause-count : goal.returns-clause-count
-returns-clause-count c =
+pub returns-clause-are : goal.returns-clause-are
+returns-clause-are c =
     let none : length c.loop-rest.rest.now ≡ 0 = search rules in
-    let all = AddedSo-all c.args.tape.now c.loop-rest.tape _ _ _ _ c.args.text.now c.loop-rest.rest.now c.loop-rest.invariant none
+    let all = AddedSo-all c.args.tape.now c.loop-rest.tape _ _ _ _ c.args.text.now c.loop-rest.rest.now c.loop-rest.invariant.0 none
     in
     let some = length-map (lines_of c.args.text.now) played_in in
     let long : length c.loop-rest.tape.lines ≡ length c.args.tape.now.lines + length (map played_in (lines_of c.args.text.now)) =
     ap (λ (t : Tape). length t.lines) all ∙ length-append c.args.tape.now.lines (map played_in (lines_of c.args.text.now)) in
-    omega (arith, c.len.ensures, c.len-before.ensures, c.saturating_sub.ensures)
+    added_so _ c.loop-rest.are_read c.args.text.now c.loop-rest.rest.now
+    (omega (arith, c.len.ensures, c.len-before.ensures, c.saturating_sub.ensures)) none c.loop-rest.invariant.1
 
 pub returns-clause-expect : goal.returns-clause-expect
 returns-clause-expect c =
     let none : length c.loop-rest.rest.now ≡ 0 = search rules in
-    AddedSo-expect c.args.tape.now c.loop-rest.tape _ _ _ _ c.args.text.now c.loop-rest.rest.now c.loop-rest.invariant none
+    AddedSo-expect c.args.tape.now c.loop-rest.tape _ _ _ _ c.args.text.now c.loop-rest.rest.now c.loop-rest.invariant.0 none
 
 pub returns-clause-times : goal.returns-clause-times
 returns-clause-times c =
     let none : length c.loop-rest.rest.now ≡ 0 = search rules in
-    AddedSo-times c.args.tape.now c.loop-rest.tape _ _ _ _ c.args.text.now c.loop-rest.rest.now c.loop-rest.invariant none
+    AddedSo-times c.args.tape.now c.loop-rest.tape _ _ _ _ c.args.text.now c.loop-rest.rest.now c.loop-rest.invariant.0 none
 
 pub loop-rest-preserved : goal.loop-rest-preserved
-loop-rest-preserved c =
-    AddedSo-more c.args.tape.now c.loop-rest.tape c.add_line.new.tape _ _ (texts c.add_line.new.wanted.answers.items) _ _
-    (texts c.add_line.new.times.answers.items) c.args.text.now c.loop-rest.rest.now c.next_line.result.0.now
-    c.next_line.result.1.now c.loop-rest.invariant c.next_line.ensures.lines c.in_ok-add_line.ensures.ok
-    c.in_ok-add_line.ensures.expect c.in_ok-add_line.ensures.timed
+loop-rest-preserved c = (
+  AddedSo-more c.args.tape.now c.loop-rest.tape c.add_line.new.tape _ _ (texts c.add_line.new.wanted.answers.items) _ _
+      (texts c.add_line.new.times.answers.items) c.args.text.now c.loop-rest.rest.now c.next_line.result.0.now
+      c.next_line.result.1.now c.loop-rest.invariant.0 c.next_line.ensures.lines c.in_ok-are_read.ensures.ok
+      c.in_ok-are_read.ensures.expect c.in_ok-are_read.ensures.timed,
+  read_more c.loop-rest.are_read c.in_ok-are_read.field-0 c.args.text.now c.loop-rest.rest.now c.next_line.result.0.now
+      c.next_line.result.1.now c.next_line.ensures.lines c.in_ok-are_read.ensures.read c.loop-rest.invariant.1,
+)

@@ -25,9 +25,10 @@ returns-in-Ok-clause-done g c =
     let after : c.can_go_back.result ≡ length (after_line performs.memory parsed old).machine.past =
     c.can_go_back.ensures.past ∙ ap (λ v. length v.past) c.machine-2.ensures
     ∙ ap (λ (s : Session). length s.machine.past) performs.session in
+    let kind = c.kind_by-kind.ensures performs.memory old performs.prints.ended in
     record {
       performs = performs;
-      did = inr (c.did_of.ensures.is performs.memory parsed old c.kind_of-kind.ensures performs.prints.ended (record {
+      did = inr (c.did_of.ensures.is performs.memory parsed old kind performs.prints.ended (record {
         before = before;
         after = after;
         started = c.is_started-started.ensures;
@@ -35,5 +36,5 @@ returns-in-Ok-clause-done g c =
       }));
       few = c.did_of.ensures.few;
       known = subst (Does c.known_of.result parsed old) (sym performs.session)
-          (c.known_of.ensures performs.memory parsed old c.kind_of-kind.ensures performs.prints.ended before costs after);
+          (c.known_of.ensures performs.memory parsed old kind performs.prints.ended before costs after);
     }

@@ -1,4 +1,4 @@
-use Rattle.std.proofs.Common.{refl}
+use Rattle.std.proofs.Common.{ap}
 use Rattle.em_debugger.specs.Files.{BeginsBehind, BeginsInstead, cuts, uncut}
 use Rattle.em_debugger.specs.Performing.{fault_text}
 use Rattle.em_debugger.proofs.TextLaws.{OnOk-told, OnOk-written}
@@ -19,5 +19,5 @@ pub returns-in-Err : goal.returns-in-Err
 returns-in-Err g c = record {
   ok = OnOk-written _ _ _ (fault_text c.in-Err.fault)
       (BeginsInstead c.args.step c.args.self.now c.cut.new.self c.args.script.now) c.write_fault.ensures.writes
-      (uncut c.in-Err.fault refl c.in-Err.ensures.err);
+      (uncut (ap fault_text c.in-Err.ensures.only) c.in-Err.ensures.err);
 }

@@ -31,5 +31,5 @@ pub returns-in-Err : goal.returns-in-Err
 returns-in-Err g c = record {
   ok = Lists-end c.args.self.now c.ahead.self c.perform_next.new.self _ _ _ c.write_fault.result
       (fault_text c.in-Err.fault) c.ahead.invariant c.write_fault.ensures.writes
-      (stopped c.in-Err.fault refl c.in-Err.ensures.err);
+      (stopped c.in-Err.fault c.in-Err.ensures.only refl c.in-Err.ensures.err);
 }

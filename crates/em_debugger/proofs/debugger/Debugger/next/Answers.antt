@@ -29,7 +29,7 @@ pub returns-in-Err : goal.returns-in-Err
 returns-in-Err g c = record {
   ok = TellsNext-written c.args.count c.loop-index.index c.args.self.now c.loop-index.self c.perform_next.new.self
       _ _ _ (fault_text c.in-Err.fault) c.write_fault.result c.loop-index.invariant (omega arith)
-      c.write_fault.ensures.writes (stopped c.in-Err.fault refl c.in-Err.ensures.err);
+      c.write_fault.ensures.writes (stopped c.in-Err.fault c.in-Err.ensures.only refl c.in-Err.ensures.err);
 }
 
 pub returns : goal.returns

@@ -35,6 +35,7 @@ returns-in-Ok-note-clause-some c =
       times = refl;
       sent = rw (first, behind) at (keeps_ready (line + 1) c.wire_len-sent.result c.wire_len-now.result _ _ _
           c.make_ready-2.ensures.stay c.make_ready-2.ensures.none c.set.ensures);
+      warned = refl;
       score = refl;
       engines = refl;
       offered = refl;

@@ -21,5 +21,5 @@ returns-in_ok-write_answered-in-Ok-Some g c =
 pub returns-in-Err : goal.returns-in-Err
 returns-in-Err g c = record {
   ok = OnOk-written _ _ _ (fault_text c.in-Err.fault) (AnswersNext c.args.self.now c.perform_next.new.self)
-      c.write_fault.ensures.writes (unperformed c.in-Err.fault refl c.in-Err.ensures.err);
+      c.write_fault.ensures.writes (unperformed c.in-Err.fault c.in-Err.ensures.only refl c.in-Err.ensures.err);
 }

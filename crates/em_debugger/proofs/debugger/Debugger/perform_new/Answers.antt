@@ -17,5 +17,5 @@ pub returns-in-Err : goal.returns-in-Err
 returns-in-Err g c = record {
   ok = OnOk-written _ _ _ (fault_text c.in-Err.fault)
       (AnswersNew c.args.self.now c.add_typed.new.self c.args.text.now c.args.asked.now) c.write_fault.ensures.writes
-      (refused c.in-Err.fault refl c.in-Err.ensures.err);
+      (refused c.in-Err.fault c.in-Err.ensures.only refl c.in-Err.ensures.err);
 }

@@ -25,4 +25,4 @@ returns-in-Ok-None c =
 pub returns-in-Err : goal.returns-in-Err
 returns-in-Err c =
     PlaysAll-end c.args.self.now c.ahead.self c.perform_next.new.self c.ahead.played (Some c.in-Err.fault)
-    c.ahead.invariant c.in-Err.ensures.err
+    c.ahead.invariant (c.in-Err.ensures.only, c.in-Err.ensures.err)

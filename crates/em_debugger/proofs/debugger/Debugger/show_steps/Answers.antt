@@ -31,7 +31,7 @@ pub returns-in-Err : goal.returns-in-Err
 returns-in-Err g c = record {
   ok = ShowedSo-end c.args.lines c.steps.lines c.args.self.now c.steps.self c.perform_next.new.self _ _ _
       c.write_fault.result (fault_text c.in-Err.fault) c.steps.invariant c.write_fault.ensures.writes
-      (stopped c.steps.lines c.steps.self c.perform_next.new.self c.in-Err.fault c.in-Err.ensures.err);
+      (stopped c.steps.lines c.steps.self c.perform_next.new.self c.in-Err.fault c.in-Err.ensures.only c.in-Err.ensures.err);
 }
 
 pub returns : goal.returns

@@ -1,6 +1,6 @@
 use Rattle.std.proofs.Common.{◌≡◌, ◌≤◌, ◌+◌, drop}
-use Rattle.em_debugger.specs.Warned.{there}
-use Rattle.em_debugger.proofs.warned.count_of.Given as goal
+use Rattle.em_warnings.specs.Warnings.{there}
+use Rattle.em_warnings.proofs.lines.count_of.Given as goal
 
 -- those so far, and those to come
 abbrev pub invariant-loop-warning : goal.invariant-loop-warning
