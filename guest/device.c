@@ -1,0 +1,267 @@
+#include "device.h"
+
+#include <inttypes.h>
+#include <stdio.h>
+#include <string.h>
+
+#include "mirror.h"
+#include "say.h"
+
+enum {
+  CTRL = 0x0000,
+  CTRL_RST = 0x04000000,
+  RCTL = 0x0100,
+  TCTL = 0x0400,
+  RDBAL = 0x2800,
+  TDBAL = 0x3800,
+  BASE_HIGH = 0x04, /* of a ring's registers, and the tail */
+  TAIL = 0x18,
+  LEAST_BUDGET = 65536, /* of the journal, which is not asked here: the run is */
+  LEAST_FRAME = 60,
+  MOST_WAITING = 16
+};
+
+bool device_make(struct device *device, const uint8_t mac[6], struct run *run, frame_sent *on_sent, void *whose) {
+  *device = (struct device){
+      .machine = EM_NO_MACHINE,
+      .run = run,
+      .receive = {.side = EM_RX_RING, .registers = RDBAL, .control = RCTL},
+      .transmit = {.side = EM_TX_RING, .registers = TDBAL, .control = TCTL},
+      .on_sent = on_sent,
+      .whose = whose,
+  };
+  if (em_make(&device->machine, MODEL_MEMORY, LEAST_BUDGET, mac) != EM_OK) return false;
+  run_remark(run, "a guest's run, kept by em_guest: it plays with --memory %d --mac %02X%02X%02X%02X%02X%02X",
+             MODEL_MEMORY, mac[0], mac[1], mac[2], mac[3], mac[4], mac[5]);
+  if (em_set_link(&device->machine, true) == EM_OK) run_link(run, true);
+  return true;
+}
+
+void device_free(struct device *device) {
+  memory_close(&device->memory);
+  em_free(&device->machine);
+}
+
+static struct source here(const struct device *device) {
+  return (struct source){.counter = device->counter};
+}
+
+/* What the guest wrote before this access, by code that is not known. */
+static struct source before(const struct device *device) {
+  return (struct source){.counter = device->counter, .is_before = true};
+}
+
+/* ---- accesses */
+
+/* The ring whose address a register holds a half of, or NULL. */
+static struct ring *ring_of_base(struct device *device, uint32_t offset) {
+  if ((offset & ~(uint32_t)BASE_HIGH) == RDBAL) return &device->receive;
+  if ((offset & ~(uint32_t)BASE_HIGH) == TDBAL) return &device->transmit;
+  return NULL;
+}
+
+uint32_t device_read(struct device *device, uint32_t offset) {
+  uint32_t value = 0, refusal = em_read(&device->machine, offset, &value);
+  const struct ring *ring = ring_of_base(device, offset);
+  device->tally.accesses++;
+  if (refusal != EM_OK) {
+    device->tally.refused++;
+    device->refused_reads[offset / 4]++;
+  }
+  run_read(device->run, offset, refusal, value, here(device));
+  if (ring) value |= (uint32_t)(offset & BASE_HIGH ? ring->beyond >> 32 : ring->beyond);
+  return value;
+}
+
+/* Keeps of a ring's address what lies beyond the model's memory, and gives the half that the model gets. */
+static uint32_t split_base(struct ring *ring, uint32_t offset, uint32_t value) {
+  const uint64_t low = UINT32_MAX;
+  if (offset & BASE_HIGH) {
+    ring->beyond = (ring->beyond & low) | (uint64_t)value << 32;
+    return 0;
+  }
+  ring->beyond = (ring->beyond & ~low) | mirror_beyond(value);
+  return (uint32_t)mirror_place(value);
+}
+
+/* What a write of CTRL with RST leaves of what is kept here. */
+static void forget(struct device *device) {
+  device->waiting = 0;
+  device->receive.beyond = device->transmit.beyond = 0;
+}
+
+/* Whether a write may let a stopped engine go on. */
+static bool wakes(const struct ring *ring, uint32_t offset) {
+  return offset - ring->registers < 64 || offset == ring->control || offset == CTRL;
+}
+
+static void perform_write(struct device *device, uint32_t offset, uint32_t value, const char *remark) {
+  uint32_t refusal = em_write(&device->machine, offset, value);
+  if (refusal != EM_OK) {
+    device->tally.refused++;
+    device->refused_writes[offset / 4]++;
+  } else if (offset == CTRL && value & CTRL_RST) {
+    forget(device);
+  }
+  if (wakes(&device->receive, offset)) device->receive.is_stopped = false;
+  if (wakes(&device->transmit, offset)) device->transmit.is_stopped = false;
+  run_write(device->run, offset, value, refusal, here(device), remark);
+}
+
+void device_write(struct device *device, uint32_t offset, uint32_t value) {
+  struct ring *ring = ring_of_base(device, offset);
+  uint32_t held = value;
+  char remark[32];
+  device->tally.accesses++;
+  if (offset == RDBAL + TAIL) mirror_given_in(device, &device->receive, value, before(device));
+  if (offset == TDBAL + TAIL) mirror_given_in(device, &device->transmit, value, before(device));
+  if (ring) held = split_base(ring, offset, value);
+  snprintf(remark, sizeof remark, "the guest wrote %08" PRIX32, value);
+  perform_write(device, offset, held, held != value ? remark : NULL);
+}
+
+void device_reset(struct device *device) {
+  device->counter = 0;
+  device->is_master = false;
+  perform_write(device, CTRL, CTRL_RST, "the machine was reset");
+}
+
+void device_set_master(struct device *device, bool is_master) {
+  device->is_master = is_master;
+}
+
+/* ---- the wire */
+
+bool device_receives(const struct device *device) {
+  em_ring_setup setup;
+  return em_ring(&device->machine, EM_RX_RING, &setup) == EM_OK && setup.enabled;
+}
+
+bool device_is_full(const struct device *device) {
+  return device->waiting >= MOST_WAITING;
+}
+
+void device_arrive(struct device *device, const uint8_t *frame, size_t length) {
+  uint8_t padded[LEAST_FRAME] = {0};
+  em_note note = {0};
+  if (length == 0 || length > MOST_FRAME) return;
+  if (length < LEAST_FRAME) {
+    memcpy(padded, frame, length);
+    frame = padded;
+    length = LEAST_FRAME;
+  }
+  uint32_t refusal = em_arrive(&device->machine, frame, length, &note);
+  run_arrive(device->run, frame, length, refusal, &note);
+  device->tally.arrived++;
+  if (refusal == EM_OK && note.kind == EM_STORED) device->waiting++;
+  else device->tally.dropped++;
+}
+
+/* Hands on what the last step sent. */
+static void hand_on(struct device *device) {
+  uint8_t frame[EM_MOST_SENT];
+  size_t count = 0, length = 0;
+  if (em_wire_count(&device->machine, &count) != EM_OK) return;
+  for (; device->sent < count; device->sent++) {
+    if (em_wire_frame(&device->machine, device->sent, frame, sizeof frame, &length) != EM_OK) continue;
+    device->tally.sent++;
+    if (device->on_sent) device->on_sent(device->whose, frame, length);
+  }
+}
+
+/* ---- the engines */
+
+/* Whether an engine has a descriptor. */
+static bool has_descriptor(const struct device *device, const struct ring *ring, em_ring_setup *setup) {
+  return device->is_master && !ring->is_stopped && em_ring(&device->machine, ring->side, setup) == EM_OK &&
+         setup->enabled && setup->head < setup->count && setup->tail < setup->count && setup->head != setup->tail;
+}
+
+static void stop(struct device *device, struct ring *ring, const char *what, uint64_t address) {
+  const char *engine = ring->side == EM_RX_RING ? "receive" : "transmit";
+  ring->is_stopped = true;
+  run_remark(device->run, "the %s engine stands still: %s at %" PRIX64 " is no guest memory", engine, what, address);
+  if (device->tally.outside++ == 0)
+    say("the %s engine stands still: %s at %" PRIX64 " is no guest memory", engine, what, address);
+}
+
+static void refuse(struct device *device, struct ring *ring) {
+  ring->is_stopped = true;
+  device->tally.steps_refused++;
+}
+
+static uint64_t place_of(const struct ring *ring, const em_ring_setup *setup) {
+  return setup->base + ring->beyond + UINT64_C(16) * setup->head;
+}
+
+/* Handles a descriptor of the receive ring, where a frame waits for it. */
+static bool receive(struct device *device) {
+  struct ring *ring = &device->receive;
+  struct descriptor descriptor;
+  em_ring_setup setup;
+  em_note note = {0};
+  uint8_t status = 0;
+  if (device->waiting == 0 || !has_descriptor(device, ring, &setup)) return false;
+  if (!mirror_descriptor_in(device, ring, &setup, setup.head, &descriptor, before(device))) {
+    stop(device, ring, "a descriptor", place_of(ring, &setup));
+    return false;
+  }
+  if (!memory_has(&device->memory, descriptor.address, setup.buffer)) {
+    stop(device, ring, "a buffer", descriptor.address);
+    return false;
+  }
+  uint32_t refusal = em_rx_step(&device->machine, &note);
+  run_step(device->run, "rx", refusal, &note);
+  if (refusal != EM_OK) {
+    refuse(device, ring);
+    return false;
+  }
+  if (note.kind == EM_RX_IDLE) {
+    device->waiting = 0;
+    return false;
+  }
+  if (!mirror_received_out(device, &setup, setup.head, &descriptor, &status))
+    stop(device, ring, "a buffer", descriptor.address);
+  if (status & 2) device->waiting--;
+  return true;
+}
+
+/* Handles a descriptor of the transmit ring. */
+static bool transmit(struct device *device) {
+  struct ring *ring = &device->transmit;
+  struct descriptor descriptor;
+  em_ring_setup setup;
+  em_note note = {0};
+  if (!has_descriptor(device, ring, &setup)) return false;
+  if (!mirror_descriptor_in(device, ring, &setup, setup.head, &descriptor, before(device))) {
+    stop(device, ring, "a descriptor", place_of(ring, &setup));
+    return false;
+  }
+  if (!mirror_buffer_in(device, &descriptor, before(device))) {
+    stop(device, ring, "a buffer", descriptor.address);
+    return false;
+  }
+  uint32_t refusal = em_tx_step(&device->machine, &note);
+  run_step(device->run, "tx", refusal, &note);
+  if (refusal != EM_OK) {
+    refuse(device, ring);
+    return false;
+  }
+  if (note.kind == EM_TX_IDLE) return false;
+  if (!mirror_status_out(device, &setup, setup.head)) stop(device, ring, "a descriptor", place_of(ring, &setup));
+  hand_on(device);
+  return true;
+}
+
+bool device_turn(struct device *device) {
+  for (unsigned steps = 0; steps < MOST_STEPS; steps++) {
+    bool has_received = receive(device), has_sent = transmit(device);
+    if (!has_received && !has_sent) return false;
+  }
+  return true;
+}
+
+bool device_interrupts(const struct device *device) {
+  uint32_t level = 0;
+  return em_line(&device->machine, &level) == EM_OK && level != 0;
+}

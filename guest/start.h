@@ -1,0 +1,24 @@
+/* A QEMU that em_guest starts. */
+#ifndef GUEST_START_H
+#define GUEST_START_H
+
+#include <stdbool.h>
+#include <stddef.h>
+#include <sys/types.h>
+
+/* A descriptor that QEMU gets, and its number there. */
+struct handed {
+  int descriptor, number;
+};
+
+/* Starts the program that the first word names, with these descriptors; they stay the caller's too. It dies with its
+   parent. -1, and told, where it can't be started. */
+pid_t start(char **words, const struct handed *handed, size_t count);
+
+/* Whether a program ends within so many milliseconds; its status is as wait has it. */
+bool start_has_ended(pid_t process, int milliseconds, int *status);
+
+/* Asks a program to end, and ends it where it does not. Its status as wait has it. */
+int start_end(pid_t process);
+
+#endif
