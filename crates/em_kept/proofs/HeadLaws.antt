@@ -1,0 +1,98 @@
+-- What a kept run begins with does nothing when it is played.
+use Rattle.std.proofs.Common.{◌≡◌, ℕ, zero, suc, ◌^◌, ◌<◌, ◌++◌, Bool, true, false, List, [], ◌∷◌, refl, sym, ap, ◌∙◌, arith}
+use Rattle.std.proofs.Common.{◌+◌, codes, subst, append_assoc, append-nil}
+use Rattle.std.specs.Prelude.{decimal, if◌then◌else◌}
+use Rattle.std.specs.List.{All, flat_map}
+use Rattle.std.specs.Int.{w16, to_be_bytes}
+use Rattle.std.proofs.lemmas.List.Elements.{All-append}
+use Rattle.hex.specs.Hex.{IsBytes}
+use Rattle.em_eeprom.specs.Eeprom.{IsEeprom, mac_of, word_at}
+use Rattle.em_text.specs.Lines.{is_newline, lines_of}
+use Rattle.em_text.specs.Writer.{hex_text}
+use Rattle.em_kept.specs.Head.{head_lines, head_text, is_of_mac, settings_line, words_from, words_line, words_text, word_digits}
+use Rattle.em_kept.specs.Kept.{text_of}
+use Rattle.em_kept.specs.ReadBack.{AreSilent, AreWhole}
+use Rattle.em_kept.proofs.DigitLaws.{bytes_fit, quiet_decimal, quiet_hex}
+use Rattle.em_kept.proofs.LineLaws.{silent_line, text_lines}
+use Rattle.em_kept.proofs.PartsOfLines.{all_not, all_quiet, no_newline}
+
+abbrev Whole : List ℕ → Type 0
+Whole xs = All (λ x. is_newline x ≡ false) xs
+
+join : (xs ys : List ℕ) → Whole xs → Whole ys → Whole (xs ++ ys)
+join xs ys a b = All-append (λ x. is_newline x ≡ false) xs ys a b
+
+-- ---- what it is of
+
+mac_bytes : (words : List ℕ) → IsEeprom words → IsBytes (mac_of words)
+mac_bytes words is zero = omega arith
+mac_bytes words is (suc zero) = let w = is.small 0 (omega (arith, is.count)) in omega (arith, w)
+mac_bytes words is (suc (suc zero)) = omega arith
+mac_bytes words is (suc (suc (suc zero))) = let w = is.small 1 (omega (arith, is.count)) in omega (arith, w)
+mac_bytes words is (suc (suc (suc (suc zero)))) = omega arith
+mac_bytes words is (suc (suc (suc (suc (suc zero))))) = let w = is.small 2 (omega (arith, is.count)) in omega (arith, w)
+mac_bytes words is (suc (suc (suc (suc (suc (suc k)))))) = omega arith
+
+settings_whole : (memory budget : ℕ) (words : List ℕ) → memory < 2 ^ 64 → budget < 2 ^ 64 → IsEeprom words
+    → Whole (settings_line memory budget (mac_of words))
+settings_whole memory budget words m b is =
+    let mac = hex_text (mac_of words) in
+    join (codes "# em_debug --memory " ++ (decimal memory ++ (codes " --budget " ++ decimal budget)))
+    (codes " --mac " ++ mac)
+    (join (codes "# em_debug --memory ") (decimal memory ++ (codes " --budget " ++ decimal budget))
+    (all_not is_newline (codes "# em_debug --memory ") refl)
+    (join (decimal memory) (codes " --budget " ++ decimal budget)
+    (all_quiet _ (decimal memory) no_newline (quiet_decimal memory m))
+    (join (codes " --budget ") (decimal budget) (all_not is_newline (codes " --budget ") refl)
+    (all_quiet _ (decimal budget) no_newline (quiet_decimal budget b)))))
+    (join (codes " --mac ") mac (all_not is_newline (codes " --mac ") refl)
+    (all_quiet _ mac no_newline (quiet_hex (mac_of words) (mac_bytes words is))))
+
+words_whole_from : (words : List ℕ) (at n : ℕ) → Whole (words_from words at n)
+unfolding words_from
+words_whole_from words at zero = λ k d lt. absurd (omega arith)
+words_whole_from words at (suc n) =
+    join (word_digits (word_at words at)) _
+    (all_quiet _ (word_digits (word_at words at)) no_newline
+    (quiet_hex (to_be_bytes w16 (word_at words at)) (bytes_fit 2 (word_at words at)))) (words_whole_from words (at + 1) n)
+
+words_whole : (words : List ℕ) → Whole (words_line words)
+words_whole words =
+    join (codes "# eeprom ") (words_from words 0 64) (all_not is_newline (codes "# eeprom ") refl)
+    (words_whole_from words 0 64)
+
+-- ---- the lines
+
+silent_words : (other : Bool) (words : List ℕ) → AreSilent (if other then [] else words_line words ∷ [])
+silent_words true words = tt
+silent_words false words = (silent_line _ (words_whole words), tt)
+
+pub head_silent : (memory budget : ℕ) (words : List ℕ) → memory < 2 ^ 64 → budget < 2 ^ 64 → IsEeprom words
+    → AreSilent (head_lines memory budget words)
+head_silent memory budget words m b is =
+    (silent_line _ (settings_whole memory budget words m b is), silent_words (is_of_mac words) words)
+
+words_made : (other : Bool) (words : List ℕ)
+    → (if other then [] else codes "# eeprom " ++ (words_from words 0 64 ++ codes "\n"))
+    ≡ flat_map text_of (if other then [] else words_line words ∷ [])
+words_made true words = refl
+words_made false words = sym (append-nil (text_of (words_line words)))
+
+pub head_made : (memory budget : ℕ) (words : List ℕ)
+    → head_text memory budget words ≡ flat_map text_of (head_lines memory budget words)
+head_made memory budget words =
+    let front = codes "# em_debug --memory " ++ (decimal memory ++ (codes " --budget " ++ decimal budget)) in
+    ap (λ l. l ++ words_text words) (sym (append_assoc front (codes " --mac " ++ hex_text (mac_of words)) (codes "\n")))
+    ∙ ap (λ l. text_of (settings_line memory budget (mac_of words)) ++ l) (words_made (is_of_mac words) words)
+
+pub silent_whole : (lines : List (List ℕ)) → AreSilent lines → AreWhole lines
+silent_whole [] h = tt
+silent_whole (line ∷ lines) h = (h.0.whole, silent_whole lines h.1)
+
+pub head_read : (memory budget : ℕ) (words : List ℕ) → memory < 2 ^ 64 → budget < 2 ^ 64 → IsEeprom words
+    → AreSilent (lines_of (head_text memory budget words))
+head_read memory budget words m b is =
+    let silent = head_silent memory budget words m b is in
+    subst AreSilent
+    (sym (ap lines_of (head_made memory budget words)
+    ∙ text_lines (head_lines memory budget words) (silent_whole (head_lines memory budget words) silent))) silent

@@ -1,0 +1,8 @@
+mod Texts
+mod ShownNames
+mod PartsOfLines
+mod DigitLaws
+mod EventWords
+mod SourcePlaces
+pub mod LineLaws
+pub mod HeadLaws

@@ -1,0 +1,4 @@
+pub mod Source
+pub mod Kept
+pub mod Head
+pub mod ReadBack

@@ -1,0 +1,135 @@
+//! Where a call comes from.
+ghost use Rattle.std.specs.Prelude.{◌≡◌, ◌<◌, ◌++◌, length};
+ghost use Rattle.std.specs.List.{list_all, range_with_len};
+ghost use Rattle.em_text.specs.Writer.{Writes};
+ghost use Rattle.em_line.specs.Parts.{begins_at};
+ghost use Rattle.em_kept.specs.Source.{end_text, is_replaced, is_shown, last_of, line_number_text, named_text};
+ghost use Rattle.em_kept.specs.Source.{place_text, plain, shown, shown_at};
+
+use crate::digits::address_digits;
+use em_text::{WriteFailed, write_pieces, write_whole};
+use itoa::Buffer;
+use std::io::Write;
+
+/// The most octets of a file's name that a line has: the longest path that Linux takes.
+const MOST_NAME: usize = 4_096;
+
+/// What stands for an octet that cannot stand in a line.
+const REPLACED: u8 = b'?';
+
+/// Where a call comes from, as its caller says.
+#[derive(Clone, Copy, Debug)]
+pub enum Source<'a> {
+    /// Nobody says where.
+    Unknown,
+    /// A line of a file. Of a name of more than 4,096 octets the last ones are written. A `?` stands for each control
+    /// octet, for a space at the front, and for a `#` there or behind a space.
+    Line { file: &'a [u8], line: u32 },
+    /// A program counter.
+    Counter(u64),
+}
+
+/// Writes where a call comes from, if that is known, and the end of a line.
+pub(crate) fn write_end<W: Write>(writer: &mut W, source: Source<'_>) -> Result<(), WriteFailed>
+    ensures writes { Writes (W.contents writer.old) (W.contents writer.new) result (end_text (plain source.entry)) }
+{
+    match source {
+        Source::Unknown => write_whole(writer, b"\n"),
+        Source::Line { file, line } => write_place(writer, file, line),
+        Source::Counter(at) => write_pieces(writer, &[b" @ 0x", &address_digits(at), b"\n"]),
+    }
+}
+
+/// Writes a line of a file, and the end of a line.
+fn write_place<W: Write>(writer: &mut W, file: &[u8], line: u32) -> Result<(), WriteFailed>
+    ensures writes { Writes (W.contents writer.old) (W.contents writer.new) result (place_text file.now line) }
+{
+    write_whole(writer, b" @ ")?;
+    write_named(writer, last_of(file), line)
+}
+
+/// Writes a name with the number of a line, and the end of a line.
+fn write_named<W: Write>(writer: &mut W, name: &[u8], line: u32) -> Result<(), WriteFailed>
+    ensures writes { Writes (W.contents writer.old) (W.contents writer.new) result (named_text name.now line) }
+{
+    write_name(writer, name)?;
+    write_line_number(writer, line)
+}
+
+/// Writes the number of a line behind a name, and the end of a line.
+fn write_line_number<W: Write>(writer: &mut W, line: u32) -> Result<(), WriteFailed>
+    ensures writes { Writes (W.contents writer.old) (W.contents writer.new) result (line_number_text line) }
+{
+    let mut digits = Buffer::new();
+    write_pieces(writer, &[b":", digits.format(line).as_bytes(), b"\n"])
+}
+
+/// Writes a name with a `?` for each octet that cannot stand in a line: at once where there is none.
+#[tactic(auto, using(crate::proofs::ShownNames::plain_name))]
+fn write_name<W: Write>(writer: &mut W, name: &[u8]) -> Result<(), WriteFailed>
+    ensures writes { Writes (W.contents writer.old) (W.contents writer.new) result (shown name.now) }
+{
+    if is_shown(name) {
+        return write_whole(writer, name);
+    }
+    write_shown(writer, name)
+}
+
+/// The last octets of a name.
+fn last_of(file: &[u8]) -> &[u8]
+    ensures { result.now ≡ last_of file.now }
+{
+    &file[file.len().saturating_sub(MOST_NAME)..]
+}
+
+/// Whether each octet of a name can stand in a line.
+fn is_shown(name: &[u8]) -> bool
+    ensures { result ≡ is_shown name.now }
+{
+    (0..name.len()).all(|at| !is_replaced(name, at))
+}
+
+/// Writes a name octet by octet, with a `?` for each that cannot stand in a line.
+#[inline(never)]
+fn write_shown<W: Write>(writer: &mut W, name: &[u8]) -> Result<(), WriteFailed>
+    ensures writes { Writes (W.contents writer.old) (W.contents writer.new) result (shown name.now) }
+{
+    for at in 0..name.len() {
+        write_whole(writer, &[shown_at(name, at)])?;
+    }
+    Ok(())
+}
+
+/// What is written of an octet of a name.
+fn shown_at(name: &[u8], at: usize) -> u8
+    requires { at < length name.now }
+    ensures { result ≡ shown_at name.now at }
+{
+    if is_replaced(name, at) {
+        REPLACED
+    } else {
+        name[at]
+    }
+}
+
+/// Whether an octet of a name cannot stand in a line.
+#[inline(always)]
+fn is_replaced(name: &[u8], at: usize) -> bool
+    requires { at < length name.now }
+    ensures { result ≡ is_replaced name.now at }
+{
+    match name[at] {
+        0..32 | 127 => true,
+        b'#' => begins_at(name, at),
+        b' ' => at == 0,
+        _ => false,
+    }
+}
+
+/// Whether a word begins at a place of a name if any stands there.
+fn begins_at(name: &[u8], at: usize) -> bool
+    requires { at < length name.now }
+    ensures { result ≡ begins_at name.now at }
+{
+    at == 0 || matches!(name[at - 1], b' ' | b'\t' | b'\r')
+}

@@ -1,0 +1,4 @@
+mod BackLaws
+mod PlayLaws
+mod RunLaws
+pub mod FileLaws
