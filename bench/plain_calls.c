@@ -1,6 +1,7 @@
 /* A plain, unproved stand-in for the calls that bench/calls.c measures, to be linked in the place of the library. It
    keeps what a step back needs, as the library promises it: of each event what it changed and a note with the caller's
-   tag, as many as the budget holds. It knows registers that only store, ICR, IMS and memory; no frames, and no engines.
+   tag, as many as the budget holds. It knows registers that only store, ICR, IMS and memory; broadcasts of which each fits
+   into one buffer, in a FIFO and on the wire, with the counters that they move; and one attached region.
 
        cc -O2 -Idist/x86_64-linux bench/calls.c bench/plain_calls.c -o plain && ./plain */
 #include "bunjelav.h"
@@ -12,8 +13,14 @@ enum { OFFSETS = 0x6000, PAGE = 4096, COST = 32, ICR = 0x00C0, IMS = 0x00D0, RDT
 
 struct record {
   uint32_t where, old; /* a register and what it held, or an address and how many octets */
-  uint8_t *octets;     /* those of a memory write */
+  uint8_t *octets;     /* those of a memory write, or of a receive step */
   em_note note;
+  uint32_t end, icr;   /* of a step: where a receive descriptor's end lies, and the causes before */
+};
+
+struct frame {
+  uint8_t *octets;
+  uint32_t length;
 };
 
 struct plain {
@@ -22,6 +29,11 @@ struct plain {
   uint64_t size, tag;
   struct record *ring;
   size_t places, first, count;
+  em_ram ram;
+  uint8_t fifo[32][2048];
+  uint32_t lengths[32], oldest, waiting;
+  struct frame *wire;
+  size_t sent, places_sent;
 };
 
 static struct plain *of(em_machine *machine) { return machine->held; }
@@ -43,7 +55,7 @@ static bool is_register(const struct plain *p, uint32_t offset) {
 }
 
 static void keep(struct plain *p, uint32_t kind, uint32_t offset, uint32_t old, uint32_t value) {
-  *next(p) = (struct record){offset, old, NULL, {p->tag, offset, 4, value, kind}};
+  *next(p) = (struct record){offset, old, NULL, {p->tag, offset, 4, value, kind}, 0, 0};
 }
 
 uint32_t em_make(em_machine *machine, uint64_t memory, uint64_t budget, const uint8_t mac[6]) {
@@ -63,6 +75,8 @@ uint32_t em_make(em_machine *machine, uint64_t memory, uint64_t budget, const ui
 
 void em_free(em_machine *machine) {
   for (size_t i = 0; i < of(machine)->places; i++) free(of(machine)->ring[i].octets);
+  for (size_t i = 0; i < of(machine)->sent; i++) free(of(machine)->wire[i].octets);
+  free(of(machine)->wire);
   free(of(machine)->ring);
   free(of(machine)->memory);
   free(of(machine));
@@ -96,8 +110,200 @@ uint32_t em_poke(em_machine *machine, uint64_t address, const uint8_t *octets, s
   memcpy(kept, p->memory + address, length);
   memcpy(p->memory + address, octets, length);
   const em_note note = {p->tag, address, (uint32_t)length, 0, EM_POKE};
-  *next(p) = (struct record){(uint32_t)address, (uint32_t)length, kept, note};
+  *next(p) = (struct record){(uint32_t)address, (uint32_t)length, kept, note, 0, 0};
   return EM_OK;
+}
+
+/* ---- frames, engines, and attached memory. A frame of 60 octets or more lies in one buffer and is sent from one. */
+
+enum { RDBAL = 0x2800, RDLEN = 0x2808, RDH = 0x2810, TDBAL = 0x3800, TDLEN = 0x3808, TDH = 0x3810, TDT = 0x3818 };
+enum { SLOT = 2048, SLOTS = 32, RXT0 = 0x80, TXDW = 0x1, TXQE = 0x2, DD_AND_EOP = 0x03, DESCRIPTOR = 16 };
+enum { GPRC = 0x4074, GORCL = 0x4088, TORL = 0x40C0, TPR = 0x40D0, BPRC = 0x4078, PRC64 = 0x405C };
+enum { GPTC = 0x4080, GOTCL = 0x4090, TOTL = 0x40C8, TPT = 0x40D4, BPTC = 0x40F4, PTC64 = 0x40D8 };
+
+static bool is_attached(const struct plain *p) { return p->ram.count > 0; }
+
+uint32_t em_attach(em_machine *machine, const em_ram *ram) {
+  of(machine)->ram = *ram;
+  return EM_OK;
+}
+
+uint32_t em_set_link(em_machine *machine, bool up) {
+  (void)up;
+  keep(of(machine), EM_LINK_UP, 0, 0, 0);
+  return EM_OK;
+}
+
+static uint32_t *word(struct plain *p, uint32_t offset) { return &p->registers[offset / 4]; }
+
+/* What a frame adds to the counters of its direction; taken back by its negative. */
+static void count(struct plain *p, bool receives, uint32_t octets, uint32_t by) {
+  static const uint32_t of_rx[] = {GPRC, TPR, BPRC, GORCL, TORL}, of_tx[] = {GPTC, TPT, BPTC, GOTCL, TOTL};
+  const uint32_t *offsets = receives ? of_rx : of_tx, size = octets + 4;
+  uint32_t class = size <= 64 ? 0 : size <= 127 ? 1 : size <= 255 ? 2 : size <= 511 ? 3 : size <= 1023 ? 4 : 5;
+  for (int i = 0; i < 3; i++) *word(p, offsets[i]) += by;
+  for (int i = 3; i < 5; i++) *word(p, offsets[i]) += by * size;
+  *word(p, (receives ? PRC64 : PTC64) + 4 * class) += by;
+}
+
+uint32_t em_arrive(em_machine *machine, const uint8_t *frame, size_t length, em_note *event) {
+  struct plain *p = of(machine);
+  uint8_t all = 0xFF;
+  for (int i = 0; i < 6; i++) all &= frame[i];
+  bool fits = p->waiting < SLOTS && length <= SLOT;
+  uint32_t kind = all != 0xFF ? EM_REJECTED : fits ? EM_STORED : EM_MISSED;
+  if (kind == EM_STORED) {
+    uint32_t slot = (p->oldest + p->waiting++) % SLOTS;
+    memcpy(p->fifo[slot], frame, length);
+    p->lengths[slot] = (uint32_t)length;
+    count(p, true, (uint32_t)length, 1);
+  }
+  *event = (em_note){p->tag, 0, (uint32_t)length, 0, kind};
+  *next(p) = (struct record){0, 0, NULL, *event, 0, 0};
+  return EM_OK;
+}
+
+/* Makes own octets what the caller's are, by a memory write where they differ. */
+static uint32_t bring(em_machine *machine, uint64_t at, size_t length) {
+  struct plain *p = of(machine);
+  if (!is_attached(p)) return EM_OK;
+  const uint8_t *theirs = p->ram.regions[0].octets + at, *mine = p->memory + at;
+  size_t first = 0, last = length;
+  if (memcmp(mine, theirs, length) == 0) return EM_OK;
+  while (mine[first] == theirs[first]) first++;
+  while (mine[last - 1] == theirs[last - 1]) last--;
+  return em_poke(machine, at + first, theirs + first, last - first);
+}
+
+static void take_out(struct plain *p, uint64_t at, size_t length) {
+  if (is_attached(p)) memcpy(p->ram.regions[0].octets + at, p->memory + at, length);
+}
+
+static uint64_t number(const uint8_t *from, int octets) {
+  uint64_t value = 0;
+  while (octets--) value = value << 8 | from[octets];
+  return value;
+}
+
+static void move(struct plain *p, uint32_t head, uint32_t length) {
+  *word(p, head) = *word(p, head) + 1 == *word(p, length) / DESCRIPTOR ? 0 : *word(p, head) + 1;
+}
+
+uint32_t em_rx_step(em_machine *machine, em_note *event) {
+  struct plain *p = of(machine);
+  uint32_t head = *word(p, RDH), icr = *word(p, ICR);
+  *event = (em_note){p->tag, 0, 0, 0, EM_RX_IDLE};
+  if (p->waiting == 0 || head == *word(p, RDT)) {
+    *next(p) = (struct record){0, 0, NULL, *event, 0, 0};
+    return EM_OK;
+  }
+  uint64_t at = *word(p, RDBAL) + DESCRIPTOR * (uint64_t)head;
+  uint32_t length = p->lengths[p->oldest];
+  if (bring(machine, at, DESCRIPTOR) != EM_OK) return EM_MEMORY;
+  uint64_t buffer = number(p->memory + at, 8);
+  if (buffer > p->size || length > p->size - buffer) return EM_DMA_RANGE;
+  if (bring(machine, buffer, length) != EM_OK) return EM_MEMORY;
+  uint8_t *kept = malloc(length + 8);
+  if (kept == NULL) return EM_MEMORY;
+  memcpy(kept, p->memory + buffer, length);
+  memcpy(kept + length, p->memory + at + 8, 8);
+  memcpy(p->memory + buffer, p->fifo[p->oldest], length);
+  const uint8_t end[8] = {(uint8_t)length, (uint8_t)(length >> 8), 0, 0, DD_AND_EOP | 4};
+  memcpy(p->memory + at + 8, end, 8);
+  p->oldest = (p->oldest + 1) % SLOTS;
+  p->waiting--;
+  move(p, RDH, RDLEN);
+  *word(p, ICR) |= RXT0;
+  take_out(p, buffer, length);
+  take_out(p, at + 8, 8);
+  *event = (em_note){p->tag, 0, 0, head, EM_WROTE};
+  *next(p) = (struct record){(uint32_t)buffer, length, kept, *event, (uint32_t)at, icr};
+  return EM_OK;
+}
+
+uint32_t em_tx_step(em_machine *machine, em_note *event) {
+  struct plain *p = of(machine);
+  uint32_t head = *word(p, TDH), icr = *word(p, ICR);
+  *event = (em_note){p->tag, 0, 0, 0, EM_TX_IDLE};
+  if (head == *word(p, TDT)) {
+    *next(p) = (struct record){0, 0, NULL, *event, 0, 0};
+    return EM_OK;
+  }
+  uint64_t at = *word(p, TDBAL) + DESCRIPTOR * (uint64_t)head;
+  if (bring(machine, at, DESCRIPTOR) != EM_OK) return EM_MEMORY;
+  uint64_t buffer = number(p->memory + at, 8);
+  uint32_t length = (uint32_t)number(p->memory + at + 8, 2);
+  if (buffer > p->size || length > p->size - buffer) return EM_DMA_RANGE;
+  if (bring(machine, buffer, length) != EM_OK) return EM_MEMORY;
+  uint8_t *sent = malloc(length);
+  if (p->sent == p->places_sent) {
+    size_t places = p->places_sent ? 2 * p->places_sent : 64;
+    struct frame *wire = realloc(p->wire, places * sizeof *wire);
+    if (wire == NULL) return free(sent), EM_MEMORY;
+    p->wire = wire, p->places_sent = places;
+  }
+  if (sent == NULL) return EM_MEMORY;
+  memcpy(sent, p->memory + buffer, length);
+  p->wire[p->sent++] = (struct frame){sent, length};
+  count(p, false, length, 1);
+  p->memory[at + 12] |= 1;
+  take_out(p, at + 12, 1);
+  move(p, TDH, TDLEN);
+  *word(p, ICR) |= TXDW | (*word(p, TDH) == *word(p, TDT) ? TXQE : 0);
+  *event = (em_note){p->tag, 0, length, head, EM_SENT};
+  *next(p) = (struct record){(uint32_t)at, 0, NULL, *event, 0, icr};
+  return EM_OK;
+}
+
+static uint32_t run(em_machine *machine, uint32_t (*step)(em_machine *, em_note *), size_t n, size_t *done) {
+  em_note event;
+  for (*done = 0; *done < n; ++*done) {
+    uint32_t why = step(machine, &event);
+    if (why != EM_OK) return why;
+    if (event.kind == EM_RX_IDLE || event.kind == EM_TX_IDLE) break;
+  }
+  return EM_OK;
+}
+
+uint32_t em_run_rx(em_machine *machine, size_t n, size_t *done) { return run(machine, em_rx_step, n, done); }
+
+uint32_t em_run_tx(em_machine *machine, size_t n, size_t *done) { return run(machine, em_tx_step, n, done); }
+
+uint32_t em_wire_count(const em_machine *machine, size_t *count) {
+  *count = ((const struct plain *)machine->held)->sent;
+  return EM_OK;
+}
+
+uint32_t em_wire_frame(const em_machine *machine, size_t index, uint8_t *out, size_t room, size_t *length) {
+  const struct plain *p = machine->held;
+  if (index >= p->sent) return EM_NO_FRAME;
+  *length = p->wire[index].length;
+  if (*length > room) return EM_ROOM;
+  memcpy(out, p->wire[index].octets, *length);
+  return EM_OK;
+}
+
+/* What a frame's event changed is put back. */
+static void undo(struct plain *p, struct record *record) {
+  const em_note *note = &record->note;
+  if (note->kind == EM_STORED) {
+    p->waiting--;
+    count(p, true, note->length, UINT32_MAX);
+  } else if (note->kind == EM_WROTE) {
+    memcpy(p->memory + record->where, record->octets, record->old);
+    memcpy(p->memory + record->end, record->octets + record->old, 8);
+    take_out(p, record->where, record->old);
+    take_out(p, record->end, 8);
+    p->oldest = (p->oldest + SLOTS - 1) % SLOTS;
+    p->waiting++;
+    *word(p, RDH) = note->value, *word(p, ICR) = record->icr;
+  } else if (note->kind == EM_SENT) {
+    p->memory[record->where + 12] &= (uint8_t)~1;
+    take_out(p, record->where + 12, 1);
+    free(p->wire[--p->sent].octets);
+    count(p, false, note->length, UINT32_MAX);
+    *word(p, TDH) = note->value, *word(p, ICR) = record->icr;
+  }
 }
 
 uint32_t em_back(em_machine *machine, size_t n, size_t *done) {
@@ -105,19 +311,21 @@ uint32_t em_back(em_machine *machine, size_t n, size_t *done) {
   for (*done = 0; *done < n && p->count > 0; ++*done) {
     size_t at = p->first + --p->count;
     struct record *record = &p->ring[at < p->places ? at : at - p->places];
-    if (record->octets == NULL) {
+    if (record->note.kind == EM_READ || record->note.kind == EM_WRITE) {
       p->registers[record->where / 4] = record->old;
       continue;
     }
-    memcpy(p->memory + record->where, record->octets, record->old);
+    if (record->note.kind == EM_POKE) memcpy(p->memory + record->where, record->octets, record->old);
+    else undo(p, record);
     free(record->octets);
     record->octets = NULL;
   }
   return EM_OK;
 }
 
-uint32_t em_line(em_machine *machine, uint32_t *level) {
-  *level = (of(machine)->registers[ICR / 4] & of(machine)->registers[IMS / 4]) != 0;
+uint32_t em_line(const em_machine *machine, uint32_t *level) {
+  const struct plain *p = machine->held;
+  *level = (p->registers[ICR / 4] & p->registers[IMS / 4]) != 0;
   return EM_OK;
 }
 
@@ -129,10 +337,10 @@ static bool differs(const uint8_t *a, const uint8_t *b, size_t *first, size_t *l
   return true;
 }
 
-uint32_t em_sync_out(em_machine *machine, uint8_t *ram, size_t size) {
-  const uint8_t *memory = of(machine)->memory;
+uint32_t em_sync_out(const em_machine *machine, uint8_t *ram, size_t size) {
+  const uint8_t *memory = ((const struct plain *)machine->held)->memory;
   size_t first, last;
-  if (size != of(machine)->size) return EM_LENGTH;
+  if (size != ((const struct plain *)machine->held)->size) return EM_LENGTH;
   for (size_t at = 0; at < size; at += PAGE) {
     if (differs(memory + at, ram + at, &first, &last)) memcpy(ram + at + first, memory + at + first, last - first);
   }

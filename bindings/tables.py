@@ -7,7 +7,8 @@
 
 Whole files are _tables.py and _refusals.py of bindings/python/bunjelav, and tables.rs and raw.rs of bindings/rust/src. In bunjelav.h only
 the numbers, the fields and the types are written: comments and the names of parameters stay as they are there. Of
-bunjelav.pc, Cargo.toml, pyproject.toml and page/page.html it is the version.
+bunjelav.pc, Cargo.toml, pyproject.toml and page/page.html it is the version. What attach.c of bindings/c has of its own,
+two calls and three layouts, is written for Rust and Python of what stands below, and compared in bunjelav.h.
 """
 import os
 import re
@@ -22,6 +23,15 @@ from crate import Call, Crate, Field, words_of  # noqa: E402
 HERE = Path(__file__).resolve().parent
 NOTICE = "Written by bindings/tables.py, of the crate em_c: change it there, and run that."
 LAYOUTS = {"EmNote": "em_note", "EmRegister": "em_register", "EmWatch": "em_watch", "EmChange": "em_change"}
+# What bindings/c/attach.c has that the crate has not: calls, and layouts as the header has them.
+OF_ATTACH = {"em_attach", "em_detach"}
+C_OF_ATTACH = {
+    "em_region": "uint64_t base; uint64_t size; uint8_t *octets;",
+    "em_ram": "void *context; bool (*read)(void *context, uint64_t address, uint8_t *out, size_t length); "
+              "bool (*write)(void *context, uint64_t address, const uint8_t *octets, size_t length); "
+              "const em_region *regions; size_t count;",
+    "em_machine": "bool made; void *held; em_ram ram; uint32_t state;",
+}
 SHORTER = {"receive idle": "rx idle", "transmit idle": "tx idle"}
 C_TYPES = {"u8": "uint8_t", "u16": "uint16_t", "u32": "uint32_t", "u64": "uint64_t", "usize": "size_t", "bool": "bool"}
 
@@ -51,10 +61,10 @@ def passed(parameter: Field, call: Call) -> list[tuple[str, str, str, str]]:
     name, kind = parameter.name, parameter.kind
     if kind == "&mut EmMachine":
         return [("in" if call.looks else "out", "EmMachine", "", name)]
-    array = re.fullmatch(r"&\[(\w+); (\w+)\]", kind)
+    array = re.fullmatch(r"&(mut )?\[(\w+); (\w+)\]", kind)
     if array:
-        count = {"EEPROM_WORDS": "64"}.get(array[2], array[2])
-        return [("in", array[1], count, name)]
+        count = {"EEPROM_WORDS": "64"}.get(array[3], array[3])
+        return [("out" if array[1] else "in", array[2], count, name)]
     there = re.fullmatch(r"&(mut )?\[(\w+)\]", kind)
     if there:
         how, size = ("out", "room") if there[1] else ("in", "length")
@@ -76,7 +86,7 @@ def c_parameter(one: tuple[str, str, str, str], name: str) -> str:
     how, kind, count, _ = one
     base = "em_machine" if kind == "EmMachine" else C_TYPES.get(kind) or c_layout(kind)
     if count:
-        return f"const {base} {name}[{count}]"
+        return f"{'const ' if how == 'in' else ''}{base} {name}[{count}]"
     return f"{base} {name}" if how == "value" else f"{'const ' if how == 'in' else ''}{base} *{name}"
 
 
@@ -95,7 +105,8 @@ def names_there(text: str, call: Call) -> list[str]:
 
 def with_calls(text: str, made: Crate) -> str:
     declared = re.findall(r"^(?:uint32_t|void) (em_\w+)\(", text, re.M)
-    missing = {call.name for call in made.calls} ^ set(declared)
+    missing = {call.name for call in made.calls} | OF_ATTACH
+    missing ^= set(declared)
     if missing:
         raise SystemExit(f"bunjelav.h and the crate don't have the same calls: {', '.join(sorted(missing))}")
     for call in made.calls:
@@ -134,6 +145,19 @@ def with_number(text: str, name: str, value: str) -> str:
     return re.sub(rf"^#define {name} .*$", f"#define {name} {value}", text, flags=re.M)
 
 
+def with_attach(text: str) -> str:
+    """The header, which has the layouts and calls of attach.c as they are written here."""
+    for name, fields in C_OF_ATTACH.items():
+        inside = re.search(rf"typedef struct {name} \{{\n(.*?)\n\}} {name};", text, re.S)
+        there = " ".join(re.sub(r"/\*.*?\*/", "", inside[1], flags=re.S).split()) if inside else ""
+        if there != fields:
+            raise SystemExit(f"bunjelav.h has another struct {name}: {there}")
+    for call in ("em_attach(em_machine *machine, const em_ram *ram);", "em_detach(em_machine *machine);"):
+        if f"\nuint32_t {call}\n" not in text:
+            raise SystemExit(f"bunjelav.h has no {call}")
+    return text
+
+
 def header(text: str, made: Crate) -> str:
     codes = [(f"EM_{refusal_constant(it.name)}", it.number, it.sentence) for it in made.refusals]
     text = with_entries(text, "em_code", [("EM_OK", 0, "nothing refused it"), *codes])
@@ -142,7 +166,7 @@ def header(text: str, made: Crate) -> str:
     text = with_entries(text, "em_rings", [(f"EM_{name.upper()}_RING", n, f"the {name} ring") for name, n in made.rings])
     for layout in made.layouts:
         text = with_layout(text, layout, made)
-    text = with_calls(text, made)
+    text = with_attach(with_calls(text, made))
     major, minor, patch = map(int, made.version.split("."))
     for name, value in (("EM_REGISTERS", f"{made.registers}"), ("EM_MOST_SENT", f"{made.most_sent}"),
                         ("EM_VERSION", f'"{made.version}"'),
@@ -168,7 +192,7 @@ def commented(docs: str, indent: str = "", mark: str = "/// ") -> list[str]:
 
 def rust_struct(layout: crate.Layout, made: Crate) -> list[str]:
     name = layout.name.removeprefix("Em")
-    is_seen = name in ("Register", "RingSetup")
+    is_seen = name in ("Range", "Register", "RingSetup")
     seen = "pub" if is_seen else "pub(crate)"
     derived = "Clone, Copy, PartialEq, Eq, Hash, Debug, Default" if is_seen else "Clone, Copy, Default"
     lines = ["", *commented(layout.docs), "#[repr(C)]", f"#[derive({derived})]", f"{seen} struct {name} {{"]
@@ -178,9 +202,53 @@ def rust_struct(layout: crate.Layout, made: Crate) -> list[str]:
     return [*lines, "}"]
 
 
+RUST_OF_ATTACH = """\
+/// A part of memory of the caller's, as [`crate::Machine::attach_regions`] takes it.
+#[repr(C)]
+#[derive(Clone, Copy, Debug)]
+pub struct Region {
+    /// Its address in guest memory.
+    pub base: u64,
+    /// How many octets it has.
+    pub size: u64,
+    /// Where they lie.
+    pub octets: *mut u8,
+}
+
+pub(crate) type Read = unsafe extern "C" fn(*mut c_void, u64, *mut u8, usize) -> bool;
+pub(crate) type Write = unsafe extern "C" fn(*mut c_void, u64, *const u8, usize) -> bool;
+
+#[repr(C)]
+pub(crate) struct Ram {
+    pub context: *mut c_void,
+    pub read: Option<Read>,
+    pub write: Option<Write>,
+    pub regions: *const Region,
+    pub count: usize,
+}
+
+impl Ram {
+    pub(crate) const fn none() -> Ram {
+        Ram { context: core::ptr::null_mut(), read: None, write: None, regions: core::ptr::null(), count: 0 }
+    }
+
+    pub(crate) fn is_some(&self) -> bool {
+        self.read.is_some() || self.count > 0
+    }
+}
+
+#[repr(C)]
+pub(crate) struct Handle {
+    pub made: bool,
+    pub held: *mut c_void,
+    pub ram: Ram,
+    pub state: u32,
+}""".split("\n")
+
+
 def rust_raw(made: Crate) -> str:
     lines = ["//! The layouts and the calls of bunjelav.h.", "//!", f"//! {NOTICE}", "use core::ffi::c_void;", "",
-             "#[repr(C)]", "pub(crate) struct Handle {", "    pub made: bool,", "    pub held: *mut c_void,", "}"]
+             *RUST_OF_ATTACH]
     for layout in made.layouts:
         lines += rust_struct(layout, made)
     lines += ["", 'extern "C" {']
@@ -192,6 +260,8 @@ def rust_raw(made: Crate) -> str:
             inside = "".join(f"        {rust_parameter(one)},\n" for one in all_passed(call))
             line = f"    pub(crate) fn {call.name}(\n{inside}    ){gives};"
         lines.append(line)
+    lines += ["    pub(crate) fn em_attach(machine: *mut Handle, ram: *const Ram) -> u32;",
+              "    pub(crate) fn em_detach(machine: *mut Handle) -> u32;"]
     return "\n".join([*lines, "}", ""])
 
 
@@ -249,9 +319,33 @@ def python_parameter(one: tuple[str, str, str, str], made: Crate) -> str:
     return f"POINTER({kind.removeprefix('Em') if kind.startswith('Em') else python_type(kind, made)})"
 
 
+PYTHON_OF_ATTACH = """
+
+READ = CFUNCTYPE(c_bool, c_void_p, c_uint64, c_void_p, c_size_t)
+WRITE = CFUNCTYPE(c_bool, c_void_p, c_uint64, c_void_p, c_size_t)
+
+
+class Region(Structure):
+    _fields_ = [("base", c_uint64), ("size", c_uint64), ("octets", c_void_p)]
+
+
+class Ram(Structure):
+    _fields_ = [
+        ("context", c_void_p),
+        ("read", READ),
+        ("write", WRITE),
+        ("regions", POINTER(Region)),
+        ("count", c_size_t),
+    ]
+
+
+class Handle(Structure):
+    _fields_ = [("made", c_bool), ("held", c_void_p), ("ram", Ram), ("state", c_uint32)]""".split("\n")
+
+
 def python(made: Crate) -> str:
     lines = ['"""Numbers, layouts and calls of bunjelav.h.', "", NOTICE, '"""',
-             "from ctypes import POINTER, Structure, c_bool, c_size_t, c_uint8, c_uint16, c_uint32, c_uint64, c_void_p",
+             "from ctypes import CFUNCTYPE, POINTER, Structure, c_bool, c_size_t, c_uint8, c_uint16, c_uint32, c_uint64, c_void_p",
              "", f'VERSION = "{made.version}"', f"REGISTERS = {made.registers}", f"MOST_SENT = {made.most_sent}",
              f"MOST_WATCHED = {made.sizes['MOST_OCTETS']}", "", "# by name, the number of each refusal", "REFUSALS = {"]
     lines += [f'    "{it.name}": {it.number},' for it in made.refusals]
@@ -261,7 +355,7 @@ def python(made: Crate) -> str:
     lines += [f'    "{words}": {n},' for words, n in made.watches]
     lines += ["}", "", "# by name, the number of each ring", "RINGS = {"]
     lines += [f'    "{name}": {n},' for name, n in made.rings]
-    lines += ["}", "", "", "class Handle(Structure):", '    _fields_ = [("made", c_bool), ("held", c_void_p)]']
+    lines += ["}", *PYTHON_OF_ATTACH]
     for layout in made.layouts:
         lines += ["", "", f"class {layout.name.removeprefix('Em')}(Structure):", "    _fields_ = ["]
         lines += [f'        ("{field.name}", {python_type(field.kind, made)}),' for field in layout.fields]
@@ -270,6 +364,7 @@ def python(made: Crate) -> str:
     for call in made.calls:
         inside = ", ".join(python_parameter(one, made) for one in all_passed(call))
         lines.append(f'    "{call.name}": [{inside}],')
+    lines += ['    "em_attach": [POINTER(Handle), POINTER(Ram)],', '    "em_detach": [POINTER(Handle)],']
     return "\n".join([*lines, "}", ""])
 
 
@@ -281,7 +376,8 @@ def python_refusals(made: Crate) -> str:
     lines += ["]", "", "", "class Refused(Exception):",
               '    """Why a call did nothing: each refusal is a class of its own below this one, of the refusal\'s name."""', "",
               "    # the refusal's number", "    number = 0",
-              "    # of `run` how many steps, and of `sync_in` how many writes, went well before; they stay", "    done = 0"]
+              "    # of `run` how many steps, and of `sync_in` how many writes, went well before; they stay",
+              "    # of `back` how many events were taken back", "    done = 0"]
     for it in made.refusals:
         lines += ["", "", f"class {it.name}(Refused):", f'    """{it.docs}"""', "", f"    number = {it.number}"]
     return "\n".join([*lines, ""])

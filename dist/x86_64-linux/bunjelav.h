@@ -1,19 +1,25 @@
 /* Bunjelav: Intel's 82540EM as a model that can be stepped backwards, as a library for C and C++.
 
    A machine is an adapter with its guest's memory and a journal of its latest events. A driver, or a virtual machine,
-   reads and writes its registers and its memory, hands it frames, and takes frames from its wire; then it takes events
-   back, one by one, and looks.
+   reads and writes its registers, hands it frames, and takes frames from its wire; the adapter reads and writes the
+   driver's own memory, which is attached; then events are taken back, one by one, and one looks.
 
-       em_machine m = EM_NO_MACHINE;
+       static uint8_t ram[65536];
+       const em_region region = {0, sizeof ram, ram};
+       const em_ram all = {NULL, NULL, NULL, &region, 1};
        const uint8_t mac[6] = {0x52, 0x54, 0x00, 0x12, 0x34, 0x56};
-       if (em_make(&m, 65536, 1048576, mac) != EM_OK) ...
-       em_write(&m, 0x00D0, 4);
+       em_machine m = EM_NO_MACHINE;
+       if (em_make(&m, sizeof ram, 1048576, mac) != EM_OK || em_attach(&m, &all) != EM_OK) ...
+       em_write(&m, 0x2818, tail);               the driver wrote descriptors to ram, and gives them to the adapter
+       em_arrive(&m, frame, length, &event);
+       em_run_rx(&m, SIZE_MAX, &steps);          the frame lies in ram
        em_free(&m);
 
    WHAT EACH CALL GIVES. EM_OK, which is 0, or the number of the reason why it did nothing (enum em_code). A call
    that was refused has changed nothing: neither the machine, nor what a pointer points to. Only the calls that fill
    room also tell how much they need, and em_run_rx, em_run_tx and em_sync_in tell how many steps or writes went well
-   before the one that was refused; these stay. What a call tells goes through its last pointers.
+   before the one that was refused; these stay. Of attached memory its own section says what a refusal leaves. What a
+   call tells goes through its last pointers.
 
    WHAT MUST HOLD. The proofs of the library rest on this, and nothing checks it:
 
@@ -28,6 +34,8 @@
    - A call that takes a `const em_machine *` leaves the machine as it was. While it lasts it writes the handle all the
      same: it is a call like any other to what stands above, and a handle is no object that was defined const.
    - No call is made from a signal handler, or in a forked child of a process with threads.
+   - A function of an em_ram is called in the thread of the call that it serves, and returns: it is not left by longjmp
+     or an exception. It writes no octet but those that it was called for.
    - malloc, realloc and free of the process are one allocator's, and align a block of n octets to each power of two up
      to 16 that divides n. (Each C library's are.)
    - A machine holds memory until em_free.
@@ -49,15 +57,36 @@ extern "C" {
 #define EM_VERSION "0.1.0"
 #define EM_VERSION_NUMBER 0x000100
 
+/* A part of the caller's memory: `octets` lies at the address `base` of guest memory, and has `size` octets. */
+typedef struct em_region {
+  uint64_t base;
+  uint64_t size;
+  uint8_t *octets;
+} em_region;
+
+/* The caller's own memory, as em_attach takes it: both functions, or neither and at least one region. An address is the
+   guest's, as a driver writes it into RDBAL and descriptors. */
+typedef struct em_ram {
+  void *context;             /* handed to both functions */
+  /* Copies octets at an address out; true where it could */
+  bool (*read)(void *context, uint64_t address, uint8_t *out, size_t length);
+  /* Makes octets at an address these; true where it could */
+  bool (*write)(void *context, uint64_t address, const uint8_t *octets, size_t length);
+  const em_region *regions;  /* a table, where there are no functions; the first that has an address counts */
+  size_t count;
+} em_ram;
+
 /* A handle: it holds a machine, or none. Its fields are the library's own. */
 typedef struct em_machine {
   bool made;
   void *held;
+  em_ram ram;
+  uint32_t state;
 } em_machine;
 
 /* What a handle is before em_make and after em_free: `em_machine m = EM_NO_MACHINE;`. */
 #define EM_NO_MACHINE \
-  { false, NULL }
+  { false, NULL, { NULL, NULL, NULL, NULL, 0 }, 0 }
 
 /* Why a call did nothing. The numbers stay as they are. */
 typedef enum em_code {
@@ -82,7 +111,11 @@ typedef enum em_code {
   EM_NO_NAME = 34,     /* no register has the name */
   EM_NO_REFUSAL = 35,  /* no refusal has the number */
   EM_NO_RING = 36,     /* there is no ring of the number: they are of enum em_rings */
-  EM_NO_DESCRIPTOR = 37 /* the ring has no descriptor of the index */
+  EM_NO_DESCRIPTOR = 37, /* the ring has no descriptor of the index */
+  EM_BUSY = 38,        /* a function of the attached memory made the call */
+  EM_UNREAD = 39,      /* the attached memory was not read: its function gave false, or no region has all octets */
+  EM_UNWRITTEN = 40,   /* the attached memory was not written: likewise */
+  EM_NO_RAM = 41       /* what is to be attached has neither both functions nor a region */
 } em_code;
 
 /* What an event was, and what came of it. The numbers stay as they are. */
@@ -191,11 +224,71 @@ uint32_t em_ring_descriptor(const em_machine *machine, uint32_t side, uint32_t i
 
 /* ---- guest memory; the cost is that of copying the octets */
 
-/* The driver writes 1 to 16,384 octets. */
+/* The driver writes 1 to 16,384 octets. Where memory is attached they go there too (else EM_UNWRITTEN). */
 uint32_t em_poke(em_machine *machine, uint64_t address, const uint8_t *octets, size_t length);
 
 /* Copies octets out; any number of them. It is no event. */
 uint32_t em_peek(const em_machine *machine, uint64_t address, uint8_t *out, size_t length);
+
+/* ---- the caller's own memory
+
+   From em_attach on the adapter works on the caller's memory, in each call that is an event. No call compares or copies
+   anything but the octets that a step reads and writes:
+
+   - A step of an engine (em_rx_step, em_tx_step, em_run_rx, em_run_tx) brings over what it reads, and what lies where
+     it will write. Where that differs from what the machine has, it becomes a memory write, from the first octet that
+     differs to the last: an event under the tag at hand, which em_event tells and em_last_change finds. Then it is
+     performed, and what it wrote goes out: first the buffer, then the descriptor's last 8 octets or its status octet,
+     and RDH or TDH is moved for whoever reads it after the call. Into a region the 8 octets go as one word where they
+     are aligned: who sees DD there sees the buffer too. An idle step touches nothing.
+   - em_poke writes to both.
+   - em_back puts back what the steps among the events overwrote, the newest first: the caller's octets become what they
+     were before the step, also those that another wrote there since. What software wrote stays, by em_poke too: it is
+     not the adapter's, and the next step brings it again. So the same steps made again come to the same.
+   - All other calls leave the caller's memory alone: an access of a register costs what it costs without it.
+
+   The machine's own copy of guest memory has what was brought and written. em_peek, em_ring_descriptor and watches of
+   octets look at that copy. Where more is to be seen there, em_sync_in_range brings it.
+
+   A descriptor or a buffer that leaves guest memory is refused as ever, and not asked for. Where a function gives false,
+   or no region has the octets, the call is refused as EM_UNREAD or EM_UNWRITTEN. Of a step and of em_poke the machine is
+   then as it was, as after each refused step: what was brought for it is taken back. (The oldest events of a full journal
+   may be gone all the same, since what is taken back had pushed them out.) What the caller's memory got before the
+   refused write stays there: the buffer, where the descriptor is refused. em_run_rx and em_run_tx keep the steps before.
+   em_back stops: `done` counts the step whose octets were refused, too.
+
+   Within a function of an em_ram no event can come between: each call that takes the handle as `em_machine *` is refused
+   as EM_BUSY, and em_free does nothing. A call that takes it as `const em_machine *` is answered.
+
+   Another thread may use the caller's memory meanwhile, as with a real adapter: any octets but those that a step needs, or
+   that a step back puts back, while the call lasts. DD it may look at by an atomic load all the time. */
+
+/* Attaches the caller's memory, in the place of other memory that was; `ram` is copied, its context and its table of
+   regions are used until then. Nothing is brought over. Refused as EM_BUSY, EM_NOT_MADE or EM_NO_RAM, the first that
+   holds. Constant. */
+uint32_t em_attach(em_machine *machine, const em_ram *ram);
+
+/* From now on guest memory is the machine's own again, as it has it. em_free does the same. Refused as EM_BUSY or
+   EM_NOT_MADE. Constant. */
+uint32_t em_detach(em_machine *machine);
+
+/* What the next step of an engine of enum em_rings reads and writes, by what the machine has: a range of no octets, at 0,
+   where there are less than two. Of receiving: the descriptor is read; the piece in its buffer and the descriptor's last
+   8 octets are written. Of transmitting: the descriptor and its buffer are read; its status octet is written where RS is
+   set. An idle step, and one whose descriptor leaves memory, needs nothing. What is refused for another cause reads its
+   descriptor. It is no event. Refused as EM_NO_RING. Constant. */
+typedef struct em_range {
+  uint64_t address;
+  uint64_t length;
+} em_range;
+uint32_t em_ring_needs(const em_machine *machine, uint32_t side, em_range reads[2], em_range writes[2]);
+
+/* What the event at k wrote, as em_event counts: of a receive step the piece in its buffer and the descriptor's last 8
+   octets, of a transmit step its status octet, of a memory write its octets. It is no event. Refused as EM_NO_EVENT.
+   Constant. */
+uint32_t em_written(const em_machine *machine, size_t k, em_range written[2]);
+
+/* ---- guest memory and a copy of it; these never touch attached memory */
 
 /* Makes `ram` what guest memory is, after events and after steps back, whatever `ram` held: what a driver wrote there
    and em_sync_in has not brought in since is written over. An octet that is the same already is not written. Refused as
@@ -205,12 +298,20 @@ uint32_t em_sync_out(const em_machine *machine, uint8_t *ram, size_t size);
 
 /* Makes guest memory what `ram` is, by one memory write in each page of 4,096 octets that differs, the lowest address
    first: from the page's first octet that differs to its last, and so also what is the same between them. Each write is
-   an event. What the adapter wrote and em_sync_out has not copied since is written over. So a driver with memory of its
-   own wants this before whatever the adapter does, an arrival too, and em_sync_out behind it. `writes` tells how many
-   were made. Refused as EM_LENGTH where `size` is not the size of guest memory: nothing is done, nor told. Refused as
+   an event. What the adapter wrote and em_sync_out has not copied since is written over. (A driver with memory of its own
+   attaches it, and wants neither.) `writes` tells how many were made. Refused as EM_LENGTH where `size` is not the size of guest memory: nothing is done, nor told. Refused as
    EM_MEMORY where the host has no memory for a write: those before it stay, and are told. The cost is that of copying
    and comparing all pages, and of the writes. */
 uint32_t em_sync_in(em_machine *machine, const uint8_t *ram, size_t size, size_t *writes);
+
+/* Makes `out` what guest memory is from an address on. An octet that is the same already is not written. Refused as
+   EM_RANGE. The cost is that of copying and comparing so many octets. */
+uint32_t em_sync_out_range(const em_machine *machine, uint64_t address, uint8_t *out, size_t length);
+
+/* Makes guest memory what `octets` are from an address on, by one memory write from the first octet that differs to the
+   last, or by none; `writes` tells how many. Refused as EM_RANGE, as EM_LENGTH above 16,384 octets, or as EM_MEMORY, the
+   first that holds. */
+uint32_t em_sync_in_range(em_machine *machine, uint64_t address, const uint8_t *octets, size_t length, size_t *writes);
 
 /* How many octets guest memory has. Constant. */
 uint32_t em_memory_size(const em_machine *machine, uint64_t *size);

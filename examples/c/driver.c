@@ -2,14 +2,12 @@
 
        cc -Idist/x86_64-linux examples/c/driver.c dist/x86_64-linux/libbunjelav.a -o driver && ./driver
 
-   The driver is plain C over registers and memory of its own. Around whatever the adapter does, an access of a
-   register or a frame that arrives, the harness brings both memories together: before it, what the driver wrote
-   becomes writes of guest memory, which are events; after it, what the adapter wrote is copied out. Each event has the
-   line of the access, or of the arrival, as its tag.
+   The driver is plain C over registers and memory of its own, which is attached: the adapter reads and writes it as a
+   real one does, and an access of a register or a frame that arrives is one call.
 
-   A driver may write to its memory where it makes no access, as one that gives buffers back four at a time. So memory
-   is brought in before an arrival too: without that, what the adapter has not seen would be undone when it is copied
-   out. */
+   What the driver stores there is no event by itself: the adapter sees it when a step needs it. To have the line at which
+   a descriptor was written, the harness brings the ring over before each access and arrival, under the line as its tag. A
+   store is so found between the line before it and the line that is told. */
 #include "bunjelav.h"
 
 #include <stdio.h>
@@ -65,6 +63,8 @@ static const uint8_t *receive(unsigned *length) {
 /* ---- the harness */
 
 static em_machine machine = EM_NO_MACHINE;
+static const em_region memory = {0, sizeof ram, ram};
+static const em_ram attached = {NULL, NULL, NULL, &memory, 1};
 
 static void must(uint32_t refusal) {
   if (refusal == EM_OK) return;
@@ -72,17 +72,17 @@ static void must(uint32_t refusal) {
   exit(1);
 }
 
+/* What the driver stored in its ring since the line before becomes a write of guest memory. */
 static void before(int line) {
   size_t writes;
   must(em_tag(&machine, (uint64_t)line));
-  must(em_sync_in(&machine, ram, sizeof ram, &writes));
+  must(em_sync_in_range(&machine, RING_AT, ram + RING_AT, COUNT * sizeof(struct descriptor), &writes));
 }
 
-/* The adapter acts, and the driver sees it. From `before` to here the driver does not run. */
+/* The adapter acts. */
 static void after(void) {
   size_t steps;
   must(em_run_rx(&machine, SIZE_MAX, &steps));
-  must(em_sync_out(&machine, ram, sizeof ram));
 }
 
 static void bus_write(int line, uint32_t offset, uint32_t value) {
@@ -128,6 +128,7 @@ int main(void) {
   static const uint8_t mac[6] = {0x52, 0x54, 0x00, 0x12, 0x34, 0x56};
   uint8_t frame[60] = {0xFF, 0xFF, 0xFF, 0xFF, 0xFF, 0xFF};
   must(em_make(&machine, MEMORY, 1048576, mac));
+  must(em_attach(&machine, &attached));
   must(em_set_link(&machine, true));
   start();
   for (unsigned number = 0; number < 20; number++) {

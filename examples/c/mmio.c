@@ -1,4 +1,5 @@
-/* The adapter behind a virtual machine: the callbacks of its register window, its interrupt line, frames from a file.
+/* The adapter behind a virtual machine: the callbacks of its register window, the guest's memory, which it reads and
+   writes by itself, its interrupt line, and frames from a file.
 
        cc -I. mmio.c libbunjelav.a -o mmio && ./mmio frames.txt
 
@@ -8,10 +9,12 @@
 
 #include <stdio.h>
 #include <stdlib.h>
+#include <string.h>
 
 typedef struct nic {
   em_machine machine;
   uint32_t level; /* the interrupt line, as the virtual machine's controller knows it */
+  uint8_t ram[65536];
 } nic;
 
 /* What this program can't go on after. */
@@ -38,6 +41,17 @@ static uint32_t bar_read(void *opaque, uint64_t offset) {
   if (offset > UINT32_MAX || em_read(&n->machine, (uint32_t)offset, &value) != EM_OK) value = UINT32_MAX;
   update_line(n);
   return value;
+}
+
+/* The adapter reads and writes octets of the guest's memory. Where there is none, the step is refused. */
+static bool dma_read(void *opaque, uint64_t address, uint8_t *out, size_t length) {
+  const nic *n = opaque;
+  return address + length <= sizeof n->ram && memcpy(out, n->ram + address, length);
+}
+
+static bool dma_write(void *opaque, uint64_t address, const uint8_t *octets, size_t length) {
+  nic *n = opaque;
+  return address + length <= sizeof n->ram && memcpy(n->ram + address, octets, length);
 }
 
 /* Lets both engines work until they have nothing to do, or refuse what they were given. */
@@ -75,7 +89,7 @@ enum { RXT0 = 0x80, EN = 0x2, BAM = 0x8000, RING = 0x1000, BUFFERS = 0x2000 };
 static void start_driver(nic *n) {
   for (unsigned i = 0; i < 8; i++) { /* the addresses of the buffers, low octet first */
     const uint8_t address[8] = {0, (uint8_t)((BUFFERS + 0x800 * i) >> 8)};
-    must(em_poke(&n->machine, RING + 16 * i, address, sizeof address), "a descriptor");
+    memcpy(n->ram + RING + 16 * i, address, sizeof address);
   }
   bar_write(n, RDBAL, RING);
   bar_write(n, RDLEN, 8 * 16);
@@ -99,14 +113,16 @@ static size_t next_frame(FILE *file, uint8_t *frame, size_t room) {
 }
 
 int main(int count, char **words) {
-  nic n = {EM_NO_MACHINE, 0};
+  static nic n = {EM_NO_MACHINE, 0, {0}};
+  const em_ram memory = {&n, dma_read, dma_write, NULL, 0};
   const uint8_t mac[6] = {0x52, 0x54, 0x00, 0x12, 0x34, 0x56};
   static uint8_t frame[20000];
   size_t length, done, back = 0;
   FILE *file = count > 1 ? fopen(words[1], "r") : stdin;
   if (!file) return perror(words[1]), 1;
   if (count < 2) fputs("mmio: reads frames from standard input, each a line of hexadecimal digits\n", stderr);
-  must(em_make(&n.machine, 65536, 1048576, mac), "a machine");
+  must(em_make(&n.machine, sizeof n.ram, 1048576, mac), "a machine");
+  must(em_attach(&n.machine, &memory), "its memory");
   must(em_set_link(&n.machine, true), "the link");
   start_driver(&n);
   for (; (length = next_frame(file, frame, sizeof frame)) != 0; handle_interrupt(&n)) deliver(&n, frame, length);

@@ -27,6 +27,7 @@ int main(void) {
   uint8_t frame[60] = {0xFF, 0xFF, 0xFF, 0xFF, 0xFF, 0xFF};
   unsigned random = 1;
   must(em_make(&machine, MEMORY, 1048576, mac));
+  must(em_attach(&machine, &attached));
   must(em_set_link(&machine, true));
   start();
   for (unsigned number = 0; number < FRAMES;) {

@@ -46,6 +46,7 @@ static void refuses_an_empty_handle(void) {
   em_register one = {7, 7};
   em_ring_setup ring = {7, 7, 7, 7, 7, 7};
   em_descriptor descriptor = {{7}, 7};
+  em_range ranges[4] = {{7, 7}, {7, 7}, {7, 7}, {7, 7}};
   em_watch watch = {EM_WATCH_LINE, 0, 0, 0};
   em_change change;
   memset(&change, 0, sizeof change);
@@ -73,6 +74,11 @@ static void refuses_an_empty_handle(void) {
   REFUSED(em_ring(&machine, EM_RX_RING, &ring), EM_NOT_MADE);
   REFUSED(em_ring_descriptor(&machine, EM_RX_RING, 0, &descriptor), EM_NOT_MADE);
   CHECK(ring.count == 7 && descriptor.adapters == 7);
+  REFUSED(em_ring_needs(&machine, EM_RX_RING, ranges, ranges + 2), EM_NOT_MADE);
+  REFUSED(em_written(&machine, 0, ranges), EM_NOT_MADE);
+  REFUSED(em_sync_out_range(&machine, 0, octets, 14), EM_NOT_MADE);
+  REFUSED(em_sync_in_range(&machine, 0, octets, 14, &count), EM_NOT_MADE);
+  CHECK(ranges[0].length == 7 && ranges[2].length == 7);
   CHECK(one.offset == 7 && one.value == 7);
   REFUSED(em_tag(&machine, 1), EM_NOT_MADE);
   REFUSED(em_event(&machine, 0, &event), EM_NOT_MADE);
@@ -518,7 +524,7 @@ static void names_registers_and_refusals(void) {
   REFUSED(em_refusal(7, room, sizeof room, &length), EM_NO_REFUSAL);
   for (uint32_t code = 0, known = 0; code < 1000; code++) {
     known += em_refusal(code, room, sizeof room, &length) == EM_OK;
-    if (code == 999) CHECK(known == 20); /* as many as enum em_code has, without EM_OK */
+    if (code == 999) CHECK(known == 24); /* as many as enum em_code has, without EM_OK */
   }
 }
 

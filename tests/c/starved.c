@@ -46,7 +46,7 @@ static bool is_as(em_machine *machine, const struct seen *wanted) {
 
 /* ---- the calls: each tells how many events of it went well */
 
-static uint8_t frame[1500], tagged[1500], ram[MEMORY];
+static uint8_t frame[1500], tagged[1500], ram[MEMORY], own[MEMORY];
 static em_note event;
 
 static uint32_t pokes(em_machine *m, size_t *done) { return (void)done, em_poke(m, 0x8000, frame, 60); }
@@ -56,6 +56,7 @@ static uint32_t arrives(em_machine *m, size_t *done) { return (void)done, em_arr
 static uint32_t receives(em_machine *m, size_t *done) { return (void)done, em_rx_step(m, &event); }
 static uint32_t sends(em_machine *m, size_t *done) { return (void)done, em_tx_step(m, &event); }
 static uint32_t syncs_in(em_machine *m, size_t *done) { return em_sync_in(m, ram, MEMORY, done); }
+static uint32_t syncs_range(em_machine *m, size_t *done) { return em_sync_in_range(m, 0x7FF0, ram, 60, done); }
 static uint32_t runs_rx(em_machine *m, size_t *done) { return em_run_rx(m, SIZE_MAX, done); }
 static uint32_t runs_tx(em_machine *m, size_t *done) { return em_run_tx(m, SIZE_MAX, done); }
 
@@ -85,20 +86,46 @@ static void with_packets(em_machine *machine) {
   OK(em_write(machine, TDT, FRAMES));
 }
 
+/* over memory of the caller's, in which buffers hold other octets: they are brought over */
+static void attach_own(em_machine *machine) {
+  static const em_region whole = {0, MEMORY, own};
+  const em_ram memory = {NULL, NULL, NULL, &whole, 1};
+  OK(em_sync_out(machine, own, MEMORY));
+  for (size_t i = BUFFER; i < BUFFER + 3000; i++) own[i] ^= (uint8_t)(i | 1);
+  OK(em_attach(machine, &memory));
+}
+
+static void with_frames_over_own(em_machine *machine) {
+  with_frames(machine);
+  attach_own(machine);
+}
+
+static void with_packets_over_own(em_machine *machine) {
+  with_packets(machine);
+  attach_own(machine);
+}
+
 static const struct {
   const char *name;
   void (*prepare)(em_machine *);
   uint32_t (*call)(em_machine *, size_t *);
+  bool is_over_own;
 } calls[] = {
-  {"em_poke", as_made, pokes},
-  {"em_poke over pages", as_made, pokes_over_pages},
-  {"em_write that resets", with_frames, resets},
-  {"em_arrive of a tagged frame", with_tags_taken_out, arrives},
-  {"em_rx_step", with_frames, receives},
-  {"em_tx_step", with_packets, sends},
-  {"em_sync_in", as_made, syncs_in},
-  {"em_run_rx", with_frames, runs_rx},
-  {"em_run_tx", with_packets, runs_tx},
+  {"em_poke", as_made, pokes, false},
+  {"em_poke over pages", as_made, pokes_over_pages, false},
+  {"em_write that resets", with_frames, resets, false},
+  {"em_arrive of a tagged frame", with_tags_taken_out, arrives, false},
+  {"em_rx_step", with_frames, receives, false},
+  {"em_tx_step", with_packets, sends, false},
+  {"em_sync_in", as_made, syncs_in, false},
+  {"em_sync_in_range", as_made, syncs_range, false},
+  {"em_run_rx", with_frames, runs_rx, false},
+  {"em_run_tx", with_packets, runs_tx, false},
+  {"em_poke over attached memory", with_frames_over_own, pokes, true},
+  {"em_rx_step over attached memory", with_frames_over_own, receives, true},
+  {"em_tx_step over attached memory", with_packets_over_own, sends, true},
+  {"em_run_rx over attached memory", with_frames_over_own, runs_rx, true},
+  {"em_run_tx over attached memory", with_packets_over_own, runs_tx, true},
 };
 
 /* Both engines, so that what cannot be seen takes part: frames in the FIFO, and octets that are gathered. */
@@ -133,9 +160,12 @@ static bool is_refused_at(size_t i, long n, const struct seen *after, const stru
   bool enough = requests <= (unsigned long)n;
   CHECK(code == (enough ? EM_OK : EM_MEMORY));
   if (!enough) {
-    /* (of calls that are several events, those before the refused one stay, and are taken back here) */
-    CHECK(reach(&machine) == before->reach + done);
-    OK(em_back(&machine, done, &back));
+    /* (of calls that are several events, those before the refused one stay, and are taken back here; a step over the
+       caller's memory is several too) */
+    size_t events = reach(&machine) - before->reach;
+    CHECK(calls[i].is_over_own ? events >= done : events == done);
+    CHECK(done > 0 || events == 0);
+    OK(em_back(&machine, events, &back));
     CHECK(is_as(&machine, before));
     OK(calls[i].call(&machine, &done));
   }
@@ -192,6 +222,9 @@ static void asks_for_none(void) {
   em_change change;
   em_ring_setup ring;
   em_descriptor descriptor;
+  em_range ranges[2][2];
+  const em_region whole = {0, MEMORY, own};
+  const em_ram memory = {NULL, NULL, NULL, &whole, 1};
   uint64_t size;
   uint32_t value, code;
   size_t count;
@@ -218,6 +251,11 @@ static void asks_for_none(void) {
   OK(em_peek(&machine, 0, all->memory, MEMORY));
   OK(em_sync_out(&machine, all->memory, MEMORY));
   OK(em_sync_in(&machine, all->memory, MEMORY, &count));
+  OK(em_sync_out_range(&machine, 8, all->memory, 60));
+  OK(em_attach(&machine, &memory));
+  OK(em_detach(&machine));
+  OK(em_ring_needs(&machine, EM_RX_RING, ranges[0], ranges[1]));
+  OK(em_written(&machine, 0, ranges[0]));
   OK(em_memory_size(&machine, &size));
   OK(em_set_link(&machine, true));
   OK(em_rx_step(&machine, &event)); /* idle */

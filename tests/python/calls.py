@@ -2,6 +2,7 @@
 import array
 import copy
 import doctest
+import mmap
 import unittest
 from pathlib import Path
 
@@ -274,7 +275,7 @@ class Numbers(unittest.TestCase):
 class Names(unittest.TestCase):
     def test_refusals_have_their_names(self):
         """Each of the library's refusals is an exception of the module, whatever else the module has."""
-        self.assertEqual(len(_tables.REFUSALS), 20)
+        self.assertEqual(len(_tables.REFUSALS), 24)
         for name, number in _tables.REFUSALS.items():
             refusal = getattr(bunjelav, name)
             self.assertTrue(issubclass(refusal, bunjelav.Refused) and issubclass(refusal, Exception), name)
@@ -317,6 +318,167 @@ class OwnMemory(unittest.TestCase):
                 wanted, ram[at + 12] = wanted + 1, 0
                 if wanted % 4 == 0:
                     acts(m.write, "RDT", next_one)
+                next_one = (next_one + 1) % 8
+                at = RING + 16 * next_one
+        self.assertEqual(wanted, 1999)
+
+
+def over(ram):
+    """A machine that receives over memory of the caller's, with a frame that waits."""
+    m = Machine()
+    m.link = True
+    for i in range(8):
+        ram[RING + 16 * i : RING + 16 * i + 8] = (BUFFER + 0x800 * i).to_bytes(8, "little")
+    m.RDBAL, m.RDLEN, m.RDT, m.RCTL = RING, 128, 7, 0x8002
+    m.arrive(FRAME)
+    return m
+
+
+class Functions:
+    """Memory by two functions, which can raise."""
+
+    def __init__(self, ram):
+        self.ram, self.asked, self.does = ram, [], lambda: None
+
+    def read(self, address, length):
+        self.asked.append(("read", address, length))
+        self.does()
+        return self.ram[address : address + length]
+
+    def write(self, address, octets):
+        self.asked.append(("write", address, len(octets)))
+        self.does()
+        self.ram[address : address + len(octets)] = octets
+
+
+class Attached(unittest.TestCase):
+    def test_buffers(self):
+        for make in (bytearray, lambda n: mmap.mmap(-1, n), lambda n: memoryview(bytearray(n))):
+            ram = make(65536)
+            m = over(ram)
+            before = bytes(ram[:])
+            m.attach(ram)
+            self.assertEqual((m.run(), bytes(ram[BUFFER : BUFFER + 60]), ram[RING + 12] & 1), (1, FRAME, 1))
+            self.assertEqual(m.written(2), [slice(BUFFER, BUFFER + 60), slice(RING + 8, RING + 16)])
+            self.assertEqual((m.event(3).kind, m.back(3), bytes(ram[:])), ("poke", 3, before))
+            m.poke(0x3000, b"hello")
+            self.assertEqual(bytes(ram[0x3000:0x3005]), b"hello")
+            m.detach()
+            m.poke(0x3000, b"there")
+            self.assertEqual((bytes(ram[0x3000:0x3005]), m.rx_step().kind), (b"hello", "wrote"))
+
+    def test_a_part_at_an_address(self):
+        whole = bytearray(65536)
+        m = over(whole)
+        part = whole[RING : BUFFER + 59]
+        m.attach(part, base=RING)
+        self.assertRaises(bunjelav.Unread, m.rx_step)
+        self.assertEqual((m.event().kind, m.RDH), ("stored", 0))
+        part = whole[RING : BUFFER + 60]
+        m.attach(part, base=RING)
+        self.assertEqual((m.rx_step().kind, part[12] & 1, bytes(part[-60:])), ("wrote", 1, FRAME))
+        self.assertRaises(bunjelav.Unwritten, m.poke, RING - 1, b"x")
+
+    def test_functions(self):
+        ram = bytearray(65536)
+        m, functions = over(ram), Functions(ram)
+        m.attach(functions)
+        self.assertEqual(m.rx_step().kind, "wrote")
+        wanted = [("read", RING, 16), ("read", BUFFER, 60), ("write", BUFFER, 60), ("write", RING + 8, 8)]
+        self.assertEqual(functions.asked, wanted)
+        self.assertEqual((ram[BUFFER : BUFFER + 60], m.back(), ram[RING + 12]), (FRAME, 1, 0))
+
+    def test_functions_that_raise(self):
+        ram = bytearray(65536)
+        m, functions = over(ram), Functions(ram)
+        m.attach(functions)
+        reach = m.reach
+
+        def refuses(raises, refusal, call, *words):
+            def does():
+                if functions.asked[-1][0] == ("read" if refusal is bunjelav.Unread else "write"):
+                    raise raises
+
+            functions.does = does
+            with self.assertRaises(refusal) as caught:
+                call(*words)
+            self.assertIs(caught.exception.__cause__, raises)
+            functions.does = lambda: None
+
+        for call in (m.rx_step, m.run):
+            refuses(OSError("no"), bunjelav.Unread, call)
+            refuses(OSError("no"), bunjelav.Unwritten, call)
+        refuses(OSError("no"), bunjelav.Unwritten, m.poke, 0, b"x")
+        self.assertEqual((m.reach, m.RDH), (reach, 0))
+        functions.read, good = lambda address, length: b"short", functions.read
+        with self.assertRaises(bunjelav.Unread) as caught:
+            m.rx_step()
+        self.assertIsInstance(caught.exception.__cause__, ValueError)
+        functions.read = good
+        self.assertEqual(m.rx_step().kind, "wrote")
+        refuses(OSError("no"), bunjelav.Unwritten, m.back)
+        functions.does = lambda: exec("raise KeyboardInterrupt")
+        m.arrive(FRAME)
+        self.assertRaises(KeyboardInterrupt, m.rx_step)
+        functions.does = lambda: None
+        self.assertEqual(m.rx_step().kind, "wrote")
+
+    def test_functions_that_call_the_machine(self):
+        ram = bytearray(65536)
+        m, functions, seen = over(ram), Functions(ram), []
+        m.attach(functions)
+
+        def calls():
+            for call in (m.rx_step, m.run, m.back, m.detach, lambda: m.attach(ram), lambda: m.read("ICR"), lambda: m.arrive(FRAME)):
+                self.assertRaises(bunjelav.Busy, call)
+            m.close()
+            seen.append(m.look("STATUS"))
+
+        functions.does = calls
+        self.assertEqual((m.rx_step().kind, seen), ("wrote", [0x83] * 4))
+        m.close()
+        self.assertRaises(bunjelav.NotMade, m.attach, ram)
+        self.assertRaises(bunjelav.NotMade, m.detach)
+
+    def test_what_is_no_memory(self):
+        m = Machine()
+        for wrong in (b"readonly", 5, "text", None, object()):
+            self.assertRaises(TypeError, m.attach, wrong)
+        self.assertRaises(bunjelav.Range, m.attach, bytearray(9), -1)
+
+    def test_ranges(self):
+        m = receiving()
+        self.assertEqual((m.needs("rx"), m.needs("tx")), (([], []), ([], [])))
+        self.assertRaises(ValueError, m.needs, "no")
+        self.assertRaises(bunjelav.NoEvent, m.written, 1 << 20)
+        m.arrive(FRAME)
+        needs = m.needs("rx")
+        self.assertEqual(needs.reads, [slice(RING, RING + 16)])
+        m.rx_step()
+        self.assertEqual(m.written(), needs.writes)
+        self.assertEqual((m.sync_in_range(0x3000, b"abcd"), m.sync_in_range(0x3000, b"abcd")), (1, 0))
+        self.assertEqual((m.sync_out_range(0x3000, 4), m.sync_out_range(65536, 0)), (b"abcd", b""))
+        self.assertRaises(bunjelav.Range, m.sync_out_range, 65535, 2)
+        self.assertRaises(bunjelav.Range, m.sync_in_range, 65535, b"ab")
+        self.assertRaises(bunjelav.Length, m.sync_in_range, 0, bytes(16385))
+
+    def test_batches(self):
+        """A driver that clears DD in memory alone, and gives its buffers back at each fourth packet."""
+        ram, wanted, next_one = bytearray(65536), 0, 0
+        m = over(ram)
+        m.back()
+        m.attach(ram)
+        for number in range(2000):
+            m.arrive(FRAME[:56] + number.to_bytes(4, "little"))
+            m.run()
+            at = RING + 16 * next_one
+            while number % 3 == 0 and ram[at + 12] & 1:
+                buffer = BUFFER + 0x800 * next_one
+                self.assertEqual(int.from_bytes(ram[buffer + 56 : buffer + 60], "little"), wanted)
+                wanted, ram[at + 12] = wanted + 1, 0
+                if wanted % 4 == 0:
+                    m.RDT = next_one
+                    m.run()
                 next_one = (next_one + 1) % 8
                 at = RING + 16 * next_one
         self.assertEqual(wanted, 1999)

@@ -10,6 +10,7 @@
     m.memory[0x1000:0x1004] = b"abcd"
     m.back()                       # takes the newest event back
     m.last_change("ICR")           # who changed it last?
+    m.attach(ram)                  # the adapter works on a bytearray, an mmap, or what else has octets
 
 A register is named as in the manual, in either case of its letters, or by its offset. A call that the model refuses
 raises the exception of the refusal's name, as NoRegister or Range; it has changed nothing.
@@ -33,7 +34,7 @@ from ._refusals import *  # noqa: F401, F403
 from ._refusals import NoName, Refused
 
 __all__ = [
-    "Machine", "GuestMemory", "Event", "Change", "RxDescriptor", "TxDescriptor", "name_of", "offset_of",
+    "Machine", "GuestMemory", "Event", "Change", "Needs", "RxDescriptor", "TxDescriptor", "name_of", "offset_of",
 ]
 __all__ += _refusals.__all__
 __version__ = _tables.VERSION
@@ -182,6 +183,17 @@ class TxDescriptor(NamedTuple):
     special: int
 
 
+class Needs(NamedTuple):
+    """What a step reads of guest memory and what it writes there, as slices; none of them is empty."""
+
+    reads: List[slice]
+    writes: List[slice]
+
+
+def _slices(ranges: Iterable[_tables.Range]) -> List[slice]:
+    return [slice(it.address, it.address + it.length) for it in ranges if it.length]
+
+
 def _event(note: _tables.Note) -> Event:
     kind = _tables.KINDS.get(note.kind, f"unknown kind {note.kind}")
     return Event(kind, note.at, note.length, note.value, note.tag)
@@ -240,6 +252,49 @@ class GuestMemory:
             self._machine.poke(octets.start + at, given[at : at + self.MOST])
 
 
+class _Functions:
+    """What the library is given for an object with `read` and `write`. What they raise is kept, since it can't go through
+    the library."""
+
+    def __init__(self, ram: Any) -> None:
+        self.raised: Optional[BaseException] = None
+        self._ram = ram
+        read, write = _tables.READ(self._read), _tables.WRITE(self._write)
+        self.raw = _tables.Ram(None, read, write, None, 0)
+        self._kept = read, write
+
+    def _read(self, _context: int, address: int, out: int, length: int) -> bool:
+        try:
+            octets = _octets(self._ram.read(address, length), "what is read")
+            if len(octets) != length:
+                raise ValueError(f"{len(octets)} octets were read, and {length} were asked for")
+            ctypes.memmove(out, octets, length)
+            return True
+        except BaseException as raised:  # (whatever it is, it is raised behind the call)
+            self.raised = raised
+            return False
+
+    def _write(self, _context: int, address: int, octets: int, length: int) -> bool:
+        try:
+            self._ram.write(address, ctypes.string_at(octets, length))
+            return True
+        except BaseException as raised:
+            self.raised = raised
+            return False
+
+
+class _Region:
+    """The same for a buffer, which lies at an address. It can't be resized while this is there."""
+
+    raised: Optional[BaseException] = None
+
+    def __init__(self, ram: Any, base: int) -> None:
+        size = memoryview(ram).nbytes
+        self._octets = (ctypes.c_uint8 * size).from_buffer(ram)
+        self._region = _tables.Region(base, size, ctypes.addressof(self._octets))
+        self.raw = _tables.Ram(None, _tables.READ(), _tables.WRITE(), ctypes.pointer(self._region), 1)
+
+
 class Machine:
     """An adapter with its guest's memory and a journal of its latest events.
 
@@ -249,6 +304,7 @@ class Machine:
 
     _handle: _tables.Handle
     _at: Any
+    _ram: Union[None, _Functions, _Region]
     memory: GuestMemory
 
     def __init__(
@@ -259,8 +315,9 @@ class Machine:
         eeprom: Optional[List[int]] = None,
     ) -> None:
         set_own = super().__setattr__
-        set_own("_handle", _tables.Handle(False, None))
+        set_own("_handle", _tables.Handle())
         set_own("_at", ctypes.byref(self._handle))
+        set_own("_ram", None)
         set_own("memory", GuestMemory(self))
         sizes = _number(memory, 64, "a size", "Size"), _number(budget, 64, "a budget", "Budget")
         if eeprom is not None:
@@ -277,6 +334,8 @@ class Machine:
     def close(self) -> None:
         """Frees the machine; each later call raises NotMade."""
         _library.em_free(self._at)
+        if not self._handle.made:  # (within a function of its memory it is not freed)
+            super().__setattr__("_ram", None)
 
     def __del__(self) -> None:
         if "_at" in self.__dict__:
@@ -351,7 +410,7 @@ class Machine:
     def poke(self, address: int, octets: bytes) -> None:
         """The driver writes 1 to 16,384 octets to guest memory: one event."""
         given = _octets(octets, "what is written")
-        _must(_library.em_poke(self._at, _number(address, 64, "an address", "Range"), given, len(given)))
+        self._over(_library.em_poke(self._at, _number(address, 64, "an address", "Range"), given, len(given)))
 
     def sync_out(self, ram: bytearray) -> None:
         """Makes a bytearray, or another buffer, what guest memory is; it has to be as large. Octets that are the same
@@ -362,35 +421,98 @@ class Machine:
     def sync_in(self, ram: bytearray) -> int:
         """Makes guest memory what a bytearray is, which has to be as large, by a memory write in each page of 4,096
         octets that differs: from its first octet that differs to its last. Gives how many. Where the host refuses
-        memory, the writes before stay.
-
-        Around whatever the adapter does, an access, a frame that arrives or a step, where a driver keeps its rings in
-        memory of its own, which does not run between the two:
-
-        >>> m, ram = Machine(), bytearray(65536)
-        >>> m.link = True
-        >>> def acts(call, *words):
-        ...     m.sync_in(ram)                    # the adapter sees what the driver wrote
-        ...     call(*words)
-        ...     m.run()
-        ...     m.sync_out(ram)                   # the driver sees what the adapter wrote
-        >>> ram[0x1000:0x1008] = (0x4000).to_bytes(8, "little")   # descriptor 0 gets its buffer
-        >>> for register, value in ("RDBAL", 0x1000), ("RDLEN", 128), ("RDT", 1), ("RCTL", 0x8002):
-        ...     acts(m.write, register, value)
-        >>> acts(m.arrive, bytes([0xFF] * 6) + bytes(54))
-        >>> ram[0x100C] & 1                       # DD: the adapter is done with it
-        1
-        >>> ram[0x100C] = 0                       # the driver took it; no access tells of that
-        >>> acts(m.arrive, bytes([0xFF] * 6) + bytes(54))
-        >>> ram[0x100C] & 1
-        0
-        >>> m.last_change(slice(0x1008, 0x1010)).event.kind
-        'poke'
-        """
+        memory, the writes before stay."""
         writes, view = SIZE_T(), memoryview(ram)
         octets = bytes(view) if view.readonly else (ctypes.c_uint8 * view.nbytes).from_buffer(ram)
         _must(_library.em_sync_in(self._at, octets, view.nbytes, ctypes.byref(writes)), writes.value)
         return writes.value
+
+    def sync_out_range(self, address: int, length: int) -> bytes:
+        """Octets of guest memory: m.memory[address:address + length], which is refused where they leave it."""
+        room = ctypes.create_string_buffer(max(_number(length, 64, "a length", "Range"), 1))
+        _must(_library.em_sync_out_range(self._at, _number(address, 64, "an address", "Range"), room, length))
+        return room.raw[:length]
+
+    def sync_in_range(self, address: int, octets: bytes) -> int:
+        """Makes guest memory these octets from an address on, by one memory write from the first that differs to the
+        last, or by none. Gives how many."""
+        writes, given = SIZE_T(), _octets(octets, "what is written")
+        at = _number(address, 64, "an address", "Range")
+        _must(_library.em_sync_in_range(self._at, at, given, len(given), ctypes.byref(writes)))
+        return writes.value
+
+    # ---- memory of the caller's
+
+    def attach(self, ram: Any, base: int = 0) -> None:
+        """From now on the adapter works on memory of the caller's, in each call that is an event: on a bytearray, an mmap
+        or another buffer that can be written, which lies at `base` of guest memory; or on an object with
+        `read(address, length)`, which gives octets, and `write(address, octets)`. What these raise is raised behind the
+        call, from the refusal as Unread or Unwritten.
+
+        A step brings over what it reads, and what lies where it will write: where that differs from what the machine has,
+        as a write of guest memory, which is an event. What the step wrote goes out: the buffer, then the descriptor. A
+        step back puts the caller's octets back; what the driver wrote itself stays.
+
+        >>> m, ram = Machine(), bytearray(65536)
+        >>> m.attach(ram)
+        >>> m.link = True
+        >>> ram[0x1000:0x1008] = (0x4000).to_bytes(8, "little")   # descriptor 0 gets its buffer
+        >>> m.RDBAL, m.RDLEN, m.RDT, m.RCTL = 0x1000, 128, 1, 0x8002
+        >>> m.arrive(bytes([0xFF] * 6) + bytes(54)).kind
+        'stored'
+        >>> m.run()
+        1
+        >>> ram[0x100C] & 1                       # DD: the adapter is done with it
+        1
+        >>> m.last_change(slice(0x1000, 0x1008)).event.kind
+        'poke'
+        >>> m.back(3)                             # two idle steps, and the one that wrote
+        3
+        >>> ram[0x100C] & 1
+        0
+        """
+        has = [callable(getattr(ram, name, None)) for name in ("read", "write")]
+        is_buffer = True
+        try:
+            memoryview(ram)
+        except TypeError:
+            is_buffer = False
+        if not is_buffer and not all(has):
+            raise TypeError(f"memory is a buffer, or has read and write, and not {type(ram).__name__}")
+        at = _number(base, 64, "an address", "Range")
+        kept = _Region(ram, at) if is_buffer else _Functions(ram)
+        _must(_library.em_attach(self._at, ctypes.byref(kept.raw)))
+        super().__setattr__("_ram", kept)
+
+    def detach(self) -> None:
+        """From now on guest memory is the machine's own again, as it has it."""
+        _must(_library.em_detach(self._at))
+        super().__setattr__("_ram", None)
+
+    def _over(self, number: int, done: int = 0) -> None:
+        """Raises the exception of a refusal; where memory of the caller's raised, from that."""
+        raised = self._ram.raised if self._ram else None
+        if isinstance(self._ram, _Functions):
+            self._ram.raised = None
+        if raised is not None and not isinstance(raised, Exception):
+            raise raised
+        if number != DONE:
+            raise _refused(number, done) from raised
+
+    def needs(self, which: str) -> Needs:
+        """What the next step of the engine of the ring "rx" or "tx" reads of guest memory, and what it writes there, by
+        what the machine has."""
+        if which not in _tables.RINGS:
+            raise ValueError('a ring is "rx" or "tx"')
+        reads, writes = (_tables.Range * 2)(), (_tables.Range * 2)()
+        _must(_library.em_ring_needs(self._at, _tables.RINGS[which], reads, writes))
+        return Needs(_slices(reads), _slices(writes))
+
+    def written(self, k: int = 0) -> List[slice]:
+        """What the k-th newest event wrote of guest memory."""
+        written = (_tables.Range * 2)()
+        _must(_library.em_written(self._at, _number(k, 64, "a place in the journal", "NoEvent"), written))
+        return _slices(written)
 
     def arrive(self, frame: bytes) -> Event:
         """A frame arrives; the event says what became of it."""
@@ -401,13 +523,13 @@ class Machine:
     def rx_step(self) -> Event:
         """The receive engine handles a descriptor."""
         note = _tables.Note()
-        _must(_library.em_rx_step(self._at, ctypes.byref(note)))
+        self._over(_library.em_rx_step(self._at, ctypes.byref(note)))
         return _event(note)
 
     def tx_step(self) -> Event:
         """The transmit engine handles a descriptor."""
         note = _tables.Note()
-        _must(_library.em_tx_step(self._at, ctypes.byref(note)))
+        self._over(_library.em_tx_step(self._at, ctypes.byref(note)))
         return _event(note)
 
     def run(self, most: int = 2**32) -> int:
@@ -418,7 +540,7 @@ class Machine:
             done = SIZE_T()
             number = engine(self._at, most, ctypes.byref(done))
             steps += done.value
-            _must(number, steps)
+            self._over(number, steps)
         return steps
 
     @property
@@ -448,8 +570,12 @@ class Machine:
     # ---- back, and who did it
 
     def back(self, n: int = 1) -> int:
-        """Takes the newest n events back, or as many as the journal holds; gives how many."""
-        return self._told(_library.em_back, SIZE_T(), _number(n, 64, "a number of events"))
+        """Takes the newest n events back, or as many as the journal holds; gives how many. Where attached memory refuses
+        to be written it stops: `done` of Unwritten then counts the step whose octets were not put back, too."""
+        done = SIZE_T()
+        number = _library.em_back(self._at, _number(n, 64, "a number of events"), ctypes.byref(done))
+        self._over(number, done.value)
+        return done.value
 
     @property
     def reach(self) -> int:

@@ -5,7 +5,7 @@ Written by bindings/tables.py, of the crate em_c: change it there, and run that.
 __all__ = [
     "Refused", "NoRegister", "Range", "Length", "DmaRange", "Extended", "TooLong", "Memory", "Budget", "NotMade",
     "MadeAlready", "Size", "NoFrame", "Room", "NoEvent", "NoChange", "NoWatch", "NoName", "NoRefusal", "NoRing",
-    "NoDescriptor",
+    "NoDescriptor", "Busy", "Unread", "Unwritten", "NoRam",
 ]
 
 
@@ -15,6 +15,7 @@ class Refused(Exception):
     # the refusal's number
     number = 0
     # of `run` how many steps, and of `sync_in` how many writes, went well before; they stay
+    # of `back` how many events were taken back
     done = 0
 
 
@@ -136,3 +137,27 @@ class NoDescriptor(Refused):
     """The ring has no descriptor of the index."""
 
     number = 37
+
+
+class Busy(Refused):
+    """A function of the attached memory made the call."""
+
+    number = 38
+
+
+class Unread(Refused):
+    """The caller's memory was not read: its function gave false, or no region has all octets."""
+
+    number = 39
+
+
+class Unwritten(Refused):
+    """The caller's memory was not written: its function gave false, or no region has all octets."""
+
+    number = 40
+
+
+class NoRam(Refused):
+    """What is attached has neither both functions nor a region."""
+
+    number = 41

@@ -2,7 +2,7 @@
 
 Written by bindings/tables.py, of the crate em_c: change it there, and run that.
 """
-from ctypes import POINTER, Structure, c_bool, c_size_t, c_uint8, c_uint16, c_uint32, c_uint64, c_void_p
+from ctypes import CFUNCTYPE, POINTER, Structure, c_bool, c_size_t, c_uint8, c_uint16, c_uint32, c_uint64, c_void_p
 
 VERSION = "0.1.0"
 REGISTERS = 350
@@ -31,6 +31,10 @@ REFUSALS = {
     "NoRefusal": 35,
     "NoRing": 36,
     "NoDescriptor": 37,
+    "Busy": 38,
+    "Unread": 39,
+    "Unwritten": 40,
+    "NoRam": 41,
 }
 
 # by number, what each kind of event is called
@@ -71,8 +75,26 @@ RINGS = {
 }
 
 
+READ = CFUNCTYPE(c_bool, c_void_p, c_uint64, c_void_p, c_size_t)
+WRITE = CFUNCTYPE(c_bool, c_void_p, c_uint64, c_void_p, c_size_t)
+
+
+class Region(Structure):
+    _fields_ = [("base", c_uint64), ("size", c_uint64), ("octets", c_void_p)]
+
+
+class Ram(Structure):
+    _fields_ = [
+        ("context", c_void_p),
+        ("read", READ),
+        ("write", WRITE),
+        ("regions", POINTER(Region)),
+        ("count", c_size_t),
+    ]
+
+
 class Handle(Structure):
-    _fields_ = [("made", c_bool), ("held", c_void_p)]
+    _fields_ = [("made", c_bool), ("held", c_void_p), ("ram", Ram), ("state", c_uint32)]
 
 
 class Register(Structure):
@@ -89,6 +111,13 @@ class Note(Structure):
         ("length", c_uint32),
         ("value", c_uint32),
         ("kind", c_uint32),
+    ]
+
+
+class Range(Structure):
+    _fields_ = [
+        ("address", c_uint64),
+        ("length", c_uint64),
     ]
 
 
@@ -142,6 +171,8 @@ CALLS = {
     "em_find": [c_void_p, c_size_t, POINTER(c_uint32)],
     "em_tag": [POINTER(Handle), c_uint64],
     "em_event": [POINTER(Handle), c_size_t, POINTER(Note)],
+    "em_ring_needs": [POINTER(Handle), c_uint32, POINTER(Range), POINTER(Range)],
+    "em_written": [POINTER(Handle), c_size_t, POINTER(Range)],
     "em_refusal": [c_uint32, c_void_p, c_size_t, POINTER(c_size_t)],
     "em_read": [POINTER(Handle), c_uint32, POINTER(c_uint32)],
     "em_write": [POINTER(Handle), c_uint32, c_uint32],
@@ -152,6 +183,8 @@ CALLS = {
     "em_run_tx": [POINTER(Handle), c_size_t, POINTER(c_size_t)],
     "em_sync_out": [POINTER(Handle), c_void_p, c_size_t],
     "em_sync_in": [POINTER(Handle), c_void_p, c_size_t, POINTER(c_size_t)],
+    "em_sync_out_range": [POINTER(Handle), c_uint64, c_void_p, c_size_t],
+    "em_sync_in_range": [POINTER(Handle), c_uint64, c_void_p, c_size_t, POINTER(c_size_t)],
     "em_last_change": [POINTER(Handle), POINTER(Watch), POINTER(Change)],
     "em_arrive": [POINTER(Handle), c_void_p, c_size_t, POINTER(Note)],
     "em_set_link": [POINTER(Handle), c_bool],
@@ -160,4 +193,6 @@ CALLS = {
     "em_line": [POINTER(Handle), POINTER(c_uint32)],
     "em_wire_count": [POINTER(Handle), POINTER(c_size_t)],
     "em_wire_frame": [POINTER(Handle), c_size_t, c_void_p, c_size_t, POINTER(c_size_t)],
+    "em_attach": [POINTER(Handle), POINTER(Ram)],
+    "em_detach": [POINTER(Handle)],
 }

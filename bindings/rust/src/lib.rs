@@ -35,6 +35,7 @@ extern crate std;
 
 mod event;
 mod machine;
+mod ram;
 mod raw;
 mod refusal;
 mod ring;
@@ -42,7 +43,8 @@ mod tables;
 
 pub use event::{offset_of, Change, Event, Name, Watch};
 pub use machine::{Events, Frame, Frames, Machine};
-pub use raw::{Register, RingSetup};
+pub use ram::{Octets, Over, Ram};
+pub use raw::{Range, Region, Register, RingSetup};
 pub use refusal::Stopped;
-pub use ring::{Descriptor, Ring};
+pub use ring::{Descriptor, Needs, Ring};
 pub use tables::{Kind, Refusal, MOST_SENT, REGISTERS};

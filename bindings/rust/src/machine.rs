@@ -1,7 +1,8 @@
 //! A machine.
+use crate::ram::{Over, Ram};
 use crate::raw;
-use crate::raw::{Register, RingSetup};
-use crate::{Change, Descriptor, Event, Refusal, Ring, Stopped, Watch, MOST_SENT};
+use crate::raw::{Range, Register, RingSetup};
+use crate::{Change, Descriptor, Event, Needs, Refusal, Ring, Stopped, Watch, MOST_SENT};
 use core::cell::UnsafeCell;
 
 /// An adapter with its guest's memory and a journal of its latest events.
@@ -10,9 +11,13 @@ use core::cell::UnsafeCell;
 /// handle while it lasts.
 pub struct Machine {
     handle: UnsafeCell<raw::Handle>,
+    /// The memory that is attached, or the table of its regions.
+    #[cfg(feature = "std")]
+    kept: Option<crate::ram::Kept>,
 }
 
-// SAFETY: a machine shares nothing, and is not Sync; that its handle may go to another thread is proved.
+// SAFETY: a machine shares nothing but the memory that is attached, which is Send, or for which its caller stands; and it
+// is not Sync. That its handle may go to another thread is proved.
 unsafe impl Send for Machine {}
 
 /// What a call gives: its number, and what it told.
@@ -46,12 +51,17 @@ impl Machine {
     }
 
     fn none() -> Machine {
-        Machine { handle: UnsafeCell::new(raw::Handle { made: false, held: core::ptr::null_mut() }) }
+        let handle = raw::Handle { made: false, held: core::ptr::null_mut(), ram: raw::Ram::none(), state: 0 };
+        Machine {
+            handle: UnsafeCell::new(handle),
+            #[cfg(feature = "std")]
+            kept: None,
+        }
     }
 
-    // SAFETY, of each call below: the handle is this machine's own, no other call is under way (the library calls
-    // nothing back, and the machine is not Sync), each pointer is to a value or a slice that lives through the call, and
-    // each length is that of its slice.
+    // SAFETY, of each call below: the handle is this machine's own, no other call is under way (the machine is not Sync,
+    // and it is borrowed while its memory is asked), each pointer is to a value or a slice that lives through the call,
+    // and each length is that of its slice.
 
     /// The driver reads the register at an offset.
     pub fn read(&mut self, offset: u32) -> Result<u32, Refusal> {
@@ -93,6 +103,112 @@ impl Machine {
         Ok(Descriptor { octets: one.octets, is_adapters: one.adapters == 1 })
     }
 
+    /// The machine over memory of the caller's, which it reads and writes in each call that is made through it, and which
+    /// is the caller's own between these: a slice, which lies at address 0, [`Octets`](crate::Octets) at another address,
+    /// or what else is a [`Ram`].
+    ///
+    /// A step brings over what it reads, and what lies where it will write: where that differs from what the machine has,
+    /// as a write of guest memory, which is an event. What the step wrote goes out: the buffer, then the descriptor. A
+    /// step back puts the caller's octets back; what the driver wrote itself stays.
+    ///
+    /// ```
+    /// # use bunjelav::{offset_of, Kind, Machine, Refusal, Watch};
+    /// # fn main() -> Result<(), Refusal> {
+    /// let mut m = Machine::new(65_536, 1 << 20, [0x52, 0x54, 0x00, 0x12, 0x34, 0x56])?;
+    /// m.set_link(true)?;
+    /// let mut ram = vec![0; 65_536];
+    /// ram[0x1000..0x1008].copy_from_slice(&0x4000u64.to_le_bytes()); // descriptor 0 gets its buffer
+    /// for (register, value) in [("RDBAL", 0x1000), ("RDLEN", 128), ("RDT", 1), ("RCTL", 0x8002)] {
+    ///     m.write(offset_of(register)?, value)?;
+    /// }
+    /// let mut frame = [7; 60];
+    /// frame[..6].fill(0xFF);
+    /// m.arrive(&frame)?;
+    /// m.over(&mut ram[..]).run_rx(usize::MAX)?;
+    /// assert_eq!(ram[0x100C] & 1, 1); // DD: the adapter is done with it
+    /// assert_eq!(ram[0x4000..0x403C], frame);
+    ///
+    /// // who wrote the buffer's address?
+    /// let change = m.last_change(Watch::Octets(0x1000, 8))?.expect("the driver wrote it");
+    /// assert_eq!(m.event(change.back - 1)?.kind, Kind::Poke);
+    ///
+    /// // an idle step, and the one that wrote
+    /// m.over(&mut ram[..]).back(2)?;
+    /// assert_eq!((ram[0x100C], ram[0x4000]), (0, 0));
+    /// # Ok(())
+    /// # }
+    /// ```
+    pub fn over<'a, R: Ram + ?Sized>(&'a mut self, ram: &'a mut R) -> Over<'a, R> {
+        Over { machine: self, ram }
+    }
+
+    /// Hands memory to the machine: from now on each call that is an event works on it, as [`over`](Machine::over) says.
+    /// Memory that was attached before is dropped.
+    #[cfg(feature = "std")]
+    pub fn attach<R: Ram + Send + 'static>(&mut self, ram: R) -> Result<(), Refusal> {
+        let (kept, at) = crate::ram::Kept::new(ram);
+        told(unsafe { raw::em_attach(self.handle.get(), &crate::ram::raw_ram(at)) }, ())?;
+        self.kept = Some(kept);
+        Ok(())
+    }
+
+    /// The same of memory that others use beside the machine, in regions: the first that has an address counts.
+    ///
+    /// # Safety
+    ///
+    /// Until they are detached, others are attached, or the machine is dropped, the `size` octets of each region from
+    /// `octets` on can be read and written, in whichever thread uses the machine. While a call of the machine lasts,
+    /// nobody else reads or writes the octets that [`needs`](Machine::needs) tells of its steps, or that
+    /// [`written`](Machine::written) tells of the steps that it takes back, but by atomic accesses of the status; and no
+    /// reference to any of these octets is alive then.
+    #[cfg(feature = "std")]
+    pub unsafe fn attach_regions(&mut self, regions: &[raw::Region]) -> Result<(), Refusal> {
+        let (kept, at) = crate::ram::Kept::new(regions.to_vec());
+        told(raw::em_attach(self.handle.get(), &crate::ram::raw_regions(&*at)), ())?;
+        self.kept = Some(kept);
+        Ok(())
+    }
+
+    /// From now on guest memory is the machine's own again. What [`attach`](Machine::attach) was given is dropped.
+    pub fn detach(&mut self) {
+        unsafe { raw::em_detach(self.handle.get()) };
+        #[cfg(feature = "std")]
+        {
+            self.kept = None;
+        }
+    }
+
+    /// Attaches memory in the place of what is attached, which it gives.
+    pub(crate) fn swap_ram(&mut self, ram: raw::Ram) -> raw::Ram {
+        let handle = self.handle.get_mut();
+        let was = core::mem::replace(&mut handle.ram, raw::Ram::none());
+        unsafe { raw::em_attach(handle, &ram) };
+        was
+    }
+
+    /// Attaches what was attached before, or nothing.
+    pub(crate) fn restore_ram(&mut self, was: raw::Ram) {
+        unsafe { raw::em_detach(self.handle.get()) };
+        if was.is_some() {
+            unsafe { raw::em_attach(self.handle.get(), &was) };
+        }
+    }
+
+    /// Which octets of guest memory the next step of a ring's engine reads and writes, by what the machine has.
+    pub fn needs(&self, ring: Ring) -> Result<Needs, Refusal> {
+        let mut needs = Needs::default();
+        let (reads, writes) = (needs.reads.as_mut_ptr(), needs.writes.as_mut_ptr());
+        told(unsafe { raw::em_ring_needs(self.handle.get(), ring.number(), reads, writes) }, ())?;
+        Ok(needs)
+    }
+
+    /// Which octets of guest memory an event of the journal wrote, the newest at 0; a range of none stands at 0.
+    pub fn written(&self, k: usize) -> Result<[Range; 2], Refusal> {
+        let mut written = [Range::default(); 2];
+        told(unsafe { raw::em_written(self.handle.get(), k, written.as_mut_ptr()) }, ())?;
+        Ok(written)
+    }
+
     /// Makes `ram` what guest memory is; it has to be as large. Octets that are the same already are not written.
     pub fn sync_out(&self, ram: &mut [u8]) -> Result<(), Refusal> {
         told(unsafe { raw::em_sync_out(self.handle.get(), ram.as_mut_ptr(), ram.len()) }, ())
@@ -101,58 +217,24 @@ impl Machine {
     /// Makes guest memory what `ram` is, which has to be as large, by a memory write in each page of 4,096 octets that
     /// differs: from its first octet that differs to its last. Gives how many. Where the host refuses memory, the
     /// writes before stay, and are told.
-    ///
-    /// Around whatever the adapter does, an access, a frame that arrives or a step, where a driver keeps its rings in
-    /// memory of its own, which does not run between the two:
-    ///
-    /// ```
-    /// # use bunjelav::{offset_of, Kind, Machine, Refusal, Watch};
-    /// /// The adapter sees what the driver wrote; it acts; and the driver sees what it wrote. What the driver wrote since
-    /// /// the adapter acted last gets this tag, as the event does.
-    /// fn acts<T>(
-    ///     m: &mut Machine,
-    ///     ram: &mut [u8],
-    ///     tag: u32,
-    ///     event: impl FnOnce(&mut Machine) -> Result<T, Refusal>,
-    /// ) -> Result<T, Refusal> {
-    ///     m.tag(u64::from(tag));
-    ///     m.sync_in(ram)?;
-    ///     let told = event(m)?;
-    ///     m.run_rx(usize::MAX)?;
-    ///     m.sync_out(ram)?;
-    ///     Ok(told)
-    /// }
-    ///
-    /// # fn main() -> Result<(), Refusal> {
-    /// let mut m = Machine::new(65_536, 1 << 20, [0x52, 0x54, 0x00, 0x12, 0x34, 0x56])?;
-    /// m.set_link(true)?;
-    /// let mut ram = vec![0; 65_536];
-    /// ram[0x1000..0x1008].copy_from_slice(&0x4000u64.to_le_bytes()); // descriptor 0 gets its buffer
-    /// for (register, value) in [("RDBAL", 0x1000), ("RDLEN", 128), ("RDT", 1), ("RCTL", 0x8002)] {
-    ///     acts(&mut m, &mut ram, line!(), |m| m.write(offset_of(register)?, value))?;
-    /// }
-    /// let mut frame = [7; 60];
-    /// frame[..6].fill(0xFF);
-    /// acts(&mut m, &mut ram, line!(), |m| m.arrive(&frame))?;
-    /// assert_eq!(ram[0x100C] & 1, 1); // DD: the adapter is done with it
-    /// assert_eq!(ram[0x4000..0x403C], frame);
-    /// ram[0x100C] = 0; // the driver took it; no access tells of that
-    /// acts(&mut m, &mut ram, line!(), |m| m.arrive(&frame))?;
-    /// assert_eq!(ram[0x100C], 0);
-    ///
-    /// // what descriptor 0 held before the driver cleared its status, and who had written that
-    /// let change = m.last_change(Watch::Octets(0x1008, 8))?.expect("the driver cleared it");
-    /// assert_eq!(m.event(change.back - 1)?.kind, Kind::Poke);
-    /// m.back(change.back);
-    /// let change = m.last_change(Watch::Octets(0x1008, 8))?.expect("the adapter wrote it");
-    /// assert_eq!(m.event(change.back - 1)?.kind, Kind::Wrote);
-    /// # Ok(())
-    /// # }
-    /// ```
     pub fn sync_in(&mut self, ram: &[u8]) -> Result<usize, Stopped> {
         let mut writes = 0;
         let number = unsafe { raw::em_sync_in(self.handle.get(), ram.as_ptr(), ram.len(), &mut writes) };
         stopped(number, writes)
+    }
+
+    /// Makes `out` what guest memory is from an address on.
+    pub fn sync_out_range(&self, address: u64, out: &mut [u8]) -> Result<(), Refusal> {
+        told(unsafe { raw::em_sync_out_range(self.handle.get(), address, out.as_mut_ptr(), out.len()) }, ())
+    }
+
+    /// Makes guest memory what `octets` are from an address on, by one memory write from the first that differs to the
+    /// last, or by none; gives how many.
+    pub fn sync_in_range(&mut self, address: u64, octets: &[u8]) -> Result<usize, Refusal> {
+        let mut writes = 0;
+        let (at, length) = (octets.as_ptr(), octets.len());
+        told(unsafe { raw::em_sync_in_range(self.handle.get(), address, at, length, &mut writes) }, ())?;
+        Ok(writes)
     }
 
     /// The driver writes 1 to 16,384 octets to guest memory.
@@ -242,11 +324,18 @@ impl Machine {
         Frames { machine: self, next: 0 }
     }
 
-    /// Takes the newest `n` events back, or as many as the journal holds; gives how many.
+    /// Takes the newest `n` events back, or as many as the journal holds; gives how many. Where memory is attached that
+    /// can refuse to be written, [`try_back`](Machine::try_back) tells of it.
     pub fn back(&mut self, n: usize) -> usize {
+        self.try_back(n).unwrap_or_else(|stopped| stopped.done)
+    }
+
+    /// The same, which stops where attached memory refuses to be written: `done` then counts the step whose octets were
+    /// not put back, too.
+    pub fn try_back(&mut self, n: usize) -> Result<usize, Stopped> {
         let mut done = 0;
-        unsafe { raw::em_back(self.handle.get(), n, &mut done) };
-        done
+        let number = unsafe { raw::em_back(self.handle.get(), n, &mut done) };
+        stopped(number, done)
     }
 
     /// How many events can be taken back.
@@ -286,7 +375,7 @@ impl Machine {
 
 impl Drop for Machine {
     fn drop(&mut self) {
-        // SAFETY: as above; the handle is not used again.
+        // SAFETY: as above; the handle is not used again. (What is attached is freed after it.)
         unsafe { raw::em_free(self.handle.get()) }
     }
 }

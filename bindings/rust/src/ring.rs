@@ -1,4 +1,5 @@
 //! Rings of descriptors.
+use crate::raw::Range;
 use crate::tables::{RING_RX, RING_TX};
 
 /// Which ring.
@@ -27,4 +28,14 @@ pub struct Descriptor {
     /// It is the adapter's, and not the driver's. Where the head or the tail stands past the last descriptor, all are the
     /// driver's.
     pub is_adapters: bool,
+}
+
+/// What a step reads of guest memory and what it writes there; a range of no octets, at 0, stands where there are less than
+/// two.
+#[derive(Clone, Copy, PartialEq, Eq, Hash, Debug, Default)]
+pub struct Needs {
+    /// The descriptor; of a transmit step, its buffer.
+    pub reads: [Range; 2],
+    /// Of a receive step the piece in its buffer and the descriptor's end, of a transmit step the status octet.
+    pub writes: [Range; 2],
 }

@@ -68,12 +68,20 @@ pub enum Refusal {
     NoRing,
     /// The ring has no descriptor of the index.
     NoDescriptor,
+    /// A function of the attached memory made the call.
+    Busy,
+    /// The caller's memory was not read: its function gave false, or no region has all octets.
+    Unread,
+    /// The caller's memory was not written: its function gave false, or no region has all octets.
+    Unwritten,
+    /// What is attached has neither both functions nor a region.
+    NoRam,
     /// Another number, which this binding does not know.
     Other(u32),
 }
 
 /// Each refusal with its number.
-pub(crate) const REFUSALS: [(Refusal, u32); 20] = [
+pub(crate) const REFUSALS: [(Refusal, u32); 24] = [
     (Refusal::NoRegister, 1),
     (Refusal::Range, 2),
     (Refusal::Length, 3),
@@ -94,6 +102,10 @@ pub(crate) const REFUSALS: [(Refusal, u32); 20] = [
     (Refusal::NoRefusal, 35),
     (Refusal::NoRing, 36),
     (Refusal::NoDescriptor, 37),
+    (Refusal::Busy, 38),
+    (Refusal::Unread, 39),
+    (Refusal::Unwritten, 40),
+    (Refusal::NoRam, 41),
 ];
 
 /// What kind of event it was, with what came of it.

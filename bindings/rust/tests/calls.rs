@@ -1,5 +1,7 @@
 //! Each call of the binding once, and each refusal: what they give was worked out from the manual's tables.
-use bunjelav::{offset_of, Kind, Machine, Name, Refusal, Register, Ring, Stopped, Watch, MOST_SENT, REGISTERS};
+use bunjelav::{offset_of, Kind, Machine, Name, Octets, Ram, Refusal, Region, Register, Ring, Stopped, Watch};
+use bunjelav::{MOST_SENT, REGISTERS};
+use std::sync::{Arc, Mutex};
 
 const MAC: [u8; 6] = [0x52, 0x54, 0x00, 0x12, 0x34, 0x56];
 const STATUS: u32 = 0x0008;
@@ -256,4 +258,142 @@ fn goes_to_another_thread() {
     for (k, machine) in machines.into_iter().enumerate() {
         assert_eq!(machine.join().unwrap().look(RDT), Ok(k as u32));
     }
+}
+
+// ---- memory of the caller's
+
+/// A machine that receives over memory of its caller's, in which the descriptors lie, and a frame that waits.
+fn receiving_over(ram: &mut [u8]) -> Machine {
+    let mut m = made();
+    m.set_link(true).unwrap();
+    for i in 0..8 {
+        ram[0x1000 + 16 * i..][..16].copy_from_slice(&descriptor(0, 0));
+    }
+    for (offset, value) in [(0x2800, 0x1000), (0x2808, 128), (RDT, 4), (0x0100, 0x8002)] {
+        m.write(offset, value).unwrap();
+    }
+    m.arrive(&frame()).unwrap();
+    m
+}
+
+#[test]
+fn goes_over_a_slice() {
+    let mut ram = vec![0; 65_536];
+    let mut m = receiving_over(&mut ram);
+    let before = ram.clone();
+    let event = m.over(&mut ram[..]).rx_step().unwrap();
+    assert_eq!((event.kind, &ram[0x4000..0x403C], ram[0x1008], ram[0x100C] & 1), (Kind::Wrote, &frame()[..], 60, 1));
+    // what is brought is an event; what the step wrote is told
+    assert_eq!(m.event(1).unwrap().kind, Kind::Poke);
+    let written = m.written(0).unwrap().map(|it| (it.address, it.length));
+    assert_eq!(written, [(0x4000, 60), (0x1008, 8)]);
+    assert_eq!(m.over(&mut ram[..]).back(1), Ok(1));
+    assert_eq!(ram, before);
+    assert_eq!(m.over(&mut ram[..]).run_rx(9), Ok(1));
+    m.over(&mut ram[..]).poke(0x3000, b"hello").unwrap();
+    assert_eq!(&ram[0x3000..0x3005], b"hello");
+    // nothing is attached outside of it
+    m.poke(0x3000, b"there").unwrap();
+    assert_eq!(&ram[0x3000..0x3005], b"hello");
+    m.over(&mut ram[..]).tx_step().unwrap();
+    assert_eq!(m.over(&mut ram[..]).run_tx(9), Ok(0));
+    // octets that are not there
+    m.arrive(&frame()).unwrap();
+    assert_eq!(m.over(&mut ram[..0x4000]).rx_step(), Err(Refusal::Unread));
+    assert_eq!(m.over(&mut ram[..0x1000]).run_rx(9), Err(Stopped { refusal: Refusal::Unread, done: 0 }));
+    let mut high = Octets { base: 0x1000, octets: &mut ram[0x1000..] };
+    assert_eq!(m.over(&mut high).rx_step().map(|it| it.kind), Ok(Kind::Wrote));
+    assert_eq!(m.over(&mut high).poke(0x0FFF, b"x"), Err(Refusal::Unwritten));
+}
+
+/// Memory that several own, which can refuse.
+#[derive(Clone)]
+struct Shared(Arc<Mutex<(Vec<u8>, bool)>>);
+
+impl Ram for Shared {
+    fn read(&mut self, address: u64, out: &mut [u8]) -> bool {
+        let (ram, _) = &*self.0.lock().unwrap();
+        out.copy_from_slice(&ram[address as usize..][..out.len()]);
+        true
+    }
+
+    fn write(&mut self, address: u64, octets: &[u8]) -> bool {
+        let (ram, refuses) = &mut *self.0.lock().unwrap();
+        if !*refuses {
+            ram[address as usize..][..octets.len()].copy_from_slice(octets);
+        }
+        !*refuses
+    }
+}
+
+#[test]
+fn keeps_memory_that_is_attached() {
+    let mut ram = vec![0; 65_536];
+    let mut m = receiving_over(&mut ram);
+    let shared = Shared(Arc::new(Mutex::new((ram, true))));
+    m.attach(shared.clone()).unwrap();
+    assert_eq!((m.rx_step(), m.look(RDH)), (Err(Refusal::Unwritten), Ok(0)));
+    shared.0.lock().unwrap().1 = false;
+    assert_eq!(m.rx_step().unwrap().kind, Kind::Wrote);
+    assert_eq!(shared.0.lock().unwrap().0[0x100C] & 1, 1);
+    shared.0.lock().unwrap().1 = true;
+    assert_eq!(m.try_back(9), Err(Stopped { refusal: Refusal::Unwritten, done: 1 }));
+    // it moves with its machine, into another thread too, and another memory for one call does not drop it
+    let m = std::thread::spawn(move || {
+        let mut m = m;
+        m.over(&mut vec![0u8; 65_536][..]).rx_step().unwrap();
+        shared.0.lock().unwrap().1 = false;
+        m.poke(0x3000, b"hello").unwrap();
+        assert_eq!(&shared.0.lock().unwrap().0[0x3000..0x3005], b"hello");
+        assert_eq!(Arc::strong_count(&shared.0), 2);
+        m.detach();
+        assert_eq!(Arc::strong_count(&shared.0), 1);
+        m.poke(0x3000, b"there").unwrap();
+        assert_eq!(&shared.0.lock().unwrap().0[0x3000..0x3005], b"hello");
+        m.attach(shared.clone()).unwrap();
+        m.attach(shared.clone()).unwrap();
+        assert_eq!(Arc::strong_count(&shared.0), 2);
+        drop(m);
+        assert_eq!(Arc::strong_count(&shared.0), 1);
+    });
+    m.join().unwrap();
+}
+
+#[test]
+fn goes_over_regions() {
+    let mut ram = vec![0; 65_536];
+    let mut m = receiving_over(&mut ram);
+    let octets = ram.as_mut_ptr();
+    assert_eq!(unsafe { m.attach_regions(&[]) }, Err(Refusal::NoRam));
+    // SAFETY: the vector outlives the machine, and nobody uses it while a call lasts.
+    unsafe {
+        m.attach_regions(&[
+            Region { base: 0, size: 0x4010, octets },
+            Region { base: 0x4010, size: 0x1000, octets: octets.add(0x4010) },
+        ])
+        .unwrap();
+    }
+    assert_eq!(m.rx_step().unwrap().kind, Kind::Wrote);
+    assert_eq!(m.poke(0x500F, b"ab"), Err(Refusal::Unwritten));
+    m.detach();
+    assert_eq!((&ram[0x4000..0x403C], ram[0x100C] & 1), (&frame()[..], 1));
+}
+
+#[test]
+fn tells_ranges() {
+    let mut m = receiving();
+    assert_eq!(m.written(1 << 20), Err(Refusal::NoEvent));
+    assert_eq!(m.needs(Ring::Rx).unwrap().reads[0].length, 0);
+    m.arrive(&frame()).unwrap();
+    let needs = m.needs(Ring::Rx).unwrap();
+    assert_eq!((needs.reads[0].address, needs.reads[0].length, needs.reads[1].length), (0x1000, 16, 0));
+    m.rx_step().unwrap();
+    assert_eq!(m.written(0).unwrap(), needs.writes);
+    assert_eq!(m.needs(Ring::Tx).unwrap().reads[0].length, 0);
+    let (mut out, count) = ([9; 4], m.can_go_back());
+    assert_eq!((m.sync_in_range(0x3000, b"abcd"), m.sync_in_range(0x3000, b"abcd")), (Ok(1), Ok(0)));
+    assert_eq!((m.sync_out_range(0x3000, &mut out), &out, m.can_go_back()), (Ok(()), b"abcd", count + 1));
+    assert_eq!(m.sync_in_range(65_535, b"ab"), Err(Refusal::Range));
+    assert_eq!(m.sync_in_range(0, &[0; 16_385]), Err(Refusal::Length));
+    assert_eq!(m.sync_out_range(65_535, &mut out), Err(Refusal::Range));
 }

@@ -12,5 +12,7 @@ pub mod Watch
 pub mod RefusalText
 pub mod AllRegisters
 pub mod Rings
+pub mod Ranges
 pub mod Difference
 pub mod Sync
+pub mod SyncRange

@@ -4,6 +4,7 @@ use Rattle.em_c.specs.declared.refused.Refused.{Refused}
 use Rattle.em_c.specs.declared.refused.Refused.TheVariants.{NoRegister, Range, Length, DmaRange, Extended, TooLong}
 use Rattle.em_c.specs.declared.refused.Refused.TheVariants.{Memory, Budget, NoMachine, HasMachine, Size, NoFrame, Room}
 use Rattle.em_c.specs.declared.refused.Refused.TheVariants.{NoEvent, NoChange, NoWatch, NoName, NoRefusal, NoRing, NoDescriptor}
+use Rattle.em_c.specs.declared.refused.Refused.TheVariants.{Busy, Unread, Unwritten, NoRam}
 
 -- its name, and a sentence
 abbrev pub text_of : Refused → List ℕ
@@ -27,6 +28,10 @@ text_of NoName = codes "NoName: no register has the name"
 text_of NoRefusal = codes "NoRefusal: no refusal has the number"
 text_of NoRing = codes "NoRing: the rings are 1, which receives, and 2, which transmits"
 text_of NoDescriptor = codes "NoDescriptor: the ring has no descriptor of the index"
+text_of Busy = codes "Busy: a function of the caller's memory made the call"
+text_of Unread = codes "Unread: the caller's memory was not read"
+text_of Unwritten = codes "Unwritten: the caller's memory was not written"
+text_of NoRam = codes "NoRam: the caller's memory has two functions, or a table of regions"
 
 abbrev pub with_number : ℕ → Option Refused
 with_number code =
@@ -50,6 +55,10 @@ with_number code =
     else if code == 35 then Some NoRefusal
     else if code == 36 then Some NoRing
     else if code == 37 then Some NoDescriptor
+    else if code == 38 then Some Busy
+    else if code == 39 then Some Unread
+    else if code == 40 then Some Unwritten
+    else if code == 41 then Some NoRam
     else None
 
 abbrev pub text_or_none : Option Refused → Result (List ℕ) Refused

@@ -6,6 +6,7 @@ use Rattle.em_c.specs.declared.refused.Refused.{Refused}
 use Rattle.em_c.specs.declared.refused.Refused.TheVariants.{NoRegister, Range, Length, DmaRange, Extended, TooLong}
 use Rattle.em_c.specs.declared.refused.Refused.TheVariants.{Memory, Budget, NoMachine, HasMachine, Size, NoFrame, Room}
 use Rattle.em_c.specs.declared.refused.Refused.TheVariants.{NoEvent, NoChange, NoWatch, NoName, NoRefusal, NoRing, NoDescriptor}
+use Rattle.em_c.specs.declared.refused.Refused.TheVariants.{Busy, Unread, Unwritten, NoRam}
 
 -- what refuses an event has the model's number; the others have numbers that no other refusal of the model has
 abbrev pub number_of : Refused → ℕ
@@ -29,6 +30,10 @@ number_of NoName = 34
 number_of NoRefusal = 35
 number_of NoRing = 36
 number_of NoDescriptor = 37
+number_of Busy = 38
+number_of Unread = 39
+number_of Unwritten = 40
+number_of NoRam = 41
 
 abbrev pub of_event : Refusal → Refused
 of_event event.NoRegister = NoRegister

@@ -1,7 +1,7 @@
 -- Guest memory is made what the caller's memory is, by memory writes.
-use Rattle.std.specs.Prelude.{◌≡◌, ℕ, ◌+◌, ◌-◌, ◌/◌, nat_lt, zero, suc, List, [], ◌∷◌, ◌++◌, length, take, drop}
+use Rattle.std.specs.Prelude.{◌≡◌, ℕ, ◌≤◌, ◌+◌, ◌-◌, ◌/◌, nat_lt, zero, suc, List, [], ◌∷◌, ◌++◌, length, take, drop}
 use Rattle.std.specs.Prelude.{Option, Some, None, Result, Ok, Err, slice_get, if◌then◌else◌}
-use Rattle.em_mem.specs.Memory.{page_size, part}
+use Rattle.em_mem.specs.Memory.{page_size, part, put}
 use Rattle.em_step.specs.Event.{Event, pokes}
 use Rattle.em_step.specs.Step.{Refuses}
 use Rattle.em_step.specs.declared.event.Answer.{Answer}
@@ -62,6 +62,23 @@ pub record IsWanting (t : Tagged) (events : List Event) : Type 0 where
   pub first : Event
   pub is_first : slice_get events 0 ≡ Some first
   pub refuses : Refuses (present_of t) first event.Memory
+
+-- memory is the caller's from an address on, and so many writes made it so
+pub record Rewrote (t : Tagged) (at : ℕ) (new : List ℕ) (n : ℕ) (u : Tagged) : Type 0 where
+  pub count : n ≡ length (rewrites t at new)
+  pub few : n ≤ 1
+  pub performs : PerformsAll (rewrites t at new) t u
+  pub memory : memory_of u ≡ put (memory_of t) at new
+
+-- the write is refused for want of memory, and none was made
+pub record RefusesWrite (t : Tagged) (at : ℕ) (new : List ℕ) (refused : Refused) (u : Tagged) : Type 0 where
+  pub only : refused ≡ Memory
+  pub wanting : IsWanting t (rewrites t at new)
+  pub same : u ≡ t
+
+abbrev pub Rewrites : Tagged → ℕ → List ℕ → Result ℕ Refused → Tagged → Type 0
+Rewrites t at new (Ok n) u = Rewrote t at new n u
+Rewrites t at new (Err refused) u = RefusesWrite t at new refused u
 
 -- all writes were made, and memory is the caller's; or so many were made until one was refused; or sizes differ and none
 -- was made

@@ -45,6 +45,10 @@ fn with_number(code: u32) -> Option<Refused>
         35 => Some(Refused::NoRefusal),
         36 => Some(Refused::NoRing),
         37 => Some(Refused::NoDescriptor),
+        38 => Some(Refused::Busy),
+        39 => Some(Refused::Unread),
+        40 => Some(Refused::Unwritten),
+        41 => Some(Refused::NoRam),
         _ => None,
     }
 }
@@ -75,5 +79,9 @@ fn text_of(refused: Refused) -> &'static str
         Refused::NoRefusal => "NoRefusal: no refusal has the number",
         Refused::NoRing => "NoRing: the rings are 1, which receives, and 2, which transmits",
         Refused::NoDescriptor => "NoDescriptor: the ring has no descriptor of the index",
+        Refused::Busy => "Busy: a function of the caller's memory made the call",
+        Refused::Unread => "Unread: the caller's memory was not read",
+        Refused::Unwritten => "Unwritten: the caller's memory was not written",
+        Refused::NoRam => "NoRam: the caller's memory has two functions, or a table of regions",
     }
 }

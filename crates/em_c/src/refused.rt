@@ -7,7 +7,8 @@ use em_step::Refusal;
 /// The number that a call gives where nothing refused it.
 pub const DONE: u32 = 0;
 
-/// Why a call did nothing. Each reason has a number of its own.
+/// Why a call did nothing. Each reason has a number of its own. From 38 on they are those of bindings/c/attach.c, which
+/// lies over the calls.
 #[derive(Clone, Copy, PartialEq, Eq, Debug)]
 pub enum Refused {
     /// No register lies at the offset.
@@ -50,6 +51,14 @@ pub enum Refused {
     NoRing = 36,
     /// The ring has no descriptor of the index.
     NoDescriptor = 37,
+    /// A function of the attached memory made the call.
+    Busy = 38,
+    /// The caller's memory was not read: its function gave false, or no region has all octets.
+    Unread = 39,
+    /// The caller's memory was not written: its function gave false, or no region has all octets.
+    Unwritten = 40,
+    /// What is attached has neither both functions nor a region.
+    NoRam = 41,
 }
 
 impl Refused {

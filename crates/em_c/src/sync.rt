@@ -7,7 +7,7 @@ ghost use Rattle.em_step.specs.declared.refusal.Refusal.TheVariants as event;
 ghost use Rattle.em_c.specs.Refused.{number, told, Shows};
 ghost use Rattle.em_c.specs.Looks.{asked, whole_memory};
 ghost use Rattle.em_c.specs.Tagged.{present_of};
-ghost use Rattle.em_c.specs.Sync.{memory_of, rewrites, PerformsAll, PerformsOne, IsWanting, Syncs, SyncsIn};
+ghost use Rattle.em_c.specs.Sync.{memory_of, PerformsOne, Rewrites, Syncs, SyncsIn};
 
 use crate::difference::{copy_changed, same_at_head, up_to_last};
 use crate::handle::EmMachine;
@@ -18,7 +18,10 @@ use em_step::Event;
 use std::alloc::Global;
 
 /// How many octets are compared at once: those of a page of guest memory.
-const PAGE: usize = 4096;
+pub const PAGE: usize = 4096;
+
+/// How many octets a memory write has at most.
+pub const MOST: usize = 16_384;
 
 /// Makes the caller's memory what guest memory is, whatever led there: events, or steps back. Octets that are the same
 /// already are not written.
@@ -50,19 +53,20 @@ fn copy_whole(machine: &Machine, ram: &mut [u8]) -> Result<(), Refused>
     if machine.memory_size() != ram.len() as u64 {
         return Err(Refused::Length);
     }
-    copy_pages(machine, ram);
+    copy_pages(machine, 0, ram);
     Ok(())
 }
 
-/// Copies out what differs, page by page.
-fn copy_pages(machine: &Machine, ram: &mut [u8])
-    requires { length machine.now.present.memory ≡ length ram.old }
-    ensures { ram.new ≡ machine.now.present.memory }
+/// Copies out what differs from an address on, page by page.
+pub fn copy_pages(machine: &Machine, from: usize, ram: &mut [u8])
+    requires held { IsHeld machine.now.present.memory from (length ram.old) }
+    requires fits { from + length ram.old < 2 ^ 64 }
+    ensures { ram.new ≡ part machine.now.present.memory from (length ram.old) }
 {
     let mut at = 0usize;
     while at < ram.len() {
         let end = at + PAGE.min(ram.len() - at);
-        copy_page(machine, at, &mut ram[at..end]);
+        copy_page(machine, from + at, &mut ram[at..end]);
         at = end;
     }
 }
@@ -148,20 +152,30 @@ fn sync_pages(machine: &mut Tagged, ram: &[u8], writes: &mut usize) -> Result<()
 }
 
 /// Makes a page of guest memory what it is in the caller's memory; gives how many writes that took: one, or none.
-fn sync_page(machine: &mut Tagged, at: usize, new: &[u8]) -> Result<usize, Refused>
+pub fn sync_page(machine: &mut Tagged, at: usize, new: &[u8]) -> Result<usize, Refused>
     requires held { IsHeld (memory_of machine.old) at (length new.now) }
     requires fits { at + length new.now < 2 ^ 64 }
     requires most { length new.now ≤ PAGE }
-    ensures count { IfOk result (λ count. count ≡ length (rewrites machine.old at new.now)) }
-    ensures few { IfOk result (λ count. count ≤ 1) }
-    ensures performs { OnOk result (PerformsAll (rewrites machine.old at new.now) machine.old machine.new) }
-    ensures memory { OnOk result (memory_of machine.new ≡ put (memory_of machine.old) at new.now) }
-    ensures wanting { OnErr result (IsWanting machine.old (rewrites machine.old at new.now)) }
-    ensures only { IfErr result (λ refused. refused ≡ Refused.Memory) }
-    ensures same { OnErr result (machine.new ≡ machine.old) }
+    ensures { Rewrites machine.old at new.now result machine.new }
 {
     let mut page = [0u8; PAGE];
-    let old = &mut page[..new.len()];
+    rewrite(machine, at, new, &mut page[..new.len()])
+}
+
+/// Makes octets of guest memory what they are in the caller's memory; gives how many writes that took: one, or none. What
+/// was there goes into `old`.
+pub fn rewrite(
+    machine: &mut Tagged,
+    at: usize,
+    new: &[u8],
+    old: &mut [u8],
+) -> Result<usize, Refused>
+    requires held { IsHeld (memory_of machine.old) at (length new.now) }
+    requires fits { at + length new.now < 2 ^ 64 }
+    requires most { length new.now ≤ MOST }
+    requires room { length old.old ≡ length new.now }
+    ensures { Rewrites machine.old at new.now result machine.new }
+{
     read(machine.traced.machine(), at, old);
     if *old == *new {
         return Ok(0);
@@ -169,15 +183,17 @@ fn sync_page(machine: &mut Tagged, at: usize, new: &[u8]) -> Result<usize, Refus
     let first = same_at_head(old, new);
     let last = up_to_last(old, new);
     let run = &new[first..last];
-    write(machine, at + first, run)?;
-    Ok(1)
+    match write(machine, at + first, run) {
+        Ok(()) => Ok(1),
+        Err(refused) => Err(refused),
+    }
 }
 
 /// Writes octets to guest memory.
 fn write(machine: &mut Tagged, at: usize, octets: &[u8]) -> Result<(), Refused>
     requires held { IsHeld (memory_of machine.old) at (length octets.now) }
     requires some { 0 < length octets.now }
-    requires most { length octets.now ≤ PAGE }
+    requires most { length octets.now ≤ MOST }
     ensures performs { OnOk result (PerformsOne (pokes at octets.now) machine.old machine.new) }
     ensures memory { OnOk result (memory_of machine.new ≡ put (memory_of machine.old) at octets.now) }
     ensures wanting { OnErr result (Refuses (present_of machine.old) (pokes at octets.now) event.Memory) }

@@ -4,6 +4,7 @@
 mod acts;
 pub mod laws;
 mod machine;
+mod needs;
 mod records;
 mod refusal;
 mod rings;

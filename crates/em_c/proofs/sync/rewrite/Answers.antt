@@ -1,48 +1,34 @@
-use Rattle.std.proofs.Common.{◌≡◌, ◌≤◌, ℕ, ◌-◌, List, length, take, drop, sym, ap, ◌∙◌, subst, arith, rules}
-use Rattle.std.proofs.Common.{refl}
+use Rattle.std.proofs.Common.{◌≡◌, ◌≤◌, ℕ, ◌+◌, ◌-◌, List, length, take, drop, sym, ap, ◌∙◌, subst, arith, rules}
+use Rattle.std.proofs.Common.{refl, slice_get}
 use mathlib.Core.Bool.{true≢false}
 use Rattle.core.specs.Cmp.Lexicographic.{bytes_decides}
 use Rattle.em_mem.specs.Memory.{part}
 use Rattle.em_mem.proofs.PutLaws.{length-part}
 use Rattle.em_journal.specs.View.{View}
+use Rattle.em_step.specs.Event.{Event, pokes}
 use Rattle.em_c.specs.Difference.{same_at_head, up_to_last}
 use Rattle.em_c.specs.Sync.{PerformsAll, memory_of}
 use Rattle.em_c.proofs.DifferenceLaws.{first_before_last}
 use Rattle.em_c.proofs.SyncLaws.{read_is, put_same, put_between, no_writes, one_write}
-use Rattle.em_c.proofs.sync.sync_page.Goals as goal
+use Rattle.em_c.proofs.sync.rewrite.Goals as goal
 
 -- ---- nothing differs
 
-pub returns-then-eq-clause-count : goal.returns-then-eq-clause-count
-returns-then-eq-clause-count c =
+pub returns-then-eq : goal.returns-then-eq
+returns-then-eq c =
     let m : List ℕ = memory_of c.args.machine.now in
     let new : List ℕ = c.args.new.now in
     let long : length c.read.new.out ≡ length new = search rules in
     let old = read_is c.machine.result.now.present.memory c.read.new.out c.args.at _ (length new) c.read.ensures long
     ∙ ap (λ (v : View). part v.present.memory c.args.at (length new)) c.machine.ensures in
     let same = (bytes_decides c.read.new.out new).0 (sym c.if-eq.ensures) in
-    sym (ap length (no_writes c.args.at (part m c.args.at (length new)) new (sym old ∙ same)))
-
-pub returns-then-eq-clause-performs : goal.returns-then-eq-clause-performs
-returns-then-eq-clause-performs c =
-    let m : List ℕ = memory_of c.args.machine.now in
-    let new : List ℕ = c.args.new.now in
-    let long : length c.read.new.out ≡ length new = search rules in
-    let old = read_is c.machine.result.now.present.memory c.read.new.out c.args.at _ (length new) c.read.ensures long
-    ∙ ap (λ (v : View). part v.present.memory c.args.at (length new)) c.machine.ensures in
-    let same = (bytes_decides c.read.new.out new).0 (sym c.if-eq.ensures) in
-    subst (λ events. PerformsAll events c.args.machine.now c.args.machine.now)
-    (sym (no_writes c.args.at (part m c.args.at (length new)) new (sym old ∙ same))) refl
-
-pub returns-then-eq-clause-memory : goal.returns-then-eq-clause-memory
-returns-then-eq-clause-memory c =
-    let m : List ℕ = memory_of c.args.machine.now in
-    let new : List ℕ = c.args.new.now in
-    let long : length c.read.new.out ≡ length new = search rules in
-    let old = read_is c.machine.result.now.present.memory c.read.new.out c.args.at _ (length new) c.read.ensures long
-    ∙ ap (λ (v : View). part v.present.memory c.args.at (length new)) c.machine.ensures in
-    let same = (bytes_decides c.read.new.out new).0 (sym c.if-eq.ensures) in
-    sym (put_same m c.args.at new (sym old ∙ same))
+    let none = no_writes c.args.at (part m c.args.at (length new)) new (sym old ∙ same) in
+    record {
+      count = sym (ap length none);
+      few = omega arith;
+      performs = subst (λ events. PerformsAll events c.args.machine.now c.args.machine.now) (sym none) refl;
+      memory = sym (put_same m c.args.at new (sym old ∙ same));
+    }
 
 -- ---- something differs
 
@@ -73,8 +59,9 @@ write-requires-clause-some c =
     (omega (arith, before)) in
     omega (arith, before, long)
 
-pub returns-clause-performs : goal.returns-clause-performs
-returns-clause-performs c =
+-- the write of what lies between the first octet that differs and the last
+pub returns-in-Err : goal.returns-in-Err
+returns-in-Err c =
     let m : List ℕ = memory_of c.args.machine.now in
     let new : List ℕ = c.args.new.now in
     let f : ℕ = c.same_at_head-first.result in
@@ -89,11 +76,18 @@ returns-clause-performs c =
     let one = one_write c.args.at (part m c.args.at (length new)) new f e
     (c.same_at_head-first.ensures.count ∙ ap (λ x. same_at_head x new) old)
     (c.up_to_last-last.ensures.count ∙ ap (λ x. up_to_last x new) old) before in
-    subst (λ events. PerformsAll events c.args.machine.now c.write.new.machine) (sym one)
-    (c.write.new.machine, c.in_ok-write.ensures.performs, refl)
+    record {
+      only = c.in-Err.ensures.only;
+      wanting = record {
+        first = pokes (c.args.at + f) (part new f (e - f));
+        is_first = ap (λ (events : List Event). slice_get events 0) one;
+        refuses = c.in-Err.ensures.wanting;
+      };
+      same = c.in-Err.ensures.same;
+    }
 
-pub returns-clause-memory : goal.returns-clause-memory
-returns-clause-memory c =
+pub returns-in-Ok : goal.returns-in-Ok
+returns-in-Ok c =
     let m : List ℕ = memory_of c.args.machine.now in
     let new : List ℕ = c.args.new.now in
     let f : ℕ = c.same_at_head-first.result in
@@ -105,9 +99,18 @@ returns-clause-memory c =
     = λ same. true≢false (sym ((bytes_decides c.read.new.out c.args.new.now).1 same) ∙ sym c.if-eq.ensures) in
     let before = first_before_last c.read.new.out c.args.new.now c.same_at_head-first.result c.up_to_last-last.result
     c.same_at_head-first.ensures.same c.up_to_last-last.ensures.same differ in
+    let one = one_write c.args.at (part m c.args.at (length new)) new f e
+    (c.same_at_head-first.ensures.count ∙ ap (λ x. same_at_head x new) old)
+    (c.up_to_last-last.ensures.count ∙ ap (λ x. up_to_last x new) old) before in
     let head : take f (part m c.args.at (length new)) ≡ take f new
     = subst (λ x. take f x ≡ take f new) old c.same_at_head-first.ensures.same in
     let tail : drop e (part m c.args.at (length new)) ≡ drop e new
     = subst (λ x. drop e x ≡ drop e new) old c.up_to_last-last.ensures.same in
-    c.in_ok-write.ensures.memory
-    ∙ put_between m new c.args.at f e c.requires.held (omega (arith, before)) c.up_to_last-last.ensures.most head tail
+    record {
+      count = sym (ap length one);
+      few = omega arith;
+      performs = subst (λ events. PerformsAll events c.args.machine.now c.write.new.machine) (sym one)
+          (c.write.new.machine, c.in-Ok.ensures.performs, refl);
+      memory = c.in-Ok.ensures.memory
+          ∙ put_between m new c.args.at f e c.requires.held (omega (arith, before)) c.up_to_last-last.ensures.most head tail;
+    }

@@ -1,0 +1,286 @@
+/* The caller's own memory, attached to a machine: what the calls of bunjelav.h do beside the proved ones.
+
+   bindings/c/build gives the proved calls of these names other ones, proved_ in the place of em_. A call that changes the
+   machine goes through this file; one that looks at it is the proved one itself.
+
+   A step goes so: the proved part tells what it needs; the descriptor is brought, by a memory write where it differs; the
+   proved part is asked again, since the rest depends on the descriptor; the rest is brought, also what will be written,
+   so that a step back has the caller's octets; the step is made; and what its record says that it wrote goes out. The
+   addresses are the guest's throughout: nothing here knows where guest memory begins or ends. */
+#include "bunjelav.h"
+
+#include <string.h>
+
+/* what a handle's state is: no memory is attached; some is; a function of the caller's is being called */
+enum { ALONE, ATTACHED, CALLING };
+
+/* how many octets a range of a step has at most */
+enum { MOST = 16384 };
+
+#define PROVED(call) extern __typeof__(em_##call) proved_##call
+PROVED(make);
+PROVED(make_with_eeprom);
+PROVED(free);
+PROVED(read);
+PROVED(write);
+PROVED(poke);
+PROVED(sync_in);
+PROVED(sync_in_range);
+PROVED(arrive);
+PROVED(set_link);
+PROVED(rx_step);
+PROVED(tx_step);
+PROVED(run_rx);
+PROVED(run_tx);
+PROVED(back);
+PROVED(tag);
+
+/* ---- the caller's memory */
+
+/* Where an address lies in a region; `length` becomes how many of so many octets lie there. */
+static uint8_t *place(const em_ram *ram, uint64_t address, size_t *length) {
+  for (size_t i = 0; i < ram->count; i++) {
+    const em_region *region = &ram->regions[i];
+    uint64_t at = address - region->base; /* (below the region it is huge) */
+    if (address < region->base || at >= region->size) continue;
+    if (region->size - at < *length) *length = (size_t)(region->size - at);
+    return region->octets + at;
+  }
+  return NULL;
+}
+
+static bool is_held(const em_ram *ram, uint64_t address, size_t length) {
+  for (size_t piece; length > 0; address += piece, length -= piece) {
+    piece = length;
+    if (place(ram, address, &piece) == NULL) return false;
+  }
+  return true;
+}
+
+/* Octets as one word, or one octet: who polls DD in another thread sees with it all that was written before. */
+static void put(uint8_t *to, const uint8_t *from, size_t length) {
+  typedef uint64_t __attribute__((may_alias)) word;
+  if (length == sizeof(word) && (uintptr_t)to % sizeof(word) == 0) {
+    word all;
+    memcpy(&all, from, sizeof all);
+    __atomic_store_n((word *)(void *)to, all, __ATOMIC_RELEASE);
+  } else if (length == 1) {
+    __atomic_store_n(to, *from, __ATOMIC_RELEASE);
+  } else {
+    memcpy(to, from, length);
+  }
+}
+
+static bool read_ram(em_machine *machine, uint64_t address, uint8_t *out, size_t length) {
+  const em_ram *ram = &machine->ram;
+  if (ram->read != NULL) {
+    machine->state = CALLING;
+    bool could = ram->read(ram->context, address, out, length);
+    machine->state = ATTACHED;
+    return could;
+  }
+  for (size_t piece; length > 0; address += piece, out += piece, length -= piece) {
+    piece = length;
+    const uint8_t *from = place(ram, address, &piece);
+    if (from == NULL) return false;
+    memcpy(out, from, piece);
+  }
+  return true;
+}
+
+static bool write_ram(em_machine *machine, uint64_t address, const uint8_t *octets, size_t length) {
+  const em_ram *ram = &machine->ram;
+  if (ram->write != NULL) {
+    machine->state = CALLING;
+    bool could = ram->write(ram->context, address, octets, length);
+    machine->state = ATTACHED;
+    return could;
+  }
+  if (!is_held(ram, address, length)) return false;
+  for (size_t piece; length > 0; address += piece, octets += piece, length -= piece) {
+    piece = length;
+    uint8_t *to = place(ram, address, &piece);
+    put(to, octets, piece);
+  }
+  return true;
+}
+
+/* Makes the machine's octets what the caller's are; `events` counts the memory writes. (They are copied first: the
+   proved part sees no octet that another thread may write meanwhile.) */
+static uint32_t bring(em_machine *machine, em_range range, size_t *events) {
+  uint8_t octets[MOST];
+  size_t length = (size_t)range.length, writes = 0;
+  if (length == 0) return EM_OK;
+  if (length > sizeof octets) return EM_LENGTH; /* (no step has such a range) */
+  if (!read_ram(machine, range.address, octets, length)) return EM_UNREAD;
+  uint32_t why = proved_sync_in_range(machine, range.address, octets, length, &writes);
+  *events += writes;
+  return why;
+}
+
+/* Makes the caller's octets what the machine's are, first in the one range and then in the other. */
+static uint32_t take_out(em_machine *machine, const em_range ranges[2]) {
+  uint8_t octets[MOST];
+  for (int i = 0; i < 2; i++) {
+    size_t length = (size_t)ranges[i].length;
+    if (length == 0) continue;
+    if (length > sizeof octets) return EM_LENGTH;
+    uint32_t why = em_peek(machine, ranges[i].address, octets, length);
+    if (why != EM_OK) return why;
+    if (!write_ram(machine, ranges[i].address, octets, length)) return EM_UNWRITTEN;
+  }
+  return EM_OK;
+}
+
+/* ---- steps */
+
+static bool is_idle(uint32_t kind) { return kind == EM_RX_IDLE || kind == EM_TX_IDLE; }
+
+static bool is_step(uint32_t kind) { return kind == EM_WROTE || kind == EM_FETCHED || kind == EM_SENT; }
+
+static bool lies_in(em_range inner, em_range outer) {
+  return inner.address >= outer.address && inner.address + inner.length <= outer.address + outer.length;
+}
+
+/* Brings what the next step reads, and what lies where it will write. */
+static uint32_t bring_needs(em_machine *machine, uint32_t side, size_t *events) {
+  em_range reads[2], writes[2];
+  uint32_t why = em_ring_needs(machine, side, reads, writes);
+  if (why != EM_OK || reads[0].length == 0) return why;
+  const em_range descriptor = reads[0];
+  why = bring(machine, descriptor, events);
+  if (why == EM_OK) why = em_ring_needs(machine, side, reads, writes);
+  if (why == EM_OK) why = bring(machine, reads[1], events);
+  for (int i = 0; i < 2 && why == EM_OK; i++) {
+    if (!lies_in(writes[i], descriptor)) why = bring(machine, writes[i], events);
+  }
+  return why;
+}
+
+/* A step over the caller's memory. Where it is refused, what was done for it is taken back. */
+static uint32_t step(em_machine *machine, uint32_t side, em_note *event) {
+  em_range written[2];
+  em_note note;
+  size_t events = 0, gone;
+  uint32_t why = bring_needs(machine, side, &events);
+  if (why == EM_OK) why = side == EM_RX_RING ? proved_rx_step(machine, &note) : proved_tx_step(machine, &note);
+  if (why == EM_OK && !is_idle(note.kind)) {
+    events++;
+    why = em_written(machine, 0, written);
+    if (why == EM_OK) why = take_out(machine, written);
+  }
+  if (why == EM_OK) *event = note;
+  else if (events > 0) (void)proved_back(machine, events, &gone);
+  return why;
+}
+
+static uint32_t run(em_machine *machine, uint32_t side, size_t n, size_t *done) {
+  uint32_t why = EM_OK;
+  em_note note;
+  for (*done = 0; *done < n; ++*done) {
+    why = step(machine, side, &note);
+    if (why != EM_OK || is_idle(note.kind)) break;
+  }
+  return why;
+}
+
+/* How many of the newest n events are no steps that wrote, up to one that may have. */
+static size_t others(em_machine *machine, size_t n) {
+  size_t k = 0;
+  for (em_note note; k < n; k++) {
+    if (em_event(machine, k, &note) != EM_OK || is_step(note.kind)) break;
+  }
+  return k;
+}
+
+static uint32_t back(em_machine *machine, size_t n, size_t *done) {
+  uint32_t why = EM_OK;
+  for (*done = 0; *done < n && why == EM_OK;) {
+    em_range written[2] = {{0, 0}, {0, 0}};
+    size_t count = others(machine, n - *done), gone = 0;
+    if (count == 0) {
+      count = 1;
+      if (em_written(machine, 0, written) != EM_OK) break;
+    }
+    why = proved_back(machine, count, &gone);
+    *done += gone;
+    if (why == EM_OK) why = take_out(machine, written);
+  }
+  return why;
+}
+
+/* ---- the calls */
+
+uint32_t em_attach(em_machine *machine, const em_ram *ram) {
+  bool by_calls = ram->read != NULL && ram->write != NULL;
+  bool by_regions = ram->read == NULL && ram->write == NULL && ram->count > 0;
+  if (machine->state == CALLING) return EM_BUSY;
+  if (!machine->made) return EM_NOT_MADE;
+  if (!by_calls && !by_regions) return EM_NO_RAM;
+  machine->ram = *ram;
+  machine->state = ATTACHED;
+  return EM_OK;
+}
+
+uint32_t em_detach(em_machine *machine) {
+  if (machine->state == CALLING) return EM_BUSY;
+  if (!machine->made) return EM_NOT_MADE;
+  memset(&machine->ram, 0, sizeof machine->ram);
+  machine->state = ALONE;
+  return EM_OK;
+}
+
+void em_free(em_machine *machine) {
+  if (machine->state == CALLING) return;
+  (void)em_detach(machine);
+  proved_free(machine);
+}
+
+uint32_t em_poke(em_machine *machine, uint64_t address, const uint8_t *octets, size_t length) {
+  size_t gone;
+  if (machine->state == CALLING) return EM_BUSY;
+  uint32_t why = proved_poke(machine, address, octets, length);
+  if (why != EM_OK || machine->state == ALONE || write_ram(machine, address, octets, length)) return why;
+  (void)proved_back(machine, 1, &gone);
+  return EM_UNWRITTEN;
+}
+
+/* where nothing is attached a call is the proved one, and within a function of the caller's it is refused */
+#define BY_STATE(alone, attached) \
+  (machine->state == ALONE ? (alone) : machine->state == ATTACHED ? (attached) : (uint32_t)EM_BUSY)
+
+uint32_t em_rx_step(em_machine *machine, em_note *event) {
+  return BY_STATE(proved_rx_step(machine, event), step(machine, EM_RX_RING, event));
+}
+
+uint32_t em_tx_step(em_machine *machine, em_note *event) {
+  return BY_STATE(proved_tx_step(machine, event), step(machine, EM_TX_RING, event));
+}
+
+uint32_t em_run_rx(em_machine *machine, size_t n, size_t *done) {
+  return BY_STATE(proved_run_rx(machine, n, done), run(machine, EM_RX_RING, n, done));
+}
+
+uint32_t em_run_tx(em_machine *machine, size_t n, size_t *done) {
+  return BY_STATE(proved_run_tx(machine, n, done), run(machine, EM_TX_RING, n, done));
+}
+
+uint32_t em_back(em_machine *machine, size_t n, size_t *done) {
+  return BY_STATE(proved_back(machine, n, done), back(machine, n, done));
+}
+
+/* what touches no memory of the caller's */
+#define PASSED(call, parameters, ...) \
+  uint32_t em_##call parameters { return machine->state == CALLING ? (uint32_t)EM_BUSY : proved_##call(__VA_ARGS__); }
+
+PASSED(make, (em_machine *machine, uint64_t memory, uint64_t budget, const uint8_t mac[6]), machine, memory, budget, mac)
+PASSED(make_with_eeprom, (em_machine *machine, uint64_t memory, uint64_t budget, const uint16_t words[64]), machine,
+       memory, budget, words)
+PASSED(read, (em_machine *machine, uint32_t offset, uint32_t *value), machine, offset, value)
+PASSED(write, (em_machine *machine, uint32_t offset, uint32_t value), machine, offset, value)
+PASSED(sync_in, (em_machine *machine, const uint8_t *ram, size_t size, size_t *writes), machine, ram, size, writes)
+PASSED(sync_in_range, (em_machine *machine, uint64_t address, const uint8_t *octets, size_t length, size_t *writes),
+       machine, address, octets, length, writes)
+PASSED(arrive, (em_machine *machine, const uint8_t *frame, size_t length, em_note *event), machine, frame, length, event)
+PASSED(set_link, (em_machine *machine, bool up), machine, up)
+PASSED(tag, (em_machine *machine, uint64_t tag), machine, tag)
