@@ -5,6 +5,7 @@ of another, and a check that goes on past functions that are not proved (`rt che
 functions. What an edit changes that is no line of a function's body is not tried here, nor is one on which such a check gives
 no clear word: `rt must-fail` tries those alone.
 """
+import os
 import re
 import subprocess
 from dataclasses import dataclass
@@ -31,6 +32,21 @@ class Function:
     last: int
     name: str
     type: str
+
+
+class Prover:
+    """Runs the prover, and counts the seconds of processors that this takes."""
+
+    def __init__(self) -> None:
+        self.seconds = 0.0
+
+    def says(self, words: list[str], folder: Path) -> str:
+        how = {"stdin": subprocess.DEVNULL, "stdout": subprocess.PIPE, "stderr": subprocess.STDOUT}
+        with subprocess.Popen(words, cwd=folder, text=True, errors="replace", **how) as ran:
+            said = ran.stdout.read()
+            _, ran.returncode, used = os.wait4(ran.pid, 0)
+        self.seconds += used.ru_utime + used.ru_stime
+        return said
 
 
 def changes_of(edit: Path) -> list[tuple[str, str, str]]:
@@ -118,14 +134,14 @@ def is_not_proved(crate: str, function: Function, said: str) -> bool:
     return False
 
 
-def judge_together(crate: Path, edits: list[Path]) -> dict[str, str]:
+def judge_together(prover: Prover, crate: Path, edits: list[Path]) -> dict[str, str]:
     """By edit what the prover says against it, of those that some checks together refuse. `crate` is a folder to change,
     in a copy of the crates with their libraries."""
     found: dict[str, str] = {}
     left = in_rounds(crate, edits)
     while left:
         some = left.pop()
-        said = checked(crate, list(some.values()))
+        said = checked(prover, crate, list(some.values()))
         if not VERDICT.search(said) and len(some) > 1:
             half = len(some) // 2
             left += [dict([*some.items()][:half]), dict([*some.items()][half:])]
@@ -136,7 +152,7 @@ def judge_together(crate: Path, edits: list[Path]) -> dict[str, str]:
     return found
 
 
-def checked(crate: Path, edits: list[Path]) -> str:
+def checked(prover: Prover, crate: Path, edits: list[Path]) -> str:
     """What a check of the crate with all these edits says; it is then as it was."""
     were: dict[Path, str] = {}
     for edit in edits:
@@ -145,10 +161,7 @@ def checked(crate: Path, edits: list[Path]) -> str:
             text = path.read_text()
             were.setdefault(path, text)
             path.write_text(text.replace(old, new))
-    ran = subprocess.run(
-        ["rt", "check", "--allow-holes"], cwd=crate, stdin=subprocess.DEVNULL, stdout=subprocess.PIPE,
-        stderr=subprocess.STDOUT, text=True, errors="replace", check=False,
-    )
+    said = prover.says(["rt", "check", "--allow-holes"], crate)
     for path, text in were.items():
         path.write_text(text)
-    return ran.stdout
+    return said
