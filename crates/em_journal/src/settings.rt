@@ -1,7 +1,10 @@
 //! What a machine is made of, and what it is made of where nobody says otherwise.
-ghost use Rattle.std.specs.Prelude.{◌≡◌, ◌↔◌, IfOk, IfErr, OnOk};
-ghost use Rattle.em_mem.specs.Memory.{IsMemorySize};
-ghost use Rattle.em_journal.specs.Settings.{name_of, new_machine, AreAllowed, IsRefusedAs};
+ghost use Rattle.std.specs.Prelude.{◌≡◌, IfOk, IfErr, OnOk};
+ghost use Rattle.em_step.specs.Cells.{shows};
+ghost use Rattle.em_journal.specs.Budget.{IsBudget};
+ghost use Rattle.em_journal.specs.Settings.{name_of, machine_at, new_machine, AreAllowed, AreAllowedAt};
+ghost use Rattle.em_journal.specs.Settings.{IsOver, IsRefusedAs, IsRefusedAt};
+ghost use Rattle.em_journal.specs.View.{opening};
 
 use crate::machine::{Machine, is_budget};
 use crate::refusal::JournalRefusal;
@@ -43,7 +46,7 @@ impl Default for Settings {
 #[derive(Clone, Copy, PartialEq, Eq, Debug, Error)]
 #[error("{}", self.name())]
 pub enum SettingsRefusal {
-    /// The size of memory is not a multiple of 4,096 from 4,096 to 16,777,216.
+    /// Memory can not have that size, or not from that address on.
     Size,
     /// The budget lies outside 65,536 to 16,777,216 octets of cost.
     Budget,
@@ -74,10 +77,33 @@ impl Settings {
         ensures allowed { OnOk result (AreAllowed self.now) }
         ensures err { IfErr result (IsRefusedAs self.now) }
     {
-        let adapter = match Adapter::new(alloc, self.memory, Eeprom::of_mac(self.mac)) {
-            Ok(adapter) => adapter,
-            Err(refusal) => return Err(self.without_adapter(refusal)),
-        };
+        match Adapter::new(alloc, self.memory, Eeprom::of_mac(self.mac)) {
+            Ok(adapter) => self.over(alloc, adapter),
+            Err(refusal) => Err(self.without_adapter(refusal)),
+        }
+    }
+
+    /// A new machine whose guest memory begins at `base`: else as `machine` makes one.
+    ///
+    /// Refused as Size where `base` or the size of memory is no multiple of 4,096, the size is 0, or memory would end
+    /// past 2^40, or else as Budget; as Memory only where neither is refused.
+    pub fn machine_at(&self, alloc: Global, base: u64) -> Result<Machine, SettingsRefusal>
+        ensures ok { IfOk result (λ machine. machine ≡ machine_at base self.now) }
+        ensures allowed { OnOk result (AreAllowedAt base self.now) }
+        ensures err { IfErr result (IsRefusedAt base self.now) }
+    {
+        match Adapter::at(alloc, base, self.memory, Eeprom::of_mac(self.mac)) {
+            Ok(adapter) => self.over(alloc, adapter),
+            Err(refusal) => Err(self.without_adapter(refusal)),
+        }
+    }
+
+    /// A machine over an adapter.
+    fn over(&self, alloc: Global, adapter: Adapter) -> Result<Machine, SettingsRefusal>
+        ensures ok { IfOk result (λ machine. machine ≡ opening self.now.budget (shows adapter)) }
+        ensures allowed { OnOk result (IsBudget self.now.budget) }
+        ensures err { IfErr result (IsOver self.now.budget) }
+    {
         match Machine::new(alloc, adapter, self.budget) {
             Ok(machine) => Ok(machine),
             Err((_, JournalRefusal::Budget)) => Err(SettingsRefusal::Budget),
@@ -88,8 +114,8 @@ impl Settings {
     /// What refuses settings for which no adapter was made: a budget that is not allowed is named
     /// before the want of memory.
     fn without_adapter(&self, refusal: MemRefusal) -> SettingsRefusal
-        requires { (refusal ≡ MemRefusal.Size) ↔ (IsMemorySize self.now.memory → ⊥) }
-        ensures { IsRefusedAs self.now result }
+        ensures size { refusal ≡ MemRefusal.Size → result ≡ SettingsRefusal.Size }
+        ensures memory { refusal ≡ MemRefusal.Memory → IsOver self.now.budget result }
     {
         match refusal {
             MemRefusal::Size => SettingsRefusal::Size,

@@ -85,7 +85,7 @@ command_runs memory back machine allowed =
     run_one machine _ (back_call machine.past) (back_does machine machine.past refl)
 command_runs memory (back_by most) machine allowed = backs_run most machine
 command_runs memory (peek addr n) machine allowed =
-    look_leaves (nat_lt (length machine.present.memory) (addr + n)) machine _ _ _
+    look_leaves (leaves machine.present.base machine.present.memory addr n) machine _ _ _
 command_runs memory _ machine allowed = refl
 
 -- what is asked of a driver

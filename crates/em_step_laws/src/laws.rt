@@ -28,7 +28,7 @@ pub fn fates()
 pub fn pieces()
     ensures { (s : State) (frame : Frame) (frames : List Frame) (j : ℕ) →
         IsReached s →
-        GoesInPieces (rx_setup s.registers) s.memory frame j →
+        GoesInPieces (rx_setup s.registers) s.base s.memory frame j →
         s.fifo ≡ record { frames = frame ∷ frames; taken = 0 } →
         (t : State) × AreReceived j s t
         × (t.fifo ≡ record { frames = frames; taken = 0 })
