@@ -3,7 +3,8 @@
 
        cc -O2 -Idist/x86_64-linux bench/calls.c dist/x86_64-linux/libbunjelav.a -o calls && ./calls
 
-   With plain_calls.c in the place of the library it measures a plain program. */
+   With plain_calls.c in the place of the library it measures a plain program. With the name of a file it also measures what it
+   costs to keep a run in that file, a line for each call, over a million register accesses and twenty thousand frames. */
 #include "bunjelav.h"
 
 #include <stdio.h>
@@ -11,7 +12,8 @@
 #include <string.h>
 #include <time.h>
 
-enum { CALLS = 10000000, BACK = 20000, SYNCS = 100000, MEMORY = 65536, TRIPS = 20000, LARGE = 16777216 };
+enum { CALLS = 10000000, BACK = 20000, SYNCS = 100000, MEMORY = 65536, TRIPS = 20000, KEPT = 1000000,
+       LARGE = 16777216 };
 
 /* a descriptor and a frame, in two pages of memory */
 enum { RING = 0x1000, DESCRIPTOR = 16, BUFFER = 0x4200, FRAME = 1514 };
@@ -110,10 +112,39 @@ static void round_trips(size_t memory, unsigned length) {
   free(ram);
 }
 
-int main(void) {
+/* Register accesses and frames of a run that is kept in a file, with the line that makes them; the file's size, too. */
+static void keep(const char *path, bool has_places) {
+  static const uint8_t mac[6] = {0x52, 0x54, 0x00, 0x12, 0x34, 0x56};
+  uint8_t frame[FRAME] = {0xFF, 0xFF, 0xFF, 0xFF, 0xFF, 0xFF};
+  em_machine machine = EM_NO_MACHINE;
+  em_note event;
+  uint32_t value = 0;
+  must(em_make(&machine, MEMORY, 1048576, mac));
+  must(em_record_to(&machine, path));
+  begin();
+  for (uint32_t i = 0; i < KEPT / 2; i++) {
+    must(em_write(has_places ? EM_HERE(&machine) : &machine, RDT, i & 0xFFFF));
+    must(em_read(has_places ? EM_HERE(&machine) : &machine, RDT, &value));
+  }
+  tell(has_places ? "a register access that is kept" : "the same without the caller's line", KEPT);
+  FILE *file = fopen(path, "r");
+  if (file == NULL || fseek(file, 0, SEEK_END) != 0) exit(102);
+  printf("%-40s %7.1f octets\n", "its line", (double)ftell(file) / KEPT);
+  fclose(file);
+  if (has_places) {
+    begin();
+    for (int i = 0; i < TRIPS; i++) must(em_arrive(&machine, frame, FRAME, &event));
+    tell("a frame of 1,514 octets that is kept", TRIPS);
+  }
+  em_free(&machine);
+  remove(path);
+}
+
+int main(int words, char **word) {
   static const uint8_t mac[6] = {0x52, 0x54, 0x00, 0x12, 0x34, 0x56};
   static uint8_t ram[MEMORY], octets[FRAME];
   em_machine machine = EM_NO_MACHINE;
+  em_note event;
   uint32_t value = 0, level = 0;
   size_t done = 0, writes = 0;
   must(em_make(&machine, MEMORY, 1048576, mac));
@@ -168,7 +199,16 @@ int main(void) {
   begin();
   for (uint32_t i = 0; i < CALLS; i++) must(em_write(&machine, RDT, i & 0xFF));
   tell("a write of RDT, none attached", CALLS);
+
+  begin();
+  for (int i = 0; i < TRIPS; i++) must(em_arrive(&machine, octets, FRAME, &event));
+  tell("a frame of 1,514 octets, the link down", TRIPS);
   em_free(&machine);
+
+  if (words > 1) {
+    keep(word[1], true);
+    keep(word[1], false);
+  }
 
   round_trips(262144, 60);
   round_trips(262144, FRAME);

@@ -6,8 +6,10 @@
        cc -O2 -Idist/x86_64-linux bench/calls.c bench/plain_calls.c -o plain && ./plain */
 #include "bunjelav.h"
 
+#include <fcntl.h>
 #include <stdlib.h>
 #include <string.h>
+#include <unistd.h>
 
 enum { OFFSETS = 0x6000, PAGE = 4096, COST = 32, ICR = 0x00C0, IMS = 0x00D0, RDT = 0x2818 };
 
@@ -34,6 +36,10 @@ struct plain {
   uint32_t lengths[32], oldest, waiting;
   struct frame *wire;
   size_t sent, places_sent;
+  int file;            /* of a run that is kept; else below 0 */
+  const char *name;
+  uint32_t line;
+  char text[4096];
 };
 
 static struct plain *of(em_machine *machine) { return machine->held; }
@@ -54,6 +60,51 @@ static bool is_register(const struct plain *p, uint32_t offset) {
   return offset < OFFSETS && offset % 4 == 0 && p->masks[offset / 4] != 0;
 }
 
+/* ---- a run that is kept: of each access and arrival a line, which is written at once */
+
+static char *digits(char *to, const uint8_t *octets, size_t length) {
+  static const char hex[] = "0123456789ABCDEF";
+  for (size_t i = 0; i < length; i++) *to++ = hex[octets[i] >> 4], *to++ = hex[octets[i] & 15];
+  return to;
+}
+
+static char *value_digits(char *to, uint32_t value) {
+  const uint8_t octets[4] = {(uint8_t)(value >> 24), (uint8_t)(value >> 16), (uint8_t)(value >> 8), (uint8_t)value};
+  return digits(to, octets, 4);
+}
+
+static char *text(char *to, const char *from) {
+  size_t length = strlen(from);
+  memcpy(to, from, length);
+  return to + length;
+}
+
+static void end_line(struct plain *p, char *to) {
+  char decimal[10], *at = decimal + sizeof decimal;
+  if (p->name != NULL) {
+    uint32_t left = p->line;
+    to = text(text(text(to, " @ "), p->name), ":");
+    do *--at = (char)('0' + left % 10);
+    while (left /= 10);
+    while (at < decimal + sizeof decimal) *to++ = *at++;
+  }
+  *to++ = '\n';
+  if (write(p->file, p->text, (size_t)(to - p->text)) < 0) p->file = -1;
+}
+
+uint32_t em_record_to(em_machine *machine, const char *path) {
+  of(machine)->file = open(path, O_WRONLY | O_CREAT | O_TRUNC | O_APPEND, 0666);
+  return of(machine)->file < 0 ? EM_FILE : EM_OK;
+}
+
+uint32_t em_source(em_machine *machine, const char *file, uint32_t line) {
+  of(machine)->name = file;
+  of(machine)->line = line;
+  return EM_OK;
+}
+
+/* ---- registers and memory */
+
 static void keep(struct plain *p, uint32_t kind, uint32_t offset, uint32_t old, uint32_t value) {
   *next(p) = (struct record){offset, old, NULL, {p->tag, offset, 4, value, kind}, 0, 0};
 }
@@ -65,6 +116,7 @@ uint32_t em_make(em_machine *machine, uint64_t memory, uint64_t budget, const ui
   for (size_t i = 0; i < OFFSETS / 4; i++) p->masks[i] = UINT32_MAX;
   p->masks[RDT / 4] = 0xFFFF;
   p->size = memory;
+  p->file = -1;
   p->places = budget / COST;
   p->memory = calloc(1, memory);
   p->ring = calloc(p->places, sizeof *p->ring);
@@ -76,6 +128,7 @@ uint32_t em_make(em_machine *machine, uint64_t memory, uint64_t budget, const ui
 void em_free(em_machine *machine) {
   for (size_t i = 0; i < of(machine)->places; i++) free(of(machine)->ring[i].octets);
   for (size_t i = 0; i < of(machine)->sent; i++) free(of(machine)->wire[i].octets);
+  if (of(machine)->file >= 0) close(of(machine)->file);
   free(of(machine)->wire);
   free(of(machine)->ring);
   free(of(machine)->memory);
@@ -90,6 +143,9 @@ uint32_t em_write(em_machine *machine, uint32_t offset, uint32_t value) {
   else if (offset == ICR) *word &= ~value;
   else *word = value & p->masks[offset / 4];
   keep(p, EM_WRITE, offset, old, value);
+  if (p->file >= 0) {
+    end_line(p, text(value_digits(text(value_digits(text(p->text, "w "), offset), " "), value), " = ok"));
+  }
   return EM_OK;
 }
 
@@ -99,6 +155,7 @@ uint32_t em_read(em_machine *machine, uint32_t offset, uint32_t *value) {
   *value = p->registers[offset / 4];
   if (offset == ICR) p->registers[ICR / 4] = 0;
   keep(p, EM_READ, offset, *value, *value);
+  if (p->file >= 0) end_line(p, value_digits(text(value_digits(text(p->text, "r "), offset), " = "), *value));
   return EM_OK;
 }
 
@@ -160,6 +217,9 @@ uint32_t em_arrive(em_machine *machine, const uint8_t *frame, size_t length, em_
   }
   *event = (em_note){p->tag, 0, (uint32_t)length, 0, kind};
   *next(p) = (struct record){0, 0, NULL, *event, 0, 0};
+  if (p->file >= 0) {
+    end_line(p, text(digits(text(p->text, "arrive "), frame, length), kind == EM_STORED ? " = stored" : " = dropped missed"));
+  }
   return EM_OK;
 }
 

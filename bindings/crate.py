@@ -112,7 +112,8 @@ def rings(top: Path) -> list[tuple[str, int]]:
 
 
 def layouts(top: Path) -> list[Layout]:
-    """What is laid out as in C, but for the handle, whose inner is nobody's business."""
+    """What is laid out as in C, but for the handle, whose inner is nobody's business, and the text of a kept run's lines,
+    which no caller sees."""
     made, wanted = [], 0
     for file in sorted((top / "crates/em_c/src").glob("*.rt")):
         wanted += file.read_text().count("#[repr(C)]")
@@ -121,8 +122,8 @@ def layouts(top: Path) -> list[Layout]:
             fields = re.findall(r"((?:\s*///[^\n]*\n)*)\s*pub (\w+): ([^,]+),", body)
             if name != "EmMachine":
                 made.append(Layout(name, [Field(it, kind, docs_of(said)) for said, it, kind in fields], docs_of(docs)))
-    # (the handle and its inner are the two that callers see nothing of)
-    if len(made) != wanted - 2:
+    # (the handle, its inner and that text are the three that callers see nothing of)
+    if len(made) != wanted - 3:
         raise SystemExit("some layout can't be read: its form has changed, and bindings/crate.py has to follow it")
     return made
 

@@ -7,8 +7,8 @@
 
 Whole files are _tables.py and _refusals.py of bindings/python/bunjelav, and tables.rs and raw.rs of bindings/rust/src. In bunjelav.h only
 the numbers, the fields and the types are written: comments and the names of parameters stay as they are there. Of
-bunjelav.pc, Cargo.toml, pyproject.toml and page/page.html it is the version. What attach.c of bindings/c has of its own,
-two calls and three layouts, is written for Rust and Python of what stands below, and compared in bunjelav.h.
+bunjelav.pc, Cargo.toml, pyproject.toml and page/page.html it is the version. What the C of bindings/c has of its own, five
+calls and three layouts, is written for Rust and Python of what stands below, and compared in bunjelav.h.
 """
 import os
 import re
@@ -23,8 +23,28 @@ from crate import Call, Crate, Field, words_of  # noqa: E402
 HERE = Path(__file__).resolve().parent
 NOTICE = "Written by bindings/tables.py, of the crate em_c: change it there, and run that."
 LAYOUTS = {"EmNote": "em_note", "EmRegister": "em_register", "EmWatch": "em_watch", "EmChange": "em_change"}
-# What bindings/c/attach.c has that the crate has not: calls, and layouts as the header has them.
-OF_ATTACH = {"em_attach", "em_detach"}
+# What the C of bindings/c has that the crate has not: calls, and layouts as the header has them.
+OWN_CALLS = (
+    "em_attach(em_machine *machine, const em_ram *ram);",
+    "em_detach(em_machine *machine);",
+    "em_record_to(em_machine *machine, const char *path);",
+    "em_recording_status(em_machine *machine, int *error);",
+    "em_source(em_machine *machine, const char *file, uint32_t line);",
+)
+RUST_OWN_CALLS = (
+    "em_attach(machine: *mut Handle, ram: *const Ram) -> u32;",
+    "em_detach(machine: *mut Handle) -> u32;",
+    "em_record_to(machine: *mut Handle, path: *const c_char) -> u32;",
+    "em_recording_status(machine: *mut Handle, error: *mut c_int) -> u32;",
+    "em_source(machine: *mut Handle, file: *const c_char, line: u32) -> u32;",
+)
+PYTHON_OWN_CALLS = (
+    '"em_attach": [POINTER(Handle), POINTER(Ram)],',
+    '"em_detach": [POINTER(Handle)],',
+    '"em_record_to": [POINTER(Handle), c_char_p],',
+    '"em_recording_status": [POINTER(Handle), POINTER(c_int)],',
+    '"em_source": [POINTER(Handle), c_char_p, c_uint32],',
+)
 C_OF_ATTACH = {
     "em_region": "uint64_t base; uint64_t size; uint8_t *octets;",
     "em_ram": "void *context; bool (*read)(void *context, uint64_t address, uint8_t *out, size_t length); "
@@ -105,7 +125,7 @@ def names_there(text: str, call: Call) -> list[str]:
 
 def with_calls(text: str, made: Crate) -> str:
     declared = re.findall(r"^(?:uint32_t|void) (em_\w+)\(", text, re.M)
-    missing = {call.name for call in made.calls} | OF_ATTACH
+    missing = {call.name for call in made.calls} | {call.partition("(")[0] for call in OWN_CALLS}
     missing ^= set(declared)
     if missing:
         raise SystemExit(f"bunjelav.h and the crate don't have the same calls: {', '.join(sorted(missing))}")
@@ -145,14 +165,14 @@ def with_number(text: str, name: str, value: str) -> str:
     return re.sub(rf"^#define {name} .*$", f"#define {name} {value}", text, flags=re.M)
 
 
-def with_attach(text: str) -> str:
-    """The header, which has the layouts and calls of attach.c as they are written here."""
+def with_own(text: str) -> str:
+    """The header, which has the layouts and calls of the C beside the crate as they are written here."""
     for name, fields in C_OF_ATTACH.items():
         inside = re.search(rf"typedef struct {name} \{{\n(.*?)\n\}} {name};", text, re.S)
         there = " ".join(re.sub(r"/\*.*?\*/", "", inside[1], flags=re.S).split()) if inside else ""
         if there != fields:
             raise SystemExit(f"bunjelav.h has another struct {name}: {there}")
-    for call in ("em_attach(em_machine *machine, const em_ram *ram);", "em_detach(em_machine *machine);"):
+    for call in OWN_CALLS:
         if f"\nuint32_t {call}\n" not in text:
             raise SystemExit(f"bunjelav.h has no {call}")
     return text
@@ -166,7 +186,7 @@ def header(text: str, made: Crate) -> str:
     text = with_entries(text, "em_rings", [(f"EM_{name.upper()}_RING", n, f"the {name} ring") for name, n in made.rings])
     for layout in made.layouts:
         text = with_layout(text, layout, made)
-    text = with_attach(with_calls(text, made))
+    text = with_own(with_calls(text, made))
     major, minor, patch = map(int, made.version.split("."))
     for name, value in (("EM_REGISTERS", f"{made.registers}"), ("EM_MOST_SENT", f"{made.most_sent}"),
                         ("EM_VERSION", f'"{made.version}"'),
@@ -219,6 +239,7 @@ pub(crate) type Read = unsafe extern "C" fn(*mut c_void, u64, *mut u8, usize) ->
 pub(crate) type Write = unsafe extern "C" fn(*mut c_void, u64, *const u8, usize) -> bool;
 
 #[repr(C)]
+#[derive(Clone, Copy)]
 pub(crate) struct Ram {
     pub context: *mut c_void,
     pub read: Option<Read>,
@@ -247,11 +268,11 @@ pub(crate) struct Handle {
 
 
 def rust_raw(made: Crate) -> str:
-    lines = ["//! The layouts and the calls of bunjelav.h.", "//!", f"//! {NOTICE}", "use core::ffi::c_void;", "",
+    lines = ["//! The layouts and the calls of bunjelav.h.", "//!", f"//! {NOTICE}", "use core::ffi::{c_char, c_int, c_void};", "",
              *RUST_OF_ATTACH]
     for layout in made.layouts:
         lines += rust_struct(layout, made)
-    lines += ["", 'extern "C" {']
+    lines += ["", '#[cfg_attr(not(feature = "std"), allow(dead_code))]', 'extern "C" {']
     for call in made.calls:
         inside = ", ".join(map(rust_parameter, all_passed(call)))
         gives = " -> u32" if call.gives else ""
@@ -260,8 +281,7 @@ def rust_raw(made: Crate) -> str:
             inside = "".join(f"        {rust_parameter(one)},\n" for one in all_passed(call))
             line = f"    pub(crate) fn {call.name}(\n{inside}    ){gives};"
         lines.append(line)
-    lines += ["    pub(crate) fn em_attach(machine: *mut Handle, ram: *const Ram) -> u32;",
-              "    pub(crate) fn em_detach(machine: *mut Handle) -> u32;"]
+    lines += [f"    pub(crate) fn {call}" for call in RUST_OWN_CALLS]
     return "\n".join([*lines, "}", ""])
 
 
@@ -345,7 +365,8 @@ class Handle(Structure):
 
 def python(made: Crate) -> str:
     lines = ['"""Numbers, layouts and calls of bunjelav.h.', "", NOTICE, '"""',
-             "from ctypes import CFUNCTYPE, POINTER, Structure, c_bool, c_size_t, c_uint8, c_uint16, c_uint32, c_uint64, c_void_p",
+             "from ctypes import CFUNCTYPE, POINTER, Structure, c_bool, c_char_p, c_int, c_size_t, c_uint8, c_uint16, c_uint32",
+             "from ctypes import c_uint64, c_void_p",
              "", f'VERSION = "{made.version}"', f"REGISTERS = {made.registers}", f"MOST_SENT = {made.most_sent}",
              f"MOST_WATCHED = {made.sizes['MOST_OCTETS']}", "", "# by name, the number of each refusal", "REFUSALS = {"]
     lines += [f'    "{it.name}": {it.number},' for it in made.refusals]
@@ -364,7 +385,7 @@ def python(made: Crate) -> str:
     for call in made.calls:
         inside = ", ".join(python_parameter(one, made) for one in all_passed(call))
         lines.append(f'    "{call.name}": [{inside}],')
-    lines += ['    "em_attach": [POINTER(Handle), POINTER(Ram)],', '    "em_detach": [POINTER(Handle)],']
+    lines += [f"    {call}" for call in PYTHON_OWN_CALLS]
     return "\n".join([*lines, "}", ""])
 
 

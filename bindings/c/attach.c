@@ -1,39 +1,14 @@
 /* The caller's own memory, attached to a machine: what the calls of bunjelav.h do beside the proved ones.
 
-   bindings/c/build gives the proved calls of these names other ones, proved_ in the place of em_. A call that changes the
-   machine goes through this file; one that looks at it is the proved one itself.
+   A call that changes the machine goes through this file; one that looks at it is the proved one itself.
 
    A step goes so: the proved part tells what it needs; the descriptor is brought, by a memory write where it differs; the
    proved part is asked again, since the rest depends on the descriptor; the rest is brought, also what will be written,
    so that a step back has the caller's octets; the step is made; and what its record says that it wrote goes out. The
    addresses are the guest's throughout: nothing here knows where guest memory begins or ends. */
-#include "bunjelav.h"
+#include "layer.h"
 
 #include <string.h>
-
-/* what a handle's state is: no memory is attached; some is; a function of the caller's is being called */
-enum { ALONE, ATTACHED, CALLING };
-
-/* how many octets a range of a step has at most */
-enum { MOST = 16384 };
-
-#define PROVED(call) extern __typeof__(em_##call) proved_##call
-PROVED(make);
-PROVED(make_with_eeprom);
-PROVED(free);
-PROVED(read);
-PROVED(write);
-PROVED(poke);
-PROVED(sync_in);
-PROVED(sync_in_range);
-PROVED(arrive);
-PROVED(set_link);
-PROVED(rx_step);
-PROVED(tx_step);
-PROVED(run_rx);
-PROVED(run_tx);
-PROVED(back);
-PROVED(tag);
 
 /* ---- the caller's memory */
 
@@ -71,12 +46,15 @@ static void put(uint8_t *to, const uint8_t *from, size_t length) {
   }
 }
 
+/* before a function of the caller's is called, and behind it */
+static void turn(em_machine *machine) { machine->state ^= ATTACHED | CALLING; }
+
 static bool read_ram(em_machine *machine, uint64_t address, uint8_t *out, size_t length) {
-  const em_ram *ram = &machine->ram;
+  const em_ram *ram = ram_of(machine);
   if (ram->read != NULL) {
-    machine->state = CALLING;
+    turn(machine);
     bool could = ram->read(ram->context, address, out, length);
-    machine->state = ATTACHED;
+    turn(machine);
     return could;
   }
   for (size_t piece; length > 0; address += piece, out += piece, length -= piece) {
@@ -89,11 +67,11 @@ static bool read_ram(em_machine *machine, uint64_t address, uint8_t *out, size_t
 }
 
 static bool write_ram(em_machine *machine, uint64_t address, const uint8_t *octets, size_t length) {
-  const em_ram *ram = &machine->ram;
+  const em_ram *ram = ram_of(machine);
   if (ram->write != NULL) {
-    machine->state = CALLING;
+    turn(machine);
     bool could = ram->write(ram->context, address, octets, length);
-    machine->state = ATTACHED;
+    turn(machine);
     return could;
   }
   if (!is_held(ram, address, length)) return false;
@@ -113,7 +91,7 @@ static uint32_t bring(em_machine *machine, em_range range, size_t *events) {
   if (length == 0) return EM_OK;
   if (length > sizeof octets) return EM_LENGTH; /* (no step has such a range) */
   if (!read_ram(machine, range.address, octets, length)) return EM_UNREAD;
-  uint32_t why = proved_sync_in_range(machine, range.address, octets, length, &writes);
+  uint32_t why = BY_KEEPING(machine, sync_in_range, range.address, octets, length, &writes);
   *events += writes;
   return why;
 }
@@ -133,6 +111,13 @@ static uint32_t take_out(em_machine *machine, const em_range ranges[2]) {
 }
 
 /* ---- steps */
+
+/* Takes events back. (From then on an empty journal does not say that there was no event.) */
+static uint32_t go_back(em_machine *machine, size_t n, size_t *done) {
+  uint32_t why = BY_KEEPING(machine, back, n, done);
+  if (why == EM_OK && *done > 0) machine->state |= WENT_BACK;
+  return why;
+}
 
 static bool is_idle(uint32_t kind) { return kind == EM_RX_IDLE || kind == EM_TX_IDLE; }
 
@@ -157,21 +142,29 @@ static uint32_t bring_needs(em_machine *machine, uint32_t side, size_t *events) 
   return why;
 }
 
+static uint32_t step_alone(em_machine *machine, uint32_t side, em_note *event) {
+  return side == EM_RX_RING ? BY_KEEPING(machine, rx_step, event) : BY_KEEPING(machine, tx_step, event);
+}
+
 /* A step over the caller's memory. Where it is refused, what was done for it is taken back. */
-static uint32_t step(em_machine *machine, uint32_t side, em_note *event) {
+static uint32_t step_attached(em_machine *machine, uint32_t side, em_note *event) {
   em_range written[2];
   em_note note;
   size_t events = 0, gone;
   uint32_t why = bring_needs(machine, side, &events);
-  if (why == EM_OK) why = side == EM_RX_RING ? proved_rx_step(machine, &note) : proved_tx_step(machine, &note);
+  if (why == EM_OK) why = step_alone(machine, side, &note);
   if (why == EM_OK && !is_idle(note.kind)) {
     events++;
     why = em_written(machine, 0, written);
     if (why == EM_OK) why = take_out(machine, written);
   }
   if (why == EM_OK) *event = note;
-  else if (events > 0) (void)proved_back(machine, events, &gone);
+  else if (events > 0) (void)go_back(machine, events, &gone);
   return why;
+}
+
+static uint32_t step(em_machine *machine, uint32_t side, em_note *event) {
+  return machine->state & ATTACHED ? step_attached(machine, side, event) : step_alone(machine, side, event);
 }
 
 static uint32_t run(em_machine *machine, uint32_t side, size_t n, size_t *done) {
@@ -193,7 +186,7 @@ static size_t others(em_machine *machine, size_t n) {
   return k;
 }
 
-static uint32_t back(em_machine *machine, size_t n, size_t *done) {
+static uint32_t back_attached(em_machine *machine, size_t n, size_t *done) {
   uint32_t why = EM_OK;
   for (*done = 0; *done < n && why == EM_OK;) {
     em_range written[2] = {{0, 0}, {0, 0}};
@@ -202,7 +195,7 @@ static uint32_t back(em_machine *machine, size_t n, size_t *done) {
       count = 1;
       if (em_written(machine, 0, written) != EM_OK) break;
     }
-    why = proved_back(machine, count, &gone);
+    why = go_back(machine, count, &gone);
     *done += gone;
     if (why == EM_OK) why = take_out(machine, written);
   }
@@ -214,73 +207,84 @@ static uint32_t back(em_machine *machine, size_t n, size_t *done) {
 uint32_t em_attach(em_machine *machine, const em_ram *ram) {
   bool by_calls = ram->read != NULL && ram->write != NULL;
   bool by_regions = ram->read == NULL && ram->write == NULL && ram->count > 0;
-  if (machine->state == CALLING) return EM_BUSY;
+  if (machine->state & CALLING) return EM_BUSY;
   if (!machine->made) return EM_NOT_MADE;
   if (!by_calls && !by_regions) return EM_NO_RAM;
-  machine->ram = *ram;
-  machine->state = ATTACHED;
+  *ram_of(machine) = *ram;
+  machine->state |= ATTACHED;
   return EM_OK;
 }
 
 uint32_t em_detach(em_machine *machine) {
-  if (machine->state == CALLING) return EM_BUSY;
+  if (machine->state & CALLING) return EM_BUSY;
   if (!machine->made) return EM_NOT_MADE;
-  memset(&machine->ram, 0, sizeof machine->ram);
-  machine->state = ALONE;
+  memset(ram_of(machine), 0, sizeof(em_ram));
+  machine->state &= ~(uint32_t)ATTACHED;
   return EM_OK;
 }
 
 void em_free(em_machine *machine) {
-  if (machine->state == CALLING) return;
+  if (machine->state & CALLING) return;
+  keep_no_more(machine);
   (void)em_detach(machine);
   proved_free(machine);
+  machine->state = 0;
 }
 
 uint32_t em_poke(em_machine *machine, uint64_t address, const uint8_t *octets, size_t length) {
   size_t gone;
-  if (machine->state == CALLING) return EM_BUSY;
-  uint32_t why = proved_poke(machine, address, octets, length);
-  if (why != EM_OK || machine->state == ALONE || write_ram(machine, address, octets, length)) return why;
-  (void)proved_back(machine, 1, &gone);
+  if (machine->state & CALLING) return EM_BUSY;
+  uint32_t why = BY_KEEPING(machine, poke, address, octets, length);
+  if (why != EM_OK || !(machine->state & ATTACHED) || write_ram(machine, address, octets, length)) return why;
+  (void)go_back(machine, 1, &gone);
   return EM_UNWRITTEN;
 }
 
-/* where nothing is attached a call is the proved one, and within a function of the caller's it is refused */
-#define BY_STATE(alone, attached) \
-  (machine->state == ALONE ? (alone) : machine->state == ATTACHED ? (attached) : (uint32_t)EM_BUSY)
+/* within a function of the caller's a call is refused */
+#define UNLESS_CALLING(done) (machine->state & CALLING ? (uint32_t)EM_BUSY : (done))
 
-uint32_t em_rx_step(em_machine *machine, em_note *event) {
-  return BY_STATE(proved_rx_step(machine, event), step(machine, EM_RX_RING, event));
-}
+uint32_t em_rx_step(em_machine *machine, em_note *event) { return UNLESS_CALLING(step(machine, EM_RX_RING, event)); }
 
-uint32_t em_tx_step(em_machine *machine, em_note *event) {
-  return BY_STATE(proved_tx_step(machine, event), step(machine, EM_TX_RING, event));
-}
+uint32_t em_tx_step(em_machine *machine, em_note *event) { return UNLESS_CALLING(step(machine, EM_TX_RING, event)); }
+
+/* steps one by one, where memory is attached or the run is kept */
+#define IS_PLAIN (!(machine->state & (ATTACHED | KEPT)))
 
 uint32_t em_run_rx(em_machine *machine, size_t n, size_t *done) {
-  return BY_STATE(proved_run_rx(machine, n, done), run(machine, EM_RX_RING, n, done));
+  return UNLESS_CALLING(IS_PLAIN ? proved_run_rx(machine, n, done) : run(machine, EM_RX_RING, n, done));
 }
 
 uint32_t em_run_tx(em_machine *machine, size_t n, size_t *done) {
-  return BY_STATE(proved_run_tx(machine, n, done), run(machine, EM_TX_RING, n, done));
+  return UNLESS_CALLING(IS_PLAIN ? proved_run_tx(machine, n, done) : run(machine, EM_TX_RING, n, done));
 }
 
 uint32_t em_back(em_machine *machine, size_t n, size_t *done) {
-  return BY_STATE(proved_back(machine, n, done), back(machine, n, done));
+  return UNLESS_CALLING(machine->state & ATTACHED ? back_attached(machine, n, done) : go_back(machine, n, done));
+}
+
+/* A new machine's state has its budget. */
+static uint32_t begun(em_machine *machine, uint64_t budget, uint32_t why) {
+  if (why == EM_OK) machine->state = (uint32_t)budget << BUDGET;
+  return why;
+}
+
+uint32_t em_make(em_machine *machine, uint64_t memory, uint64_t budget, const uint8_t mac[6]) {
+  return UNLESS_CALLING(begun(machine, budget, proved_make(machine, memory, budget, mac)));
+}
+
+uint32_t em_make_with_eeprom(em_machine *machine, uint64_t memory, uint64_t budget, const uint16_t words[64]) {
+  return UNLESS_CALLING(begun(machine, budget, proved_make_with_eeprom(machine, memory, budget, words)));
 }
 
 /* what touches no memory of the caller's */
 #define PASSED(call, parameters, ...) \
-  uint32_t em_##call parameters { return machine->state == CALLING ? (uint32_t)EM_BUSY : proved_##call(__VA_ARGS__); }
+  uint32_t em_##call parameters { return UNLESS_CALLING(BY_KEEPING(machine, call, __VA_ARGS__)); }
 
-PASSED(make, (em_machine *machine, uint64_t memory, uint64_t budget, const uint8_t mac[6]), machine, memory, budget, mac)
-PASSED(make_with_eeprom, (em_machine *machine, uint64_t memory, uint64_t budget, const uint16_t words[64]), machine,
-       memory, budget, words)
-PASSED(read, (em_machine *machine, uint32_t offset, uint32_t *value), machine, offset, value)
-PASSED(write, (em_machine *machine, uint32_t offset, uint32_t value), machine, offset, value)
-PASSED(sync_in, (em_machine *machine, const uint8_t *ram, size_t size, size_t *writes), machine, ram, size, writes)
+PASSED(read, (em_machine *machine, uint32_t offset, uint32_t *value), offset, value)
+PASSED(write, (em_machine *machine, uint32_t offset, uint32_t value), offset, value)
+PASSED(sync_in, (em_machine *machine, const uint8_t *ram, size_t size, size_t *writes), ram, size, writes)
 PASSED(sync_in_range, (em_machine *machine, uint64_t address, const uint8_t *octets, size_t length, size_t *writes),
-       machine, address, octets, length, writes)
-PASSED(arrive, (em_machine *machine, const uint8_t *frame, size_t length, em_note *event), machine, frame, length, event)
-PASSED(set_link, (em_machine *machine, bool up), machine, up)
-PASSED(tag, (em_machine *machine, uint64_t tag), machine, tag)
+       address, octets, length, writes)
+PASSED(arrive, (em_machine *machine, const uint8_t *frame, size_t length, em_note *event), frame, length, event)
+PASSED(set_link, (em_machine *machine, bool up), up)
+PASSED(tag, (em_machine *machine, uint64_t tag), tag)

@@ -2,7 +2,10 @@
 import array
 import copy
 import doctest
+import inspect
 import mmap
+import os
+import tempfile
 import unittest
 from pathlib import Path
 
@@ -275,7 +278,7 @@ class Numbers(unittest.TestCase):
 class Names(unittest.TestCase):
     def test_refusals_have_their_names(self):
         """Each of the library's refusals is an exception of the module, whatever else the module has."""
-        self.assertEqual(len(_tables.REFUSALS), 24)
+        self.assertEqual(len(_tables.REFUSALS), 28)
         for name, number in _tables.REFUSALS.items():
             refusal = getattr(bunjelav, name)
             self.assertTrue(issubclass(refusal, bunjelav.Refused) and issubclass(refusal, Exception), name)
@@ -482,6 +485,101 @@ class Attached(unittest.TestCase):
                 next_one = (next_one + 1) % 8
                 at = RING + 16 * next_one
         self.assertEqual(wanted, 1999)
+
+
+def line() -> int:
+    """The line of the caller."""
+    frame = inspect.currentframe()
+    assert frame is not None and frame.f_back is not None
+    return frame.f_back.f_lineno
+
+
+class Kept(unittest.TestCase):
+    """A run that is kept, with the lines of its callers."""
+
+    HEAD = "# em_debug --memory 65536 --budget 1048576 --mac 525400123456"
+
+    def setUp(self) -> None:
+        folder = tempfile.TemporaryDirectory()
+        self.addCleanup(folder.cleanup)
+        self.path = Path(folder.name) / "run.em"
+
+    def kept(self) -> list:
+        """The lines behind the head; this file by its last name."""
+        lines = self.path.read_text().replace(__file__, "calls.py").splitlines()
+        self.assertEqual(lines[0], self.HEAD)
+        return lines[1:]
+
+    def test_each_event(self):
+        m = Machine()
+        self.assertFalse(m.recording())
+        m.record_to(self.path)
+        at = line()
+        m.link = True
+        m.IMS = 4
+        m.write("IMS", 4)
+        m["IMS"] = 4
+        m.read("ICR"), m["ICR"], m.ICR
+        m.memory[0x3000:0x3003] = b"abc"
+        m.memory[0x3000] = 9
+        m.sync_in_range(0x3000, b"abc")
+        m.arrive(FRAME)
+        m.rx_step(), m.tx_step()
+        m.run()
+        m.back(2)
+        ram = bytearray(m.memory[:])
+        ram[5] = 1
+        m.sync_in(ram)
+        wanted = [
+            f"link up = ok @ calls.py:{at + 1}", *(f"w 000000D0 00000004 = ok @ calls.py:{at + n}" for n in (2, 3, 4)),
+            f"r 000000C0 = 00000004 @ calls.py:{at + 5}", f"poke 0000000000003000 616263 = ok @ calls.py:{at + 6}",
+            f"poke 0000000000003000 09 = ok @ calls.py:{at + 7}", f"poke 0000000000003000 61 = ok @ calls.py:{at + 8}",
+            f"arrive {FRAME.hex().upper()} = dropped disabled @ calls.py:{at + 9}",
+            f"rx = idle @ calls.py:{at + 10}", f"tx = idle @ calls.py:{at + 10}",
+            f"rx = idle @ calls.py:{at + 11}", f"tx = idle @ calls.py:{at + 11}", f"back 2 = back 2 @ calls.py:{at + 12}",
+            f"poke 0000000000000005 01 = ok @ calls.py:{at + 15}",
+        ]
+        self.assertEqual(self.kept(), wanted)
+        self.assertTrue(m.recording())
+        self.assertRaises(bunjelav.Recorded, m.record_to, self.path)
+        m.close()
+        self.assertEqual(self.kept(), wanted)
+
+    def test_without_places(self):
+        m = Machine()
+        m.record_to(str(self.path), places=False)
+        m.IMS = 1
+        m.tag(0x1234)
+        m.IMS = 1
+        self.assertEqual(self.kept(), ["w 000000D0 00000001 = ok", "w 000000D0 00000001 = ok @ 0x0000000000001234"])
+
+    def test_what_is_refused(self):
+        m = Machine()
+        with self.assertRaises(bunjelav.File) as refused:
+            m.record_to("/nowhere/at/all")
+        self.assertIsInstance(refused.exception.__cause__, FileNotFoundError)
+        m.IMS = 1
+        self.assertRaises(bunjelav.Begun, m.record_to, self.path)
+        m.back()
+        self.assertRaises(bunjelav.Begun, m.record_to, self.path)
+        self.assertFalse(m.recording())
+        self.assertFalse(self.path.exists())
+        m.close()
+        self.assertRaises(bunjelav.NotMade, m.record_to, self.path)
+        self.assertRaises(bunjelav.NotMade, m.recording)
+
+    def test_a_pipe_that_nobody_reads_any_more(self):
+        os.mkfifo(self.path)
+        reader = os.open(self.path, os.O_RDONLY | os.O_NONBLOCK)
+        m = Machine()
+        m.record_to(self.path)
+        os.close(reader)
+        m.IMS = 4
+        self.assertEqual(m.read("IMS"), 4)
+        self.assertRaises(BrokenPipeError, m.recording)
+        self.assertFalse(m.recording())
+        m.IMS = 8
+        self.assertEqual(m.read("IMS"), 12)
 
 
 class Docs(unittest.TestCase):

@@ -11,6 +11,7 @@
     m.back()                       # takes the newest event back
     m.last_change("ICR")           # who changed it last?
     m.attach(ram)                  # the adapter works on a bytearray, an mmap, or what else has octets
+    m.record_to("core.em")         # from the first event on each is kept, with your line: em_debug core.em
 
 A register is named as in the manual, in either case of its letters, or by its offset. A call that the model refuses
 raises the exception of the refusal's name, as NoRegister or Range; it has changed nothing.
@@ -26,6 +27,7 @@ import ctypes
 import html
 import operator
 import os
+import sys
 from pathlib import Path
 from typing import Any, Callable, Dict, Iterable, Iterator, List, NamedTuple, NoReturn, Optional, Union, overload
 
@@ -56,7 +58,7 @@ def _found() -> Path:
     raise ImportError("there is no libbunjelav.so: BUNJELAV_LIBRARY says where it lies, or bindings/c/build makes it")
 
 
-_library = ctypes.CDLL(str(_found()))
+_library = ctypes.CDLL(str(_found()), use_errno=True)
 for _name, _types in _tables.CALLS.items():
     _call = getattr(_library, _name)
     _call.argtypes, _call.restype = _types, None if _name == "em_free" else _U32
@@ -70,6 +72,9 @@ def _text(call: Callable[..., int], *words: int) -> Optional[str]:
     room, length = ctypes.create_string_buffer(128), SIZE_T()
     return room.raw[: length.value].decode() if call(*words, room, 128, ctypes.byref(length)) == DONE else None
 
+
+# the names of this file, by which its frames are known
+_OWN = globals()
 
 _BY_NUMBER = {refusal.number: refusal for refusal in Refused.__subclasses__()}
 
@@ -292,7 +297,8 @@ class _Region:
         size = memoryview(ram).nbytes
         self._octets = (ctypes.c_uint8 * size).from_buffer(ram)
         self._region = _tables.Region(base, size, ctypes.addressof(self._octets))
-        self.raw = _tables.Ram(None, _tables.READ(), _tables.WRITE(), ctypes.pointer(self._region), 1)
+        # (without functions)
+        self.raw = _tables.Ram(regions=ctypes.pointer(self._region), count=1)
 
 
 class Machine:
@@ -305,6 +311,7 @@ class Machine:
     _handle: _tables.Handle
     _at: Any
     _ram: Union[None, _Functions, _Region]
+    _places: Optional[Dict[str, bytes]]
     memory: GuestMemory
 
     def __init__(
@@ -318,6 +325,7 @@ class Machine:
         set_own("_handle", _tables.Handle())
         set_own("_at", ctypes.byref(self._handle))
         set_own("_ram", None)
+        set_own("_places", None)
         set_own("memory", GuestMemory(self))
         sizes = _number(memory, 64, "a size", "Size"), _number(budget, 64, "a budget", "Budget")
         if eeprom is not None:
@@ -361,15 +369,66 @@ class Machine:
         _must(call(self._at, *words, ctypes.byref(room)))
         return int(room.value)
 
+    # ---- a run that is kept
+
+    def record_to(self, path: Union[str, bytes, "os.PathLike[str]"], places: bool = True) -> None:
+        """Keeps what happens to the machine from now on in a file, which is made, or made empty: each event as a line of the
+        script language, with its answer and, unless `places` is false, with the line of the caller. It is written before its
+        call returns, so it is there however the process ends; `em_debug FILE` takes it. The machine may have performed no
+        event (else Begun). Where the file can't be opened, File is raised from the OSError. Without places a tag stands
+        there.
+
+        >>> import tempfile
+        >>> path = Path(tempfile.mkdtemp()) / "core.em"
+        >>> m = Machine()
+        >>> m.record_to(path)
+        >>> m.IMS = 4
+        >>> print(path.read_text().splitlines()[1])  # doctest: +ELLIPSIS
+        w 000000D0 00000004 = ok @ ...:1
+        """
+        number = _library.em_record_to(self._at, os.fsencode(path))
+        if number == _tables.REFUSALS["File"]:
+            error = ctypes.get_errno()
+            raise _refused(number) from OSError(error, os.strerror(error), os.fsdecode(path))
+        _must(number)
+        super().__setattr__("_places", {} if places else None)
+
+    def recording(self) -> bool:
+        """Whether the run is kept, and all that happened is in the file. Where the file could not be written, OSError says
+        why, once; from then on the run is not kept."""
+        error = ctypes.c_int()
+        number = _library.em_recording_status(self._at, ctypes.byref(error))
+        if number == _tables.REFUSALS["Unrecorded"]:
+            return False
+        if number == _tables.REFUSALS["File"]:
+            super().__setattr__("_places", None)
+            raise OSError(error.value, os.strerror(error.value))
+        _must(number)
+        return True
+
+    def _here(self) -> None:
+        """Tells the library which line the next call comes from: that of the newest frame outside of this file."""
+        if self._places is None:
+            return
+        frame = sys._getframe(1)
+        while frame.f_globals is _OWN and frame.f_back is not None:
+            frame = frame.f_back
+        name = frame.f_code.co_filename
+        if name not in self._places:  # (the library keeps no copy)
+            self._places[name] = os.fsencode(name)
+        _library.em_source(self._at, self._places[name], frame.f_lineno)
+
     # ---- registers
 
     def read(self, register: Register) -> int:
         """The driver reads a register: an event, which may clear it."""
+        self._here()
         return self._told(_library.em_read, _U32(), offset_of(register))
 
     def write(self, register: Register, value: int) -> None:
         """The driver writes a register."""
         given = _number(value, 32, "what a register holds")
+        self._here()
         _must(_library.em_write(self._at, offset_of(register), given))
 
     def look(self, register: Register) -> int:
@@ -410,6 +469,7 @@ class Machine:
     def poke(self, address: int, octets: bytes) -> None:
         """The driver writes 1 to 16,384 octets to guest memory: one event."""
         given = _octets(octets, "what is written")
+        self._here()
         self._over(_library.em_poke(self._at, _number(address, 64, "an address", "Range"), given, len(given)))
 
     def sync_out(self, ram: bytearray) -> None:
@@ -424,6 +484,7 @@ class Machine:
         memory, the writes before stay."""
         writes, view = SIZE_T(), memoryview(ram)
         octets = bytes(view) if view.readonly else (ctypes.c_uint8 * view.nbytes).from_buffer(ram)
+        self._here()
         _must(_library.em_sync_in(self._at, octets, view.nbytes, ctypes.byref(writes)), writes.value)
         return writes.value
 
@@ -438,6 +499,7 @@ class Machine:
         last, or by none. Gives how many."""
         writes, given = SIZE_T(), _octets(octets, "what is written")
         at = _number(address, 64, "an address", "Range")
+        self._here()
         _must(_library.em_sync_in_range(self._at, at, given, len(given), ctypes.byref(writes)))
         return writes.value
 
@@ -480,7 +542,7 @@ class Machine:
         if not is_buffer and not all(has):
             raise TypeError(f"memory is a buffer, or has read and write, and not {type(ram).__name__}")
         at = _number(base, 64, "an address", "Range")
-        kept = _Region(ram, at) if is_buffer else _Functions(ram)
+        kept: Union[_Region, _Functions] = _Region(ram, at) if is_buffer else _Functions(ram)
         _must(_library.em_attach(self._at, ctypes.byref(kept.raw)))
         super().__setattr__("_ram", kept)
 
@@ -517,18 +579,21 @@ class Machine:
     def arrive(self, frame: bytes) -> Event:
         """A frame arrives; the event says what became of it."""
         note, given = _tables.Note(), _octets(frame, "a frame")
+        self._here()
         _must(_library.em_arrive(self._at, given, len(given), ctypes.byref(note)))
         return _event(note)
 
     def rx_step(self) -> Event:
         """The receive engine handles a descriptor."""
         note = _tables.Note()
+        self._here()
         self._over(_library.em_rx_step(self._at, ctypes.byref(note)))
         return _event(note)
 
     def tx_step(self) -> Event:
         """The transmit engine handles a descriptor."""
         note = _tables.Note()
+        self._here()
         self._over(_library.em_tx_step(self._at, ctypes.byref(note)))
         return _event(note)
 
@@ -536,6 +601,7 @@ class Machine:
         """Both engines step until they are idle, first that which receives, and each at most so many times; gives how
         many steps were not idle. A refusal has as many as `done`, and is the end."""
         steps, most = 0, _number(most, 64, "a number of steps")
+        self._here()
         for engine in (_library.em_run_rx, _library.em_run_tx):
             done = SIZE_T()
             number = engine(self._at, most, ctypes.byref(done))
@@ -550,6 +616,7 @@ class Machine:
 
     @link.setter
     def link(self, up: bool) -> None:
+        self._here()
         _must(_library.em_set_link(self._at, bool(up)))
 
     @property
@@ -573,6 +640,7 @@ class Machine:
         """Takes the newest n events back, or as many as the journal holds; gives how many. Where attached memory refuses
         to be written it stops: `done` of Unwritten then counts the step whose octets were not put back, too."""
         done = SIZE_T()
+        self._here()
         number = _library.em_back(self._at, _number(n, 64, "a number of events"), ctypes.byref(done))
         self._over(number, done.value)
         return done.value

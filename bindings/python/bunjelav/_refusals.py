@@ -5,7 +5,7 @@ Written by bindings/tables.py, of the crate em_c: change it there, and run that.
 __all__ = [
     "Refused", "NoRegister", "Range", "Length", "DmaRange", "Extended", "TooLong", "Memory", "Budget", "NotMade",
     "MadeAlready", "Size", "NoFrame", "Room", "NoEvent", "NoChange", "NoWatch", "NoName", "NoRefusal", "NoRing",
-    "NoDescriptor", "Busy", "Unread", "Unwritten", "NoRam",
+    "NoDescriptor", "Busy", "Unread", "Unwritten", "NoRam", "Begun", "Recorded", "File", "Unrecorded",
 ]
 
 
@@ -161,3 +161,27 @@ class NoRam(Refused):
     """What is attached has neither both functions nor a region."""
 
     number = 41
+
+
+class Begun(Refused):
+    """A run is kept from its first event on, and the machine has performed one."""
+
+    number = 42
+
+
+class Recorded(Refused):
+    """The run is kept already."""
+
+    number = 43
+
+
+class File(Refused):
+    """The file was not opened, or not written."""
+
+    number = 44
+
+
+class Unrecorded(Refused):
+    """The run is not kept."""
+
+    number = 45

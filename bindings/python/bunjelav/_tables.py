@@ -2,7 +2,8 @@
 
 Written by bindings/tables.py, of the crate em_c: change it there, and run that.
 """
-from ctypes import CFUNCTYPE, POINTER, Structure, c_bool, c_size_t, c_uint8, c_uint16, c_uint32, c_uint64, c_void_p
+from ctypes import CFUNCTYPE, POINTER, Structure, c_bool, c_char_p, c_int, c_size_t, c_uint8, c_uint16, c_uint32
+from ctypes import c_uint64, c_void_p
 
 VERSION = "0.1.0"
 REGISTERS = 350
@@ -35,6 +36,10 @@ REFUSALS = {
     "Unread": 39,
     "Unwritten": 40,
     "NoRam": 41,
+    "Begun": 42,
+    "Recorded": 43,
+    "File": 44,
+    "Unrecorded": 45,
 }
 
 # by number, what each kind of event is called
@@ -195,4 +200,7 @@ CALLS = {
     "em_wire_frame": [POINTER(Handle), c_size_t, c_void_p, c_size_t, POINTER(c_size_t)],
     "em_attach": [POINTER(Handle), POINTER(Ram)],
     "em_detach": [POINTER(Handle)],
+    "em_record_to": [POINTER(Handle), c_char_p],
+    "em_recording_status": [POINTER(Handle), POINTER(c_int)],
+    "em_source": [POINTER(Handle), c_char_p, c_uint32],
 }

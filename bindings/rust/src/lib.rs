@@ -37,6 +37,8 @@ mod event;
 mod machine;
 mod ram;
 mod raw;
+#[cfg(feature = "std")]
+mod record;
 mod refusal;
 mod ring;
 mod tables;

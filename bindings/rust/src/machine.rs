@@ -4,6 +4,7 @@ use crate::raw;
 use crate::raw::{Range, Register, RingSetup};
 use crate::{Change, Descriptor, Event, Needs, Refusal, Ring, Stopped, Watch, MOST_SENT};
 use core::cell::UnsafeCell;
+use core::panic::Location;
 
 /// An adapter with its guest's memory and a journal of its latest events.
 ///
@@ -11,9 +12,14 @@ use core::cell::UnsafeCell;
 /// handle while it lasts.
 pub struct Machine {
     handle: UnsafeCell<raw::Handle>,
+    /// What is attached, as the library was given it.
+    attached: raw::Ram,
     /// The memory that is attached, or the table of its regions.
     #[cfg(feature = "std")]
     kept: Option<crate::ram::Kept>,
+    /// The places of a run that is kept.
+    #[cfg(feature = "std")]
+    places: Option<crate::record::Places>,
 }
 
 // SAFETY: a machine shares nothing but the memory that is attached, which is Send, or for which its caller stands; and it
@@ -54,8 +60,11 @@ impl Machine {
         let handle = raw::Handle { made: false, held: core::ptr::null_mut(), ram: raw::Ram::none(), state: 0 };
         Machine {
             handle: UnsafeCell::new(handle),
+            attached: raw::Ram::none(),
             #[cfg(feature = "std")]
             kept: None,
+            #[cfg(feature = "std")]
+            places: None,
         }
     }
 
@@ -63,15 +72,86 @@ impl Machine {
     // and it is borrowed while its memory is asked), each pointer is to a value or a slice that lives through the call,
     // and each length is that of its slice.
 
+    /// Where the next call comes from.
+    pub(crate) fn here(&mut self, _at: &'static Location<'static>) {
+        #[cfg(feature = "std")]
+        if let Some(places) = &mut self.places {
+            if let Some((file, line)) = places.of(_at) {
+                unsafe { raw::em_source(self.handle.get(), file, line) };
+            }
+        }
+    }
+
+    /// Keeps what happens to the machine from now on in a file, which is made, or made empty: each event as a line of the
+    /// script language, with its answer and with the line of the caller. It is written before its call returns, so it is
+    /// there however the process ends; `em_debug FILE` takes it. Refused as [`Refusal::Begun`] where the machine has
+    /// performed an event, [`Refusal::Recorded`], [`Refusal::Memory`] or [`Refusal::File`]; of the last,
+    /// `std::io::Error::last_os_error` says why.
+    ///
+    /// ```
+    /// # use bunjelav::{offset_of, Machine, Refusal};
+    /// # fn main() -> Result<(), Refusal> {
+    /// # let path = std::env::temp_dir().join(format!("bunjelav-{}.em", std::process::id()));
+    /// let mut m = Machine::new(65_536, 1 << 20, [0x52, 0x54, 0x00, 0x12, 0x34, 0x56])?;
+    /// m.record_to(&path)?;
+    /// m.write(offset_of("IMS")?, 4)?;
+    /// let text = std::fs::read_to_string(&path).unwrap();
+    /// assert!(text.contains("\nw 000000D0 00000004 = ok @ "));
+    /// # std::fs::remove_file(&path).unwrap();
+    /// # Ok(())
+    /// # }
+    /// ```
+    #[cfg(feature = "std")]
+    pub fn record_to<P: AsRef<std::path::Path>>(&mut self, path: P) -> Result<(), Refusal> {
+        let path = crate::record::c_path(path.as_ref()).ok_or(Refusal::File)?;
+        told(unsafe { raw::em_record_to(self.handle.get(), path.as_ptr()) }, ())?;
+        self.places = Some(crate::record::Places::new());
+        Ok(())
+    }
+
+    /// Whether the run is kept, and all that happened is in the file; where the file could not be written, why. That is
+    /// told once, and from then on the run is not kept.
+    #[cfg(feature = "std")]
+    pub fn recording(&mut self) -> Result<bool, std::io::Error> {
+        let mut error = 0;
+        match told(unsafe { raw::em_recording_status(self.handle.get(), &mut error) }, ()) {
+            Ok(()) => Ok(true),
+            Err(Refusal::File) => Err(std::io::Error::from_raw_os_error(error)),
+            Err(_) => Ok(false),
+        }
+    }
+
+    /// Whether the lines of a run that is kept have the lines of the callers. They do, from
+    /// [`record_to`](Machine::record_to) on; where they do not, the [`tag`](Machine::tag) stands there.
+    #[cfg(feature = "std")]
+    pub fn tell_places(&mut self, are_told: bool) {
+        if let Some(places) = &mut self.places {
+            places.are_told = are_told;
+        }
+        if !are_told {
+            unsafe { raw::em_source(self.handle.get(), core::ptr::null(), 0) };
+        }
+    }
+
+    /// The places that are told, which others may be in the place of for one call.
+    #[cfg(feature = "std")]
+    pub(crate) fn places(&mut self) -> Option<&mut crate::record::Places> {
+        self.places.as_mut()
+    }
+
     /// The driver reads the register at an offset.
+    #[track_caller]
     pub fn read(&mut self, offset: u32) -> Result<u32, Refusal> {
+        self.here(Location::caller());
         let mut value = 0;
         told(unsafe { raw::em_read(self.handle.get(), offset, &mut value) }, ())?;
         Ok(value)
     }
 
     /// The driver writes a register.
+    #[track_caller]
     pub fn write(&mut self, offset: u32, value: u32) -> Result<(), Refusal> {
+        self.here(Location::caller());
         told(unsafe { raw::em_write(self.handle.get(), offset, value) }, ())
     }
 
@@ -147,7 +227,7 @@ impl Machine {
     #[cfg(feature = "std")]
     pub fn attach<R: Ram + Send + 'static>(&mut self, ram: R) -> Result<(), Refusal> {
         let (kept, at) = crate::ram::Kept::new(ram);
-        told(unsafe { raw::em_attach(self.handle.get(), &crate::ram::raw_ram(at)) }, ())?;
+        self.put_ram(crate::ram::raw_ram(at))?;
         self.kept = Some(kept);
         Ok(())
     }
@@ -164,34 +244,41 @@ impl Machine {
     #[cfg(feature = "std")]
     pub unsafe fn attach_regions(&mut self, regions: &[raw::Region]) -> Result<(), Refusal> {
         let (kept, at) = crate::ram::Kept::new(regions.to_vec());
-        told(raw::em_attach(self.handle.get(), &crate::ram::raw_regions(&*at)), ())?;
+        self.put_ram(crate::ram::raw_regions(&*at))?;
         self.kept = Some(kept);
         Ok(())
     }
 
     /// From now on guest memory is the machine's own again. What [`attach`](Machine::attach) was given is dropped.
     pub fn detach(&mut self) {
-        unsafe { raw::em_detach(self.handle.get()) };
+        self.take_ram();
         #[cfg(feature = "std")]
         {
             self.kept = None;
         }
     }
 
-    /// Attaches memory in the place of what is attached, which it gives.
-    pub(crate) fn swap_ram(&mut self, ram: raw::Ram) -> raw::Ram {
-        let handle = self.handle.get_mut();
-        let was = core::mem::replace(&mut handle.ram, raw::Ram::none());
-        unsafe { raw::em_attach(handle, &ram) };
-        was
+    /// Attaches memory in the place of what is attached.
+    fn put_ram(&mut self, ram: raw::Ram) -> Result<(), Refusal> {
+        told(unsafe { raw::em_attach(self.handle.get(), &ram) }, ())?;
+        self.attached = ram;
+        Ok(())
     }
 
-    /// Attaches what was attached before, or nothing.
-    pub(crate) fn restore_ram(&mut self, was: raw::Ram) {
+    /// From now on nothing is attached.
+    fn take_ram(&mut self) {
         unsafe { raw::em_detach(self.handle.get()) };
-        if was.is_some() {
-            unsafe { raw::em_attach(self.handle.get(), &was) };
+        self.attached = raw::Ram::none();
+    }
+
+    /// Attaches memory, or nothing, in the place of what is attached, which it gives.
+    pub(crate) fn swap_ram(&mut self, ram: raw::Ram) -> raw::Ram {
+        let was = self.attached;
+        match ram.is_some() {
+            true => drop(self.put_ram(ram)),
+            false => self.take_ram(),
         }
+        was
     }
 
     /// Which octets of guest memory the next step of a ring's engine reads and writes, by what the machine has.
@@ -217,7 +304,9 @@ impl Machine {
     /// Makes guest memory what `ram` is, which has to be as large, by a memory write in each page of 4,096 octets that
     /// differs: from its first octet that differs to its last. Gives how many. Where the host refuses memory, the
     /// writes before stay, and are told.
+    #[track_caller]
     pub fn sync_in(&mut self, ram: &[u8]) -> Result<usize, Stopped> {
+        self.here(Location::caller());
         let mut writes = 0;
         let number = unsafe { raw::em_sync_in(self.handle.get(), ram.as_ptr(), ram.len(), &mut writes) };
         stopped(number, writes)
@@ -230,7 +319,9 @@ impl Machine {
 
     /// Makes guest memory what `octets` are from an address on, by one memory write from the first that differs to the
     /// last, or by none; gives how many.
+    #[track_caller]
     pub fn sync_in_range(&mut self, address: u64, octets: &[u8]) -> Result<usize, Refusal> {
+        self.here(Location::caller());
         let mut writes = 0;
         let (at, length) = (octets.as_ptr(), octets.len());
         told(unsafe { raw::em_sync_in_range(self.handle.get(), address, at, length, &mut writes) }, ())?;
@@ -238,7 +329,9 @@ impl Machine {
     }
 
     /// The driver writes 1 to 16,384 octets to guest memory.
+    #[track_caller]
     pub fn poke(&mut self, address: u64, octets: &[u8]) -> Result<(), Refusal> {
+        self.here(Location::caller());
         told(unsafe { raw::em_poke(self.handle.get(), address, octets.as_ptr(), octets.len()) }, ())
     }
 
@@ -255,26 +348,34 @@ impl Machine {
     }
 
     /// A frame arrives; the event says what became of it.
+    #[track_caller]
     pub fn arrive(&mut self, frame: &[u8]) -> Result<Event, Refusal> {
+        self.here(Location::caller());
         let mut note = raw::Note::default();
         told(unsafe { raw::em_arrive(self.handle.get(), frame.as_ptr(), frame.len(), &mut note) }, ())?;
         Ok(Event::of(note))
     }
 
     /// The link goes up, or down.
+    #[track_caller]
     pub fn set_link(&mut self, up: bool) -> Result<(), Refusal> {
+        self.here(Location::caller());
         told(unsafe { raw::em_set_link(self.handle.get(), up) }, ())
     }
 
     /// The receive engine handles a descriptor.
+    #[track_caller]
     pub fn rx_step(&mut self) -> Result<Event, Refusal> {
+        self.here(Location::caller());
         let mut note = raw::Note::default();
         told(unsafe { raw::em_rx_step(self.handle.get(), &mut note) }, ())?;
         Ok(Event::of(note))
     }
 
     /// The transmit engine handles a descriptor.
+    #[track_caller]
     pub fn tx_step(&mut self) -> Result<Event, Refusal> {
+        self.here(Location::caller());
         let mut note = raw::Note::default();
         told(unsafe { raw::em_tx_step(self.handle.get(), &mut note) }, ())?;
         Ok(Event::of(note))
@@ -282,7 +383,9 @@ impl Machine {
 
     /// The receive engine steps until it is idle, and at most `n` times; gives how many steps were not
     /// idle, also where the next one was refused.
+    #[track_caller]
     pub fn run_rx(&mut self, n: usize) -> Result<usize, Stopped> {
+        self.here(Location::caller());
         let mut done = 0;
         let number = unsafe { raw::em_run_rx(self.handle.get(), n, &mut done) };
         stopped(number, done)
@@ -290,7 +393,9 @@ impl Machine {
 
     /// The transmit engine steps until it is idle, and at most `n` times; gives how many steps were not
     /// idle, also where the next one was refused.
+    #[track_caller]
     pub fn run_tx(&mut self, n: usize) -> Result<usize, Stopped> {
+        self.here(Location::caller());
         let mut done = 0;
         let number = unsafe { raw::em_run_tx(self.handle.get(), n, &mut done) };
         stopped(number, done)
@@ -326,13 +431,16 @@ impl Machine {
 
     /// Takes the newest `n` events back, or as many as the journal holds; gives how many. Where memory is attached that
     /// can refuse to be written, [`try_back`](Machine::try_back) tells of it.
+    #[track_caller]
     pub fn back(&mut self, n: usize) -> usize {
         self.try_back(n).unwrap_or_else(|stopped| stopped.done)
     }
 
     /// The same, which stops where attached memory refuses to be written: `done` then counts the step whose octets were
     /// not put back, too.
+    #[track_caller]
     pub fn try_back(&mut self, n: usize) -> Result<usize, Stopped> {
+        self.here(Location::caller());
         let mut done = 0;
         let number = unsafe { raw::em_back(self.handle.get(), n, &mut done) };
         stopped(number, done)
@@ -346,6 +454,8 @@ impl Machine {
     }
 
     /// The tag of the events from now on.
+    ///
+    /// In the lines of a run that is kept it stands as a program counter where their places are turned off.
     pub fn tag(&mut self, tag: u64) {
         unsafe { raw::em_tag(self.handle.get(), tag) };
     }

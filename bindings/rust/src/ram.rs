@@ -2,6 +2,7 @@
 use crate::raw;
 use crate::{Event, Machine, Refusal, Stopped};
 use core::ffi::c_void;
+use core::panic::Location;
 use core::ptr;
 
 /// Memory of the caller's, at the addresses that the guest has. Each of the two gives whether it could.
@@ -134,40 +135,58 @@ pub struct Over<'a, R: Ram + ?Sized> {
 }
 
 impl<R: Ram + ?Sized> Over<'_, R> {
+    #[track_caller]
     fn with<T>(&mut self, call: impl FnOnce(&mut Machine) -> T) -> T {
+        self.machine.here(Location::caller());
+        self.hold_place(true);
         let mut ram = &mut *self.ram;
         let was = self.machine.swap_ram(raw_ram(&mut ram));
         let told = call(self.machine);
-        self.machine.restore_ram(was);
+        self.machine.swap_ram(was);
+        self.hold_place(false);
         told
     }
 
+    /// The place that was told stays, whoever calls.
+    fn hold_place(&mut self, _holds: bool) {
+        #[cfg(feature = "std")]
+        if let Some(places) = self.machine.places() {
+            places.are_held = _holds;
+        }
+    }
+
     /// The receive engine handles a descriptor.
+    #[track_caller]
     pub fn rx_step(&mut self) -> Result<Event, Refusal> {
         self.with(Machine::rx_step)
     }
 
     /// The transmit engine handles a descriptor.
+    #[track_caller]
     pub fn tx_step(&mut self) -> Result<Event, Refusal> {
         self.with(Machine::tx_step)
     }
 
     /// The receive engine steps until it is idle, as [`Machine::run_rx`].
+    #[track_caller]
     pub fn run_rx(&mut self, n: usize) -> Result<usize, Stopped> {
         self.with(|machine| machine.run_rx(n))
     }
 
     /// The transmit engine steps until it is idle, as [`Machine::run_tx`].
+    #[track_caller]
     pub fn run_tx(&mut self, n: usize) -> Result<usize, Stopped> {
         self.with(|machine| machine.run_tx(n))
     }
 
     /// The driver writes octets to both memories.
+    #[track_caller]
     pub fn poke(&mut self, address: u64, octets: &[u8]) -> Result<(), Refusal> {
         self.with(|machine| machine.poke(address, octets))
     }
 
     /// Takes events back, as [`Machine::try_back`]; what steps wrote over is put back in the caller's memory.
+    #[track_caller]
     pub fn back(&mut self, n: usize) -> Result<usize, Stopped> {
         self.with(|machine| machine.try_back(n))
     }

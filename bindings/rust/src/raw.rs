@@ -1,7 +1,7 @@
 //! The layouts and the calls of bunjelav.h.
 //!
 //! Written by bindings/tables.py, of the crate em_c: change it there, and run that.
-use core::ffi::c_void;
+use core::ffi::{c_char, c_int, c_void};
 
 /// A part of memory of the caller's, as [`crate::Machine::attach_regions`] takes it.
 #[repr(C)]
@@ -19,6 +19,7 @@ pub(crate) type Read = unsafe extern "C" fn(*mut c_void, u64, *mut u8, usize) ->
 pub(crate) type Write = unsafe extern "C" fn(*mut c_void, u64, *const u8, usize) -> bool;
 
 #[repr(C)]
+#[derive(Clone, Copy)]
 pub(crate) struct Ram {
     pub context: *mut c_void,
     pub read: Option<Read>,
@@ -111,6 +112,7 @@ pub(crate) struct Change {
     pub before: [u8; 16],
 }
 
+#[cfg_attr(not(feature = "std"), allow(dead_code))]
 extern "C" {
     pub(crate) fn em_registers(machine: *mut Handle, out: *mut Register, room: usize, count: *mut usize) -> u32;
     pub(crate) fn em_back(machine: *mut Handle, n: usize, done: *mut usize) -> u32;
@@ -161,4 +163,7 @@ extern "C" {
     ) -> u32;
     pub(crate) fn em_attach(machine: *mut Handle, ram: *const Ram) -> u32;
     pub(crate) fn em_detach(machine: *mut Handle) -> u32;
+    pub(crate) fn em_record_to(machine: *mut Handle, path: *const c_char) -> u32;
+    pub(crate) fn em_recording_status(machine: *mut Handle, error: *mut c_int) -> u32;
+    pub(crate) fn em_source(machine: *mut Handle, file: *const c_char, line: u32) -> u32;
 }

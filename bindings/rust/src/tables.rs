@@ -76,12 +76,20 @@ pub enum Refusal {
     Unwritten,
     /// What is attached has neither both functions nor a region.
     NoRam,
+    /// A run is kept from its first event on, and the machine has performed one.
+    Begun,
+    /// The run is kept already.
+    Recorded,
+    /// The file was not opened, or not written.
+    File,
+    /// The run is not kept.
+    Unrecorded,
     /// Another number, which this binding does not know.
     Other(u32),
 }
 
 /// Each refusal with its number.
-pub(crate) const REFUSALS: [(Refusal, u32); 24] = [
+pub(crate) const REFUSALS: [(Refusal, u32); 28] = [
     (Refusal::NoRegister, 1),
     (Refusal::Range, 2),
     (Refusal::Length, 3),
@@ -106,6 +114,10 @@ pub(crate) const REFUSALS: [(Refusal, u32); 24] = [
     (Refusal::Unread, 39),
     (Refusal::Unwritten, 40),
     (Refusal::NoRam, 41),
+    (Refusal::Begun, 42),
+    (Refusal::Recorded, 43),
+    (Refusal::File, 44),
+    (Refusal::Unrecorded, 45),
 ];
 
 /// What kind of event it was, with what came of it.

@@ -397,3 +397,81 @@ fn tells_ranges() {
     assert_eq!(m.sync_in_range(0, &[0; 16_385]), Err(Refusal::Length));
     assert_eq!(m.sync_out_range(65_535, &mut out), Err(Refusal::Range));
 }
+
+/// The lines that a run left in a file, without its head; the folder's name is left out.
+fn lines_of(path: &std::path::Path) -> Vec<String> {
+    let text = std::fs::read_to_string(path).unwrap();
+    let mut lines = text.lines().map(|line| line.replace("tests/", ""));
+    assert_eq!(lines.next().unwrap(), "# em_debug --memory 65536 --budget 1048576 --mac 525400123456");
+    lines.collect()
+}
+
+#[test]
+fn keeps_a_run() {
+    let path = std::env::temp_dir().join(format!("bunjelav-{}-run.em", std::process::id()));
+    let mut m = made();
+    assert!(!m.recording().unwrap());
+    m.record_to(&path).unwrap();
+    assert_eq!(m.record_to(&path), Err(Refusal::Recorded));
+    let line = line!();
+    m.set_link(true).unwrap();
+    m.write(IMS, 4).unwrap();
+    assert_eq!(m.read(IMS), Ok(4));
+    assert_eq!(m.write(4, 1), Err(Refusal::NoRegister));
+    m.poke(0x3000, b"abc").unwrap();
+    assert_eq!((m.sync_in_range(0x3000, b"abd"), m.run_rx(9), m.run_tx(9), m.back(2)), (Ok(1), Ok(0), Ok(0), 2));
+    let told = ["link up = ok", "w 000000D0 00000004 = ok", "r 000000D0 = 00000004", "w 00000004 00000001 = refused NoRegister",
+        "poke 0000000000003000 616263 = ok"];
+    let mut wanted: Vec<_> = (line + 1..).zip(told).map(|(n, told)| format!("{told} @ calls.rs:{n}")).collect();
+    for told in ["poke 0000000000003002 64 = ok", "rx = idle", "tx = idle", "back 2 = back 2"] {
+        wanted.push(format!("{told} @ calls.rs:{}", line + 6));
+    }
+    assert_eq!(lines_of(&path), wanted);
+    // through memory that is lent, and a method of the caller's that hands its own caller's place on
+    let mut ram = vec![0; 65_536];
+    m.over(&mut ram[..]).poke(0, b"x").unwrap();
+    wanted.push(format!("poke 0000000000000000 78 = ok @ calls.rs:{}", line!() - 1));
+    #[track_caller]
+    fn written(m: &mut Machine) {
+        m.write(IMS, 8).unwrap();
+    }
+    written(&mut m);
+    wanted.push(format!("w 000000D0 00000008 = ok @ calls.rs:{}", line!() - 1));
+    // turned off, a tag stands there
+    m.tell_places(false);
+    m.write(IMS, 1).unwrap();
+    m.tag(0x1234);
+    m.write(IMS, 1).unwrap();
+    m.tell_places(true);
+    wanted.extend(["w 000000D0 00000001 = ok", "w 000000D0 00000001 = ok @ 0x0000000000001234"].map(String::from));
+    assert_eq!(lines_of(&path), wanted);
+    assert!(m.recording().unwrap());
+    drop(m);
+    assert_eq!(lines_of(&path), wanted);
+    std::fs::remove_file(&path).unwrap();
+}
+
+#[test]
+fn tells_where_a_run_is_not_kept() {
+    let mut m = made();
+    assert_eq!(m.record_to("/nowhere/at/all"), Err(Refusal::File));
+    assert_eq!(m.record_to("a\0b"), Err(Refusal::File));
+    assert_eq!(m.record_to("/dev/full"), Err(Refusal::File));
+    assert_eq!(std::io::Error::last_os_error().kind(), std::io::ErrorKind::StorageFull);
+    // a pipe that nobody reads any more
+    let path = std::env::temp_dir().join(format!("bunjelav-{}-pipe", std::process::id()));
+    assert!(std::process::Command::new("mkfifo").arg(&path).status().unwrap().success());
+    let reader = std::thread::spawn({
+        let path = path.clone();
+        move || std::fs::File::open(path).unwrap()
+    });
+    m.record_to(&path).unwrap();
+    drop(reader.join().unwrap());
+    m.write(IMS, 4).unwrap();
+    assert_eq!(m.read(IMS), Ok(4));
+    assert_eq!(m.recording().unwrap_err().kind(), std::io::ErrorKind::BrokenPipe);
+    assert!(!m.recording().unwrap());
+    m.write(IMS, 8).unwrap();
+    assert_eq!(m.record_to(&path), Err(Refusal::Begun));
+    std::fs::remove_file(&path).unwrap();
+}

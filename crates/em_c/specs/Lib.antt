@@ -16,3 +16,5 @@ pub mod Ranges
 pub mod Difference
 pub mod Sync
 pub mod SyncRange
+pub mod Text
+pub mod Kept

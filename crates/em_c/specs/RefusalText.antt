@@ -4,7 +4,7 @@ use Rattle.em_c.specs.declared.refused.Refused.{Refused}
 use Rattle.em_c.specs.declared.refused.Refused.TheVariants.{NoRegister, Range, Length, DmaRange, Extended, TooLong}
 use Rattle.em_c.specs.declared.refused.Refused.TheVariants.{Memory, Budget, NoMachine, HasMachine, Size, NoFrame, Room}
 use Rattle.em_c.specs.declared.refused.Refused.TheVariants.{NoEvent, NoChange, NoWatch, NoName, NoRefusal, NoRing, NoDescriptor}
-use Rattle.em_c.specs.declared.refused.Refused.TheVariants.{Busy, Unread, Unwritten, NoRam}
+use Rattle.em_c.specs.declared.refused.Refused.TheVariants.{Busy, Unread, Unwritten, NoRam, Begun, Recorded, File, Unrecorded}
 
 -- its name, and a sentence
 abbrev pub text_of : Refused → List ℕ
@@ -32,6 +32,10 @@ text_of Busy = codes "Busy: a function of the caller's memory made the call"
 text_of Unread = codes "Unread: the caller's memory was not read"
 text_of Unwritten = codes "Unwritten: the caller's memory was not written"
 text_of NoRam = codes "NoRam: the caller's memory has two functions, or a table of regions"
+text_of Begun = codes "Begun: a run is kept from its first event on"
+text_of Recorded = codes "Recorded: the run is kept already"
+text_of File = codes "File: the file was not opened, or not written"
+text_of Unrecorded = codes "Unrecorded: the run is not kept"
 
 abbrev pub with_number : ℕ → Option Refused
 with_number code =
@@ -59,6 +63,10 @@ with_number code =
     else if code == 39 then Some Unread
     else if code == 40 then Some Unwritten
     else if code == 41 then Some NoRam
+    else if code == 42 then Some Begun
+    else if code == 43 then Some Recorded
+    else if code == 44 then Some File
+    else if code == 45 then Some Unrecorded
     else None
 
 abbrev pub text_or_none : Option Refused → Result (List ℕ) Refused

@@ -27,7 +27,7 @@ pub extern "C" fn em_can_go_back(alloc: Global, machine: &mut EmMachine, count: 
 }
 
 /// Takes events back.
-fn back(alloc: Global, machine: &mut EmMachine, n: usize) -> Result<usize, Refused>
+pub fn back(alloc: Global, machine: &mut EmMachine, n: usize) -> Result<usize, Refused>
     ensures done { result ≡ steps_back machine.old.sealed.held n }
     ensures held { machine.new.sealed.held ≡ held_back machine.old.sealed.held n }
 {

@@ -49,6 +49,10 @@ fn with_number(code: u32) -> Option<Refused>
         39 => Some(Refused::Unread),
         40 => Some(Refused::Unwritten),
         41 => Some(Refused::NoRam),
+        42 => Some(Refused::Begun),
+        43 => Some(Refused::Recorded),
+        44 => Some(Refused::File),
+        45 => Some(Refused::Unrecorded),
         _ => None,
     }
 }
@@ -83,5 +87,9 @@ fn text_of(refused: Refused) -> &'static str
         Refused::Unread => "Unread: the caller's memory was not read",
         Refused::Unwritten => "Unwritten: the caller's memory was not written",
         Refused::NoRam => "NoRam: the caller's memory has two functions, or a table of regions",
+        Refused::Begun => "Begun: a run is kept from its first event on",
+        Refused::Recorded => "Recorded: the run is kept already",
+        Refused::File => "File: the file was not opened, or not written",
+        Refused::Unrecorded => "Unrecorded: the run is not kept",
     }
 }

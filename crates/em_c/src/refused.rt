@@ -7,8 +7,8 @@ use em_step::Refusal;
 /// The number that a call gives where nothing refused it.
 pub const DONE: u32 = 0;
 
-/// Why a call did nothing. Each reason has a number of its own. From 38 on they are those of bindings/c/attach.c, which
-/// lies over the calls.
+/// Why a call did nothing. Each reason has a number of its own. From 38 on they are those of bindings/c, which lies over
+/// the calls.
 #[derive(Clone, Copy, PartialEq, Eq, Debug)]
 pub enum Refused {
     /// No register lies at the offset.
@@ -59,6 +59,14 @@ pub enum Refused {
     Unwritten = 40,
     /// What is attached has neither both functions nor a region.
     NoRam = 41,
+    /// A run is kept from its first event on, and the machine has performed one.
+    Begun = 42,
+    /// The run is kept already.
+    Recorded = 43,
+    /// The file was not opened, or not written.
+    File = 44,
+    /// The run is not kept.
+    Unrecorded = 45,
 }
 
 impl Refused {

@@ -13,6 +13,7 @@ mod compare;
 mod disk;
 mod faults;
 mod files;
+mod head;
 mod help;
 mod marks;
 mod session;
@@ -22,6 +23,7 @@ use crate::compare::{Wanted, compare};
 use crate::disk::Host;
 use crate::faults::{NO_MEMORY, bench_text, console_fault, open_fault, see_commands};
 use crate::files::{file_fault, read_script, tell_bad_lines, tell_marks};
+use crate::head::{Head, has_own_eeprom, head_of, settings_of, without_torn_line};
 use crate::help::{HELP, VERSION};
 use crate::marks::Marks;
 use crate::session::Served;
@@ -31,7 +33,7 @@ use em_console::{Answers, Console, LineConsole, prompt_for, serve};
 use em_debugger::{Added, Debugger, Disk, Score};
 use em_ending::Ending;
 use em_input::{BUDGETS, MACS, SIZES};
-use em_journal::SettingsRefusal;
+use em_journal::{Settings, SettingsRefusal};
 use em_options::{Options, OptionsRefused, options};
 use em_script::BenchFault;
 use std::fs::File;
@@ -130,6 +132,45 @@ fn without_options<R: Print + Eprint>(rt: &R, refused: &OptionsRefused) -> u8 {
     ending.after_print(is_printed).status()
 }
 
+/// The script, where there is one, or why it is not read; and what it says that its machine was made of.
+#[derive(Drop)]
+struct Script<'a> {
+    name: &'a str,
+    text: Option<Result<Vec<u8>>>,
+    head: Option<Head>,
+}
+
+impl<'a> Script<'a> {
+    /// Reads it. Of a run that was kept as it happened a last line that was cut is left out.
+    fn read<R: Files + Input + Eprint + AllocGlobal>(rt: &R, name: Option<&'a str>) -> Script<'a> {
+        let Some(name) = name else {
+            return Script {
+                name: "",
+                text: None,
+                head: None,
+            };
+        };
+        let mut read = read_script(rt, name);
+        let mut head = None;
+        if let Ok(text) = &mut read {
+            head = head_of(rt.alloc(), text.as_slice()).unwrap_or_default();
+            if head.is_some() {
+                without_torn_line(text);
+                if has_own_eeprom(text.as_slice()) {
+                    let _ = eprintln!(rt;
+                        "em_debug: {name}: line 2: the EEPROM's words are not taken"
+                    );
+                }
+            }
+        }
+        Script {
+            name,
+            text: Some(read),
+            head,
+        }
+    }
+}
+
 /// Makes the machine, plays the script, answers lines, and gives the status.
 fn with_options<R: Files + Input + Print + Eprint + AllocGlobal>(
     rt: &R,
@@ -145,14 +186,16 @@ fn with_options<R: Files + Input + Print + Eprint + AllocGlobal>(
         Ok(Some(fault)) => return refused(rt, fault.as_str()),
         Err(_) => return failed(rt, NO_MEMORY),
     }
-    match Debugger::new(rt.alloc(), options.settings()) {
+    let script = Script::read(rt, options.script);
+    let settings = settings_of(words, options, script.head);
+    match Debugger::new(rt.alloc(), settings) {
         Ok(debugger) => {
             let mut served = Served {
                 debugger,
                 disk: Host { rt },
                 marks: None,
             };
-            let ended = with_capture(rt, &mut served, options.script, words, prompt);
+            let ended = with_capture(rt, &mut served, script, words, prompt);
             let score = served.debugger.score();
             // The system takes its memory back when the program ends, all at once.
             mem::forget(served);
@@ -164,19 +207,19 @@ fn with_options<R: Files + Input + Print + Eprint + AllocGlobal>(
                 }
             }
         }
-        Err(refusal) => without_machine(rt, options, refusal),
+        Err(refusal) => without_machine(rt, settings, refusal),
     }
 }
 
 /// Says why there is no machine, and gives the status.
-fn without_machine<R: Eprint>(rt: &R, options: &Options<'_>, refusal: SettingsRefusal) -> u8 {
+fn without_machine<R: Eprint>(rt: &R, settings: Settings, refusal: SettingsRefusal) -> u8 {
     match refusal {
         SettingsRefusal::Size => {
-            let _ = eprintln!(rt; "em_debug: --memory {}: {SIZES}", options.memory);
+            let _ = eprintln!(rt; "em_debug: --memory {}: {SIZES}", settings.memory);
             REFUSED
         }
         SettingsRefusal::Budget => {
-            let _ = eprintln!(rt; "em_debug: --budget {}: {BUDGETS}", options.budget);
+            let _ = eprintln!(rt; "em_debug: --budget {}: {BUDGETS}", settings.budget);
             REFUSED
         }
         SettingsRefusal::Memory => failed(rt, NO_MEMORY),
@@ -225,7 +268,7 @@ fn with_score<R: Print>(rt: &R, score: Score, found: Found, words: &Words) -> u8
 fn with_capture<R: Files + Input + Print + Eprint + AllocGlobal>(
     rt: &R,
     served: &mut Served<Host<'_, R>>,
-    script: Option<&str>,
+    script: Script<'_>,
     words: &Words,
     prompt: &[u8],
 ) -> Result<Found> {
@@ -245,14 +288,19 @@ fn with_capture<R: Files + Input + Print + Eprint + AllocGlobal>(
 fn with_session<R: Files + Input + Print + Eprint + AllocGlobal>(
     rt: &R,
     served: &mut Served<Host<'_, R>>,
-    script: Option<&str>,
+    script: Script<'_>,
     words: &Words,
     prompt: &[u8],
 ) -> Result<Found> {
     let mut text = Vec::new(rt.alloc());
     let mut bad = 0;
-    if let Some(name) = script {
-        let script = read_script(rt, name)?;
+    let Script {
+        name,
+        text: read,
+        ..
+    } = script;
+    if let Some(read) = read {
+        let script = read?;
         let added = served.debugger.add_lines(script.as_slice());
         // Where all were added and none is bad, they need not be looked at again.
         if !matches!(added, Ok(Added { are_read: true, .. })) {

@@ -150,6 +150,21 @@ impl Words {
         Ok(Before::Other)
     }
 
+    /// Whether one of the words is this option, with its value behind it or in it.
+    pub fn says(&self, option: &str) -> bool {
+        for word in self.options.iter() {
+            if word.as_str() == "--" {
+                return false;
+            }
+            if let Some(behind) = word.as_str().strip_prefix(option) {
+                if behind.is_empty() || behind.starts_with("=") {
+                    return true;
+                }
+            }
+        }
+        false
+    }
+
     fn put(&mut self, word: String) -> Result<(), AllocError> {
         self.options.push(word)?;
         Ok(())

@@ -1,0 +1,80 @@
+/* What the parts of the C library beside the proved one share. No caller sees it.
+
+   bindings/c/build gives the proved calls that stand below as PROVED other names, proved_ in the place of em_. A call that
+   changes the machine goes through attach.c; from there through keep.c where the run is kept, else to the proved one. */
+#ifndef BUNJELAV_LAYER_H
+#define BUNJELAV_LAYER_H
+
+#include "bunjelav.h"
+
+#define PROVED(call) extern __typeof__(em_##call) proved_##call
+PROVED(make);
+PROVED(make_with_eeprom);
+PROVED(free);
+PROVED(read);
+PROVED(write);
+PROVED(poke);
+PROVED(sync_in);
+PROVED(sync_in_range);
+PROVED(arrive);
+PROVED(set_link);
+PROVED(rx_step);
+PROVED(tx_step);
+PROVED(run_rx);
+PROVED(run_tx);
+PROVED(back);
+PROVED(tag);
+
+/* What a handle's state has: whether memory is attached, or a function of it is being called (one of these two at most);
+   whether the run is kept, in which case the handle has a `kept` in the place of what is attached; whether events were taken
+   back; and above these the journal's budget. */
+enum { ATTACHED = 1, CALLING = 2, KEPT = 4, WENT_BACK = 8, BUDGET = 4 };
+
+/* how many octets a memory write has at most */
+enum { MOST = 16384 };
+
+/* ---- a kept run */
+
+/* room for the lines of a call, as the crate em_c has it */
+typedef struct kept_text {
+  size_t used;
+  uint8_t octets[49152];
+} kept_text;
+
+typedef struct kept {
+  em_ram ram;       /* what is attached */
+  int file;         /* where the lines go; below 0 where they go nowhere any more */
+  int fault;        /* by which error, then */
+  const char *name; /* where the next calls come from: a line of this file, */
+  uint32_t line;
+  uint64_t counter; /* or else this program counter, where it is not 0 */
+  kept_text text;
+} kept;
+
+static inline kept *kept_of(const em_machine *machine) { return (kept *)machine->ram.context; }
+
+static inline em_ram *ram_of(em_machine *machine) {
+  return machine->state & KEPT ? &kept_of(machine)->ram : &machine->ram;
+}
+
+/* Ends the keeping of a run, where one is kept: what is attached stays so. */
+void keep_no_more(em_machine *machine);
+
+/* The calls of these names, of a run that is kept. */
+#define KEPT_CALL(call) extern __typeof__(em_##call) keep_##call
+KEPT_CALL(read);
+KEPT_CALL(write);
+KEPT_CALL(poke);
+KEPT_CALL(sync_in);
+KEPT_CALL(sync_in_range);
+KEPT_CALL(arrive);
+KEPT_CALL(set_link);
+KEPT_CALL(rx_step);
+KEPT_CALL(tx_step);
+KEPT_CALL(back);
+KEPT_CALL(tag);
+
+#define BY_KEEPING(machine, call, ...) \
+  ((machine)->state & KEPT ? keep_##call((machine), __VA_ARGS__) : proved_##call((machine), __VA_ARGS__))
+
+#endif
