@@ -4,7 +4,6 @@
 #include <stdio.h>
 #include <string.h>
 
-#include "mirror.h"
 #include "say.h"
 
 enum {
@@ -18,7 +17,10 @@ enum {
   TAIL = 0x18,
   LEAST_BUDGET = 65536, /* of the journal, which is not asked here: the run is */
   LEAST_FRAME = 60,
-  MOST_WAITING = 16
+  MOST_WAITING = 16,
+  STATUS = 12, /* of a receive descriptor, in which EOP says that the frame ends there */
+  STATUS_EOP = 2,
+  MOST_GIVEN = 262144 /* octets that are looked at before one write of a tail; a step brings in the rest */
 };
 
 bool device_make(struct device *device, const uint8_t mac[6], struct run *run, frame_sent *on_sent, void *whose) {
@@ -31,6 +33,7 @@ bool device_make(struct device *device, const uint8_t mac[6], struct run *run, f
       .whose = whose,
   };
   if (em_make(&device->machine, MODEL_MEMORY, LEAST_BUDGET, mac) != EM_OK) return false;
+  if (!ram_attach(&device->ram, &device->machine)) return false;
   run_remark(run, "a guest's run, kept by em_guest: it plays with --memory %d --mac %02X%02X%02X%02X%02X%02X",
              MODEL_MEMORY, mac[0], mac[1], mac[2], mac[3], mac[4], mac[5]);
   if (em_set_link(&device->machine, true) == EM_OK) run_link(run, true);
@@ -38,7 +41,7 @@ bool device_make(struct device *device, const uint8_t mac[6], struct run *run, f
 }
 
 void device_free(struct device *device) {
-  memory_close(&device->memory);
+  memory_close(&device->ram.memory);
   em_free(&device->machine);
 }
 
@@ -60,10 +63,15 @@ static struct ring *ring_of_base(struct device *device, uint32_t offset) {
   return NULL;
 }
 
+static void count_access(struct device *device, uint32_t offset) {
+  device->tally.accesses++;
+  if (device->on_access) device->on_access(device->whose, offset);
+}
+
 uint32_t device_read(struct device *device, uint32_t offset) {
   uint32_t value = 0, refusal = em_read(&device->machine, offset, &value);
   const struct ring *ring = ring_of_base(device, offset);
-  device->tally.accesses++;
+  count_access(device, offset);
   if (refusal != EM_OK) {
     device->tally.refused++;
     device->refused_reads[offset / 4]++;
@@ -80,8 +88,8 @@ static uint32_t split_base(struct ring *ring, uint32_t offset, uint32_t value) {
     ring->beyond = (ring->beyond & low) | (uint64_t)value << 32;
     return 0;
   }
-  ring->beyond = (ring->beyond & ~low) | mirror_beyond(value);
-  return (uint32_t)mirror_place(value);
+  ring->beyond = (ring->beyond & ~low) | ram_beyond(value);
+  return (uint32_t)ram_place(value);
 }
 
 /* What a write of CTRL with RST leaves of what is kept here. */
@@ -108,13 +116,25 @@ static void perform_write(struct device *device, uint32_t offset, uint32_t value
   run_write(device->run, offset, value, refusal, here(device), remark);
 }
 
+/* Brings in what the guest has written and is about to give to an engine by this value of its tail. */
+static void bring_given(struct device *device, const struct ring *ring, uint32_t tail) {
+  em_ring_setup setup;
+  size_t octets = 0, piece = 0;
+  if (em_ring(&device->machine, ring->side, &setup) != EM_OK || setup.tail >= setup.count || tail >= setup.count)
+    return;
+  for (uint32_t i = setup.tail; i != tail && octets < MOST_GIVEN; i = (i + 1) % setup.count, octets += piece) {
+    ram_begin(&device->ram, &setup, ring->side, i, ring->beyond);
+    if (!ram_bring(&device->ram, &device->machine, device->run, before(device), &piece)) return;
+  }
+}
+
 void device_write(struct device *device, uint32_t offset, uint32_t value) {
   struct ring *ring = ring_of_base(device, offset);
   uint32_t held = value;
   char remark[32];
-  device->tally.accesses++;
-  if (offset == RDBAL + TAIL) mirror_given_in(device, &device->receive, value, before(device));
-  if (offset == TDBAL + TAIL) mirror_given_in(device, &device->transmit, value, before(device));
+  count_access(device, offset);
+  if (offset == RDBAL + TAIL) bring_given(device, &device->receive, value);
+  if (offset == TDBAL + TAIL) bring_given(device, &device->transmit, value);
   if (ring) held = split_base(ring, offset, value);
   snprintf(remark, sizeof remark, "the guest wrote %08" PRIX32, value);
   perform_write(device, offset, held, held != value ? remark : NULL);
@@ -177,78 +197,53 @@ static bool has_descriptor(const struct device *device, const struct ring *ring,
          setup->enabled && setup->head < setup->count && setup->tail < setup->count && setup->head != setup->tail;
 }
 
-static void stop(struct device *device, struct ring *ring, const char *what, uint64_t address) {
+/* An engine looked for what is no guest memory. */
+static void stop(struct device *device, struct ring *ring) {
   const char *engine = ring->side == EM_RX_RING ? "receive" : "transmit";
+  const struct ram *ram = &device->ram;
   ring->is_stopped = true;
-  run_remark(device->run, "the %s engine stands still: %s at %" PRIX64 " is no guest memory", engine, what, address);
+  run_remark(device->run, "the %s engine stands still: %s at %" PRIX64 " %s", engine, ram->what, ram->where, ram->why);
   if (device->tally.outside++ == 0)
-    say("the %s engine stands still: %s at %" PRIX64 " is no guest memory", engine, what, address);
+    say("the %s engine stands still: %s at %" PRIX64 " %s", engine, ram->what, ram->where, ram->why);
 }
 
-static void refuse(struct device *device, struct ring *ring) {
+/* Lets an engine handle the descriptor at its head. False where the step was refused, or the guest's memory is not
+   there: the engine stands still then. */
+static bool step(struct device *device, struct ring *ring, const em_ring_setup *setup, em_note *note) {
+  bool is_receive = ring->side == EM_RX_RING;
+  ram_begin(&device->ram, setup, ring->side, setup->head, ring->beyond);
+  uint32_t refusal = is_receive ? em_rx_step(&device->machine, note) : em_tx_step(&device->machine, note);
+  ram_end(&device->ram, &device->machine, device->run, before(device), refusal != EM_OK);
+  if (device->ram.what) return stop(device, ring), false;
+  run_step(device->run, is_receive ? "rx" : "tx", refusal, note);
+  if (refusal == EM_OK) return true;
   ring->is_stopped = true;
   device->tally.steps_refused++;
-}
-
-static uint64_t place_of(const struct ring *ring, const em_ring_setup *setup) {
-  return setup->base + ring->beyond + UINT64_C(16) * setup->head;
+  return false;
 }
 
 /* Handles a descriptor of the receive ring, where a frame waits for it. */
 static bool receive(struct device *device) {
-  struct ring *ring = &device->receive;
-  struct descriptor descriptor;
   em_ring_setup setup;
   em_note note = {0};
   uint8_t status = 0;
-  if (device->waiting == 0 || !has_descriptor(device, ring, &setup)) return false;
-  if (!mirror_descriptor_in(device, ring, &setup, setup.head, &descriptor, before(device))) {
-    stop(device, ring, "a descriptor", place_of(ring, &setup));
-    return false;
-  }
-  if (!memory_has(&device->memory, descriptor.address, setup.buffer)) {
-    stop(device, ring, "a buffer", descriptor.address);
-    return false;
-  }
-  uint32_t refusal = em_rx_step(&device->machine, &note);
-  run_step(device->run, "rx", refusal, &note);
-  if (refusal != EM_OK) {
-    refuse(device, ring);
-    return false;
-  }
+  if (device->waiting == 0 || !has_descriptor(device, &device->receive, &setup)) return false;
+  if (!step(device, &device->receive, &setup, &note)) return false;
   if (note.kind == EM_RX_IDLE) {
     device->waiting = 0;
     return false;
   }
-  if (!mirror_received_out(device, &setup, setup.head, &descriptor, &status))
-    stop(device, ring, "a buffer", descriptor.address);
-  if (status & 2) device->waiting--;
+  (void)em_peek(&device->machine, device->ram.work.place + STATUS, &status, 1);
+  if (status & STATUS_EOP) device->waiting--;
   return true;
 }
 
 /* Handles a descriptor of the transmit ring. */
 static bool transmit(struct device *device) {
-  struct ring *ring = &device->transmit;
-  struct descriptor descriptor;
   em_ring_setup setup;
   em_note note = {0};
-  if (!has_descriptor(device, ring, &setup)) return false;
-  if (!mirror_descriptor_in(device, ring, &setup, setup.head, &descriptor, before(device))) {
-    stop(device, ring, "a descriptor", place_of(ring, &setup));
-    return false;
-  }
-  if (!mirror_buffer_in(device, &descriptor, before(device))) {
-    stop(device, ring, "a buffer", descriptor.address);
-    return false;
-  }
-  uint32_t refusal = em_tx_step(&device->machine, &note);
-  run_step(device->run, "tx", refusal, &note);
-  if (refusal != EM_OK) {
-    refuse(device, ring);
-    return false;
-  }
-  if (note.kind == EM_TX_IDLE) return false;
-  if (!mirror_status_out(device, &setup, setup.head)) stop(device, ring, "a descriptor", place_of(ring, &setup));
+  if (!has_descriptor(device, &device->transmit, &setup)) return false;
+  if (!step(device, &device->transmit, &setup, &note) || note.kind == EM_TX_IDLE) return false;
   hand_on(device);
   return true;
 }

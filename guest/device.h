@@ -8,11 +8,10 @@
 #include <stdint.h>
 
 #include "bunjelav.h"
-#include "memory.h"
+#include "ram.h"
 #include "run.h"
 
 enum {
-  MODEL_MEMORY = 16777216, /* the most that the library's guest memory can be */
   REGISTERS_END = 0x20000,
   MOST_FRAME = 20000,
   MOST_STEPS = 64 /* how many descriptors are handled before a guest or the wire is looked at again */
@@ -33,10 +32,11 @@ struct tally {
 };
 
 typedef void frame_sent(void *whose, const uint8_t *frame, size_t length);
+typedef void register_accessed(void *whose, uint32_t offset);
 
 struct device {
   em_machine machine;
-  struct memory memory;
+  struct ram ram;
   struct run *run;
   struct ring receive, transmit;
   bool is_master;   /* the guest lets it use memory */
@@ -44,7 +44,8 @@ struct device {
   size_t sent;      /* frames of the model's wire that were handed on */
   uint64_t counter; /* the guest's program counter at this access; 0 where it is not known */
   frame_sent *on_sent;
-  void *whose;
+  register_accessed *on_access; /* or NULL */
+  void *whose;                  /* of both */
   struct tally tally;
   uint32_t refused_reads[REGISTERS_END / 4], refused_writes[REGISTERS_END / 4];
 };

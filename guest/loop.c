@@ -1,6 +1,7 @@
 #include "loop.h"
 
 #include <errno.h>
+#include <inttypes.h>
 #include <poll.h>
 #include <signal.h>
 #include <sys/signalfd.h>
@@ -18,8 +19,9 @@ enum {
   SIGNALS,
   LISTENER,
   FILES,
-  MOST_FRAMES = 32, /* that are taken before QEMU is looked at again */
-  KEEP_AFTER = 100  /* milliseconds, after which the run is put into its file */
+  MOST_FRAMES = 32,    /* that are taken before QEMU is looked at again */
+  KEEP_AFTER = 100,    /* milliseconds, after which the run is put into its file */
+  MOST_WARNINGS = 4096 /* octets of those that come at once */
 };
 
 static const uint64_t SECOND = 1000000000, MILLISECOND = 1000000;
@@ -44,10 +46,34 @@ void loop_sent(void *whose, const uint8_t *frame, size_t length) {
   wire_send(&guest->wire, frame, length);
 }
 
+/* Lets em_debug have the terminal, while the guest waits. */
+static void hold(struct guest *guest, const char *why) {
+  run_flush(&guest->run);
+  say("the guest is held behind line %" PRIu64 " of the run: %s. `quit` lets it go on", guest->run.lines, why);
+  guest->ended = hold_guest(&guest->hold, guest->process, guest->signals);
+}
+
+void loop_accessed(void *whose, uint32_t offset) {
+  struct guest *guest = whose;
+  stop_accessed(&guest->stops, offset);
+}
+
+void loop_look(void *whose) {
+  struct guest *guest = whose;
+  char warnings[MOST_WARNINGS] = "", why[MOST_WHY];
+  if (guest->stops.count == 0 || guest->ended != 0) return;
+  if (guest->warner.process != 0) {
+    run_flush(&guest->run);
+    warner_ask(&guest->warner, warnings, sizeof warnings);
+  }
+  if (stop_is_due(&guest->stops, &guest->session.device.tally, warnings, why)) hold(guest, why);
+}
+
 static void arrive(struct guest *guest, const uint8_t *frame, size_t length) {
   capture(guest, frame, length);
   device_arrive(&guest->session.device, frame, length);
   session_turn(&guest->session);
+  loop_look(guest);
 }
 
 static void take_wire(struct guest *guest) {
@@ -112,7 +138,9 @@ static void watch(const struct guest *guest, struct pollfd files[FILES]) {
   const struct session *session = &guest->session;
   for (int i = 0; i < FILES; i++) files[i] = (struct pollfd){.events = POLLIN};
   files[QEMU].fd = session->channel.socket;
-  files[WIRE].fd = device_is_full(&session->device) ? -1 : guest->wire.socket;
+  files[WIRE].events =
+      (short)((device_is_full(&session->device) ? 0 : POLLIN) | (wire_waits(&guest->wire) ? POLLOUT : 0));
+  files[WIRE].fd = files[WIRE].events ? guest->wire.file : -1;
   files[QTEST].fd = session->interrupt.qtest;
   files[RESAMPLE].fd = session->interrupt.resample;
   files[SIGNALS].fd = guest->signals;
@@ -127,7 +155,8 @@ int loop_serve(struct guest *guest) {
     watch(guest, files);
     if (poll(files, FILES, patience(guest, due)) < 0 && errno != EINTR) return -1;
     int signal = files[SIGNALS].revents ? loop_signal(guest) : 0;
-    if (signal != 0) return signal;
+    if (signal == SIGINT && stop_has(&guest->stops, STOP_KEY)) hold(guest, "Ctrl-C");
+    else if (signal != 0) return signal;
     if (files[LISTENER].revents) turn_away(guest);
     if (files[QTEST].revents) interrupt_answer(&session->interrupt);
     if (files[RESAMPLE].revents) interrupt_resample(&session->interrupt);
@@ -136,8 +165,13 @@ int loop_serve(struct guest *guest) {
       if (took == ENDED) return 0;
       if (took == BROKEN) return -1;
     }
+    if (files[WIRE].revents) wire_go_on(&guest->wire);
     if (files[WIRE].revents) take_wire(guest);
-    if (session->has_more) session_turn(session);
+    if (session->has_more) {
+      session_turn(session);
+      loop_look(guest);
+    }
+    if (guest->ended != 0) return guest->ended;
     keep_run(guest);
   }
 }

@@ -22,13 +22,13 @@
 
 enum { WELL = 0, DIED = 1, BAD_WORDS = 2, NOT_OPENED = 3, PATIENCE = 3000 };
 
-/* The plugin lies beside the program. */
-static bool find_plugin(char path[PATH_MAX]) {
+/* The path of a file by its name from the program's folder. */
+static bool find_beside(char path[PATH_MAX], const char *name) {
   char own[PATH_MAX];
   ssize_t length = readlink("/proc/self/exe", own, sizeof own - 1);
   if (length <= 0) return false;
   own[length] = '\0';
-  int wrote = snprintf(path, PATH_MAX, "%s/counter.so", dirname(own));
+  int wrote = snprintf(path, PATH_MAX, "%s/%s", dirname(own), name);
   return wrote > 0 && wrote < PATH_MAX;
 }
 
@@ -39,18 +39,39 @@ static int catch_signals(void) {
   sigaddset(&caught, SIGINT);
   sigaddset(&caught, SIGTERM);
   sigaddset(&caught, SIGHUP);
+  sigaddset(&caught, SIGQUIT);
   sigaddset(&caught, SIGCHLD);
   signal(SIGPIPE, SIG_IGN);
   if (sigprocmask(SIG_BLOCK, &caught, NULL) != 0) return -1;
   return signalfd(-1, &caught, SFD_CLOEXEC | SFD_NONBLOCK);
 }
 
+static bool open_wire(struct wire *wire, const struct options *options) {
+  if (options->tap) return wire_tap(wire, options->tap);
+  if (options->peer) return wire_start(wire, options->peer);
+  return !options->net || strncmp(options->net, "unix:", 5) != 0 || wire_bind(wire, options->net + 5);
+}
+
+/* What --stop-at wants. */
+static bool prepare_stops(struct guest *guest, const struct options *options, const char *debugger) {
+  memcpy(guest->stops.list, options->stops, sizeof guest->stops.list);
+  guest->stops.count = options->stop_count;
+  guest->hold.run = options->run;
+  guest->hold.symbols = options->symbols;
+  hold_make(&guest->hold);
+  debugger_make(&guest->hold.debugger, options->debugger ? options->debugger : debugger, options->mac);
+  guest->session.before_answer = loop_look;
+  guest->session.whose = guest;
+  guest->session.device.on_access = loop_accessed;
+  if (!stop_has(&guest->stops, STOP_WARNING)) return true;
+  return warner_start(&guest->warner, debugger_words(&guest->hold.debugger, NULL), options->run);
+}
+
 static bool open_files(struct guest *guest, const struct options *options) {
   if (!run_open(&guest->run, options->run, options->over)) return false;
   if (options->pcap_in && !capture_open(&guest->capture_in, options->pcap_in)) return false;
   if (options->pcap_out && !(guest->capture_out = capture_create(options->pcap_out, options->over))) return false;
-  if (options->net && strncmp(options->net, "unix:", 5) == 0 && !wire_bind(&guest->wire, options->net + 5))
-    return false;
+  if (!open_wire(&guest->wire, options)) return false;
   if (device_make(&guest->session.device, options->mac, &guest->run, loop_sent, guest)) return true;
   say("there is no memory for the adapter");
   return false;
@@ -87,7 +108,7 @@ static bool start_qemu(struct guest *guest, const struct options *options, const
     if (!counter_share(&guest->session.counter)) return false;
     handed[count++] = (struct handed){guest->session.counter.file, COUNTER_FILE};
   }
-  guest->process = start(words->list, handed, count);
+  guest->process = start(words->list, handed, count, true);
   close(device[1]);
   if (qtest[1] >= 0) close(qtest[1]);
   if (wire >= 0) close(wire);
@@ -130,14 +151,15 @@ static void close_files(struct guest *guest) {
   run_close(&guest->run);
   capture_close(&guest->capture_in);
   if (guest->capture_out && fclose(guest->capture_out) != 0) say("--pcap-out: the capture can't be written");
+  warner_end(&guest->warner);
   wire_close(&guest->wire);
   interrupt_close(&guest->session.interrupt);
   counter_close(&guest->session.counter);
   device_free(&guest->session.device);
 }
 
-static int serve(struct guest *guest, const struct options *options, const struct words *words) {
-  bool is_ready = open_files(guest, options);
+static int serve(struct guest *guest, const struct options *options, const struct words *words, const char *debugger) {
+  bool is_ready = open_files(guest, options) && prepare_stops(guest, options, debugger);
   if (is_ready && options->listen) is_ready = listen_at(options->listen, &guest->listener);
   choose_inputs(&guest->session.interrupt, options);
   int status = NOT_OPENED;
@@ -149,9 +171,10 @@ static int serve(struct guest *guest, const struct options *options, const struc
   }
   listen_end(options->listen, guest->listener);
   run_flush(&guest->run);
-  if (is_ready && status != NOT_OPENED) report(&guest->session.device, &guest->run, options);
+  if (is_ready && status != NOT_OPENED)
+    report(&guest->session.device, &guest->run, guest->wire.lost, &guest->hold.debugger, options->run);
   close_files(guest);
-  if (is_ready && options->symbols && !symbols_name(options->run, options->symbols) && status == WELL)
+  if (is_ready && options->symbols && !symbols_name(options->run, options->run, options->symbols) && status == WELL)
     status = NOT_OPENED;
   return status;
 }
@@ -160,11 +183,13 @@ int main(int count, char **given) {
   static struct guest guest;
   struct options options;
   struct words words = {0};
-  char plugin[PATH_MAX] = "";
+  char plugin[PATH_MAX] = "", debugger[PATH_MAX] = "";
   enum parsed parsed = options_parse(&options, count, given);
   if (parsed != PARSED) return parsed == HELPED ? WELL : BAD_WORDS;
-  if (options.name) return symbols_name(options.name, options.symbols) ? WELL : NOT_OPENED;
-  if (options.words && (!find_plugin(plugin) || !words_make(&words, &options, plugin))) {
+  if (options.name) return symbols_name(options.name, options.name, options.symbols) ? WELL : NOT_OPENED;
+  if (!find_beside(plugin, "counter.so") || !find_beside(debugger, "../../em_debug"))
+    return say("the folder that it lies in can't be found"), NOT_OPENED;
+  if (options.words && !words_make(&words, &options, plugin)) {
     words_free(&words);
     return BAD_WORDS;
   }
@@ -180,7 +205,7 @@ int main(int count, char **given) {
   counter_make(&guest.session.counter);
   config_reset(&guest.session.config);
   guest.signals = catch_signals();
-  int status = guest.signals < 0 ? NOT_OPENED : serve(&guest, &options, &words);
+  int status = guest.signals < 0 ? NOT_OPENED : serve(&guest, &options, &words, debugger);
   words_free(&words);
   return status;
 }

@@ -55,16 +55,6 @@ static struct piece piece_at(const struct memory *memory, uint64_t address, size
   return (struct piece){.descriptor = -1};
 }
 
-bool memory_has(const struct memory *memory, uint64_t address, size_t length) {
-  while (length > 0) {
-    struct piece piece = piece_at(memory, address, length);
-    if (piece.length == 0) return false;
-    address += piece.length;
-    length -= piece.length;
-  }
-  return true;
-}
-
 bool memory_read(const struct memory *memory, uint64_t address, uint8_t *out, size_t length) {
   while (length > 0) {
     struct piece piece = piece_at(memory, address, length);

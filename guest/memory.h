@@ -24,9 +24,6 @@ void memory_set(struct memory *memory, const struct message *message);
 /* Forgets all of it. */
 void memory_close(struct memory *memory);
 
-/* Whether all these octets are guest memory. */
-bool memory_has(const struct memory *memory, uint64_t address, size_t length);
-
 /* Copies octets; false where they are not all there, or the file refuses. Some of them may have been copied then. */
 bool memory_read(const struct memory *memory, uint64_t address, uint8_t *out, size_t length);
 bool memory_write(const struct memory *memory, uint64_t address, const uint8_t *octets, size_t length);

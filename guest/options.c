@@ -24,7 +24,11 @@ static const char help[] =
     "      --over               Write over files that are there\n"
     "      --net <NET>          The wire: `user` or `user,..`, which is QEMU's own network, or `unix:OWN:OTHER`, paths "
     "of\n"
-    "                           two sockets of datagrams; without it, the wire ends in the air\n"
+    "                           two sockets of datagrams; without a wire, it ends in the air\n"
+    "      --tap <NAME>         The wire: this TAP device of the host's\n"
+    "      --peer <COMMAND>     The wire: a program on whose standard streams each frame stands behind its length, of "
+    "two\n"
+    "                           octets, the high one first\n"
     "      --pcap-in <FILE>     Frames that arrive, at their times from the guest's first receiving on\n"
     "      --pcap-out <FILE>    Write the frames that pass on the wire to this file\n"
     "      --pc                 Keep the guest's program counter beside each access, by a plugin for QEMU's TCG\n"
@@ -32,6 +36,12 @@ static const char help[] =
     "of its\n"
     "                           first octet of code, where it is a module\n"
     "      --name <RUN>         Only name the program counters of a run that is there\n"
+    "      --stop-at <WHAT>     Hold the guest there, and ask em_debug of the run so far; `quit` lets the guest go on. "
+    "WHAT\n"
+    "                           is refused, dropped N, frame N, access REGISTER, warning, the name of a warning, or "
+    "Ctrl-C;\n"
+    "                           it may stand eight times\n"
+    "      --debugger <PROGRAM> The em_debug that is asked [default: that of this repository]\n"
     "      --mac <HEX12>        The adapter's Ethernet address [default: 525400123456]\n"
     "      --slot <N>           Where it lies on the PCI bus, from 1 to 31 [default: 3]\n"
     "      --irq <PATH:N>       An input of an interrupt controller of QEMU's; it may stand four times\n"
@@ -74,7 +84,8 @@ static const char **text_of(struct options *options, const char *word) {
       {"--run", &options->run},           {"--name", &options->name},       {"--listen", &options->listen},
       {"--qtest", &options->qtest},       {"--net", &options->net},         {"--pcap-in", &options->pcap_in},
       {"--pcap-out", &options->pcap_out}, {"--symbols", &options->symbols}, {"--mac", &options->mac_text},
-      {"--slot", &options->slot_text},
+      {"--slot", &options->slot_text},    {"--tap", &options->tap},         {"--peer", &options->peer},
+      {"--debugger", &options->debugger},
   };
   for (size_t i = 0; i < sizeof texts / sizeof *texts; i++)
     if (strcmp(word, texts[i].word) == 0) return texts[i].to;
@@ -109,6 +120,13 @@ static enum parsed take_value(struct options *options, const char *word, const c
   if (options->input_count == MOST_INPUTS) return say("--irq stands more than four times"), REFUSED;
   if (input_parse(value, &options->inputs[options->input_count++])) return PARSED;
   return say("--irq: PATH:NUMBER is wanted, as /machine/i440fx/ioapic:11"), REFUSED;
+}
+
+/* Takes what stands behind --stop-at; how many words that are, or 0 where it is refused. */
+static int take_stop(struct options *options, char **words) {
+  if (!words[0] || strcmp(words[0], "--") == 0) return say("--stop-at: its value is missing"), 0;
+  if (options->stop_count == MOST_STOPS) return say("--stop-at stands more than eight times"), 0;
+  return stop_parse(words, &options->stops[options->stop_count++]);
 }
 
 /* The values that are no texts. */
@@ -161,6 +179,9 @@ static enum parsed agree(const struct options *options) {
       strncmp(options->net, "user,", 5) != 0)
     return say("--net: user, user,.. or unix:OWN:OTHER is wanted"), REFUSED;
   if (options->qtest && !options->listen) return say("--qtest goes with --listen"), REFUSED;
+  if (!!options->net + !!options->tap + !!options->peer > 1)
+    return say("the wire has one other end: --net, --tap or --peer"), REFUSED;
+  if (options->debugger && options->stop_count == 0) return say("--debugger goes with --stop-at"), REFUSED;
   return keep_apart(options);
 }
 
@@ -175,6 +196,12 @@ enum parsed options_parse(struct options *options, int count, char **words) {
       if (!words[i + 1]) return say("behind -- a QEMU is wanted"), REFUSED;
       options->words = words + i + 1;
       break;
+    }
+    if (strcmp(word, "--stop-at") == 0) {
+      int used = take_stop(options, words + i + 1);
+      if (used == 0) return REFUSED;
+      i += used;
+      continue;
     }
     bool *flag = flag_of(options, word);
     enum parsed took = flag ? take_flag(flag, word) : take_value(options, word, words[i + 1]);

@@ -7,14 +7,18 @@
 #include <stdint.h>
 
 #include "interrupt.h"
+#include "stop.h"
 
 struct options {
-  const char *run, *name, *listen, *qtest, *net, *pcap_in, *pcap_out, *symbols, *mac_text, *slot_text;
+  const char *run, *name, *listen, *qtest, *net, *tap, *peer, *pcap_in, *pcap_out, *symbols, *debugger;
+  const char *mac_text, *slot_text;
   bool over, prints, has_counter;
   uint8_t mac[6];
   uint32_t slot; /* of the PCI bus */
   struct input inputs[MOST_INPUTS];
   size_t input_count;
+  struct stop_at stops[MOST_STOPS];
+  size_t stop_count;
   char **words; /* of QEMU, behind `--`; they end with NULL */
 };
 

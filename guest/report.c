@@ -29,17 +29,23 @@ static void report_refused(const struct device *device) {
   else say("the guest accessed registers that the model has not: %s", text);
 }
 
-void report(const struct device *device, const struct run *run, const struct options *options) {
+/* What plays the run. */
+static void report_run(const struct run *run, struct debugger *debugger, const char *path) {
+  char text[1024] = "./em_debug";
+  char **words = debugger_words(debugger, path);
+  for (size_t i = 1, have = strlen(text); words[i] && have + 1 < sizeof text; i++, have = strlen(text))
+    snprintf(text + have, sizeof text - have, " %s", words[i]);
+  say("%s has %" PRIu64 " lines: %s", path, run->lines, text);
+}
+
+void report(const struct device *device, const struct run *run, uint64_t lost, struct debugger *debugger,
+            const char *path) {
   const struct tally *tally = &device->tally;
   say("%" PRIu64 " accesses of registers, %" PRIu64 " refused; %" PRIu64 " frames arrived, %" PRIu64
       " were dropped, %" PRIu64 " were sent; %" PRIu64 " steps of engines refused",
       tally->accesses, tally->refused, tally->arrived, tally->dropped, tally->sent, tally->steps_refused);
   report_refused(device);
   if (tally->odd) say("%" PRIu64 " accesses were of no register's four octets", tally->odd);
-  char mac[32] = "";
-  const uint8_t *own = options->mac;
-  if (memcmp(own, options_mac, sizeof options->mac) != 0)
-    snprintf(mac, sizeof mac, " --mac %02X%02X%02X%02X%02X%02X", own[0], own[1], own[2], own[3], own[4], own[5]);
-  say("%s has %" PRIu64 " lines: ./em_debug --memory %d%s %s", options->run, run->lines, MODEL_MEMORY, mac,
-      options->run);
+  if (lost) say("the wire's other end did not take %" PRIu64 " of the frames that were sent", lost);
+  report_run(run, debugger, path);
 }

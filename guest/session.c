@@ -41,21 +41,31 @@ static uint64_t reset(struct session *session) {
   return 0;
 }
 
-/* Obeys a message, and answers it where it has an answer; false where the answer is not taken. */
-static bool obey(struct session *session, const struct message *message) {
+/* Obeys a message that has an answer, and gives that. */
+static uint64_t obey(struct session *session, const struct message *message) {
   switch (message->command) {
-    case SYNC_MEMORY: memory_set(&session->device.memory, message); return true;
+    case CONFIG_READ: return read_config(session, &message->config);
+    case CONFIG_WRITE: return write_config(session, &message->config);
+    case BAR_READ: return read_bar(session, &message->bar);
+    case BAR_WRITE: return write_bar(session, &message->bar);
+    case DEVICE_RESET: return reset(session);
+    case SYNC_MEMORY:
     case SET_INTERRUPT:
-      interrupt_set_files(&session->interrupt, message->descriptors[0], message->descriptors[1]);
-      return true;
-    case CONFIG_READ: return channel_reply(&session->channel, read_config(session, &message->config));
-    case CONFIG_WRITE: return channel_reply(&session->channel, write_config(session, &message->config));
-    case BAR_READ: return channel_reply(&session->channel, read_bar(session, &message->bar));
-    case BAR_WRITE: return channel_reply(&session->channel, write_bar(session, &message->bar));
-    case DEVICE_RESET: return channel_reply(&session->channel, reset(session));
     case REPLY: break;
   }
-  return true;
+  return 0;
+}
+
+/* Obeys a message, and answers it where it has an answer; false where the answer is not taken. */
+static bool serve(struct session *session, const struct message *message) {
+  if (message->command == SYNC_MEMORY) return memory_set(&session->device.ram.memory, message), true;
+  if (message->command == SET_INTERRUPT) {
+    interrupt_set_files(&session->interrupt, message->descriptors[0], message->descriptors[1]);
+    return true;
+  }
+  uint64_t answer = obey(session, message);
+  if (session->before_answer) session->before_answer(session->whose);
+  return channel_reply(&session->channel, answer);
 }
 
 enum received session_serve(struct session *session) {
@@ -66,7 +76,7 @@ enum received session_serve(struct session *session) {
     if (took == BROKEN) say("QEMU's socket is closed: %s", why);
     if (took != WHOLE) return took;
     session->device.counter = counter_now(&session->counter);
-    bool is_taken = obey(session, &message);
+    bool is_taken = serve(session, &message);
     session->device.counter = 0; /* what happens from here on is no access */
     if (is_taken) continue;
     say("QEMU's socket is closed: it takes no answer");

@@ -18,7 +18,9 @@ struct session {
   struct device device;
   struct interrupt interrupt;
   struct counter counter;
-  bool has_more; /* the engines have more to do */
+  bool has_more;                      /* the engines have more to do */
+  void (*before_answer)(void *whose); /* called when a message is obeyed, before QEMU is answered */
+  void *whose;
 };
 
 enum { MOST_MESSAGES = 64 }; /* that are obeyed before the wire is looked at again */

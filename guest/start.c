@@ -26,11 +26,12 @@ static bool place(const struct handed *handed, size_t count) {
 }
 
 /* In the child: becomes the program, or writes why not. */
-static void become(char **words, const struct handed *handed, size_t count, pid_t parent, int why) {
-  sigset_t none;
+static void become(char **words, const struct handed *handed, size_t count, bool is_deaf, pid_t parent, int why) {
+  sigset_t blocked;
   int error = 0;
-  sigemptyset(&none);
-  sigprocmask(SIG_SETMASK, &none, NULL);
+  sigemptyset(&blocked);
+  if (is_deaf) sigaddset(&blocked, SIGINT);
+  sigprocmask(SIG_SETMASK, &blocked, NULL);
   signal(SIGPIPE, SIG_DFL);
   prctl(PR_SET_PDEATHSIG, SIGTERM);
   if (getppid() != parent) _exit(127);
@@ -41,12 +42,12 @@ static void become(char **words, const struct handed *handed, size_t count, pid_
   _exit(127);
 }
 
-pid_t start(char **words, const struct handed *handed, size_t count) {
+pid_t start(char **words, const struct handed *handed, size_t count, bool is_deaf) {
   int why[2], error = 0;
   pid_t parent = getpid();
   if (count > MOST_HANDED || pipe2(why, O_CLOEXEC) != 0) return -1;
   pid_t process = fork();
-  if (process == 0) become(words, handed, count, parent, why[1]);
+  if (process == 0) become(words, handed, count, is_deaf, parent, why[1]);
   close(why[1]);
   bool has_failed = process < 0 || read(why[0], &error, sizeof error) == (ssize_t)sizeof error;
   close(why[0]);

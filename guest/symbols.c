@@ -208,7 +208,7 @@ static bool replace(FILE *run, const char *path, const struct symbols *symbols) 
   return is_whole;
 }
 
-bool symbols_name(const char *path, const char *text) {
+bool symbols_name(const char *path, const char *to, const char *text) {
   const char *mark = strrchr(text, '@');
   char *program = strndup(text, mark ? (size_t)(mark - text) : strlen(text)), *end = NULL;
   uint64_t base = mark ? strtoull(mark + 1, &end, 16) : 0;
@@ -221,8 +221,8 @@ bool symbols_name(const char *path, const char *text) {
     say("%s: %s", path, strerror(errno));
   } else if (program && collect(run, &symbols) && name_all(&symbols, program, mark != NULL, base)) {
     rewind(run);
-    is_whole = replace(run, path, &symbols);
-    if (!is_whole) say("%s can't be written with names in it", path);
+    is_whole = replace(run, to, &symbols);
+    if (!is_whole) say("%s can't be written with names in it", to);
   }
   if (run) fclose(run);
   free(program);

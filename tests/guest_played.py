@@ -1,5 +1,4 @@
 """em_guest with a QEMU that is played: each message, each rule of configuration space, and all that a QEMU may do wrong."""
-import concurrent.futures
 import os
 import re
 import signal
@@ -7,7 +6,6 @@ import socket
 import struct
 import subprocess
 import time
-import traceback
 from pathlib import Path
 
 import guest_packages
@@ -236,7 +234,9 @@ def rings(tally: Tally, room: Path) -> None:
         own.close()
         lines = guest.kept.read_text().splitlines()
         stored = [line.split()[1] for line in lines[:lines.index("w 03818 00000003")] if line.startswith("poke")]
-        wanted = [f"{(base + at) % 2**24:06X}" for i in range(3) for at in (0x2000 + 16 * i, 0x20000 + 0x1000 * i)]
+        # (the model had zeros; so the first octet that is another one is the lowest of the buffer's address)
+        wanted = [f"{(base + at) % 2**24:06X}" for i, first in enumerate((2, 1, 1))
+                  for at in (0x2000 + 16 * i + first, 0x20000 + 0x1000 * i)]
         tally.check(f"rings at {base:X}, stores before the tail", differ({"pokes": (stored[-6:], wanted)}))
         told = asked(guest.kept, room, "who TDT", "wire")
         tally.check(f"rings at {base:X}, who", differ({
@@ -285,6 +285,13 @@ def standing_still(tally: Tally, room: Path) -> None:
     qemu.poke(0x2020, transmit_descriptor(0x20000, 60))
     qemu.write(0x3818, 3)
     seen["memory again"] = (qemu.read(0x3810), 3)
+    # guest memory that can be read only: nothing is sent, since the status can't be written
+    shut = os.open(f"/proc/self/fd/{qemu.file}", os.O_RDONLY)
+    qemu.sync([(0, 1 << 22, 0, shut)])
+    qemu.poke(0x2030, transmit_descriptor(0x20000, 60))
+    qemu.write(0x3818, 4)
+    seen["memory that can't be written"] = (qemu.read(0x3810), 3)
+    os.close(shut)
     # two regions side by side, and a buffer that lies in both
     qemu.sync([(0, 1 << 21, 0, qemu.file), (1 << 21, 1 << 21, 1 << 21, qemu.file)])
     qemu.poke(0x1FFFE0, FRAME)
@@ -321,6 +328,25 @@ def across(tally: Tally, room: Path) -> None:
     qemu.close()
     ended(tally, "buffers about 16 MiB, the end", guest, 0, "2 were sent; 1 steps of engines refused")
     counted_run(tally, "buffers about 16 MiB, played again", guest.kept, 4)
+
+
+def overlaid(tally: Tally, room: Path) -> None:
+    """A buffer that has its own descriptor in it: that is sent; but beyond the model's 16 MiB it is told of, and not sent."""
+    for base, address in ((0, 0x1FF0), (0x0700_0000, 0x0700_1FF0), (0x0700_0000, 0x0800_1FF0)):
+        name = f"overlaid-{address:X}"
+        guest = Guest(room, name, "--pcap-out", str(room / f"{name}.pcap"))
+        qemu = guest.qemu(base=base, octets=1 << 25)
+        qemu.boot()
+        set_up_rings(qemu, base)
+        descriptor = transmit_descriptor(address, 60)
+        qemu.poke(base + 0x1FF0, bytes([0xFF]) * 16 + descriptor)
+        qemu.write(0x3818, 1)
+        tally.check(f"a buffer at {address:X} on its descriptor", differ({"TDH": (qemu.read(0x3810), not base)}))
+        qemu.close()
+        ended(tally, f"a buffer at {address:X} on its descriptor, the end", guest, 0,
+              f"a buffer at {address:X} lies on its own descriptor, modulo 16 MiB" if base else "1 were sent")
+        counted_run(tally, f"a buffer at {address:X} on its descriptor, played again", guest.kept)
+        captured(tally, room / f"{name}.pcap", [] if base else [bytes([0xFF]) * 16 + descriptor + bytes(28)])
 
 
 def received_across(tally: Tally, room: Path) -> None:
@@ -728,23 +754,5 @@ def named(tally: Tally, room: Path) -> None:
             "the run": (kept.read_text(), before)}))
 
 
-PARTS = (config, accesses, rings, standing_still, across, received_across, many, waiting, again, by_qtest, capture_in, rubbish,
-         impatient, stubborn, halves, files, printed, named)
-
-
-def one_of(part, room: Path) -> Tally:
-    tally = Tally()
-    try:
-        part(tally, room)
-    except (OSError, EOFError, AssertionError, subprocess.TimeoutExpired):
-        tally.check(part.__name__, [traceback.format_exc()[-1500:]])
-    return tally
-
-
-def all_of(tally: Tally, room: Path) -> None:
-    """All parts, some at a time: most of them wait for something."""
-    with concurrent.futures.ThreadPoolExecutor(6) as pool:
-        for done in pool.map(lambda part: one_of(part, room), PARTS):
-            tally.passed, tally.failed = tally.passed + done.passed, tally.failed + done.failed
-    for process in Guest.started:
-        process.kill()
+PARTS = (config, accesses, rings, standing_still, across, overlaid, received_across, many, waiting, again, by_qtest,
+         capture_in, rubbish, impatient, stubborn, halves, files, printed, named)

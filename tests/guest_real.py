@@ -1,8 +1,11 @@
-"""em_guest with a real QEMU: a guest of our own, and iPXE's driver as Debian has it."""
+"""em_guest with a real QEMU: guests of our own, and iPXE's driver as Debian has it."""
 import functools
 import http.server
 import os
+import pty
 import re
+import select
+import shutil
 import signal
 import socket
 import subprocess
@@ -12,15 +15,15 @@ from pathlib import Path
 
 import guest_packages
 from guest_played import differ
-from guest_tools import asked, counted_run
+from guest_tools import asked, counted_run, debugger
 from played_qemu import until
 from tally import TOP, Tally, run
 
-BARE = TOP / "examples" / "guest" / "bare.c"
+BARE, SENDER = TOP / "examples" / "guest" / "bare.c", TOP / "examples" / "guest" / "sender.c"
 BARE_WORDS = ["-m32", "-ffreestanding", "-fno-pic", "-fno-stack-protector", "-mgeneral-regs-only", "-nostdlib", "-static",
               "-O1", "-g", "-Wall", "-Wextra", "-Werror", "-Wl,-Ttext=0x100000", "-Wl,--build-id=none"]
 MACHINE = ["-accel", "tcg", "-m", "16", "-nodefaults", "-display", "none", "-serial", "stdio", "-no-reboot"]
-SECONDS = 120
+SECONDS = 300  # (the longest takes some ten, where nobody else works on the host)
 
 
 def em_guest(*words, **how) -> subprocess.CompletedProcess:
@@ -48,14 +51,57 @@ def bare(tally: Tally, room: Path, qemu: str) -> None:
             "the register that is none": ("has not: 00010 (1 reads, 0 writes)" in told, True),
             "tails": (len(re.findall(rf"^w 03818 0000000[123] @ bare\.c:{tail} send$", text, re.M)), 3),
             "reads of ICR": (len(re.findall(r"^r 000C0 = 00000003 @ bare\.c:\d+ on_interrupt$", text, re.M)), 3),
-            "frames": (sent.stat().st_size, 24 + 3 * (16 + 60))}) + ([] if ran.returncode == 0 else [told[-2000:]]))
+            "frames": (sent.stat().st_size, 24 + 3 * (16 + 60))}) + ([] if "done 00000001" in told else [told[-2000:], text[-2000:]]))
         counted_run(tally, f"a driver of our own, {machine}, played again", kept, 9)
-        page = re.findall(r"[rw] [0-9A-F]{5}[^`|\n]* @ bare\.c:\d+ \w+", (TOP / "docs" / "guest.md").read_text())
-        faults = [f"{line!r} is no line of it" for line in page if line not in text.splitlines()]
-        tally.check(f"docs/guest.md, {machine}", faults if page else ["it has no line of the run"])
+        tally.check(f"docs/guest.md, {machine}", written_in_page("bare.c", text))
+        kept_run = re.findall(r"^[rw] .* @ bare\.c:\d+ (?:send|on_interrupt)$", BARE.with_suffix(".em").read_text(), re.M)
+        tally.check(f"bare.em, {machine}", [line for line in kept_run if line not in text.splitlines()] if kept_run else ["none"])
         who = asked(kept, room, "who TDT")
-        number = text.splitlines().index(f"w 03818 00000003 @ bare.c:{tail} send") + 1
+        number = next((i for i, line in enumerate(text.splitlines(), 1) if line == f"w 03818 00000003 @ bare.c:{tail} send"), 0)
         tally.check(f"who, {machine}", [] if any(f"line {number}, " in line for line in who) else who)
+
+
+def terminal(words: list, script: list[tuple[bytes, bytes]]) -> tuple[int, str]:
+    """Runs words at a terminal of their own, where somebody types each text when the one before it is seen. (A shell is the
+    terminal's leader, and ends last: with its leader's end a terminal drops what was not read yet.)"""
+    process, end = pty.fork()
+    if process == 0:
+        os.execvp("sh", ["sh", "-c", 'trap : INT; "$@"; echo "ended $?"; read line', "sh", *map(str, words)])
+    told, seen, until_then = b"", 0, time.monotonic() + SECONDS
+    while not (status := re.search(rb"^ended (\d+)", told, re.M)):
+        if not select.select([end], [], [], max(0, until_then - time.monotonic()))[0]:
+            break
+        told += os.read(end, 65536)
+        while script and script[0][0] in told[seen:]:
+            seen = told.index(script[0][0], seen) + len(script[0][0])
+            os.write(end, script.pop(0)[1])
+    os.kill(process, signal.SIGKILL)
+    os.waitpid(process, 0)
+    os.close(end)
+    return int(status[1]) if status else -1, told.decode(errors="replace")
+
+
+def held(tally: Tally, room: Path, qemu: str) -> None:
+    """A guest that has the terminal is held, em_debug has it then, with names in the run, and the guest has it again."""
+    elf, kept, seen = room / "bare.elf", room / "held.em", room / "held-seen.em"
+    lines = BARE.read_text().splitlines()
+    tail = next(number for number, line in enumerate(lines, 1) if "/* the tail */" in line)
+    script = room / "held-debugger"
+    # (as the script em_debug starts it at a terminal)
+    script.write_text(f'#!/bin/sh\nfor run; do :; done\ncp "$run" {seen}\nexec env --ignore-signal=INT {debugger()} "$@"\n')
+    script.chmod(0o755)
+    words = [TOP / "em_guest", "--run", kept, "--pc", "--symbols", elf, "--stop-at", "access", "TDT", "--debugger", script,
+             "--", qemu, "-machine", "pc,graphics=off", *MACHINE, "-kernel", elf]
+    status, told = terminal(words, [(b"(em) ", b"who TDT\n"), (b"(em) ", b"\x03quit\n")] * 4)
+    values = re.findall(r"write TDT (\d+)", told)
+    tally.check("held at a terminal", differ({
+        "status": (status, 0), "held": (told.count("of the run: TDT is accessed"), 4),
+        "who": (values, [f"0000000{i}" for i in range(4)]), "done": ("done 00000001" in told, True),
+        "interrupts": ("interrupts 00000003" in told, True)}) + ([] if status == 0 else [told[-2000:]]))
+    named = seen.read_text() if seen.is_file() else ""
+    tally.check("held at a terminal, names", differ({
+        "the last access": (named.count(f"w 03818 00000003 @ bare.c:{tail} send\n"), 1),
+        "no copy is left": ([path.name for path in room.glob("held.em.*")], [])}))
 
 
 def listened(tally: Tally, room: Path, qemu: str) -> None:
@@ -74,7 +120,8 @@ def listened(tally: Tally, room: Path, qemu: str) -> None:
     told = ran.stdout.decode(errors="replace")
     tally.check("--listen", differ({
         "QEMU's status": (ran.returncode, 0), "status": (process.returncode, 0), "done": ("done 00000001" in told, True),
-        "interrupts": ("interrupts 00000003" in told, True), "told": (b"3 were sent" in err, True)}))
+        "interrupts": ("interrupts 00000003" in told, True), "told": (b"3 were sent" in err, True)})
+        + ([] if "done 00000001" in told else [told[-1000:], err.decode()[-1000:]]))
 
 
 class Served:
@@ -146,7 +193,7 @@ def dies(tally: Tally, room: Path, qemu: str) -> None:
         gone = until(lambda: not Path(f"/proc/{children[0]}/exe").exists())
         tally.check(name, differ({"status": (process.returncode, status), "told": (sentence in err.decode(), True),
                                   "QEMU is gone": (gone, True)}))
-    ran = em_guest("--run", room / "words.em", "--", qemu, "-machine", "none-such")
+    ran = em_guest("--run", room / "no-machine.em", "--", qemu, "-machine", "none-such")
     tally.check("QEMU refuses its words", differ({"status": (ran.returncode, 1), "told": (b"unsupported machine type" in ran.stderr, True)}))
 
 
@@ -165,7 +212,78 @@ def much(tally: Tally, room: Path, qemu: str, kernel: Path) -> None:
         tally.check(f"600,000 octets, {name}", [] if b"600000 bytes" in ran.stdout else [ran.stdout.decode(errors="replace")[-1500:]])
     served.close()
     counted_run(tally, "600,000 octets, played again", room / "much.em", 1000)
-    print(", ".join(f"{name} {seconds:.1f} s" for name, seconds in times.items()), flush=True)
+    told = ", ".join(f"{name} {seconds:.1f} s" for name, seconds in times.items())
+    print(told, flush=True)
+    tally.check("600,000 octets within 2 times of QEMU's own", [] if times["em_guest"] <= 2 * times["QEMU's own"] else [told])
+
+
+def written_in_page(file: str, text: str) -> list[str]:
+    """Which lines that docs/guest.md has of a run of this file's driver are none of it."""
+    page = re.findall(rf"[rw] [0-9A-F]{{5}}[^`|\n]* @ {re.escape(file)}:\d+ \w+", (TOP / "docs" / "guest.md").read_text())
+    faults = [f"{line!r} is no line of it" for line in page if line not in text.splitlines()]
+    return faults if page else ["it has no line of the run"]
+
+
+INIT = """#!/bin/busybox sh
+/bin/busybox mount -t proc proc /proc
+/bin/busybox mount -t sysfs sys /sys
+/bin/busybox insmod /sender.ko
+echo "sender's code is at $(/bin/busybox cat /sys/module/sender/sections/.text)"
+/bin/busybox sleep 1
+/bin/busybox rmmod sender
+/bin/busybox reboot -f
+"""
+
+
+def initrd(room: Path, module: Path, busybox: Path) -> Path:
+    """A disk in memory that loads the module, tells where it lies, and resets the machine."""
+    folder, packed = room / "disk", room / "initrd"
+    for name in ("bin", "proc", "sys", "dev"):
+        (folder / name).mkdir(parents=True)
+    shutil.copy(busybox, folder / "bin" / "busybox")
+    shutil.copy(module, folder)
+    (folder / "init").write_text(INIT)
+    (folder / "init").chmod(0o755)
+    names = "\n".join(str(path.relative_to(folder)) for path in sorted(folder.rglob("*")))
+    ran = run([busybox, "cpio", "-o", "-H", "newc"], names.encode(), cwd=folder)
+    packed.write_bytes(ran.stdout)
+    return packed
+
+
+def sender(tally: Tally, room: Path, qemu: str) -> None:
+    """A module of ours in Debian's kernel: it is built, loaded, sends a frame and is interrupted; then its lines are named."""
+    there = guest_packages.kernel() if shutil.which("make") else None
+    if not there:
+        print("not run: a module of Linux, without make, or Debian's kernel and its headers, which apt has not", flush=True)
+        return
+    image, headers, busybox = there
+    folder, kept = room / "sender", room / "sender.em"
+    folder.mkdir()
+    shutil.copy(SENDER, folder)
+    (folder / "Makefile").write_text("obj-m := sender.o\n")
+    ran = run(["make", "-C", headers, f"M={folder}", "modules"], timeout=300)
+    if ran.returncode:
+        tally.check("a module of Linux, built", [ran.stderr.decode()[-2000:]])
+        return
+    words = ["-accel", "tcg", "-m", "128", "-machine", "pc,graphics=off", "-nodefaults", "-display", "none", "-serial", "stdio",
+             "-no-reboot", "-kernel", image, "-initrd", initrd(room, folder / "sender.ko", busybox),
+             "-append", "console=ttyS0 panic=-1 no_timer_check"]  # (the check fails where the host is slow)
+    ran = em_guest("--run", kept, "--pc", "--", qemu, *words, timeout=600)
+    told = ran.stdout.decode(errors="replace")
+    place = re.search(r"sender's code is at 0x(\w+)", told)
+    tally.check("a module of Linux", differ({
+        "status": (ran.returncode, 0), "interrupted": ("sender: interrupted, causes 00000003, status 01" in told, True),
+        "its place": (bool(place), True)}) + ([] if place else [told[-2000:]]))
+    if not place:
+        return
+    em_guest("--name", kept, "--symbols", f"{folder}/sender.ko@{place[1]}")
+    text = kept.read_text()
+    tail = next(number for number, line in enumerate(SENDER.read_text().splitlines(), 1) if "/* the tail */" in line)
+    tally.check("a module of Linux, its lines", differ({
+        "tail": (text.count(f"w 03818 00000001 @ sender.c:{tail} send\n"), 1),
+        "reads of ICR": (len(re.findall(r"^r 000C0 = 00000003 @ sender\.c:\d+ on_interrupt$", text, re.M)), 1)}))
+    tally.check("docs/guest.md, a module of Linux", written_in_page("sender.c", text))
+    counted_run(tally, "a module of Linux, played again", kept, 2, warnings="0")
 
 
 def all_of(tally: Tally, room: Path, is_all: bool) -> None:
@@ -176,8 +294,11 @@ def all_of(tally: Tally, room: Path, is_all: bool) -> None:
     (room / "www").mkdir()
     bare(tally, room, qemu)
     if (room / "bare.elf").is_file():
+        held(tally, room, qemu)
         listened(tally, room, qemu)
     dies(tally, room, qemu)
+    if is_all:
+        sender(tally, room, qemu)
     if not kernel:
         print("not run: iPXE, which is not here and apt has not", flush=True)
         return

@@ -99,9 +99,9 @@ __attribute__((used)) static void on_interrupt(void) {
   *at(0xFEE000B0) = 0; /* the end of the interrupt */
 }
 
-/* (Some hosts' KVM can't do an iret here: it is put together of what they can.) */
+/* (Some hosts' KVM can't do an iret here. This leaves interrupts off, so that none comes before it is back.) */
 void entry(void);
-__asm__("entry: pusha\n cld\n call on_interrupt\n popa\n pushl 8(%esp)\n popfl\n lret $4\n");
+__asm__("entry: pusha\n cld\n call on_interrupt\n popa\n pushl 8(%esp)\n andl $~512, (%esp)\n popfl\n lret $4\n");
 
 struct gate {
   uint16_t low, selector, kind, high;
@@ -165,7 +165,7 @@ __attribute__((noinline)) static void send(uint32_t index) {
 }
 
 static bool interrupted(uint32_t count) {
-  for (uint32_t i = 0; i < 200000000 && interrupts < count; i++) __asm__ volatile("pause");
+  for (uint32_t i = 0; i < 200000000 && interrupts < count; i++) __asm__ volatile("sti; pause");
   return interrupts >= count;
 }
 

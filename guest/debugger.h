@@ -1,0 +1,22 @@
+/* The words by which em_debug plays a run of this adapter. */
+#ifndef GUEST_DEBUGGER_H
+#define GUEST_DEBUGGER_H
+
+#include <stddef.h>
+#include <stdint.h>
+
+enum { MOST_DEBUGGER_WORDS = 8 };
+
+struct debugger {
+  const char *words[MOST_DEBUGGER_WORDS]; /* the program and its options, and NULL: the run's path goes there */
+  size_t count;
+  char memory[16], mac[16];
+};
+
+/* Makes the words for this program and this address of the adapter. They stay where they are. */
+void debugger_make(struct debugger *debugger, const char *program, const uint8_t mac[6]);
+
+/* The words, with this run behind them, or without one where that is NULL. */
+char **debugger_words(struct debugger *debugger, const char *run);
+
+#endif
