@@ -115,7 +115,11 @@ typedef enum em_code {
   EM_BUSY = 38,        /* a function of the attached memory made the call */
   EM_UNREAD = 39,      /* the attached memory was not read: its function gave false, or no region has all octets */
   EM_UNWRITTEN = 40,   /* the attached memory was not written: likewise */
-  EM_NO_RAM = 41       /* what is to be attached has neither both functions nor a region */
+  EM_NO_RAM = 41,      /* what is to be attached has neither both functions nor a region */
+  EM_BEGUN = 42,       /* the machine has performed an event: a run is kept from its first one on */
+  EM_RECORDED = 43,    /* the run is kept already */
+  EM_FILE = 44,        /* the file was not opened, or not written */
+  EM_UNRECORDED = 45   /* the run is not kept */
 } em_code;
 
 /* What an event was, and what came of it. The numbers stay as they are. */
@@ -390,6 +394,63 @@ typedef struct em_change {
 /* The newest change of what is watched, with nothing taken back; refused as EM_NO_CHANGE where the journal has none, and
    as EM_RANGE where the octets leave guest memory. The cost is that of a look into each record back to there. */
 uint32_t em_last_change(const em_machine *machine, const em_watch *watch, em_change *change);
+
+/* ---- a run, kept as it happens
+
+   From em_record_to on each call that is an event, each step back and each call that an event's rule refuses is written to
+   a file, as a line of the script language with its answer and with where it comes from:
+
+       # em_debug --memory 65536 --budget 1048576 --mac 525400123456
+       w 00002818 00000003 = ok @ driver.c:57
+       r 000000C0 = 00000004 @ driver.c:61
+
+   em_debug takes the file as it is. Each line is written before its call returns, by one write(2): it is there when the
+   process dies, by whatever signal, by abort or _exit. (It does not survive the host's own fall.) A last line without its
+   newline was cut by the end of the process, and says nothing. What was written for a step over attached memory stands
+   there as its memory writes; so does what em_sync_in and em_sync_in_range wrote. A call that malloc stopped is a comment.
+   Looks are not kept, nor what is refused for the handle or for attached memory: the steps back that undo it are.
+
+   Where the file can no longer be written, nothing more is kept, and the machine goes on: em_recording_status tells it. (A
+   limit on the size of files raises SIGXFSZ, as in any program.) */
+
+/* Keeps what happens to the machine from now on in the file at a path, which is made, or made empty; the path is copied. It
+   stays open until em_free. Refused as EM_BUSY, EM_NOT_MADE, EM_RECORDED, EM_BEGUN where the machine has performed an event
+   since it was made, EM_MEMORY or EM_FILE, the first that holds; errno says why of EM_FILE. Each event costs a system call
+   more then, some half a microsecond, and a frame of 1,514 octets some 2 us. It takes 50 KB of memory. */
+uint32_t em_record_to(em_machine *machine, const char *path);
+
+/* EM_OK where the run is kept, and all that happened so far is in the file. EM_FILE where that failed: `error` tells the
+   host's number of the error (errno). It is told once; from then on the run is not kept. EM_UNRECORDED where it is not.
+   Constant. */
+uint32_t em_recording_status(em_machine *machine, int *error);
+
+/* Where the calls from now on come from: a line of a file, as `__FILE__` and `__LINE__` give it. The text is not copied: it
+   has to stay until em_source or em_tag is called again, or em_free. It is written in the lines of a run that is kept, as
+   ` @ driver.c:57`, and else nowhere. A tag that em_tag sets later and that is not 0 stands there in its place, as a program
+   counter: ` @ 0x00005555DEADBEEF`. With NULL or an empty name nothing stands there. Constant. */
+uint32_t em_source(em_machine *machine, const char *file, uint32_t line);
+
+/* A handle, of which the next call comes from here: `em_write(EM_HERE(&m), RDT, tail)`. */
+static inline em_machine *em_from(em_machine *machine, const char *file, uint32_t line) {
+  (void)em_source(machine, file, line);
+  return machine;
+}
+#define EM_HERE(machine) em_from((machine), __FILE__, __LINE__)
+
+/* The calls of these names, from here. (A word of enum em_kind, as EM_READ, stays that where no bracket follows it.) */
+#define EM_READ(machine, offset, value) em_read(EM_HERE(machine), (offset), (value))
+#define EM_WRITE(machine, offset, value) em_write(EM_HERE(machine), (offset), (value))
+#define EM_POKE(machine, address, octets, length) em_poke(EM_HERE(machine), (address), (octets), (length))
+#define EM_SYNC_IN(machine, ram, size, writes) em_sync_in(EM_HERE(machine), (ram), (size), (writes))
+#define EM_SYNC_IN_RANGE(machine, address, octets, length, writes) \
+  em_sync_in_range(EM_HERE(machine), (address), (octets), (length), (writes))
+#define EM_ARRIVE(machine, frame, length, event) em_arrive(EM_HERE(machine), (frame), (length), (event))
+#define EM_SET_LINK(machine, up) em_set_link(EM_HERE(machine), (up))
+#define EM_RX_STEP(machine, event) em_rx_step(EM_HERE(machine), (event))
+#define EM_TX_STEP(machine, event) em_tx_step(EM_HERE(machine), (event))
+#define EM_RUN_RX(machine, n, done) em_run_rx(EM_HERE(machine), (n), (done))
+#define EM_RUN_TX(machine, n, done) em_run_tx(EM_HERE(machine), (n), (done))
+#define EM_BACK(machine, n, done) em_back(EM_HERE(machine), (n), (done))
 
 /* ---- names; no machine is needed */
 
