@@ -20,6 +20,8 @@ enum { MOST = 16384 };
 #define PROVED(call) extern __typeof__(em_##call) proved_##call
 PROVED(make);
 PROVED(make_with_eeprom);
+PROVED(make_at);
+PROVED(make_at_with_eeprom);
 PROVED(free);
 PROVED(read);
 PROVED(write);
@@ -275,6 +277,11 @@ uint32_t em_back(em_machine *machine, size_t n, size_t *done) {
 
 PASSED(make, (em_machine *machine, uint64_t memory, uint64_t budget, const uint8_t mac[6]), machine, memory, budget, mac)
 PASSED(make_with_eeprom, (em_machine *machine, uint64_t memory, uint64_t budget, const uint16_t words[64]), machine,
+       memory, budget, words)
+PASSED(make_at, (em_machine *machine, uint64_t base, uint64_t memory, uint64_t budget, const uint8_t mac[6]), machine,
+       base, memory, budget, mac)
+PASSED(make_at_with_eeprom,
+       (em_machine *machine, uint64_t base, uint64_t memory, uint64_t budget, const uint16_t words[64]), machine, base,
        memory, budget, words)
 PASSED(read, (em_machine *machine, uint32_t offset, uint32_t *value), machine, offset, value)
 PASSED(write, (em_machine *machine, uint32_t offset, uint32_t value), machine, offset, value)

@@ -102,7 +102,7 @@ typedef enum em_code {
   EM_BUDGET = 24,      /* a budget outside 65,536 to 16,777,216 */
   EM_NOT_MADE = 26,    /* the handle holds no machine */
   EM_MADE_ALREADY = 27, /* the handle holds a machine already */
-  EM_SIZE = 28,        /* a guest memory that is no multiple of 4,096 from 4,096 to 16,777,216 octets */
+  EM_SIZE = 28,        /* guest memory can not have that size, or not lie there */
   EM_NO_FRAME = 29,    /* so many frames were not sent */
   EM_ROOM = 30,        /* what is told has more octets than there is room for */
   EM_NO_EVENT = 31,    /* the journal does not hold so many events */
@@ -164,6 +164,12 @@ uint32_t em_make(em_machine *machine, uint64_t memory, uint64_t budget, const ui
 
 /* The same with the 64 words of the EEPROM. */
 uint32_t em_make_with_eeprom(em_machine *machine, uint64_t memory, uint64_t budget, const uint16_t words[64]);
+
+/* The same two with guest memory of `memory` octets from the address `base` on. Both are multiples of 4,096, `memory` is
+   not 0, and memory ends at 2^40 at most: else EM_SIZE. Addresses outside are refused as EM_RANGE and EM_DMA_RANGE, as
+   ever. A new memory of 1 TiB takes less than 100 KiB, and more as pages are written. */
+uint32_t em_make_at(em_machine *machine, uint64_t base, uint64_t memory, uint64_t budget, const uint8_t mac[6]);
+uint32_t em_make_at_with_eeprom(em_machine *machine, uint64_t base, uint64_t memory, uint64_t budget, const uint16_t words[64]);
 
 /* Frees the machine that the handle holds, if it holds one; then it holds none, and may be made again. Cost: the
    journal's records, and the pages that were written. */
@@ -312,6 +318,9 @@ uint32_t em_sync_out_range(const em_machine *machine, uint64_t address, uint8_t 
    last, or by none; `writes` tells how many. Refused as EM_RANGE, as EM_LENGTH above 16,384 octets, or as EM_MEMORY, the
    first that holds. */
 uint32_t em_sync_in_range(em_machine *machine, uint64_t address, const uint8_t *octets, size_t length, size_t *writes);
+
+/* The address of guest memory's first octet. Constant. */
+uint32_t em_memory_base(const em_machine *machine, uint64_t *base);
 
 /* How many octets guest memory has. Constant. */
 uint32_t em_memory_size(const em_machine *machine, uint64_t *size);

@@ -44,6 +44,7 @@ static bool is_busy(em_machine *m) {
   size_t n;
   uint32_t refused[] = {
     em_make(m, MEMORY, BUDGET, MAC), em_make_with_eeprom(m, MEMORY, BUDGET, words), em_read(m, STATUS, &value),
+    em_make_at(m, 4096, MEMORY, BUDGET, MAC), em_make_at_with_eeprom(m, 4096, MEMORY, BUDGET, words),
     em_write(m, IMS, 1), em_poke(m, 0, octets, 1), em_sync_in(m, ram, MEMORY, &n),
     em_sync_in_range(m, 0, octets, 1, &n), em_arrive(m, ram, 60, &note), em_set_link(m, false), em_rx_step(m, &note),
     em_tx_step(m, &note), em_run_rx(m, 1, &n), em_run_tx(m, 1, &n), em_back(m, 1, &n), em_tag(m, 5),

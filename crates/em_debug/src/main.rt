@@ -30,8 +30,8 @@ use anyhow::{Result, bail};
 use em_console::{Answers, Console, LineConsole, prompt_for, serve};
 use em_debugger::{Added, Debugger, Disk, Score};
 use em_ending::Ending;
-use em_input::{BUDGETS, MACS, SIZES};
-use em_journal::SettingsRefusal;
+use em_input::{BASES, BUDGETS, MACS, SIZES};
+use em_journal::{Settings, SettingsRefusal};
 use em_options::{Options, OptionsRefused, options};
 use em_script::BenchFault;
 use std::fs::File;
@@ -76,6 +76,7 @@ fn debug<R: Env + Files + Input + Print + Eprint + AllocGlobal>(rt: &R, prompt: 
             let _ = eprintln!(rt; "em_debug: {option} stands twice");
             REFUSED
         }
+        Err(WordsRefused::NoBase) => refused(rt, BASES),
     }
 }
 
@@ -84,7 +85,7 @@ fn with_words<R: Files + Input + Print + Eprint + AllocGlobal>(
     words: &Words,
     prompt: &[u8],
 ) -> u8 {
-    let asked = options(rt.alloc(), words.options.as_slice());
+    let asked = options(rt.alloc(), words.machine.options.as_slice());
     match (words.asked, asked) {
         // what is wrong before a word that asks for help is told first
         (_, Err(OptionsRefused::Parser(error))) => {
@@ -145,14 +146,26 @@ fn with_options<R: Files + Input + Print + Eprint + AllocGlobal>(
         Ok(Some(fault)) => return refused(rt, fault.as_str()),
         Err(_) => return failed(rt, NO_MEMORY),
     }
-    match Debugger::new(rt.alloc(), options.settings()) {
+    let script = match script_of(rt, options.script) {
+        Ok(script) => script,
+        Err(error) => {
+            let _ = eprintln!(rt; "em_debug: {error}");
+            return FAILED;
+        }
+    };
+    let text: &[u8] = match &script {
+        Some(script) => script.text.as_slice(),
+        None => b"",
+    };
+    let settings = words.machine.settings(options.settings(), text);
+    match Debugger::new(rt.alloc(), settings) {
         Ok(debugger) => {
             let mut served = Served {
                 debugger,
                 disk: Host { rt },
                 marks: None,
             };
-            let ended = with_capture(rt, &mut served, options.script, words, prompt);
+            let ended = with_capture(rt, &mut served, script, words, prompt);
             let score = served.debugger.score();
             // The system takes its memory back when the program ends, all at once.
             mem::forget(served);
@@ -164,19 +177,46 @@ fn with_options<R: Files + Input + Print + Eprint + AllocGlobal>(
                 }
             }
         }
-        Err(refusal) => without_machine(rt, options, refusal),
+        Err(refusal) => without_machine(rt, settings, refusal),
+    }
+}
+
+/// A script, and its name.
+#[derive(Drop)]
+struct Script<'a> {
+    name: &'a str,
+    text: Vec<u8>,
+}
+
+/// Reads the script, if one is named.
+fn script_of<'a, R: Files + Input + AllocGlobal>(
+    rt: &R,
+    name: Option<&'a str>,
+) -> Result<Option<Script<'a>>> {
+    match name {
+        Some(name) => {
+            let text = read_script(rt, name)?;
+            Ok(Some(Script { name, text }))
+        }
+        None => Ok(None),
     }
 }
 
 /// Says why there is no machine, and gives the status.
-fn without_machine<R: Eprint>(rt: &R, options: &Options<'_>, refusal: SettingsRefusal) -> u8 {
+fn without_machine<R: Eprint>(rt: &R, settings: Settings, refusal: SettingsRefusal) -> u8 {
+    let Settings {
+        base,
+        memory,
+        budget,
+        ..
+    } = settings;
     match refusal {
         SettingsRefusal::Size => {
-            let _ = eprintln!(rt; "em_debug: --memory {}: {SIZES}", options.memory);
+            let _ = eprintln!(rt; "em_debug: --memory {memory} --base {base:X}: {SIZES}");
             REFUSED
         }
         SettingsRefusal::Budget => {
-            let _ = eprintln!(rt; "em_debug: --budget {}: {BUDGETS}", options.budget);
+            let _ = eprintln!(rt; "em_debug: --budget {budget}: {BUDGETS}");
             REFUSED
         }
         SettingsRefusal::Memory => failed(rt, NO_MEMORY),
@@ -225,7 +265,7 @@ fn with_score<R: Print>(rt: &R, score: Score, found: Found, words: &Words) -> u8
 fn with_capture<R: Files + Input + Print + Eprint + AllocGlobal>(
     rt: &R,
     served: &mut Served<Host<'_, R>>,
-    script: Option<&str>,
+    script: Option<Script<'_>>,
     words: &Words,
     prompt: &[u8],
 ) -> Result<Found> {
@@ -245,19 +285,19 @@ fn with_capture<R: Files + Input + Print + Eprint + AllocGlobal>(
 fn with_session<R: Files + Input + Print + Eprint + AllocGlobal>(
     rt: &R,
     served: &mut Served<Host<'_, R>>,
-    script: Option<&str>,
+    script: Option<Script<'_>>,
     words: &Words,
     prompt: &[u8],
 ) -> Result<Found> {
     let mut text = Vec::new(rt.alloc());
     let mut bad = 0;
-    if let Some(name) = script {
-        let script = read_script(rt, name)?;
+    if let Some(Script { name, text: script }) = script {
         let added = served.debugger.add_lines(script.as_slice());
         // Where all were added and none is bad, they need not be looked at again.
         if !matches!(added, Ok(Added { are_read: true, .. })) {
             bad = tell_bad_lines(rt, name, script.as_slice())?;
         }
+        drop(script);
         if words.batch || words.compare {
             let known = play(rt, served, words, added)?;
             return Ok(Found { bad, known });

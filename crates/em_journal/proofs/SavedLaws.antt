@@ -78,7 +78,7 @@ at_effect effect.Nothing x y same at = tt
 at_effect (effect.Register old) x y same at = tt
 at_effect (effect.Octets a len place) x y same at = at ∙ same
 at_effect (effect.Arrival old place) x y same at = at ∙ same
-at_effect (effect.RxStep left len buffer end_at place) x y same at = at ∙ same
+at_effect (effect.RxStep high word low ends) x y same at = at ∙ same
 at_effect (effect.TxStep old head) x y same at = tt
 at_effect (effect.Link old) x y same at = tt
 at_effect (effect.Reset old) x y same at = tt
@@ -366,8 +366,8 @@ at_place (effect.Octets a len place) n o less inside at =
     ap (changed (effect.Octets a len place)) (sym (seen_given n o less inside) ∙ ap (λ (k : ℕ). seen_from k o) (sym at))
 at_place (effect.Arrival old place) n o less inside at =
     ap (changed (effect.Arrival old place)) (sym (seen_given n o less inside) ∙ ap (λ (k : ℕ). seen_from k o) (sym at))
-at_place (effect.RxStep left len buffer end_at place) n o less inside at =
-    ap (changed (effect.RxStep left len buffer end_at place))
+at_place (effect.RxStep high word low ends) n o less inside at =
+    ap (changed (effect.RxStep high word low ends))
     (sym (seen_given n o less inside) ∙ ap (λ (k : ℕ). seen_from k o) (sym at))
 at_place (effect.TxStep old head) n o less inside at = refl
 at_place (effect.Link old) n o less inside at = refl
@@ -381,7 +381,7 @@ placed (effect.Octets a len place) n o less inside at =
     omega (arith, at, forward-inside (length o.octets) n o.top inside (omega (arith, less)))
 placed (effect.Arrival old place) n o less inside at =
     omega (arith, at, forward-inside (length o.octets) n o.top inside (omega (arith, less)))
-placed (effect.RxStep left len buffer end_at place) n o less inside at =
+placed (effect.RxStep high word low ends) n o less inside at =
     omega (arith, at, forward-inside (length o.octets) n o.top inside (omega (arith, less)))
 placed (effect.TxStep old head) n o less inside at = tt
 placed (effect.Link old) n o less inside at = tt

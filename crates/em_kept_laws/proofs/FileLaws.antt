@@ -39,10 +39,10 @@ silent_plays (line ∷ lines) s h = join (line ∷ []) lines s s s (passed line 
 
 pub file_plays : (run : List Kept) (memory budget : ℕ) (words : List ℕ) (w : View) → AreTyped run
     → memory < 2 ^ 64 → budget < 2 ^ 64 → IsEeprom words
-    → Leads budget (shows (fresh memory words)) (calls_of_run run) w
-    → PlaysTheSame (lines_of (file_text memory budget words run)) (opening budget (shows (fresh memory words))) w
+    → Leads budget (shows (fresh 0 memory words)) (calls_of_run run) w
+    → PlaysTheSame (lines_of (file_text memory budget words run)) (opening budget (shows (fresh 0 memory words))) w
 file_plays run memory budget words w h m b is leads =
-    let v = opening budget (shows (fresh memory words)) in
+    let v = opening budget (shows (fresh 0 memory words)) in
     let head = head_lines memory budget words in
     let silent = head_silent memory budget words m b is in
     let all = head ++ lines_of_run run in

@@ -12,7 +12,7 @@ ghost use Rattle.em_kept_laws.specs.KeptRun.{AreTyped, Kept, PlaysTheSame, calls
 pub fn a_kept_run_plays_the_same()
     ensures { (run : List Kept) (memory budget : ℕ) (words : List ℕ) (w : View) → AreTyped run
         → memory < 2 ^ 64 → budget < 2 ^ 64 → IsEeprom words
-        → Leads budget (shows (fresh memory words)) (calls_of_run run) w
+        → Leads budget (shows (fresh 0 memory words)) (calls_of_run run) w
         → PlaysTheSame (lines_of (file_text memory budget words run))
-        (opening budget (shows (fresh memory words))) w }
+        (opening budget (shows (fresh 0 memory words))) w }
 {}

@@ -58,8 +58,8 @@ changed_same (effect.Octets at len place) x y fits held same =
     ap (λ (octets : List ℕ). Octets (record { at = at; octets = octets })) same
 changed_same (effect.Arrival old place) x y fits held same =
     ap (λ (octets : List ℕ). Arrival (record { octets = octets; entry = old.entry })) same
-changed_same (effect.RxStep left len buffer end_at place) x y fits held same =
-    receiving_same (piece left len buffer end_at) x y fits held same
+changed_same (effect.RxStep high word low ends) x y fits held same =
+    receiving_same (piece high word low ends) x y fits held same
 changed_same (effect.TxStep old head) x y fits held same = refl
 changed_same (effect.Link old) x y fits held same = refl
 changed_same (effect.Reset old) x y fits held same = refl
@@ -75,7 +75,7 @@ held_cost effect.Nothing = omega arith
 held_cost (effect.Register old) = omega arith
 held_cost (effect.Octets at len place) = omega arith
 held_cost (effect.Arrival old place) = omega arith
-held_cost (effect.RxStep left len buffer end_at place) = omega arith
+held_cost (effect.RxStep high word low ends) = omega arith
 held_cost (effect.TxStep old head) = omega arith
 held_cost (effect.Link old) = omega arith
 held_cost (effect.Reset old) = omega arith

@@ -1,5 +1,5 @@
 -- What a record puts back, and when it can be put back into an adapter.
-use Rattle.std.specs.Prelude.{◌≡◌, ℕ, ◌+◌, ◌≤◌, Bool, List, length, take}
+use Rattle.std.specs.Prelude.{◌≡◌, ℕ, ◌+◌, ◌*◌, ◌/◌, ◌%◌, ◌==◌, ◌≤◌, Bool, List, length, take}
 use Rattle.std.specs.Int.{w32, from_le_bytes}
 use Rattle.em_mem.specs.Memory as memory
 use Rattle.em_mem.specs.OldOctets.{Keeps, OldOctets, given_up, seen_from}
@@ -56,9 +56,18 @@ pub record Undo : Type 0 where
   pub latches : List Growth
   pub effect : Changed
 
--- a receive step's record, by its parts
-abbrev pub piece : Bool → ℕ → ℕ → ℕ → OldPiece
-piece left len buffer end_at = record { buffer = buffer; end_at = end_at; len = len; left = left }
+-- ---- a receive step's record in four numbers: two addresses of 40 bits, so many octets, whether the frame left, and a
+-- place of 25 bits among old octets
+abbrev pub piece : ℕ → ℕ → ℕ → ℕ → OldPiece
+piece high word low ends = record {
+  buffer = low + 0x1_0000_0000 * high;
+  end_at = ends / 0x100_0000;
+  len = word % 0x4000 + 1;
+  left = word / 0x4000 % 2 == 1;
+}
+
+abbrev pub place_of : ℕ → ℕ → ℕ
+place_of word ends = ends % 0x100_0000 + 0x100_0000 * (word / 0x8000)
 
 -- with its octets, of which those of RDH come first
 abbrev pub receiving : OldPiece → OldOctets → Changed
@@ -73,7 +82,7 @@ changed effect.Nothing o = Nothing
 changed (effect.Register old) o = Register old
 changed (effect.Octets at len place) o = Octets (record { at = at; octets = take len o.octets })
 changed (effect.Arrival old place) o = Arrival (frame_patch old o)
-changed (effect.RxStep left len buffer end_at place) o = receiving (piece left len buffer end_at) o
+changed (effect.RxStep high word low ends) o = receiving (piece high word low ends) o
 changed (effect.TxStep old head) o = TxStep old head
 changed (effect.Link old) o = Link old
 changed (effect.Reset old) o = Reset (aside old.value)
@@ -86,7 +95,7 @@ undo_of r o = record { latches = r.latches; effect = changed r.effect o }
 abbrev pub held_by : Effect → ℕ
 held_by (effect.Octets at len place) = len
 held_by (effect.Arrival old place) = old.len
-held_by (effect.RxStep left len buffer end_at place) = len + 12
+held_by (effect.RxStep high word low ends) = (piece high word low ends).len + 12
 held_by effect = 0
 
 abbrev pub held : Record → ℕ
@@ -96,7 +105,7 @@ held r = held_by r.effect
 abbrev pub IsPlacedBy : Effect → OldOctets → Type 0
 IsPlacedBy (effect.Octets at len place) o = place ≤ length o.octets
 IsPlacedBy (effect.Arrival old place) o = place ≤ length o.octets
-IsPlacedBy (effect.RxStep left len buffer end_at place) o = place ≤ length o.octets
+IsPlacedBy (effect.RxStep high word low ends) o = place_of word ends ≤ length o.octets
 IsPlacedBy effect o = Unit {0}
 
 abbrev pub IsPlaced : Record → OldOctets → Type 0
@@ -106,7 +115,7 @@ IsPlaced r o = IsPlacedBy r.effect o
 abbrev pub IsAtBy : Effect → OldOctets → Type 0
 IsAtBy (effect.Octets at len place) o = place ≡ o.top
 IsAtBy (effect.Arrival old place) o = place ≡ o.top
-IsAtBy (effect.RxStep left len buffer end_at place) o = place ≡ o.top
+IsAtBy (effect.RxStep high word low ends) o = place_of word ends ≡ o.top
 IsAtBy effect o = Unit {0}
 
 abbrev pub IsAt : Record → OldOctets → Type 0
@@ -127,7 +136,7 @@ pub record KeepsFor (r : Record) (old new : OldOctets) : Type 0 where
 abbrev pub octets_from : Effect → OldOctets → OldOctets
 octets_from (effect.Octets at len place) o = seen_from place o
 octets_from (effect.Arrival old place) o = seen_from place o
-octets_from (effect.RxStep left len buffer end_at place) o = seen_from place o
+octets_from (effect.RxStep high word low ends) o = seen_from (place_of word ends) o
 octets_from effect o = o
 
 -- what it means, wherever its octets lie among these

@@ -1,6 +1,6 @@
 //! Writes of guest memory by software.
 ghost use Rattle.std.specs.Prelude.{◌≡◌, ◌+◌, ◌<◌, ◌≤◌, [], length, IfOk, IfErr, OnOk, OnErr};
-ghost use Rattle.em_mem.specs.Memory.{IsHeld, put};
+ghost use Rattle.em_mem.specs.Memory.{LiesIn, put};
 ghost use Rattle.em_mem.specs.OldOctets.{Keeps};
 ghost use Rattle.em_step.specs.Cells.{shows, MorePages};
 ghost use Rattle.em_step.specs.Event.{pokes};
@@ -13,7 +13,7 @@ use crate::event::Answer;
 use crate::refusal::Refusal;
 use crate::undo::{Effect, Record};
 use em_mem::laws::places_are_small;
-use em_mem::{OldOctets, Saved};
+use em_mem::{OldOctets, Place, Saved};
 
 /// The most octets that one memory write has.
 const MOST_POKE: usize = 16_384;
@@ -51,7 +51,7 @@ impl Adapter {
         octets: &[u8],
         old: &mut OldOctets,
     ) -> Result<Effect, Refusal>
-        requires held { IsHeld (shows self.old).memory addr (length octets.now) }
+        requires held { LiesIn (shows self.old).base (shows self.old).memory addr (length octets.now) }
         requires some { 0 < length octets.now }
         requires most { length octets.now ≤ 16_384 }
         ensures state { OnOk result (shows self.new
@@ -74,7 +74,7 @@ impl Adapter {
         places_are_small(&self.memory);
         self.memory.write_saving(addr, octets, old);
         Ok(Effect::Octets {
-            at: addr as u32,
+            at: Place::new(addr),
             len: octets.len() as u16,
             place: old.place() as u32,
         })
@@ -82,12 +82,11 @@ impl Adapter {
 
     /// Takes a memory write back.
     #[inline(never)]
-    pub(crate) fn take_back_octets(&mut self, at: u32, len: u16, old: &Saved<'_>)
+    pub(crate) fn take_back_octets(&mut self, at: Place, len: u16, old: &Saved<'_>)
         requires room { len ≤ length old.now.octets }
         requires fits { EffectFits self.old (changed (Effect.Octets at len 0) old.now) }
         ensures { self.new ≡ undo_effect self.old (changed (Effect.Octets at len 0) old.now) }
     {
-        self.memory
-            .put_saved_back(u64::from(at), usize::from(len), old);
+        self.memory.put_saved_back(at.addr(), usize::from(len), old);
     }
 }
