@@ -12,7 +12,7 @@ use Rattle.em_tape.specs.Tape.{Tape, event_of}
 use Rattle.em_tape.specs.Moves.{IsCut, Plays}
 use Rattle.em_prompt.specs.BenchLine.{BenchLine, text_of as text_of_line}
 use Rattle.em_explain.specs.Explain.{Explains}
-use Rattle.em_looks.specs.Numbers.{counted_text, number_text, short_text}
+use Rattle.em_looks.specs.Numbers.{counted_text, short_text}
 use Rattle.em_warnings.specs.Warnings.{found_text}
 use Rattle.em_debugger.specs.declared.debugger.Debugger.{Debugger}
 use Rattle.em_debugger.specs.declared.performing.Performed.{Performed}
@@ -21,6 +21,7 @@ use Rattle.em_debugger.specs.Came.{Comes}
 use Rattle.em_debugger.specs.Debugger.{KeepsSome, came, told}
 use Rattle.em_debugger.specs.Engines.{Engages}
 use Rattle.em_debugger.specs.Expected.{Expects, compared_text, scored, wanted, warned_behind}
+use Rattle.em_debugger.specs.Marks.{line_number_text, marks_of}
 use Rattle.em_debugger.specs.Place.{line_here, text_of}
 use Rattle.em_debugger.specs.Sending.{KeepsFirst, StaysSent, first_sent}
 use Rattle.em_debugger.specs.Told.{Notes, Stay}
@@ -108,7 +109,7 @@ IsLast d = length d.tape.lines ≤ line_here d.tape
 -- a line with its number
 abbrev pub heading_text : Debugger → ℕ → List ℕ
 heading_text d line =
-    number_text (codes "line ") line (codes ": ") ++ (short_text (text_of line d.tape) ++ codes "\n")
+    line_number_text (marks_of d) (codes "line ") line (codes ": ") ++ (short_text (text_of line d.tape) ++ codes "\n")
 
 -- no line lies ahead, behind so many that did
 abbrev pub no_line_text : ℕ → List ℕ

@@ -1,8 +1,8 @@
 -- When the frames were sent that are on the wire: by the times of lines, and by which line sent which frames.
-use Rattle.std.specs.Prelude.{◌≡◌, ◌≢◌, ℕ, zero, suc, ◌+◌, ◌-◌, ◌*◌, nat_lt, is_some, if◌then◌else◌}
+use Rattle.std.specs.Prelude.{◌≡◌, ◌≢◌, ℕ, zero, suc, ◌+◌, ◌-◌, ◌*◌, ◌==◌, nat_lt, is_some, if◌then◌else◌}
 use Rattle.std.specs.Prelude.{List, [], ◌++◌, get_or, length, replicate, take, Option, Some, None, unwrap_or}
 use Rattle.em_frames.specs.Moment.{time_in}
-use Rattle.em_line.specs.Parts.{comment_in}
+use Rattle.em_line.specs.Parts.{comment_in, source_in}
 use Rattle.em_tape.specs.Texts.{texts}
 use Rattle.em_debugger.specs.declared.debugger.Debugger.{Debugger}
 use Rattle.em_debugger.specs.declared.sending.Clock.{Clock}
@@ -16,9 +16,16 @@ use Rattle.em_debugger.specs.Told.{told_of}
 abbrev pub only_time : List ℕ → List ℕ
 only_time text = if is_some (time_in text) then text else []
 
--- the time that a line's comment is, as it stands there
+-- a text, if it is no time; else no octet
+abbrev pub no_time : List ℕ → List ℕ
+no_time text = if is_some (time_in text) then [] else text
+
+-- what marks a line: the time that its comment is, as it stands there; else where it comes from, unless that reads as a time
+abbrev pub mark_of : List ℕ → List ℕ → List ℕ
+mark_of time source = if length time == 0 then no_time source else time
+
 abbrev pub timed_in : List ℕ → List ℕ
-timed_in line = only_time (unwrap_or (comment_in line) [])
+timed_in line = mark_of (only_time (unwrap_or (comment_in line) [])) (unwrap_or (source_in line) [])
 
 -- ---- what lines sent
 

@@ -37,7 +37,7 @@ pub struct Debugger {
     pub(crate) warns: bool,
     // the answers that lines expect
     pub(crate) wanted: Told,
-    // the times of lines, as their comments have them
+    // what marks the lines: their times, as their comments have them, or else where they come from
     pub(crate) times: Told,
     // which frames the lines sent that were performed
     pub(crate) sent: Sent,

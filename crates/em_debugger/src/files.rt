@@ -20,7 +20,7 @@ use crate::disk::{Disk, DiskFault};
 use crate::offers::is_capture;
 use crate::performing::{write_dropped, write_fault};
 use crate::place::{line_here, text_of};
-use crate::sending::time_of;
+use crate::sending::{mark_of, time_of};
 use crate::told::Told;
 use em_line::{is_line, parts_of};
 use em_looks::write_counted;
@@ -257,8 +257,8 @@ fn add_all(
     })
 }
 
-/// Puts what a line says behind the last line of a tape, and keeps which answer it expects, and its time, if its comment is
-/// one. Says whether em_bench reads what is played of it.
+/// Puts what a line says behind the last line of a tape, and keeps which answer it expects, and what marks it: its time, if
+/// its comment is one, or its source. Says whether em_bench reads what is played of it.
 fn add_line(
     alloc: Global,
     tape: &mut Tape,
@@ -280,15 +280,16 @@ fn add_line(
     let parts = parts_of(line);
     let answer = parts.expected.unwrap_or_default();
     let time = time_of(parts.comment);
-    if time.is_empty() {
+    let mark = mark_of(time, parts.source);
+    if mark.is_empty() {
         return add_played(alloc, tape, wanted, parts.said, answer);
     }
     let before = tape.len();
-    let Ok(time) = times.make_ready(before + 1, time) else {
+    let Ok(mark) = times.make_ready(before + 1, mark) else {
         return Err(BenchFault::Memory);
     };
     let read = add_played(alloc, tape, wanted, parts.said, answer)?;
-    times.set(before, time);
+    times.set(before, mark);
     Ok(read)
 }
 

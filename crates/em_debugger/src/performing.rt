@@ -14,9 +14,10 @@ ghost use Rattle.em_debugger.specs.Performing.{behind_text, fault_text};
 use crate::bench_looks::{answer_look, is_look};
 use crate::debugger::Debugger;
 use crate::files::add_expecting;
+use crate::marks::write_line_number;
 use crate::place::{line_here, text_of};
 use em_explain::write_explained;
-use em_looks::{write_counted, write_number, write_short};
+use em_looks::{write_counted, write_short};
 use em_prompt::BenchLine;
 use em_script::{BenchFault, Outcome};
 use em_text::{WriteFailed, write_pieces, write_whole};
@@ -285,7 +286,7 @@ impl Debugger {
     ) -> Result<(), WriteFailed>
         ensures writes { Writes (W.contents writer.old) (W.contents writer.new) result (heading_text self.now line) }
     {
-        write_number(writer, b"line ", line as u64, b": ")?;
+        write_line_number(writer, &self.times, b"line ", line, b": ")?;
         write_short(writer, text_of(&self.tape, line))?;
         write_whole(writer, b"\n")
     }

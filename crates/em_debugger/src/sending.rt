@@ -2,7 +2,7 @@
 ghost use Rattle.std.specs.Prelude.{◌≡◌, ◌<◌, ◌≤◌, IfOk, OnOk, OnErr, [], None, false, length, nat_lt, take, slice_set, unwrap_or};
 ghost use Rattle.std.specs.Option.{option_map};
 ghost use Rattle.em_debugger.specs.Sending.{KeepsFirst, StaysSent, course_at, course_of, first_of, first_sent, later};
-ghost use Rattle.em_debugger.specs.Sending.{moment_of, only_time, passed, times_in, times_of};
+ghost use Rattle.em_debugger.specs.Sending.{mark_of, moment_of, no_time, only_time, passed, times_in, times_of};
 
 use crate::debugger::Debugger;
 use crate::place::{holds, line_here};
@@ -19,6 +19,29 @@ pub(crate) fn time_of(comment: Option<&[u8]>) -> &[u8]
     match comment {
         Some(text) => only_time(text),
         None => b"",
+    }
+}
+
+/// What marks a line: its time, if it has one; else where it comes from.
+pub(crate) fn mark_of<'a>(time: &'a [u8], source: Option<&'a [u8]>) -> &'a [u8]
+    ensures { result.now ≡ mark_of time.now (unwrap_or (option_map (λ text. text.now) source.entry) []) }
+{
+    if !time.is_empty() {
+        return time;
+    }
+    match source {
+        Some(text) => no_time(text),
+        None => b"",
+    }
+}
+
+/// A text, if it is no time; else no octet.
+pub(crate) fn no_time(text: &[u8]) -> &[u8]
+    ensures { result.now ≡ no_time text.now }
+{
+    match time_in(text) {
+        Some(_) => b"",
+        None => text,
     }
 }
 
