@@ -131,6 +131,7 @@ typedef enum em_kind {
   EM_FETCHED = 9,       /* a step of the transmit engine that fetched a buffer and sent no frame */
   EM_SENT = 10,         /* a step of the transmit engine that sent a frame */
   EM_STORED = 11,       /* a frame that arrived, and lies in the FIFO */
+  EM_LINK_FLIPPED = 18, /* link flipped */
   EM_DOWN = 12,         /* a frame that was dropped: the link is down */
   EM_DISABLED = 13,     /* a frame that was dropped: RCTL.EN is clear */
   EM_REJECTED = 14,     /* a frame that was dropped: no filter accepts its destination, or its VLAN */

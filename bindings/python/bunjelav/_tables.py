@@ -50,6 +50,7 @@ KINDS = {
     9: "fetched",
     10: "sent",
     11: "stored",
+    18: "link flipped",
     12: "dropped: down",
     13: "dropped: disabled",
     14: "dropped: rejected",

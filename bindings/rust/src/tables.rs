@@ -134,6 +134,8 @@ pub enum Kind {
     Sent,
     /// Stored.
     Stored,
+    /// Link flipped.
+    LinkFlipped,
     /// Dropped: down.
     Down,
     /// Dropped: disabled.
@@ -151,7 +153,7 @@ pub enum Kind {
 }
 
 /// Each kind with its number, and what it is called.
-pub(crate) const KINDS: [(Kind, u32, &str); 17] = [
+pub(crate) const KINDS: [(Kind, u32, &str); 18] = [
     (Kind::Read, 1, "read"),
     (Kind::Write, 2, "write"),
     (Kind::Poke, 3, "poke"),
@@ -163,6 +165,7 @@ pub(crate) const KINDS: [(Kind, u32, &str); 17] = [
     (Kind::Fetched, 9, "fetched"),
     (Kind::Sent, 10, "sent"),
     (Kind::Stored, 11, "stored"),
+    (Kind::LinkFlipped, 18, "link flipped"),
     (Kind::Down, 12, "dropped: down"),
     (Kind::Disabled, 13, "dropped: disabled"),
     (Kind::Rejected, 14, "dropped: rejected"),

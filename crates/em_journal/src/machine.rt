@@ -10,6 +10,7 @@
 //! - a memory write: `poke`; `poke`; `GuestMemory::write_saving`
 //! - an arriving frame: `arrive`; `arrive`, `dispose`, `judge`, `admit`, `accept`; em_filter, `Fifo::store`
 //! - a change of the link: `set_link`; `set_link`; `Latches::raise`
+//! - a flip of the link: `flip_link`; `flip_link`; `Latches::raise`
 //! - a step of an engine: `receive_step`, `transmit_step`; the same; `Fifo::receive`, em_tx's `transmit`
 //!
 //! Each function of `Adapter` gives a `Record` too, and saves the octets that go with it in the journal's ring of octets,
@@ -28,7 +29,7 @@ ghost use Rattle.em_rx.specs.StoredFrame.{LiesSo};
 ghost use Rattle.em_step.specs.Access.{gives};
 ghost use Rattle.em_step.specs.Cells.{shows};
 ghost use Rattle.em_step.specs.Cost.{least_cost};
-ghost use Rattle.em_step.specs.Event.{plain, reads, writes, pokes, arrives, links, receives, transmits};
+ghost use Rattle.em_step.specs.Event.{plain, reads, writes, pokes, arrives, links, flips, receives, transmits};
 ghost use Rattle.em_journal.specs.Budget.{IsBudget};
 ghost use Rattle.em_journal.specs.History.{refuses, goes_back, is_empty, Does, Run, WasJournalled};
 ghost use Rattle.em_journal.specs.Record.{IsRecordAt};
@@ -139,6 +140,7 @@ impl Machine {
             Event::Poke(addr, octets) => self.poke(addr, octets),
             Event::Arrive(frame) => self.arrive(frame),
             Event::Link(up) => self.set_link(up),
+            Event::Flip => self.flip_link(),
             Event::RxStep => self.receive_step(),
             Event::TxStep => self.transmit_step(),
         }
@@ -308,6 +310,18 @@ impl Machine {
         ensures err { IfErr result (λ refusal. Does self.old (refuses (links up) refusal) self.new) }
     {
         let (answer, newest) = self.adapter.set_link(up)?;
+        self.records
+            .keep(&mut self.adapter, self.budget, LEAST_COST, newest);
+        Ok(answer)
+    }
+
+    /// The link goes to its other state.
+    #[inline(never)]
+    fn flip_link(&mut self) -> Result<Answer, Refusal>
+        ensures ok { IfOk result (λ answer. WasJournalled self.old flips answer self.new) }
+        ensures err { IfErr result (λ refusal. Does self.old (refuses flips refusal) self.new) }
+    {
+        let (answer, newest) = self.adapter.flip_link()?;
         self.records
             .keep(&mut self.adapter, self.budget, LEAST_COST, newest);
         Ok(answer)

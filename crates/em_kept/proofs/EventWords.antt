@@ -11,7 +11,7 @@ use Rattle.hex.specs.Hex.{IsBytes}
 use Rattle.em_text.specs.Words.{words_of, is_blank}
 use Rattle.em_text.specs.Numbers.{number, octets_of}
 use Rattle.em_text.specs.Writer.{hex_text}
-use Rattle.em_step.specs.Event.{Event, reads, writes, pokes, arrives, links, receives, transmits}
+use Rattle.em_step.specs.Event.{Event, reads, writes, pokes, arrives, links, flips, receives, transmits}
 use Rattle.em_line.specs.Command.{back_by, event}
 use Rattle.em_line.specs.ParsedLine.{says}
 use Rattle.em_line.specs.Grammar.{from_one_to, parsed_line, words_form, with}
@@ -97,6 +97,7 @@ event_said (links true) h some =
 event_said (links false) h some =
     ap words_form (words_two (codes "link") (codes "down") (name (codes "link") refl (omega arith))
     (name (codes "down") refl (omega arith)))
+event_said flips h some = ap words_form (words_one (codes "flip") (name (codes "flip") refl (omega arith)))
 event_said receives h some = ap words_form (words_one (codes "rx") (name (codes "rx") refl (omega arith)))
 event_said transmits h some = ap words_form (words_one (codes "tx") (name (codes "tx") refl (omega arith)))
 

@@ -7,7 +7,7 @@ use Rattle.std.specs.Int.{w32, w64, to_be_bytes}
 use Rattle.std.proofs.lemmas.Bool.{and_parts, false≢true}
 use Rattle.std.proofs.lemmas.Bool.Decides.{nat_tests}
 use Rattle.std.proofs.lemmas.List.Elements.{All-append}
-use Rattle.em_step.specs.Event.{Event, reads, writes, pokes, arrives, links, receives, transmits}
+use Rattle.em_step.specs.Event.{Event, reads, writes, pokes, arrives, links, flips, receives, transmits}
 use Rattle.em_step.specs.declared.event.Answer.{Answer}
 use Rattle.em_step.specs.declared.event.Answer.TheVariants as answer
 use Rattle.em_step.specs.declared.event.Reason.TheVariants.{Down, Disabled, Rejected, Undersize, Oversize, Missed}
@@ -66,6 +66,7 @@ event_quiet (arrives octets) h =
     join (codes "arrive ") (hex_text octets) (all_literal (codes "arrive ") refl) (quiet_hex octets h.0)
 event_quiet (links true) h = all_literal (codes "link up") refl
 event_quiet (links false) h = all_literal (codes "link down") refl
+event_quiet flips h = all_literal (codes "flip") refl
 event_quiet receives h = all_literal (codes "rx") refl
 event_quiet transmits h = all_literal (codes "tx") refl
 
@@ -82,6 +83,7 @@ event_ends (arrives octets) h some =
     ends_behind (codes "arrive ") (hex_text octets) (ends_word (hex_text octets) (hex_word octets h.0 some))
 event_ends (links true) h some = record { some = omega arith; last = refl }
 event_ends (links false) h some = record { some = omega arith; last = refl }
+event_ends flips h some = record { some = omega arith; last = refl }
 event_ends receives h some = record { some = omega arith; last = refl }
 event_ends transmits h some = record { some = omega arith; last = refl }
 
@@ -92,6 +94,7 @@ event_first (pokes a octets) rest = no_comment 112 _ refl refl
 event_first (arrives octets) rest = no_comment 97 _ refl refl
 event_first (links true) rest = no_comment 108 _ refl refl
 event_first (links false) rest = no_comment 108 _ refl refl
+event_first flips rest = no_comment 102 _ refl refl
 event_first receives rest = no_comment 114 _ refl refl
 event_first transmits rest = no_comment 116 _ refl refl
 
@@ -105,6 +108,7 @@ event_begins (arrives octets) h some =
     let is = event_ends (arrives octets) h some in record { some = is.some; first = refl; last = is.last }
 event_begins (links true) h some = record { some = omega arith; first = refl; last = refl }
 event_begins (links false) h some = record { some = omega arith; first = refl; last = refl }
+event_begins flips h some = record { some = omega arith; first = refl; last = refl }
 event_begins receives h some = record { some = omega arith; first = refl; last = refl }
 event_begins transmits h some = record { some = omega arith; first = refl; last = refl }
 
@@ -267,6 +271,7 @@ octets_of_line (arrives octets) refusal.Memory h = absurd (false≢true h)
 octets_of_line (reads o) r h = tt
 octets_of_line (writes o v) r h = tt
 octets_of_line (links up) r h = tt
+octets_of_line flips r h = tt
 octets_of_line receives r h = tt
 octets_of_line transmits r h = tt
 
@@ -314,6 +319,7 @@ told_quiet (arrives octets) h =
 told_quiet (reads o) h = event_quiet (reads o) h
 told_quiet (writes o v) h = event_quiet (writes o v) h
 told_quiet (links up) h = event_quiet (links up) h
+told_quiet flips h = event_quiet flips h
 told_quiet receives h = event_quiet receives h
 told_quiet transmits h = event_quiet transmits h
 

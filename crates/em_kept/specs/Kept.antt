@@ -3,7 +3,7 @@ use Rattle.std.specs.Prelude.{ℕ, Bool, true, false, ◌-◌, ◌*◌, ◌/◌,
 use Rattle.std.specs.Prelude.{List, [], ◌∷◌, ◌++◌, length, replicate, codes, decimal}
 use Rattle.std.specs.Int.{w64, to_be_bytes}
 use Rattle.std.specs.List.{flat_map}
-use Rattle.em_step.specs.Event.{Event, reads, writes, pokes, arrives, links, receives, transmits}
+use Rattle.em_step.specs.Event.{Event, reads, writes, pokes, arrives, links, flips, receives, transmits}
 use Rattle.em_step.specs.declared.event.Answer.{Answer}
 use Rattle.em_step.specs.declared.event.Answer.TheVariants as answer
 use Rattle.em_step.specs.declared.refusal.Refusal.{Refusal}
@@ -38,6 +38,7 @@ event_words (writes o v) = codes "w " ++ (value_digits o ++ (codes " " ++ value_
 event_words (pokes a octets) = octets_behind (codes "poke " ++ (address_digits a ++ codes " ")) octets
 event_words (arrives octets) = octets_behind (codes "arrive ") octets
 event_words (links up) = if up then codes "link up" else codes "link down"
+event_words flips = codes "flip"
 event_words receives = codes "rx"
 event_words transmits = codes "tx"
 

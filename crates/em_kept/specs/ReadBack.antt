@@ -2,7 +2,7 @@
 use Rattle.std.specs.Prelude.{◌≡◌, ℕ, false, ◌^◌, ◌<◌, List, [], ◌∷◌, ◌++◌, length, codes, Some, None, option_map}
 use Rattle.std.specs.List.{All}
 use Rattle.hex.specs.Hex.{IsBytes}
-use Rattle.em_step.specs.Event.{Event, reads, writes, pokes, arrives, links, receives, transmits}
+use Rattle.em_step.specs.Event.{Event, reads, writes, pokes, arrives, links, flips, receives, transmits}
 use Rattle.em_step.specs.declared.event.Answer.{Answer}
 use Rattle.em_step.specs.declared.event.Answer.TheVariants as answer
 use Rattle.em_text.specs.Lines.{is_newline}
@@ -53,6 +53,7 @@ IsTyped (writes o v) = (o < 2 ^ 32) × (v < 2 ^ 32)
 IsTyped (pokes a octets) = (a < 2 ^ 64) × (IsBytes octets × (length octets < 2 ^ 64))
 IsTyped (arrives octets) = IsBytes octets × (length octets < 2 ^ 64)
 IsTyped (links up) = Unit {0}
+IsTyped flips = Unit {0}
 IsTyped receives = Unit {0}
 IsTyped transmits = Unit {0}
 

@@ -129,6 +129,7 @@ fn write_said<W: Write>(writer: &mut W, event: Event<'_>) -> Result<(), WriteFai
         Event::Arrive(frame) => write_octets_behind(writer, &[b"arrive "], frame),
         Event::Link(true) => write_whole(writer, b"link up"),
         Event::Link(false) => write_whole(writer, b"link down"),
+        Event::Flip => write_whole(writer, b"flip"),
         Event::RxStep => write_whole(writer, b"rx"),
         Event::TxStep => write_whole(writer, b"tx"),
     }

@@ -8,7 +8,7 @@ use Rattle.std.proofs.Math.Nat.{suc-mul}
 use Rattle.em_step.specs.State.{State}
 use Rattle.em_step.specs.Step.{needs_memory, step, takes_memory}
 use Rattle.em_step.specs.Cost.{cost}
-use Rattle.em_step.specs.Event.{Event, reads, writes, pokes, arrives, links, receives, transmits}
+use Rattle.em_step.specs.Event.{Event, reads, writes, pokes, arrives, links, flips, receives, transmits}
 use Rattle.em_step.specs.declared.event.Answer.{Answer}
 use Rattle.em_step.specs.declared.refusal.Refusal.{Refusal}
 use Rattle.em_step.specs.declared.refusal.Refusal.TheVariants.{Range, Length, Memory}
@@ -66,6 +66,7 @@ had_octets (arrives f) s r is = elim (cases_lt 0 (length f)) [
       absurd (no_frame (nat_lt (length f) 14) _ _ r short is)
 ]
 had_octets (links up) s r is = tt
+had_octets flips s r is = tt
 had_octets receives s r is = tt
 had_octets transmits s r is = tt
 

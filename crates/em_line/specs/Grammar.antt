@@ -2,7 +2,7 @@
 use Rattle.std.specs.Prelude.{ℕ, Bool, true, false, codes, ◌==◌, ◌&&◌, nat_le, if◌then◌else◌, List, [], ◌∷◌, Option}
 use Rattle.std.specs.Prelude.{Some, None}
 use Rattle.std.specs.Str.{bytes_eq}
-use Rattle.em_step.specs.Event.{reads, writes, pokes, arrives, links, receives, transmits}
+use Rattle.em_step.specs.Event.{reads, writes, pokes, arrives, links, flips, receives, transmits}
 use Rattle.em_text.specs.Words.{words_of}
 use Rattle.em_text.specs.Numbers.{hex_number, hex_address, decimal_number, octets_of}
 use Rattle.em_line.specs.Arguments.{Arguments, zero, one, two, arguments_of}
@@ -100,6 +100,7 @@ command_form name arguments =
     if bytes_eq name (codes "rx") then alone (event receives) arguments else
     if bytes_eq name (codes "tx") then alone (event transmits) arguments else
     if bytes_eq name (codes "link") then link_form arguments else
+    if bytes_eq name (codes "flip") then alone (event flips) arguments else
     look_form name arguments
 
 -- a comment begins with a hash

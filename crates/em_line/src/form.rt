@@ -128,6 +128,9 @@ fn event_named<'a>(name: &'a [u8], words: Words<'a>) -> LineForm<'a>
     if is_name(name, b"link") {
         return command_form(link_form(words));
     }
+    if is_name(name, b"flip") {
+        return command_form(alone(Command::Event(Event::Flip), words));
+    }
     look_named(name, words)
 }
 

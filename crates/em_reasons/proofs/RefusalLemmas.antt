@@ -22,7 +22,7 @@ use Rattle.em_tx.specs.declared.answer.TxAnswer.{TxAnswer}
 use Rattle.em_tx.specs.declared.answer.TxAnswer.TheVariants as tx_answer
 use Rattle.em_tx.specs.declared.refusal.TxRefusal.TheVariants as tx_refusal
 use Rattle.em_step.specs.Engines.{rx_stepped, sending, tx_stepped}
-use Rattle.em_step.specs.Event.{Event, reads, writes, pokes, arrives, links, receives, transmits}
+use Rattle.em_step.specs.Event.{Event, reads, writes, pokes, arrives, links, flips, receives, transmits}
 use Rattle.em_step.specs.State.{State}
 use Rattle.em_step.specs.Step.{at_register, step}
 use Rattle.em_step.specs.declared.event.Answer.{Answer}
@@ -102,6 +102,7 @@ refusal_said s (pokes a octets) =
     a (length octets) (length s.memory) _
 refusal_said s (arrives f) = of_frame (nat_lt (length f) 14 || nat_lt 20_000 (length f)) (length f) _
 refusal_said s (links up) = refl
+refusal_said s flips = refl
 refusal_said s receives =
     let q = rx_setup s.registers in
     of_receive s q (rx.is_idle q s.fifo) (nat_lt (length s.memory) (rx.descriptor_at q + 16))
@@ -250,6 +251,7 @@ tables_lack s (writes o v) = (λ h. cc, tt)
 tables_lack s (pokes a octets) = (λ h. cc, (λ h. cc, tt))
 tables_lack s (arrives f) = (λ h. cc, tt)
 tables_lack s (links up) = tt
+tables_lack s flips = tt
 tables_lack s receives =
     let q = rx_setup s.registers in
     lacks_busy (rx.is_idle q s.fifo) (rx_table q s.memory s.fifo) (λ h. cc, (λ h. cc, tt))

@@ -15,7 +15,7 @@ use Rattle.em_rx.specs.Fifo.{Fifo, first, rest}
 use Rattle.em_rx.specs.Receive as rx
 use Rattle.em_tx.specs.Descriptor.{address, dext, length_of}
 use Rattle.em_tx.specs.Ring as tx
-use Rattle.em_step.specs.Event.{Event, reads, writes, pokes, arrives, links, receives, transmits}
+use Rattle.em_step.specs.Event.{Event, reads, writes, pokes, arrives, links, flips, receives, transmits}
 use Rattle.em_step.specs.State.{State}
 use Rattle.em_step.specs.Step.{step}
 use Rattle.em_step.specs.declared.refusal.Refusal.{Refusal}
@@ -425,6 +425,7 @@ stays_refused_so s t (pokes a octets) r is looks before size earlier runs =
     ap (λ (v : ℕ). first_of (write_table v a (length octets))) size ∙ is
 stays_refused_so s t (arrives f) r is looks before size earlier runs = is
 stays_refused_so s t (links up) r is looks before size earlier runs = cc
+stays_refused_so s t flips r is looks before size earlier runs = cc
 stays_refused_so s t receives r is looks before size earlier runs = stay_receiving s t r is looks size runs
 stays_refused_so s t transmits r is looks before size earlier runs =
     stay_transmitting s t r is looks before size earlier runs
@@ -489,6 +490,7 @@ keeps s t (pokes a octets) r is looks size earlier runs =
     ap is_some (ap (λ (v : ℕ). first_of (write_table v a (length octets))) size ∙ is)
 keeps s t (arrives f) r is looks size earlier runs = ap is_some is
 keeps s t (links up) r is looks size earlier runs = cc
+keeps s t flips r is looks size earlier runs = cc
 keeps s t receives r is looks size earlier runs = ap is_some (stay_receiving s t r is looks size runs)
 keeps s t transmits r is looks size earlier runs = keep_transmitting s t r is looks size earlier runs
 

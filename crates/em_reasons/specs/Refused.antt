@@ -10,7 +10,7 @@ use Rattle.em_rx.specs.Fifo.{Fifo, first}
 use Rattle.em_rx.specs.Receive as rx
 use Rattle.em_tx.specs.Descriptor.{address, dext, length_of}
 use Rattle.em_tx.specs.Ring as tx
-use Rattle.em_step.specs.Event.{Event, reads, writes, pokes, arrives, links, receives, transmits}
+use Rattle.em_step.specs.Event.{Event, reads, writes, pokes, arrives, links, flips, receives, transmits}
 use Rattle.em_step.specs.State.{State}
 use Rattle.em_step.specs.declared.refusal.Refusal.{Refusal}
 use Rattle.em_step.specs.declared.refusal.Refusal.TheVariants as refusal
@@ -76,6 +76,7 @@ refusal_table s (writes o v) = access_table o
 refusal_table s (pokes a octets) = write_table (length s.memory) a (length octets)
 refusal_table s (arrives f) = frame_table (length f)
 refusal_table s (links up) = []
+refusal_table s flips = []
 refusal_table s receives =
     let q = rx_setup s.registers in unless_idle (rx.is_idle q s.fifo) (rx_table q s.memory s.fifo)
 refusal_table s transmits =

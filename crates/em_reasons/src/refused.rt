@@ -99,6 +99,7 @@ pub fn why_refused(machine: &Machine, event: Event<'_>, refusal: Refusal) -> Ref
         },
         // a change of the link is never refused
         Event::Link(_) => Refused::Memory,
+        Event::Flip => Refused::Memory,
         Event::RxStep => refused_receive(machine),
         Event::TxStep => refused_transmit(machine, refusal),
     }

@@ -47,6 +47,7 @@ fn kind_of_event(event: Event<'_>) -> &'static [u8] {
         Event::Poke(..) => b"poke",
         Event::Arrive(_) => b"arrive",
         Event::Link(_) => b"link",
+        Event::Flip => b"flip",
         Event::RxStep => b"rx",
         Event::TxStep => b"tx",
     }

@@ -136,6 +136,10 @@ impl Player {
                 &mut self.peek_buffer,
             ));
         }
+        if is_name(line.name, b"flip") {
+            let command = alone(Command::Event(Event::Flip), line.words);
+            return Ok(play_command(writer, session, line.number, command, &mut self.peek_buffer));
+        }
         self.play_look(writer, session, line)
     }
 

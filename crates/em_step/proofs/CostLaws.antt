@@ -21,7 +21,7 @@ use Rattle.em_step.specs.State.{State}
 use Rattle.em_step.specs.Arrival.{arrival, octets_stored}
 use Rattle.em_step.proofs.ArrivalLaws.{stored_most}
 use Rattle.em_step.specs.declared.refusal.Refusal.TheVariants.{Length}
-use Rattle.em_step.specs.Event.{Event, reads, writes, pokes, arrives, links, receives, transmits}
+use Rattle.em_step.specs.Event.{Event, reads, writes, pokes, arrives, links, flips, receives, transmits}
 use Rattle.em_step.specs.Step.{resets, step}
 use Rattle.em_step.specs.Cost.{least_cost, most_cost, cost, cost_by, cost_by_effect, cost_of_effect, cost_of}
 use Rattle.em_step.specs.Cells.{Cells, shows}
@@ -113,6 +113,7 @@ cost_most s (arrives f) r is =
     let most : length f ≤ 20_000 = ltb-false _ _ (frame_most few many (arrival s f) r is) in
     omega (arith, most, stored_octets s f (arrival s f).0)
 cost_most s (links up) r is = omega arith
+cost_most s flips r is = omega arith
 cost_most s receives r is = omega (arith, piece_most s)
 cost_most s transmits r is =
     let q = tx_setup s.registers in

@@ -1,5 +1,5 @@
 -- An access of a register: what a read gives, and the state after a read or a write. A reset, and a change of the link.
-use Rattle.std.specs.Prelude.{ℕ, ◌/◌, ◌%◌, ◌==◌, Bool, true, false, bit_and, if◌then◌else◌, []}
+use Rattle.std.specs.Prelude.{ℕ, ◌/◌, ◌%◌, ◌==◌, Bool, true, false, not, bit_and, if◌then◌else◌, []}
 use Rattle.em_regs.specs.declared.reg.Reg.{Reg}
 use Rattle.em_regs.specs.declared.reg.Reg.TheVariants.{Eerd}
 use Rattle.em_regs.specs.declared.table.Kind.{Kind}
@@ -91,3 +91,7 @@ abbrev pub after_link : State → Bool → State
 after_link s up =
     if differ up s.link then record s { link = up; latches = latches.after_raise s.latches 0x4 }
     else s
+
+-- the link goes to its other state, which raises LSC
+abbrev pub after_flip : State → State
+after_flip s = record s { link = not s.link; latches = latches.after_raise s.latches 0x4 }

@@ -2,7 +2,7 @@
 use Rattle.std.specs.Prelude.{ℕ, ◌+◌, length, if◌then◌else◌}
 use Rattle.em_regs.specs.Table.{reg_at}
 use Rattle.em_step.specs.State.{State}
-use Rattle.em_step.specs.Event.{Event, reads, writes, pokes, arrives, links, receives, transmits}
+use Rattle.em_step.specs.Event.{Event, reads, writes, pokes, arrives, links, flips, receives, transmits}
 use Rattle.em_regs.specs.Setup.{rx_setup, tx_setup}
 use Rattle.em_rx.specs.Receive.{octets_written}
 use Rattle.em_tx.specs.Engine as tx
@@ -29,6 +29,7 @@ cost s (writes o v) = if resets (reg_at o) v then most_cost else least_cost
 cost s (pokes a octets) = least_cost + length octets
 cost s (arrives f) = least_cost + octets_stored s f (arrival s f).0
 cost s (links up) = least_cost
+cost s flips = least_cost
 cost s receives = least_cost + octets_written (rx_setup s.registers) s.fifo
 cost s transmits = least_cost + tx.cost (tx_setup s.registers) (sending s)
 

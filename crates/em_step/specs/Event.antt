@@ -14,6 +14,8 @@ pub data Event : Type 0 where
   arrives : List ℕ → Event
   -- the link goes up, or down
   links : Bool → Event
+  -- the link goes to its other state
+  flips : Event
   -- the receive engine handles a descriptor
   receives : Event
   -- the transmit engine handles a descriptor
@@ -26,5 +28,6 @@ plain (lent.Write o v) = writes o v
 plain (lent.Poke a octets) = pokes a octets.now
 plain (lent.Arrive octets) = arrives octets.now
 plain (lent.Link up) = links up
+plain lent.Flip = flips
 plain lent.RxStep = receives
 plain lent.TxStep = transmits

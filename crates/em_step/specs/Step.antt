@@ -4,11 +4,11 @@ use Rattle.std.specs.Prelude.{List, length, Option, Some, None, Result, Ok, Err}
 use Rattle.em_mem.specs.Memory.{put}
 use Rattle.em_regs.specs.Table.{reg_at}
 use Rattle.em_regs.specs.declared.reg.Reg.{Reg}
-use Rattle.em_step.specs.Event.{Event, reads, writes, pokes, arrives, links, receives, transmits}
+use Rattle.em_step.specs.Event.{Event, reads, writes, pokes, arrives, links, flips, receives, transmits}
 use Rattle.em_step.specs.State.{State}
 use Rattle.em_step.specs.Arrival.{arrival}
 use Rattle.em_step.specs.Engines.{rx_step, tx_step}
-use Rattle.em_step.specs.Access.{gives, after_read, after_write, is_reset, after_link}
+use Rattle.em_step.specs.Access.{gives, after_read, after_write, is_reset, after_link, after_flip}
 use Rattle.em_step.specs.declared.event.Answer.{Answer}
 use Rattle.em_step.specs.declared.event.Answer.TheVariants.{Done, Value, Dropped, Idle}
 use Rattle.em_step.specs.declared.refusal.Refusal.{Refusal}
@@ -37,6 +37,7 @@ step s (writes o v) = at_register (reg_at o) (λ reg. (Done, after_write s reg v
 step s (pokes a octets) = poke s a octets
 step s (arrives f) = arrive s f
 step s (links up) = Ok (Done, after_link s up)
+step s flips = Ok (Done, after_flip s)
 step s receives = rx_step s
 step s transmits = tx_step s
 
@@ -52,6 +53,7 @@ takes_memory (writes o v) = resets (reg_at o) v
 takes_memory (pokes a octets) = true
 takes_memory (arrives f) = true
 takes_memory (links up) = false
+takes_memory flips = false
 takes_memory receives = true
 takes_memory transmits = true
 

@@ -14,7 +14,7 @@ ghost use Rattle.em_step.specs.State.{status};
 ghost use Rattle.em_step.specs.Access.{gives, after_write_by, after_eerd_write};
 ghost use Rattle.em_step.specs.Access.{is_reset_by, reset};
 ghost use Rattle.em_step.specs.Cells.{fresh, shows, MorePages};
-ghost use Rattle.em_step.specs.Event.{links, plain, pokes, reads, writes};
+ghost use Rattle.em_step.specs.Event.{flips, links, plain, pokes, reads, writes};
 ghost use Rattle.em_mem.specs.OldOctets.{OldOctets};
 ghost use Rattle.em_step.specs.Performed.{PerformedPlainly, WasPerformed, WasRefused};
 ghost use Rattle.em_step.specs.Undo.{Fits, EffectFits, Reverses, ReversesPlainly, held, undo, undo_effect, undo_of};
@@ -242,6 +242,7 @@ impl Adapter {
             Event::Poke(addr, octets) => self.poke(addr, octets, old),
             Event::Arrive(frame) => self.arrive(frame, old),
             Event::Link(up) => self.set_link(up),
+            Event::Flip => self.flip_link(),
             Event::RxStep => self.receive_step(old),
             Event::TxStep => self.transmit_step(),
         }
@@ -525,6 +526,19 @@ impl Adapter {
             return Ok((Answer::Done, Record::of_effect(Effect::Nothing)));
         }
         let latches = self.latches.raise(Causes::LSC.bits());
+        let effect = Effect::Link(std::mem::replace(&mut self.link, up));
+        Ok((Answer::Done, Record { latches, effect }))
+    }
+
+    /// The link goes to its other state, which raises LSC. It is never refused.
+    #[inline(always)]
+    pub fn flip_link(&mut self) -> Result<(Answer, Record), Refusal>
+        ensures ok { IfOk result (λ r. PerformedPlainly self.old flips self.new r.0 r.1) }
+        ensures err { IfErr result (WasRefused self.old flips self.new) }
+        ensures same { OnErr result (self.new ≡ self.old) }
+    {
+        let latches = self.latches.raise(Causes::LSC.bits());
+        let up = !self.link;
         let effect = Effect::Link(std::mem::replace(&mut self.link, up));
         Ok((Answer::Done, Record { latches, effect }))
     }

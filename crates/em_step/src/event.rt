@@ -14,6 +14,8 @@ pub enum Event<'a> {
     Arrive(&'a [u8]),
     /// The link goes up, or down.
     Link(bool),
+    /// The link goes down where it was up, and up where it was down.
+    Flip,
     /// The receive engine handles one descriptor.
     RxStep,
     /// The transmit engine handles one descriptor.

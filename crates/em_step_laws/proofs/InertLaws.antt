@@ -47,7 +47,7 @@ use Rattle.em_step.specs.Arrival.{admission, arrival, is_enabled, judgement}
 use Rattle.em_step.specs.Counts.{after_buffer_count, after_frame_count, after_miss_count}
 use Rattle.em_step.specs.Engines.{after_rx_answer, after_tx_answer, rx_step, rx_stepped, sending, tx_step, tx_stepped}
 use Rattle.em_step.specs.Engines.{with_outcome, with_shown}
-use Rattle.em_step.specs.Event.{Event, reads, writes, pokes, arrives, links, receives, transmits}
+use Rattle.em_step.specs.Event.{Event, reads, writes, pokes, arrives, links, flips, receives, transmits}
 use Rattle.em_step_laws.specs.Inert.{AgreeInRules, Alike, IsNoRead}
 use Rattle.em_step.specs.State.{State}
 use Rattle.em_step.specs.Step.{at_register, step}
@@ -391,5 +391,6 @@ alike s n (pokes a d) h noread =
     poked_by s n a d (nat_lt (length s.memory) (a + length d)) (length d == 0 || nat_lt 16_384 (length d)) h
 alike s n (arrives f) h noread = sized_by s n f (nat_lt (length f) 14 || nat_lt 20_000 (length f)) h
 alike s n (links up) h noread = linked_by s n up (differ up s.link) h
+alike s n flips h noread = (refl, (n, refl, h))
 alike s n receives h noread = receive_alike s n h
 alike s n transmits h noread = transmit_alike s n h

@@ -28,13 +28,13 @@ use Rattle.em_tx.specs.Cells.{Shown}
 use Rattle.em_tx.specs.declared.answer.TxAnswer.{TxAnswer}
 use Rattle.em_tx.specs.declared.answer.TxAnswer.TheVariants as tx_answer
 use Rattle.em_tx.specs.declared.refusal.TxRefusal.{TxRefusal}
-use Rattle.em_step.specs.Access.{after_eeprom_read, after_link, after_read, after_store, after_write, after_write_by}
+use Rattle.em_step.specs.Access.{after_eeprom_read, after_flip, after_link, after_read, after_store, after_write, after_write_by}
 use Rattle.em_step.specs.Access.{differ, eerd_address, gives, has, is_reset_by, reset}
 use Rattle.em_step.specs.Arrival.{after_accept, after_miss, arrival, is_enabled, judged, judgement, lacks_room}
 use Rattle.em_step.specs.Cells.{fresh, shows}
 use Rattle.em_step.specs.Engines.{after_rx_answer, after_tx_answer, received, rx_stepped, transmitted}
 use Rattle.em_step.specs.Engines.{tx_stepped, with_outcome, with_shown}
-use Rattle.em_step.specs.Event.{Event, reads, writes, pokes, arrives, links, receives, transmits}
+use Rattle.em_step.specs.Event.{Event, reads, writes, pokes, arrives, links, flips, receives, transmits}
 use Rattle.em_step_laws.specs.Reached.{ArePerformed, IsReached}
 use Rattle.em_step.specs.State.{State}
 use Rattle.em_step.specs.Step.{at_register, step}
@@ -169,6 +169,9 @@ event_keeps s (arrives f) r few is =
 event_keeps s (links up) r few is =
     let same : (Done, after_link s up) ≡ r = cc in
     subst Keeps same (either_keeps (differ up s.link) _ s few few)
+event_keeps s flips r few is =
+    let same : (Done, after_flip s) ≡ r = cc in
+    subst Keeps same few
 event_keeps s receives r few is = rx_keeps s (received s) r few is
 event_keeps s transmits r few is = tx_keeps s (transmitted s) r few is
 

@@ -1,6 +1,6 @@
 -- What a note keeps of an event and its answer.
 use Rattle.std.specs.Prelude.{ℕ, ◌%◌, ◌^◌, length, if◌then◌else◌}
-use Rattle.em_step.specs.Event.{Event, reads, writes, pokes, arrives, links, receives, transmits}
+use Rattle.em_step.specs.Event.{Event, reads, writes, pokes, arrives, links, flips, receives, transmits}
 use Rattle.em_step.specs.declared.event.Answer.{Answer}
 use Rattle.em_step.specs.declared.event.Answer.TheVariants as answered
 use Rattle.em_trail.specs.declared.note.Kind.{Kind}
@@ -39,5 +39,6 @@ note_of (writes o v) answer tag = note tag o 4 v kind.Write
 note_of (pokes a octets) answer tag = note tag a (length octets % 2 ^ 32) 0 kind.Poke
 note_of (arrives f) answer tag = note tag 0 (length f % 2 ^ 32) 0 (arrived answer)
 note_of (links up) answer tag = note tag 0 0 0 (if up then kind.LinkUp else kind.LinkDown)
+note_of flips answer tag = note tag 0 0 0 kind.LinkFlipped
 note_of receives answer tag = received answer tag
 note_of transmits answer tag = sent answer tag

@@ -23,6 +23,8 @@ pub enum Kind {
     LinkUp,
     /// The link went down, or was down.
     LinkDown,
+    /// The link went to its other state.
+    LinkFlipped,
     /// A step of the receive engine that had nothing to do.
     ReceiveIdle,
     /// A step of the receive engine that wrote a piece of a frame.
@@ -100,6 +102,13 @@ pub(crate) fn note_of(event: Event<'_>, answer: Answer, tag: u64) -> Note
             length: 0,
             value: 0,
             kind: if up { Kind::LinkUp } else { Kind::LinkDown },
+        },
+        Event::Flip => Note {
+            tag,
+            at: 0,
+            length: 0,
+            value: 0,
+            kind: Kind::LinkFlipped,
         },
         Event::RxStep => received(answer, tag),
         Event::TxStep => sent(answer, tag),

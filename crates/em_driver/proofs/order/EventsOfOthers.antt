@@ -19,9 +19,9 @@ use Rattle.em_regs.specs.Table as table
 use Rattle.em_regs.proofs.TableLaws.{reg_in_lies}
 use Rattle.em_latch.specs.Latches as latches
 use Rattle.em_eeprom.specs.Eeprom.{word_at}
-use Rattle.em_step.specs.Access.{after_eeprom_read, after_latch_write, after_link, after_store, after_write}
+use Rattle.em_step.specs.Access.{after_eeprom_read, after_flip, after_latch_write, after_link, after_store, after_write}
 use Rattle.em_step.specs.Access.{after_write_by, differ, eerd_address, has}
-use Rattle.em_step.specs.Event.{Event, reads, writes, pokes, arrives, links, receives, transmits}
+use Rattle.em_step.specs.Event.{Event, reads, writes, pokes, arrives, links, flips, receives, transmits}
 use Rattle.em_step.specs.State.{State}
 use Rattle.em_step.specs.Step.{at_register, step}
 use Rattle.em_step.specs.declared.event.Answer.{Answer}
@@ -184,6 +184,8 @@ others_elsewhere l s (pokes a d) r plain out is =
     refl is
 others_elsewhere l s (links up) r plain out is =
     subst (λ x. IsElsewhere l s x.1) (ok_is (Done, after_link s up) r is) (link_by l s up (differ up s.link))
+others_elsewhere l s flips r plain out is =
+    subst (λ x. IsElsewhere l s x.1) (ok_is (Done, after_flip s) r is) (link_by l s (not s.link) true)
 others_elsewhere l s (arrives f) r plain out is = absurd plain
 others_elsewhere l s receives r plain out is = absurd plain
 others_elsewhere l s transmits r plain out is = absurd plain
@@ -233,6 +235,7 @@ others_move l s (reads o) r h out is = elsewhere_moves l s r.1 h (others_elsewhe
 others_move l s (writes o v) r h out is = elsewhere_moves l s r.1 h (others_elsewhere l s (writes o v) r tt out is)
 others_move l s (pokes a d) r h out is = elsewhere_moves l s r.1 h (others_elsewhere l s (pokes a d) r tt out is)
 others_move l s (links up) r h out is = elsewhere_moves l s r.1 h (others_elsewhere l s (links up) r tt out is)
+others_move l s flips r h out is = elsewhere_moves l s r.1 h (others_elsewhere l s flips r tt out is)
 others_move l s (arrives f) r h out is = turn_moves l s (Arrive f) r h is
 others_move l s receives r h out is = turn_moves l s RxStep r h is
 others_move l s transmits r h out is = turn_moves l s TxStep r h is
@@ -244,6 +247,7 @@ wire_rests l s (reads o) r h out is other = (others_elsewhere l s (reads o) r tt
 wire_rests l s (writes o v) r h out is other = (others_elsewhere l s (writes o v) r tt out is).wire
 wire_rests l s (pokes a d) r h out is other = (others_elsewhere l s (pokes a d) r tt out is).wire
 wire_rests l s (links up) r h out is other = (others_elsewhere l s (links up) r tt out is).wire
+wire_rests l s flips r h out is other = (others_elsewhere l s flips r tt out is).wire
 wire_rests l s (arrives f) r h out is other = (arrival_turn l s f r h.layout h.receiving is).sending.wire
 wire_rests l s receives r h out is other = (receive_turn l s r h.layout h.receiving is).sending.wire
 wire_rests l s transmits r h out is other = absurd (other refl)

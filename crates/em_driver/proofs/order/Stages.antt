@@ -9,7 +9,7 @@ use Rattle.em_regs.specs.Table.{offset_of}
 use Rattle.em_regs.specs.declared.reg.Reg.{Reg}
 use Rattle.em_regs.specs.declared.reg.Reg.TheVariants.{Eerd}
 use Rattle.em_step.specs.Access.{has}
-use Rattle.em_step.specs.Event.{Event, reads, writes, pokes, arrives, links, receives, transmits}
+use Rattle.em_step.specs.Event.{Event, reads, writes, pokes, arrives, links, flips, receives, transmits}
 use Rattle.em_step.specs.State.{State}
 use Rattle.em_step.specs.Step.{step}
 use Rattle.em_step.specs.declared.event.Answer.{Answer}
@@ -68,6 +68,8 @@ closed_by l stage turns elsewhere s stored (pokes a d) r h out is =
     stored_none (stage r.1) stored (elsewhere s r.1 stored h (others_elsewhere l s (pokes a d) r tt out is))
 closed_by l stage turns elsewhere s stored (links up) r h out is =
     stored_none (stage r.1) stored (elsewhere s r.1 stored h (others_elsewhere l s (links up) r tt out is))
+closed_by l stage turns elsewhere s stored flips r h out is =
+    stored_none (stage r.1) stored (elsewhere s r.1 stored h (others_elsewhere l s flips r tt out is))
 
 -- A world is at a stage, with the frames that were stored since there were those before; and whoever acts there beside
 -- the plan spares the driver.
