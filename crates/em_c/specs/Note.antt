@@ -3,7 +3,7 @@ use Rattle.std.specs.Prelude.{ℕ}
 use Rattle.em_step.specs.declared.event.Reason.{Reason}
 use Rattle.em_step.specs.declared.event.Reason.TheVariants.{Down, Disabled, Rejected, Undersize, Oversize, Missed}
 use Rattle.em_trail.specs.declared.note.Kind.{Kind}
-use Rattle.em_trail.specs.declared.note.Kind.TheVariants.{Read, Write, Poke, Stored, Dropped, LinkUp, LinkDown}
+use Rattle.em_trail.specs.declared.note.Kind.TheVariants.{Read, Write, Poke, Stored, Dropped, LinkUp, LinkDown, LinkFlipped}
 use Rattle.em_trail.specs.declared.note.Kind.TheVariants.{ReceiveIdle, Wrote, TransmitIdle, Fetched, Sent}
 use Rattle.em_trail.specs.declared.note.Note.{Note}
 use Rattle.em_c.specs.declared.note.EmNote.{EmNote}
@@ -30,6 +30,7 @@ number_of_kind Fetched = 9
 number_of_kind Sent = 10
 number_of_kind Stored = 11
 number_of_kind (Dropped reason) = number_of_reason reason
+number_of_kind LinkFlipped = 18
 
 -- what a note tells
 abbrev pub told_note : Note → EmNote

@@ -55,6 +55,7 @@ fn number_of_kind(kind: Kind) -> u32
         Kind::Sent => 10,
         Kind::Stored => 11,
         Kind::Dropped(reason) => number_of_reason(reason),
+        Kind::LinkFlipped => 18,
     }
 }
 

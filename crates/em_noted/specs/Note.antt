@@ -7,7 +7,7 @@ use Rattle.em_names.specs.Bits.{register_text}
 use Rattle.em_inspect.specs.AddressText.{address_text}
 use Rattle.em_output.specs.Output.{reason_text}
 use Rattle.em_trail.specs.declared.note.Kind.{Kind}
-use Rattle.em_trail.specs.declared.note.Kind.TheVariants.{Read, Write, Poke, Stored, Dropped, LinkUp, LinkDown}
+use Rattle.em_trail.specs.declared.note.Kind.TheVariants.{Read, Write, Poke, Stored, Dropped, LinkUp, LinkDown, LinkFlipped}
 use Rattle.em_trail.specs.declared.note.Kind.TheVariants.{ReceiveIdle, Wrote, TransmitIdle, Fetched, Sent}
 use Rattle.em_trail.specs.declared.note.Note.{Note}
 
@@ -29,6 +29,7 @@ text_of Stored at octets value = arrival_text octets (codes "stored")
 text_of (Dropped reason) at octets value = arrival_text octets (codes "dropped " ++ reason_text reason)
 text_of LinkUp at octets value = codes "link up"
 text_of LinkDown at octets value = codes "link down"
+text_of LinkFlipped at octets value = codes "link flipped"
 text_of ReceiveIdle at octets value = codes "rx: idle"
 text_of Wrote at octets value = codes "rx: wrote " ++ decimal value
 text_of TransmitIdle at octets value = codes "tx: idle"

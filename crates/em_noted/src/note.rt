@@ -44,6 +44,7 @@ pub fn write_note<W: Write>(writer: &mut W, note: Note) -> Result<(), WriteFaile
         ),
         Kind::LinkUp => write_whole(writer, b"link up"),
         Kind::LinkDown => write_whole(writer, b"link down"),
+        Kind::LinkFlipped => write_whole(writer, b"link flipped"),
         Kind::ReceiveIdle => write_whole(writer, b"rx: idle"),
         Kind::Wrote => write_text(
             writer,

@@ -19,6 +19,7 @@ row_of command.Arrive = (
 row_of command.Rx = (codes "rx", codes "rx: the receive engine handles a descriptor")
 row_of command.Tx = (codes "tx", codes "tx: the transmit engine handles a descriptor")
 row_of command.Link = (codes "link", codes "link up|down: takes the link up or down")
+row_of command.Flip = (codes "flip", codes "flip: takes the link to its other state")
 row_of (command.Bench look) = look_row look
 row_of command.Init = (codes "init", codes "init: starts the driver")
 row_of command.Send = (codes "send", codes "send DATA [LEN]: gives the driver a packet to send")
@@ -63,7 +64,7 @@ help_of command = (row_of command).1
 -- all of them but em_bench's looks, as the help shows them
 abbrev pub commands : List Command
 commands = command.Read ∷ command.Write ∷ command.Poke ∷ command.Peek ∷ command.Arrive ∷ command.Rx ∷ command.Tx ∷
-    command.Link ∷ command.Init ∷ command.Send ∷ command.Recv ∷
+    command.Link ∷ command.Flip ∷ command.Init ∷ command.Send ∷ command.Recv ∷
     command.Stats ∷ command.Mac ∷ command.Turns ∷ command.Look ∷ command.Who ∷ command.Back ∷ command.Forward ∷
     command.Goto ∷ command.Next ∷ command.Run ∷ command.Load ∷ command.Save ∷ command.SaveOver ∷ command.History ∷
     command.Effect ∷ command.Ring ∷ command.Frame ∷ command.Memory ∷ command.Why ∷ command.Warnings ∷

@@ -17,6 +17,7 @@ pub enum Command {
     Rx,
     Tx,
     Link,
+    Flip,
     /// A look of em_bench's that one word asks for.
     Bench(Bench),
     Init,
@@ -51,7 +52,7 @@ pub enum Command {
 }
 
 /// How many commands stand before em_bench's looks in the help.
-pub(crate) const LOOKS_AT: usize = 8;
+pub(crate) const LOOKS_AT: usize = 9;
 
 /// The table of all commands but em_bench's looks, as the help shows them: each with its name and its line of the help.
 /// What is made of its rows is a macro of this file, which takes them with an argument.
@@ -67,6 +68,7 @@ macro_rules! table {
             Rx, "rx", "rx: the receive engine handles a descriptor";
             Tx, "tx", "tx: the transmit engine handles a descriptor";
             Link, "link", "link up|down: takes the link up or down";
+            Flip, "flip", "flip: takes the link to its other state";
             Init, "init", "init: starts the driver";
             Send, "send", "send DATA [LEN]: gives the driver a packet to send";
             Recv, "recv", "recv N: takes at most N packets from the driver";

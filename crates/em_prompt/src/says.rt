@@ -79,7 +79,7 @@ pub(crate) fn says<'a>(command: Command, words: Words<'a>) -> Result<Typed<'a>, 
         Command::Recv => recv_of(words),
         Command::Mac => mac_of(words),
         Command::Turns => plan_of(words),
-        Command::Rx | Command::Tx | Command::Bench(_) | Command::Init | Command::Stats =>
+        Command::Rx | Command::Tx | Command::Flip | Command::Bench(_) | Command::Init | Command::Stats =>
             alone(bench(command, KeptWords::None), words),
         Command::Look => look_of(words),
         Command::Who => who_of(words),

@@ -4,7 +4,7 @@ use Rattle.em_regs.specs.declared.reg.Reg.{Reg}
 use Rattle.em_names.specs.Names.{name_of}
 use Rattle.em_output.specs.Output.{reason_text}
 use Rattle.em_trail.specs.declared.note.Kind.{Kind}
-use Rattle.em_trail.specs.declared.note.Kind.TheVariants.{Read, Write, Poke, Stored, Dropped, LinkUp, LinkDown}
+use Rattle.em_trail.specs.declared.note.Kind.TheVariants.{Read, Write, Poke, Stored, Dropped, LinkUp, LinkDown, LinkFlipped}
 use Rattle.em_trail.specs.declared.note.Kind.TheVariants.{ReceiveIdle, Wrote, TransmitIdle, Fetched, Sent}
 use Rattle.em_trail.specs.declared.note.Note.{Note}
 use Rattle.em_noted.specs.Note.{note_text, register_of}
@@ -34,6 +34,7 @@ fields_of (Dropped reason) register at octets value =
     arrival_text octets (codes "dropped\",\"reason\":\"") (reason_text reason)
 fields_of LinkUp register at octets value = codes ",\"kind\":\"link\",\"up\":true"
 fields_of LinkDown register at octets value = codes ",\"kind\":\"link\",\"up\":false"
+fields_of LinkFlipped register at octets value = codes ",\"kind\":\"flip\""
 fields_of ReceiveIdle register at octets value = codes ",\"kind\":\"rx\",\"answer\":\"idle\""
 fields_of Wrote register at octets value =
     codes ",\"kind\":\"rx\",\"answer\":\"wrote\",\"descriptor\":" ++ decimal value

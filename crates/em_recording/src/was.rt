@@ -53,6 +53,7 @@ fn write_kind<W: Write>(writer: &mut W, note: Note) -> Result<(), WriteFailed>
         ),
         Kind::LinkUp => write_whole(writer, b",\"kind\":\"link\",\"up\":true"),
         Kind::LinkDown => write_whole(writer, b",\"kind\":\"link\",\"up\":false"),
+        Kind::LinkFlipped => write_whole(writer, b",\"kind\":\"flip\""),
         Kind::ReceiveIdle => write_whole(writer, b",\"kind\":\"rx\",\"answer\":\"idle\""),
         Kind::Wrote => write_text(
             writer,

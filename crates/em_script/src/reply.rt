@@ -183,7 +183,7 @@ fn wire<W: Write>(writer: &mut W, machine: &Machine) -> Result<Outcome, WriteFai
     Ok(Outcome::Done)
 }
 
-#[inline(always)]
+#[inline(never)]
 fn back<W: Write, M: Acts>(writer: &mut W, machine: &mut M) -> Result<Outcome, WriteFailed>
     ensures { Gives (call_reply (back_call (M.shows machine.old).past) (M.shows machine.old))
         (M.shows machine.new) (W.contents writer.old) (W.contents writer.new) result }

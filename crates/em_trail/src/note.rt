@@ -23,6 +23,8 @@ pub enum Kind {
     LinkUp,
     /// The link went down, or was down.
     LinkDown,
+    /// The link went to its other state.
+    LinkFlipped,
     /// A step of the receive engine that had nothing to do.
     ReceiveIdle,
     /// A step of the receive engine that wrote a piece of a frame.

@@ -132,6 +132,10 @@ is_of_ring reg.Tctl = true
 is_of_ring reg.Ims = true
 is_of_ring _ = false
 
+-- what rules say where one alone is asked
+abbrev pub alone : Option Warning → List (Option Warning)
+alone w = w ∷ None ∷ None ∷ None ∷ None ∷ None ∷ []
+
 -- what each rule says of a write of a value to a register, in their order
 abbrev pub warnings_of : View → Reg → ℕ → List (Option Warning)
 warnings_of v reg value =

@@ -18,14 +18,17 @@ pub(crate) const RX_CAUSES: u32 = 0x0001_00D0;
 /// The causes of sending: TXDW, TXQE and TXD_LOW.
 const TX_CAUSES: u32 = 0x0000_8003;
 
+/// How many rules are asked of a write of a register.
+pub const RULES: usize = 6;
+
 /// What each rule says of a write of a value to a register, in the order of the rules; none where it says nothing. The
 /// machine is as the write left it.
 #[tactic(auto, using(crate::proofs::RulesLaws::dropped_alone))]
-pub fn warnings_of(machine: &Machine, reg: Reg, value: u32) -> [Option<Warning>; 6]
+pub fn warnings_of(machine: &Machine, reg: Reg, value: u32) -> [Option<Warning>; RULES]
     ensures { result ≡ rules.warnings_of machine.now reg value }
 {
     if !is_of_ring(reg) {
-        return [bits_dropped(reg, value), None, None, None, None, None];
+        return alone(bits_dropped(reg, value));
     }
     [
         bits_dropped(reg, value),
@@ -35,6 +38,13 @@ pub fn warnings_of(machine: &Machine, reg: Reg, value: u32) -> [Option<Warning>;
         status_left(machine, reg),
         interrupts_before_rings(machine, reg),
     ]
+}
+
+/// What rules say where one alone is asked.
+pub(crate) fn alone(warning: Option<Warning>) -> [Option<Warning>; RULES]
+    ensures { result ≡ rules.alone warning }
+{
+    [warning, None, None, None, None, None]
 }
 
 /// Whether rules besides the first ask about a register: a tail, what enables a ring, or IMS.

@@ -15,6 +15,9 @@ returns-in-LinkUp g c = record { writes = rw c.in-LinkUp.is c.write_whole.ensure
 pub returns-in-LinkDown : goal.returns-in-LinkDown
 returns-in-LinkDown g c = record { writes = rw c.in-LinkDown.is c.write_whole-in-LinkDown.ensures.writes }
 
+pub returns-in-LinkFlipped : goal.returns-in-LinkFlipped
+returns-in-LinkFlipped g c = record { writes = rw c.in-LinkFlipped.is c.write_whole-in-LinkFlipped.ensures.writes }
+
 pub returns-in-ReceiveIdle : goal.returns-in-ReceiveIdle
 returns-in-ReceiveIdle g c = record { writes = rw c.in-ReceiveIdle.is c.write_whole-in-ReceiveIdle.ensures.writes }
 
