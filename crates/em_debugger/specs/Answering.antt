@@ -46,6 +46,7 @@ Shows d (shown.Frame None) text = text ≡ waiting_text d.tape.session.machine.p
 Shows d (shown.Frame (Some index)) text = text ≡ sent_text d.tape.session.machine.present.wire index
 Shows d (shown.Memory addr len) text = text ≡ memory_text d.tape.session.machine.present addr len
 Shows d shown.Why text = TellsWhy d text
+Shows d shown.Flags text = text ≡ register_text d.tape.session.machine.present Status
 Shows d (shown.Help (Some command)) text = text ≡ line_of command
 Shows d (shown.Help None) text = text ≡ help_text
 

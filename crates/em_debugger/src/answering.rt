@@ -124,6 +124,7 @@ impl Debugger {
             Shown::Frame(Some(index)) => show_sent(writer, machine, index),
             Shown::Memory(addr, len) => show_memory(writer, machine, addr, len),
             Shown::Why => self.why(writer),
+            Shown::Flags => show_register(writer, machine, Reg::Status),
             Shown::Help(Some(command)) => write_help(writer, command),
             Shown::Help(None) => write_whole_help(writer),
         }

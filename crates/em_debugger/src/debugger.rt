@@ -13,7 +13,7 @@ use crate::told::Told;
 use crate::who::Asked;
 use em_journal::{Settings, SettingsRefusal};
 use em_tape::Tape;
-use em_warnings::Warning;
+use em_warnings::Found;
 use std::alloc::Global;
 use std::collections::VecDeque;
 
@@ -30,7 +30,7 @@ pub struct Debugger {
     // the answer of the line that was performed last
     pub(crate) answer: Vec<u8>,
     // what the rules say of it that tell what drivers get wrong, if they are asked
-    pub(crate) warned: Option<[Option<Warning>; 6]>,
+    pub(crate) warned: Found,
     // what was asked for last
     pub(crate) asked: Option<Asked>,
     // whether it is said what drivers get wrong

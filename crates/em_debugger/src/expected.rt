@@ -13,7 +13,7 @@ use em_expect::{agrees_of, write_difference};
 use em_line::accessed;
 use em_step::Event;
 use em_text::WriteFailed;
-use em_warnings::{Warning, count_found, found_in};
+use em_warnings::{Found, count_found, found_in};
 use std::io::Write;
 
 /// How many answers were as their lines expect, how many were not, and how many warnings lines had.
@@ -91,7 +91,7 @@ impl Debugger {
     }
 
     /// What the rules say of a line, if that is to be said and they are asked.
-    fn warned_behind(&self, line: usize) -> Option<[Option<Warning>; 6]>
+    fn warned_behind(&self, line: usize) -> Found
         ensures { result ≡ warned_behind self.now line }
     {
         if !self.warns {

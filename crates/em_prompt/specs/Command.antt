@@ -47,6 +47,7 @@ row_of command.Frame =
 row_of command.Memory = (codes "memory", codes "memory ADDR LEN: shows guest memory in lines")
 row_of command.Why =
     (codes "why", codes "why: the rule by which the newest event did nothing, and who set what it looked at")
+row_of command.Flags = (codes "flags", codes "flags: shows STATUS with its bits")
 row_of command.Warnings = (codes "warnings", codes "warnings on|off: says what drivers get wrong, or does not")
 row_of command.Auto = (codes "auto", codes "auto on|off: lets the engines run by themselves, or not")
 row_of command.Pcap = (codes "pcap", codes "pcap FILE: writes the frames that were sent to a new capture")
@@ -66,7 +67,7 @@ commands = command.Read ∷ command.Write ∷ command.Poke ∷ command.Peek ∷ 
     command.Link ∷ command.Init ∷ command.Send ∷ command.Recv ∷
     command.Stats ∷ command.Mac ∷ command.Turns ∷ command.Look ∷ command.Who ∷ command.Back ∷ command.Forward ∷
     command.Goto ∷ command.Next ∷ command.Run ∷ command.Load ∷ command.Save ∷ command.SaveOver ∷ command.History ∷
-    command.Effect ∷ command.Ring ∷ command.Frame ∷ command.Memory ∷ command.Why ∷ command.Warnings ∷
+    command.Effect ∷ command.Ring ∷ command.Frame ∷ command.Memory ∷ command.Why ∷ command.Flags ∷ command.Warnings ∷
     command.Auto ∷ command.Pcap ∷ command.PcapOver ∷ command.Help ∷ command.Quit ∷ []
 
 abbrev pub other_command : List ℕ → Option Command

@@ -42,6 +42,7 @@ pub enum Command {
     Frame,
     Memory,
     Why,
+    Flags,
     Warnings,
     Auto,
     Pcap,
@@ -89,6 +90,7 @@ macro_rules! table {
             Frame, "frame", "frame [I]: shows the frames that wait in the adapter, or octets of sent frame I, from 0";
             Memory, "memory", "memory ADDR LEN: shows guest memory in lines";
             Why, "why", "why: the rule by which the newest event did nothing, and who set what it looked at";
+            Flags, "flags", "flags: shows STATUS with its bits";
             Warnings, "warnings", "warnings on|off: says what drivers get wrong, or does not";
             Auto, "auto", "auto on|off: lets the engines run by themselves, or not";
             Pcap, "pcap", "pcap FILE: writes the frames that were sent to a new capture";

@@ -51,6 +51,8 @@ pub enum Shown {
     Memory(u64, u32),
     /// Why the newest event did nothing.
     Why,
+    /// STATUS by its bits.
+    Flags,
     /// The help, whole or for one command.
     Help(Option<Command>),
 }

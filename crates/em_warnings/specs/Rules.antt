@@ -121,6 +121,15 @@ abbrev pub interrupts_before_rings : State → Reg → Option Warning
 interrupts_before_rings s reg.Ims = early_by s (gives s reg.Ims)
 interrupts_before_rings s _ = None
 
+-- ---- length-while-enabled (this project's profile)
+
+abbrev pub length_if : Bool → ℕ → Option Warning
+length_if enabled v = if enabled then Some (warning.LengthWhileEnabled reg.Rdlen v) else None
+
+abbrev pub length_while_enabled : State → Reg → ℕ → Option Warning
+length_while_enabled s reg.Rdlen v = length_if (rx_setup s.registers).enabled v
+length_while_enabled s _ v = None
+
 -- ---- all of them
 
 -- rules besides the first ask about the register
@@ -130,7 +139,12 @@ is_of_ring reg.Tdt = true
 is_of_ring reg.Rctl = true
 is_of_ring reg.Tctl = true
 is_of_ring reg.Ims = true
+is_of_ring reg.Rdlen = true
 is_of_ring _ = false
+
+-- what rules say where one alone is asked
+abbrev pub alone : Option Warning → List (Option Warning)
+alone w = w ∷ None ∷ None ∷ None ∷ None ∷ None ∷ None ∷ []
 
 -- what each rule says of a write of a value to a register, in their order
 abbrev pub warnings_of : View → Reg → ℕ → List (Option Warning)
@@ -141,4 +155,5 @@ warnings_of v reg value =
     ∷ descriptor_unwritten v reg
     ∷ status_left v reg
     ∷ interrupts_before_rings v.present reg
+    ∷ length_while_enabled v.present reg value
     ∷ []

@@ -44,6 +44,11 @@ row_of (warning.InterruptsBeforeRings causes length) = (
       ++ (value_digits causes
       ++ (codes " through while " ++ (reg_name length ++ codes " is 0, set up the ring first"))),
 )
+row_of (warning.LengthWhileEnabled length octets) = (
+  codes "length-while-enabled",
+  reg_name length
+      ++ (codes " is set to " ++ (decimal octets ++ codes " while RCTL.EN is set, set up the ring first")),
+)
 row_of (warning.ReadAgain causes) = (
   codes "read-again",
   codes "ICR is 0, an earlier event cleared "

@@ -13,7 +13,7 @@ use Rattle.em_expect.specs.Difference.{register_of}
 use Rattle.em_journal.specs.View.{View}
 use Rattle.em_warnings.specs.declared.warning.Warning.{Warning}
 use Rattle.em_warnings.specs.Reads.{read_again}
-use Rattle.em_warnings.specs.Rules.{warnings_of}
+use Rattle.em_warnings.specs.Rules.{alone, warnings_of}
 use Rattle.em_warnings.specs.Said.{warning_text}
 use Rattle.em_warnings.specs.WriteLine.{written_by}
 
@@ -45,7 +45,7 @@ of_access v (Some e) = of_write v (written_by e)
 
 -- of a read of a register that gave 0: one rule asks about ICR
 abbrev pub of_read : View → Option Reg → Option (List (Option Warning))
-of_read v (Some Icr) = Some (read_again v ∷ None ∷ None ∷ None ∷ None ∷ None ∷ [])
+of_read v (Some Icr) = Some (alone (read_again v))
 of_read v _ = None
 
 -- of an access with its outcome, as it left the machine: a write that was performed, and a read that gave 0

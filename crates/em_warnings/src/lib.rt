@@ -13,8 +13,8 @@ mod warning;
 mod write_line;
 mod written;
 
-pub use lines::{count_found, found_in, write_event_warnings, write_found, write_warnings};
+pub use lines::{Found, count_found, found_in, write_event_warnings, write_found, write_warnings};
 pub use reads::read_again;
-pub use rules::warnings_of;
+pub use rules::{RULES, warnings_of};
 pub use said::write_warning;
 pub use warning::Warning;

@@ -7,7 +7,7 @@ ghost use Rattle.em_warnings.specs.Warnings.{event_warnings, found_count, found_
 ghost use Rattle.em_warnings.specs.Warnings.{line_of, lines_of, of_access, of_read, of_write, there, warnings_text};
 
 use crate::reads::read_again;
-use crate::rules::warnings_of;
+use crate::rules::{RULES, alone, warnings_of};
 use crate::said::write_warning;
 use crate::warning::Warning;
 use crate::write_line::written_by;
@@ -18,6 +18,9 @@ use em_regs::Reg;
 use em_step::{Answer, Event, Refusal};
 use em_text::WriteFailed;
 use std::io::Write;
+
+/// What each rule says of an access, in the order of the rules, if they are asked.
+pub type Found = Option<[Option<Warning>; RULES]>;
 
 /// Writes the warnings of a line whose event came to this, one in a line each, if it has any. The machine is as the line
 /// left it.
@@ -52,7 +55,7 @@ pub fn found_in(
     machine: &Machine,
     line: &[u8],
     came: Option<Result<Answer, Refusal>>,
-) -> Option<[Option<Warning>; 6]>
+) -> Found
     ensures { result ≡ found_in machine.now line.now came }
 {
     // What most lines came to has no warning, which is seen sooner than what they say.
@@ -75,7 +78,7 @@ fn found_of(
     machine: &Machine,
     access: Option<Event<'_>>,
     came: Option<Result<Answer, Refusal>>,
-) -> Option<[Option<Warning>; 6]>
+) -> Found
     ensures { result ≡ found_of machine.now (option_map plain access.entry) came }
 {
     match came {
@@ -86,7 +89,7 @@ fn found_of(
 }
 
 /// What each rule says of an access that was done, if it is a write.
-fn of_access(machine: &Machine, access: Option<Event<'_>>) -> Option<[Option<Warning>; 6]>
+fn of_access(machine: &Machine, access: Option<Event<'_>>) -> Found
     ensures { result ≡ of_access machine.now (option_map plain access.entry) }
 {
     match access {
@@ -96,7 +99,7 @@ fn of_access(machine: &Machine, access: Option<Event<'_>>) -> Option<[Option<War
 }
 
 /// What each rule says of a write of a value to a register.
-fn of_write(machine: &Machine, write: Option<(Reg, u32)>) -> Option<[Option<Warning>; 6]>
+fn of_write(machine: &Machine, write: Option<(Reg, u32)>) -> Found
     ensures { result ≡ of_write machine.now write }
 {
     match write {
@@ -106,17 +109,17 @@ fn of_write(machine: &Machine, write: Option<(Reg, u32)>) -> Option<[Option<Warn
 }
 
 /// What the rule of a read says of a read of a register that gave 0.
-fn of_read(machine: &Machine, read: Option<Reg>) -> Option<[Option<Warning>; 6]>
+fn of_read(machine: &Machine, read: Option<Reg>) -> Found
     ensures { result ≡ of_read machine.now read }
 {
     match read {
-        Some(Reg::Icr) => Some([read_again(machine), None, None, None, None, None]),
+        Some(Reg::Icr) => Some(alone(read_again(machine))),
         _ => None,
     }
 }
 
 /// How many warnings were found.
-pub fn count_found(found: &Option<[Option<Warning>; 6]>) -> usize
+pub fn count_found(found: &Found) -> usize
     ensures { result ≡ found_count found.now }
 {
     match found {
@@ -142,7 +145,7 @@ fn count_of(warnings: &[Option<Warning>]) -> usize
 /// Writes a line for each warning that was found.
 pub fn write_found<W: Write>(
     writer: &mut W,
-    found: &Option<[Option<Warning>; 6]>,
+    found: &Found,
 ) -> Result<(), WriteFailed>
     ensures writes { Writes (W.contents writer.old) (W.contents writer.new) result (found_text found.now) }
 {

@@ -18,14 +18,17 @@ pub(crate) const RX_CAUSES: u32 = 0x0001_00D0;
 /// The causes of sending: TXDW, TXQE and TXD_LOW.
 const TX_CAUSES: u32 = 0x0000_8003;
 
+/// How many rules are asked of a write of a register.
+pub const RULES: usize = 7;
+
 /// What each rule says of a write of a value to a register, in the order of the rules; none where it says nothing. The
 /// machine is as the write left it.
 #[tactic(auto, using(crate::proofs::RulesLaws::dropped_alone))]
-pub fn warnings_of(machine: &Machine, reg: Reg, value: u32) -> [Option<Warning>; 6]
+pub fn warnings_of(machine: &Machine, reg: Reg, value: u32) -> [Option<Warning>; RULES]
     ensures { result ≡ rules.warnings_of machine.now reg value }
 {
     if !is_of_ring(reg) {
-        return [bits_dropped(reg, value), None, None, None, None, None];
+        return alone(bits_dropped(reg, value));
     }
     [
         bits_dropped(reg, value),
@@ -34,14 +37,22 @@ pub fn warnings_of(machine: &Machine, reg: Reg, value: u32) -> [Option<Warning>;
         descriptor_unwritten(machine, reg),
         status_left(machine, reg),
         interrupts_before_rings(machine, reg),
+        length_while_enabled(machine, reg, value),
     ]
+}
+
+/// What rules say where one alone is asked.
+pub(crate) fn alone(warning: Option<Warning>) -> [Option<Warning>; RULES]
+    ensures { result ≡ rules.alone warning }
+{
+    [warning, None, None, None, None, None, None]
 }
 
 /// Whether rules besides the first ask about a register: a tail, what enables a ring, or IMS.
 fn is_of_ring(reg: Reg) -> bool
     ensures { result ≡ rules.is_of_ring reg }
 {
-    matches!(reg, Reg::Rdt | Reg::Tdt | Reg::Rctl | Reg::Tctl | Reg::Ims)
+    matches!(reg, Reg::Rdt | Reg::Tdt | Reg::Rctl | Reg::Tctl | Reg::Ims | Reg::Rdlen)
 }
 
 /// The register keeps less than was written, and a write of it only stores.
@@ -156,6 +167,30 @@ fn early(count: u32, causes: u32, length: Reg) -> Option<Warning>
 {
     if count == 0 && 0 < causes {
         Some(Warning::InterruptsBeforeRings { causes, length })
+    } else {
+        None
+    }
+}
+
+/// The register is RDLEN, and the receive engine is enabled.
+fn length_while_enabled(machine: &Machine, reg: Reg, written: u32) -> Option<Warning>
+    ensures { result ≡ rules.length_while_enabled machine.now.present reg written }
+{
+    match reg {
+        Reg::Rdlen => length_if(machine.ring_rx().enabled, written),
+        _ => None,
+    }
+}
+
+/// RDLEN was written, while the receive engine was enabled or was not.
+fn length_if(enabled: bool, octets: u32) -> Option<Warning>
+    ensures { result ≡ rules.length_if enabled octets }
+{
+    if enabled {
+        Some(Warning::LengthWhileEnabled {
+            length: Reg::Rdlen,
+            octets,
+        })
     } else {
         None
     }

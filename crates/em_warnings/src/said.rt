@@ -30,6 +30,9 @@ macro_rules! table {
             InterruptsBeforeRings { causes, length }, "interrupts-before-rings",
                 Text(b"IMS lets ") Value(causes) Text(b" through while ") Name(length)
                 Text(b" is 0, set up the ring first");
+            LengthWhileEnabled { length, octets }, "length-while-enabled",
+                Name(length) Text(b" is set to ") Number(u64::from(octets))
+                Text(b" while RCTL.EN is set, set up the ring first");
             ReadAgain { causes }, "read-again",
                 Text(b"ICR is 0, an earlier event cleared ") Value(causes)
                 Text(b" there and the frame still waits, read it once and keep it");

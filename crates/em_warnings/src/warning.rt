@@ -18,6 +18,8 @@ pub enum Warning {
     StatusLeft { tail: Reg, index: u32, at: u128 },
     /// `interrupts-before-rings`: these causes of a ring are let through while the ring's length is 0.
     InterruptsBeforeRings { causes: u32, length: Reg },
+    /// `length-while-enabled`: this length is written while RCTL.EN is set.
+    LengthWhileEnabled { length: Reg, octets: u32 },
     /// `read-again`: a read of ICR gave 0, since an earlier event cleared these causes there, and the frame still waits.
     ReadAgain { causes: u32 },
 }
