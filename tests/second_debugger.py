@@ -8,10 +8,13 @@ import re
 from functools import cache
 from typing import NamedTuple
 
+from second_language import is_read, parts_of
 from second_notes import spoken
 from second_reading import ICR, IMS, IN_ORDER, IN_WORDS, Session, State
 
 MOST_BACK = 65_536
+# a comment that is a time
+TIME = re.compile(r"(?:^|[ \t])#[ \t]*[0-9]{1,9}\.[0-9]{6}[ \t]*$")
 SHORT = 72
 # what asks something of a driver, or sets its plan: steps back leave both as they are
 OF_DRIVER = ("init", "send", "recv", "stats", "mac", "turns")
@@ -91,7 +94,10 @@ class Debugger:
 
     def __init__(self, **settings) -> None:
         machine = Noted(**settings)
+        # what is played of the lines; how each is shown, and where it comes from
         self.lines: list[str] = []
+        self.shown: list[str] = []
+        self.sources: list[str] = []
         self.behind = [Behind(machine, (), 0, [], 0, None, False)]
         self.whole = self.back = 0
 
@@ -113,6 +119,11 @@ class Debugger:
         """How many steps back the journal still holds."""
         return max(0, len(self.behind[self.whole].machine.past) - self.back)
 
+    def reached(self) -> int:
+        """How many events were performed up to the place."""
+        standing, line = self.standing(), self.line_here()
+        return standing[-1].number if standing and standing[-1].line == line else self.behind[line].performed
+
     def left_out(self, stops: bool) -> tuple[int, int]:
         """The place with fewer lines, where it is not whole: those are left out that lie ahead with all that they did, if
         they did anything. It may stop at a line that asks something of a driver."""
@@ -132,6 +143,20 @@ class Debugger:
 
     # ---- lines
 
+    def put(self, line: str, given: str = "") -> None:
+        """A line stands behind the last one: what is played of it, and the line as it was given. It is shown as it was given
+        where it says more than what is played."""
+        parts = parts_of(given)
+        says_more = parts.source or TIME.search(given) or given and not is_read(parts.said)
+        self.lines.append(line)
+        self.shown.append(parts.said if says_more else line)
+        self.sources.append(parts.source)
+
+    def named(self, line: int) -> str:
+        """A line by its number, with where it comes from."""
+        source = self.sources[line - 1]
+        return f"line {line} @ {source}" if source else f"line {line}"
+
     def performed_next(self) -> None:
         """Performs the line behind the place, whose own line is whole then."""
         self.whole, self.back = self.line_here(), 0
@@ -144,11 +169,11 @@ class Debugger:
         line, back = self.left_out(True)
         dropped = len(self.lines) - line
         shown = self.state(), len(self.standing())
-        del self.lines[line:], self.behind[line + 1 :]
+        del self.lines[line:], self.shown[line:], self.sources[line:], self.behind[line + 1 :]
         self.whole, self.back = line, 0
         while back > 0:
             step = min(back, MOST_BACK)
-            self.lines.append(f"back {step}")
+            self.put(f"back {step}")
             self.performed_next()
             back -= step
         assert shown == (self.state(), len(self.standing())), "a line that is typed is performed where the place is"
@@ -157,10 +182,10 @@ class Debugger:
     def lines_to_the_place(self) -> list[str]:
         return self.lines[: self.line_here()]
 
-    def typed(self, line: str) -> tuple[int, list[str]]:
+    def typed(self, line: str, given: str) -> tuple[int, list[str]]:
         """A line of a script is typed: how many lines are dropped, and the answer."""
         dropped = self.cut()
-        self.lines.append(line)
+        self.put(line, given)
         self.performed_next()
         return dropped, self.behind[self.whole].answer
 
@@ -212,11 +237,11 @@ class Debugger:
 
     def told(self, event: Event) -> str:
         which = f" ({event.access} of {event.of})" if event.of > 1 else ""
-        return f"line {event.line}, event {event.number}{which}: {self.spoken(event)}"
+        return f"{self.named(event.line)}, event {event.number}{which}: {self.spoken(event)}"
 
     def spoken(self, event: Event) -> str:
         """What an event was, behind its line, if that has more than one."""
-        line = f"{short(self.lines[event.line - 1])}: " if event.of > 1 else ""
+        line = f"{short(self.shown[event.line - 1])}: " if event.of > 1 else ""
         return f"{line}{spoken(event.was)}"
 
     def opened(self, line: int, most: int) -> list[str]:
@@ -267,7 +292,7 @@ class Watch(NamedTuple):
             return f"{s.look(self.offset):08X}"
         if self.count:
             return s.octets(self.at, self.count).hex().upper()
-        return "1" if s.at(ICR) & s.at(IMS) else "0"
+        return SIGHTS[self.typed](s)
 
     def is_changed(self, event: Event) -> bool:
         if self.offset is not None:
@@ -283,5 +308,12 @@ def octets(at: int, count: int) -> Watch:
     return Watch(f"{at:X} {count}", f"{at:06X}", at=at, count=count)
 
 
+# what else is watched, by its name
+SIGHTS = {
+    "line": lambda s: "1" if s.at(ICR) & s.at(IMS) else "0",
+    "link": lambda s: "up" if s.link else "down",
+    "frames": lambda s: str(len(s.fifo)),
+    "sent": lambda s: str(len(s.wire)),
+}
 REGISTERS = [register(offset) for offset in IN_ORDER]
-LINE = Watch("line", "line")
+OTHERS = [Watch(name, name) for name in SIGHTS]

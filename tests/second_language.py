@@ -157,6 +157,12 @@ def kept(kind: str, word: str, before: str) -> str:
     return without_colons(word) if kind in ("DATA", "address") else word
 
 
+def is_read(said: str) -> bool:
+    """Whether em_bench reads a line that says this, of which nothing is wrong."""
+    name, *words = words_in(said) or ["#"]
+    return name.startswith("#") or name in FORMS and bool(FORMS[name].fullmatch(" ".join(words)))
+
+
 def played(said: str) -> str:
     """What is played of a line that says this: one of em_bench's in the words that em_bench reads, any other as it stands."""
     words = words_in(said.removeprefix("\xef\xbb\xbf"))

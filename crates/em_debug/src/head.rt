@@ -4,8 +4,11 @@ ghost use Rattle.std.specs.Prelude.{◌≤◌, length};
 use crate::words::Words;
 use em_journal::Settings;
 use em_options::Options;
-use em_text::{Words as LineWords, decimal_number, is_name, next_line, octets_into};
+use em_text::{Words as LineWords, is_name, next_line, octets_into};
 use std::alloc::{AllocError, Global};
+
+/// The base of the numbers of a head.
+const TEN: u64 = 10;
 
 /// What a machine was made of, as the first line of a kept run says.
 #[derive(Clone, Copy, Debug)]
@@ -106,8 +109,20 @@ fn number_behind<const N: usize>(words: &mut LineWords<'_>, name: &[u8; N]) -> O
     if !is_next(words, name) {
         return None;
     }
-    let number = decimal_number(words.next()?)?;
-    Some(u64::from(number))
+    number_in(words.next()?)
+}
+
+/// The number that decimal digits write, if it has 64 bits.
+fn number_in(word: &[u8]) -> Option<u64> {
+    let mut number = 0u64;
+    for octet in word {
+        if !octet.is_ascii_digit() {
+            return None;
+        }
+        let digit = u64::from(*octet - b'0');
+        number = number.checked_mul(TEN)?.checked_add(digit)?;
+    }
+    Some(number)
 }
 
 fn mac_behind(alloc: Global, words: &mut LineWords<'_>) -> Result<Option<[u8; 6]>, AllocError> {

@@ -12,6 +12,7 @@ use Rattle.em_tape.specs.Tape.{Tape, behind, event_at}
 use Rattle.em_text.proofs.WritingLemmas.{Appends-more}
 use Rattle.em_looks.specs.Effects.{TellsEffect, WritesSuch}
 use Rattle.em_debugger.specs.declared.debugger.Debugger.{Debugger}
+use Rattle.em_debugger.specs.Marks.{marks_of}
 use Rattle.em_debugger.specs.Who.{event_text}
 use Rattle.em_debugger.specs.Effect.{stands, none_text, TellsEvent, TellsSeen, Answers, AnswersEffect}
 use Rattle.em_debugger.proofs.NumberLaws.{event_at-most}
@@ -27,11 +28,11 @@ answers_told d event text is h = subst (λ b. Answers b d event text) (sym is) h
 -- the event was told with its note, and then what it changed
 pub told_seen : {T E : Type 0} (first mid then last : Option (List ℕ)) (result : Result T E) (d : Debugger)
     (event : ℕ) (seen : Tape) (back : ℕ) (note : Note) (machine : View) → machine ≡ seen.session.machine
-    → TellsAt (states seen.session.machine) back note → Appends first mid (event_text d.tape event (Some note))
+    → TellsAt (states seen.session.machine) back note → Appends first mid (event_text (marks_of d) d.tape event (Some note))
     → Appends mid then (codes "\n") → OnOk result (WritesSuch (TellsEffect machine (back + 1)) then last)
     → OnOk result ((text : List ℕ) × Appends first last text × TellsSeen d event seen back text)
 told_seen first mid then last (Ok x) d event seen back note machine is noted named newline p =
-    let front = event_text d.tape event (Some note) in
+    let front = event_text (marks_of d) d.tape event (Some note) in
     let text = front ++ (codes "\n" ++ p.text) in (
       text,
       Appends-more first mid last front (codes "\n" ++ p.text) text named

@@ -17,16 +17,16 @@ use Rattle.em_tape.proofs.TapeLaws.{take-more}
 use Rattle.em_debugger.specs.declared.files.Added.{Added}
 use Rattle.em_debugger.specs.Files.{SomeAdded, added_of, are_read, played_in, reads, script_of}
 use Rattle.em_debugger.specs.Place.{line_here, text_of}
-use Rattle.em_debugger.specs.Sending.{timed_in}
+use Rattle.em_debugger.specs.Marks.{marked_in}
 use Rattle.em_debugger.specs.Told.{KeepsText, KeepsTexts, Stay}
 
--- the lines of a text were added as far as this rest of it, and what they expect was kept, and their times
+-- the lines of a text were added as far as this rest of it, and what they expect was kept, and their marks
 pub record AddedSo (first now : Tape) (held holds had has : List (List ℕ)) (text rest : List ℕ) : Type 0 where
   pub lines : List (List ℕ)
   pub tape : now ≡ record first { lines = first.lines ++ map played_in lines }
   pub all : lines_of text ≡ lines ++ lines_of rest
   pub expect : AllExpect (length first.lines + 1) lines held holds
-  pub times : KeepsTexts timed_in (length first.lines + 1) lines had has
+  pub marks : KeepsTexts marked_in (length first.lines + 1) lines had has
 
 abbrev with_lines : Tape → List (List ℕ) → Tape
 with_lines tape lines = record tape { lines = lines }
@@ -38,7 +38,7 @@ AddedSo-none first held had text = record {
   tape = ap (with_lines first) (sym (append-nil first.lines));
   all = refl;
   expect = refl;
-  times = refl;
+  marks = refl;
 }
 
 -- what is kept beside one line more
@@ -61,13 +61,13 @@ KeepsTexts-more kept number (first ∷ lines) line old now new h keeps =
     )
 
 -- one line more
-pub AddedSo-more : (first now next : Tape) (held holds then had has timed : List (List ℕ))
+pub AddedSo-more : (first now next : Tape) (held holds then had has marked : List (List ℕ))
     (text rest line behind : List ℕ) → AddedSo first now held holds had has text rest
     → lines_of rest ≡ line ∷ lines_of behind → next ≡ record now { lines = now.lines ++ played_in line ∷ [] }
     → Expects (length now.lines + 1) (wanted_in line) holds then
-    → KeepsText (length now.lines + 1) (timed_in line) has timed
-    → AddedSo first next held then had timed text behind
-AddedSo-more first now next held holds then had has timed text rest line behind h is added expects times =
+    → KeepsText (length now.lines + 1) (marked_in line) has marked
+    → AddedSo first next held then had marked text behind
+AddedSo-more first now next held holds then had has marked text rest line behind h is added expects marks =
     let long : length now.lines ≡ length first.lines + length h.lines =
     ap (λ (t : Tape). length t.lines) h.tape ∙ length-append first.lines (map played_in h.lines)
     ∙ ap (λ n. length first.lines + n) (length-map h.lines played_in) in
@@ -80,8 +80,8 @@ AddedSo-more first now next held holds then had has timed text rest line behind 
       all = h.all ∙ ap (λ l. h.lines ++ l) is ∙ sym (append_assoc h.lines (line ∷ []) (lines_of behind));
       expect = KeepsTexts-more wanted_in (length first.lines + 1) h.lines line held holds then h.expect
           (subst (λ n. KeepsText n (wanted_in line) holds then) number expects);
-      times = KeepsTexts-more timed_in (length first.lines + 1) h.lines line had has timed h.times
-          (subst (λ n. KeepsText n (timed_in line) has timed) number times);
+      marks = KeepsTexts-more marked_in (length first.lines + 1) h.lines line had has marked h.marks
+          (subst (λ n. KeepsText n (marked_in line) has marked) number marks);
     }
 
 pub none_left : (rest : List ℕ) → length rest ≡ 0 → lines_of rest ≡ []
@@ -105,11 +105,11 @@ pub AddedSo-expect : (first now : Tape) (held holds had has : List (List ℕ)) (
 AddedSo-expect first now held holds had has text rest h none =
     subst (λ l. AllExpect (length first.lines + 1) l held holds) (added_all h none) h.expect
 
-pub AddedSo-times : (first now : Tape) (held holds had has : List (List ℕ)) (text rest : List ℕ)
+pub AddedSo-marks : (first now : Tape) (held holds had has : List (List ℕ)) (text rest : List ℕ)
     → AddedSo first now held holds had has text rest → length rest ≡ 0
-    → KeepsTexts timed_in (length first.lines + 1) (lines_of text) had has
-AddedSo-times first now held holds had has text rest h none =
-    subst (λ l. KeepsTexts timed_in (length first.lines + 1) l had has) (added_all h none) h.times
+    → KeepsTexts marked_in (length first.lines + 1) (lines_of text) had has
+AddedSo-marks first now held holds had has text rest h none =
+    subst (λ l. KeepsTexts marked_in (length first.lines + 1) l had has) (added_all h none) h.marks
 
 three : (a b c : Bool) → ((a && b) && c) ≡ (a && (b && c))
 three true b c = refl
@@ -138,10 +138,10 @@ added_so count so text rest many none h =
     ∙ ap (λ b. record { lines = length (lines_of text); are_read = b }) read
 
 -- no more were added
-pub AddedSo-some : (first now new : Tape) (held holds then had has timed : List (List ℕ)) (text rest : List ℕ)
-    → AddedSo first now held holds had has text rest → new ≡ now → Stay holds then → Stay has timed
-    → SomeAdded first new held then had timed (lines_of text)
-AddedSo-some first now new held holds then had has timed text rest h same stay still = record {
+pub AddedSo-some : (first now new : Tape) (held holds then had has marked : List (List ℕ)) (text rest : List ℕ)
+    → AddedSo first now held holds had has text rest → new ≡ now → Stay holds then → Stay has marked
+    → SomeAdded first new held then had marked (lines_of text)
+AddedSo-some first now new held holds then had has marked text rest h same stay still = record {
   added = h.lines;
   others = lines_of rest;
   all = h.all;
@@ -149,8 +149,8 @@ AddedSo-some first now new held holds then had has timed text rest h same stay s
   expected = holds;
   expect = h.expect;
   stay = stay;
-  timed = has;
-  times = h.times;
+  marked = has;
+  marks = h.marks;
   still = still;
 }
 

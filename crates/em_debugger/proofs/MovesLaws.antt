@@ -9,20 +9,20 @@ use Rattle.em_debugger.specs.Moves.{back_text, budget_text, taken, taken_text, G
 use Rattle.em_debugger.proofs.TextLaws.{Writes-some}
 
 -- what is said of the events that were taken, and of why they are no more
-abbrev pub more_text : Tape → ℕ → ℕ → ℕ → Option Note → ℕ → List ℕ
-more_text now most n last note newest = taken_text now n last note ++ budget_text (ltb n most) newest
+abbrev pub more_text : List (List ℕ) → Tape → ℕ → ℕ → ℕ → Option Note → ℕ → List ℕ
+more_text marks now most n last note newest = taken_text marks now n last note ++ budget_text (ltb n most) newest
 
 -- by what is known of them
-pub Writes-back : {T E : Type 0} (old new : Option (List ℕ)) (result : Result T E) (now tape : Tape)
+pub Writes-back : {T E : Type 0} (old new : Option (List ℕ)) (result : Result T E) (marks : List (List ℕ)) (now tape : Tape)
     (most n last newest : ℕ) (note : Option Note) → n ≡ taken most tape → last ≡ event_at (taken most tape - 1) tape
     → newest ≡ event_of now → 0 < event_of tape
-    → Writes old new result (more_text now most n last note newest)
-    → Writes old new result (back_text most tape now note)
-Writes-back old new result now tape most n last newest note p q r some h =
+    → Writes old new result (more_text marks now most n last note newest)
+    → Writes old new result (back_text marks most tape now note)
+Writes-back old new result marks now tape most n last newest note p q r some h =
     Writes-some old new result (event_of tape) _ _ some
-    (subst (λ x. Writes old new result (more_text now most (taken most tape) x note (event_of now))) q
-    (subst (λ x. Writes old new result (more_text now most (taken most tape) last note x)) r
-    (subst (λ x. Writes old new result (more_text now most x last note newest)) p h)))
+    (subst (λ x. Writes old new result (more_text marks now most (taken most tape) x note (event_of now))) q
+    (subst (λ x. Writes old new result (more_text marks now most (taken most tape) last note x)) r
+    (subst (λ x. Writes old new result (more_text marks now most x last note newest)) p h)))
 
 -- before a line
 pub goes_behind : (old new : Tape) (before lines : ℕ) → lines ≡ before

@@ -42,13 +42,13 @@ unplayed_by old new before text text' why whole none keeps (inl is) wrote left =
 unplayed_by old new before text text' why whole none keeps (inr is) wrote left =
     unplayed keeps (stays_whole old.tape before new.tape whole.tape (left is).0)
 
--- all but what lines expect and their times is the same, and beside each line the same stands
+-- all but what lines expect and their marks is the same, and beside each line the same stands
 pub keeps_beside : (old new : Debugger) → PutsNone old new → KeepsBeside old new
 keeps_beside old new none = let e = none.rest in record {
   told = λ line. ap (λ (d : Debugger). told_of line (texts d.told.answers.items)) e;
   came = λ line. ap (λ (d : Debugger). came_of line d.came.outcomes.items) e;
   wanted = λ line. ap (told_of line) none.wanted;
-  times = λ line. ap (told_of line) none.times;
+  marks = λ line. ap (told_of line) none.marks;
   sent = λ line. ap (λ (d : Debugger). first_of line d.sent.firsts.items) e;
   settings = ap (λ (d : Debugger). d.settings) e;
   asked = ap (λ (d : Debugger). d.asked) e;

@@ -15,6 +15,7 @@ use Rattle.em_debugger.specs.declared.debugger.Debugger.{Debugger}
 use Rattle.em_debugger.specs.declared.deeper.Unseen.{Unseen}
 use Rattle.em_debugger.specs.declared.search.Found.{Found}
 use Rattle.em_debugger.specs.declared.search.Sought.TheVariants as sought
+use Rattle.em_debugger.specs.Marks.{marks_of}
 use Rattle.em_debugger.specs.Who.{AreNext, EndsSo, SeeksHere, TellsAll, before, end_text, found_text}
 use Rattle.em_debugger.proofs.NumberLaws.{event_at-falls}
 
@@ -46,7 +47,7 @@ pub record ToldSo (d : Debugger) (watch : Watch) (old new : Option (List ℕ)) (
   pub few : count + event ≤ event_of d.tape
   pub deep : 0 < event → back + event ≤ event_of d.tape
   pub room : event_of d.tape < 2 ^ 64
-  pub written : Appends old new (flat_map (found_text d.tape watch) found)
+  pub written : Appends old new (flat_map (found_text (marks_of d) d.tape watch) found)
 
 pub ToldSo-none : (d : Debugger) (watch : Watch) (old : Option (List ℕ)) (event : ℕ) → event ≡ event_of d.tape
     → event < 2 ^ 64 → ToldSo d watch old old event 0 0
@@ -64,7 +65,7 @@ ToldSo-none d watch old event is room = record {
 -- one more
 pub ToldSo-more : (d : Debugger) (watch : Watch) (old new later : Option (List ℕ))
     (event back count next_event next_back next_count : ℕ) (f : Found) → ToldSo d watch old new event back count
-    → 0 < event → SeeksHere d watch back (sought.Found f) → Appends new later (found_text d.tape watch f)
+    → 0 < event → SeeksHere d watch back (sought.Found f) → Appends new later (found_text (marks_of d) d.tape watch f)
     → next_back ≡ then_back d.tape f back → next_event ≡ event_at next_back d.tape → next_count ≡ count + 1
     → ToldSo d watch old later next_event next_back next_count
 ToldSo-more d watch old new later event back count next_event next_back next_count f h some seeks written is left more =
@@ -81,10 +82,10 @@ ToldSo-more d watch old new later event back count next_event next_back next_cou
           let deeper = event_at-falls d.tape 0 next_back (omega arith) (omega (arith, left, some_left)) in
           let e : next_back + next_event ≤ event_at 0 d.tape = omega (arith, deeper, left) in e;
       room = h.room;
-      written = Appends-more old new later (flat_map (found_text d.tape watch) h.found) (found_text d.tape watch f) _
+      written = Appends-more old new later (flat_map (found_text (marks_of d) d.tape watch) h.found) (found_text (marks_of d) d.tape watch f) _
           h.written written
-          (flat_map-append (found_text d.tape watch) h.found (f ∷ [])
-          ∙ ap (λ l. flat_map (found_text d.tape watch) h.found ++ l) (append-nil (found_text d.tape watch f)));
+          (flat_map-append (found_text (marks_of d) d.tape watch) h.found (f ∷ [])
+          ∙ ap (λ l. flat_map (found_text (marks_of d) d.tape watch) h.found ++ l) (append-nil (found_text (marks_of d) d.tape watch f)));
     }
 
 -- and then it is told how they end
@@ -93,7 +94,7 @@ pub TellsAll-end : {T E : Type 0} (d : Debugger) (watch : Watch) (old new later 
     → Writes new later result (end_text d.tape watch count back ended)
     → OnOk result ((text : List ℕ) × Appends old later text × TellsAll d watch text)
 TellsAll-end d watch old new later (Ok x) event back count ended h ends written =
-    let told = flat_map (found_text d.tape watch) h.found in
+    let told = flat_map (found_text (marks_of d) d.tape watch) h.found in
     let end = end_text d.tape watch count back ended in (
       told ++ end,
       Appends-more old new later told end _ h.written written refl,

@@ -5,7 +5,7 @@ use Rattle.em_console.specs.declared.session.Flow.{Flow}
 use Rattle.em_console.specs.declared.session.Flow.TheVariants.{Goes, Ends}
 use Rattle.em_looks.specs.Frames.{waiting_text, sent_text}
 use Rattle.em_looks.specs.Views.{register_text, ring_text, memory_text}
-use Rattle.em_expect.specs.Expectation.{expected_in, said_in}
+use Rattle.em_expect.specs.Expectation.{said_in}
 use Rattle.em_prompt.specs.BenchLine.{BenchLine}
 use Rattle.em_prompt.specs.Help.{line_of, help_text}
 use Rattle.em_prompt.specs.Prompt.{Wrong, prompted}
@@ -18,7 +18,6 @@ use Rattle.em_prompt.specs.WrongText.{wrong_text}
 use Rattle.em_debugger.specs.declared.debugger.Debugger.{Debugger}
 use Rattle.em_debugger.specs.Disk.{Deed}
 use Rattle.em_debugger.specs.Effect.{AnswersEffect, asked_event}
-use Rattle.em_debugger.specs.Expected.{wanted_in}
 use Rattle.em_debugger.specs.Engines.{engines_are, steps_of}
 use Rattle.em_debugger.specs.Files.{Saves}
 use Rattle.em_debugger.specs.Offers.{ArrivesAll, ArrivesNext, Loads, SavesFrames}
@@ -96,20 +95,16 @@ AnswersPrompted did old new (Ok typed) flow text = (flow ≡ flow_of typed) × O
 AnswersPrompted did old new (Err wrong) flow text =
     (flow ≡ Goes) × (did None × ((new ≡ old) × TellsWrong wrong text))
 
-abbrev pub asking_with : Option (List ℕ) → List ℕ → Option BenchLine
-asking_with None said = None
-asking_with (Some answer) said = bench_in (prompted said)
-
--- the line of em_bench's that expects an answer, where one was typed
+-- the line of em_bench's, where one was typed; an expected answer, a source and a comment may stand behind it
 abbrev pub asking : List ℕ → Option BenchLine
-asking typed = asking_with (expected_in typed) (said_in typed)
+asking typed = bench_in (prompted (said_in typed))
 
 -- such a line is performed; what else is typed is obeyed, or it is said what is wrong with it
 abbrev pub AnswersAsked : (Option Deed → Type 0) → Debugger → Debugger → List ℕ → Option BenchLine → Flow → List ℕ
     → Type 0
 AnswersAsked did old new typed None flow text = AnswersPrompted did old new (prompted typed) flow text
 AnswersAsked did old new typed (Some bench) flow text =
-    (flow ≡ Goes) × (did None × AnswersTyped old new bench (wanted_in typed) text)
+    (flow ≡ Goes) × (did None × AnswersTyped old new bench typed text)
 
 -- a line was typed: one that is too long is none
 pub data Answers (did : Option Deed → Type 0) (old new : Debugger) (typed : List ℕ) (flow : Flow) (text : List ℕ)

@@ -28,13 +28,13 @@ pub record Begins (given : Settings) (d : Debugger) : Type 0 where
   pub asked : d.asked ≡ None
   pub warns : d.warns ≡ true
   pub wanted : texts d.wanted.answers.items ≡ []
-  pub times : texts d.times.answers.items ≡ []
+  pub marks : texts d.marks.answers.items ≡ []
   pub sent : d.sent.firsts.items ≡ []
   pub score : d.score ≡ record { agreed = 0; differed = 0; warnings = 0 }
   pub engines : d.engines ≡ 0
   pub offered : lists d.offered.items ≡ []
 
--- all but the tape, the answers that lines expect and their times is as it was
+-- all but the tape, the answers that lines expect and their marks is as it was
 pub record KeepsSome (old new : Debugger) : Type 0 where
   pub settings : new.settings ≡ old.settings
   pub told : new.told ≡ old.told
@@ -50,4 +50,4 @@ pub record KeepsSome (old new : Debugger) : Type 0 where
 pub record KeepsRest (old new : Debugger) : Type 0 where
   pub some : KeepsSome old new
   pub wanted : new.wanted ≡ old.wanted
-  pub times : new.times ≡ old.times
+  pub marks : new.marks ≡ old.marks

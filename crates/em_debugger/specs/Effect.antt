@@ -11,6 +11,7 @@ use Rattle.em_debugger.specs.declared.debugger.Debugger.{Debugger}
 use Rattle.em_debugger.specs.declared.deeper.Unseen.{Unseen}
 use Rattle.em_debugger.specs.declared.deeper.Unseen.TheVariants.{Memory, TooLong}
 use Rattle.em_debugger.specs.Deeper.{IsAgain, IsSeen, IsUnseen, too_long_text}
+use Rattle.em_debugger.specs.Marks.{marks_of}
 use Rattle.em_debugger.specs.Who.{event_text}
 
 -- the newest where it is not said which
@@ -37,7 +38,7 @@ pub record TellsSeen (d : Debugger) (event : ℕ) (seen : Tape) (back : ℕ) (te
   pub noted : TellsAt (states seen.session.machine) back note
   pub changed : List ℕ
   pub effect : TellsEffect seen.session.machine (back + 1) changed
-  pub told : text ≡ event_text d.tape event (Some note) ++ (codes "\n" ++ changed)
+  pub told : text ≡ event_text (marks_of d) d.tape event (Some note) ++ (codes "\n" ++ changed)
 
 -- it is told by the session's own tape, if its journal holds the event; else by a second one that stands right behind the
 -- event, and on which the lines did the same; or it is said why the event is not seen
@@ -48,7 +49,7 @@ pub data TellsEvent (d : Debugger) (event : ℕ) (text : List ℕ) : Type 0 wher
       → IsSeen event deep → TellsSeen d event deep 0 text → TellsEvent d event text
   unseen : (why : Unseen) → length d.tape.session.machine.past ≤ behind event d.tape
       → IsUnseen d.settings d.tape event why
-      → text ≡ event_text d.tape event None ++ (codes "\n" ++ unseen_text why) → TellsEvent d event text
+      → text ≡ event_text (marks_of d) d.tape event None ++ (codes "\n" ++ unseen_text why) → TellsEvent d event text
 
 -- an event that stands is told; of another it is said that it does not
 abbrev pub Answers : Bool → Debugger → ℕ → List ℕ → Type 0

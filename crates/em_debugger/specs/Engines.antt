@@ -92,14 +92,14 @@ pub record PutsStep (side : Side) (old new : Debugger) : Type 0 where
   pub tape : new.tape ≡ record old.tape { lines = insert old.tape.lines old.tape.whole (step_line side) }
   pub engines : new.engines + 1 ≡ old.engines
   pub wanted : texts new.wanted.answers.items ≡ moved old.tape.whole (texts old.wanted.answers.items)
-  pub times : texts new.times.answers.items ≡ moved old.tape.whole (texts old.times.answers.items)
-  pub rest : new ≡ record old { tape = new.tape; engines = new.engines; wanted = new.wanted; times = new.times }
+  pub marks : texts new.marks.answers.items ≡ moved old.tape.whole (texts old.marks.answers.items)
+  pub rest : new ≡ record old { tape = new.tape; engines = new.engines; wanted = new.wanted; marks = new.marks }
 
 -- memory was refused to that: all is as it was, and so is what stands beside the lines
 pub record PutsNone (old new : Debugger) : Type 0 where
-  pub rest : new ≡ record old { wanted = new.wanted; times = new.times }
+  pub rest : new ≡ record old { wanted = new.wanted; marks = new.marks }
   pub wanted : texts new.wanted.answers.items ≡ texts old.wanted.answers.items
-  pub times : texts new.times.answers.items ≡ texts old.times.answers.items
+  pub marks : texts new.marks.answers.items ≡ texts old.marks.answers.items
 
 abbrev pub EngagesBy : Option Side → Debugger → Debugger → Type 0
 EngagesBy None old new = new ≡ old

@@ -20,7 +20,7 @@ use Rattle.em_debugger.specs.Expected.{AllExpect}
 use Rattle.em_debugger.specs.Played.{RunsAll}
 use Rattle.em_debugger.specs.Performing.{Cuts, Uncut, dropped_text, fault_text}
 pub use Rattle.em_debugger.specs.Performing.{IsUnadded}
-use Rattle.em_debugger.specs.Sending.{timed_in}
+use Rattle.em_debugger.specs.Marks.{marked_in}
 use Rattle.em_debugger.specs.Told.{KeepsTexts, Stay}
 
 -- what is played of a line of a script: what it says, in the words that em_bench reads
@@ -39,17 +39,17 @@ are_read lines = list_all (λ line. reads (played_in line)) lines
 abbrev pub added_of : List (List ℕ) → Added
 added_of lines = record { lines = length lines; are_read = are_read lines }
 
--- what these lines say was put behind the last one, which answers they expect, and their times; none of them is performed
+-- what these lines say was put behind the last one, which answers they expect, and their marks; none of them is performed
 pub record AddsLines (old new : Debugger) (lines : List (List ℕ)) : Type 0 where
   pub tape : new.tape ≡ record old.tape { lines = old.tape.lines ++ map played_in lines }
   pub expect : AllExpect (length old.tape.lines + 1) lines (texts old.wanted.answers.items)
       (texts new.wanted.answers.items)
-  pub times : KeepsTexts timed_in (length old.tape.lines + 1) lines (texts old.times.answers.items)
-      (texts new.times.answers.items)
+  pub marks : KeepsTexts marked_in (length old.tape.lines + 1) lines (texts old.marks.answers.items)
+      (texts new.marks.answers.items)
   pub rest : KeepsSome old new
 
 -- The first of these lines were put behind the last one of a tape, and no more; and it was kept what those expect, and their
--- times.
+-- marks.
 pub record SomeAdded (old new : Tape) (held holds had has lines : List (List ℕ)) : Type 0 where
   pub added : List (List ℕ)
   pub others : List (List ℕ)
@@ -58,13 +58,13 @@ pub record SomeAdded (old new : Tape) (held holds had has lines : List (List ℕ
   pub expected : List (List ℕ)
   pub expect : AllExpect (length old.lines + 1) added held expected
   pub stay : Stay expected holds
-  pub timed : List (List ℕ)
-  pub times : KeepsTexts timed_in (length old.lines + 1) added had timed
-  pub still : Stay timed has
+  pub marked : List (List ℕ)
+  pub marks : KeepsTexts marked_in (length old.lines + 1) added had marked
+  pub still : Stay marked has
 
 pub record AddsSome (old new : Debugger) (lines : List (List ℕ)) : Type 0 where
   pub some : SomeAdded old.tape new.tape (texts old.wanted.answers.items) (texts new.wanted.answers.items)
-      (texts old.times.answers.items) (texts new.times.answers.items) lines
+      (texts old.marks.answers.items) (texts new.marks.answers.items) lines
   pub rest : KeepsSome old new
 
 -- ---- texts

@@ -11,9 +11,10 @@ use Rattle.em_trail.specs.declared.note.Note.{Note}
 use Rattle.em_noted.specs.Note.{note_text}
 use Rattle.em_tape.specs.Tape.{Tape, event_of, line_at}
 use Rattle.em_looks.specs.Numbers.{number_text, short_text}
+use Rattle.em_debugger.specs.Marks.{marks_of, shown_of, source_at, source_text}
 use Rattle.em_debugger.specs.declared.debugger.Debugger.{Debugger}
 use Rattle.em_debugger.specs.Debugger.{told}
-use Rattle.em_debugger.specs.Place.{line_here, text_of}
+use Rattle.em_debugger.specs.Place.{line_here}
 use Rattle.em_debugger.specs.Who.{access_text}
 
 abbrev pub is_something : Did → Bool
@@ -67,11 +68,13 @@ events_of_text did line = events_text (end_of (line - 1) did) (end_of line did)
 -- a line and its answer
 abbrev pub answer_text : Debugger → ℕ → List ℕ
 answer_text d line =
-    codes ": " ++ (short_text (text_of line d.tape) ++ (codes ": " ++ (told line d ++ codes "\n")))
+    codes ": " ++ (short_text (shown_of (marks_of d) d.tape line) ++ (codes ": " ++ (told line d ++ codes "\n")))
 
 -- a line with its events and its answer
 abbrev pub line_text : Debugger → ℕ → ℕ → List ℕ
-line_text d here line = number_of_line_text here line ++ (events_of_text d.tape.did line ++ answer_text d line)
+line_text d here line =
+    number_of_line_text here line
+    ++ (source_text (source_at line (marks_of d)) ++ (events_of_text d.tape.did line ++ answer_text d line))
 
 abbrev pub lines_text : Debugger → ℕ → List ℕ → List ℕ
 lines_text d here lines = flat_map (line_text d here) lines

@@ -26,5 +26,6 @@ pub mod Search
 pub mod Sending
 pub mod Stops
 pub mod Told
+pub mod Marks
 pub mod Who
 pub mod Why

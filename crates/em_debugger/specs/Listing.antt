@@ -7,9 +7,9 @@ use Rattle.em_text.specs.Lines.{lines_of}
 use Rattle.em_looks.specs.Numbers.{short_text}
 use Rattle.em_debugger.specs.declared.debugger.Debugger.{Debugger}
 use Rattle.em_debugger.specs.declared.performing.Performed.{Performed}
+use Rattle.em_debugger.specs.Marks.{marks_of, shown_of, source_at, source_text}
 use Rattle.em_debugger.specs.Next.{Shown, shown_text}
 use Rattle.em_debugger.specs.Performing.{PerformsNext, IsLast, AnswersPerformed, IsUnadded, Unperformed, fault_text}
-use Rattle.em_debugger.specs.Place.{text_of}
 
 -- ---- texts
 
@@ -21,9 +21,13 @@ blanks_before digits = drop (min (length digits) 5) (replicate 5 32)
 abbrev pub numbers_text : ℕ → List ℕ
 numbers_text number = blanks_before (decimal number) ++ (decimal number ++ codes "  ")
 
+-- what a line says as it was given, and where it comes from
+abbrev pub sourced_text : Debugger → ℕ → List ℕ
+sourced_text d line = short_text (shown_of (marks_of d) d.tape line) ++ source_text (source_at line (marks_of d))
+
 -- a line with its number
 abbrev pub numbered_text : ℕ → List ℕ → List ℕ
-numbered_text number line = numbers_text number ++ short_text line
+numbered_text number line = numbers_text number ++ line
 
 -- the blanks that fill the 44 columns of a line
 abbrev pub blanks_text : List ℕ → List ℕ
@@ -49,7 +53,7 @@ listed_text number line (first ∷ others) = beside_text number line first ++ be
 pub record ListsPerformed (d : Debugger) (p : Performed) (text : List ℕ) : Type 0 where
   pub answer : List ℕ
   pub answers : AnswersPerformed d p answer
-  pub told : text ≡ listed_text p.line (text_of p.line d.tape) (lines_of answer)
+  pub told : text ≡ listed_text p.line (sourced_text d p.line) (lines_of answer)
 
 -- the line behind the place was performed, and listed
 pub record ListsNext (old : Debugger) (shown : Shown) (new : Debugger) : Type 0 where

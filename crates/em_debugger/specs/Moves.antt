@@ -5,10 +5,11 @@ use Rattle.em_journal.specs.View.{states}
 use Rattle.em_trail.specs.Trail.{TellsAt}
 use Rattle.em_trail.specs.declared.note.Note.{Note}
 use Rattle.em_named.specs.Numbers.{line_of}
-use Rattle.em_tape.specs.Tape.{IsNear, Tape, event_at, event_of, taken_back}
+use Rattle.em_tape.specs.Tape.{IsNear, Tape, event_at, event_of, reached, taken_back}
 use Rattle.em_looks.specs.Numbers.{number_text}
 use Rattle.em_debugger.specs.declared.debugger.Debugger.{Debugger}
 use Rattle.em_debugger.specs.Debugger.{KeepsRest}
+use Rattle.em_debugger.specs.Marks.{line_number_text, marks_of}
 use Rattle.em_debugger.specs.Place.{line_here}
 use Rattle.em_debugger.specs.Who.{what_text}
 
@@ -27,28 +28,29 @@ abbrev pub after_back : ℕ → Tape → Tape
 after_back most tape = if event_of tape == 0 then tape else place_back (taken most tape) tape
 
 -- a line, and what its event was
-abbrev pub line_text : Tape → ℕ → Note → List ℕ
-line_text tape line note =
-    number_text (codes "(line ") line (codes ", ") ++ (what_text tape line note ++ codes ")\n")
+abbrev pub line_text : List (List ℕ) → Tape → ℕ → Note → List ℕ
+line_text marks tape line note =
+    line_number_text marks (codes "(line ") line (codes ", ") ++ (what_text marks tape line note ++ codes ")\n")
 
 -- one event was taken back
-abbrev pub one_back_text : Tape → ℕ → Note → List ℕ
-one_back_text tape event note =
-    number_text (codes "took back event ") event (codes " ") ++ line_text tape (line_of event tape.did) note
+abbrev pub one_back_text : List (List ℕ) → Tape → ℕ → Note → List ℕ
+one_back_text marks tape event note =
+    number_text (codes "took back event ") event (codes " ") ++ line_text marks tape (line_of event tape.did) note
 
 -- n events were taken back, the last of them this one
-abbrev pub down_to_text : Tape → ℕ → ℕ → Note → List ℕ
-down_to_text tape n last note =
+abbrev pub down_to_text : List (List ℕ) → Tape → ℕ → ℕ → Note → List ℕ
+down_to_text marks tape n last note =
     number_text (codes "took back ") n (codes " events, ")
-    ++ (number_text (codes "down to event ") last (codes " ") ++ line_text tape (line_of last tape.did) note)
+    ++ (number_text (codes "down to event ") last (codes " ") ++ line_text marks tape (line_of last tape.did) note)
 
 -- so many events were taken back, the last of them this one, with this note
-abbrev pub some_taken_text : Tape → ℕ → ℕ → Note → List ℕ
-some_taken_text tape n last note = if n == 1 then one_back_text tape last note else down_to_text tape n last note
+abbrev pub some_taken_text : List (List ℕ) → Tape → ℕ → ℕ → Note → List ℕ
+some_taken_text marks tape n last note =
+    if n == 1 then one_back_text marks tape last note else down_to_text marks tape n last note
 
-abbrev pub taken_text : Tape → ℕ → ℕ → Option Note → List ℕ
-taken_text tape n last None = []
-taken_text tape n last (Some note) = some_taken_text tape n last note
+abbrev pub taken_text : List (List ℕ) → Tape → ℕ → ℕ → Option Note → List ℕ
+taken_text marks tape n last None = []
+taken_text marks tape n last (Some note) = some_taken_text marks tape n last note
 
 -- fewer were taken than asked for, and one still stands
 abbrev pub budget_text : Bool → ℕ → List ℕ
@@ -58,13 +60,13 @@ budget_text fewer newest =
     else []
 
 -- from a tape, where n events were taken back; the new one has its lines
-abbrev pub stood_text : ℕ → ℕ → Tape → Tape → Option Note → List ℕ
-stood_text most n tape new note =
+abbrev pub stood_text : List (List ℕ) → ℕ → ℕ → Tape → Tape → Option Note → List ℕ
+stood_text marks most n tape new note =
     if event_of tape == 0 then codes "no event stands here\n" else
-    taken_text new n (event_at (n - 1) tape) note ++ budget_text (nat_lt n most) (event_of new)
+    taken_text marks new n (event_at (n - 1) tape) note ++ budget_text (nat_lt n most) (event_of new)
 
-abbrev pub back_text : ℕ → Tape → Tape → Option Note → List ℕ
-back_text most tape new note = stood_text most (taken most tape) tape new note
+abbrev pub back_text : List (List ℕ) → ℕ → Tape → Tape → Option Note → List ℕ
+back_text marks most tape new note = stood_text marks most (taken most tape) tape new note
 
 -- the note of the last of so many events that are taken back from a tape; none, where none is
 abbrev pub NotesLast : ℕ → Tape → Option Note → Type 0
@@ -112,7 +114,7 @@ gone_text tape more false = codes "no memory to play it again: the place stays\n
 
 -- so many events forward; a number of an event has 64 bits
 abbrev pub forward_by : ℕ → Tape → ℕ
-forward_by events tape = min (event_of tape + events) 0xFFFF_FFFF_FFFF_FFFF
+forward_by events tape = min (reached tape + events) 0xFFFF_FFFF_FFFF_FFFF
 
 -- ---- what is answered
 
@@ -122,7 +124,7 @@ pub record GoesBack (most : ℕ) (old new : Debugger) (text : List ℕ) : Type 0
   pub rest : KeepsRest old new
   pub note : Option Note
   pub noted : NotesLast (taken most old.tape) old.tape note
-  pub told : text ≡ back_text most old.tape new.tape note
+  pub told : text ≡ back_text (marks_of old) most old.tape new.tape note
 
 -- the place is such a one now, and it is said where that is, and how it lies to what was asked for; or memory was refused
 pub record GoesTo (IsThere : Tape → Type 0) (near : Tape → List ℕ) (old new : Debugger) (text : List ℕ) : Type 0 where

@@ -12,7 +12,7 @@ use Rattle.em_tape.specs.Tape.{Tape, event_of}
 use Rattle.em_tape.specs.Moves.{IsCut, Plays}
 use Rattle.em_prompt.specs.BenchLine.{BenchLine, text_of as text_of_line}
 use Rattle.em_explain.specs.Explain.{Explains}
-use Rattle.em_looks.specs.Numbers.{counted_text, number_text, short_text}
+use Rattle.em_looks.specs.Numbers.{counted_text, short_text}
 use Rattle.em_warnings.specs.Warnings.{found_text}
 use Rattle.em_debugger.specs.declared.debugger.Debugger.{Debugger}
 use Rattle.em_debugger.specs.declared.performing.Performed.{Performed}
@@ -20,10 +20,11 @@ use Rattle.em_debugger.specs.BenchLooks.{is_look, look_text}
 use Rattle.em_debugger.specs.Came.{Comes}
 use Rattle.em_debugger.specs.Debugger.{KeepsSome, came, told}
 use Rattle.em_debugger.specs.Engines.{Engages}
-use Rattle.em_debugger.specs.Expected.{Expects, compared_text, scored, wanted, warned_behind}
+use Rattle.em_debugger.specs.Expected.{Expects, compared_text, scored, wanted, wanted_in, warned_behind}
+use Rattle.em_debugger.specs.Marks.{line_number_text, marked_in, marks_of, shown_of}
 use Rattle.em_debugger.specs.Place.{line_here, text_of}
 use Rattle.em_debugger.specs.Sending.{KeepsFirst, StaysSent, first_sent}
-use Rattle.em_debugger.specs.Told.{Notes, Stay}
+use Rattle.em_debugger.specs.Told.{KeepsText, Notes, Stay}
 
 -- the tape with the line at its place whole
 pub record IsWhole (old whole : Tape) : Type 0 where
@@ -43,7 +44,7 @@ pub record Performs (old new : Debugger) (performed : Performed) : Type 0 where
   pub asked : new.asked ≡ old.asked
   pub warns : new.warns ≡ old.warns
   pub wanted : new.wanted ≡ old.wanted
-  pub times : new.times ≡ old.times
+  pub marks : new.marks ≡ old.marks
   pub sent : KeepsFirst performed.line (first_sent (length before.session.machine.present.wire)
       (length new.tape.session.machine.present.wire)) old.sent.firsts.items new.sent.firsts.items
   pub warned : new.warned ≡ warned_behind new performed.line
@@ -69,7 +70,7 @@ pub record KeepsBeside (old new : Debugger) : Type 0 where
   pub told : (line : ℕ) → told line new ≡ told line old
   pub came : (line : ℕ) → came line new ≡ came line old
   pub wanted : (line : ℕ) → wanted line new ≡ wanted line old
-  pub times : Stay (texts old.times.answers.items) (texts new.times.answers.items)
+  pub marks : Stay (texts old.marks.answers.items) (texts new.marks.answers.items)
   pub sent : StaysSent old.sent.firsts.items new.sent.firsts.items
   pub settings : new.settings ≡ old.settings
   pub asked : new.asked ≡ old.asked
@@ -108,7 +109,7 @@ IsLast d = length d.tape.lines ≤ line_here d.tape
 -- a line with its number
 abbrev pub heading_text : Debugger → ℕ → List ℕ
 heading_text d line =
-    number_text (codes "line ") line (codes ": ") ++ (short_text (text_of line d.tape) ++ codes "\n")
+    line_number_text (marks_of d) (codes "line ") line (codes ": ") ++ (short_text (shown_of (marks_of d) d.tape line) ++ codes "\n")
 
 -- no line lies ahead, behind so many that did
 abbrev pub no_line_text : ℕ → List ℕ
@@ -137,7 +138,7 @@ abbrev pub kept : Tape → ℕ → ℕ
 kept tape dropped = length tape.lines - dropped
 
 -- the lines ahead of the place were dropped, so many of them, with what was told of them, how they came out, what they
--- expect, their times, what they sent, and what was asked
+-- expect, their marks, what they sent, and what was asked
 pub record Cuts (old new : Debugger) (dropped : ℕ) : Type 0 where
   pub tape : IsCut old.tape new.tape dropped
   pub told : texts new.told.answers.items ≡ take (kept old.tape dropped) (texts old.told.answers.items)
@@ -146,20 +147,22 @@ pub record Cuts (old new : Debugger) (dropped : ℕ) : Type 0 where
   pub settings : new.settings ≡ old.settings
   pub warns : new.warns ≡ old.warns
   pub wanted : texts new.wanted.answers.items ≡ take (kept old.tape dropped) (texts old.wanted.answers.items)
-  pub times : texts new.times.answers.items ≡ take (kept old.tape dropped) (texts old.times.answers.items)
+  pub marks : texts new.marks.answers.items ≡ take (kept old.tape dropped) (texts old.marks.answers.items)
   pub sent : new.sent.firsts.items ≡ take (kept old.tape dropped) old.sent.firsts.items
   pub score : new.score ≡ old.score
   pub engines : new.engines ≡ old.engines
   pub offered : new.offered ≡ old.offered
 
--- they were dropped, and a line was put behind the place, which expects this answer
-pub record AddsLine (old new : Debugger) (line asked : List ℕ) (dropped : ℕ) : Type 0 where
+-- they were dropped, and what is played of a line that was given was put behind the place, with the answer that it expects, and
+-- the line as it was given where it says more
+pub record AddsLine (old new : Debugger) (line given : List ℕ) (dropped : ℕ) : Type 0 where
   pub between : Debugger
   pub cut : Cuts old between dropped
   pub tape : new.tape ≡ record between.tape { lines = between.tape.lines ++ line ∷ [] }
-  pub expects : Expects (length between.tape.lines + 1) asked (texts between.wanted.answers.items)
+  pub expects : Expects (length between.tape.lines + 1) (wanted_in given) (texts between.wanted.answers.items)
       (texts new.wanted.answers.items)
-  pub times : new.times ≡ between.times
+  pub marks : KeepsText (length between.tape.lines + 1) (marked_in given) (texts between.marks.answers.items)
+      (texts new.marks.answers.items)
   pub rest : KeepsSome between new
 
 -- memory was refused to what drops them: all beside the tape stays
@@ -171,8 +174,8 @@ Uncut old new = new ≡ record old { tape = new.tape }
 pub data Unadded (old new : Debugger) : Type 0 where
   uncut : Uncut old new → Unadded old new
   cut_alone : (between : Debugger) (dropped : ℕ) → Cuts old between dropped → new.tape ≡ between.tape
-      → Stay (texts between.wanted.answers.items) (texts new.wanted.answers.items) → new.times ≡ between.times
-      → KeepsSome between new
+      → Stay (texts between.wanted.answers.items) (texts new.wanted.answers.items)
+      → Stay (texts between.marks.answers.items) (texts new.marks.answers.items) → KeepsSome between new
       → Unadded old new
 
 -- what stands behind the answer to the line that was performed last: its warnings, if they are to be said, and how it
@@ -220,21 +223,21 @@ pub record AnswersAdded (old new : Debugger) (dropped : ℕ) (text : List ℕ) :
   pub said : text ≡ dropped_text dropped ++ answer
 
 -- a line was put behind the place and performed; or it is said why it was not
-pub data AnswersNew (old new : Debugger) (line asked text : List ℕ) : Type 0 where
-  added : (between : Debugger) (dropped : ℕ) → AddsLine old between line asked dropped
-      → AnswersAdded between new dropped text → AnswersNew old new line asked text
+pub data AnswersNew (old new : Debugger) (line given text : List ℕ) : Type 0 where
+  added : (between : Debugger) (dropped : ℕ) → AddsLine old between line given dropped
+      → AnswersAdded between new dropped text → AnswersNew old new line given text
   refused : (why : BenchFault) → IsUnadded why → text ≡ fault_text why → Unadded old new
-      → AnswersNew old new line asked text
+      → AnswersNew old new line given text
 
 -- a line that only looks, where lines or events lie ahead
 abbrev pub looks_back : Tape → BenchLine → Bool
 looks_back tape line = is_look line.command && is_among_lines tape
 
 abbrev pub AnswersLine : Bool → Debugger → Debugger → BenchLine → List ℕ → List ℕ → Type 0
-AnswersLine true old new line asked text = (new ≡ old) × (text ≡ look_text old.tape.session.machine (text_of_line line))
-AnswersLine false old new line asked text = AnswersNew old new (text_of_line line) asked text
+AnswersLine true old new line given text = (new ≡ old) × (text ≡ look_text old.tape.session.machine (text_of_line line))
+AnswersLine false old new line given text = AnswersNew old new (text_of_line line) given text
 
--- A line of em_bench's was typed, which expects this answer, if any. A look among lines gets no place among them, and changes nothing; any other line is
--- put behind the place, and performed.
+-- A line of em_bench's was typed, in these words. A look among lines gets no place among them, and changes nothing; any other
+-- line is put behind the place, and performed.
 abbrev pub AnswersTyped : Debugger → Debugger → BenchLine → List ℕ → List ℕ → Type 0
-AnswersTyped old new line asked text = AnswersLine (looks_back old.tape line) old new line asked text
+AnswersTyped old new line given text = AnswersLine (looks_back old.tape line) old new line given text

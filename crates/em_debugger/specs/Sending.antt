@@ -1,24 +1,13 @@
 -- When the frames were sent that are on the wire: by the times of lines, and by which line sent which frames.
-use Rattle.std.specs.Prelude.{◌≡◌, ◌≢◌, ℕ, zero, suc, ◌+◌, ◌-◌, ◌*◌, nat_lt, is_some, if◌then◌else◌}
+use Rattle.std.specs.Prelude.{◌≡◌, ◌≢◌, ℕ, zero, suc, ◌+◌, ◌-◌, ◌*◌, ◌==◌, nat_lt, is_some, if◌then◌else◌}
 use Rattle.std.specs.Prelude.{List, [], ◌++◌, get_or, length, replicate, take, Option, Some, None, unwrap_or}
-use Rattle.em_frames.specs.Moment.{time_in}
-use Rattle.em_line.specs.Parts.{comment_in}
 use Rattle.em_tape.specs.Texts.{texts}
 use Rattle.em_debugger.specs.declared.debugger.Debugger.{Debugger}
 use Rattle.em_debugger.specs.declared.sending.Clock.{Clock}
 use Rattle.em_debugger.specs.Counted.{counted}
+use Rattle.em_debugger.specs.Marks.{time_of}
 use Rattle.em_debugger.specs.Place.{line_here}
 use Rattle.em_debugger.specs.Told.{told_of}
-
--- ---- the times of lines
-
--- a text, if it is a time; else no octet
-abbrev pub only_time : List ℕ → List ℕ
-only_time text = if is_some (time_in text) then text else []
-
--- the time that a line's comment is, as it stands there
-abbrev pub timed_in : List ℕ → List ℕ
-timed_in line = only_time (unwrap_or (comment_in line) [])
 
 -- ---- what lines sent
 
@@ -80,16 +69,16 @@ with_sent (Some first) line course = record {
   clock = course.clock;
 }
 
--- behind the next line, with its number, its time as a text, and the first frame that it sent
+-- behind the next line, with its number, the line as it stood if it has a time, and the first frame that it sent
 abbrev pub passed : ℕ → List ℕ → Option ℕ → Course → Course
-passed line time first course =
-    with_sent first line (record course { clock = later (time_in time) course.clock })
+passed line mark first course =
+    with_sent first line (record course { clock = later (time_of mark) course.clock })
 
 -- behind the first so many lines
 abbrev pub course_at : ℕ → List (Option ℕ) → List (List ℕ) → Course
-course_at zero firsts times = record { given = []; rest = 0; clock = None }
-course_at (suc k) firsts times =
-    passed (suc k) (told_of (suc k) times) (first_of (suc k) firsts) (course_at k firsts times)
+course_at zero firsts marks = record { given = []; rest = 0; clock = None }
+course_at (suc k) firsts marks =
+    passed (suc k) (told_of (suc k) marks) (first_of (suc k) firsts) (course_at k firsts marks)
 
 -- the times of so many frames
 abbrev pub times_in : ℕ → Course → List ℕ
@@ -99,4 +88,4 @@ times_in frames course = resized frames course.rest course.given
 abbrev pub times_of : Debugger → List ℕ
 times_of d =
     times_in (length d.tape.session.machine.present.wire)
-    (course_at (line_here d.tape + 1) d.sent.firsts.items (texts d.times.answers.items))
+    (course_at (line_here d.tape + 1) d.sent.firsts.items (texts d.marks.answers.items))

@@ -17,7 +17,8 @@ use Rattle.em_debugger.specs.declared.stops.Ran.TheVariants as ran
 use Rattle.em_debugger.specs.Engines.{is_refused}
 use Rattle.em_debugger.specs.Expected.{answers_otherwise}
 use Rattle.em_debugger.specs.Lost.{LosesSo, held_of}
-use Rattle.em_debugger.specs.Place.{line_here, text_of}
+use Rattle.em_debugger.specs.Marks.{line_number_text, marks_of, shown_of}
+use Rattle.em_debugger.specs.Place.{line_here}
 use Rattle.em_debugger.specs.Performing.{PerformsNext, IsLast, IsUnadded, ShowsPerformed, Unperformed, fault_text}
 use Rattle.em_debugger.specs.Who.{TellsNewest}
 
@@ -69,7 +70,8 @@ played_text n = counted_text (codes "played ") n (codes " line\n") (codes " line
 -- the line before which a run ended
 abbrev pub before_text : Debugger → ℕ → List ℕ
 before_text d line =
-    number_text (codes "before line ") line (codes ": ") ++ (short_text (text_of line d.tape) ++ codes "\n")
+    line_number_text (marks_of d) (codes "before line ") line (codes ": ")
+    ++ (short_text (shown_of (marks_of d) d.tape line) ++ codes "\n")
 
 abbrev pub unchanged_text : Watch → List ℕ
 unchanged_text watch = codes "none changed " ++ (watch_text watch ++ codes "\n")

@@ -22,8 +22,9 @@ use Rattle.em_debugger.specs.declared.deeper.Unseen.TheVariants.{Memory, TooLong
 use Rattle.em_debugger.specs.declared.accessed.Accessed.{Accessed}
 use Rattle.em_debugger.specs.Accessed.{IsNewestAccess, came_text}
 use Rattle.em_debugger.specs.Deeper.{too_long_text}
-use Rattle.em_debugger.specs.Place.{events_of, text_of}
+use Rattle.em_debugger.specs.Place.{events_of}
 use Rattle.em_debugger.specs.Search.{Seeks}
+use Rattle.em_debugger.specs.Marks.{line_number_text, marks_of, shown_of}
 
 -- ---- texts
 
@@ -44,28 +45,28 @@ abbrev pub call_text : List ℕ → ℕ → List ℕ
 call_text text count = if nat_lt 1 count then short_text text ++ codes ": " else []
 
 -- what an event of a line was
-abbrev pub what_text : Tape → ℕ → Note → List ℕ
-what_text tape line note = call_text (text_of line tape) (events_of line tape.did) ++ note_text note
+abbrev pub what_text : List (List ℕ) → Tape → ℕ → Note → List ℕ
+what_text marks tape line note = call_text (shown_of marks tape line) (events_of line tape.did) ++ note_text note
 
 -- where its note is not known, the line's text
-abbrev pub was_text : Tape → ℕ → Option Note → List ℕ
-was_text tape line None = short_text (text_of line tape)
-was_text tape line (Some note) = what_text tape line note
+abbrev pub was_text : List (List ℕ) → Tape → ℕ → Option Note → List ℕ
+was_text marks tape line None = short_text (shown_of marks tape line)
+was_text marks tape line (Some note) = what_text marks tape line note
 
--- an event: its line, its number, and what it was
-abbrev pub noted_text : Tape → ℕ → Option Note → ℕ → List ℕ
-noted_text tape event note line =
-    number_text (codes "line ") line (codes ", ")
-    ++ (number_text (codes "event ") event [] ++ (access_text tape event line ++ was_text tape line note))
+-- an event: its line, with the source of that, its number, and what it was
+abbrev pub noted_text : List (List ℕ) → Tape → ℕ → Option Note → ℕ → List ℕ
+noted_text marks tape event note line =
+    line_number_text marks (codes "line ") line (codes ", ")
+    ++ (number_text (codes "event ") event [] ++ (access_text tape event line ++ was_text marks tape line note))
 
 -- its note is known where the journal that is at hand holds it
-abbrev pub event_text : Tape → ℕ → Option Note → List ℕ
-event_text tape event note = noted_text tape event note (line_of event tape.did)
+abbrev pub event_text : List (List ℕ) → Tape → ℕ → Option Note → List ℕ
+event_text marks tape event note = noted_text marks tape event note (line_of event tape.did)
 
 -- a change: the event, and what it did
-abbrev pub found_text : Tape → Watch → Found → List ℕ
-found_text tape watch found =
-    event_text tape found.event (Some found.note) ++ (codes "\n" ++ difference_text watch found.difference)
+abbrev pub found_text : List (List ℕ) → Tape → Watch → Found → List ℕ
+found_text marks tape watch found =
+    event_text marks tape found.event (Some found.note) ++ (codes "\n" ++ difference_text watch found.difference)
 
 abbrev pub unchanged_and : Watch → List ℕ → List ℕ
 unchanged_and watch end = codes "nothing changed " ++ (watch_text watch ++ end)
@@ -76,19 +77,19 @@ unchanged_text watch is_before =
     if is_before then unchanged_and watch (codes " before that") else unchanged_and watch []
 
 -- an access, and what came of it
-abbrev pub accessed_text : Tape → Accessed → List ℕ
-accessed_text tape accessed =
+abbrev pub accessed_text : List (List ℕ) → Tape → Accessed → List ℕ
+accessed_text marks tape accessed =
     codes "; "
-    ++ (event_text tape accessed.event (Some accessed.note)
+    ++ (event_text marks tape accessed.event (Some accessed.note)
     ++ (came_text accessed.note.kind accessed.note.value accessed.seen ++ codes "\n"))
 
-abbrev pub access_end : Tape → Option Accessed → List ℕ
-access_end tape None = codes "\n"
-access_end tape (Some accessed) = accessed_text tape accessed
+abbrev pub access_end : List (List ℕ) → Tape → Option Accessed → List ℕ
+access_end marks tape None = codes "\n"
+access_end marks tape (Some accessed) = accessed_text marks tape accessed
 
 -- no event changed it, and this is the newest that accessed it
-abbrev pub never_text : Tape → Watch → Bool → Option Accessed → List ℕ
-never_text tape watch is_before accessed = unchanged_text watch is_before ++ access_end tape accessed
+abbrev pub never_text : List (List ℕ) → Tape → Watch → Bool → Option Accessed → List ℕ
+never_text marks tape watch is_before accessed = unchanged_text watch is_before ++ access_end marks tape accessed
 
 abbrev pub no_memory_text : Watch → ℕ → List ℕ
 no_memory_text watch event =
@@ -114,16 +115,16 @@ abbrev pub SeeksHere : Debugger → Watch → ℕ → Sought → Type 0
 SeeksHere d watch back s = Seeks d.settings d.tape watch d.tape back s
 
 -- from so many steps back on no event changed it; the newest access from there on is told, as far as the journal reaches
-pub record TellsNever (tape : Tape) (watch : Watch) (back : ℕ) (text : List ℕ) : Type 0 where
+pub record TellsNever (marks : List (List ℕ)) (tape : Tape) (watch : Watch) (back : ℕ) (text : List ℕ) : Type 0 where
   pub accessed : Option Accessed
   pub newest : IsNewestAccess tape watch back accessed
-  pub said : text ≡ never_text tape watch (nat_lt 0 back) accessed
+  pub said : text ≡ never_text marks tape watch (nat_lt 0 back) accessed
 
 -- what a search from so many steps back on gave
-abbrev pub TellsSought : Tape → Watch → ℕ → Sought → List ℕ → Type 0
-TellsSought tape watch back (sought.Found found) text = text ≡ found_text tape watch found
-TellsSought tape watch back sought.Never text = TellsNever tape watch back text
-TellsSought tape watch back (sought.Unreached why) text = text ≡ unreached_text watch (event_at back tape) why
+abbrev pub TellsSought : List (List ℕ) → Tape → Watch → ℕ → Sought → List ℕ → Type 0
+TellsSought marks tape watch back (sought.Found found) text = text ≡ found_text marks tape watch found
+TellsSought marks tape watch back sought.Never text = TellsNever marks tape watch back text
+TellsSought marks tape watch back (sought.Unreached why) text = text ≡ unreached_text watch (event_at back tape) why
 
 -- what was asked for last, once a search has given this
 abbrev pub asked_after : Option Asked → Watch → Sought → Option Asked
@@ -134,7 +135,7 @@ asked_after asked watch _ = asked
 pub record TellsNewest (old new : Debugger) (watch : Watch) (back : ℕ) (text : List ℕ) : Type 0 where
   pub given : Sought
   pub sought : SeeksHere old watch back given
-  pub said : TellsSought old.tape watch back given text
+  pub said : TellsSought (marks_of old) old.tape watch back given text
   pub asked : new ≡ record old { asked = asked_after old.asked watch given }
 
 -- how many steps back lead before an event
@@ -172,7 +173,7 @@ pub record TellsAll (d : Debugger) (watch : Watch) (text : List ℕ) : Type 0 wh
   pub next : AreNext d watch 0 found last
   pub ended : Option Unseen
   pub end : EndsSo d watch last ended
-  pub said : text ≡ flat_map (found_text d.tape watch) found ++ end_text d.tape watch (length found) last ended
+  pub said : text ≡ flat_map (found_text (marks_of d) d.tape watch) found ++ end_text d.tape watch (length found) last ended
 
 -- ---- by what was typed
 

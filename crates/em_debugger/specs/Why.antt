@@ -24,6 +24,7 @@ use Rattle.em_debugger.specs.Deeper.{IsAgainTo, StandsBehind, too_long_text}
 use Rattle.em_debugger.specs.Performing.{heading_text}
 use Rattle.em_debugger.specs.Place.{line_here, text_of}
 use Rattle.em_debugger.specs.Search.{Seeks}
+use Rattle.em_debugger.specs.Marks.{marks_of}
 use Rattle.em_debugger.specs.Who.{event_text}
 
 -- ---- which line
@@ -44,8 +45,8 @@ newest_undone d (suc k) = if is_undone (came (suc k) d) then suc k else newest_u
 
 -- ---- texts
 
-abbrev pub found_setter : Tape → Found → List ℕ
-found_setter tape found = codes "    " ++ (event_text tape found.event (Some found.note) ++ codes "\n")
+abbrev pub found_setter : List (List ℕ) → Tape → Found → List ℕ
+found_setter marks tape found = codes "    " ++ (event_text marks tape found.event (Some found.note) ++ codes "\n")
 
 -- why an event was not seen, up to which none had set it
 abbrev pub unseen_setter : Unseen → List ℕ
@@ -53,10 +54,10 @@ unseen_setter (Memory refused) = codes "    no memory to see what changed it\n"
 unseen_setter (TooLong line) = too_long_text (codes "    line ") line
 
 -- the event that set it
-abbrev pub setter_text : Tape → Sought → List ℕ
-setter_text tape (sought.Found found) = found_setter tape found
-setter_text tape sought.Never = codes "    no event changed it\n"
-setter_text tape (sought.Unreached why) = unseen_setter why
+abbrev pub setter_text : List (List ℕ) → Tape → Sought → List ℕ
+setter_text marks tape (sought.Found found) = found_setter marks tape found
+setter_text marks tape sought.Never = codes "    no event changed it\n"
+setter_text marks tape (sought.Unreached why) = unseen_setter why
 
 -- what was looked at, and its value
 abbrev pub look_line : Tape → Look → List ℕ
@@ -72,7 +73,7 @@ front_text d line = heading_text d line ++ codes "  "
 pub record TellsSetter (d : Debugger) (tape : Tape) (watch : Watch) (text : List ℕ) : Type 0 where
   pub given : Sought
   pub sought : Seeks d.settings tape watch tape 0 given
-  pub told : text ≡ setter_text tape given
+  pub told : text ≡ setter_text (marks_of d) tape given
 
 abbrev pub TellsWatch : Debugger → Tape → Option Watch → List ℕ → Type 0
 TellsWatch d tape None text = text ≡ []

@@ -1,7 +1,6 @@
 //! Answering what is typed.
-ghost use Rattle.std.specs.Prelude.{◌≡◌, ◌<◌, ℕ, List, IfOk, IfSome, OnOk, length};
+ghost use Rattle.std.specs.Prelude.{◌≡◌, ◌<◌, ℕ, List, IfOk, OnOk, length};
 ghost use Rattle.std.specs.Option.{option_map};
-ghost use Rattle.em_debugger.specs.Expected.{wanted_in};
 ghost use Rattle.em_prompt.specs.BenchLine.{plain as plain_line};
 ghost use Rattle.std.specs.Io.KnownBytes.{Appends};
 ghost use Rattle.em_prompt.specs.Prompt.{plain_wrong, prompted};
@@ -43,8 +42,8 @@ impl Debugger {
             return Ok(Flow::Goes);
         }
         match asking(line) {
-            Some((bench, answer)) => {
-                self.perform_typed(writer, bench, answer)?;
+            Some(bench) => {
+                self.perform_typed(writer, bench, line)?;
                 Ok(Flow::Goes)
             }
             None => self.answer_prompted(writer, disk, line),
@@ -143,16 +142,13 @@ impl Debugger {
     }
 }
 
-/// A line of em_bench's that expects an answer, with that answer, where one was typed.
-fn asking(line: &[u8]) -> Option<(BenchLine<'_>, &[u8])>
+/// The line of em_bench's, where one was typed; an expected answer, a source and a comment may stand behind it.
+fn asking(line: &[u8]) -> Option<BenchLine<'_>>
     requires { length line.now < 0xFFFF_FFFF }
-    ensures line { option_map (λ asked. plain_line asked.0) result ≡ asking line.now }
-    ensures answer { IfSome result (λ asked. asked.1.now ≡ wanted_in line.now) }
+    ensures { option_map plain_line result ≡ asking line.now }
 {
-    let asked = expectation(line);
-    let answer = asked.answer?;
-    match prompted(asked.line) {
-        Ok(Typed::Line(bench)) => Some((bench, answer)),
+    match prompted(expectation(line).line) {
+        Ok(Typed::Line(bench)) => Some(bench),
         _ => None,
     }
 }

@@ -37,8 +37,8 @@ pub struct Debugger {
     pub(crate) warns: bool,
     // the answers that lines expect
     pub(crate) wanted: Told,
-    // the times of lines, as their comments have them
-    pub(crate) times: Told,
+    // the lines as they stood that say where they come from, or when they were performed
+    pub(crate) marks: Told,
     // which frames the lines sent that were performed
     pub(crate) sent: Sent,
     // how many were given so
@@ -67,7 +67,7 @@ impl Debugger {
                 asked: None,
                 warns: true,
                 wanted: Told::new(alloc),
-                times: Told::new(alloc),
+                marks: Told::new(alloc),
                 sent: Sent::new(alloc),
                 score: Score::none(),
                 engines: 0,

@@ -3,6 +3,7 @@ ghost use Rattle.std.specs.Prelude.{◌≡◌, ◌<◌, ◌++◌, List, ℕ, Non
 ghost use Rattle.std.specs.Io.KnownBytes.{Appends};
 ghost use Rattle.em_text.specs.Writer.{Writes};
 ghost use Rattle.em_debugger.specs.Effect.{asked_event, none_text, stands, unseen_text, AnswersEffect, TellsEvent, TellsSeen};
+ghost use Rattle.em_debugger.specs.Marks.{marks_of};
 ghost use Rattle.em_debugger.specs.Who.{event_text};
 
 use crate::debugger::Debugger;
@@ -62,7 +63,7 @@ impl Debugger {
         let Some(note) = seen.note_back(back) else {
             unreachable!()
         };
-        write_event(writer, &self.tape, event, Some(note))?;
+        write_event(writer, &self.marks, &self.tape, event, Some(note))?;
         write_whole(writer, b"\n")?;
         write_effect(writer, seen.machine(), back + 1)
     }
@@ -75,9 +76,9 @@ impl Debugger {
         why: Unseen,
     ) -> Result<(), WriteFailed>
         ensures writes { Writes (W.contents writer.old) (W.contents writer.new) result
-            (event_text self.now.tape event None ++ (codes "\n" ++ unseen_text why)) }
+            (event_text (marks_of self.now) self.now.tape event None ++ (codes "\n" ++ unseen_text why)) }
     {
-        write_event(writer, &self.tape, event, None)?;
+        write_event(writer, &self.marks, &self.tape, event, None)?;
         write_whole(writer, b"\n")?;
         write_unseen(writer, why)
     }

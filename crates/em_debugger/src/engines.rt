@@ -99,7 +99,7 @@ impl Debugger {
         let Ok(()) = self.wanted.make_way(whole) else {
             return Err(BenchFault::Memory);
         };
-        let Ok(()) = self.times.make_way(whole) else {
+        let Ok(()) = self.marks.make_way(whole) else {
             self.wanted.close_up(whole);
             return Err(BenchFault::Memory);
         };
@@ -110,7 +110,7 @@ impl Debugger {
             }
             Err(fault) => {
                 self.wanted.close_up(whole);
-                self.times.close_up(whole);
+                self.marks.close_up(whole);
                 Err(fault)
             }
         }

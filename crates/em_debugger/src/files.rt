@@ -1,14 +1,13 @@
 //! Loading and saving lines.
 ghost use Rattle.std.specs.Prelude.{◌≡◌, ◌+◌, ◌++◌, ◌∷◌, [], ℕ, List, IfErr, IfOk, OnErr, OnOk, codes, length, map};
 ghost use Rattle.em_tape.specs.Texts.{texts};
-ghost use Rattle.em_prompt.specs.Scripted.{played};
 ghost use Rattle.em_debugger.specs.Expected.{AllExpect, Expects, wanted_in};
 ghost use Rattle.std.specs.Io.KnownBytes.{Appends};
 ghost use Rattle.em_text.specs.Lines.{lines_of};
 ghost use Rattle.em_text.specs.Writer.{Writes};
 ghost use Rattle.em_debugger.specs.Disk.{Deed, Did, Refused, Unmade, disk_text, making};
 ghost use Rattle.em_debugger.specs.Place.{text_of};
-ghost use Rattle.em_debugger.specs.Sending.{timed_in};
+ghost use Rattle.em_debugger.specs.Marks.{marked_in};
 ghost use Rattle.em_debugger.specs.Told.{KeepsText, KeepsTexts, Stay};
 ghost use Rattle.em_debugger.specs.Files.{AddsLines, AddsSome, BeginsAdded, BeginsBehind, BeginsInstead, BeginsLines, BeginsText};
 ghost use Rattle.em_debugger.specs.Files.{IsUnadded, SomeAdded, added_of, played_in, reads};
@@ -17,10 +16,10 @@ ghost use Rattle.em_debugger.specs.Files.{Saves, loaded_text, saved_text, script
 
 use crate::debugger::Debugger;
 use crate::disk::{Disk, DiskFault};
+use crate::marks::{marked, sourced};
 use crate::offers::is_capture;
 use crate::performing::{write_dropped, write_fault};
 use crate::place::{line_here, text_of};
-use crate::sending::time_of;
 use crate::told::Told;
 use em_line::{is_line, parts_of};
 use em_looks::write_counted;
@@ -56,7 +55,7 @@ impl Debugger {
             self.alloc,
             &mut self.tape,
             &mut self.wanted,
-            &mut self.times,
+            &mut self.marks,
             text,
         )
     }
@@ -227,7 +226,7 @@ fn add_all(
     alloc: Global,
     tape: &mut Tape,
     wanted: &mut Told,
-    times: &mut Told,
+    marks: &mut Told,
     text: &[u8],
 ) -> Result<Added, BenchFault>
     ensures ok { OnOk result (tape.new ≡ record tape.old {
@@ -235,11 +234,11 @@ fn add_all(
     }) }
     ensures expect { OnOk result (AllExpect (length tape.old.lines + 1) (lines_of text.now)
         (texts wanted.old.answers.items) (texts wanted.new.answers.items)) }
-    ensures times { OnOk result (KeepsTexts timed_in (length tape.old.lines + 1) (lines_of text.now)
-        (texts times.old.answers.items) (texts times.new.answers.items)) }
+    ensures marks { OnOk result (KeepsTexts marked_in (length tape.old.lines + 1) (lines_of text.now)
+        (texts marks.old.answers.items) (texts marks.new.answers.items)) }
     ensures are { IfOk result (λ added. added ≡ added_of (lines_of text.now)) }
     ensures err { OnErr result (SomeAdded tape.old tape.new (texts wanted.old.answers.items)
-        (texts wanted.new.answers.items) (texts times.old.answers.items) (texts times.new.answers.items)
+        (texts wanted.new.answers.items) (texts marks.old.answers.items) (texts marks.new.answers.items)
         (lines_of text.now)) }
     ensures only { IfErr result IsUnadded }
 {
@@ -248,7 +247,7 @@ fn add_all(
     let mut rest = text;
     while !rest.is_empty() {
         let (line, behind) = next_line(rest);
-        are_read &= add_line(alloc, tape, wanted, times, line)?;
+        are_read &= add_line(alloc, tape, wanted, marks, line)?;
         rest = behind;
     }
     Ok(Added {
@@ -257,78 +256,119 @@ fn add_all(
     })
 }
 
-/// Puts what a line says behind the last line of a tape, and keeps which answer it expects, and its time, if its comment is
-/// one. Says whether em_bench reads what is played of it.
+/// Puts what a line says behind the last line of a tape, names of registers and bits and the like in the words that em_bench
+/// reads, and keeps which answer it expects, and the line as it was given where it says more. Says whether em_bench reads
+/// what is played of it.
 fn add_line(
     alloc: Global,
     tape: &mut Tape,
     wanted: &mut Told,
-    times: &mut Told,
+    marks: &mut Told,
     line: &[u8],
 ) -> Result<bool, BenchFault>
     ensures ok { OnOk result (tape.new ≡ record tape.old { lines = tape.old.lines ++ played_in line.now ∷ [] }) }
     ensures expect { OnOk result (Expects (length tape.old.lines + 1) (wanted_in line.now)
         (texts wanted.old.answers.items) (texts wanted.new.answers.items)) }
-    ensures timed { OnOk result (KeepsText (length tape.old.lines + 1) (timed_in line.now)
-        (texts times.old.answers.items) (texts times.new.answers.items)) }
+    ensures marked { OnOk result (KeepsText (length tape.old.lines + 1) (marked_in line.now)
+        (texts marks.old.answers.items) (texts marks.new.answers.items)) }
     ensures read { IfOk result (λ read. read ≡ reads (played_in line.now)) }
     ensures err { OnErr result (tape.new ≡ tape.old) }
     ensures stay { OnErr result (Stay (texts wanted.old.answers.items) (texts wanted.new.answers.items)) }
-    ensures still { OnErr result (Stay (texts times.old.answers.items) (texts times.new.answers.items)) }
+    ensures still { OnErr result (Stay (texts marks.old.answers.items) (texts marks.new.answers.items)) }
     ensures only { IfErr result IsUnadded }
 {
     let parts = parts_of(line);
     let answer = parts.expected.unwrap_or_default();
-    let time = time_of(parts.comment);
-    if time.is_empty() {
-        return add_played(alloc, tape, wanted, parts.said, answer);
-    }
-    let before = tape.len();
-    let Ok(time) = times.make_ready(before + 1, time) else {
-        return Err(BenchFault::Memory);
-    };
-    let read = add_played(alloc, tape, wanted, parts.said, answer)?;
-    times.set(before, time);
-    Ok(read)
-}
-
-/// Puts what is played of a line that says this behind the last line of a tape, and keeps which answer it expects: names
-/// of registers and bits and the like in the words that em_bench reads. Says whether em_bench reads it.
-fn add_played(
-    alloc: Global,
-    tape: &mut Tape,
-    wanted: &mut Told,
-    said: &[u8],
-    answer: &[u8],
-) -> Result<bool, BenchFault>
-    ensures ok { OnOk result (tape.new ≡ record tape.old { lines = tape.old.lines ++ played said.now ∷ [] }) }
-    ensures expect { OnOk result (Expects (length tape.old.lines + 1) answer.now
-        (texts wanted.old.answers.items) (texts wanted.new.answers.items)) }
-    ensures read { IfOk result (λ read. read ≡ reads (played said.now)) }
-    ensures err { OnErr result (tape.new ≡ tape.old) }
-    ensures stay { OnErr result (Stay (texts wanted.old.answers.items) (texts wanted.new.answers.items)) }
-    ensures only { IfErr result IsUnadded }
-{
     // Most lines em_bench reads as they stand, and they are looked at once.
-    if is_line(said) {
-        add_expecting(tape, wanted, said, answer)?;
+    if is_line(parts.said) {
+        add_beside(
+            tape,
+            wanted,
+            marks,
+            parts.said,
+            answer,
+            sourced(line, parts),
+        )?;
         return Ok(true);
     }
-    let Some(line) = scripted(said) else {
-        add_expecting(tape, wanted, said, answer)?;
+    let Some(bench) = scripted(parts.said) else {
+        add_beside(
+            tape,
+            wanted,
+            marks,
+            parts.said,
+            answer,
+            sourced(line, parts),
+        )?;
         return Ok(false);
     };
     let mut text = Vec::new(alloc);
-    if line.write(&mut text).is_err() {
+    if bench.write(&mut text).is_err() {
         return Err(BenchFault::Memory);
     }
-    add_expecting(tape, wanted, text.as_slice(), answer)?;
+    add_beside(tape, wanted, marks, text.as_slice(), answer, line)?;
     Ok(is_line(text.as_slice()))
+}
+
+/// Puts what is played of a line that was given behind the last line of a tape, and keeps which answer it expects, and the
+/// line as it was given where it says more.
+pub(crate) fn add_given(
+    tape: &mut Tape,
+    wanted: &mut Told,
+    marks: &mut Told,
+    text: &[u8],
+    given: &[u8],
+) -> Result<(), BenchFault>
+    ensures ok { OnOk result (tape.new ≡ record tape.old { lines = tape.old.lines ++ text.now ∷ [] }) }
+    ensures expect { OnOk result (Expects (length tape.old.lines + 1) (wanted_in given.now)
+        (texts wanted.old.answers.items) (texts wanted.new.answers.items)) }
+    ensures marked { OnOk result (KeepsText (length tape.old.lines + 1) (marked_in given.now)
+        (texts marks.old.answers.items) (texts marks.new.answers.items)) }
+    ensures err { OnErr result (tape.new ≡ tape.old) }
+    ensures stay { OnErr result (Stay (texts wanted.old.answers.items) (texts wanted.new.answers.items)) }
+    ensures still { OnErr result (Stay (texts marks.old.answers.items) (texts marks.new.answers.items)) }
+    ensures only { IfErr result IsUnadded }
+{
+    let parts = parts_of(given);
+    let answer = parts.expected.unwrap_or_default();
+    add_beside(tape, wanted, marks, text, answer, marked(given, parts))
+}
+
+/// Puts a line behind the last line of a tape, and beside it which answer it expects, if it expects one, and what is kept of
+/// it as it was given, if something is. Where that is refused, all stays as it is.
+fn add_beside(
+    tape: &mut Tape,
+    wanted: &mut Told,
+    marks: &mut Told,
+    line: &[u8],
+    answer: &[u8],
+    mark: &[u8],
+) -> Result<(), BenchFault>
+    ensures ok { OnOk result (tape.new ≡ record tape.old { lines = tape.old.lines ++ line.now ∷ [] }) }
+    ensures expect { OnOk result (Expects (length tape.old.lines + 1) answer.now
+        (texts wanted.old.answers.items) (texts wanted.new.answers.items)) }
+    ensures marked { OnOk result (KeepsText (length tape.old.lines + 1) mark.now
+        (texts marks.old.answers.items) (texts marks.new.answers.items)) }
+    ensures err { OnErr result (tape.new ≡ tape.old) }
+    ensures stay { OnErr result (Stay (texts wanted.old.answers.items) (texts wanted.new.answers.items)) }
+    ensures still { OnErr result (Stay (texts marks.old.answers.items) (texts marks.new.answers.items)) }
+    ensures only { IfErr result IsUnadded }
+{
+    if mark.is_empty() {
+        return add_expecting(tape, wanted, line, answer);
+    }
+    let before = tape.len();
+    let Ok(text) = marks.make_ready(before + 1, mark) else {
+        return Err(BenchFault::Memory);
+    };
+    add_expecting(tape, wanted, line, answer)?;
+    marks.set(before, text);
+    Ok(())
 }
 
 /// Puts a line behind the last line of a tape, and keeps which answer it expects, if it expects one. Where that is
 /// refused, all stays as it is.
-pub(crate) fn add_expecting(
+fn add_expecting(
     tape: &mut Tape,
     wanted: &mut Told,
     line: &[u8],

@@ -12,7 +12,8 @@ ghost use Rattle.em_debugger.specs.History.{line_text, lines_between, lines_text
 ghost use Rattle.em_debugger.specs.History.{mark_text, number_of_line_text, opened, opened_text, start_text};
 
 use crate::debugger::Debugger;
-use crate::place::{line_here, text_of};
+use crate::marks::{shown_of, write_source};
+use crate::place::line_here;
 use crate::who::write_access;
 use em_looks::{write_number, write_short};
 use em_named::Did;
@@ -205,7 +206,7 @@ impl Debugger {
         }
     }
 
-    /// Writes a line with its events and its answer: `> line 5, events 3 to 6: init: ok`.
+    /// Writes a line with its events and its answer: `> line 5 @ driver.c:57, events 3 to 6: init: ok`.
     fn write_line<W: Write>(
         &self,
         writer: &mut W,
@@ -216,6 +217,7 @@ impl Debugger {
         ensures writes { Writes (W.contents writer.old) (W.contents writer.new) result (line_text self.now here line) }
     {
         write_number_of_line(writer, line, here)?;
+        write_source(writer, &self.marks, line)?;
         self.write_events_of(writer, line)?;
         self.write_answer(writer, line)
     }
@@ -237,7 +239,7 @@ impl Debugger {
             (answer_text self.now line) }
     {
         write_whole(writer, b": ")?;
-        write_short(writer, text_of(&self.tape, line))?;
+        write_short(writer, shown_of(&self.marks, &self.tape, line))?;
         write_pieces(writer, &[b": ", self.told.of(line), b"\n"])
     }
 }

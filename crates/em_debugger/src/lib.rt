@@ -21,6 +21,7 @@ mod history;
 mod laws;
 mod listing;
 mod lost;
+mod marks;
 mod moves;
 mod next;
 mod offers;

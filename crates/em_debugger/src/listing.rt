@@ -5,11 +5,11 @@ ghost use Rattle.em_text.specs.Lines.{lines_of};
 ghost use Rattle.em_text.specs.Writer.{Writes};
 ghost use Rattle.em_debugger.specs.Listing.{Lists, ListsPerformed, below_text, beside_text, blanks_before, blanks_text};
 ghost use Rattle.em_debugger.specs.Listing.{listed_text};
-ghost use Rattle.em_debugger.specs.Listing.{numbered_text, numbers_text};
+ghost use Rattle.em_debugger.specs.Listing.{numbered_text, numbers_text, sourced_text};
 
 use crate::debugger::Debugger;
+use crate::marks::{shown_of, write_source};
 use crate::performing::{Performed, write_fault};
-use crate::place::text_of;
 use em_looks::write_short;
 use em_text::{WriteFailed, next_line, write_pieces, write_whole};
 use itoa::Buffer;
@@ -47,8 +47,17 @@ impl Debugger {
     {
         let mut answer = Vec::new(self.alloc);
         self.write_answered(&mut answer, performed)?;
-        let line = text_of(&self.tape, performed.line);
-        write_listed(writer, performed.line, line, answer.as_slice())
+        let mut line = Vec::new(self.alloc);
+        self.write_sourced(&mut line, performed.line)?;
+        write_listed(writer, performed.line, line.as_slice(), answer.as_slice())
+    }
+
+    /// Writes what a line says as it was given, and where it comes from, if that is known.
+    fn write_sourced<W: Write>(&self, writer: &mut W, line: usize) -> Result<(), WriteFailed>
+        ensures writes { Writes (W.contents writer.old) (W.contents writer.new) result (sourced_text self.now line) }
+    {
+        write_short(writer, shown_of(&self.marks, &self.tape, line))?;
+        write_source(writer, &self.marks, line)
     }
 }
 
@@ -76,7 +85,7 @@ fn write_numbered<W: Write>(writer: &mut W, number: usize, line: &[u8]) -> Resul
     ensures writes { Writes (W.contents writer.old) (W.contents writer.new) result (numbered_text number line.now) }
 {
     write_number_column(writer, number)?;
-    write_short(writer, line)
+    write_whole(writer, line)
 }
 
 /// Writes a number at the right of its columns, and two blanks.

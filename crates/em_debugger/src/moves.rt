@@ -1,8 +1,10 @@
 //! Going to another place.
 ghost use Rattle.std.specs.Prelude.{◌≡◌, ◌-◌, ◌≤◌, Bool, Option, true, false, [], length};
 ghost use Rattle.em_tape.specs.Tape.{IsNear, event_of};
+ghost use Rattle.em_tape.specs.Texts.{texts};
 ghost use Rattle.em_text.specs.Writer.{Writes};
 ghost use Rattle.em_debugger.specs.Debugger.{KeepsRest};
+ghost use Rattle.em_debugger.specs.Marks.{marks_of};
 ghost use Rattle.em_debugger.specs.Place.{line_here};
 ghost use Rattle.em_debugger.specs.Moves.{after_back, back_text, behind_text, budget_text, down_to_text, forward_by};
 ghost use Rattle.em_debugger.specs.Moves.{gone_text, line_text, near_text, one_back_text, place_text};
@@ -11,7 +13,9 @@ ghost use Rattle.em_debugger.specs.Moves.{Goes, IsBehind, NotesLast};
 ghost use Rattle.em_trail.specs.declared.note.Note.{Note as Taken};
 
 use crate::debugger::Debugger;
+use crate::marks::write_line_number;
 use crate::place::line_here;
+use crate::told::Told;
 use crate::who::write_what;
 use em_looks::write_number;
 use em_tape::Tape;
@@ -23,7 +27,8 @@ impl Debugger {
     /// Takes events back, and says which.
     pub(crate) fn back<W: Write>(&mut self, writer: &mut W, most: u32) -> Result<(), WriteFailed>
         ensures writes { (note : Option Taken) × NotesLast (taken most self.old.tape) self.old.tape note
-            × Writes (W.contents writer.old) (W.contents writer.new) result (back_text most self.old.tape self.new.tape note) }
+            × Writes (W.contents writer.old) (W.contents writer.new) result
+            (back_text (marks_of self.old) most self.old.tape self.new.tape note) }
         ensures tape { self.new.tape ≡ after_back most self.old.tape }
         ensures rest { KeepsRest self.old self.new }
     {
@@ -36,7 +41,7 @@ impl Debugger {
         }
         let last = self.tape.event_back(least.saturating_sub(1));
         let taken = self.tape.back(most);
-        write_taken(writer, &self.tape, taken, last, note)?;
+        write_taken(writer, &self.marks, &self.tape, taken, last, note)?;
         write_budget(writer, taken < most, self.tape.event())
     }
 
@@ -64,7 +69,7 @@ impl Debugger {
             (gone_text self.new.tape (near_text (forward_by events self.old.tape) (event_of self.new.tape)) gone) }
         ensures rest { KeepsRest self.old self.new }
     {
-        let event = self.tape.event().saturating_add(u64::from(events));
+        let event = self.tape.event_ahead(u64::from(events));
         self.go(writer, event)
     }
 
@@ -90,79 +95,85 @@ impl Debugger {
 /// Writes which events were taken back, the last of them this one.
 fn write_taken<W: Write>(
     writer: &mut W,
+    marks: &Told,
     tape: &Tape,
     taken: usize,
     last: u64,
     note: Option<Note>,
 ) -> Result<(), WriteFailed>
     ensures writes { Writes (W.contents writer.old) (W.contents writer.new) result
-        (taken_text tape.now taken last note) }
+        (taken_text (texts marks.now.answers.items) tape.now taken last note) }
 {
     match note {
-        Some(note) => write_some_taken(writer, tape, taken, last, note),
+        Some(note) => write_some_taken(writer, marks, tape, taken, last, note),
         None => Ok(()),
     }
 }
 
 fn write_some_taken<W: Write>(
     writer: &mut W,
+    marks: &Told,
     tape: &Tape,
     taken: usize,
     last: u64,
     note: Note,
 ) -> Result<(), WriteFailed>
     ensures writes { Writes (W.contents writer.old) (W.contents writer.new) result
-        (some_taken_text tape.now taken last note) }
+        (some_taken_text (texts marks.now.answers.items) tape.now taken last note) }
 {
     if taken == 1 {
-        write_one_back(writer, tape, last, note)
+        write_one_back(writer, marks, tape, last, note)
     } else {
-        write_down_to(writer, tape, taken, last, note)
+        write_down_to(writer, marks, tape, taken, last, note)
     }
 }
 
 /// Writes which event was taken back: `took back event 22 (line 18, rx: wrote 1)`.
 fn write_one_back<W: Write>(
     writer: &mut W,
+    marks: &Told,
     tape: &Tape,
     event: u64,
     note: Note,
 ) -> Result<(), WriteFailed>
     ensures writes { Writes (W.contents writer.old) (W.contents writer.new) result
-        (one_back_text tape.now event note) }
+        (one_back_text (texts marks.now.answers.items) tape.now event note) }
 {
     write_number(writer, b"took back event ", event, b" ")?;
-    write_line(writer, tape, tape.line_of(event), note)
+    write_line(writer, marks, tape, tape.line_of(event), note)
 }
 
 /// Writes that events were taken back down to one: `took back 3 events, down to event 20 (line 17, rx: wrote 0)`.
 fn write_down_to<W: Write>(
     writer: &mut W,
+    marks: &Told,
     tape: &Tape,
     taken: usize,
     last: u64,
     note: Note,
 ) -> Result<(), WriteFailed>
     ensures writes { Writes (W.contents writer.old) (W.contents writer.new) result
-        (down_to_text tape.now taken last note) }
+        (down_to_text (texts marks.now.answers.items) tape.now taken last note) }
 {
     write_number(writer, b"took back ", taken as u64, b" events, ")?;
     write_number(writer, b"down to event ", last, b" ")?;
-    write_line(writer, tape, tape.line_of(last), note)
+    write_line(writer, marks, tape, tape.line_of(last), note)
 }
 
-/// Writes a line in parentheses, and what its event was.
+/// Writes a line in parentheses, with where it comes from, and what its event was.
 fn write_line<W: Write>(
     writer: &mut W,
+    marks: &Told,
     tape: &Tape,
     line: usize,
     note: Note,
 ) -> Result<(), WriteFailed>
     requires { line ≤ length tape.now.did }
-    ensures writes { Writes (W.contents writer.old) (W.contents writer.new) result (line_text tape.now line note) }
+    ensures writes { Writes (W.contents writer.old) (W.contents writer.new) result
+        (line_text (texts marks.now.answers.items) tape.now line note) }
 {
-    write_number(writer, b"(line ", line as u64, b", ")?;
-    write_what(writer, tape, line, note)?;
+    write_line_number(writer, marks, b"(line ", line, b", ")?;
+    write_what(writer, marks, tape, line, note)?;
     write_whole(writer, b")\n")
 }
 

@@ -13,10 +13,11 @@ ghost use Rattle.em_debugger.specs.Performing.{behind_text, fault_text};
 
 use crate::bench_looks::{answer_look, is_look};
 use crate::debugger::Debugger;
-use crate::files::add_expecting;
+use crate::files::add_given;
+use crate::marks::{shown_of, write_line_number};
 use crate::place::{line_here, text_of};
 use em_explain::write_explained;
-use em_looks::{write_counted, write_number, write_short};
+use em_looks::{write_counted, write_short};
 use em_prompt::BenchLine;
 use em_script::{BenchFault, Outcome};
 use em_text::{WriteFailed, write_pieces, write_whole};
@@ -31,16 +32,16 @@ pub(crate) struct Performed {
 }
 
 impl Debugger {
-    /// Performs a typed line, and answers it as em_bench does. A look among lines that lie ahead is answered without a
+    /// Performs a line that was typed in these words, and answers it as em_bench does. A look among lines that lie ahead is answered without a
     /// place among them; other lines drop what lies ahead.
     pub(crate) fn perform_typed<W: Write>(
         &mut self,
         writer: &mut W,
         line: BenchLine<'_>,
-        asked: &[u8],
+        given: &[u8],
     ) -> Result<(), WriteFailed>
         ensures ok { OnOk result ((text : List ℕ) × Appends (W.contents writer.old) (W.contents writer.new) text
-            × AnswersTyped self.old self.new (plain_line line.entry) asked.now text) }
+            × AnswersTyped self.old self.new (plain_line line.entry) given.now text) }
     {
         let mut text = Vec::new(self.alloc);
         line.write(&mut text)?;
@@ -48,7 +49,7 @@ impl Debugger {
         if self.looks_back(line) {
             answer_look(writer, self.tape.machine(), text)
         } else {
-            self.perform_new(writer, text, asked)
+            self.perform_new(writer, text, given)
         }
     }
 
@@ -57,12 +58,12 @@ impl Debugger {
         &mut self,
         writer: &mut W,
         text: &[u8],
-        asked: &[u8],
+        given: &[u8],
     ) -> Result<(), WriteFailed>
         ensures ok { OnOk result ((said : List ℕ) × Appends (W.contents writer.old) (W.contents writer.new) said
-            × AnswersNew self.old self.new text.now asked.now said) }
+            × AnswersNew self.old self.new text.now given.now said) }
     {
-        match self.add_typed(text, asked) {
+        match self.add_typed(text, given) {
             Ok(dropped) => self.perform_added(writer, dropped),
             Err(fault) => write_fault(writer, fault),
         }
@@ -92,15 +93,21 @@ impl Debugger {
         self.tape.whole() < self.tape.len() || !self.tape.is_whole()
     }
 
-    /// Puts a line behind the place, which expects an answer or none, and gives how many lines it dropped there.
-    fn add_typed(&mut self, text: &[u8], asked: &[u8]) -> Result<usize, BenchFault>
-        ensures ok { IfOk result (AddsLine self.old self.new text.now asked.now) }
+    /// Puts what is played of a line that was given behind the place, and gives how many lines it dropped there.
+    fn add_typed(&mut self, text: &[u8], given: &[u8]) -> Result<usize, BenchFault>
+        ensures ok { IfOk result (AddsLine self.old self.new text.now given.now) }
         ensures ahead { OnOk result (line_here self.new.tape < length self.new.tape.lines) }
         ensures err { OnErr result (Unadded self.old self.new) }
         ensures only { IfErr result IsUnadded }
     {
         let dropped = self.cut()?;
-        add_expecting(&mut self.tape, &mut self.wanted, text, asked)?;
+        add_given(
+            &mut self.tape,
+            &mut self.wanted,
+            &mut self.marks,
+            text,
+            given,
+        )?;
         Ok(dropped)
     }
 
@@ -117,7 +124,7 @@ impl Debugger {
         self.told.keep(kept);
         self.came.keep(kept);
         self.wanted.keep(kept);
-        self.times.keep(kept);
+        self.marks.keep(kept);
         self.sent.keep(kept);
         self.asked = None;
         Ok(dropped)
@@ -285,8 +292,8 @@ impl Debugger {
     ) -> Result<(), WriteFailed>
         ensures writes { Writes (W.contents writer.old) (W.contents writer.new) result (heading_text self.now line) }
     {
-        write_number(writer, b"line ", line as u64, b": ")?;
-        write_short(writer, text_of(&self.tape, line))?;
+        write_line_number(writer, &self.marks, b"line ", line, b": ")?;
+        write_short(writer, shown_of(&self.marks, &self.tape, line))?;
         write_whole(writer, b"\n")
     }
 }

@@ -1,36 +1,15 @@
 //! When the frames were sent that are on the wire: by the times of lines, and by which line sent which frames.
-ghost use Rattle.std.specs.Prelude.{◌≡◌, ◌<◌, ◌≤◌, IfOk, OnOk, OnErr, [], None, false, length, nat_lt, take, slice_set, unwrap_or};
-ghost use Rattle.std.specs.Option.{option_map};
+ghost use Rattle.std.specs.Prelude.{◌≡◌, ◌<◌, ◌≤◌, IfOk, OnOk, OnErr, [], None, false, length, nat_lt, take, slice_set};
 ghost use Rattle.em_debugger.specs.Sending.{KeepsFirst, StaysSent, course_at, course_of, first_of, first_sent, later};
-ghost use Rattle.em_debugger.specs.Sending.{moment_of, only_time, passed, times_in, times_of};
+ghost use Rattle.em_debugger.specs.Sending.{moment_of, passed, times_in, times_of};
 
 use crate::debugger::Debugger;
+use crate::marks::time_of;
 use crate::place::{holds, line_here};
-use em_frames::time_in;
 use std::alloc::{AllocError, Global};
 
 /// How many nanoseconds a microsecond has.
 const MICROSECOND: u64 = 1_000;
-
-/// The time that a comment is, as it stands there; else no octet.
-pub(crate) fn time_of(comment: Option<&[u8]>) -> &[u8]
-    ensures { result.now ≡ only_time (unwrap_or (option_map (λ text. text.now) comment.entry) []) }
-{
-    match comment {
-        Some(text) => only_time(text),
-        None => b"",
-    }
-}
-
-/// A text, if it is a time; else no octet.
-fn only_time(text: &[u8]) -> &[u8]
-    ensures { result.now ≡ only_time text.now }
-{
-    match time_in(text) {
-        Some(_) => text,
-        None => b"",
-    }
-}
 
 /// By line, the number of the first frame that it sent, if it sent any.
 #[derive(Drop)]
@@ -133,11 +112,11 @@ impl Clock {
         }
     }
 
-    /// Passes the next line, with its number, its time as a text, and the first frame that it sent.
-    fn pass(&mut self, line: usize, time: &[u8], first: Option<usize>) -> Result<(), AllocError>
-        ensures { OnOk result (course_of self.new ≡ passed line time.now first (course_of self.old)) }
+    /// Passes the next line, with its number, the line as it stood if it has a time, and the first frame that it sent.
+    fn pass(&mut self, line: usize, mark: &[u8], first: Option<usize>) -> Result<(), AllocError>
+        ensures { OnOk result (course_of self.new ≡ passed line mark.now first (course_of self.old)) }
     {
-        self.latest = later(time_in(time), self.latest);
+        self.latest = later(time_of(mark), self.latest);
         match first {
             None => Ok(()),
             Some(first) => {
@@ -189,7 +168,7 @@ impl Debugger {
         let mut clock = Clock::new(self.alloc);
         for before in 0..line_here(&self.tape) + 1 {
             let line = before + 1;
-            clock.pass(line, self.times.of(line), self.sent.of(line))?;
+            clock.pass(line, self.marks.of(line), self.sent.of(line))?;
         }
         clock.times(self.tape.machine().wire_len())
     }

@@ -9,8 +9,9 @@ ghost use Rattle.em_debugger.specs.Stops.{played_text, unchanged_text};
 use crate::debugger::Debugger;
 use crate::engines::is_refused;
 use crate::lost::loses;
+use crate::marks::{shown_of, write_line_number};
 use crate::performing::{Performed, write_fault};
-use crate::place::{line_here, text_of};
+use crate::place::line_here;
 use em_looks::{watch_of, write_counted, write_number, write_short, write_watch};
 use em_prompt::Until;
 use em_script::BenchFault;
@@ -168,8 +169,8 @@ impl Debugger {
     fn write_before<W: Write>(&self, writer: &mut W, line: usize) -> Result<(), WriteFailed>
         ensures writes { Writes (W.contents writer.old) (W.contents writer.new) result (before_text self.now line) }
     {
-        write_number(writer, b"before line ", line as u64, b": ")?;
-        write_short(writer, text_of(&self.tape, line))?;
+        write_line_number(writer, &self.marks, b"before line ", line, b": ")?;
+        write_short(writer, shown_of(&self.marks, &self.tape, line))?;
         write_whole(writer, b"\n")
     }
 }

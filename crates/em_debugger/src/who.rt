@@ -2,6 +2,7 @@
 ghost use Rattle.std.specs.Prelude.{◌≡◌, ◌≤◌, ℕ, List, OnOk, Some, length};
 ghost use Rattle.std.specs.Io.KnownBytes.{Appends};
 ghost use Rattle.em_text.specs.Writer.{Writes};
+ghost use Rattle.em_tape.specs.Texts.{texts};
 ghost use Rattle.em_debugger.specs.Who.{AnswersWatch, AnswersWho, TellsNewest, TellsAll, TellsAgain, access_text, before};
 ghost use Rattle.em_debugger.specs.Who.{TellsNever, TellsSought, accessed_text, access_end, before_told, call_text, changes_text};
 ghost use Rattle.em_debugger.specs.Who.{event_text, found_text, never_text, no_memory_text, noted_text, unchanged_and, unchanged_text};
@@ -10,8 +11,10 @@ ghost use Rattle.em_debugger.specs.Who.{unreached_text, was_text, what_text, whi
 use crate::accessed::{Accessed, newest_access, write_came};
 use crate::debugger::Debugger;
 use crate::deeper::{Unseen, write_too_long};
-use crate::place::{events_of, text_of};
+use crate::marks::{shown_of, write_line_number};
+use crate::place::events_of;
 use crate::search::{Found, Sought, search};
+use crate::told::Told;
 use em_looks::{watch_of, write_difference, write_number, write_short, write_watch};
 use em_noted::write_note;
 use em_prompt::Which;
@@ -121,7 +124,7 @@ impl Debugger {
                 event: found.event,
             });
         }
-        write_sought(writer, &self.tape, watch, back, sought)
+        write_sought(writer, &self.marks, &self.tape, watch, back, sought)
     }
 
     /// Tells all changes, the newest first.
@@ -135,7 +138,7 @@ impl Debugger {
         while event > 0 {
             match search(self.alloc, self.settings, &self.tape, watch, back) {
                 Sought::Found(found) => {
-                    write_found(writer, &self.tape, watch, found)?;
+                    write_found(writer, &self.marks, &self.tape, watch, found)?;
                     back = steps_before(&self.tape, found.event).max(back + 1);
                     event = self.tape.event_back(back);
                     count += 1;
@@ -169,35 +172,39 @@ fn write_changes<W: Write>(writer: &mut W, watch: Watch, count: u64) -> Result<(
 /// Writes what a search from so many steps back on gave.
 fn write_sought<W: Write>(
     writer: &mut W,
+    marks: &Told,
     tape: &Tape,
     watch: Watch,
     back: usize,
     sought: Sought,
 ) -> Result<(), WriteFailed>
     ensures ok { OnOk result ((text : List ℕ) × Appends (W.contents writer.old) (W.contents writer.new) text
-        × TellsSought tape.now watch back sought text) }
+        × TellsSought (texts marks.now.answers.items) tape.now watch back sought text) }
 {
     match sought {
-        Sought::Found(found) => write_found(writer, tape, watch, found),
-        Sought::Never => write_never(writer, tape, watch, back),
+        Sought::Found(found) => write_found(writer, marks, tape, watch, found),
+        Sought::Never => write_never(writer, marks, tape, watch, back),
         Sought::Unreached(why) => write_unreached(writer, watch, tape.event_back(back), why),
     }
 }
 
-/// Writes an event: its line, its number, if the line has more than one, which of them it is, and what it was.
+/// Writes an event: its line, where that comes from, its number, if the line has more than one, which of them it is, and what
+/// it was.
 pub(crate) fn write_event<W: Write>(
     writer: &mut W,
+    marks: &Told,
     tape: &Tape,
     event: u64,
     note: Option<Note>,
 ) -> Result<(), WriteFailed>
-    ensures writes { Writes (W.contents writer.old) (W.contents writer.new) result (event_text tape.now event note) }
+    ensures writes { Writes (W.contents writer.old) (W.contents writer.new) result (event_text (texts marks.now.answers.items) tape.now event note) }
 {
-    write_noted(writer, tape, event, note, tape.line_of(event))
+    write_noted(writer, marks, tape, event, note, tape.line_of(event))
 }
 
 fn write_noted<W: Write>(
     writer: &mut W,
+    marks: &Told,
     tape: &Tape,
     event: u64,
     note: Option<Note>,
@@ -205,41 +212,45 @@ fn write_noted<W: Write>(
 ) -> Result<(), WriteFailed>
     requires { line ≤ length tape.now.did }
     ensures writes { Writes (W.contents writer.old) (W.contents writer.new) result
-        (noted_text tape.now event note line) }
+        (noted_text (texts marks.now.answers.items) tape.now event note line) }
 {
-    write_number(writer, b"line ", line as u64, b", ")?;
+    write_line_number(writer, marks, b"line ", line, b", ")?;
     write_number(writer, b"event ", event, b"")?;
     write_access(writer, tape, event, line)?;
-    write_was(writer, tape, line, note)
+    write_was(writer, marks, tape, line, note)
 }
 
 /// Writes what an event of a line was; the line's text, where its note is not known.
 fn write_was<W: Write>(
     writer: &mut W,
+    marks: &Told,
     tape: &Tape,
     line: usize,
     note: Option<Note>,
 ) -> Result<(), WriteFailed>
     requires { line ≤ length tape.now.did }
-    ensures writes { Writes (W.contents writer.old) (W.contents writer.new) result (was_text tape.now line note) }
+    ensures writes { Writes (W.contents writer.old) (W.contents writer.new) result
+        (was_text (texts marks.now.answers.items) tape.now line note) }
 {
     match note {
-        Some(note) => write_what(writer, tape, line, note),
-        None => write_short(writer, text_of(tape, line)),
+        Some(note) => write_what(writer, marks, tape, line, note),
+        None => write_short(writer, shown_of(marks, tape, line)),
     }
 }
 
 /// Writes what an event of a line was, by its note; behind the line's text, if the line has more than one.
 pub(crate) fn write_what<W: Write>(
     writer: &mut W,
+    marks: &Told,
     tape: &Tape,
     line: usize,
     note: Note,
 ) -> Result<(), WriteFailed>
     requires { line ≤ length tape.now.did }
-    ensures writes { Writes (W.contents writer.old) (W.contents writer.new) result (what_text tape.now line note) }
+    ensures writes { Writes (W.contents writer.old) (W.contents writer.new) result
+        (what_text (texts marks.now.answers.items) tape.now line note) }
 {
-    write_call(writer, text_of(tape, line), events_of(tape, line))?;
+    write_call(writer, shown_of(marks, tape, line), events_of(tape, line))?;
     write_note(writer, note)
 }
 
@@ -287,13 +298,14 @@ fn write_which<W: Write>(writer: &mut W, which: u64, count: u64) -> Result<(), W
 /// Writes a change: the event, and what it did.
 fn write_found<W: Write>(
     writer: &mut W,
+    marks: &Told,
     tape: &Tape,
     watch: Watch,
     found: Found,
 ) -> Result<(), WriteFailed>
-    ensures writes { Writes (W.contents writer.old) (W.contents writer.new) result (found_text tape.now watch found) }
+    ensures writes { Writes (W.contents writer.old) (W.contents writer.new) result (found_text (texts marks.now.answers.items) tape.now watch found) }
 {
-    write_event(writer, tape, found.event, Some(found.note))?;
+    write_event(writer, marks, tape, found.event, Some(found.note))?;
     write_whole(writer, b"\n")?;
     write_difference(writer, watch, found.difference)
 }
@@ -301,29 +313,31 @@ fn write_found<W: Write>(
 /// Writes that no event from so many steps back on changed it, and the newest that accessed it.
 fn write_never<W: Write>(
     writer: &mut W,
+    marks: &Told,
     tape: &Tape,
     watch: Watch,
     back: usize,
 ) -> Result<(), WriteFailed>
     ensures ok { OnOk result ((text : List ℕ) × Appends (W.contents writer.old) (W.contents writer.new) text
-        × TellsNever tape.now watch back text) }
+        × TellsNever (texts marks.now.answers.items) tape.now watch back text) }
 {
     let accessed = newest_access(tape, watch, back);
-    write_never_but(writer, tape, watch, back > 0, accessed)
+    write_never_but(writer, marks, tape, watch, back > 0, accessed)
 }
 
 fn write_never_but<W: Write>(
     writer: &mut W,
+    marks: &Told,
     tape: &Tape,
     watch: Watch,
     is_before: bool,
     accessed: Option<Accessed>,
 ) -> Result<(), WriteFailed>
     ensures writes { Writes (W.contents writer.old) (W.contents writer.new) result
-        (never_text tape.now watch is_before accessed) }
+        (never_text (texts marks.now.answers.items) tape.now watch is_before accessed) }
 {
     write_unchanged(writer, watch, is_before)?;
-    write_access_end(writer, tape, accessed)
+    write_access_end(writer, marks, tape, accessed)
 }
 
 /// Writes that no event changed it, or none before one that was told.
@@ -343,13 +357,14 @@ fn write_unchanged<W: Write>(
 
 fn write_access_end<W: Write>(
     writer: &mut W,
+    marks: &Told,
     tape: &Tape,
     accessed: Option<Accessed>,
 ) -> Result<(), WriteFailed>
-    ensures writes { Writes (W.contents writer.old) (W.contents writer.new) result (access_end tape.now accessed) }
+    ensures writes { Writes (W.contents writer.old) (W.contents writer.new) result (access_end (texts marks.now.answers.items) tape.now accessed) }
 {
     match accessed {
-        Some(accessed) => write_accessed(writer, tape, accessed),
+        Some(accessed) => write_accessed(writer, marks, tape, accessed),
         None => write_whole(writer, b"\n"),
     }
 }
@@ -357,13 +372,14 @@ fn write_access_end<W: Write>(
 /// Writes an access, and what came of it.
 fn write_accessed<W: Write>(
     writer: &mut W,
+    marks: &Told,
     tape: &Tape,
     accessed: Accessed,
 ) -> Result<(), WriteFailed>
-    ensures writes { Writes (W.contents writer.old) (W.contents writer.new) result (accessed_text tape.now accessed) }
+    ensures writes { Writes (W.contents writer.old) (W.contents writer.new) result (accessed_text (texts marks.now.answers.items) tape.now accessed) }
 {
     write_whole(writer, b"; ")?;
-    write_event(writer, tape, accessed.event, Some(accessed.note))?;
+    write_event(writer, marks, tape, accessed.event, Some(accessed.note))?;
     write_came(writer, accessed)?;
     write_whole(writer, b"\n")
 }

@@ -2,6 +2,7 @@
 ghost use Rattle.std.specs.Prelude.{◌≡◌, ◌≤◌, ◌++◌, ℕ, List, OnOk, codes, length};
 ghost use Rattle.std.specs.Io.KnownBytes.{Appends};
 ghost use Rattle.em_text.specs.Writer.{Writes};
+ghost use Rattle.em_tape.specs.Texts.{texts};
 ghost use Rattle.em_debugger.specs.Performing.{heading_text};
 ghost use Rattle.em_debugger.specs.Why.{TellsLook, TellsLooks, TellsReason, TellsSetter, TellsWatch, TellsWhy};
 ghost use Rattle.em_debugger.specs.Why.{TellsWhyAt, TellsWhyOf, found_setter, front_text, is_undone};
@@ -11,6 +12,7 @@ use crate::debugger::Debugger;
 use crate::deeper::{Unseen, behind, write_too_long};
 use crate::place::{line_here, text_of};
 use crate::search::{Found, Sought, search};
+use crate::told::Told;
 use crate::who::write_event;
 use em_explain::{looked_at, watch_of, write_explained, write_look};
 use em_reasons::Look;
@@ -180,7 +182,7 @@ impl Debugger {
             × TellsSetter self.now tape.now watch text) }
     {
         let sought = search(self.alloc, self.settings, tape, watch, 0);
-        write_sought_setter(writer, tape, sought)
+        write_sought_setter(writer, &self.marks, tape, sought)
     }
 }
 
@@ -196,13 +198,14 @@ fn write_look_line<W: Write>(writer: &mut W, tape: &Tape, look: Look) -> Result<
 /// Writes the event that a search gave.
 fn write_sought_setter<W: Write>(
     writer: &mut W,
+    marks: &Told,
     tape: &Tape,
     sought: Sought,
 ) -> Result<(), WriteFailed>
-    ensures writes { Writes (W.contents writer.old) (W.contents writer.new) result (setter_text tape.now sought) }
+    ensures writes { Writes (W.contents writer.old) (W.contents writer.new) result (setter_text (texts marks.now.answers.items) tape.now sought) }
 {
     match sought {
-        Sought::Found(found) => write_found_setter(writer, tape, found),
+        Sought::Found(found) => write_found_setter(writer, marks, tape, found),
         Sought::Never => write_whole(writer, b"    no event changed it\n"),
         Sought::Unreached(why) => write_unseen_setter(writer, why),
     }
@@ -221,13 +224,14 @@ fn write_unseen_setter<W: Write>(writer: &mut W, why: Unseen) -> Result<(), Writ
 /// Writes the event that set it.
 fn write_found_setter<W: Write>(
     writer: &mut W,
+    marks: &Told,
     tape: &Tape,
     found: Found,
 ) -> Result<(), WriteFailed>
-    ensures writes { Writes (W.contents writer.old) (W.contents writer.new) result (found_setter tape.now found) }
+    ensures writes { Writes (W.contents writer.old) (W.contents writer.new) result (found_setter (texts marks.now.answers.items) tape.now found) }
 {
     write_whole(writer, b"    ")?;
-    write_event(writer, tape, found.event, Some(found.note))?;
+    write_event(writer, marks, tape, found.event, Some(found.note))?;
     write_whole(writer, b"\n")
 }
 

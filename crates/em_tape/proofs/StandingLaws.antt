@@ -186,7 +186,9 @@ unreached event mid new gone less =
     ap (λ (t : Tape). t.session.machine.past) gone.is ∙ nil_from_length (taken_back taken mid.session).machine.past none in
     let front = above-front event taken mid.did (standing mid) (falls mid.whole mid.back mid.did gone.within)
     (omega arith) in
-    near past (subst (λ n. event < n) (sym (first-event taken mid new gone.is)) front)
+    let whole : new.whole ≡ line_of event new.did =
+    ap (λ (t : Tape). t.whole) gone.is ∙ gone.whole ∙ ap (line_of event) (sym (ap (λ (t : Tape). t.did) gone.is)) in
+    near whole past (subst (λ n. event < n) (sym (first-event taken mid new gone.is)) front)
 
 -- behind the last line
 at-last : (event : ℕ) (mid new : Tape) (gone : Gone event mid new) → end_of (length mid.did) mid.did < event

@@ -141,9 +141,3 @@ pub record IsPartlyCut (old new : Tape) : Type 0 where
     back = 0;
     session = session;
   }) new place.back
-
--- the same is shown: the present state, whether a driver stands there, and its plan
-pub record ShowsTheSame (old new : Session) : Type 0 where
-  pub present : new.machine.present ≡ old.machine.present
-  pub started : new.started ≡ old.started
-  pub plan : new.plan ≡ old.plan

@@ -1,5 +1,5 @@
 -- The lines of a debugging session, and the place in it.
-use Rattle.std.specs.Prelude.{◌≡◌, ◌≢◌, ◌⊎◌, ℕ, ◌+◌, ◌*◌, ◌<◌, ◌≤◌, ◌^◌, Bool, true, List, [], All, length, take, drop}
+use Rattle.std.specs.Prelude.{◌≡◌, ◌≢◌, ◌⊎◌, ℕ, ◌+◌, ◌*◌, ◌<◌, ◌≤◌, ◌^◌, ◌==◌, if◌then◌else◌, Bool, true, List, [], All, length, take, drop}
 use Rattle.std.specs.Prelude.{zero, suc, refl, Option, None, slice_get}
 use Rattle.std.specs.Coded.{Coded, code_by, coded×, coded_list, coded_ℕ, coded_bool}
 use Rattle.std.specs.List.{AllByRecursion}
@@ -8,7 +8,7 @@ use Rattle.em_script.specs.Session.{Session, session_code}
 use Rattle.em_script.specs.PlayedLine.{PlayedLine, after_all, ArePlayed, with_memory}
 use Rattle.em_named.specs.Did.{did_code}
 use Rattle.em_named.specs.Names.{names}
-use Rattle.em_named.specs.Numbers.{above, end_of, number_in, number_of}
+use Rattle.em_named.specs.Numbers.{above, end_of, line_of, number_in, number_of}
 use Rattle.em_named.specs.Place.{place_of}
 use Rattle.em_named.specs.declared.did.Did.{Did}
 use Rattle.em_named.specs.declared.did.Name.{Name}
@@ -121,15 +121,22 @@ behind n tape = above n tape.did (standing tape)
 abbrev pub line_here : Tape → ℕ
 line_here tape = (place_of (take tape.whole tape.did) tape.back).whole
 
+-- how many events were performed up to the place: up to the newest that stands, if the line of the place performed it; else up
+-- to the end of that line, behind whose events some of earlier lines may have been taken back
+abbrev pub reached : Tape → ℕ
+reached tape =
+    if line_of (event_of tape) tape.did == line_here tape then event_of tape else end_of (line_here tape) tape.did
+
 -- no steps back lead to right behind event n: it does not stand, or the journal does not reach back to it
 abbrev pub IsOutOfReach : ℕ → Tape → Type 0
 IsOutOfReach n tape = (event_at (behind n tape) tape ≢ n) ⊎ (length tape.session.machine.past < behind n tape)
 
--- at event n; or at the end, where not so many events were performed; or as near behind it as the journal reaches
+-- at event n; or at the end, where not so many events were performed; or in its line, as near behind it as the journal reaches
+-- from where that line is whole
 pub data IsNear (n : ℕ) (tape : Tape) : Type 0 where
   there : event_of tape ≡ n → IsNear n tape
   at_end : tape.whole ≡ length tape.did → tape.back ≡ 0 → end_of tape.whole tape.did < n → IsNear n tape
-  near : tape.session.machine.past ≡ [] → n < event_of tape → IsNear n tape
+  near : tape.whole ≡ line_of n tape.did → tape.session.machine.past ≡ [] → n < event_of tape → IsNear n tape
 
 -- of a line by its number, from 1
 abbrev pub line_at : {X : Type 0} → ℕ → List X → Option X

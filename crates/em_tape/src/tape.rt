@@ -10,7 +10,7 @@ ghost use Rattle.em_named.specs.Names.{names};
 ghost use Rattle.em_named.specs.Numbers.{end_of, line_of, name_of};
 ghost use Rattle.em_line.specs.Grammar.{parsed_line};
 ghost use Rattle.em_tape.specs.Kind.{LeavesDriver, SaysOfDriver};
-ghost use Rattle.em_tape.specs.Tape.{behind, empty_tape, event_at, event_of, line_at, line_here, standing, taken_back};
+ghost use Rattle.em_tape.specs.Tape.{behind, empty_tape, event_at, event_of, line_at, line_here, reached, standing, taken_back};
 ghost use Rattle.em_tape.specs.Tape.{IsNamed, IsNear, IsOutOfReach, IsShort, IsTape};
 ghost use Rattle.em_tape.specs.Moves.{IsCut, IsCutPlace, IsPartlyCut, Leaves, Plays, TakesBack, TakesFewerBack, TakesNext};
 
@@ -273,8 +273,8 @@ impl Tape {
             return Ok(());
         }
         self.be_behind(self.line_of(event))?;
-        let steps = self.behind(event);
-        self.back(steps);
+        let newer = self.behind(event);
+        self.back(newer);
         Ok(())
     }
 
@@ -295,21 +295,6 @@ impl Tape {
         }
         self.back(steps);
         true
-    }
-
-    /// Goes so many events forward, in the order in which they were performed, among the lines that were performed so far.
-    pub fn forward(&mut self, events: u64) -> Result<(), BenchFault>
-        ensures near { OnOk result (IsNear (min (event_of self.old + events) 0xFFFF_FFFF_FFFF_FFFF) self.new) }
-        ensures kept { OnOk result (self.new ≡ record self.old {
-          whole = self.new.whole;
-          back = self.new.back;
-          session = self.new.session;
-        }) }
-        ensures err { OnErr result (self.new ≡ self.old) }
-        ensures beyond { OnErr result (IsOutOfReach (min (event_of self.old + events) 0xFFFF_FFFF_FFFF_FFFF) self.old) }
-        ensures only { IfErr result (λ fault. fault ≡ BenchFault.Memory) }
-    {
-        self.goto(self.event().saturating_add(events))
     }
 
     /// Goes to where so many lines stand whole, or all that were performed so far. Where memory is refused to that,
@@ -582,6 +567,24 @@ impl Tape {
             Some(Name { line, access }) => self.end_of(line - 1) + access,
             None => 0,
         }
+    }
+
+    /// The number of the event so many ahead of the place, in the order in which events were performed: counted from the newest
+    /// that stands, if the line of the place performed it, and else from the end of that line, which took events of earlier
+    /// ones back, or performed none.
+    pub fn event_ahead(&self, events: u64) -> u64
+        ensures { result ≡ min (reached self.now + events) 0xFFFF_FFFF_FFFF_FFFF }
+    {
+        // (a proof asks what holds of the tape)
+        let _machine = self.machine();
+        let event = self.event();
+        let line = self.line();
+        let last = if self.line_of(event) == line {
+            event
+        } else {
+            self.end_of(line)
+        };
+        last.saturating_add(events)
     }
 
     /// The name of the event so many steps back from the place, of the newest at 0; none where not so many stand.

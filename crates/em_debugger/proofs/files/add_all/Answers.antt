@@ -4,12 +4,12 @@ use Rattle.em_debugger.specs.Files.{played_in}
 use Rattle.em_tape.specs.Texts.{texts}
 use Rattle.em_text.specs.Lines.{lines_of}
 use Rattle.em_tape.specs.Tape.{Tape}
-use Rattle.em_debugger.proofs.FilesLaws.{AddedSo-all, AddedSo-expect, AddedSo-more, AddedSo-none, AddedSo-times, added_so, read_more}
+use Rattle.em_debugger.proofs.FilesLaws.{AddedSo-all, AddedSo-expect, AddedSo-more, AddedSo-none, AddedSo-marks, added_so, read_more}
 use Rattle.em_debugger.proofs.files.add_all.Goals as goal
 
 pub loop-rest-init : goal.loop-rest-init
 loop-rest-init c = (
-  AddedSo-none c.args.tape.now (texts c.args.wanted.now.answers.items) (texts c.args.times.now.answers.items)
+  AddedSo-none c.args.tape.now (texts c.args.wanted.now.answers.items) (texts c.args.marks.now.answers.items)
       c.args.text.now,
   refl,
 )
@@ -35,17 +35,17 @@ returns-clause-expect c =
     let none : length c.loop-rest.rest.now ≡ 0 = search rules in
     AddedSo-expect c.args.tape.now c.loop-rest.tape _ _ _ _ c.args.text.now c.loop-rest.rest.now c.loop-rest.invariant.0 none
 
-pub returns-clause-times : goal.returns-clause-times
-returns-clause-times c =
+pub returns-clause-marks : goal.returns-clause-marks
+returns-clause-marks c =
     let none : length c.loop-rest.rest.now ≡ 0 = search rules in
-    AddedSo-times c.args.tape.now c.loop-rest.tape _ _ _ _ c.args.text.now c.loop-rest.rest.now c.loop-rest.invariant.0 none
+    AddedSo-marks c.args.tape.now c.loop-rest.tape _ _ _ _ c.args.text.now c.loop-rest.rest.now c.loop-rest.invariant.0 none
 
 pub loop-rest-preserved : goal.loop-rest-preserved
 loop-rest-preserved c = (
   AddedSo-more c.args.tape.now c.loop-rest.tape c.add_line.new.tape _ _ (texts c.add_line.new.wanted.answers.items) _ _
-      (texts c.add_line.new.times.answers.items) c.args.text.now c.loop-rest.rest.now c.next_line.result.0.now
+      (texts c.add_line.new.marks.answers.items) c.args.text.now c.loop-rest.rest.now c.next_line.result.0.now
       c.next_line.result.1.now c.loop-rest.invariant.0 c.next_line.ensures.lines c.in_ok-are_read.ensures.ok
-      c.in_ok-are_read.ensures.expect c.in_ok-are_read.ensures.timed,
+      c.in_ok-are_read.ensures.expect c.in_ok-are_read.ensures.marked,
   read_more c.loop-rest.are_read c.in_ok-are_read.field-0 c.args.text.now c.loop-rest.rest.now c.next_line.result.0.now
       c.next_line.result.1.now c.next_line.ensures.lines c.in_ok-are_read.ensures.read c.loop-rest.invariant.1,
 )

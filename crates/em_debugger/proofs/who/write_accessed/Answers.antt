@@ -4,14 +4,15 @@ use Rattle.std.proofs.lemmas.Result.{MatchResult-from_err}
 use Rattle.em_text.proofs.WritingLemmas.{WroteFront-more, WroteFront-none, WroteFront-part, Writes-more}
 use Rattle.em_debugger.specs.Accessed.{came_text}
 use Rattle.em_debugger.specs.Who.{accessed_text, event_text}
+use Rattle.em_tape.specs.Texts.{texts}
 use Rattle.em_debugger.proofs.who.write_accessed.Goals as goal
 
 pub returns-in_err-write_whole : goal.returns-in_err-write_whole
 returns-in_err-write_whole g c =
     let a = c.args.accessed in
-    let event = event_text c.args.tape.now a.event (Some a.note) in
+    let event = event_text (texts c.args.marks.now.answers.items) c.args.tape.now a.event (Some a.note) in
     let came = came_text a.note.kind a.note.value a.seen in
-    let wrote-0 = WroteFront-none (g.W.Write.contents c.args.writer.now) (accessed_text c.args.tape.now a) in
+    let wrote-0 = WroteFront-none (g.W.Write.contents c.args.writer.now) (accessed_text (texts c.args.marks.now.answers.items) c.args.tape.now a) in
     record {
       writes = MatchResult-from_err _ _ _ c.from_residual.ensures.0 (λ _.
           WroteFront-part (event ++ (came ++ codes "\n")) wrote-0 refl c.in_err-write_whole.ensures.writes);
@@ -21,7 +22,7 @@ pub returns-in_err-write_event : goal.returns-in_err-write_event
 returns-in_err-write_event g c =
     let a = c.args.accessed in
     let came = came_text a.note.kind a.note.value a.seen in
-    let wrote-0 = WroteFront-none (g.W.Write.contents c.args.writer.now) (accessed_text c.args.tape.now a) in
+    let wrote-0 = WroteFront-none (g.W.Write.contents c.args.writer.now) (accessed_text (texts c.args.marks.now.answers.items) c.args.tape.now a) in
     let wrote-1 = WroteFront-more (codes "; ") wrote-0 refl c.in_ok-write_whole.ensures.writes in
     record {
       writes = MatchResult-from_err _ _ _ c.from_residual-in_err-write_event.ensures.0 (λ _.
@@ -31,8 +32,8 @@ returns-in_err-write_event g c =
 pub returns-in_err-write_came : goal.returns-in_err-write_came
 returns-in_err-write_came g c =
     let a = c.args.accessed in
-    let event = event_text c.args.tape.now a.event (Some a.note) in
-    let wrote-0 = WroteFront-none (g.W.Write.contents c.args.writer.now) (accessed_text c.args.tape.now a) in
+    let event = event_text (texts c.args.marks.now.answers.items) c.args.tape.now a.event (Some a.note) in
+    let wrote-0 = WroteFront-none (g.W.Write.contents c.args.writer.now) (accessed_text (texts c.args.marks.now.answers.items) c.args.tape.now a) in
     let wrote-1 = WroteFront-more (codes "; ") wrote-0 refl c.in_ok-write_whole.ensures.writes in
     let wrote-2 = WroteFront-more event wrote-1 refl c.in_ok-write_event.ensures.writes in
     record {
@@ -43,9 +44,9 @@ returns-in_err-write_came g c =
 pub returns : goal.returns
 returns g c =
     let a = c.args.accessed in
-    let event = event_text c.args.tape.now a.event (Some a.note) in
+    let event = event_text (texts c.args.marks.now.answers.items) c.args.tape.now a.event (Some a.note) in
     let came = came_text a.note.kind a.note.value a.seen in
-    let wrote-0 = WroteFront-none (g.W.Write.contents c.args.writer.now) (accessed_text c.args.tape.now a) in
+    let wrote-0 = WroteFront-none (g.W.Write.contents c.args.writer.now) (accessed_text (texts c.args.marks.now.answers.items) c.args.tape.now a) in
     let wrote-1 = WroteFront-more (codes "; ") wrote-0 refl c.in_ok-write_whole.ensures.writes in
     let wrote-2 = WroteFront-more event wrote-1 refl c.in_ok-write_event.ensures.writes in
     let wrote-3 = WroteFront-more came wrote-2 refl c.in_ok-write_came.ensures.writes in

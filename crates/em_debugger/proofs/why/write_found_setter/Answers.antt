@@ -4,19 +4,20 @@ use Rattle.em_text.proofs.WritingLemmas.{WroteFront-more, WroteFront-none, Wrote
 use Rattle.std.specs.Prelude.{Some, codes}
 use Rattle.em_debugger.specs.Who.{event_text}
 use Rattle.em_debugger.specs.Why.{found_setter}
+use Rattle.em_tape.specs.Texts.{texts}
 use Rattle.em_debugger.proofs.why.write_found_setter.Goals as goal
 
 pub returns-in_err-write_whole : goal.returns-in_err-write_whole
 returns-in_err-write_whole g c =
-    let wrote-0 = WroteFront-none (g.W.Write.contents c.args.writer.now) (found_setter c.args.tape.now c.args.found) in
+    let wrote-0 = WroteFront-none (g.W.Write.contents c.args.writer.now) (found_setter (texts c.args.marks.now.answers.items) c.args.tape.now c.args.found) in
     record {
       writes = MatchResult-from_err _ _ _ c.from_residual.ensures.0 (λ _.
-          WroteFront-part ((event_text c.args.tape.now c.args.found.event (Some c.args.found.note)) ++ (codes "\n")) wrote-0 refl (c.in_err-write_whole.ensures.writes));
+          WroteFront-part ((event_text (texts c.args.marks.now.answers.items) c.args.tape.now c.args.found.event (Some c.args.found.note)) ++ (codes "\n")) wrote-0 refl (c.in_err-write_whole.ensures.writes));
     }
 
 pub returns-in_err-write_event : goal.returns-in_err-write_event
 returns-in_err-write_event g c =
-    let wrote-0 = WroteFront-none (g.W.Write.contents c.args.writer.now) (found_setter c.args.tape.now c.args.found) in
+    let wrote-0 = WroteFront-none (g.W.Write.contents c.args.writer.now) (found_setter (texts c.args.marks.now.answers.items) c.args.tape.now c.args.found) in
     let wrote-1 = WroteFront-more (codes "    ") wrote-0 refl (c.in_ok-write_whole.ensures.writes) in
     record {
       writes = MatchResult-from_err _ _ _ c.from_residual-in_err-write_event.ensures.0 (λ _.
@@ -25,9 +26,9 @@ returns-in_err-write_event g c =
 
 pub returns : goal.returns
 returns g c =
-    let wrote-0 = WroteFront-none (g.W.Write.contents c.args.writer.now) (found_setter c.args.tape.now c.args.found) in
+    let wrote-0 = WroteFront-none (g.W.Write.contents c.args.writer.now) (found_setter (texts c.args.marks.now.answers.items) c.args.tape.now c.args.found) in
     let wrote-1 = WroteFront-more (codes "    ") wrote-0 refl (c.in_ok-write_whole.ensures.writes) in
-    let wrote-2 = WroteFront-more (event_text c.args.tape.now c.args.found.event (Some c.args.found.note)) wrote-1 refl (c.in_ok-write_event.ensures.writes) in
+    let wrote-2 = WroteFront-more (event_text (texts c.args.marks.now.answers.items) c.args.tape.now c.args.found.event (Some c.args.found.note)) wrote-1 refl (c.in_ok-write_event.ensures.writes) in
     record {
       writes = Writes-more _ _ _ _ wrote-2.front (codes "\n") _ wrote-2.written (c.write_whole-2.ensures.writes) wrote-2.whole;
     }

@@ -3,6 +3,7 @@ use Rattle.std.proofs.lemmas.Result.{MatchResult-from_err}
 use Rattle.em_journal.specs.View.{View}
 use Rattle.em_tape.specs.Tape.{event_at, event_of}
 use Rattle.em_text.proofs.WritingLemmas.{Writes-more, WritesPart-front}
+use Rattle.em_debugger.specs.Marks.{marks_of}
 use Rattle.em_debugger.specs.Moves.{NotesLast, budget_text, taken, taken_text}
 use Rattle.em_debugger.proofs.TextLaws.{Writes-zero}
 use Rattle.em_debugger.proofs.MovesLaws.{Writes-back, more_text}
@@ -40,10 +41,10 @@ returns-clause-writes g c =
     omega (arith, c.saturating_sub.ensures, c.min-least.ensures, reach) in (
       note,
       noted,
-      Writes-back _ _ _ tape old c.args.most many last c.event.result note c.back-taken.ensures.count
+      Writes-back _ _ _ (marks_of c.args.self.now) tape old c.args.most many last c.event.result note c.back-taken.ensures.count
           (c.event_back-last.ensures ∙ ap (λ k. event_at k old) steps) c.event.ensures some
-          (Writes-more _ _ _ _ (taken_text tape many last note) (budget_text (ltb many c.args.most) c.event.result)
-          (more_text tape c.args.most many last note c.event.result) c.in_ok-write_taken.ensures.writes
+          (Writes-more _ _ _ _ (taken_text (marks_of c.args.self.now) tape many last note) (budget_text (ltb many c.args.most) c.event.result)
+          (more_text (marks_of c.args.self.now) tape c.args.most many last note c.event.result) c.in_ok-write_taken.ensures.writes
           c.write_budget.ensures.writes refl),
     )
 
@@ -64,7 +65,7 @@ returns-in_err-write_taken-clause-writes g c =
     omega (arith, c.saturating_sub.ensures, c.min-least.ensures, reach) in (
       note,
       noted,
-      Writes-back _ _ _ tape old c.args.most many last (event_of tape) note c.back-taken.ensures.count
+      Writes-back _ _ _ (marks_of c.args.self.now) tape old c.args.most many last (event_of tape) note c.back-taken.ensures.count
           (c.event_back-last.ensures ∙ ap (λ k. event_at k old) steps) refl some
           (MatchResult-from_err _ _ _ c.from_residual.ensures.0 (λ _.
           WritesPart-front (budget_text (ltb many c.args.most) (event_of tape)) c.in_err-write_taken.ensures.writes

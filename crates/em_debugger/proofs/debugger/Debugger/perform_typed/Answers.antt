@@ -12,6 +12,6 @@ returns g c =
     let same : c.as_slice-text.result.now ≡ text_of line =
     c.as_slice-text.ensures.value ∙ (rw c.new-text.ensures.items at c.in_ok-write.ensures.writes) in
     record {
-      ok = answered_line _ _ c.perform_new.result old c.perform_new.new.self line c.as_slice-text.result.now c.args.asked.now is same
+      ok = answered_line _ _ c.perform_new.result old c.perform_new.new.self line c.as_slice-text.result.now c.args.given.now is same
           c.perform_new.ensures.ok;
     }

@@ -11,7 +11,7 @@ returns-in_default-make_way-clause-err c =
       rest = refl;
       wanted = c.close_up.ensures ∙ ap (closed at) c.in-Ok.ensures.ok
           ∙ closed-moved at (texts c.args.self.now.wanted.answers.items);
-      times = c.in_default-make_way.ensures.err;
+      marks = c.in_default-make_way.ensures.err;
     }
 
 pub returns-in-Err-clause-err : goal.returns-in-Err-clause-err
@@ -19,10 +19,10 @@ returns-in-Err-clause-err c =
     let old = c.args.self.now in
     let at = c.whole-whole.result in
     record {
-      rest = ap (λ t. record old { tape = t; wanted = c.close_up-in-Err.new.self; times = c.close_up-in-Err-2.new.self })
+      rest = ap (λ t. record old { tape = t; wanted = c.close_up-in-Err.new.self; marks = c.close_up-in-Err-2.new.self })
           c.in-Err.ensures.err;
       wanted = c.close_up-in-Err.ensures ∙ ap (closed at) c.in-Ok.ensures.ok
           ∙ closed-moved at (texts old.wanted.answers.items);
-      times = c.close_up-in-Err-2.ensures ∙ ap (closed at) c.in-Ok-make_way.ensures.ok
-          ∙ closed-moved at (texts old.times.answers.items);
+      marks = c.close_up-in-Err-2.ensures ∙ ap (closed at) c.in-Ok-make_way.ensures.ok
+          ∙ closed-moved at (texts old.marks.answers.items);
     }

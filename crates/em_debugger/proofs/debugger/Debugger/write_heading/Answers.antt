@@ -2,33 +2,33 @@ use Rattle.std.proofs.Common.{◌++◌, refl}
 use Rattle.std.specs.Prelude.{codes}
 use Rattle.std.proofs.lemmas.Result.{MatchResult-from_err}
 use Rattle.em_text.proofs.WritingLemmas.{WroteFront-more, WroteFront-none, WroteFront-part, Writes-more}
-use Rattle.em_looks.specs.Numbers.{number_text, short_text}
+use Rattle.em_looks.specs.Numbers.{short_text}
+use Rattle.em_debugger.specs.Marks.{line_number_text, marks_of, shown_of}
 use Rattle.em_debugger.specs.Performing.{heading_text}
-use Rattle.em_debugger.specs.Place.{text_of}
 use Rattle.em_debugger.proofs.debugger.Debugger.write_heading.Goals as goal
 
-pub returns-in_err-write_number : goal.returns-in_err-write_number
-returns-in_err-write_number g c =
+pub returns-in_err-write_line_number : goal.returns-in_err-write_line_number
+returns-in_err-write_line_number g c =
     let wrote-0 = WroteFront-none (g.W.Write.contents c.args.writer.now) (heading_text c.args.self.now c.args.line) in
     record {
       writes = MatchResult-from_err _ _ _ c.from_residual.ensures.0 (λ _.
-          WroteFront-part ((short_text (text_of c.args.line c.args.self.now.tape)) ++ codes "\n") wrote-0 refl c.in_err-write_number.ensures.writes);
+          WroteFront-part ((short_text (shown_of (marks_of c.args.self.now) c.args.self.now.tape c.args.line)) ++ codes "\n") wrote-0 refl c.in_err-write_line_number.ensures.writes);
     }
 
 pub returns-in_err-write_short : goal.returns-in_err-write_short
 returns-in_err-write_short g c =
     let wrote-0 = WroteFront-none (g.W.Write.contents c.args.writer.now) (heading_text c.args.self.now c.args.line) in
-    let wrote-1 = WroteFront-more (number_text (codes "line ") c.args.line (codes ": ")) wrote-0 refl c.in_ok-write_number.ensures.writes in
+    let wrote-1 = WroteFront-more (line_number_text (marks_of c.args.self.now) (codes "line ") c.args.line (codes ": ")) wrote-0 refl c.in_ok-write_line_number.ensures.writes in
     record {
       writes = MatchResult-from_err _ _ _ c.from_residual-in_err-write_short.ensures.0 (λ _.
-          WroteFront-part (codes "\n") wrote-1 refl (rw c.text_of.ensures at c.in_err-write_short.ensures.writes));
+          WroteFront-part (codes "\n") wrote-1 refl (rw c.shown_of.ensures at c.in_err-write_short.ensures.writes));
     }
 
 pub returns : goal.returns
 returns g c =
     let wrote-0 = WroteFront-none (g.W.Write.contents c.args.writer.now) (heading_text c.args.self.now c.args.line) in
-    let wrote-1 = WroteFront-more (number_text (codes "line ") c.args.line (codes ": ")) wrote-0 refl c.in_ok-write_number.ensures.writes in
-    let wrote-2 = WroteFront-more (short_text (text_of c.args.line c.args.self.now.tape)) wrote-1 refl (rw c.text_of.ensures at c.in_ok-write_short.ensures.writes) in
+    let wrote-1 = WroteFront-more (line_number_text (marks_of c.args.self.now) (codes "line ") c.args.line (codes ": ")) wrote-0 refl c.in_ok-write_line_number.ensures.writes in
+    let wrote-2 = WroteFront-more (short_text (shown_of (marks_of c.args.self.now) c.args.self.now.tape c.args.line)) wrote-1 refl (rw c.shown_of.ensures at c.in_ok-write_short.ensures.writes) in
     record {
       writes = Writes-more _ _ _ _ wrote-2.front (codes "\n") _ wrote-2.written c.write_whole.ensures.writes wrote-2.whole;
     }

@@ -3,6 +3,7 @@ use Rattle.std.specs.Prelude.{None}
 use Rattle.em_journal.specs.View.{View}
 use Rattle.em_tape.specs.Tape.{behind}
 use Rattle.em_debugger.specs.Effect.{TellsEvent, TellsSeen, again, held, unseen, unseen_text}
+use Rattle.em_debugger.specs.Marks.{marks_of}
 use Rattle.em_debugger.specs.Who.{event_text}
 use Rattle.em_debugger.proofs.EffectLaws.{stands_some}
 use Rattle.em_debugger.proofs.TextLaws.{OnOk-told, OnOk-written}
@@ -48,7 +49,7 @@ returns-in-Err g c =
     c.can_go_back.ensures.past ∙ ap (λ (v : View). length v.past) c.machine.ensures.value in
     let le : length past ≤ behind c.args.event d.tape = omega (arith, c.behind-behind.ensures, reach) in
     record {
-      ok = OnOk-written _ _ _ (event_text d.tape c.args.event None ++ (codes "\n" ++ unseen_text c.in-Err.why))
+      ok = OnOk-written _ _ _ (event_text (marks_of d) d.tape c.args.event None ++ (codes "\n" ++ unseen_text c.in-Err.why))
           (TellsEvent d c.args.event) c.write_event_unseen.ensures.writes
           (unseen c.in-Err.why le c.in-Err.ensures.unseen refl);
     }

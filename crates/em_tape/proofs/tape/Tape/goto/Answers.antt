@@ -17,6 +17,6 @@ returns-clause-near c =
       within = subst (λ n. n ≤ length mid.did) (sym whole) (subst (λ ds. line ≤ length ds) (sym did) c.line_of.ensures.within);
       whole = whole ∙ c.line_of.ensures.line ∙ ap (line_of c.args.event) (sym did);
       back = ap (λ (t : Tape). t.back) c.in_ok-be_behind.ensures.ok;
-      count = c.back.ensures.count ∙ ap (λ n. min n (length mid.session.machine.past)) c.behind-steps.ensures;
+      count = c.back.ensures.count ∙ ap (λ n. min n (length mid.session.machine.past)) c.behind-newer.ensures;
       is = c.back.ensures.tape;
     })
