@@ -112,31 +112,37 @@ static void round_trips(size_t memory, unsigned length) {
   free(ram);
 }
 
-/* Register accesses and frames of a run that is kept in a file, with the line that makes them; the file's size, too. */
-static void keep(const char *path, bool has_places) {
+/* How many octets the file has for each access. */
+static void tell_size(const char *path) {
+  FILE *file = fopen(path, "r");
+  if (file == NULL || fseek(file, 0, SEEK_END) != 0) exit(102);
+  printf("%-40s %7.1f octets\n", "its line", (double)ftell(file) / KEPT);
+  fclose(file);
+}
+
+/* Register accesses and frames of a run that is kept in a file, with the line that makes them; and a line's octets. */
+static void keep(const char *path, bool is_mapped, bool has_places) {
   static const uint8_t mac[6] = {0x52, 0x54, 0x00, 0x12, 0x34, 0x56};
   uint8_t frame[FRAME] = {0xFF, 0xFF, 0xFF, 0xFF, 0xFF, 0xFF};
   em_machine machine = EM_NO_MACHINE;
   em_note event;
   uint32_t value = 0;
   must(em_make(&machine, MEMORY, 1048576, mac));
-  must(em_record_to(&machine, path));
+  must(is_mapped ? em_record_mapped(&machine, path) : em_record_to(&machine, path));
+  printf("kept by %s, %s the caller's line\n", is_mapped ? "a mapping" : "write(2)", has_places ? "with" : "without");
   begin();
   for (uint32_t i = 0; i < KEPT / 2; i++) {
     must(em_write(has_places ? EM_HERE(&machine) : &machine, RDT, i & 0xFFFF));
     must(em_read(has_places ? EM_HERE(&machine) : &machine, RDT, &value));
   }
-  tell(has_places ? "a register access that is kept" : "the same without the caller's line", KEPT);
-  FILE *file = fopen(path, "r");
-  if (file == NULL || fseek(file, 0, SEEK_END) != 0) exit(102);
-  printf("%-40s %7.1f octets\n", "its line", (double)ftell(file) / KEPT);
-  fclose(file);
+  tell("a register access that is kept", KEPT);
   if (has_places) {
     begin();
     for (int i = 0; i < TRIPS; i++) must(em_arrive(&machine, frame, FRAME, &event));
     tell("a frame of 1,514 octets that is kept", TRIPS);
   }
   em_free(&machine);
+  if (!has_places) tell_size(path);
   remove(path);
 }
 
@@ -206,8 +212,7 @@ int main(int words, char **word) {
   em_free(&machine);
 
   if (words > 1) {
-    keep(word[1], true);
-    keep(word[1], false);
+    for (int way = 0; way < 4; way++) keep(word[1], way > 1, way % 2 == 0);
   }
 
   round_trips(262144, 60);

@@ -4,12 +4,16 @@
    into one buffer, in a FIFO and on the wire, with the counters that they move; and one attached region.
 
        cc -O2 -Idist/x86_64-linux bench/calls.c bench/plain_calls.c -o plain && ./plain */
+#define _DEFAULT_SOURCE
 #include "bunjelav.h"
 
 #include <fcntl.h>
 #include <stdlib.h>
 #include <string.h>
+#include <sys/mman.h>
 #include <unistd.h>
+
+static const size_t MAPPED = (size_t)1 << 32; /* address space for a mapped file */
 
 enum { OFFSETS = 0x6000, PAGE = 4096, COST = 32, ICR = 0x00C0, IMS = 0x00D0, RDT = 0x2818 };
 
@@ -39,6 +43,8 @@ struct plain {
   int file;            /* of a run that is kept; else below 0 */
   const char *name;
   uint32_t line;
+  char *map;           /* by a mapping; else NULL */
+  size_t used, size_mapped;
   char text[4096];
 };
 
@@ -79,6 +85,18 @@ static char *text(char *to, const char *from) {
   return to + length;
 }
 
+/* Stores the line into the mapped file, which grows by blanks. */
+static void store(struct plain *p, size_t length) {
+  static char blanks[65536];
+  memset(blanks, ' ', p->used == 0 ? sizeof blanks : 0);
+  while (p->size_mapped < p->used + length) {
+    if (pwrite(p->file, blanks, sizeof blanks, (off_t)p->size_mapped) != (ssize_t)sizeof blanks) exit(103);
+    p->size_mapped += sizeof blanks;
+  }
+  memcpy(p->map + p->used, p->text, length);
+  p->used += length;
+}
+
 static void end_line(struct plain *p, char *to) {
   char decimal[10], *at = decimal + sizeof decimal;
   if (p->name != NULL) {
@@ -89,15 +107,24 @@ static void end_line(struct plain *p, char *to) {
     while (at < decimal + sizeof decimal) *to++ = *at++;
   }
   *to++ = '\n';
-  if (write(p->file, p->text, (size_t)(to - p->text)) < 0) p->file = -1;
+  if (p->map != NULL) store(p, (size_t)(to - p->text));
+  else if (write(p->file, p->text, (size_t)(to - p->text)) < 0) p->file = -1;
 }
 
-uint32_t em_record_to(em_machine *machine, const char *path) {
+em_code em_record_to(em_machine *machine, const char *path) {
   of(machine)->file = open(path, O_WRONLY | O_CREAT | O_TRUNC | O_APPEND, 0666);
   return of(machine)->file < 0 ? EM_FILE : EM_OK;
 }
 
-uint32_t em_source(em_machine *machine, const char *file, uint32_t line) {
+em_code em_record_mapped(em_machine *machine, const char *path) {
+  struct plain *p = of(machine);
+  p->file = open(path, O_RDWR | O_CREAT | O_TRUNC, 0666);
+  void *map = mmap(NULL, MAPPED, PROT_READ | PROT_WRITE, MAP_SHARED | MAP_NORESERVE, p->file, 0);
+  p->map = map == MAP_FAILED ? NULL : map;
+  return p->map == NULL ? EM_FILE : EM_OK;
+}
+
+em_code em_source(em_machine *machine, const char *file, uint32_t line) {
   of(machine)->name = file;
   of(machine)->line = line;
   return EM_OK;
@@ -109,7 +136,7 @@ static void keep(struct plain *p, uint32_t kind, uint32_t offset, uint32_t old, 
   *next(p) = (struct record){offset, old, NULL, {p->tag, offset, 4, value, kind}, 0, 0};
 }
 
-uint32_t em_make(em_machine *machine, uint64_t memory, uint64_t budget, const uint8_t mac[6]) {
+em_code em_make(em_machine *machine, uint64_t memory, uint64_t budget, const uint8_t mac[6]) {
   struct plain *p = calloc(1, sizeof *p);
   (void)mac;
   if (p == NULL) return EM_MEMORY;
@@ -135,7 +162,7 @@ void em_free(em_machine *machine) {
   free(of(machine));
 }
 
-uint32_t em_write(em_machine *machine, uint32_t offset, uint32_t value) {
+em_code em_write(em_machine *machine, uint32_t offset, uint32_t value) {
   struct plain *p = of(machine);
   if (!is_register(p, offset)) return EM_NO_REGISTER;
   uint32_t *word = &p->registers[offset / 4], old = *word;
@@ -149,7 +176,7 @@ uint32_t em_write(em_machine *machine, uint32_t offset, uint32_t value) {
   return EM_OK;
 }
 
-uint32_t em_read(em_machine *machine, uint32_t offset, uint32_t *value) {
+em_code em_read(em_machine *machine, uint32_t offset, uint32_t *value) {
   struct plain *p = of(machine);
   if (!is_register(p, offset)) return EM_NO_REGISTER;
   *value = p->registers[offset / 4];
@@ -159,7 +186,7 @@ uint32_t em_read(em_machine *machine, uint32_t offset, uint32_t *value) {
   return EM_OK;
 }
 
-uint32_t em_poke(em_machine *machine, uint64_t address, const uint8_t *octets, size_t length) {
+em_code em_poke(em_machine *machine, uint64_t address, const uint8_t *octets, size_t length) {
   struct plain *p = of(machine);
   if (length > p->size || address > p->size - length) return EM_RANGE;
   uint8_t *kept = malloc(length);
@@ -180,12 +207,12 @@ enum { GPTC = 0x4080, GOTCL = 0x4090, TOTL = 0x40C8, TPT = 0x40D4, BPTC = 0x40F4
 
 static bool is_attached(const struct plain *p) { return p->ram.count > 0; }
 
-uint32_t em_attach(em_machine *machine, const em_ram *ram) {
+em_code em_attach(em_machine *machine, const em_ram *ram) {
   of(machine)->ram = *ram;
   return EM_OK;
 }
 
-uint32_t em_set_link(em_machine *machine, bool up) {
+em_code em_set_link(em_machine *machine, bool up) {
   (void)up;
   keep(of(machine), EM_LINK_UP, 0, 0, 0);
   return EM_OK;
@@ -203,7 +230,7 @@ static void count(struct plain *p, bool receives, uint32_t octets, uint32_t by) 
   *word(p, (receives ? PRC64 : PTC64) + 4 * class) += by;
 }
 
-uint32_t em_arrive(em_machine *machine, const uint8_t *frame, size_t length, em_note *event) {
+em_code em_arrive(em_machine *machine, const uint8_t *frame, size_t length, em_note *event) {
   struct plain *p = of(machine);
   uint8_t all = 0xFF;
   for (int i = 0; i < 6; i++) all &= frame[i];
@@ -224,7 +251,7 @@ uint32_t em_arrive(em_machine *machine, const uint8_t *frame, size_t length, em_
 }
 
 /* Makes own octets what the caller's are, by a memory write where they differ. */
-static uint32_t bring(em_machine *machine, uint64_t at, size_t length) {
+static em_code bring(em_machine *machine, uint64_t at, size_t length) {
   struct plain *p = of(machine);
   if (!is_attached(p)) return EM_OK;
   const uint8_t *theirs = p->ram.regions[0].octets + at, *mine = p->memory + at;
@@ -249,7 +276,7 @@ static void move(struct plain *p, uint32_t head, uint32_t length) {
   *word(p, head) = *word(p, head) + 1 == *word(p, length) / DESCRIPTOR ? 0 : *word(p, head) + 1;
 }
 
-uint32_t em_rx_step(em_machine *machine, em_note *event) {
+em_code em_rx_step(em_machine *machine, em_note *event) {
   struct plain *p = of(machine);
   uint32_t head = *word(p, RDH), icr = *word(p, ICR);
   *event = (em_note){p->tag, 0, 0, 0, EM_RX_IDLE};
@@ -281,7 +308,7 @@ uint32_t em_rx_step(em_machine *machine, em_note *event) {
   return EM_OK;
 }
 
-uint32_t em_tx_step(em_machine *machine, em_note *event) {
+em_code em_tx_step(em_machine *machine, em_note *event) {
   struct plain *p = of(machine);
   uint32_t head = *word(p, TDH), icr = *word(p, ICR);
   *event = (em_note){p->tag, 0, 0, 0, EM_TX_IDLE};
@@ -315,26 +342,26 @@ uint32_t em_tx_step(em_machine *machine, em_note *event) {
   return EM_OK;
 }
 
-static uint32_t run(em_machine *machine, uint32_t (*step)(em_machine *, em_note *), size_t n, size_t *done) {
+static em_code run(em_machine *machine, uint32_t (*step)(em_machine *, em_note *), size_t n, size_t *done) {
   em_note event;
   for (*done = 0; *done < n; ++*done) {
-    uint32_t why = step(machine, &event);
+    em_code why = step(machine, &event);
     if (why != EM_OK) return why;
     if (event.kind == EM_RX_IDLE || event.kind == EM_TX_IDLE) break;
   }
   return EM_OK;
 }
 
-uint32_t em_run_rx(em_machine *machine, size_t n, size_t *done) { return run(machine, em_rx_step, n, done); }
+em_code em_run_rx(em_machine *machine, size_t n, size_t *done) { return run(machine, em_rx_step, n, done); }
 
-uint32_t em_run_tx(em_machine *machine, size_t n, size_t *done) { return run(machine, em_tx_step, n, done); }
+em_code em_run_tx(em_machine *machine, size_t n, size_t *done) { return run(machine, em_tx_step, n, done); }
 
-uint32_t em_wire_count(const em_machine *machine, size_t *count) {
+em_code em_wire_count(const em_machine *machine, size_t *count) {
   *count = ((const struct plain *)machine->held)->sent;
   return EM_OK;
 }
 
-uint32_t em_wire_frame(const em_machine *machine, size_t index, uint8_t *out, size_t room, size_t *length) {
+em_code em_wire_frame(const em_machine *machine, size_t index, uint8_t *out, size_t room, size_t *length) {
   const struct plain *p = machine->held;
   if (index >= p->sent) return EM_NO_FRAME;
   *length = p->wire[index].length;
@@ -366,7 +393,7 @@ static void undo(struct plain *p, struct record *record) {
   }
 }
 
-uint32_t em_back(em_machine *machine, size_t n, size_t *done) {
+em_code em_back(em_machine *machine, size_t n, size_t *done) {
   struct plain *p = of(machine);
   for (*done = 0; *done < n && p->count > 0; ++*done) {
     size_t at = p->first + --p->count;
@@ -383,7 +410,7 @@ uint32_t em_back(em_machine *machine, size_t n, size_t *done) {
   return EM_OK;
 }
 
-uint32_t em_line(const em_machine *machine, uint32_t *level) {
+em_code em_line(const em_machine *machine, uint32_t *level) {
   const struct plain *p = machine->held;
   *level = (p->registers[ICR / 4] & p->registers[IMS / 4]) != 0;
   return EM_OK;
@@ -397,7 +424,7 @@ static bool differs(const uint8_t *a, const uint8_t *b, size_t *first, size_t *l
   return true;
 }
 
-uint32_t em_sync_out(const em_machine *machine, uint8_t *ram, size_t size) {
+em_code em_sync_out(const em_machine *machine, uint8_t *ram, size_t size) {
   const uint8_t *memory = ((const struct plain *)machine->held)->memory;
   size_t first, last;
   if (size != ((const struct plain *)machine->held)->size) return EM_LENGTH;
@@ -407,7 +434,7 @@ uint32_t em_sync_out(const em_machine *machine, uint8_t *ram, size_t size) {
   return EM_OK;
 }
 
-uint32_t em_sync_in(em_machine *machine, const uint8_t *ram, size_t size, size_t *writes) {
+em_code em_sync_in(em_machine *machine, const uint8_t *ram, size_t size, size_t *writes) {
   size_t first, last;
   if (size != of(machine)->size) return EM_LENGTH;
   *writes = 0;

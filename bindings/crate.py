@@ -50,6 +50,9 @@ class Crate(NamedTuple):
     kinds: list
     watches: list
     rings: list
+    rules: list
+    warnings: list
+    troubles: list
     layouts: list
     calls: list
     registers: int
@@ -111,6 +114,35 @@ def rings(top: Path) -> list[tuple[str, int]]:
     return [(name, number(n)) for n, name in rows]
 
 
+def sentences(names: list, docs: dict) -> list[tuple[str, int, str]]:
+    """Each name with its number, and what is said of it, without its full stop."""
+    return [(name, number(n), re.sub(r"^`[a-z-]+`: |\.$", "", docs[name])) for name, n in names]
+
+
+def documented(text: str, enum: str) -> dict:
+    """What is said of each variant of an enum."""
+    body = found(rf"pub enum {enum} \{{(.*?)\n\}}", text, f"the enum {enum}")[0]
+    return {name: docs_of(docs) for docs, name in re.findall(r"((?:\s*///.*\n)+)\s*(\w+)", body)}
+
+
+def rules(top: Path) -> list[tuple[str, int, str]]:
+    """Each rule by which an event does nothing."""
+    text = text_of(top, "em_c/src/rule.rt")
+    return sentences(found(r"^    (\w+) = (\d+),", text, "the rules"), documented(text, "Rule"))
+
+
+def warnings(top: Path) -> list[tuple[str, int, str]]:
+    """Each rule by which an access has a warning."""
+    rows = found(r"Warning::(\w+) \{ \.\. \} => (\d+),", text_of(top, "em_c/src/warning.rt"), "the warnings")
+    return sentences(rows, documented(text_of(top, "em_warnings/src/warning.rt"), "Warning"))
+
+
+def troubles(top: Path) -> list[tuple[str, int, str]]:
+    """Each thing that can be wrong with a descriptor."""
+    rows = found(r"Trouble::(\w+)(?:\(_\))?\) => (\d+),", text_of(top, "em_c/src/entry.rt"), "the troubles")
+    return sentences(rows, documented(text_of(top, "em_inspect/src/trouble.rt"), "Trouble"))
+
+
 def layouts(top: Path) -> list[Layout]:
     """What is laid out as in C, but for the handle, whose inner is nobody's business, and the text of a kept run's lines,
     which no caller sees."""
@@ -159,6 +191,9 @@ def read(top: Path = TOP) -> Crate:
         kinds=kinds(top),
         watches=watches(top),
         rings=rings(top),
+        rules=rules(top),
+        warnings=warnings(top),
+        troubles=troubles(top),
         layouts=layouts(top),
         calls=calls(top),
         registers=registers(top),
@@ -166,5 +201,9 @@ def read(top: Path = TOP) -> Crate:
         sizes={
             "MOST_OCTETS": constant(top, "MOST_OCTETS", "em_c/src/watch.rt"),
             "DESCRIPTOR_OCTETS": constant(top, "DESCRIPTOR_OCTETS", "em_regs/src/ring.rt"),
+            "ADDRESS": constant(top, "ADDRESS", "em_c/src/reason.rt"),
+            "LINE": constant(top, "LINE", "em_c/src/line.rt"),
+            "NAME": constant(top, "NAME", "em_c/src/fields.rt"),
+            "RULES": constant(top, "RULES", "em_warnings/src/rules.rt"),
         },
     )

@@ -5,10 +5,11 @@
     bindings/tables.py --check      says which of them are not as the crate has them; the status is 1 where one is not
     bindings/tables.py --check DIR  the same of a copy of bindings/ in another folder
 
-Whole files are _tables.py and _refusals.py of bindings/python/bunjelav, and tables.rs and raw.rs of bindings/rust/src. In bunjelav.h only
-the numbers, the fields and the types are written: comments and the names of parameters stay as they are there. Of
-bunjelav.pc, Cargo.toml, pyproject.toml and page/page.html it is the version. What the C of bindings/c has of its own, five
-calls and three layouts, is written for Rust and Python of what stands below, and compared in bunjelav.h.
+Whole files are _tables.py and _refusals.py of bindings/python/bunjelav, tables.rs and raw.rs of bindings/rust/src, and
+texts.c and exports.map of bindings/c. In bunjelav.h only the numbers, the fields and the types are written: comments and
+the names of parameters stay as they are there. Of bunjelav.pc, Cargo.toml, pyproject.toml and page/page.html it is the
+version. What the C of bindings/c has of its own, eight calls and three layouts, is written for Rust and Python of what
+stands below, and compared in bunjelav.h.
 """
 import os
 import re
@@ -22,29 +23,47 @@ from crate import Call, Crate, Field, words_of  # noqa: E402
 
 HERE = Path(__file__).resolve().parent
 NOTICE = "Written by bindings/tables.py, of the crate em_c: change it there, and run that."
-LAYOUTS = {"EmNote": "em_note", "EmRegister": "em_register", "EmWatch": "em_watch", "EmChange": "em_change"}
+LAYOUTS = {"EmField": "em_field_row", "EmFifo": "em_fifo_state", "EmNote": "em_note", "EmRegister": "em_register",
+           "EmWatch": "em_watch", "EmChange": "em_change"}
 # What the C of bindings/c has that the crate has not: calls, and layouts as the header has them.
 OWN_CALLS = (
     "em_attach(em_machine *machine, const em_ram *ram);",
     "em_detach(em_machine *machine);",
     "em_record_to(em_machine *machine, const char *path);",
+    "em_record_mapped(em_machine *machine, const char *path);",
     "em_recording_status(em_machine *machine, int *error);",
     "em_source(em_machine *machine, const char *file, uint32_t line);",
+)
+# Of these the ones that give a text.
+OWN_TEXTS = (
+    "const char *em_strerror(em_code code);",
+    "const char *em_version(void);",
 )
 RUST_OWN_CALLS = (
     "em_attach(machine: *mut Handle, ram: *const Ram) -> u32;",
     "em_detach(machine: *mut Handle) -> u32;",
     "em_record_to(machine: *mut Handle, path: *const c_char) -> u32;",
+    "em_record_mapped(machine: *mut Handle, path: *const c_char) -> u32;",
     "em_recording_status(machine: *mut Handle, error: *mut c_int) -> u32;",
     "em_source(machine: *mut Handle, file: *const c_char, line: u32) -> u32;",
+    "em_strerror(code: u32) -> *const c_char;",
+    "em_version() -> *const c_char;",
 )
 PYTHON_OWN_CALLS = (
     '"em_attach": [POINTER(Handle), POINTER(Ram)],',
     '"em_detach": [POINTER(Handle)],',
     '"em_record_to": [POINTER(Handle), c_char_p],',
+    '"em_record_mapped": [POINTER(Handle), c_char_p],',
     '"em_recording_status": [POINTER(Handle), POINTER(c_int)],',
     '"em_source": [POINTER(Handle), c_char_p, c_uint32],',
+    '"em_strerror": [c_uint32],',
+    '"em_version": [],',
 )
+# In bunjelav.h, what stands before a call that gives a number; an older header may have the number's type alone.
+GIVES = r"(?:EM_CHECKED )?(?:em_code|uint32_t)"
+# The first version of the shared library's symbols, and all there is.
+SYMBOLS = "BUNJELAV_1"
+WIDE = ("EM_CODE_WIDE", 0x7FFFFFFF, "none: it gives the type 32 bits, in which numbers of later versions have room")
 C_OF_ATTACH = {
     "em_region": "uint64_t base; uint64_t size; uint8_t *octets;",
     "em_ram": "void *context; bool (*read)(void *context, uint64_t address, uint8_t *out, size_t length); "
@@ -52,6 +71,8 @@ C_OF_ATTACH = {
               "const em_region *regions; size_t count;",
     "em_machine": "bool made; void *held; em_ram ram; uint32_t state;",
 }
+# Of fields of which the crate says nothing, since it says so of the layout: those of a register.
+SAID = {"offset": "Its offset.", "value": "What a read of it would give."}
 SHORTER = {"receive idle": "rx idle", "transmit idle": "tx idle"}
 C_TYPES = {"u8": "uint8_t", "u16": "uint16_t", "u32": "uint32_t", "u64": "uint64_t", "usize": "size_t", "bool": "bool"}
 
@@ -83,7 +104,7 @@ def passed(parameter: Field, call: Call) -> list[tuple[str, str, str, str]]:
         return [("in" if call.looks else "out", "EmMachine", "", name)]
     array = re.fullmatch(r"&(mut )?\[(\w+); (\w+)\]", kind)
     if array:
-        count = {"EEPROM_WORDS": "64"}.get(array[3], array[3])
+        count = {"EEPROM_WORDS": "64", "RULES": "6"}.get(array[3], array[3])
         return [("out" if array[1] else "in", array[2], count, name)]
     there = re.fullmatch(r"&(mut )?\[(\w+)\]", kind)
     if there:
@@ -111,38 +132,49 @@ def c_parameter(one: tuple[str, str, str, str], name: str) -> str:
 
 
 def c_call(call: Call, names: list[str]) -> str:
-    inside = ", ".join(c_parameter(one, name) for one, name in zip(all_passed(call), names))
-    return f"{'uint32_t' if call.gives else 'void'} {call.name}({inside});"
+    lines = [f"{'EM_CHECKED em_code' if call.gives else 'void'} {call.name}("]
+    indent = " " * len(lines[0])
+    words = [c_parameter(one, name) for one, name in zip(all_passed(call), names)]
+    for word in [f"{word}, " for word in words[:-1]] + [f"{words[-1]});"]:
+        fits = len(lines[-1]) + len(word.rstrip()) <= 120
+        lines = [*lines[:-1], lines[-1] + word] if fits else [*lines[:-1], lines[-1].rstrip(), indent + word]
+    return "\n".join(lines)
 
 
 def names_there(text: str, call: Call) -> list[str]:
     """The names that the header has for a call's parameters; where it has not as many, those of the crate."""
-    there = re.search(rf"^\w+ {call.name}\((.*?)\);", text, re.M | re.S)
+    there = re.search(rf"^[\w ]+ {call.name}\((.*?)\);", text, re.M | re.S)
     names = re.findall(r"(\w+)(?:\[\d+\])?(?:,|$)", there[1]) if there else []
     ours = [one[3] for one in all_passed(call)]
     return names if len(names) == len(ours) else ours
 
 
+def all_names(made: Crate) -> list[str]:
+    """The names of all calls, those of the C beside the crate too."""
+    own = [call.partition("(")[0] for call in OWN_CALLS] + [re.search(r"em_\w+", call)[0] for call in OWN_TEXTS]
+    return sorted([call.name for call in made.calls] + own)
+
+
 def with_calls(text: str, made: Crate) -> str:
-    declared = re.findall(r"^(?:uint32_t|void) (em_\w+)\(", text, re.M)
-    missing = {call.name for call in made.calls} | {call.partition("(")[0] for call in OWN_CALLS}
-    missing ^= set(declared)
+    declared = re.findall(rf"^(?:{GIVES} |void |const char \*)(em_\w+)\(", text, re.M)
+    missing = set(all_names(made)) ^ set(declared)
     if missing:
         raise SystemExit(f"bunjelav.h and the crate don't have the same calls: {', '.join(sorted(missing))}")
     for call in made.calls:
         line = c_call(call, names_there(text, call))
-        text = re.sub(rf"^(?:uint32_t|void) {call.name}\(.*?\);", lambda _: line, text, count=1, flags=re.M | re.S)
+        text = re.sub(rf"^(?:{GIVES}|void) {call.name}\(.*?\);", lambda _: line, text, count=1, flags=re.M | re.S)
     return text
 
 
 def with_entries(text: str, enum: str, rows: list[tuple[str, int, str]]) -> str:
     """An enum of the header with these names and numbers; what stands behind each stays."""
     inside = re.search(rf"typedef enum {enum} \{{\n(.*?)\n\}}", text, re.S)
-    behind = dict(re.findall(r"^  (\w+) = \d+,?(\s*/\*.*?\*/)", inside[1], re.M | re.S))
+    behind = dict(re.findall(r"^  (\w+) = \w+,?(\s*/\*.*?\*/)", inside[1], re.M | re.S))
     lines = []
     for at, (name, number, said) in enumerate(rows):
         comma = "," if at < len(rows) - 1 else ""
-        lines.append(f"  {name} = {number}{comma}{behind.get(name) or f' /* {said} */'}")
+        shown = f"0x{number:X}" if name == WIDE[0] else number
+        lines.append(f"  {name} = {shown}{comma}{behind.get(name) or f' /* {said} */'}")
     return text.replace(inside[1], "\n".join(lines), 1)
 
 
@@ -155,7 +187,9 @@ def with_layout(text: str, layout: crate.Layout, made: Crate) -> str:
     for field in layout.fields:
         array = re.fullmatch(r"\[(\w+); (\w+)\]", field.kind)
         kind, size = (array[1], f"[{made.sizes[array[2]]}]") if array else (field.kind, "")
-        lines.append(f"  {C_TYPES[kind]} {field.name}{size};{behind.get(field.name, '')}")
+        # (a line and a name are text)
+        of = "char" if array and array[2] in ("LINE", "NAME") else C_TYPES[kind]
+        lines.append(f"  {of} {field.name}{size};{behind.get(field.name, '')}")
     return text.replace(inside[1], "\n".join(lines), 1)
 
 
@@ -172,17 +206,21 @@ def with_own(text: str) -> str:
         there = " ".join(re.sub(r"/\*.*?\*/", "", inside[1], flags=re.S).split()) if inside else ""
         if there != fields:
             raise SystemExit(f"bunjelav.h has another struct {name}: {there}")
-    for call in OWN_CALLS:
-        if f"\nuint32_t {call}\n" not in text:
+    for call in (*(f"EM_CHECKED em_code {call}" for call in OWN_CALLS), *OWN_TEXTS):
+        if f"\n{call}\n" not in text:
             raise SystemExit(f"bunjelav.h has no {call}")
     return text
 
 
 def header(text: str, made: Crate) -> str:
     codes = [(f"EM_{refusal_constant(it.name)}", it.number, it.sentence) for it in made.refusals]
-    text = with_entries(text, "em_code", [("EM_OK", 0, "nothing refused it"), *codes])
+    text = with_entries(text, "em_code", [("EM_OK", 0, "nothing refused it"), *codes, WIDE])
     text = with_entries(text, "em_kind", [(f"EM_{constant_name(words)}", n, words) for words, n in made.kinds])
     text = with_entries(text, "em_watched", [(f"EM_WATCH_{words.upper()}", n, words) for words, n in made.watches])
+    for enum, prefix, rows in (("em_rule", "EM_WHY", made.rules), ("em_warned", "EM_WARN", made.warnings),
+                               ("em_trouble", "EM_TROUBLE", made.troubles)):
+        named = [(f"{prefix}_{refusal_constant(name)}", n, said) for name, n, said in rows]
+        text = with_entries(text, enum, named)
     text = with_entries(text, "em_rings", [(f"EM_{name.upper()}_RING", n, f"the {name} ring") for name, n in made.rings])
     for layout in made.layouts:
         text = with_layout(text, layout, made)
@@ -193,6 +231,20 @@ def header(text: str, made: Crate) -> str:
                         ("EM_VERSION_NUMBER", f"0x{major:02X}{minor:02X}{patch:02X}")):
         text = with_number(text, name, value)
     return text
+
+
+def c_texts(made: Crate) -> str:
+    lines = ["/* The texts of the refusals, and the version.", "", f"   {NOTICE} */", '#include "bunjelav.h"', "",
+             "const char *em_version(void) { return EM_VERSION; }", "", "const char *em_strerror(em_code code) {",
+             "  switch (code) {", '    case EM_OK: return "Ok: nothing refused it";']
+    lines += [f'    case EM_{refusal_constant(it.name)}: return "{it.name}: {it.sentence}";' for it in made.refusals]
+    return "\n".join([*lines, '    default: return "Unknown: no refusal has the number";', "  }", "}", ""])
+
+
+def exports(made: Crate) -> str:
+    lines = [f"/* {NOTICE} */", f"{SYMBOLS} {{", "  global:"]
+    lines += [f"    {name};" for name in all_names(made)]
+    return "\n".join([*lines, "  local:", "    *;", "};", ""])
 
 
 # ---- Rust
@@ -212,14 +264,27 @@ def commented(docs: str, indent: str = "", mark: str = "/// ") -> list[str]:
 
 def rust_struct(layout: crate.Layout, made: Crate) -> list[str]:
     name = layout.name.removeprefix("Em")
-    is_seen = name in ("Range", "Register", "RingSetup")
+    is_seen = name in ("Fifo", "Range", "Register", "RingSetup")
     seen = "pub" if is_seen else "pub(crate)"
     derived = "Clone, Copy, PartialEq, Eq, Hash, Debug, Default" if is_seen else "Clone, Copy, Default"
+    # (an array as long as a line has no Default)
+    lined = any("; LINE]" in field.kind for field in layout.fields)
+    derived = "Clone, Copy, Debug" if lined else derived
     lines = ["", *commented(layout.docs), "#[repr(C)]", f"#[derive({derived})]", f"{seen} struct {name} {{"]
     for field in layout.fields:
         kind = re.sub(r"; (\w+)\]", lambda size: f"; {made.sizes[size[1]]}]", field.kind)
-        lines.append(f"    pub {field.name}: {kind},")
-    return [*lines, "}"]
+        docs = field.docs or SAID.get(field.name, "")
+        lines += [*(commented(docs, "    ") if is_seen else []), f"    pub {field.name}: {kind},"]
+    return [*lines, "}"] + (rust_blank(name, layout, made) if lined else [])
+
+
+def rust_blank(name: str, layout: crate.Layout, made: Crate) -> list[str]:
+    """A struct that tells nothing yet."""
+    lines = ["", f"impl {name} {{", f"    pub(crate) const fn blank() -> {name} {{", f"        {name} {{"]
+    for field in layout.fields:
+        array = re.fullmatch(r"\[\w+; (\w+)\]", field.kind)
+        lines.append(f"            {field.name}: {f'[0; {made.sizes[array[1]]}]' if array else '0'},")
+    return [*lines, "        }", "    }", "}"]
 
 
 RUST_OF_ATTACH = """\
@@ -272,7 +337,8 @@ def rust_raw(made: Crate) -> str:
              *RUST_OF_ATTACH]
     for layout in made.layouts:
         lines += rust_struct(layout, made)
-    lines += ["", '#[cfg_attr(not(feature = "std"), allow(dead_code))]', 'extern "C" {']
+    # (all are there, and not each is called)
+    lines += ["", "#[allow(dead_code)]", 'extern "C" {']
     for call in made.calls:
         inside = ", ".join(map(rust_parameter, all_passed(call)))
         gives = " -> u32" if call.gives else ""
@@ -308,7 +374,19 @@ def rust_tables(made: Crate) -> str:
     lines += ["", "/// Each refusal with its number.",
               f"pub(crate) const REFUSALS: [(Refusal, u32); {len(made.refusals)}] = ["]
     lines += [f"    (Refusal::{it.name}, {it.number})," for it in made.refusals]
-    lines += ["];", *rust_enum("Kind", commented("What kind of event it was, with what came of it."),
+    lines.append("];")
+    for name, said, table, rows in (
+        ("Rule", "By which rule an event did nothing.", "RULES", made.rules),
+        ("Warned", "By which rule an access of a register has a warning.", "WARNINGS", made.warnings),
+        ("Trouble", "What is wrong with a descriptor.", "TROUBLES", made.troubles),
+    ):
+        variants = [(variant, f"{docs[0].upper()}{docs[1:]}.") for variant, _, docs in rows]
+        lines += rust_enum(name, commented(said), variants, "Another number, which this binding does not know.")
+        lines += ["", f"/// Each {name.lower()} with its number.",
+                  f"pub(crate) const {table}: [({name}, u32); {len(rows)}] = ["]
+        lines += [f"    ({name}::{variant}, {n})," for variant, n, _ in rows]
+        lines.append("];")
+    lines += [*rust_enum("Kind", commented("What kind of event it was, with what came of it."),
                                [(variant, f"{words[0].upper()}{words[1:]}.") for variant, _, words in kinds],
                                "Another number, which this binding does not know."),
               "", "/// Each kind with its number, and what it is called.",
@@ -376,6 +454,11 @@ def python(made: Crate) -> str:
     lines += [f'    "{words}": {n},' for words, n in made.watches]
     lines += ["}", "", "# by name, the number of each ring", "RINGS = {"]
     lines += [f'    "{name}": {n},' for name, n in made.rings]
+    for name, said, rows in (("RULES", "rule by which an event does nothing", made.rules),
+                             ("WARNINGS", "rule by which an access has a warning", made.warnings),
+                             ("TROUBLES", "thing that can be wrong with a descriptor", made.troubles)):
+        lines += ["}", "", f"# by number, what each {said} is called", f"{name} = {{"]
+        lines += [f'    {n}: "{" ".join(words_of(variant))}",' for variant, n, _ in rows]
     lines += ["}", *PYTHON_OF_ATTACH]
     for layout in made.layouts:
         lines += ["", "", f"class {layout.name.removeprefix('Em')}(Structure):", "    _fields_ = ["]
@@ -386,6 +469,8 @@ def python(made: Crate) -> str:
         inside = ", ".join(python_parameter(one, made) for one in all_passed(call))
         lines.append(f'    "{call.name}": [{inside}],')
     lines += [f"    {call}" for call in PYTHON_OWN_CALLS]
+    lines += ["}", "", "# those that give a text, and its type", "TEXTS = {"]
+    lines += [f'    "{re.search(r"em_[a-z_]+", call)[0]}": c_char_p,' for call in OWN_TEXTS]
     return "\n".join([*lines, "}", ""])
 
 
@@ -398,7 +483,8 @@ def python_refusals(made: Crate) -> str:
               '    """Why a call did nothing: each refusal is a class of its own below this one, of the refusal\'s name."""', "",
               "    # the refusal's number", "    number = 0",
               "    # of `run` how many steps, and of `sync_in` how many writes, went well before; they stay",
-              "    # of `back` how many events were taken back", "    done = 0"]
+              "    # of `back` how many events were taken back", "    done = 0",
+              "    # of an event by which rule it was refused, as `Machine.why` says", "    why: object = None"]
     for it in made.refusals:
         lines += ["", "", f"class {it.name}(Refused):", f'    """{it.docs}"""', "", f"    number = {it.number}"]
     return "\n".join([*lines, ""])
@@ -418,6 +504,8 @@ def written(folder: Path, made: Crate) -> dict[Path, str]:
 
     texts = {
         "c/bunjelav.h": header(there("c/bunjelav.h"), made),
+        "c/texts.c": c_texts(made),
+        "c/exports.map": exports(made),
         "c/bunjelav.pc": versioned(there("c/bunjelav.pc"), made, r"^(Version: ).*?($)"),
         "rust/Cargo.toml": versioned(there("rust/Cargo.toml"), made, r'^(version = ").*?(")'),
         "python/pyproject.toml": versioned(there("python/pyproject.toml"), made, r'^(version = ").*?(")'),

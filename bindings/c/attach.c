@@ -85,25 +85,25 @@ static bool write_ram(em_machine *machine, uint64_t address, const uint8_t *octe
 
 /* Makes the machine's octets what the caller's are; `events` counts the memory writes. (They are copied first: the
    proved part sees no octet that another thread may write meanwhile.) */
-static uint32_t bring(em_machine *machine, em_range range, size_t *events) {
+static em_code bring(em_machine *machine, em_range range, size_t *events) {
   uint8_t octets[MOST];
   size_t length = (size_t)range.length, writes = 0;
   if (length == 0) return EM_OK;
   if (length > sizeof octets) return EM_LENGTH; /* (no step has such a range) */
   if (!read_ram(machine, range.address, octets, length)) return EM_UNREAD;
-  uint32_t why = BY_KEEPING(machine, sync_in_range, range.address, octets, length, &writes);
+  em_code why = BY_KEEPING(machine, sync_in_range, range.address, octets, length, &writes);
   *events += writes;
   return why;
 }
 
 /* Makes the caller's octets what the machine's are, first in the one range and then in the other. */
-static uint32_t take_out(em_machine *machine, const em_range ranges[2]) {
+static em_code take_out(em_machine *machine, const em_range ranges[2]) {
   uint8_t octets[MOST];
   for (int i = 0; i < 2; i++) {
     size_t length = (size_t)ranges[i].length;
     if (length == 0) continue;
     if (length > sizeof octets) return EM_LENGTH;
-    uint32_t why = em_peek(machine, ranges[i].address, octets, length);
+    em_code why = em_peek(machine, ranges[i].address, octets, length);
     if (why != EM_OK) return why;
     if (!write_ram(machine, ranges[i].address, octets, length)) return EM_UNWRITTEN;
   }
@@ -113,8 +113,8 @@ static uint32_t take_out(em_machine *machine, const em_range ranges[2]) {
 /* ---- steps */
 
 /* Takes events back. (From then on an empty journal does not say that there was no event.) */
-static uint32_t go_back(em_machine *machine, size_t n, size_t *done) {
-  uint32_t why = BY_KEEPING(machine, back, n, done);
+static em_code go_back(em_machine *machine, size_t n, size_t *done) {
+  em_code why = BY_KEEPING(machine, back, n, done);
   if (why == EM_OK && *done > 0) machine->state |= WENT_BACK;
   return why;
 }
@@ -128,9 +128,9 @@ static bool lies_in(em_range inner, em_range outer) {
 }
 
 /* Brings what the next step reads, and what lies where it will write. */
-static uint32_t bring_needs(em_machine *machine, uint32_t side, size_t *events) {
+static em_code bring_needs(em_machine *machine, uint32_t side, size_t *events) {
   em_range reads[2], writes[2];
-  uint32_t why = em_ring_needs(machine, side, reads, writes);
+  em_code why = em_ring_needs(machine, side, reads, writes);
   if (why != EM_OK || reads[0].length == 0) return why;
   const em_range descriptor = reads[0];
   why = bring(machine, descriptor, events);
@@ -142,16 +142,16 @@ static uint32_t bring_needs(em_machine *machine, uint32_t side, size_t *events) 
   return why;
 }
 
-static uint32_t step_alone(em_machine *machine, uint32_t side, em_note *event) {
+static em_code step_alone(em_machine *machine, uint32_t side, em_note *event) {
   return side == EM_RX_RING ? BY_KEEPING(machine, rx_step, event) : BY_KEEPING(machine, tx_step, event);
 }
 
 /* A step over the caller's memory. Where it is refused, what was done for it is taken back. */
-static uint32_t step_attached(em_machine *machine, uint32_t side, em_note *event) {
+static em_code step_attached(em_machine *machine, uint32_t side, em_note *event) {
   em_range written[2];
   em_note note;
   size_t events = 0, gone;
-  uint32_t why = bring_needs(machine, side, &events);
+  em_code why = bring_needs(machine, side, &events);
   if (why == EM_OK) why = step_alone(machine, side, &note);
   if (why == EM_OK && !is_idle(note.kind)) {
     events++;
@@ -159,16 +159,16 @@ static uint32_t step_attached(em_machine *machine, uint32_t side, em_note *event
     if (why == EM_OK) why = take_out(machine, written);
   }
   if (why == EM_OK) *event = note;
-  else if (events > 0) (void)go_back(machine, events, &gone);
+  else if (events > 0) ignore(go_back(machine, events, &gone));
   return why;
 }
 
-static uint32_t step(em_machine *machine, uint32_t side, em_note *event) {
+static em_code step(em_machine *machine, uint32_t side, em_note *event) {
   return machine->state & ATTACHED ? step_attached(machine, side, event) : step_alone(machine, side, event);
 }
 
-static uint32_t run(em_machine *machine, uint32_t side, size_t n, size_t *done) {
-  uint32_t why = EM_OK;
+static em_code run(em_machine *machine, uint32_t side, size_t n, size_t *done) {
+  em_code why = EM_OK;
   em_note note;
   for (*done = 0; *done < n; ++*done) {
     why = step(machine, side, &note);
@@ -186,8 +186,8 @@ static size_t others(em_machine *machine, size_t n) {
   return k;
 }
 
-static uint32_t back_attached(em_machine *machine, size_t n, size_t *done) {
-  uint32_t why = EM_OK;
+static em_code back_attached(em_machine *machine, size_t n, size_t *done) {
+  em_code why = EM_OK;
   for (*done = 0; *done < n && why == EM_OK;) {
     em_range written[2] = {{0, 0}, {0, 0}};
     size_t count = others(machine, n - *done), gone = 0;
@@ -204,7 +204,7 @@ static uint32_t back_attached(em_machine *machine, size_t n, size_t *done) {
 
 /* ---- the calls */
 
-uint32_t em_attach(em_machine *machine, const em_ram *ram) {
+em_code em_attach(em_machine *machine, const em_ram *ram) {
   bool by_calls = ram->read != NULL && ram->write != NULL;
   bool by_regions = ram->read == NULL && ram->write == NULL && ram->count > 0;
   if (machine->state & CALLING) return EM_BUSY;
@@ -215,7 +215,7 @@ uint32_t em_attach(em_machine *machine, const em_ram *ram) {
   return EM_OK;
 }
 
-uint32_t em_detach(em_machine *machine) {
+em_code em_detach(em_machine *machine) {
   if (machine->state & CALLING) return EM_BUSY;
   if (!machine->made) return EM_NOT_MADE;
   memset(ram_of(machine), 0, sizeof(em_ram));
@@ -226,59 +226,59 @@ uint32_t em_detach(em_machine *machine) {
 void em_free(em_machine *machine) {
   if (machine->state & CALLING) return;
   keep_no_more(machine);
-  (void)em_detach(machine);
+  ignore(em_detach(machine));
   proved_free(machine);
   machine->state = 0;
 }
 
-uint32_t em_poke(em_machine *machine, uint64_t address, const uint8_t *octets, size_t length) {
+em_code em_poke(em_machine *machine, uint64_t address, const uint8_t *octets, size_t length) {
   size_t gone;
   if (machine->state & CALLING) return EM_BUSY;
-  uint32_t why = BY_KEEPING(machine, poke, address, octets, length);
+  em_code why = BY_KEEPING(machine, poke, address, octets, length);
   if (why != EM_OK || !(machine->state & ATTACHED) || write_ram(machine, address, octets, length)) return why;
-  (void)go_back(machine, 1, &gone);
+  ignore(go_back(machine, 1, &gone));
   return EM_UNWRITTEN;
 }
 
 /* within a function of the caller's a call is refused */
-#define UNLESS_CALLING(done) (machine->state & CALLING ? (uint32_t)EM_BUSY : (done))
+#define UNLESS_CALLING(done) (machine->state & CALLING ? EM_BUSY : (done))
 
-uint32_t em_rx_step(em_machine *machine, em_note *event) { return UNLESS_CALLING(step(machine, EM_RX_RING, event)); }
+em_code em_rx_step(em_machine *machine, em_note *event) { return UNLESS_CALLING(step(machine, EM_RX_RING, event)); }
 
-uint32_t em_tx_step(em_machine *machine, em_note *event) { return UNLESS_CALLING(step(machine, EM_TX_RING, event)); }
+em_code em_tx_step(em_machine *machine, em_note *event) { return UNLESS_CALLING(step(machine, EM_TX_RING, event)); }
 
 /* steps one by one, where memory is attached or the run is kept */
 #define IS_PLAIN (!(machine->state & (ATTACHED | KEPT)))
 
-uint32_t em_run_rx(em_machine *machine, size_t n, size_t *done) {
+em_code em_run_rx(em_machine *machine, size_t n, size_t *done) {
   return UNLESS_CALLING(IS_PLAIN ? proved_run_rx(machine, n, done) : run(machine, EM_RX_RING, n, done));
 }
 
-uint32_t em_run_tx(em_machine *machine, size_t n, size_t *done) {
+em_code em_run_tx(em_machine *machine, size_t n, size_t *done) {
   return UNLESS_CALLING(IS_PLAIN ? proved_run_tx(machine, n, done) : run(machine, EM_TX_RING, n, done));
 }
 
-uint32_t em_back(em_machine *machine, size_t n, size_t *done) {
+em_code em_back(em_machine *machine, size_t n, size_t *done) {
   return UNLESS_CALLING(machine->state & ATTACHED ? back_attached(machine, n, done) : go_back(machine, n, done));
 }
 
 /* A new machine's state has its budget. */
-static uint32_t begun(em_machine *machine, uint64_t budget, uint32_t why) {
+static em_code begun(em_machine *machine, uint64_t budget, em_code why) {
   if (why == EM_OK) machine->state = (uint32_t)budget << BUDGET;
   return why;
 }
 
-uint32_t em_make(em_machine *machine, uint64_t memory, uint64_t budget, const uint8_t mac[6]) {
+em_code em_make(em_machine *machine, uint64_t memory, uint64_t budget, const uint8_t mac[6]) {
   return UNLESS_CALLING(begun(machine, budget, proved_make(machine, memory, budget, mac)));
 }
 
-uint32_t em_make_with_eeprom(em_machine *machine, uint64_t memory, uint64_t budget, const uint16_t words[64]) {
+em_code em_make_with_eeprom(em_machine *machine, uint64_t memory, uint64_t budget, const uint16_t words[64]) {
   return UNLESS_CALLING(begun(machine, budget, proved_make_with_eeprom(machine, memory, budget, words)));
 }
 
 /* what touches no memory of the caller's */
 #define PASSED(call, parameters, ...) \
-  uint32_t em_##call parameters { return UNLESS_CALLING(BY_KEEPING(machine, call, __VA_ARGS__)); }
+  em_code em_##call parameters { return UNLESS_CALLING(BY_KEEPING(machine, call, __VA_ARGS__)); }
 
 PASSED(read, (em_machine *machine, uint32_t offset, uint32_t *value), offset, value)
 PASSED(write, (em_machine *machine, uint32_t offset, uint32_t value), offset, value)

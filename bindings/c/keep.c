@@ -1,7 +1,7 @@
 /* A run that is kept: the file that it goes to, and where its calls come from. keep_calls.c makes the calls.
 
-   Each line goes out by a write(2) of its own before its call returns. So it is in the file whatever ends the process: the
-   system has it then. */
+   Each line is in the file before its call returns, by a write(2) of its own or by a store into a mapping (keep_map.c).
+   So it is there whatever ends the process: the system has it then. */
 #define _POSIX_C_SOURCE 200809L
 #include "layer.h"
 #include "keep.h"
@@ -16,53 +16,64 @@ enum { EERD = 0x14, START = 1, ADDRESS = 8, DATA = 16, WORDS = 64 };
 
 /* ---- the file */
 
-static void fail(kept *run, int error) {
-  run->fault = error != 0 ? error : EIO;
-  (void)close(run->file);
-  run->file = -1;
+static int write_begins(kept *run, const char *path) {
+  run->file = open(path, O_WRONLY | O_CREAT | O_TRUNC | O_APPEND | O_CLOEXEC, 0666);
+  return run->file < 0 ? errno : 0;
 }
 
-void put_lines(kept *run) {
+static int write_lines(kept *run) {
   const uint8_t *at = run->text.octets;
   size_t left = run->text.used;
-  if (run->file < 0) return;
-  if (left == 0) {
-    fail(run, EOVERFLOW); /* (no line is longer than the room) */
-    return;
-  }
   for (ssize_t done; left > 0; at += done, left -= (size_t)done) {
     errno = 0;
     done = write(run->file, at, left);
     if (done < 0 && errno == EINTR) done = 0;
-    else if (done <= 0) {
-      fail(run, errno);
-      return;
-    }
+    else if (done <= 0) return errno != 0 ? errno : EIO;
   }
+  return 0;
+}
+
+static void close_file(kept *run) {
+  if (run->file < 0) return;
+  if (run->is_mapped) map_ends(run);
+  (void)close(run->file);
+  run->file = -1;
+}
+
+static void fail(kept *run, int error) {
+  close_file(run);
+  run->fault = error;
+}
+
+void put_lines(kept *run) {
+  if (run->file < 0) return;
+  /* (no line is longer than the room) */
+  int error = run->text.used == 0 ? EOVERFLOW : run->is_mapped ? map_lines(run) : write_lines(run);
+  if (error != 0) fail(run, error);
 }
 
 /* ---- the head */
 
 /* The word of the EEPROM at an address, by two events that are taken back; the tag at hand, too. */
-static uint32_t read_word(em_machine *machine, uint32_t address, uint16_t *word, uint64_t *tag) {
+static em_code read_word(em_machine *machine, uint32_t address, uint16_t *word, uint64_t *tag) {
   uint32_t value = 0;
   size_t gone;
   em_note note;
-  uint32_t why = proved_write(machine, EERD, START | address << ADDRESS);
+  em_code why = proved_write(machine, EERD, START | address << ADDRESS);
   if (why != EM_OK) return why;
   why = proved_read(machine, EERD, &value);
   if (why == EM_OK && (why = em_event(machine, 0, &note)) == EM_OK) {
     *word = (uint16_t)(value >> DATA);
     *tag = note.tag;
   }
-  (void)proved_back(machine, why == EM_OK ? 2 : 1, &gone);
+  ignore(proved_back(machine, why == EM_OK ? 2 : 1, &gone));
   return why;
 }
 
-static uint32_t put_head(em_machine *machine, kept *run) {
+static em_code put_head(em_machine *machine, kept *run) {
   uint16_t words[WORDS];
   uint64_t size = 0;
-  uint32_t why = em_memory_size(machine, &size);
+  em_code why = em_memory_size(machine, &size);
   for (uint32_t i = 0; i < WORDS && why == EM_OK; i++) why = read_word(machine, i, &words[i], &run->counter);
   if (why != EM_OK) return why;
   kept_head(size, machine->state >> BUDGET, words, &run->text);
@@ -77,7 +88,19 @@ static bool has_begun(const em_machine *machine) {
   return machine->state & WENT_BACK || em_can_go_back(machine, &events) != EM_OK || events > 0;
 }
 
-uint32_t em_record_to(em_machine *machine, const char *path) {
+/* Begins to keep a run: the file, and in it what the machine was made of. */
+static em_code begin(em_machine *machine, kept *run, const char *path) {
+  int error = run->is_mapped ? map_begins(run, path) : write_begins(run, path);
+  if (error != 0) {
+    fail(run, error);
+    return EM_FILE;
+  }
+  em_code why = put_head(machine, run);
+  if (why != EM_OK) close_file(run);
+  return why;
+}
+
+static em_code record(em_machine *machine, const char *path, bool is_mapped) {
   if (machine->state & CALLING) return EM_BUSY;
   if (!machine->made) return EM_NOT_MADE;
   if (machine->state & KEPT) return EM_RECORDED;
@@ -86,15 +109,14 @@ uint32_t em_record_to(em_machine *machine, const char *path) {
   if (run == NULL) return EM_MEMORY;
   run->ram = machine->ram;
   run->fault = 0;
+  run->is_mapped = is_mapped;
   run->name = NULL;
   run->line = 0;
-  run->file = open(path, O_WRONLY | O_CREAT | O_TRUNC | O_APPEND | O_CLOEXEC, 0666);
-  uint32_t why = run->file < 0 ? (uint32_t)EM_FILE : put_head(machine, run);
+  em_code why = begin(machine, run, path);
   if (why != EM_OK) {
-    int error = run->fault != 0 ? run->fault : errno;
-    if (run->file >= 0) (void)close(run->file);
+    const int error = run->fault;
     free(run);
-    errno = error;
+    if (error != 0) errno = error;
     return why;
   }
   machine->ram = (em_ram){run, NULL, NULL, NULL, 0};
@@ -102,16 +124,20 @@ uint32_t em_record_to(em_machine *machine, const char *path) {
   return EM_OK;
 }
 
+em_code em_record_to(em_machine *machine, const char *path) { return record(machine, path, false); }
+
+em_code em_record_mapped(em_machine *machine, const char *path) { return record(machine, path, true); }
+
 void keep_no_more(em_machine *machine) {
   if (!(machine->state & KEPT)) return;
   kept *run = kept_of(machine);
-  if (run->file >= 0) (void)close(run->file);
+  close_file(run);
   machine->ram = run->ram;
   machine->state &= ~(uint32_t)KEPT;
   free(run);
 }
 
-uint32_t em_recording_status(em_machine *machine, int *error) {
+em_code em_recording_status(em_machine *machine, int *error) {
   if (machine->state & CALLING) return EM_BUSY;
   if (!machine->made) return EM_NOT_MADE;
   if (!(machine->state & KEPT)) return EM_UNRECORDED;
@@ -121,7 +147,7 @@ uint32_t em_recording_status(em_machine *machine, int *error) {
   return EM_FILE;
 }
 
-uint32_t em_source(em_machine *machine, const char *file, uint32_t line) {
+em_code em_source(em_machine *machine, const char *file, uint32_t line) {
   if (machine->state & CALLING) return EM_BUSY;
   if (!machine->made) return EM_NOT_MADE;
   if (machine->state & KEPT) {

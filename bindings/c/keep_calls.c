@@ -9,70 +9,70 @@ static const uint8_t *name_of(const kept *run) { return (const uint8_t *)(run->n
 #define OF(run) name_of(run), strlen((const char *)name_of(run)), (run)->line, (run)->counter
 
 /* Puts the lines of a call that gave a number into the file. */
-static uint32_t put(kept *run, uint32_t code) {
+static em_code put(kept *run, em_code code) {
   put_lines(run);
   return code;
 }
 
 /* The newest event is told, where the call was not refused. */
-static uint32_t told(const em_machine *machine, uint32_t code, em_note *event) {
+static em_code told(const em_machine *machine, em_code code, em_note *event) {
   return code == EM_OK ? em_event(machine, 0, event) : code;
 }
 
 /* ---- one event */
 
-uint32_t keep_read(em_machine *machine, uint32_t offset, uint32_t *value) {
+em_code keep_read(em_machine *machine, uint32_t offset, uint32_t *value) {
   kept *run = kept_of(machine);
   em_note event;
-  uint32_t code = told(machine, put(run, kept_read(machine, offset, OF(run), &run->text)), &event);
+  em_code code = told(machine, put(run, kept_read(machine, offset, OF(run), &run->text)), &event);
   if (code == EM_OK) *value = event.value;
   return code;
 }
 
-uint32_t keep_write(em_machine *machine, uint32_t offset, uint32_t value) {
+em_code keep_write(em_machine *machine, uint32_t offset, uint32_t value) {
   kept *run = kept_of(machine);
   return put(run, kept_write(machine, offset, value, OF(run), &run->text));
 }
 
-uint32_t keep_poke(em_machine *machine, uint64_t address, const uint8_t *octets, size_t length) {
+em_code keep_poke(em_machine *machine, uint64_t address, const uint8_t *octets, size_t length) {
   kept *run = kept_of(machine);
   return put(run, kept_poke(machine, address, octets, length, OF(run), &run->text));
 }
 
-uint32_t keep_arrive(em_machine *machine, const uint8_t *frame, size_t length, em_note *event) {
+em_code keep_arrive(em_machine *machine, const uint8_t *frame, size_t length, em_note *event) {
   kept *run = kept_of(machine);
   return told(machine, put(run, kept_arrive(machine, frame, length, OF(run), &run->text)), event);
 }
 
-uint32_t keep_set_link(em_machine *machine, bool up) {
+em_code keep_set_link(em_machine *machine, bool up) {
   kept *run = kept_of(machine);
   return put(run, kept_set_link(machine, up, OF(run), &run->text));
 }
 
-uint32_t keep_rx_step(em_machine *machine, em_note *event) {
+em_code keep_rx_step(em_machine *machine, em_note *event) {
   kept *run = kept_of(machine);
   return told(machine, put(run, kept_rx_step(machine, OF(run), &run->text)), event);
 }
 
-uint32_t keep_tx_step(em_machine *machine, em_note *event) {
+em_code keep_tx_step(em_machine *machine, em_note *event) {
   kept *run = kept_of(machine);
   return told(machine, put(run, kept_tx_step(machine, OF(run), &run->text)), event);
 }
 
 /* ---- several */
 
-uint32_t keep_back(em_machine *machine, size_t n, size_t *done) {
+em_code keep_back(em_machine *machine, size_t n, size_t *done) {
   kept *run = kept_of(machine);
   if (n == 0) return proved_back(machine, n, done);
   return put(run, kept_back(machine, n, OF(run), &run->text, done));
 }
 
 /* As em_sync_in_range does it: one memory write from the first octet that differs to the last, or none. */
-uint32_t keep_sync_in_range(em_machine *machine, uint64_t address, const uint8_t *octets, size_t length, size_t *writes) {
+em_code keep_sync_in_range(em_machine *machine, uint64_t address, const uint8_t *octets, size_t length, size_t *writes) {
   uint8_t old[MOST];
   size_t first = 0, last = length;
   if (length > sizeof old) return proved_sync_in_range(machine, address, octets, length, writes); /* (it is refused) */
-  uint32_t why = em_peek(machine, address, old, length);
+  em_code why = em_peek(machine, address, old, length);
   if (why != EM_OK) return why;
   while (first < length && old[first] == octets[first]) first++;
   while (last > first && old[last - 1] == octets[last - 1]) last--;
@@ -82,11 +82,11 @@ uint32_t keep_sync_in_range(em_machine *machine, uint64_t address, const uint8_t
 }
 
 /* As em_sync_in does it: so in each page. */
-uint32_t keep_sync_in(em_machine *machine, const uint8_t *ram, size_t size, size_t *writes) {
+em_code keep_sync_in(em_machine *machine, const uint8_t *ram, size_t size, size_t *writes) {
   enum { PAGE = 4096 };
   uint64_t all = 0;
   size_t one = 0;
-  uint32_t why = em_memory_size(machine, &all);
+  em_code why = em_memory_size(machine, &all);
   if (why != EM_OK || size != all) return proved_sync_in(machine, ram, size, writes); /* (it is refused) */
   *writes = 0;
   for (size_t at = 0; at < size && why == EM_OK; at += PAGE) {
@@ -98,7 +98,7 @@ uint32_t keep_sync_in(em_machine *machine, const uint8_t *ram, size_t size, size
 
 /* ---- where calls come from */
 
-uint32_t keep_tag(em_machine *machine, uint64_t tag) {
+em_code keep_tag(em_machine *machine, uint64_t tag) {
   kept_of(machine)->name = NULL;
   kept_of(machine)->counter = tag;
   return proved_tag(machine, tag);

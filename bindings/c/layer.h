@@ -7,6 +7,9 @@
 
 #include "bunjelav.h"
 
+/* What a call gives is not looked at: it was made to leave all as it was, and there is no more to do where it can't. */
+static inline void ignore(em_code code) { (void)code; }
+
 #define PROVED(call) extern __typeof__(em_##call) proved_##call
 PROVED(make);
 PROVED(make_with_eeprom);
@@ -41,10 +44,21 @@ typedef struct kept_text {
   uint8_t octets[49152];
 } kept_text;
 
+/* a file that is mapped: a window of it lies in memory, where the lines are put */
+typedef struct kept_map {
+  uint8_t *window; /* NULL where there is none */
+  uint64_t begin;  /* where it begins in the file */
+  uint64_t end;    /* up to where lines may be put */
+  uint64_t used;   /* how many octets the lines have */
+  uint64_t size;   /* and how many the file has */
+} kept_map;
+
 typedef struct kept {
   em_ram ram;       /* what is attached */
   int file;         /* where the lines go; below 0 where they go nowhere any more */
   int fault;        /* by which error, then */
+  bool is_mapped;   /* the lines go there by a mapping, and else by write(2) */
+  kept_map map;
   const char *name; /* where the next calls come from: a line of this file, */
   uint32_t line;
   uint64_t counter; /* or else this program counter, where it is not 0 */

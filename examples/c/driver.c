@@ -8,6 +8,7 @@
    What the driver stores there is no event by itself: the adapter sees it when a step needs it. To have the line at which
    a descriptor was written, the harness brings the ring over before each access and arrival, under the line as its tag. A
    store is so found between the line before it and the line that is told. */
+#include "limit.h"
 #include "bunjelav.h"
 
 #include <stdio.h>
@@ -66,9 +67,9 @@ static em_machine machine = EM_NO_MACHINE;
 static const em_region memory = {0, sizeof ram, ram};
 static const em_ram attached = {NULL, NULL, NULL, &memory, 1};
 
-static void must(uint32_t refusal) {
-  if (refusal == EM_OK) return;
-  fprintf(stderr, "driver: refused: %u\n", (unsigned)refusal);
+static void must(em_code code) {
+  if (code == EM_OK) return;
+  fprintf(stderr, "driver: refused: %s\n", em_strerror(code));
   exit(1);
 }
 
@@ -127,6 +128,7 @@ static void who_gave(unsigned index) {
 int main(void) {
   static const uint8_t mac[6] = {0x52, 0x54, 0x00, 0x12, 0x34, 0x56};
   uint8_t frame[60] = {0xFF, 0xFF, 0xFF, 0xFF, 0xFF, 0xFF};
+  set_limit(LIMIT, "driver: it took 10 seconds: what loop of the driver waits for what the adapter never does?\n");
   must(em_make(&machine, MEMORY, 1048576, mac));
   must(em_attach(&machine, &attached));
   must(em_set_link(&machine, true));

@@ -5,6 +5,7 @@
 
    A virtual machine calls bar_read and bar_write where its guest touches the window, and deliver where its network has
    a frame. Here main plays the guest: a driver that enables interrupts, gives buffers, and answers each interrupt. */
+#include "limit.h"
 #include "bunjelav.h"
 
 #include <stdio.h>
@@ -18,9 +19,9 @@ typedef struct nic {
 } nic;
 
 /* What this program can't go on after. */
-static void must(uint32_t refusal, const char *what) {
-  if (refusal == EM_OK) return;
-  fprintf(stderr, "mmio: %s was refused: %u\n", what, (unsigned)refusal);
+static void must(em_code code, const char *what) {
+  if (code == EM_OK) return;
+  fprintf(stderr, "mmio: %s was refused: %s\n", what, em_strerror(code));
   exit(1);
 }
 
@@ -73,10 +74,11 @@ static void bar_write(void *opaque, uint64_t offset, uint32_t value) {
 
 /* The network has a frame. */
 static void deliver(nic *n, const uint8_t *frame, size_t length) {
+  set_limit(LIMIT, "mmio: a frame took 10 seconds: what loop waits for what the guest or the adapter never does?\n");
   em_note event;
-  uint32_t refusal = em_arrive(&n->machine, frame, length, &event);
-  if (refusal == EM_LENGTH) return; /* no Ethernet frame has such a length */
-  must(refusal, "a frame");
+  em_code code = em_arrive(&n->machine, frame, length, &event);
+  if (code == EM_LENGTH) return; /* no Ethernet frame has such a length */
+  must(code, "a frame");
   printf("frame of %zu octets: %s\n", length, event.kind == EM_STORED ? "stored" : "dropped");
   run_engines(n);
 }
@@ -87,10 +89,8 @@ enum { ICR = 0x00C0, IMS = 0x00D0, RCTL = 0x0100, RDBAL = 0x2800, RDLEN = 0x2808
 enum { RXT0 = 0x80, EN = 0x2, BAM = 0x8000, RING = 0x1000, BUFFERS = 0x2000 };
 
 static void start_driver(nic *n) {
-  for (unsigned i = 0; i < 8; i++) { /* the addresses of the buffers, low octet first */
-    const uint8_t address[8] = {0, (uint8_t)((BUFFERS + 0x800 * i) >> 8)};
-    memcpy(n->ram + RING + 16 * i, address, sizeof address);
-  }
+  /* the addresses of the buffers, low octet first, of which the second alone is not 0 */
+  for (unsigned i = 0; i < 8; i++) n->ram[RING + 16 * i + 1] = (uint8_t)((BUFFERS + 0x800 * i) >> 8);
   bar_write(n, RDBAL, RING);
   bar_write(n, RDLEN, 8 * 16);
   bar_write(n, RDT, 7);
@@ -100,6 +100,7 @@ static void start_driver(nic *n) {
 
 static void handle_interrupt(nic *n) {
   while (n->level) printf("  guest reads ICR: %08X\n", (unsigned)bar_read(n, ICR));
+  set_limit(0, NULL);
 }
 
 /* The next frame of the file: a line of hexadecimal digits. */

@@ -2,10 +2,19 @@
 
     PYTHONPATH=bindings/python python3 examples/python/test_driver.py
 """
+import signal
 import unittest
 
 from bunjelav import Machine
 from driver import BUFFERS, COUNT, DESCRIPTOR, RING, STATUS, Driver
+
+
+# seconds that a test may take
+LIMIT = 10
+
+
+def too_long(_signal, _frame):
+    raise TimeoutError(f"it took {LIMIT} seconds: what loop of the driver waits for what the adapter never does?")
 
 
 def frame(number):
@@ -15,6 +24,9 @@ def frame(number):
 
 class TheDriver(unittest.TestCase):
     def setUp(self):
+        signal.signal(signal.SIGALRM, too_long)
+        signal.alarm(LIMIT)
+        self.addCleanup(signal.alarm, 0)
         self.nic = Machine()
         self.nic.link = True
         self.driver = Driver(self.nic)

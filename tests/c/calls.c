@@ -131,8 +131,9 @@ static void lists_registers(void) {
     k++;
   }
   CHECK(k == count && (count == EM_REGISTERS || all[count].offset == 0x09090909));
-  for (uint32_t offset = 0x2800; offset < 0x5800; offset += 4) (void)em_write(&machine, offset, UINT32_MAX);
-  for (uint32_t offset = 0x0C0; offset < 0x2800; offset += 4) (void)em_write(&machine, offset, UINT32_MAX);
+  for (uint32_t offset = 0x2800; offset < 0x5800; offset += 4) k += em_write(&machine, offset, UINT32_MAX) == EM_OK;
+  for (uint32_t offset = 0x0C0; offset < 0x2800; offset += 4) k += em_write(&machine, offset, UINT32_MAX) == EM_OK;
+  CHECK(k > 300);
   OK(em_registers(&machine, all, EM_REGISTERS, &count));
   CHECK(count > 300 && count < EM_REGISTERS);
   em_free(&machine);
@@ -528,6 +529,31 @@ static void names_registers_and_refusals(void) {
   }
 }
 
+/* The texts that stay are those that are copied. */
+static void tells_texts(void) {
+  uint8_t room[80];
+  size_t length;
+  for (uint32_t code = 0; code < 1000; code++) {
+    bool is_one = em_refusal(code, room, sizeof room, &length) == EM_OK;
+    const char *text = em_strerror((em_code)code);
+    if (is_one) CHECK(!strcmp(text, (const char *)room));
+    else MUST(!strcmp(text, code == EM_OK ? "Ok: nothing refused it" : "Unknown: no refusal has the number"));
+  }
+  CHECK(!strcmp(em_strerror(EM_CODE_WIDE), "Unknown: no refusal has the number"));
+  CHECK(!strcmp(em_version(), EM_VERSION));
+}
+
+/* How many octets each layout has where a pointer has 8, by the sizes of its fields: a program that was compiled with
+   another one has to find its own calls (docs/DECISIONS.md). */
+static void has_its_layouts(void) {
+  if (sizeof(void *) != 8) return;
+  CHECK(sizeof(em_code) == 4 && sizeof(em_region) == 24 && sizeof(em_ram) == 40 && sizeof(em_machine) == 64);
+  CHECK(sizeof(em_note) == 32 && sizeof(em_register) == 8 && sizeof(em_ring_setup) == 32);
+  CHECK(sizeof(em_descriptor) == 20 && sizeof(em_range) == 16 && sizeof(em_watch) == 24 && sizeof(em_change) == 32);
+  CHECK(sizeof(em_reason) == 320 && sizeof(em_warning) == 296 && sizeof(em_entry) == 312);
+  CHECK(sizeof(em_fifo_state) == 32 && sizeof(em_field_row) == 24 && sizeof(em_difference) == 72);
+}
+
 static void has_many_machines(void) {
   em_machine machines[3] = {EM_NO_MACHINE, EM_NO_MACHINE, EM_NO_MACHINE};
   for (int i = 0; i < 3; i++) OK(em_make(&machines[i], 4096, 65536, MAC));
@@ -555,6 +581,8 @@ int main(void) {
   runs_the_engines();
   tells_who_did_it();
   names_registers_and_refusals();
+  tells_texts();
+  has_its_layouts();
   has_many_machines();
   return tell_counts();
 }

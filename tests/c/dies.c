@@ -1,6 +1,7 @@
-/* A process whose run is kept dies: in the middle of its calls by each of five ways, and killed from outside at any moment.
-   What its calls did that had returned stands in the file, whole, and perhaps the one that had not. `dies FOLDER ROUNDS`;
-   the last line is `N passed, M failed`. */
+/* A process whose run is kept dies: in the middle of its calls by each of five ways, and killed from outside at any
+   moment. What its calls did that had returned stands in the file, whole, and perhaps the one that had not. `dies
+   FOLDER ROUNDS`, and `dies FOLDER ROUNDS mapped` of a run that is kept by a mapping; the last line is `N passed, M
+   failed`. */
 #define _DEFAULT_SOURCE
 #include "harness.h"
 
@@ -16,6 +17,7 @@ enum { TEXT = 1 << 26, CALLS = 3000 };
 
 static char path[4000], *text;
 static volatile size_t *returned;
+static bool is_mapped;
 
 /* calls without end, or until so many have returned */
 static void drive(size_t calls) {
@@ -24,7 +26,8 @@ static void drive(size_t calls) {
   em_note note;
   uint32_t value;
   memset(frame, 0xFF, 6);
-  if (em_make(&m, MEMORY, BUDGET, MAC) != EM_OK || em_record_to(&m, path) != EM_OK) _exit(1);
+  if (em_make(&m, MEMORY, BUDGET, MAC) != EM_OK) _exit(1);
+  if ((is_mapped ? em_record_mapped(&m, path) : em_record_to(&m, path)) != EM_OK) _exit(1);
   while (*returned < calls) {
     uint32_t why = *returned % 9 == 8 ? EM_ARRIVE(&m, frame, sizeof frame, &note)
       : *returned % 2 ? EM_READ(&m, RDT, &value) : EM_WRITE(&m, RDT, (uint32_t)*returned);
@@ -43,13 +46,14 @@ static void die(int way) {
   }
 }
 
-/* What stands in the file: how many lines of calls, and whether each has the form of one. */
+/* What stands in the file: how many lines of calls, and whether each has the form of one. No octet is zero; behind a
+   mapping's last line stands blanks, and what was cut. */
 static size_t lines(bool *are_whole) {
   FILE *file = fopen(path, "r");
   size_t length = file ? fread(text, 1, TEXT - 1, file) : 0, count = 0;
   if (file) fclose(file);
   text[length] = 0;
-  *are_whole = true;
+  *are_whole = strlen(text) == length && (!is_mapped || length == 0 || text[length - 1] == ' ');
   for (char *at = text, *end; (end = strchr(at, '\n')) != NULL; at = end + 1) {
     *end = 0;
     if (*at == '#') continue;
@@ -67,7 +71,8 @@ static void is_as_it_was(bool at_rest) {
 }
 
 int main(int words, char **word) {
-  if (words != 3) return 1;
+  if (words < 3) return 1;
+  is_mapped = words > 3;
   snprintf(path, sizeof path, "%s/dies.em", word[1]);
   text = malloc(TEXT);
   returned = mmap(NULL, sizeof *returned, PROT_READ | PROT_WRITE, MAP_SHARED | MAP_ANONYMOUS, -1, 0);

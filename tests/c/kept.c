@@ -1,6 +1,7 @@
-/* A run that is kept: the line of each call, worked out by hand; each refusal; a file that can be written no more. And random
-   calls of a machine whose run is kept, beside one whose is not: they come to the same. The linker hands write to this file
-   (--wrap). `kept FOLDER` leaves its files there; the last line is `N passed, M failed`. */
+/* A run that is kept: the line of each call, worked out by hand; each refusal; a file that can be written no more. And
+   random calls of a machine whose run is kept, beside one whose is not: they come to the same. The linker hands write
+   to this file (--wrap). `kept FOLDER ROUNDS` leaves its files there; with `mapped` behind that the runs are kept by a
+   mapping, of whose refusals mapped.c is. The last line is `N passed, M failed`. */
 #define _POSIX_C_SOURCE 200809L
 #include "harness.h"
 
@@ -14,7 +15,12 @@
 enum { TEXT = 1 << 20, PATH = 4000, TX_BUFFER = 0xA000 };
 
 static const char *folder;
+static bool is_mapped;
 static uint8_t ram[MEMORY];
+
+static uint32_t record(em_machine *machine, const char *to) {
+  return is_mapped ? em_record_mapped(machine, to) : em_record_to(machine, to);
+}
 
 /* ---- writes that fail */
 
@@ -54,11 +60,13 @@ static void want(const char *form, ...) {
   va_end(words);
 }
 
+/* How many octets the file has, and puts them there; without the blanks that stand behind a mapping's lines. */
 static size_t in_file(void) {
   int file = open(path, O_RDONLY);
   size_t length = 0;
   for (ssize_t done = 1; file >= 0 && done > 0; length += (size_t)done) done = read(file, there + length, TEXT - length);
   if (file >= 0) close(file);
+  while (is_mapped && length > 0 && there[length - 1] == ' ') length--;
   return length;
 }
 
@@ -81,7 +89,7 @@ static void want_frame(size_t length, const char *behind) {
 static em_machine kept(const char *name) {
   em_machine machine = made();
   named(name);
-  OK(em_record_to(&machine, path));
+  OK(record(&machine, path));
   want(HEAD);
   CHECK(is_there());
   return machine;
@@ -136,7 +144,7 @@ static void keeps_places(void) {
   /* a tag that was set before */
   m = made();
   named("tag.em");
-  OK(em_tag(&m, 5)), OK(em_record_to(&m, path)), OK(em_write(&m, IMS, 1));
+  OK(em_tag(&m, 5)), OK(record(&m, path)), OK(em_write(&m, IMS, 1));
   want(HEAD "w 000000D0 00000001 = ok @ 0x0000000000000005\n");
   CHECK(is_there());
   em_free(&m);
@@ -230,7 +238,7 @@ static bool writes_there = true;
 static bool read_there(void *context, uint64_t address, uint8_t *out, size_t length) {
   em_machine *m = context;
   int fault;
-  CHECK(em_record_to(m, path) == EM_BUSY && em_source(m, "x", 1) == EM_BUSY && em_recording_status(m, &fault) == EM_BUSY);
+  CHECK(record(m, path) == EM_BUSY && em_source(m, "x", 1) == EM_BUSY && em_recording_status(m, &fault) == EM_BUSY);
   memcpy(out, ram + address, length);
   return true;
 }
@@ -293,7 +301,7 @@ static void keeps_the_eeprom(void) {
   for (unsigned i = 0; i < 64; i++) words[i] = (uint16_t)(0xA000 + i);
   named("eeprom.em");
   OK(em_make_with_eeprom(&m, 4096, 65536, words));
-  OK(em_record_to(&m, path));
+  OK(record(&m, path));
   want("# em_debug --memory 4096 --budget 65536 --mac 00A001A002A0\n# eeprom ");
   for (unsigned i = 0; i < 64; i++) want("%04X", words[i]);
   want("\n");
@@ -309,29 +317,29 @@ static void refuses_calls(void) {
   int fault = 77;
   named("refused.em");
   unlink(path);
-  REFUSED(em_record_to(&m, path), EM_NOT_MADE);
+  REFUSED(record(&m, path), EM_NOT_MADE);
   REFUSED(em_source(&m, "x", 1), EM_NOT_MADE);
   REFUSED(em_recording_status(&m, &fault), EM_NOT_MADE);
   m = made();
   REFUSED(em_recording_status(&m, &fault), EM_UNRECORDED);
   OK(em_source(&m, "x", 1)); /* which no line shows */
   OK(em_write(&m, IMS, 1));
-  REFUSED(em_record_to(&m, path), EM_BEGUN);
+  REFUSED(record(&m, path), EM_BEGUN);
   OK(em_back(&m, 1, &done));
-  REFUSED(em_record_to(&m, path), EM_BEGUN);
+  REFUSED(record(&m, path), EM_BEGUN);
   em_free(&m);
   m = made();
   OK(em_back(&m, 1, &done)); /* of nothing */
-  REFUSED(em_record_to(&m, "/nowhere/at/all"), EM_FILE);
+  REFUSED(record(&m, "/nowhere/at/all"), EM_FILE);
   CHECK(errno == ENOENT && reach(&m) == 0);
-  REFUSED(em_record_to(&m, "/dev/full"), EM_FILE);
-  CHECK(errno == ENOSPC && m.state == (uint32_t)BUDGET << 4);
+  REFUSED(record(&m, "/dev/full"), EM_FILE);
+  CHECK(errno == (is_mapped ? EINVAL : ENOSPC) && m.state == (uint32_t)BUDGET << 4); /* (it can't be cut) */
   granted = 0, once = true;
-  REFUSED(em_record_to(&m, path), EM_MEMORY);
+  REFUSED(record(&m, path), EM_MEMORY);
   CHECK(access(path, F_OK) != 0 && fault == 77);
   granted = -1;
-  OK(em_record_to(&m, path));
-  REFUSED(em_record_to(&m, path), EM_RECORDED);
+  OK(record(&m, path));
+  REFUSED(record(&m, path), EM_RECORDED);
   OK(em_recording_status(&m, &fault));
   OK(em_recording_status(&m, &fault));
   CHECK(fault == 77);
@@ -392,7 +400,7 @@ static void goes_on(int how, size_t part) {
   }
   CHECK(is_there());
   OK(em_write(&m, IMS, 8)); /* and on */
-  REFUSED(em_record_to(&m, path), how == EINTR ? EM_RECORDED : EM_BEGUN);
+  REFUSED(record(&m, path), how == EINTR ? EM_RECORDED : EM_BEGUN);
   em_free(&m);
 }
 
@@ -440,14 +448,14 @@ static void calls_at_random(unsigned rounds) {
   em_machine m = made(), n = made();
   unsigned all = 0;
   named("random.em");
-  OK(em_record_to(&m, path));
+  OK(record(&m, path));
   for (unsigned i = 0; i < rounds; i++) {
     uint32_t offset = offsets[draw(sizeof offsets / sizeof *offsets)], a[2] = {0, 0}, b = draw(8) ? draw(16) : draw(1u << 31);
     size_t done[2] = {0, 0}, length = draw(200), at = draw(8) * 16 + (draw(2) ? RX_RING : TX_RING);
     em_note notes[2] = {{0, 0, 0, 0, 0}, {0, 0, 0, 0, 0}};
     uint8_t octets[256];
     uint32_t codes[2];
-    em_source(&m, draw(2) ? "random.c" : NULL, i);
+    MUST(em_source(&m, draw(2) ? "random.c" : NULL, i) == EM_OK);
 #define BOTH(call, ...) \
   (codes[0] = em_##call(&m, __VA_ARGS__), codes[1] = em_##call(&n, __VA_ARGS__))
     em_machine *machines[2] = {&m, &n};
@@ -488,6 +496,7 @@ static void calls_at_random(unsigned rounds) {
 int main(int words, char **word) {
   if (words < 2) return 1;
   folder = word[1];
+  is_mapped = words > 3;
   keeps_registers();
   keeps_places();
   keeps_octets();
@@ -496,8 +505,7 @@ int main(int words, char **word) {
   keeps_the_eeprom();
   refuses_calls();
   keeps_want_of_memory();
-  goes_on(ENOSPC, 10), goes_on(0, 25), goes_on(EINTR, 1), goes_on(EIO, 100);
-  tears();
+  if (!is_mapped) goes_on(ENOSPC, 10), goes_on(0, 25), goes_on(EINTR, 1), goes_on(EIO, 100), tears();
   calls_at_random(words > 2 ? (unsigned)atoi(word[2]) : 20000);
   CHECK(blocks == 0);
   return tell_counts();

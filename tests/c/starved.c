@@ -214,6 +214,58 @@ static void is_not_made(void) {
   }
 }
 
+/* ---- texts, which have no bound */
+
+static uint32_t says_ring(em_machine *m, uint8_t *out, size_t *n) { return em_ring_text(m, 1, out, MEMORY, n); }
+static uint32_t says_fifo(em_machine *m, uint8_t *out, size_t *n) { return em_fifo_text(m, out, MEMORY, n); }
+static uint32_t says_effect(em_machine *m, uint8_t *out, size_t *n) { return em_effect(m, 0, out, MEMORY, n); }
+
+/* a list, in the place of a text: it fills as many octets of the room */
+static uint32_t tells_differences(em_machine *m, uint8_t *out, size_t *n) {
+  static em_difference list[64];
+  size_t count = 12345;
+  uint32_t code = em_differences(m, 0, list, 64, &count);
+  if (code == EM_OK) {
+    memcpy(out, list, count * sizeof *list);
+    *n = count * sizeof *list - 1;
+  }
+  CHECK(code == EM_OK || count == 12345);
+  return code;
+}
+
+/* a look for which memory is refused tells nothing, and leaves all as it was */
+static void tells_no_text(void) {
+  uint32_t (*const texts[])(em_machine *, uint8_t *, size_t *) =
+    {says_ring, says_fifo, says_effect, tells_differences};
+  static uint8_t wanted[MEMORY], told[MEMORY];
+  em_machine machine = made();
+  with_frames(&machine);
+  struct seen *before = see(&machine);
+  for (size_t i = 0; i < sizeof texts / sizeof *texts; i++) {
+    size_t length = 0;
+    memset(wanted, 7, sizeof wanted);
+    OK(texts[i](&machine, wanted, &length));
+    for (int mode = 0; mode < 2; mode++) {
+      long n = 0, held = blocks;
+      uint32_t code = EM_MEMORY;
+      once = mode == 1;
+      for (; n < 100 && code == EM_MEMORY; n++) {
+        size_t count = 12345;
+        memset(told, 7, sizeof told);
+        granted = n;
+        code = texts[i](&machine, told, &count);
+        granted = -1;
+        CHECK(code == EM_OK || code == EM_MEMORY);
+        CHECK(count == (code == EM_OK ? length : 12345) && told[code == EM_OK ? length + 1 : 0] == 7);
+      }
+      CHECK(code == EM_OK && n > 1 && memcmp(told, wanted, sizeof told) == 0 && blocks == held);
+    }
+  }
+  CHECK(is_as(&machine, before));
+  free(before);
+  em_free(&machine);
+}
+
 /* these ask for no memory */
 static void asks_for_none(void) {
   em_machine machine = made();
@@ -223,6 +275,11 @@ static void asks_for_none(void) {
   em_ring_setup ring;
   em_descriptor descriptor;
   em_range ranges[2][2];
+  em_reason reason;
+  em_warning warnings[6];
+  em_entry entry;
+  em_fifo_state fifo;
+  em_field_row field;
   const em_region whole = {0, MEMORY, own};
   const em_ram memory = {NULL, NULL, NULL, &whole, 1};
   uint64_t size;
@@ -256,6 +313,15 @@ static void asks_for_none(void) {
   OK(em_detach(&machine));
   OK(em_ring_needs(&machine, EM_RX_RING, ranges[0], ranges[1]));
   OK(em_written(&machine, 0, ranges[0]));
+  OK(em_event(&machine, 0, &event));
+  OK(em_why(&machine, &event, EM_OK, frame, 0, &reason));
+  OK(em_warnings(&machine, warnings, &count));
+  REFUSED(em_ring_entry(&machine, EM_RX_RING, ring.count, &entry), EM_NO_DESCRIPTOR);
+  OK(em_fifo(&machine, &fifo));
+  OK(em_fifo_frame(&machine, all->memory, MEMORY, &count));
+  OK(em_gathered(&machine, all->memory, MEMORY, &count));
+  OK(em_field(RCTL, 0, &field));
+  OK(em_value_text(RCTL, 2, all->memory, MEMORY, &count));
   OK(em_memory_size(&machine, &size));
   OK(em_set_link(&machine, true));
   OK(em_rx_step(&machine, &event)); /* idle */
@@ -286,6 +352,7 @@ int main(void) {
   memset(ram, 9, sizeof ram);
   is_not_made();
   is_refused_memory();
+  tells_no_text();
   asks_for_none();
   return tell_counts();
 }

@@ -1,6 +1,7 @@
 /* Machines and threads: one machine that goes from thread to thread, one machine for each of several threads, and
    several machines that several threads take under locks, all at the same time. What they give was worked out from the
-   manual's tables. The last line is `N passed, M failed`; a second word is the number of rounds (1,000). */
+   manual's tables. `threads ROUNDS FOLDER` makes so many rounds (1,000), and keeps the runs of the machines that have a
+   thread of their own in the folder. The last line is `N passed, M failed`. */
 #define _POSIX_C_SOURCE 200809L
 #include "bunjelav.h"
 
@@ -15,6 +16,7 @@ enum { EN_AND_BAM = 0x8002 };
 
 static const uint8_t MAC[6] = {0x52, 0x54, 0x00, 0x12, 0x34, 0x56};
 static unsigned rounds = 1000;
+static const char *folder;
 
 /* what one thread counted */
 struct counts {
@@ -91,13 +93,24 @@ static void receive(em_machine *machine, struct counts *counts, uint8_t octet) {
   CHECK(counts, em_peek(machine, BUFFER + 2048 * head, out, LENGTH) == EM_OK && memcmp(out, frame, LENGTH));
 }
 
+/* The runs of half of the threads are kept by a mapping, and of the others by write(2). */
+static void keep(struct owner *owner) {
+  char path[4000];
+  snprintf(path, sizeof path, "%s/%u.em", folder, owner->number);
+  em_machine *machine = &owner->machine;
+  CHECK(&owner->counts, (owner->number % 2 ? em_record_mapped(machine, path) : em_record_to(machine, path)) == EM_OK);
+}
+
 static void *owns(void *given) {
   struct owner *owner = given;
   struct counts *counts = &owner->counts;
   em_machine *machine = &owner->machine;
   uint8_t name[9];
   size_t length;
-  CHECK(counts, em_make(machine, MEMORY, BUDGET, MAC) == EM_OK && em_set_link(machine, true) == EM_OK);
+  int fault;
+  CHECK(counts, em_make(machine, MEMORY, BUDGET, MAC) == EM_OK);
+  if (folder != NULL) keep(owner);
+  CHECK(counts, em_set_link(machine, true) == EM_OK);
   for (unsigned i = 0; i < 8; i++) {
     const uint8_t at[2] = {0, (uint8_t)((BUFFER + 2048 * i) >> 8)};
     CHECK(counts, em_poke(machine, RING + 16 * i, at, sizeof at) == EM_OK);
@@ -108,6 +121,7 @@ static void *owns(void *given) {
     receive(machine, counts, (uint8_t)(owner->number + round));
     CHECK(counts, em_name(RDT, name, sizeof name, &length) == EM_OK && length == 3 && !memcmp(name, "RDT", 3));
   }
+  CHECK(counts, em_recording_status(machine, &fault) == (folder != NULL ? EM_OK : EM_UNRECORDED));
   return NULL;
 }
 
@@ -162,6 +176,7 @@ int main(int words, char **word) {
   pthread_t threads[3][THREADS];
   uint32_t value = 0;
   if (words > 1) rounds = (unsigned)strtoul(word[1], NULL, 10);
+  if (words > 2) folder = word[2];
   CHECK(&all, em_make(&baton.machine, MEMORY, BUDGET, MAC) == EM_OK);
   CHECK(&all, em_write(&baton.machine, RAL0 + 8, 0) == EM_OK);
   for (unsigned k = 0; k < MACHINES; k++) {

@@ -2,6 +2,7 @@
 import array
 import copy
 import doctest
+import errno
 import inspect
 import mmap
 import os
@@ -168,7 +169,7 @@ class MemoryAndFrames(unittest.TestCase):
         m.TDBAL, m.TDLEN, m.TCTL, m.TDT = 0x2000, 128, 2, 1
         m.tx_step()
         sent = m.ring("tx")[0]
-        self.assertEqual(sent, (0, False, BUFFER, 60, 0x09, 1, 0x1234))
+        self.assertEqual(sent, (0, False, BUFFER, 60, 0x09, 1, 0x1234, ""))
         self.assertEqual((sent.length, sent.command, sent.status, sent.special), (60, 0x09, 1, 0x1234))
         m = receiving()
         m.memory[RING : RING + 16] = BUFFER.to_bytes(8, "little") + bytes([60, 0, 7, 8, 0x03, 0x05, 0x34, 0x12])
@@ -553,6 +554,21 @@ class Kept(unittest.TestCase):
         m.IMS = 1
         self.assertEqual(self.kept(), ["w 000000D0 00000001 = ok", "w 000000D0 00000001 = ok @ 0x0000000000001234"])
 
+    def test_by_a_mapping(self):
+        m = Machine()
+        with self.assertRaises(bunjelav.File) as refused:
+            m.record_to("/dev/full", mapped=True)
+        self.assertEqual(refused.exception.__cause__.errno, errno.EINVAL)
+        m.record_to(self.path, mapped=True)
+        self.assertRaises(bunjelav.File, Machine().record_to, self.path, mapped=True)
+        m.IMS = 4
+        at = line() - 1
+        # ahead of the lines the file is blank
+        self.assertEqual(self.kept(), [f"w 000000D0 00000004 = ok @ calls.py:{at}", " " * len(self.kept()[-1])])
+        self.assertTrue(m.recording())
+        m.close()
+        self.assertEqual(self.kept(), [f"w 000000D0 00000004 = ok @ calls.py:{at}"])
+
     def test_what_is_refused(self):
         m = Machine()
         with self.assertRaises(bunjelav.File) as refused:
@@ -582,10 +598,112 @@ class Kept(unittest.TestCase):
         self.assertEqual(m.read("IMS"), 12)
 
 
+class Explained(unittest.TestCase):
+    def test_idle_steps(self):
+        m = Machine()
+        self.assertIsNone(m.why())
+        self.assertTrue(m.tx_step().is_idle)
+        self.assertEqual(m.why(), ("tx disabled", "TCTL.EN is clear", {}))
+        m.RDLEN, m.RDT, m.RCTL = 128, 16, 2
+        self.assertTrue(m.rx_step().is_idle)
+        tail_past = ("rx tail past", "RDT 16 is past the ring of 8", {"index": 16, "count": 8})
+        self.assertEqual(m.why(), tail_past)
+        # it stays as it was then
+        m.RDT = 4
+        self.assertEqual((m.why(), str(m.why())), (tail_past, "RDT 16 is past the ring of 8"))
+        self.assertEqual(m.run(), 0)
+        self.assertEqual(m.why().rule, "tx disabled")
+        m.TDLEN, m.TCTL = 128, 2
+        self.assertEqual((m.run(0), m.why().rule), (0, "tx disabled"))
+        self.assertEqual((m.run(), m.why().text), (0, "the ring is empty (TDH = TDT = 0)"))
+
+    def test_drops(self):
+        m = Machine()
+        m.arrive(FRAME)
+        self.assertEqual(m.why()[:2], ("frame down", "the link is down"))
+        m.link, m.RCTL = True, 2
+        m.arrive(FRAME)
+        self.assertEqual((m.why().rule, m.why().numbers), ("frame broadcast", {"value": 0xFFF, "to": b"\xff" * 6}))
+        m.RCTL = 0x8002
+        m.arrive(FRAME)
+        m.arrive(FRAME[:20])
+        short = ("frame undersize", "24 octets with the FCS are below 64", {"octets": 24, "most": 64})
+        self.assertEqual(m.why(), short)
+
+    def test_refusals(self):
+        m = receiving()
+        with self.assertRaises(bunjelav.NoRegister) as found:
+            m.read(4)
+        self.assertEqual(found.exception.why, ("no register", "no register lies at 000004", {"address": 4}))
+        self.assertIs(m.why(), found.exception.why)
+        with self.assertRaises(bunjelav.Range) as found:
+            m.poke(0xFFFA, bytes(16))
+        self.assertEqual(found.exception.why.text, "16 octets at 00FFFA, memory ends at 010000")
+        m.arrive(FRAME)
+        m.RDBAL = 0x10000
+        for step in (m.rx_step, m.run):
+            with self.assertRaises(bunjelav.DmaRange) as found:
+                step()
+            self.assertEqual(found.exception.why.text, "descriptor 0 at 010000, memory ends at 010000")
+        # what is no event has none
+        with self.assertRaises(bunjelav.NoRegister) as found:
+            m.look(4)
+        self.assertIsNone(found.exception.why)
+
+    def test_bits_and_fields(self):
+        self.assertEqual(bunjelav.bits_of("RDT", 5), {})
+        status = {"FD": 0, "LU": 1, "TXOFF": 0, "SPEED": 2, "ASDV": 0, "PCI66": 0}
+        self.assertEqual(bunjelav.bits_of("STATUS", 0x82), status)
+        self.assertEqual(bunjelav.words_of("STATUS", 0x82), "STATUS 00000082 LU SPEED=1000")
+        self.assertRaises(bunjelav.NoRegister, bunjelav.bits_of, 4, 0)
+        self.assertRaises(bunjelav.NoRegister, bunjelav.words_of, 4, 0)
+
+    def test_warnings(self):
+        m, told = Machine(), []
+        m.RDLEN = 128
+        self.assertEqual(m.warnings(), [])
+        m.RDT = 8
+        past = "warning tail-past-ring: RDT 8 is past the ring of 8, write an index below that"
+        self.assertEqual(m.warnings(), [("tail past ring", past, {"offset": 0x2818, "index": 8, "count": 8})])
+        m.warn(told.append)
+        m.RDT = 9
+        m.RDT = 7
+        m.read("STATUS")
+        self.assertEqual([str(one).partition(":")[0] for one in told],
+                         ["warning tail-past-ring", "warning descriptor-unwritten"])
+        m.warn(None)
+        m.RDT = 9
+        self.assertEqual(len(told), 2)
+
+    def test_rings_effects_and_the_fifo(self):
+        m = receiving()
+        self.assertEqual({one.trouble for one in m.ring("rx")}, {""})
+        m.memory[RING : RING + 8] = (RING + 8).to_bytes(8, "little")
+        m.memory[RING + 16 : RING + 24] = (BUFFER + 0x1000).to_bytes(8, "little")
+        self.assertEqual([one.trouble for one in m.ring("rx")][:4], ["over ring", "over buffer 2", "over buffer 1", ""])
+        self.assertIn("<td>over buffer 2</td>", m._repr_html_())
+        text = m.ring_text("rx").splitlines()
+        self.assertEqual((len(text), text[1].endswith("  its buffer lies over the ring")), (9, True))
+        self.assertRaises(ValueError, m.ring_text, "both")
+        self.assertEqual(m.effect(), f"  {RING + 17:06X}  48 -> 50\n")
+        self.assertEqual(m.differences(), [(slice(RING + 17, RING + 18), b"\x48", b"\x50")])
+        self.assertRaises(bunjelav.NoEvent, m.effect, m.reach)
+        self.assertRaises(bunjelav.NoEvent, m.differences, m.reach)
+        self.assertEqual(m.fifo(), (0, b"", None, b""))
+        m.arrive(FRAME)
+        self.assertEqual(m.fifo(), (1, FRAME, None, b""))
+        self.assertTrue(m.fifo_text().startswith("1 frame waits\n"))
+        # a text that is longer than the room that is tried first
+        m.poke(0, bytes([7]) * 16384)
+        self.assertGreater(len(m.effect()), 16384)
+        self.assertEqual(len(m.differences()), 1024)
+
+
 class Docs(unittest.TestCase):
     def test_the_examples(self):
-        tried = doctest.testmod(bunjelav)
-        self.assertEqual((tried.failed, tried.attempted > 5), (0, True))
+        for module in (bunjelav, bunjelav._explain, bunjelav._native):
+            tried = doctest.testmod(module)
+            self.assertEqual((tried.failed, tried.attempted > 1), (0, True))
 
 
 class Back(unittest.TestCase):

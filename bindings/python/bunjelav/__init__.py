@@ -10,6 +10,8 @@
     m.memory[0x1000:0x1004] = b"abcd"
     m.back()                       # takes the newest event back
     m.last_change("ICR")           # who changed it last?
+    m.why()                        # why was the newest step idle, the frame dropped, the call refused?
+    m.warn(print)                  # what the driver gets wrong is printed as it happens
     m.attach(ram)                  # the adapter works on a bytearray, an mmap, or what else has octets
     m.record_to("core.em")         # from the first event on each is kept, with your line: em_debug core.em
 
@@ -28,110 +30,27 @@ import html
 import operator
 import os
 import sys
-from pathlib import Path
+from pathlib import Path  # noqa: F401  (for an example)
 from typing import Any, Callable, Dict, Iterable, Iterator, List, NamedTuple, NoReturn, Optional, Union, overload
 
 from . import _refusals, _tables
+from ._explain import Difference, DriverWarning, Explained, Fifo, Reason, line_of, numbers_of, trouble_of
+from ._native import (
+    DONE, SIZE_T, U32, U64, Register, bits_of, library, must, name_of, number_of, octets_of, offset_of, refused,
+    words_of,
+)
 from ._refusals import *  # noqa: F401, F403
 from ._refusals import NoName, Refused
 
 __all__ = [
-    "Machine", "GuestMemory", "Event", "Change", "Needs", "RxDescriptor", "TxDescriptor", "name_of", "offset_of",
+    "Machine", "GuestMemory", "Event", "Change", "Needs", "RxDescriptor", "TxDescriptor", "Reason", "DriverWarning",
+    "Difference", "Fifo", "name_of", "offset_of", "bits_of", "words_of",
 ]
 __all__ += _refusals.__all__
 __version__ = _tables.VERSION
 
-Register = Union[str, int]
-
-DONE = 0
-SIZE_T, _U32, _U64 = ctypes.c_size_t, ctypes.c_uint32, ctypes.c_uint64
-
-
-def _found() -> Path:
-    """Where the library lies."""
-    named = os.environ.get("BUNJELAV_LIBRARY")
-    here = Path(__file__).resolve().parent
-    places = [here, here.parent.parent / "c" / "out", here.parents[2] / "dist" / "x86_64-linux"]
-    for place in [Path(named)] if named else [it / "libbunjelav.so" for it in places]:
-        if place.is_file():
-            return place
-    raise ImportError("there is no libbunjelav.so: BUNJELAV_LIBRARY says where it lies, or bindings/c/build makes it")
-
-
-_library = ctypes.CDLL(str(_found()), use_errno=True)
-for _name, _types in _tables.CALLS.items():
-    _call = getattr(_library, _name)
-    _call.argtypes, _call.restype = _types, None if _name == "em_free" else _U32
-
-
-# ---- refusals
-
-
-def _text(call: Callable[..., int], *words: int) -> Optional[str]:
-    """The text that a call puts into room for it."""
-    room, length = ctypes.create_string_buffer(128), SIZE_T()
-    return room.raw[: length.value].decode() if call(*words, room, 128, ctypes.byref(length)) == DONE else None
-
-
 # the names of this file, by which its frames are known
 _OWN = globals()
-
-_BY_NUMBER = {refusal.number: refusal for refusal in Refused.__subclasses__()}
-
-
-def _refused(number: int, done: int = 0) -> Refused:
-    """The exception of a refusal, which says what the library says of it."""
-    text = _text(_library.em_refusal, number) or f": refusal {number}"
-    made = _BY_NUMBER.get(number, Refused)(text.partition(": ")[2])
-    made.done = done
-    return made
-
-
-def _must(number: int, done: int = 0) -> None:
-    """Raises the exception of a refusal."""
-    if number != DONE:
-        raise _refused(number, done)
-
-
-# ---- what is taken: the library sees no number that is longer than the call's
-
-
-def _number(value: int, bits: int, what: str, refusal: str = "") -> int:
-    """A number of so many bits; another one is refused as the model would, where a refusal is named for it."""
-    number = operator.index(value)
-    if 0 <= number < 2**bits:
-        return number
-    if refusal:
-        raise _refused(_tables.REFUSALS[refusal])
-    raise ValueError(f"{what} is a number from 0 to 2^{bits} - 1, and not {number}")
-
-
-def _octets(value: bytes, what: str) -> bytes:
-    """Octets, given as bytes, as what has a buffer of them, or one by one."""
-    if isinstance(value, (int, str)):
-        raise TypeError(f"{what} is octets, and not {type(value).__name__}")
-    return bytes(value)
-
-
-# ---- names
-
-
-def offset_of(register: Register) -> int:
-    """The offset of a register, by its name or by itself."""
-    if not isinstance(register, str):
-        return _number(register, 32, "an offset", "NoRegister")
-    word, offset = register.encode(), _U32()
-    _must(_library.em_find(word, len(word), ctypes.byref(offset)))
-    return offset.value
-
-
-def name_of(offset: int) -> str:
-    """The manual's name of the register at an offset."""
-    name = _text(_library.em_name, _number(offset, 32, "an offset", "NoRegister"))
-    if name is None:
-        raise _refused(_tables.REFUSALS["NoRegister"])
-    return name
-
 
 # ---- what is told
 
@@ -164,8 +83,14 @@ class Change(NamedTuple):
     event: Event
 
 
+# the kinds of events that did nothing
+_UNDONE = {number for number, words in _tables.KINDS.items() if words.endswith("idle") or words.startswith("dropped")}
+
+_KIND = {words: number for number, words in _tables.KINDS.items()}
+
+
 class RxDescriptor(NamedTuple):
-    """A receive descriptor; `owned` says that it is the adapter's."""
+    """A receive descriptor; `owned` says that it is the adapter's, `trouble` what is wrong with it, if anything is."""
 
     index: int  # type: ignore[assignment]  # (a tuple has a method of this name)
     owned: bool
@@ -174,10 +99,11 @@ class RxDescriptor(NamedTuple):
     status: int
     errors: int
     special: int
+    trouble: str
 
 
 class TxDescriptor(NamedTuple):
-    """A transmit descriptor; `owned` says that it is the adapter's."""
+    """A transmit descriptor; `owned` says that it is the adapter's, `trouble` what is wrong with it, if anything is."""
 
     index: int  # type: ignore[assignment]  # (a tuple has a method of this name)
     owned: bool
@@ -186,6 +112,7 @@ class TxDescriptor(NamedTuple):
     command: int
     status: int
     special: int
+    trouble: str
 
 
 class Needs(NamedTuple):
@@ -213,7 +140,7 @@ class GuestMemory:
         self._machine = machine
 
     def __len__(self) -> int:
-        return self._machine._told(_library.em_memory_size, _U64())
+        return self._machine._told(library.em_memory_size, U64())
 
     def __iter__(self) -> Iterator[int]:
         return iter(self[:])
@@ -239,7 +166,7 @@ class GuestMemory:
     def __getitem__(self, where: Union[int, slice]) -> Union[int, bytes]:
         octets = self._range(where)
         room = ctypes.create_string_buffer(max(len(octets), 1))
-        _must(_library.em_peek(self._machine._at, octets.start, room, len(octets)))
+        must(library.em_peek(self._machine._at, octets.start, room, len(octets)))
         return room.raw[: len(octets)] if isinstance(where, slice) else room.raw[0]
 
     @overload
@@ -250,7 +177,7 @@ class GuestMemory:
 
     def __setitem__(self, where: Union[int, slice], value: Any) -> None:
         octets = self._range(where)
-        given = _octets(value, "memory") if isinstance(where, slice) else bytes([value])
+        given = octets_of(value, "memory") if isinstance(where, slice) else bytes([value])
         if len(given) != len(octets):
             raise ValueError(f"{len(given)} octets do not fit where {len(octets)} lie")
         for at in range(0, len(given), self.MOST):
@@ -270,7 +197,7 @@ class _Functions:
 
     def _read(self, _context: int, address: int, out: int, length: int) -> bool:
         try:
-            octets = _octets(self._ram.read(address, length), "what is read")
+            octets = octets_of(self._ram.read(address, length), "what is read")
             if len(octets) != length:
                 raise ValueError(f"{len(octets)} octets were read, and {length} were asked for")
             ctypes.memmove(out, octets, length)
@@ -301,7 +228,7 @@ class _Region:
         self.raw = _tables.Ram(regions=ctypes.pointer(self._region), count=1)
 
 
-class Machine:
+class Machine(Explained):
     """An adapter with its guest's memory and a journal of its latest events.
 
     memory: octets of guest memory, a multiple of 4,096. budget: what the journal's records may cost together; each
@@ -312,6 +239,8 @@ class Machine:
     _at: Any
     _ram: Union[None, _Functions, _Region]
     _places: Optional[Dict[str, bytes]]
+    _undone: Optional[Reason]
+    _warns: Optional[Callable[[DriverWarning], object]]
     memory: GuestMemory
 
     def __init__(
@@ -326,22 +255,24 @@ class Machine:
         set_own("_at", ctypes.byref(self._handle))
         set_own("_ram", None)
         set_own("_places", None)
+        set_own("_undone", None)
+        set_own("_warns", None)
         set_own("memory", GuestMemory(self))
-        sizes = _number(memory, 64, "a size", "Size"), _number(budget, 64, "a budget", "Budget")
+        sizes = number_of(memory, 64, "a size", "Size"), number_of(budget, 64, "a budget", "Budget")
         if eeprom is not None:
-            words = [_number(word, 16, "a word of the EEPROM") for word in eeprom]
+            words = [number_of(word, 16, "a word of the EEPROM") for word in eeprom]
             if len(words) != 64:
                 raise ValueError("an EEPROM has 64 words")
-            _must(_library.em_make_with_eeprom(self._at, *sizes, (ctypes.c_uint16 * 64)(*words)))
+            must(library.em_make_with_eeprom(self._at, *sizes, (ctypes.c_uint16 * 64)(*words)))
             return
-        address = _octets(mac, "an Ethernet address")
+        address = octets_of(mac, "an Ethernet address")
         if len(address) != 6:
             raise ValueError("an Ethernet address has 6 octets")
-        _must(_library.em_make(self._at, *sizes, address))
+        must(library.em_make(self._at, *sizes, address))
 
     def close(self) -> None:
         """Frees the machine; each later call raises NotMade."""
-        _library.em_free(self._at)
+        library.em_free(self._at)
         if not self._handle.made:  # (within a function of its memory it is not freed)
             super().__setattr__("_ram", None)
 
@@ -366,17 +297,19 @@ class Machine:
 
     def _told(self, call: Callable[..., int], room: Any, *words: object) -> int:
         """What a call tells behind its other words."""
-        _must(call(self._at, *words, ctypes.byref(room)))
+        must(call(self._at, *words, ctypes.byref(room)))
         return int(room.value)
 
     # ---- a run that is kept
 
-    def record_to(self, path: Union[str, bytes, "os.PathLike[str]"], places: bool = True) -> None:
+    def record_to(
+        self, path: Union[str, bytes, "os.PathLike[str]"], places: bool = True, mapped: bool = False
+    ) -> None:
         """Keeps what happens to the machine from now on in a file, which is made, or made empty: each event as a line of the
         script language, with its answer and, unless `places` is false, with the line of the caller. It is written before its
         call returns, so it is there however the process ends; `em_debug FILE` takes it. The machine may have performed no
         event (else Begun). Where the file can't be opened, File is raised from the OSError. Without places a tag stands
-        there.
+        there. By a mapping (`mapped`) it is quicker; nobody else may cut the file then, which would end the process.
 
         >>> import tempfile
         >>> path = Path(tempfile.mkdtemp()) / "core.em"
@@ -386,24 +319,25 @@ class Machine:
         >>> print(path.read_text().splitlines()[1])  # doctest: +ELLIPSIS
         w 000000D0 00000004 = ok @ ...:1
         """
-        number = _library.em_record_to(self._at, os.fsencode(path))
+        record = library.em_record_mapped if mapped else library.em_record_to
+        number = record(self._at, os.fsencode(path))
         if number == _tables.REFUSALS["File"]:
             error = ctypes.get_errno()
-            raise _refused(number) from OSError(error, os.strerror(error), os.fsdecode(path))
-        _must(number)
+            raise refused(number) from OSError(error, os.strerror(error), os.fsdecode(path))
+        must(number)
         super().__setattr__("_places", {} if places else None)
 
     def recording(self) -> bool:
         """Whether the run is kept, and all that happened is in the file. Where the file could not be written, OSError says
         why, once; from then on the run is not kept."""
         error = ctypes.c_int()
-        number = _library.em_recording_status(self._at, ctypes.byref(error))
+        number = library.em_recording_status(self._at, ctypes.byref(error))
         if number == _tables.REFUSALS["Unrecorded"]:
             return False
         if number == _tables.REFUSALS["File"]:
             super().__setattr__("_places", None)
             raise OSError(error.value, os.strerror(error.value))
-        _must(number)
+        must(number)
         return True
 
     def _here(self) -> None:
@@ -416,24 +350,29 @@ class Machine:
         name = frame.f_code.co_filename
         if name not in self._places:  # (the library keeps no copy)
             self._places[name] = os.fsencode(name)
-        _library.em_source(self._at, self._places[name], frame.f_lineno)
+        library.em_source(self._at, self._places[name], frame.f_lineno)
 
     # ---- registers
 
     def read(self, register: Register) -> int:
         """The driver reads a register: an event, which may clear it."""
+        value, offset = U32(), offset_of(register)
         self._here()
-        return self._told(_library.em_read, _U32(), offset_of(register))
+        self._came(library.em_read(self._at, offset, ctypes.byref(value)), _tables.Note(at=offset, kind=_KIND["read"]))
+        self._warn()
+        return value.value
 
     def write(self, register: Register, value: int) -> None:
         """The driver writes a register."""
-        given = _number(value, 32, "what a register holds")
+        given = number_of(value, 32, "what a register holds")
+        offset = offset_of(register)
         self._here()
-        _must(_library.em_write(self._at, offset_of(register), given))
+        self._came(library.em_write(self._at, offset, given), _tables.Note(at=offset, kind=_KIND["write"]))
+        self._warn()
 
     def look(self, register: Register) -> int:
         """What a read would give, with nothing changed."""
-        return self._told(_library.em_look, _U32(), offset_of(register))
+        return self._told(library.em_look, U32(), offset_of(register))
 
     def __getitem__(self, register: Register) -> int:
         return self.look(register)
@@ -461,22 +400,22 @@ class Machine:
     def registers(self) -> Dict[str, int]:
         """The registers that are not 0, by name, in the order of their offsets."""
         room, count = (_tables.Register * _tables.REGISTERS)(), SIZE_T()
-        _must(_library.em_registers(self._at, room, len(room), ctypes.byref(count)))
+        must(library.em_registers(self._at, room, len(room), ctypes.byref(count)))
         return {name_of(one.offset): one.value for one in room[: count.value]}
 
     # ---- memory, the wire, the link, the engines
 
     def poke(self, address: int, octets: bytes) -> None:
         """The driver writes 1 to 16,384 octets to guest memory: one event."""
-        given = _octets(octets, "what is written")
+        given, at = octets_of(octets, "what is written"), number_of(address, 64, "an address", "Range")
         self._here()
-        self._over(_library.em_poke(self._at, _number(address, 64, "an address", "Range"), given, len(given)))
+        self._came(library.em_poke(self._at, at, given, len(given)), _tables.Note(at=at, kind=_KIND["poke"]), given)
 
     def sync_out(self, ram: bytearray) -> None:
         """Makes a bytearray, or another buffer, what guest memory is; it has to be as large. Octets that are the same
         are not written."""
         size = memoryview(ram).nbytes
-        _must(_library.em_sync_out(self._at, (ctypes.c_uint8 * size).from_buffer(ram), size))
+        must(library.em_sync_out(self._at, (ctypes.c_uint8 * size).from_buffer(ram), size))
 
     def sync_in(self, ram: bytearray) -> int:
         """Makes guest memory what a bytearray is, which has to be as large, by a memory write in each page of 4,096
@@ -485,22 +424,22 @@ class Machine:
         writes, view = SIZE_T(), memoryview(ram)
         octets = bytes(view) if view.readonly else (ctypes.c_uint8 * view.nbytes).from_buffer(ram)
         self._here()
-        _must(_library.em_sync_in(self._at, octets, view.nbytes, ctypes.byref(writes)), writes.value)
+        must(library.em_sync_in(self._at, octets, view.nbytes, ctypes.byref(writes)), writes.value)
         return writes.value
 
     def sync_out_range(self, address: int, length: int) -> bytes:
         """Octets of guest memory: m.memory[address:address + length], which is refused where they leave it."""
-        room = ctypes.create_string_buffer(max(_number(length, 64, "a length", "Range"), 1))
-        _must(_library.em_sync_out_range(self._at, _number(address, 64, "an address", "Range"), room, length))
+        room = ctypes.create_string_buffer(max(number_of(length, 64, "a length", "Range"), 1))
+        must(library.em_sync_out_range(self._at, number_of(address, 64, "an address", "Range"), room, length))
         return room.raw[:length]
 
     def sync_in_range(self, address: int, octets: bytes) -> int:
         """Makes guest memory these octets from an address on, by one memory write from the first that differs to the
         last, or by none. Gives how many."""
-        writes, given = SIZE_T(), _octets(octets, "what is written")
-        at = _number(address, 64, "an address", "Range")
+        writes, given = SIZE_T(), octets_of(octets, "what is written")
+        at = number_of(address, 64, "an address", "Range")
         self._here()
-        _must(_library.em_sync_in_range(self._at, at, given, len(given), ctypes.byref(writes)))
+        must(library.em_sync_in_range(self._at, at, given, len(given), ctypes.byref(writes)))
         return writes.value
 
     # ---- memory of the caller's
@@ -541,14 +480,14 @@ class Machine:
             is_buffer = False
         if not is_buffer and not all(has):
             raise TypeError(f"memory is a buffer, or has read and write, and not {type(ram).__name__}")
-        at = _number(base, 64, "an address", "Range")
+        at = number_of(base, 64, "an address", "Range")
         kept: Union[_Region, _Functions] = _Region(ram, at) if is_buffer else _Functions(ram)
-        _must(_library.em_attach(self._at, ctypes.byref(kept.raw)))
+        must(library.em_attach(self._at, ctypes.byref(kept.raw)))
         super().__setattr__("_ram", kept)
 
     def detach(self) -> None:
         """From now on guest memory is the machine's own again, as it has it."""
-        _must(_library.em_detach(self._at))
+        must(library.em_detach(self._at))
         super().__setattr__("_ram", None)
 
     def _over(self, number: int, done: int = 0) -> None:
@@ -559,7 +498,29 @@ class Machine:
         if raised is not None and not isinstance(raised, Exception):
             raise raised
         if number != DONE:
-            raise _refused(number, done) from raised
+            raise refused(number, done) from raised
+
+    def _came(self, number: int, note: _tables.Note, octets: bytes = b"", done: int = 0) -> None:
+        """Keeps why an event did nothing, where it did nothing; raises the exception of a refusal, which has it too."""
+        reason = None
+        if number != DONE or note.kind in _UNDONE:
+            reason = self._reason(number, note, octets)
+        if number != DONE:
+            try:
+                self._over(number, done)
+            except Refused as refused:
+                refused.why = reason
+                raise
+
+    def _reason(self, number: int, note: _tables.Note, octets: bytes) -> Optional[Reason]:
+        """Why an event did nothing, of the machine as it left it."""
+        told = _tables.Reason()
+        call = library.em_why(self._at, ctypes.byref(note), number, octets, len(octets), ctypes.byref(told))
+        if call != DONE or told.rule == 0:
+            return None
+        reason = Reason(_tables.RULES.get(told.rule, f"rule {told.rule}"), line_of(told), numbers_of(told))
+        super().__setattr__("_undone", reason)
+        return reason
 
     def needs(self, which: str) -> Needs:
         """What the next step of the engine of the ring "rx" or "tx" reads of guest memory, and what it writes there, by
@@ -567,46 +528,49 @@ class Machine:
         if which not in _tables.RINGS:
             raise ValueError('a ring is "rx" or "tx"')
         reads, writes = (_tables.Range * 2)(), (_tables.Range * 2)()
-        _must(_library.em_ring_needs(self._at, _tables.RINGS[which], reads, writes))
+        must(library.em_ring_needs(self._at, _tables.RINGS[which], reads, writes))
         return Needs(_slices(reads), _slices(writes))
 
     def written(self, k: int = 0) -> List[slice]:
         """What the k-th newest event wrote of guest memory."""
         written = (_tables.Range * 2)()
-        _must(_library.em_written(self._at, _number(k, 64, "a place in the journal", "NoEvent"), written))
+        must(library.em_written(self._at, number_of(k, 64, "a place in the journal", "NoEvent"), written))
         return _slices(written)
 
     def arrive(self, frame: bytes) -> Event:
         """A frame arrives; the event says what became of it."""
-        note, given = _tables.Note(), _octets(frame, "a frame")
+        note, given = _tables.Note(kind=_KIND["stored"]), octets_of(frame, "a frame")
         self._here()
-        _must(_library.em_arrive(self._at, given, len(given), ctypes.byref(note)))
+        self._came(library.em_arrive(self._at, given, len(given), ctypes.byref(note)), note, given)
         return _event(note)
 
     def rx_step(self) -> Event:
         """The receive engine handles a descriptor."""
-        note = _tables.Note()
+        note = _tables.Note(kind=_KIND["wrote"])
         self._here()
-        self._over(_library.em_rx_step(self._at, ctypes.byref(note)))
+        self._came(library.em_rx_step(self._at, ctypes.byref(note)), note)
         return _event(note)
 
     def tx_step(self) -> Event:
         """The transmit engine handles a descriptor."""
-        note = _tables.Note()
+        note = _tables.Note(kind=_KIND["fetched"])
         self._here()
-        self._over(_library.em_tx_step(self._at, ctypes.byref(note)))
+        self._came(library.em_tx_step(self._at, ctypes.byref(note)), note)
         return _event(note)
 
     def run(self, most: int = 2**32) -> int:
         """Both engines step until they are idle, first that which receives, and each at most so many times; gives how
         many steps were not idle. A refusal has as many as `done`, and is the end."""
-        steps, most = 0, _number(most, 64, "a number of steps")
+        steps, most = 0, number_of(most, 64, "a number of steps")
         self._here()
-        for engine in (_library.em_run_rx, _library.em_run_tx):
+        for engine, kind in ((library.em_run_rx, "wrote"), (library.em_run_tx, "fetched")):
             done = SIZE_T()
             number = engine(self._at, most, ctypes.byref(done))
             steps += done.value
-            self._over(number, steps)
+            note = _tables.Note(kind=_KIND[kind])
+            if number == DONE and done.value < most:  # (it stopped at a step that was idle)
+                must(library.em_event(self._at, 0, ctypes.byref(note)))
+            self._came(number, note, done=steps)
         return steps
 
     @property
@@ -617,20 +581,20 @@ class Machine:
     @link.setter
     def link(self, up: bool) -> None:
         self._here()
-        _must(_library.em_set_link(self._at, bool(up)))
+        must(library.em_set_link(self._at, bool(up)))
 
     @property
     def line(self) -> bool:
         """Whether the interrupt line is asserted."""
-        return self._told(_library.em_line, _U32()) != 0
+        return self._told(library.em_line, U32()) != 0
 
     @property
     def wire(self) -> List[bytes]:
         """The frames that were sent, the first one first."""
         room, length = ctypes.create_string_buffer(_tables.MOST_SENT), SIZE_T()
         frames = []
-        for index in range(self._told(_library.em_wire_count, SIZE_T())):
-            _must(_library.em_wire_frame(self._at, index, room, len(room), ctypes.byref(length)))
+        for index in range(self._told(library.em_wire_count, SIZE_T())):
+            must(library.em_wire_frame(self._at, index, room, len(room), ctypes.byref(length)))
             frames.append(room.raw[: length.value])
         return frames
 
@@ -641,24 +605,24 @@ class Machine:
         to be written it stops: `done` of Unwritten then counts the step whose octets were not put back, too."""
         done = SIZE_T()
         self._here()
-        number = _library.em_back(self._at, _number(n, 64, "a number of events"), ctypes.byref(done))
+        number = library.em_back(self._at, number_of(n, 64, "a number of events"), ctypes.byref(done))
         self._over(number, done.value)
         return done.value
 
     @property
     def reach(self) -> int:
         """How many events can be taken back."""
-        return self._told(_library.em_can_go_back, SIZE_T())
+        return self._told(library.em_can_go_back, SIZE_T())
 
     def tag(self, tag: int) -> None:
         """The tag of the events from now on."""
-        _must(_library.em_tag(self._at, _number(tag, 64, "a tag")))
+        must(library.em_tag(self._at, number_of(tag, 64, "a tag")))
 
     def event(self, k: int = 0) -> Event:
         """What the k-th newest event was."""
         note = _tables.Note()
-        place = _number(k, 64, "a place in the journal", "NoEvent")
-        _must(_library.em_event(self._at, place, ctypes.byref(note)))
+        place = number_of(k, 64, "a place in the journal", "NoEvent")
+        must(library.em_event(self._at, place, ctypes.byref(note)))
         return _event(note)
 
     def events(self) -> Iterator[Event]:
@@ -670,10 +634,10 @@ class Machine:
         """Which event changed it last: a register, a slice of at most 16 octets of memory, "line", "link", "frames"
         (how many lie in the FIFO) or "sent". None where no event of the journal did."""
         watch, change = self._watch(what), _tables.Change()
-        number = _library.em_last_change(self._at, ctypes.byref(watch), ctypes.byref(change))
+        number = library.em_last_change(self._at, ctypes.byref(watch), ctypes.byref(change))
         if number == _tables.REFUSALS["NoChange"]:
             return None
-        _must(number)
+        must(number)
         is_octets = watch.kind == _tables.WATCHES["octets"]
         before = bytes(change.before)[: watch.octets] if is_octets else change.value
         return Change(change.back, before, self.event(change.back - 1))
@@ -694,31 +658,34 @@ class Machine:
         ends = 0 if where.start is None else where.start, size if where.stop is None else where.stop
         start, stop = (end + size if end < 0 else end for end in map(operator.index, ends))
         if not (0 <= start <= size and 0 <= stop <= size):
-            raise _refused(_tables.REFUSALS["Range"])
+            raise refused(_tables.REFUSALS["Range"])
         return range(start, stop)
 
     # ---- rings
 
     def ring(self, which: str) -> List[Union[RxDescriptor, TxDescriptor]]:
-        """The descriptors of the ring "rx" or "tx", as they lie in guest memory, up to one that leaves it. The library says
-        whose each is: where the head or the tail stands past the last descriptor, all are the driver's."""
+        """The descriptors of the ring "rx" or "tx", as they lie in guest memory, up to one that leaves it. The library
+        says whose each is, and what is wrong with it: where the head or the tail stands past the last descriptor, all
+        are the driver's."""
         if which not in _tables.RINGS:
             raise ValueError('a ring is "rx" or "tx"')
-        side, setup, one = _tables.RINGS[which], _tables.RingSetup(), _tables.Descriptor()
-        _must(_library.em_ring(self._at, side, ctypes.byref(setup)))
+        side, setup, one, entry = _tables.RINGS[which], _tables.RingSetup(), _tables.Descriptor(), _tables.Entry()
+        must(library.em_ring(self._at, side, ctypes.byref(setup)))
         found: List[Union[RxDescriptor, TxDescriptor]] = []
         for index in range(setup.count):
-            told = _library.em_ring_descriptor(self._at, side, index, ctypes.byref(one))
+            told = library.em_ring_descriptor(self._at, side, index, ctypes.byref(one))
             if told == _tables.REFUSALS["Range"]:
                 break
-            _must(told)
+            must(told)
+            must(library.em_ring_entry(self._at, side, index, ctypes.byref(entry)))
+            trouble = trouble_of(entry)
             octets, owned = bytes(one.octets), one.adapters == 1
             low = int.from_bytes(octets[:8], "little"), int.from_bytes(octets[8:10], "little")
             special = int.from_bytes(octets[14:], "little")
             if which == "rx":
-                found.append(RxDescriptor(index, owned, *low, octets[12], octets[13], special))
+                found.append(RxDescriptor(index, owned, *low, octets[12], octets[13], special, trouble))
             else:
-                found.append(TxDescriptor(index, owned, *low, octets[11], octets[12], special))
+                found.append(TxDescriptor(index, owned, *low, octets[11], octets[12], special, trouble))
         return found
 
     def __repr__(self) -> str:
@@ -727,9 +694,12 @@ class Machine:
         return f"<Machine, link {'up' if self.link else 'down'}, line {int(self.line)}, {self.reach} steps to go back>"
 
     def _repr_html_(self) -> str:
-        """Registers and rings as tables, for a notebook."""
+        """Registers and rings as tables, for a notebook, with what is wrong with the rings' descriptors; and why the
+        newest event did nothing that did nothing."""
         rows = [(name, f"{value:08X}") for name, value in self.registers().items()]
         parts = [f"<p>{html.escape(repr(self))}</p>", _table("registers", ("name", "value"), rows)]
+        if self._undone is not None:
+            parts.insert(1, f"<p>{html.escape(self._undone.text)}</p>")
         for which, heads in (("rx", RxDescriptor._fields), ("tx", TxDescriptor._fields)):
             ring = self.ring(which)
             if ring:
@@ -737,8 +707,10 @@ class Machine:
         return "".join(parts)
 
 
-def _shown(value: Union[int, bool]) -> str:
-    return ("", "yes")[value] if isinstance(value, bool) else f"{value:X}"
+def _shown(value: object) -> str:
+    if isinstance(value, bool):
+        return "yes" if value else ""
+    return f"{value:X}" if isinstance(value, int) else str(value)
 
 
 def _table(caption: str, heads: Iterable[str], rows: Iterable[Iterable[str]]) -> str:

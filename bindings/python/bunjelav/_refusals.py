@@ -17,6 +17,8 @@ class Refused(Exception):
     # of `run` how many steps, and of `sync_in` how many writes, went well before; they stay
     # of `back` how many events were taken back
     done = 0
+    # of an event by which rule it was refused, as `Machine.why` says
+    why: object = None
 
 
 class NoRegister(Refused):

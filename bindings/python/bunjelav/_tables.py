@@ -79,6 +79,64 @@ RINGS = {
     "tx": 2,
 }
 
+# by number, what each rule by which an event does nothing is called
+RULES = {
+    0: "no rule",
+    1: "rx disabled",
+    2: "rx no ring",
+    3: "rx head past",
+    4: "rx tail past",
+    5: "rx empty",
+    6: "rx no frame",
+    7: "tx disabled",
+    8: "tx no ring",
+    9: "tx head past",
+    10: "tx tail past",
+    11: "tx empty",
+    12: "frame down",
+    13: "frame disabled",
+    14: "frame unicast",
+    15: "frame multicast",
+    16: "frame broadcast",
+    17: "frame undersize",
+    18: "frame oversize",
+    19: "frame vlan",
+    20: "frame missed",
+    21: "no register",
+    22: "write range",
+    23: "write length",
+    24: "frame length",
+    25: "rx descriptor",
+    26: "rx buffer",
+    27: "tx descriptor",
+    28: "tx extended",
+    29: "tx too long",
+    30: "tx buffer",
+    31: "memory",
+}
+
+# by number, what each rule by which an access has a warning is called
+WARNINGS = {
+    1: "bits dropped",
+    2: "tail past ring",
+    3: "enabled before ring",
+    4: "descriptor unwritten",
+    5: "status left",
+    6: "interrupts before rings",
+    7: "read again",
+}
+
+# by number, what each thing that can be wrong with a descriptor is called
+TROUBLES = {
+    1: "outside",
+    2: "extended",
+    3: "no length",
+    4: "too long",
+    5: "buffer outside",
+    6: "over ring",
+    7: "over buffer",
+}
+
 
 READ = CFUNCTYPE(c_bool, c_void_p, c_uint64, c_void_p, c_size_t)
 WRITE = CFUNCTYPE(c_bool, c_void_p, c_uint64, c_void_p, c_size_t)
@@ -109,6 +167,55 @@ class Register(Structure):
     ]
 
 
+class Difference(Structure):
+    _fields_ = [
+        ("address", c_uint64),
+        ("value", c_uint64),
+        ("now", c_uint64),
+        ("kind", c_uint32),
+        ("offset", c_uint32),
+        ("octets", c_size_t),
+        ("before", c_uint8 * 16),
+        ("after", c_uint8 * 16),
+    ]
+
+
+class Entry(Structure):
+    _fields_ = [
+        ("address", c_uint64),
+        ("buffer", c_uint64),
+        ("index", c_uint32),
+        ("length", c_uint32),
+        ("status", c_uint32),
+        ("errors", c_uint32),
+        ("command", c_uint32),
+        ("adapters", c_uint32),
+        ("head", c_uint32),
+        ("tail", c_uint32),
+        ("trouble", c_uint32),
+        ("other", c_uint32),
+        ("text", c_uint8 * 256),
+    ]
+
+
+class Field(Structure):
+    _fields_ = [
+        ("mask", c_uint32),
+        ("lowest", c_uint32),
+        ("name", c_uint8 * 16),
+    ]
+
+
+class Fifo(Structure):
+    _fields_ = [
+        ("frames", c_uint64),
+        ("octets", c_uint64),
+        ("gathered", c_uint64),
+        ("tagged", c_uint32),
+        ("tag", c_uint32),
+    ]
+
+
 class Note(Structure):
     _fields_ = [
         ("tag", c_uint64),
@@ -123,6 +230,22 @@ class Range(Structure):
     _fields_ = [
         ("address", c_uint64),
         ("length", c_uint64),
+    ]
+
+
+class Reason(Structure):
+    _fields_ = [
+        ("address", c_uint64),
+        ("buffer", c_uint64),
+        ("octets", c_uint64),
+        ("most", c_uint64),
+        ("memory", c_uint64),
+        ("rule", c_uint32),
+        ("index", c_uint32),
+        ("count", c_uint32),
+        ("value", c_uint32),
+        ("to", c_uint8 * 6),
+        ("text", c_uint8 * 256),
     ]
 
 
@@ -141,6 +264,20 @@ class Descriptor(Structure):
     _fields_ = [
         ("octets", c_uint8 * 16),
         ("adapters", c_uint32),
+    ]
+
+
+class Warning(Structure):
+    _fields_ = [
+        ("address", c_uint64),
+        ("rule", c_uint32),
+        ("offset", c_uint32),
+        ("index", c_uint32),
+        ("count", c_uint32),
+        ("kept", c_uint32),
+        ("written", c_uint32),
+        ("causes", c_uint32),
+        ("text", c_uint8 * 256),
     ]
 
 
@@ -166,6 +303,13 @@ CALLS = {
     "em_registers": [POINTER(Handle), POINTER(Register), c_size_t, POINTER(c_size_t)],
     "em_back": [POINTER(Handle), c_size_t, POINTER(c_size_t)],
     "em_can_go_back": [POINTER(Handle), POINTER(c_size_t)],
+    "em_differences": [POINTER(Handle), c_size_t, POINTER(Difference), c_size_t, POINTER(c_size_t)],
+    "em_ring_entry": [POINTER(Handle), c_uint32, c_uint32, POINTER(Entry)],
+    "em_field": [c_uint32, c_size_t, POINTER(Field)],
+    "em_value_text": [c_uint32, c_uint32, c_void_p, c_size_t, POINTER(c_size_t)],
+    "em_fifo": [POINTER(Handle), POINTER(Fifo)],
+    "em_fifo_frame": [POINTER(Handle), c_void_p, c_size_t, POINTER(c_size_t)],
+    "em_gathered": [POINTER(Handle), c_void_p, c_size_t, POINTER(c_size_t)],
     "em_make": [POINTER(Handle), c_uint64, c_uint64, c_void_p],
     "em_make_with_eeprom": [POINTER(Handle), c_uint64, c_uint64, POINTER(c_uint16)],
     "em_free": [POINTER(Handle)],
@@ -190,7 +334,12 @@ CALLS = {
     "em_sync_in": [POINTER(Handle), c_void_p, c_size_t, POINTER(c_size_t)],
     "em_sync_out_range": [POINTER(Handle), c_uint64, c_void_p, c_size_t],
     "em_sync_in_range": [POINTER(Handle), c_uint64, c_void_p, c_size_t, POINTER(c_size_t)],
+    "em_ring_text": [POINTER(Handle), c_uint32, c_void_p, c_size_t, POINTER(c_size_t)],
+    "em_fifo_text": [POINTER(Handle), c_void_p, c_size_t, POINTER(c_size_t)],
+    "em_effect": [POINTER(Handle), c_size_t, c_void_p, c_size_t, POINTER(c_size_t)],
+    "em_warnings": [POINTER(Handle), POINTER(Warning), POINTER(c_size_t)],
     "em_last_change": [POINTER(Handle), POINTER(Watch), POINTER(Change)],
+    "em_why": [POINTER(Handle), POINTER(Note), c_uint32, c_void_p, c_size_t, POINTER(Reason)],
     "em_arrive": [POINTER(Handle), c_void_p, c_size_t, POINTER(Note)],
     "em_set_link": [POINTER(Handle), c_bool],
     "em_rx_step": [POINTER(Handle), POINTER(Note)],
@@ -201,6 +350,15 @@ CALLS = {
     "em_attach": [POINTER(Handle), POINTER(Ram)],
     "em_detach": [POINTER(Handle)],
     "em_record_to": [POINTER(Handle), c_char_p],
+    "em_record_mapped": [POINTER(Handle), c_char_p],
     "em_recording_status": [POINTER(Handle), POINTER(c_int)],
     "em_source": [POINTER(Handle), c_char_p, c_uint32],
+    "em_strerror": [c_uint32],
+    "em_version": [],
+}
+
+# those that give a text, and its type
+TEXTS = {
+    "em_strerror": c_char_p,
+    "em_version": c_char_p,
 }

@@ -5,6 +5,8 @@
 //! gave the descriptor its buffer, and prints that line.
 
 use bunjelav::{offset_of, Machine, Refusal, Watch};
+use std::time::Duration;
+use std::{process, thread};
 
 const RING: u64 = 0x1000;
 const BUFFERS: u64 = 0x4000;
@@ -103,7 +105,20 @@ fn who_gave(machine: &mut Machine, at: u64) -> Option<(u64, u64)> {
     }
 }
 
+/// How long the example may take: where a mistake has the driver wait for what never comes, it ends with a word.
+const LIMIT: Duration = Duration::from_secs(10);
+const LIMIT_STATUS: i32 = 3;
+
+fn set_limit() {
+    thread::spawn(|| {
+        thread::sleep(LIMIT);
+        eprintln!("driver: it took {LIMIT:?}: what loop of the driver waits for what the adapter never does?");
+        process::exit(LIMIT_STATUS);
+    });
+}
+
 fn main() -> Result<(), Refusal> {
+    set_limit();
     let mut machine = Machine::new(65_536, 1 << 20, [0x52, 0x54, 0x00, 0x12, 0x34, 0x56])?;
     machine.set_link(true)?;
     let mut driver = Driver::start(machine);

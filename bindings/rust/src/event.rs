@@ -7,6 +7,7 @@ use core::fmt;
 /// An event that was performed.
 #[derive(Clone, Copy, PartialEq, Eq, Hash, Debug)]
 pub struct Event {
+    /// What it was, with what came of it.
     pub kind: Kind,
     /// Of an access the register's offset, of a memory write its address; else 0.
     pub at: u64,
@@ -94,6 +95,37 @@ impl Change {
     }
 }
 
+/// What an event changed of something that can be watched.
+#[derive(Clone, Copy, PartialEq, Eq, Hash, Debug)]
+pub struct Difference {
+    /// A register, octets side by side, the line, the link, how many frames wait, or how many were sent.
+    pub watch: Watch,
+    /// What was seen before the event, but for octets; of the line and the link 1 or 0.
+    pub value: u64,
+    /// The same behind it.
+    pub now: u64,
+    /// The octets that were seen before the event, and zeros behind them.
+    pub before: [u8; 16],
+    /// The same behind it.
+    pub after: [u8; 16],
+}
+
+impl Difference {
+    #[cfg(feature = "std")]
+    pub(crate) fn of(told: &raw::Difference) -> Option<Difference> {
+        let watch = match told.kind {
+            WATCH_REGISTER => Watch::Register(told.offset),
+            WATCH_OCTETS => Watch::Octets(told.address, told.octets),
+            WATCH_LINE => Watch::Line,
+            WATCH_LINK => Watch::Link,
+            WATCH_FRAMES => Watch::Frames,
+            WATCH_SENT => Watch::Sent,
+            _ => return None,
+        };
+        Some(Difference { watch, value: told.value, now: told.now, before: told.before, after: told.after })
+    }
+}
+
 /// The offset of the register of this name, in either case of its letters.
 pub fn offset_of(name: &str) -> Result<u32, Refusal> {
     let mut offset = 0;
@@ -133,4 +165,59 @@ impl fmt::Display for Name {
     fn fmt(&self, f: &mut fmt::Formatter<'_>) -> fmt::Result {
         f.write_str(self.as_str())
     }
+}
+
+/// A bit or a field of a register, by the manual's name: of a value it holds `(value & mask) / lowest`.
+#[derive(Clone, Copy, PartialEq, Eq, Hash, Debug)]
+pub struct Field {
+    /// Its bits.
+    pub mask: u32,
+    /// The lowest of them.
+    pub lowest: u32,
+    name: [u8; 16],
+}
+
+impl Field {
+    /// The manual's name.
+    pub fn name(&self) -> &str {
+        let length = self.name.iter().position(|letter| *letter == 0).unwrap_or(16);
+        core::str::from_utf8(&self.name[..length]).unwrap_or("")
+    }
+
+    /// What it holds of a value of the register.
+    pub fn of(&self, value: u32) -> u32 {
+        (value & self.mask) / self.lowest.max(1)
+    }
+}
+
+/// The bits and fields of the register at an offset, from the lowest on; none where it is one number.
+pub fn fields_of(offset: u32) -> Fields {
+    Fields { offset, next: 0 }
+}
+
+/// The bits and fields of a register, one after another.
+#[derive(Clone, Debug)]
+pub struct Fields {
+    offset: u32,
+    next: usize,
+}
+
+impl Iterator for Fields {
+    type Item = Field;
+
+    fn next(&mut self) -> Option<Field> {
+        let mut row = raw::Field::default();
+        // SAFETY: the call writes one field.
+        if unsafe { raw::em_field(self.offset, self.next, &mut row) } != 0 || row.mask == 0 {
+            return None;
+        }
+        self.next += 1;
+        Some(Field { mask: row.mask, lowest: row.lowest, name: row.name })
+    }
+}
+
+/// A register's name, a value of it, and the names of the bits and fields that are set in it.
+#[cfg(feature = "std")]
+pub fn words_of(offset: u32, value: u32) -> Result<std::string::String, Refusal> {
+    crate::machine::text_of(|out, room, length| unsafe { raw::em_value_text(offset, value, out, room, length) })
 }

@@ -29,11 +29,13 @@
 //! Without its feature `std`, which is there by default, it takes `core` alone, and a [`Refusal`] is no
 //! `std::error::Error`.
 #![no_std]
+#![warn(missing_docs)]
 
 #[cfg(feature = "std")]
 extern crate std;
 
 mod event;
+mod explain;
 mod machine;
 mod ram;
 mod raw;
@@ -43,10 +45,19 @@ mod refusal;
 mod ring;
 mod tables;
 
-pub use event::{offset_of, Change, Event, Name, Watch};
+#[cfg(feature = "std")]
+pub use event::words_of;
+pub use event::{fields_of, offset_of, Change, Difference, Event, Field, Fields, Name, Watch};
+pub use explain::{Asked, Entry, Reason, Warning, Warnings};
 pub use machine::{Events, Frame, Frames, Machine};
 pub use ram::{Octets, Over, Ram};
-pub use raw::{Range, Region, Register, RingSetup};
+pub use raw::{Fifo, Range, Region, Register, RingSetup};
 pub use refusal::Stopped;
 pub use ring::{Descriptor, Needs, Ring};
-pub use tables::{Kind, Refusal, MOST_SENT, REGISTERS};
+pub use tables::{Kind, Refusal, Rule, Trouble, Warned, MOST_SENT, REGISTERS};
+
+/// The version of the library that is linked.
+pub fn version() -> &'static str {
+    // SAFETY: it gives a text with a zero octet behind it, which stays.
+    unsafe { core::ffi::CStr::from_ptr(raw::em_version()) }.to_str().unwrap_or("")
+}

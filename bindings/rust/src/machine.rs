@@ -1,8 +1,11 @@
 //! A machine.
 use crate::ram::{Over, Ram};
 use crate::raw;
-use crate::raw::{Range, Register, RingSetup};
-use crate::{Change, Descriptor, Event, Needs, Refusal, Ring, Stopped, Watch, MOST_SENT};
+use crate::raw::{Fifo, Range, Register, RingSetup};
+#[cfg(feature = "std")]
+use crate::Difference;
+use crate::{Asked, Change, Descriptor, Entry, Event, Kind, Needs, Reason, Refusal, Ring, Stopped};
+use crate::{Warnings, Watch, MOST_SENT};
 use core::cell::UnsafeCell;
 use core::panic::Location;
 
@@ -26,12 +29,30 @@ pub struct Machine {
 // is not Sync. That its handle may go to another thread is proved.
 unsafe impl Send for Machine {}
 
+/// A call that begins to keep a run.
+#[cfg(feature = "std")]
+type Record = unsafe extern "C" fn(*mut raw::Handle, *const core::ffi::c_char) -> u32;
+
 /// What a call gives: its number, and what it told.
 fn told<T>(number: u32, told: T) -> Result<T, Refusal> {
     match number {
         0 => Ok(told),
         refused => Err(Refusal::of(refused)),
     }
+}
+
+/// The text that a call puts into room for it, however long it is.
+#[cfg(feature = "std")]
+pub(crate) fn text_of<F: Fn(*mut u8, usize, *mut usize) -> u32>(call: F) -> Result<std::string::String, Refusal> {
+    let (mut room, mut length) = (std::vec![0; 4096], 0);
+    let mut number = call(room.as_mut_ptr(), room.len(), &mut length);
+    if Refusal::of(number) == Refusal::Room {
+        room.resize(length + 1, 0);
+        number = call(room.as_mut_ptr(), room.len(), &mut length);
+    }
+    told(number, ())?;
+    room.truncate(length);
+    Ok(std::string::String::from_utf8_lossy(&room).into_owned())
 }
 
 /// The same of a call of several events, with how many went well.
@@ -103,8 +124,20 @@ impl Machine {
     /// ```
     #[cfg(feature = "std")]
     pub fn record_to<P: AsRef<std::path::Path>>(&mut self, path: P) -> Result<(), Refusal> {
-        let path = crate::record::c_path(path.as_ref()).ok_or(Refusal::File)?;
-        told(unsafe { raw::em_record_to(self.handle.get(), path.as_ptr()) }, ())?;
+        self.record(path.as_ref(), raw::em_record_to)
+    }
+
+    /// The same by a mapping of the file, which takes a quarter of the time. The file has to be a regular one, and nobody
+    /// else may cut it meanwhile: the process would end by `SIGBUS`. The C library's documentation has more of it.
+    #[cfg(feature = "std")]
+    pub fn record_mapped<P: AsRef<std::path::Path>>(&mut self, path: P) -> Result<(), Refusal> {
+        self.record(path.as_ref(), raw::em_record_mapped)
+    }
+
+    #[cfg(feature = "std")]
+    fn record(&mut self, path: &std::path::Path, call: Record) -> Result<(), Refusal> {
+        let path = crate::record::c_path(path).ok_or(Refusal::File)?;
+        told(unsafe { call(self.handle.get(), path.as_ptr()) }, ())?;
         self.places = Some(crate::record::Places::new());
         Ok(())
     }
@@ -181,6 +214,97 @@ impl Machine {
         let mut one = raw::Descriptor::default();
         told(unsafe { raw::em_ring_descriptor(self.handle.get(), ring.number(), index, &mut one) }, ())?;
         Ok(Descriptor { octets: one.octets, is_adapters: one.adapters == 1 })
+    }
+
+    /// The descriptor at an index of a ring, with what it says, whose it is, and what is wrong with it.
+    pub fn entry(&self, ring: Ring, index: u32) -> Result<Entry, Refusal> {
+        let mut one = raw::Entry::blank();
+        told(unsafe { raw::em_ring_entry(self.handle.get(), ring.number(), index, &mut one) }, ())?;
+        Ok(Entry::of(one))
+    }
+
+    /// Why an event did nothing that came to this, in the machine as the event left it; none where it did something.
+    ///
+    /// ```
+    /// # use bunjelav::{Asked, Machine, Rule};
+    /// # fn main() -> Result<(), bunjelav::Refusal> {
+    /// let mut m = Machine::new(65_536, 1 << 20, [0x52, 0x54, 0x00, 0x12, 0x34, 0x56])?;
+    /// let idle = m.rx_step()?;
+    /// let why = m.why(Asked::RxStep, Ok(idle.kind)).expect("it was idle");
+    /// assert_eq!((why.rule, why.text()), (Rule::RxDisabled, "RCTL.EN is clear"));
+    /// # Ok(())
+    /// # }
+    /// ```
+    pub fn why(&self, asked: Asked<'_>, came: Result<Kind, Refusal>) -> Option<Reason> {
+        let (note, octets, code) = asked.raw(came);
+        let mut reason = raw::Reason::blank();
+        let (at, length) = (octets.as_ptr(), octets.len());
+        let number = unsafe { raw::em_why(self.handle.get(), &note, code, at, length, &mut reason) };
+        (number == 0 && reason.rule != 0).then(|| Reason::of(reason))
+    }
+
+    /// What a driver seems to get wrong by the newest event: a write of a register, or a read of ICR that gave 0.
+    pub fn warnings(&self) -> Result<Warnings, Refusal> {
+        let (mut warnings, mut count) = ([raw::Warning::blank(); 6], 0);
+        told(unsafe { raw::em_warnings(self.handle.get(), warnings.as_mut_ptr(), &mut count) }, ())?;
+        Ok(Warnings { told: warnings, count, next: 0 })
+    }
+
+    /// How many frames wait in the FIFO, what the first of them is, and how many octets are gathered.
+    pub fn fifo(&self) -> Fifo {
+        let mut fifo = Fifo::default();
+        unsafe { raw::em_fifo(self.handle.get(), &mut fifo) };
+        fifo
+    }
+
+    /// Copies the first frame that waits in the FIFO to the head of `out`, and gives how many octets it has: 0 where
+    /// none waits.
+    pub fn waiting_frame(&self, out: &mut [u8]) -> Result<usize, Refusal> {
+        let mut length = 0;
+        let number = unsafe { raw::em_fifo_frame(self.handle.get(), out.as_mut_ptr(), out.len(), &mut length) };
+        told(number, length)
+    }
+
+    /// Copies the octets that are gathered for the next frame to be sent to the head of `out`, and gives how many.
+    pub fn gathered(&self, out: &mut [u8]) -> Result<usize, Refusal> {
+        let mut length = 0;
+        let number = unsafe { raw::em_gathered(self.handle.get(), out.as_mut_ptr(), out.len(), &mut length) };
+        told(number, length)
+    }
+
+    /// A ring as text: what the registers say, and up to 64 descriptors around the head.
+    #[cfg(feature = "std")]
+    pub fn ring_text(&self, ring: Ring) -> Result<std::string::String, Refusal> {
+        text_of(|out, room, length| unsafe {
+            raw::em_ring_text(self.handle.get(), ring.number(), out, room, length)
+        })
+    }
+
+    /// How many frames wait in the FIFO, and the first of them, as text.
+    #[cfg(feature = "std")]
+    pub fn fifo_text(&self) -> Result<std::string::String, Refusal> {
+        text_of(|out, room, length| unsafe { raw::em_fifo_text(self.handle.get(), out, room, length) })
+    }
+
+    /// All that an event of the journal changed, the newest at 0: a line each, with what was before and what is behind
+    /// it.
+    #[cfg(feature = "std")]
+    pub fn effect(&self, k: usize) -> Result<std::string::String, Refusal> {
+        text_of(|out, room, length| unsafe { raw::em_effect(self.handle.get(), k, out, room, length) })
+    }
+
+    /// All that an event of the journal changed, the newest at 0.
+    #[cfg(feature = "std")]
+    pub fn differences(&self, k: usize) -> Result<std::vec::Vec<Difference>, Refusal> {
+        let (mut room, mut count) = (std::vec![raw::Difference::default(); 64], 0);
+        let mut number =
+            unsafe { raw::em_differences(self.handle.get(), k, room.as_mut_ptr(), room.len(), &mut count) };
+        if Refusal::of(number) == Refusal::Room {
+            room.resize(count, raw::Difference::default());
+            number = unsafe { raw::em_differences(self.handle.get(), k, room.as_mut_ptr(), room.len(), &mut count) };
+        }
+        told(number, ())?;
+        Ok(room[..count].iter().filter_map(Difference::of).collect())
     }
 
     /// The machine over memory of the caller's, which it reads and writes in each call that is made through it, and which

@@ -50,8 +50,88 @@ pub(crate) struct Handle {
 #[repr(C)]
 #[derive(Clone, Copy, PartialEq, Eq, Hash, Debug, Default)]
 pub struct Register {
+    /// Its offset.
     pub offset: u32,
+    /// What a read of it would give.
     pub value: u32,
+}
+
+/// What an event changed of one thing: what was seen before the event, and behind it.
+#[repr(C)]
+#[derive(Clone, Copy, Default)]
+pub(crate) struct Difference {
+    pub address: u64,
+    pub value: u64,
+    pub now: u64,
+    pub kind: u32,
+    pub offset: u32,
+    pub octets: usize,
+    pub before: [u8; 16],
+    pub after: [u8; 16],
+}
+
+/// A descriptor of a ring, with what it says, whose it is, and what is wrong with it; the same in words.
+#[repr(C)]
+#[derive(Clone, Copy, Debug)]
+pub(crate) struct Entry {
+    pub address: u64,
+    pub buffer: u64,
+    pub index: u32,
+    pub length: u32,
+    pub status: u32,
+    pub errors: u32,
+    pub command: u32,
+    pub adapters: u32,
+    pub head: u32,
+    pub tail: u32,
+    pub trouble: u32,
+    pub other: u32,
+    pub text: [u8; 256],
+}
+
+impl Entry {
+    pub(crate) const fn blank() -> Entry {
+        Entry {
+            address: 0,
+            buffer: 0,
+            index: 0,
+            length: 0,
+            status: 0,
+            errors: 0,
+            command: 0,
+            adapters: 0,
+            head: 0,
+            tail: 0,
+            trouble: 0,
+            other: 0,
+            text: [0; 256],
+        }
+    }
+}
+
+/// A bit or a field of a register: it holds `(value & mask) / lowest`.
+#[repr(C)]
+#[derive(Clone, Copy, Default)]
+pub(crate) struct Field {
+    pub mask: u32,
+    pub lowest: u32,
+    pub name: [u8; 16],
+}
+
+/// What waits in the FIFO, and what is gathered.
+#[repr(C)]
+#[derive(Clone, Copy, PartialEq, Eq, Hash, Debug, Default)]
+pub struct Fifo {
+    /// How many frames wait.
+    pub frames: u64,
+    /// How many octets the first of them has; 0 where none waits.
+    pub octets: u64,
+    /// How many octets are gathered for the next frame to be sent.
+    pub gathered: u64,
+    /// 1 where a VLAN tag was taken out of the first frame, else 0.
+    pub tagged: u32,
+    /// That tag, else 0.
+    pub tag: u32,
 }
 
 /// An event that was performed.
@@ -69,19 +149,63 @@ pub(crate) struct Note {
 #[repr(C)]
 #[derive(Clone, Copy, PartialEq, Eq, Hash, Debug, Default)]
 pub struct Range {
+    /// Where its first octet lies.
     pub address: u64,
+    /// How many octets it has.
     pub length: u64,
+}
+
+/// Why an event did nothing: the number of the rule that decided, the numbers that it went by, and the same in words. A
+/// number that a rule has not is 0.
+#[repr(C)]
+#[derive(Clone, Copy, Debug)]
+pub(crate) struct Reason {
+    pub address: u64,
+    pub buffer: u64,
+    pub octets: u64,
+    pub most: u64,
+    pub memory: u64,
+    pub rule: u32,
+    pub index: u32,
+    pub count: u32,
+    pub value: u32,
+    pub to: [u8; 6],
+    pub text: [u8; 256],
+}
+
+impl Reason {
+    pub(crate) const fn blank() -> Reason {
+        Reason {
+            address: 0,
+            buffer: 0,
+            octets: 0,
+            most: 0,
+            memory: 0,
+            rule: 0,
+            index: 0,
+            count: 0,
+            value: 0,
+            to: [0; 6],
+            text: [0; 256],
+        }
+    }
 }
 
 /// A ring, as the registers set it up.
 #[repr(C)]
 #[derive(Clone, Copy, PartialEq, Eq, Hash, Debug, Default)]
 pub struct RingSetup {
+    /// Where descriptor 0 lies.
     pub base: u64,
+    /// How many descriptors the ring has.
     pub count: u32,
+    /// RDH or TDH.
     pub head: u32,
+    /// RDT or TDT.
     pub tail: u32,
+    /// How many octets each buffer of the receive ring has; of the transmit ring 0.
     pub buffer: u32,
+    /// 1 where the engine handles descriptors, RCTL.EN or TCTL.EN; else 0.
     pub enabled: u32,
 }
 
@@ -91,6 +215,38 @@ pub struct RingSetup {
 pub(crate) struct Descriptor {
     pub octets: [u8; 16],
     pub adapters: u32,
+}
+
+/// What a driver seems to get wrong by an access of a register: the number of the rule that says so, its numbers, and
+/// the same in words. A number that a rule has not is 0.
+#[repr(C)]
+#[derive(Clone, Copy, Debug)]
+pub(crate) struct Warning {
+    pub address: u64,
+    pub rule: u32,
+    pub offset: u32,
+    pub index: u32,
+    pub count: u32,
+    pub kept: u32,
+    pub written: u32,
+    pub causes: u32,
+    pub text: [u8; 256],
+}
+
+impl Warning {
+    pub(crate) const fn blank() -> Warning {
+        Warning {
+            address: 0,
+            rule: 0,
+            offset: 0,
+            index: 0,
+            count: 0,
+            kept: 0,
+            written: 0,
+            causes: 0,
+            text: [0; 256],
+        }
+    }
 }
 
 /// What is watched.
@@ -112,11 +268,24 @@ pub(crate) struct Change {
     pub before: [u8; 16],
 }
 
-#[cfg_attr(not(feature = "std"), allow(dead_code))]
+#[allow(dead_code)]
 extern "C" {
     pub(crate) fn em_registers(machine: *mut Handle, out: *mut Register, room: usize, count: *mut usize) -> u32;
     pub(crate) fn em_back(machine: *mut Handle, n: usize, done: *mut usize) -> u32;
     pub(crate) fn em_can_go_back(machine: *mut Handle, count: *mut usize) -> u32;
+    pub(crate) fn em_differences(
+        machine: *mut Handle,
+        k: usize,
+        out: *mut Difference,
+        room: usize,
+        count: *mut usize,
+    ) -> u32;
+    pub(crate) fn em_ring_entry(machine: *mut Handle, side: u32, index: u32, entry: *mut Entry) -> u32;
+    pub(crate) fn em_field(offset: u32, k: usize, field: *mut Field) -> u32;
+    pub(crate) fn em_value_text(offset: u32, value: u32, out: *mut u8, room: usize, octets: *mut usize) -> u32;
+    pub(crate) fn em_fifo(machine: *mut Handle, fifo: *mut Fifo) -> u32;
+    pub(crate) fn em_fifo_frame(machine: *mut Handle, out: *mut u8, room: usize, octets: *mut usize) -> u32;
+    pub(crate) fn em_gathered(machine: *mut Handle, out: *mut u8, room: usize, octets: *mut usize) -> u32;
     pub(crate) fn em_make(machine: *mut Handle, memory: u64, budget: u64, mac: *const u8) -> u32;
     pub(crate) fn em_make_with_eeprom(machine: *mut Handle, memory: u64, budget: u64, words: *const u16) -> u32;
     pub(crate) fn em_free(machine: *mut Handle);
@@ -147,7 +316,19 @@ extern "C" {
         length: usize,
         writes: *mut usize,
     ) -> u32;
+    pub(crate) fn em_ring_text(machine: *mut Handle, side: u32, out: *mut u8, room: usize, octets: *mut usize) -> u32;
+    pub(crate) fn em_fifo_text(machine: *mut Handle, out: *mut u8, room: usize, octets: *mut usize) -> u32;
+    pub(crate) fn em_effect(machine: *mut Handle, k: usize, out: *mut u8, room: usize, octets: *mut usize) -> u32;
+    pub(crate) fn em_warnings(machine: *mut Handle, warnings: *mut Warning, count: *mut usize) -> u32;
     pub(crate) fn em_last_change(machine: *mut Handle, watch: *const Watch, change: *mut Change) -> u32;
+    pub(crate) fn em_why(
+        machine: *mut Handle,
+        event: *const Note,
+        code: u32,
+        octets: *const u8,
+        length: usize,
+        reason: *mut Reason,
+    ) -> u32;
     pub(crate) fn em_arrive(machine: *mut Handle, frame: *const u8, length: usize, event: *mut Note) -> u32;
     pub(crate) fn em_set_link(machine: *mut Handle, up: bool) -> u32;
     pub(crate) fn em_rx_step(machine: *mut Handle, event: *mut Note) -> u32;
@@ -164,6 +345,9 @@ extern "C" {
     pub(crate) fn em_attach(machine: *mut Handle, ram: *const Ram) -> u32;
     pub(crate) fn em_detach(machine: *mut Handle) -> u32;
     pub(crate) fn em_record_to(machine: *mut Handle, path: *const c_char) -> u32;
+    pub(crate) fn em_record_mapped(machine: *mut Handle, path: *const c_char) -> u32;
     pub(crate) fn em_recording_status(machine: *mut Handle, error: *mut c_int) -> u32;
     pub(crate) fn em_source(machine: *mut Handle, file: *const c_char, line: u32) -> u32;
+    pub(crate) fn em_strerror(code: u32) -> *const c_char;
+    pub(crate) fn em_version() -> *const c_char;
 }

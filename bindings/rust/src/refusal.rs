@@ -2,10 +2,8 @@
 use crate::raw;
 use crate::tables::REFUSALS;
 use crate::Refusal;
+use core::ffi::CStr;
 use core::fmt;
-
-/// Room for the text of each refusal.
-const ROOM: usize = 128;
 
 impl Refusal {
     /// The refusal that has a number.
@@ -22,16 +20,15 @@ impl Refusal {
     }
 }
 
-/// The sentence of `em_refusal`.
+/// The sentence of `em_strerror`.
 impl fmt::Display for Refusal {
     fn fmt(&self, f: &mut fmt::Formatter<'_>) -> fmt::Result {
-        let (mut room, mut length) = ([0; ROOM], 0);
-        // SAFETY: the room is as long as is said, and the length lies beside it.
-        let told = unsafe { raw::em_refusal(self.number(), room.as_mut_ptr(), ROOM, &mut length) };
-        let text = core::str::from_utf8(&room[..length.min(ROOM)]).unwrap_or("");
-        match text.split_once(": ") {
-            Some((_, sentence)) if told == 0 => f.write_str(sentence),
-            _ => write!(f, "refusal {}", self.number()),
+        // SAFETY: whatever the number, it gives a text with a zero octet behind it, which stays.
+        let text = unsafe { CStr::from_ptr(raw::em_strerror(self.number())) };
+        match (self, text.to_str().unwrap_or("").split_once(": ")) {
+            (Refusal::Other(number), _) => write!(f, "refusal {number}"),
+            (_, Some((_, sentence))) => f.write_str(sentence),
+            (_, None) => Ok(()),
         }
     }
 }

@@ -120,6 +120,183 @@ pub(crate) const REFUSALS: [(Refusal, u32); 28] = [
     (Refusal::Unrecorded, 45),
 ];
 
+/// By which rule an event did nothing.
+#[derive(Clone, Copy, PartialEq, Eq, Hash, Debug)]
+#[non_exhaustive]
+pub enum Rule {
+    /// None: the event did something.
+    NoRule,
+    /// A receive step was idle: RCTL.EN is clear.
+    RxDisabled,
+    /// A receive step was idle: the ring has no descriptor.
+    RxNoRing,
+    /// A receive step was idle: RDH is past the ring.
+    RxHeadPast,
+    /// A receive step was idle: RDT is past the ring.
+    RxTailPast,
+    /// A receive step was idle: RDH and RDT are the same.
+    RxEmpty,
+    /// A receive step was idle: no frame waits in the FIFO.
+    RxNoFrame,
+    /// A transmit step was idle: TCTL.EN is clear.
+    TxDisabled,
+    /// A transmit step was idle: the ring has no descriptor.
+    TxNoRing,
+    /// A transmit step was idle: TDH is past the ring.
+    TxHeadPast,
+    /// A transmit step was idle: TDT is past the ring.
+    TxTailPast,
+    /// A transmit step was idle: TDH and TDT are the same.
+    TxEmpty,
+    /// A frame was dropped: the link is down.
+    FrameDown,
+    /// A frame was dropped: RCTL.EN is clear.
+    FrameDisabled,
+    /// A frame was dropped: no filter has its destination, a unicast address.
+    FrameUnicast,
+    /// A frame was dropped: no filter has its destination, the address of a group.
+    FrameMulticast,
+    /// A frame was dropped: no filter has its destination, the broadcast address.
+    FrameBroadcast,
+    /// A frame was dropped: it has fewer than 64 octets with the FCS.
+    FrameUndersize,
+    /// A frame was dropped: it has more octets with the FCS than RCTL.LPE allows.
+    FrameOversize,
+    /// A frame was dropped: its VLAN is not in VFTA, or its CFI is not let pass.
+    FrameVlan,
+    /// A frame was dropped: the FIFO has no room for it.
+    FrameMissed,
+    /// An access was refused: no register lies at the offset.
+    NoRegister,
+    /// A memory write was refused: its octets leave guest memory.
+    WriteRange,
+    /// A memory write was refused: it has no octet, or more than 16,384.
+    WriteLength,
+    /// A frame was refused: it has fewer than 14 octets, or more than 20,000.
+    FrameLength,
+    /// A receive step was refused: the descriptor at RDH leaves guest memory.
+    RxDescriptor,
+    /// A receive step was refused: what is to go into the buffer of the descriptor at RDH leaves guest memory.
+    RxBuffer,
+    /// A transmit step was refused: the descriptor at TDH leaves guest memory.
+    TxDescriptor,
+    /// A transmit step was refused: the descriptor at TDH is extended (DEXT).
+    TxExtended,
+    /// A transmit step was refused: the buffers of the frame hold more than 16,380 octets together.
+    TxTooLong,
+    /// A transmit step was refused: the buffer of the descriptor at TDH leaves guest memory.
+    TxBuffer,
+    /// An event was refused: the host gave no memory.
+    Memory,
+    /// Another number, which this binding does not know.
+    Other(u32),
+}
+
+/// Each rule with its number.
+pub(crate) const RULES: [(Rule, u32); 32] = [
+    (Rule::NoRule, 0),
+    (Rule::RxDisabled, 1),
+    (Rule::RxNoRing, 2),
+    (Rule::RxHeadPast, 3),
+    (Rule::RxTailPast, 4),
+    (Rule::RxEmpty, 5),
+    (Rule::RxNoFrame, 6),
+    (Rule::TxDisabled, 7),
+    (Rule::TxNoRing, 8),
+    (Rule::TxHeadPast, 9),
+    (Rule::TxTailPast, 10),
+    (Rule::TxEmpty, 11),
+    (Rule::FrameDown, 12),
+    (Rule::FrameDisabled, 13),
+    (Rule::FrameUnicast, 14),
+    (Rule::FrameMulticast, 15),
+    (Rule::FrameBroadcast, 16),
+    (Rule::FrameUndersize, 17),
+    (Rule::FrameOversize, 18),
+    (Rule::FrameVlan, 19),
+    (Rule::FrameMissed, 20),
+    (Rule::NoRegister, 21),
+    (Rule::WriteRange, 22),
+    (Rule::WriteLength, 23),
+    (Rule::FrameLength, 24),
+    (Rule::RxDescriptor, 25),
+    (Rule::RxBuffer, 26),
+    (Rule::TxDescriptor, 27),
+    (Rule::TxExtended, 28),
+    (Rule::TxTooLong, 29),
+    (Rule::TxBuffer, 30),
+    (Rule::Memory, 31),
+];
+
+/// By which rule an access of a register has a warning.
+#[derive(Clone, Copy, PartialEq, Eq, Hash, Debug)]
+#[non_exhaustive]
+pub enum Warned {
+    /// The register keeps only these bits of what was written.
+    BitsDropped,
+    /// The tail is at the ring's count of descriptors or past it.
+    TailPastRing,
+    /// EN is set in RCTL or TCTL while the ring's length is 0.
+    EnabledBeforeRing,
+    /// The adapter owns a descriptor, at this address (octets), that is all zeros.
+    DescriptorUnwritten,
+    /// The adapter owns a descriptor, at this address (octets), whose status has DD; of a transmit descriptor, one that
+    /// was not written since.
+    StatusLeft,
+    /// These causes of a ring are let through while the ring's length is 0.
+    InterruptsBeforeRings,
+    /// A read of ICR gave 0, since an earlier event cleared these causes there, and the frame still waits.
+    ReadAgain,
+    /// Another number, which this binding does not know.
+    Other(u32),
+}
+
+/// Each warned with its number.
+pub(crate) const WARNINGS: [(Warned, u32); 7] = [
+    (Warned::BitsDropped, 1),
+    (Warned::TailPastRing, 2),
+    (Warned::EnabledBeforeRing, 3),
+    (Warned::DescriptorUnwritten, 4),
+    (Warned::StatusLeft, 5),
+    (Warned::InterruptsBeforeRings, 6),
+    (Warned::ReadAgain, 7),
+];
+
+/// What is wrong with a descriptor.
+#[derive(Clone, Copy, PartialEq, Eq, Hash, Debug)]
+#[non_exhaustive]
+pub enum Trouble {
+    /// It lies outside guest memory.
+    Outside,
+    /// It is a transmit descriptor of the extended format (DEXT), which the adapter refuses (this project's profile).
+    Extended,
+    /// It is a transmit descriptor, and has no octets to send.
+    NoLength,
+    /// It is a transmit descriptor, and has more than 16,380 octets to send (this project's profile). What earlier
+    /// buffers of its frame have is not counted.
+    TooLong,
+    /// Its buffer lies outside guest memory, or part of it does.
+    BufferOutside,
+    /// Its buffer lies over the ring's own descriptors.
+    OverRing,
+    /// Its buffer lies over that of another descriptor of the ring, which has this index, the lowest such. It does not
+    /// where the driver has posted the one's buffer again as the other's.
+    OverBuffer,
+    /// Another number, which this binding does not know.
+    Other(u32),
+}
+
+/// Each trouble with its number.
+pub(crate) const TROUBLES: [(Trouble, u32); 7] = [
+    (Trouble::Outside, 1),
+    (Trouble::Extended, 2),
+    (Trouble::NoLength, 3),
+    (Trouble::TooLong, 4),
+    (Trouble::BufferOutside, 5),
+    (Trouble::OverRing, 6),
+    (Trouble::OverBuffer, 7),
+];
+
 /// What kind of event it was, with what came of it.
 #[derive(Clone, Copy, PartialEq, Eq, Hash, Debug)]
 #[non_exhaustive]

@@ -1,5 +1,6 @@
 //! Each call of the binding once, and each refusal: what they give was worked out from the manual's tables.
-use bunjelav::{offset_of, Kind, Machine, Name, Octets, Ram, Refusal, Region, Register, Ring, Stopped, Watch};
+use bunjelav::{offset_of, Asked, Kind, Machine, Name, Octets, Ram, Refusal, Region, Register, Ring, Rule, Stopped};
+use bunjelav::{Trouble, Warned, Watch};
 use bunjelav::{MOST_SENT, REGISTERS};
 use std::sync::{Arc, Mutex};
 
@@ -214,6 +215,7 @@ fn names() {
     assert_eq!(Refusal::NotMade.to_string(), "the handle holds no machine");
     assert_eq!((Refusal::Other(99).number(), Refusal::Other(99).to_string()), (99, "refusal 99".into()));
     assert_eq!(Kind::Other(99).to_string(), "unknown kind 99");
+    assert_eq!(bunjelav::version(), env!("CARGO_PKG_VERSION"));
     assert_eq!((Kind::Undersize.to_string(), Kind::LinkUp.to_string()), ("dropped: undersize".into(), "link up".into()));
     assert_eq!((REGISTERS, MOST_SENT), (350, 16_384));
 }
@@ -452,6 +454,25 @@ fn keeps_a_run() {
 }
 
 #[test]
+fn keeps_a_run_by_a_mapping() {
+    let path = std::env::temp_dir().join(format!("bunjelav-{}-mapped.em", std::process::id()));
+    let mut m = made();
+    m.record_mapped(&path).unwrap();
+    assert_eq!(made().record_mapped(&path), Err(Refusal::File));
+    assert_eq!(std::io::Error::last_os_error().kind(), std::io::ErrorKind::WouldBlock);
+    let line = line!() + 1;
+    m.write(IMS, 4).unwrap();
+    let wanted = format!("w 000000D0 00000004 = ok @ calls.rs:{line}");
+    // ahead of the lines the file is blank
+    let lines = lines_of(&path);
+    assert_eq!((lines.len(), &lines[0], lines[1].trim()), (2, &wanted, ""));
+    assert!(m.recording().unwrap());
+    drop(m);
+    assert_eq!(lines_of(&path), [wanted]);
+    std::fs::remove_file(&path).unwrap();
+}
+
+#[test]
 fn tells_where_a_run_is_not_kept() {
     let mut m = made();
     assert_eq!(m.record_to("/nowhere/at/all"), Err(Refusal::File));
@@ -474,4 +495,77 @@ fn tells_where_a_run_is_not_kept() {
     m.write(IMS, 8).unwrap();
     assert_eq!(m.record_to(&path), Err(Refusal::Begun));
     std::fs::remove_file(&path).unwrap();
+}
+
+#[test]
+fn tells_why() {
+    let mut m = made();
+    let idle = m.tx_step().unwrap();
+    let why = m.why(Asked::TxStep, Ok(idle.kind)).unwrap();
+    assert_eq!((why.rule, why.text()), (Rule::TxDisabled, "TCTL.EN is clear"));
+    for (offset, value) in [(0x2808, 128), (RDT, 16), (0x0100, 2)] {
+        m.write(offset, value).unwrap();
+    }
+    let why = m.why(Asked::RxStep, Ok(Kind::RxIdle)).unwrap();
+    assert_eq!((why.rule, why.index, why.count), (Rule::RxTailPast, 16, 8));
+    assert_eq!(why.to_string(), "RDT 16 is past the ring of 8");
+    let dropped = m.arrive(&frame()).unwrap().kind;
+    assert_eq!(m.why(Asked::Arrive(&frame()), Ok(dropped)).unwrap().rule, Rule::FrameDown);
+    assert_eq!(m.why(Asked::Read(STATUS), Ok(Kind::Read)), None);
+    let refusal = m.poke(65_530, &[7; 16]).unwrap_err();
+    let why = m.why(Asked::Poke(65_530, &[7; 16]), Err(refusal)).unwrap();
+    assert_eq!((why.address, why.octets, why.memory), (65_530, 16, 65_536));
+    assert_eq!(why.text(), "16 octets at 00FFFA, memory ends at 010000");
+    let refusal = m.write(4, 1).unwrap_err();
+    assert_eq!(m.why(Asked::Write(4, 1), Err(refusal)).unwrap().rule, Rule::NoRegister);
+}
+
+#[test]
+fn warns() {
+    let mut m = made();
+    m.write(0x2808, 128).unwrap();
+    assert_eq!(m.warnings().unwrap().count(), 0);
+    m.write(RDT, 8).unwrap();
+    let all: Vec<_> = m.warnings().unwrap().collect();
+    assert_eq!((all.len(), all[0].rule, all[0].offset), (1, Warned::TailPastRing, RDT));
+    assert_eq!((all[0].index, all[0].count), (8, 8));
+    assert_eq!(all[0].text(), "warning tail-past-ring: RDT 8 is past the ring of 8, write an index below that");
+}
+
+#[test]
+fn tells_of_entries_effects_and_the_fifo() {
+    let mut m = receiving();
+    m.poke(0x1000, &0x1008u64.to_le_bytes()).unwrap();
+    let entry = m.entry(Ring::Rx, 0).unwrap();
+    assert_eq!((entry.address, entry.buffer, entry.trouble), (0x1000, 0x1008, Some(Trouble::OverRing)));
+    assert!(entry.is_adapters && entry.is_head && !entry.is_tail);
+    assert!(entry.text().ends_with("  its buffer lies over the ring"));
+    assert_eq!(m.entry(Ring::Rx, 8).err(), Some(Refusal::NoDescriptor));
+    assert!(m.ring_text(Ring::Rx).unwrap().starts_with("rx ring at 001000  8 descriptors"));
+    assert_eq!(m.effect(0).unwrap(), "  001000  0040 -> 0810\n");
+    let all = m.differences(0).unwrap();
+    assert_eq!((all.len(), all[0].watch), (1, Watch::Octets(0x1000, 2)));
+    assert_eq!((&all[0].before[..3], &all[0].after[..3]), (&[0, 0x40, 0][..], &[8, 0x10, 0][..]));
+    let all = m.differences(1).unwrap();
+    assert_eq!((all[0].watch, all[0].value, all[0].now), (Watch::Register(0x0100), 0, 0x8002));
+    assert_eq!(m.effect(m.can_go_back()).err(), Some(Refusal::NoEvent));
+    assert_eq!(m.differences(m.can_go_back()).err(), Some(Refusal::NoEvent));
+    assert_eq!(m.fifo_text().unwrap(), "no frame waits\n");
+    m.arrive(&frame()).unwrap();
+    let mut room = [7; 64];
+    assert_eq!((m.fifo().frames, m.fifo().octets, m.fifo().gathered), (1, 60, 0));
+    assert_eq!(m.waiting_frame(&mut room[..59]), Err(Refusal::Room));
+    assert_eq!(m.waiting_frame(&mut room), Ok(60));
+    assert_eq!((&room[..60], &room[60..]), (&frame()[..], &[7; 4][..]));
+    assert_eq!(m.gathered(&mut room), Ok(0));
+}
+
+#[test]
+fn names_bits_and_fields() {
+    let all: Vec<_> = bunjelav::fields_of(0x0100).collect();
+    assert_eq!((all.len(), all[0].name(), all[0].mask), (17, "EN", 2));
+    assert_eq!((all[9].name(), all[9].lowest, all[9].of(0x20000)), ("BSIZE", 0x10000, 2));
+    assert_eq!((bunjelav::fields_of(RDT).count(), bunjelav::fields_of(4).count()), (0, 0));
+    assert_eq!(bunjelav::words_of(0x0100, 0x8002).unwrap(), "RCTL 00008002 EN BAM BSIZE=2048");
+    assert_eq!(bunjelav::words_of(4, 0), Err(Refusal::NoRegister));
 }

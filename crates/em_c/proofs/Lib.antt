@@ -4,3 +4,5 @@ pub mod RunLaws
 pub mod RegisterLaws
 pub mod DifferenceLaws
 pub mod SyncLaws
+pub mod WarningLaws
+pub mod DifferencesLaws

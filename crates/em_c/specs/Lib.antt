@@ -18,3 +18,14 @@ pub mod Sync
 pub mod SyncRange
 pub mod Text
 pub mod Kept
+pub mod Line
+pub mod Rule
+pub mod Reason
+pub mod Why
+pub mod Warning
+pub mod Entry
+pub mod Texts
+pub mod Fifo
+pub mod Told
+pub mod Fields
+pub mod Differences

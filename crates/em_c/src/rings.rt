@@ -100,7 +100,7 @@ fn descriptor_in(
 }
 
 /// The ring of a number.
-fn sided(machine: &Machine, side: u32) -> Result<SidedRing, Refused>
+pub fn sided(machine: &Machine, side: u32) -> Result<SidedRing, Refused>
     ensures { result ≡ sided side machine.now }
 {
     match side {

@@ -1,5 +1,5 @@
 //! Octets go where the caller has room for them.
-ghost use Rattle.std.specs.Prelude.{◌≡◌, Ok, length};
+ghost use Rattle.std.specs.Prelude.{◌≡◌, ◌++◌, Ok, length};
 ghost use Rattle.em_c.specs.Refused.{number, told};
 ghost use Rattle.em_c.specs.Looks.{laid_into, text_into};
 
@@ -33,5 +33,26 @@ pub fn lay_text(text: &[u8], room: &mut [u8], count: &mut usize) -> Result<(), R
     }
     room[..text.len()].copy_from_slice(text);
     room[text.len()] = 0;
+    Ok(())
+}
+
+/// The same of octets that lie in two parts.
+pub fn lay_in_two(
+    front: &[u8],
+    back: &[u8],
+    room: &mut [u8],
+    count: &mut usize,
+) -> Result<(), Refused>
+    ensures outcome { number result ≡ number (laid_into room.old (Ok (front.now ++ back.now))) }
+    ensures octets { room.new ≡ told room.old (laid_into room.old (Ok (front.now ++ back.now))) }
+    ensures count { count.new ≡ length (front.now ++ back.now) }
+{
+    let all = front.len() + back.len();
+    *count = all;
+    if all > room.len() {
+        return Err(Refused::Room);
+    }
+    room[..front.len()].copy_from_slice(front);
+    room[front.len()..all].copy_from_slice(back);
     Ok(())
 }

@@ -9,7 +9,7 @@ use em_watch::{Change, MemoryRange, Sight, Watch};
 use std::alloc::Global;
 
 /// How many octets are watched at most.
-const MOST_OCTETS: usize = 16;
+pub const MOST_OCTETS: usize = 16;
 
 /// What is watched.
 #[repr(C)]
@@ -117,7 +117,7 @@ fn change_of(change: Change) -> EmChange
 }
 
 /// What was seen as a number.
-fn value_of(sight: Sight) -> u64
+pub fn value_of(sight: Sight) -> u64
     ensures { result ≡ value_of sight }
 {
     match sight {
@@ -129,7 +129,7 @@ fn value_of(sight: Sight) -> u64
 }
 
 /// What was seen as octets.
-fn octets_of(sight: Sight) -> [u8; MOST_OCTETS]
+pub fn octets_of(sight: Sight) -> [u8; MOST_OCTETS]
     ensures { result ≡ octets_of sight }
 {
     match sight {
