@@ -15,7 +15,8 @@ enum {
   TDBAL = 0x3800,
   BASE_HIGH = 0x04, /* of a ring's registers, and the tail */
   TAIL = 0x18,
-  LEAST_BUDGET = 65536, /* of the journal, which is not asked here: the run is */
+  LEAST_BUDGET = 65536,   /* of the journal, which is not asked here: the run is */
+  MOST_BUDGET = 16777216, /* of who plays it: half a million events */
   LEAST_FRAME = 60,
   MOST_WAITING = 16,
   STATUS = 12, /* of a receive descriptor, in which EOP says that the frame ends there */
@@ -34,9 +35,9 @@ bool device_make(struct device *device, const uint8_t mac[6], struct run *run, f
   };
   if (em_make(&device->machine, MODEL_MEMORY, LEAST_BUDGET, mac) != EM_OK) return false;
   if (!ram_attach(&device->ram, &device->machine)) return false;
-  run_remark(run, "a guest's run, kept by em_guest: it plays with --memory %d --mac %02X%02X%02X%02X%02X%02X",
-             MODEL_MEMORY, mac[0], mac[1], mac[2], mac[3], mac[4], mac[5]);
+  run_head(run, MODEL_MEMORY, MOST_BUDGET, mac);
   if (em_set_link(&device->machine, true) == EM_OK) run_link(run, true);
+  run_flush(run);
   return true;
 }
 
@@ -233,8 +234,8 @@ static bool receive(struct device *device) {
     device->waiting = 0;
     return false;
   }
-  (void)em_peek(&device->machine, device->ram.work.place + STATUS, &status, 1);
-  if (status & STATUS_EOP) device->waiting--;
+  const bool is_told = em_peek(&device->machine, device->ram.work.place + STATUS, &status, 1) == EM_OK;
+  if (is_told && status & STATUS_EOP) device->waiting--;
   return true;
 }
 

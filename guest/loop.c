@@ -20,7 +20,6 @@ enum {
   LISTENER,
   FILES,
   MOST_FRAMES = 32,    /* that are taken before QEMU is looked at again */
-  KEEP_AFTER = 100,    /* milliseconds, after which the run is put into its file */
   MOST_WARNINGS = 4096 /* octets of those that come at once */
 };
 
@@ -48,7 +47,6 @@ void loop_sent(void *whose, const uint8_t *frame, size_t length) {
 
 /* Lets em_debug have the terminal, while the guest waits. */
 static void hold(struct guest *guest, const char *why) {
-  run_flush(&guest->run);
   say("the guest is held behind line %" PRIu64 " of the run: %s. `quit` lets it go on", guest->run.lines, why);
   guest->ended = hold_guest(&guest->hold, guest->process, guest->signals);
 }
@@ -61,11 +59,9 @@ void loop_accessed(void *whose, uint32_t offset) {
 void loop_look(void *whose) {
   struct guest *guest = whose;
   char warnings[MOST_WARNINGS] = "", why[MOST_WHY];
+  run_flush(&guest->run);
   if (guest->stops.count == 0 || guest->ended != 0) return;
-  if (guest->warner.process != 0) {
-    run_flush(&guest->run);
-    warner_ask(&guest->warner, warnings, sizeof warnings);
-  }
+  if (guest->warner.process != 0) warner_ask(&guest->warner, warnings, sizeof warnings);
   if (stop_is_due(&guest->stops, &guest->session.device.tally, warnings, why)) hold(guest, why);
 }
 
@@ -105,20 +101,6 @@ static int take_capture(struct guest *guest) {
   return in->has_frame || in->file ? 0 : -1;
 }
 
-/* How long may be waited: the least of what is due. */
-static int patience(struct guest *guest, int due) {
-  if (guest->session.has_more) return 0;
-  if (guest->run.have > 0 && (due < 0 || due > KEEP_AFTER)) due = KEEP_AFTER;
-  return due;
-}
-
-static void keep_run(struct guest *guest) {
-  uint64_t time = now(CLOCK_MONOTONIC);
-  if (guest->run.have == 0 || time - guest->kept < KEEP_AFTER * MILLISECOND) return;
-  guest->kept = time;
-  run_flush(&guest->run);
-}
-
 /* (That QEMU's process ended is seen at its socket too.) */
 int loop_signal(struct guest *guest) {
   struct signalfd_siginfo signal;
@@ -153,7 +135,7 @@ int loop_serve(struct guest *guest) {
     int due = take_capture(guest);
     struct pollfd files[FILES];
     watch(guest, files);
-    if (poll(files, FILES, patience(guest, due)) < 0 && errno != EINTR) return -1;
+    if (poll(files, FILES, session->has_more ? 0 : due) < 0 && errno != EINTR) return -1;
     int signal = files[SIGNALS].revents ? loop_signal(guest) : 0;
     if (signal == SIGINT && stop_has(&guest->stops, STOP_KEY)) hold(guest, "Ctrl-C");
     else if (signal != 0) return signal;
@@ -172,6 +154,5 @@ int loop_serve(struct guest *guest) {
       loop_look(guest);
     }
     if (guest->ended != 0) return guest->ended;
-    keep_run(guest);
   }
 }

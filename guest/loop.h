@@ -20,7 +20,6 @@ struct guest {
   struct capture capture_in;
   FILE *capture_out;
   uint64_t began; /* when the guest first received, by the monotonic clock; 0 before */
-  uint64_t kept;  /* when the run was last put into its file */
   pid_t process;  /* of QEMU, where em_guest started it; else 0 */
   int signals;    /* a descriptor of signals */
   int listener;   /* where a second QEMU is turned away; -1 where there is none */
@@ -36,7 +35,7 @@ void loop_sent(void *whose, const uint8_t *frame, size_t length);
 /* A register was accessed. */
 void loop_accessed(void *whose, uint32_t offset);
 
-/* Holds the guest where that is due. */
+/* Puts the run into its file, and holds the guest where that is due: behind what happened, before QEMU hears of it. */
 void loop_look(void *whose);
 
 /* Serves until the session ends. What ended it: 0 where QEMU closed, -1 where it sent what is no message, or the number

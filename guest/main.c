@@ -119,7 +119,6 @@ static bool start_qemu(struct guest *guest, const struct options *options, const
 static int wait_for_qemu(struct guest *guest, int *status) {
   if (start_has_ended(guest->process, PATIENCE, status)) return 0;
   say("QEMU has given the adapter up, and goes on without it");
-  run_flush(&guest->run);
   while (!start_has_ended(guest->process, 100, status)) {
     int ended = loop_signal(guest);
     if (ended == 0) continue;
@@ -142,6 +141,7 @@ static int end(struct guest *guest, int ended) {
   if (ended < 0) return DIED;
   if (guest->process > 0 && WIFSIGNALED(status)) {
     say("QEMU died of signal %d", WTERMSIG(status));
+    if (!guest->session.is_asked) say("that was before it had made the device: docs/guest.md says which QEMU can");
     return DIED;
   }
   return WIFEXITED(status) ? WEXITSTATUS(status) : WELL;
@@ -170,7 +170,6 @@ static int serve(struct guest *guest, const struct options *options, const struc
     status = end(guest, loop_serve(guest));
   }
   listen_end(options->listen, guest->listener);
-  run_flush(&guest->run);
   if (is_ready && status != NOT_OPENED)
     report(&guest->session.device, &guest->run, guest->wire.lost, &guest->hold.debugger, options->run);
   close_files(guest);

@@ -123,7 +123,7 @@ void ram_begin(struct ram *ram, const em_ring_setup *setup, uint32_t side, uint3
 /* Makes the memory write of a piece. */
 static void bring(em_machine *machine, const struct piece *piece) {
   size_t writes;
-  (void)em_sync_in_range(machine, piece->place, piece->octets, piece->length, &writes);
+  if (em_sync_in_range(machine, piece->place, piece->octets, piece->length, &writes) != EM_OK) return; /* (it stays) */
 }
 
 void ram_end(struct ram *ram, em_machine *machine, struct run *run, struct source source, bool is_refused) {

@@ -4,7 +4,7 @@
    The library's memory ends at 16 MiB. So an octet at a guest's address lies in the model at that address modulo 16
    MiB, and the address in a descriptor is made so on its way there. For a guest with 16 MiB the two are the same. A
    library whose memory is where a guest's is makes that needless: `ram_place` gives the address then, and what is
-   `beyond` goes. A library that keeps runs by itself makes the pieces needless. */
+   `beyond` goes. */
 #ifndef GUEST_RAM_H
 #define GUEST_RAM_H
 

@@ -85,6 +85,13 @@ static void end_line(struct run *run) {
   if (run->have >= FULL) run_flush(run);
 }
 
+void run_head(struct run *run, uint64_t memory, uint64_t budget, const uint8_t mac[6]) {
+  if (run->file < 0) return;
+  put_text(run, "# em_debug --memory %" PRIu64 " --budget %" PRIu64 " --mac ", memory, budget);
+  put_octets(run, mac, 6);
+  end_line(run);
+}
+
 static void put_source(struct run *run, struct source source) {
   if (source.counter != 0) put_text(run, " @ %s0x%" PRIX64, source.is_before ? "before " : "", source.counter);
 }

@@ -1,5 +1,5 @@
-/* The run of a guest as a script of em_bench's language, line by line as its events are performed. The library's own
-   keeping of runs can take this file's place. */
+/* The run of a guest as a script of em_bench's language, line by line as its events are performed. (The library keeps
+   runs too, by em_record_to. docs/DECISIONS.md says what its lines lack here.) */
 #ifndef GUEST_RUN_H
 #define GUEST_RUN_H
 
@@ -29,11 +29,14 @@ bool run_open(struct run *run, const char *path, bool over);
 /* A run that is kept nowhere. */
 void run_open_none(struct run *run);
 
-/* Puts the lines so far into the file. Where it refuses them that is told, and the run ends behind the last whole line
-   that it took. Between two lines alone. */
+/* Puts the lines so far into the file: from then on the system has them, whatever ends the process. Where it refuses
+   them that is told, and the run ends behind the last whole line that it took. Between two lines alone. */
 void run_flush(struct run *run);
 
 void run_close(struct run *run);
+
+/* The first line: what the adapter is made of, as the library's kept runs have it. */
+void run_head(struct run *run, uint64_t memory, uint64_t budget, const uint8_t mac[6]);
 
 /* One line each: an event with the answer that it had, which a debugger then expects. `refusal` is the library's number
    of it. A write also has a remark, or NULL. */

@@ -64,6 +64,7 @@ static bool serve(struct session *session, const struct message *message) {
     return true;
   }
   uint64_t answer = obey(session, message);
+  session->is_asked = true;
   if (session->before_answer) session->before_answer(session->whose);
   return channel_reply(&session->channel, answer);
 }

@@ -19,6 +19,7 @@ struct session {
   struct interrupt interrupt;
   struct counter counter;
   bool has_more;                      /* the engines have more to do */
+  bool is_asked;                      /* QEMU has made the device: it has asked something of it */
   void (*before_answer)(void *whose); /* called when a message is obeyed, before QEMU is answered */
   void *whose;
 };

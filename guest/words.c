@@ -127,8 +127,17 @@ static bool add_interrupt(struct words *words, char **given) {
          add(words, "chardev:qtest") && add(words, "-qtest-log") && add(words, "none");
 }
 
+static bool has_one_processor(char **words) {
+  const char *text = value_of(words, "smp");
+  if (!text) return true;
+  return strtoul(strncmp(text, "cpus=", 5) == 0 ? text + 5 : text, NULL, 10) == 1;
+}
+
 static bool add_counter(struct words *words, const struct options *options, const char *plugin) {
   if (!options->has_counter) return true;
+  if (words_use_kvm(options->words)) say("--pc: with KVM no program counter is known; it is for QEMU's TCG");
+  else if (!has_one_processor(options->words))
+    say("--pc: of several processors a program counter may be another one's; -smp 1 is wanted");
   return add(words, "-plugin") && add(words, "%s,page=/dev/fd/%d", plugin, COUNTER_FILE);
 }
 

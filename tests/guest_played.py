@@ -172,6 +172,7 @@ def accesses(tally: Tally, room: Path) -> None:
           r"\d+ accesses were of no register's four octets", "--memory 16777216 --mac 02005E100001 ")
     lines = guest.kept.read_text().splitlines()
     tally.check("what is kept of accesses", differ({
+        "the head": (lines[0], "# em_debug --memory 16777216 --budget 16777216 --mac 02005E100001"),
         "a read": ("r 00008 = 00000083" in lines, True), "a refusal": ("r 00010 = refused NoRegister" in lines, True),
         "a ring's address": ("w 02800 00345678 # the guest wrote 12345678" in lines, True)}))
     counted_run(tally, "accesses, played again", guest.kept, 10, "--mac", "02005E100001")
@@ -647,6 +648,29 @@ def halves(tally: Tally, room: Path) -> None:
     ended(tally, "a signal before a QEMU came", waits, 128 + signal.SIGINT, "ended by signal 2")
 
 
+def killed(tally: Tally, room: Path) -> None:
+    """Each access is in the run before it is answered, and so are the steps behind it: whatever ends em_guest."""
+    guest = Guest(room, "killed")
+    qemu = guest.qemu()
+    qemu.boot()
+    set_up_rings(qemu, 0)
+    qemu.poke(0x20000, FRAME)
+    qemu.poke(0x2000, transmit_descriptor(0x20000, 60) * 4)
+    ends = []
+    for tail in (1, 2, 4):
+        qemu.read(8)
+        ends.append(guest.kept.read_text().splitlines()[-1])
+        qemu.write(0x3818, tail)
+        ends.append(guest.kept.read_text().splitlines()[-1])
+    guest.process.kill()
+    guest.process.communicate()
+    qemu.close()
+    status = "r 00008 = 00000083"
+    tally.check("the run's end at each answer", differ({"it": (
+        ends, [status, "tx = sent 0 60", status, "tx = sent 1 60", status, "tx = sent 3 60"])}))
+    counted_run(tally, "killed, played again", guest.kept, 7)
+
+
 def files(tally: Tally, room: Path) -> None:
     """Files that can't be written, and the words of the command line."""
     guest = Guest(room, "full", "--over")
@@ -679,6 +703,15 @@ def files(tally: Tally, room: Path) -> None:
     tally.check("a run that is cut off", differ({
         "status": (limited.returncode, 0), "told once": (err.count(b"the run can't be written (File too large)"), 1),
         "its end": (text.endswith("\nr 00008 = 00000083\n"), True), "its octets": (4000 < len(text) <= 4096, True)}))
+    # a QEMU that dies as it makes the device
+    dying = room / "dying"
+    dying.write_text("#!/bin/sh\nkill -SEGV $$\n")
+    dying.chmod(0o755)
+    tally.ended("QEMU dies at once", run([room / "em_guest", "--run", room / "dying.em", "--", dying]), 1, b"",
+                b"em_guest: QEMU died of signal 11\nem_guest: that was before it had made the device: docs/guest.md says "
+                b"which QEMU can\nem_guest: 0 accesses of registers, 0 refused; 0 frames arrived, 0 were dropped, 0 were "
+                b"sent; 0 steps of engines refused\nem_guest: %b/dying.em has 2 lines: ./em_debug --memory 16777216 "
+                b"%b/dying.em\n" % (bytes(room), bytes(room)))
     (room / "there.em").write_text("mine\n")
     for words, status, sentence in (
         (["--run", room / "there.em", "--listen", room / "x"], 3, "it is there already; --over writes over it"),
@@ -728,6 +761,11 @@ def printed(tally: Tally, room: Path) -> None:
         faults = [f"{text} in {line}" for text in wanted if (text.lstrip("!") in line) == text.startswith("!")]
         faults += [] if "x-pci-proxy-dev,id=bunjelav,addr=4,fd=100" in line and line.count("\n") == 1 else [line]
         tally.check(f"--print -- qemu {' '.join(words)}", faults)
+    for words, sentence in ((["-smp", "2"], "may be another one's"), (["-smp", "cpus=4,cores=2"], "may be another one's"),
+                            (["-smp", "1,maxcpus=2"], ""), (["-smp", "cpus=1"], ""), ([], ""),
+                            (["-accel", "kvm", "-smp", "2"], "with KVM no program counter is known")):
+        told = run([room / "em_guest", "--pc", "--print", "--", "qemu", *words]).stderr.decode()
+        tally.check(f"--pc -- qemu {' '.join(words)}", [] if (sentence in told) and bool(told) == bool(sentence) else [told])
 
 
 def named(tally: Tally, room: Path) -> None:
@@ -755,4 +793,4 @@ def named(tally: Tally, room: Path) -> None:
 
 
 PARTS = (config, accesses, rings, standing_still, across, overlaid, received_across, many, waiting, again, by_qtest,
-         capture_in, rubbish, impatient, stubborn, halves, files, printed, named)
+         capture_in, rubbish, impatient, stubborn, halves, killed, files, printed, named)

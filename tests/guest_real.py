@@ -7,7 +7,6 @@ import re
 import select
 import shutil
 import signal
-import socket
 import subprocess
 import threading
 import time
@@ -16,10 +15,10 @@ from pathlib import Path
 import guest_packages
 from guest_played import differ
 from guest_tools import asked, counted_run, debugger
-from played_qemu import until
+from played_qemu import connected, until
 from tally import TOP, Tally, run
 
-BARE, SENDER = TOP / "examples" / "guest" / "bare.c", TOP / "examples" / "guest" / "sender.c"
+BARE, SENDER, INIT = (TOP / "examples" / "guest" / name for name in ("bare.c", "sender.c", "init"))
 BARE_WORDS = ["-m32", "-ffreestanding", "-fno-pic", "-fno-stack-protector", "-mgeneral-regs-only", "-nostdlib", "-static",
               "-O1", "-g", "-Wall", "-Wextra", "-Werror", "-Wl,-Ttext=0x100000", "-Wl,--build-id=none"]
 MACHINE = ["-accel", "tcg", "-m", "16", "-nodefaults", "-display", "none", "-serial", "stdio", "-no-reboot"]
@@ -58,7 +57,7 @@ def bare(tally: Tally, room: Path, qemu: str) -> None:
         tally.check(f"bare.em, {machine}", [line for line in kept_run if line not in text.splitlines()] if kept_run else ["none"])
         who = asked(kept, room, "who TDT")
         number = next((i for i, line in enumerate(text.splitlines(), 1) if line == f"w 03818 00000003 @ bare.c:{tail} send"), 0)
-        tally.check(f"who, {machine}", [] if any(f"line {number}, " in line for line in who) else who)
+        tally.check(f"who, {machine}", [] if any(f"line {number} @ bare.c:{tail} send, " in line for line in who) else who)
 
 
 def terminal(words: list, script: list[tuple[bytes, bytes]]) -> tuple[int, str]:
@@ -109,9 +108,7 @@ def listened(tally: Tally, room: Path, qemu: str) -> None:
     elf, path, qtest = room / "bare.elf", room / "listened", room / "listened-qtest"
     process = subprocess.Popen([TOP / "em_guest", "--run", room / "listened.em", "--listen", path, "--qtest", qtest,
                                 "--irq", "/machine/i440fx/ioapic:11"], stderr=subprocess.PIPE)
-    until(path.exists)
-    with socket.socket(socket.AF_UNIX, socket.SOCK_STREAM) as end:
-        end.connect(str(path))
+    with connected(path) as end:
         words = ["-machine", "pc,graphics=off,memory-backend=m", "-object", "memory-backend-memfd,id=m,size=16M,share=on",
                  "-qtest", f"unix:{qtest},server=on,wait=off", "-qtest-log", "none", "-nic", "none",
                  "-device", f"x-pci-proxy-dev,id=b,addr=3,fd={end.fileno()}", *MACHINE, "-kernel", elf]
@@ -192,6 +189,7 @@ def dies(tally: Tally, room: Path, qemu: str) -> None:
         _, err = process.communicate(timeout=SECONDS)
         gone = until(lambda: not Path(f"/proc/{children[0]}/exe").exists())
         tally.check(name, differ({"status": (process.returncode, status), "told": (sentence in err.decode(), True),
+                                  "it had made the device": (b"had made the device" in err, False),
                                   "QEMU is gone": (gone, True)}))
     ran = em_guest("--run", room / "no-machine.em", "--", qemu, "-machine", "none-such")
     tally.check("QEMU refuses its words", differ({"status": (ran.returncode, 1), "told": (b"unsupported machine type" in ran.stderr, True)}))
@@ -224,17 +222,6 @@ def written_in_page(file: str, text: str) -> list[str]:
     return faults if page else ["it has no line of the run"]
 
 
-INIT = """#!/bin/busybox sh
-/bin/busybox mount -t proc proc /proc
-/bin/busybox mount -t sysfs sys /sys
-/bin/busybox insmod /sender.ko
-echo "sender's code is at $(/bin/busybox cat /sys/module/sender/sections/.text)"
-/bin/busybox sleep 1
-/bin/busybox rmmod sender
-/bin/busybox reboot -f
-"""
-
-
 def initrd(room: Path, module: Path, busybox: Path) -> Path:
     """A disk in memory that loads the module, tells where it lies, and resets the machine."""
     folder, packed = room / "disk", room / "initrd"
@@ -242,8 +229,7 @@ def initrd(room: Path, module: Path, busybox: Path) -> Path:
         (folder / name).mkdir(parents=True)
     shutil.copy(busybox, folder / "bin" / "busybox")
     shutil.copy(module, folder)
-    (folder / "init").write_text(INIT)
-    (folder / "init").chmod(0o755)
+    shutil.copy(INIT, folder)
     names = "\n".join(str(path.relative_to(folder)) for path in sorted(folder.rglob("*")))
     ran = run([busybox, "cpio", "-o", "-H", "newc"], names.encode(), cwd=folder)
     packed.write_bytes(ran.stdout)

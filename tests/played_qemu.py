@@ -14,20 +14,26 @@ def message(command: int, data: bytes = b"", size: int | None = None) -> bytes:
     return struct.pack("<iiQ", command, 0, len(data) if size is None else size) + data
 
 
+def connected(path: Path) -> socket.socket:
+    """A socket that is connected to one that a program listens at by then. (Its path is there before it listens.)"""
+    end = time.monotonic() + 60
+    while True:
+        made = socket.socket(socket.AF_UNIX, socket.SOCK_STREAM)
+        try:
+            made.connect(str(path))
+            return made
+        except (FileNotFoundError, ConnectionRefusedError):
+            made.close()
+            if time.monotonic() > end:
+                raise
+            time.sleep(0.02)
+
+
 class PlayedQemu:
     """One end of the socket, as QEMU holds it, with `octets` of guest memory at the address `base`."""
 
     def __init__(self, path: Path, base: int = 0, octets: int = 1 << 22) -> None:
-        self.socket = socket.socket(socket.AF_UNIX, socket.SOCK_STREAM)
-        end = time.monotonic() + 60
-        while True:
-            try:
-                self.socket.connect(str(path))
-                break
-            except (FileNotFoundError, ConnectionRefusedError):
-                if time.monotonic() > end:
-                    raise
-                time.sleep(0.02)
+        self.socket = connected(path)
         self.socket.settimeout(60)
         self.base, self.octets = base, octets
         self.file = os.memfd_create("guest")

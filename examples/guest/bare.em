@@ -1,4 +1,4 @@
-# a guest's run, kept by em_guest: it plays with --memory 16777216 --mac 525400123456
+# em_debug --memory 16777216 --budget 16777216 --mac 525400123456
 link up
 w 00000 04000000 # the machine was reset
 r 00008 = 00000083 @ bare.c:143 read_register
