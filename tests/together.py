@@ -11,6 +11,8 @@ import subprocess
 from dataclasses import dataclass
 from pathlib import Path
 
+from built import QUICK_RT
+
 REFUSED = "refused, as it must be"
 FUNCTION = re.compile(r'(\s*)(?:pub(?:\(\w+\))? )?(?:const |unsafe |extern "C" )*fn (\w+)')
 IMPL = re.compile(r"impl\b(?:<[^{]*?>)? (?:.*? for )?&?(?:mut )?(\w+)")
@@ -161,7 +163,7 @@ def checked(prover: Prover, crate: Path, edits: list[Path]) -> str:
             text = path.read_text()
             were.setdefault(path, text)
             path.write_text(text.replace(old, new))
-    said = prover.says(["rt", "check", "--allow-holes"], crate)
+    said = prover.says([QUICK_RT, "check", "--allow-holes"], crate)
     for path, text in were.items():
         path.write_text(text)
     return said

@@ -9,17 +9,27 @@
        const em_ram all = {NULL, NULL, NULL, &region, 1};
        const uint8_t mac[6] = {0x52, 0x54, 0x00, 0x12, 0x34, 0x56};
        em_machine m = EM_NO_MACHINE;
-       if (em_make(&m, sizeof ram, 1048576, mac) != EM_OK || em_attach(&m, &all) != EM_OK) ...
-       em_write(&m, 0x2818, tail);               the driver wrote descriptors to ram, and gives them to the adapter
-       em_arrive(&m, frame, length, &event);
-       em_run_rx(&m, SIZE_MAX, &steps);          the frame lies in ram
+       must(em_make(&m, sizeof ram, 1048576, mac));
+       must(em_attach(&m, &all));
+       must(em_write(&m, 0x2818, tail));         the driver wrote descriptors to ram, and gives them to the adapter
+       must(em_arrive(&m, frame, length, &event));
+       must(em_run_rx(&m, SIZE_MAX, &steps));    the frame lies in ram
        em_free(&m);
 
-   WHAT EACH CALL GIVES. EM_OK, which is 0, or the number of the reason why it did nothing (enum em_code). A call
-   that was refused has changed nothing: neither the machine, nor what a pointer points to. Only the calls that fill
-   room also tell how much they need, and em_run_rx, em_run_tx and em_sync_in tell how many steps or writes went well
-   before the one that was refused; these stay. Of attached memory its own section says what a refusal leaves. What a
-   call tells goes through its last pointers.
+   where must is of the caller:
+
+       static void must(em_code code) {
+         if (code == EM_OK) return;
+         puts(em_strerror(code));
+         exit(1);
+       }
+
+   WHAT EACH CALL GIVES. EM_OK, which is 0, or the number of the reason why it did nothing (enum em_code), whose text
+   em_strerror gives; the compiler warns where that is not looked at. A call that was refused has changed nothing:
+   neither the machine, nor what a pointer points to. Only the calls that fill room also tell how much they need, and
+   em_run_rx, em_run_tx and em_sync_in tell how many steps or writes went well before the one that was refused; these
+   stay. Of attached memory its own section says what a refusal leaves. What a call tells goes through its last
+   pointers.
 
    WHAT MUST HOLD. The proofs of the library rest on this, and nothing checks it:
 
@@ -40,8 +50,8 @@
      to 16 that divides n. (Each C library's are.)
    - A machine holds memory until em_free.
 
-   WHAT EACH CALL COSTS is said with it: "constant" means no loop over what the machine holds, and some ten
-   nanoseconds. Calls that are events also let the oldest records go that the budget no longer holds. */
+   WHAT EACH CALL COSTS is said with it: "constant" means no loop over what the machine holds, and some ten nanoseconds.
+   Calls that are events also let the oldest records go that the budget no longer holds. */
 #ifndef BUNJELAV_H
 #define BUNJELAV_H
 
@@ -53,9 +63,17 @@
 extern "C" {
 #endif
 
-/* The version, as text, and as a number that grows: 0x010203 is 1.2.3. docs/CHANGELOG.md says what each changed. */
+/* The version of this header, as text, and as a number that grows: 0x010203 is 1.2.3. docs/CHANGELOG.md says what each
+   changed. em_version gives that of the library. */
 #define EM_VERSION "0.1.0"
 #define EM_VERSION_NUMBER 0x000100
+
+/* The compiler warns where what a call gives is not looked at (-Wno-unused-result turns that off). */
+#if defined(__GNUC__)
+#define EM_CHECKED __attribute__((warn_unused_result))
+#else
+#define EM_CHECKED
+#endif
 
 /* A part of the caller's memory: `octets` lies at the address `base` of guest memory, and has `size` octets. */
 typedef struct em_region {
@@ -88,7 +106,7 @@ typedef struct em_machine {
 #define EM_NO_MACHINE \
   { false, NULL, { NULL, NULL, NULL, NULL, 0 }, 0 }
 
-/* Why a call did nothing. The numbers stay as they are. */
+/* Why a call did nothing. The numbers stay as they are, and a later version may give others. */
 typedef enum em_code {
   EM_OK = 0,           /* nothing refused it */
   EM_NO_REGISTER = 1,  /* no register lies at the offset */
@@ -119,7 +137,8 @@ typedef enum em_code {
   EM_BEGUN = 42,       /* the machine has performed an event: a run is kept from its first one on */
   EM_RECORDED = 43,    /* the run is kept already */
   EM_FILE = 44,        /* the file was not opened, or not written */
-  EM_UNRECORDED = 45   /* the run is not kept */
+  EM_UNRECORDED = 45,  /* the run is not kept */
+  EM_CODE_WIDE = 0x7FFFFFFF /* none: it gives the type 32 bits, in which numbers of later versions have room */
 } em_code;
 
 /* What an event was, and what came of it. The numbers stay as they are. */
@@ -164,25 +183,25 @@ typedef struct em_note {
    (each costs at least 32). Refused as EM_MADE_ALREADY, EM_SIZE, EM_BUDGET or EM_MEMORY, the first that holds. It takes
    three and a half times the budget of memory and 150 KB, which the host's system gives by pages, as they are used;
    and guest memory by pages, as they are written. */
-uint32_t em_make(em_machine *machine, uint64_t memory, uint64_t budget, const uint8_t mac[6]);
+EM_CHECKED em_code em_make(em_machine *machine, uint64_t memory, uint64_t budget, const uint8_t mac[6]);
 
 /* The same with the 64 words of the EEPROM. */
-uint32_t em_make_with_eeprom(em_machine *machine, uint64_t memory, uint64_t budget, const uint16_t words[64]);
+EM_CHECKED em_code em_make_with_eeprom(em_machine *machine, uint64_t memory, uint64_t budget, const uint16_t words[64]);
 
 /* Frees the machine that the handle holds, if it holds one; then it holds none, and may be made again. Cost: the
    journal's records, and the pages that were written. */
-void em_free(em_machine *machine);
+void em_free(em_machine *m);
 
 /* ---- registers; constant, but for a write of CTRL that resets */
 
 /* The driver reads the register at an offset in octets (a multiple of 4, as the manual's tables have it). */
-uint32_t em_read(em_machine *machine, uint32_t offset, uint32_t *value);
+EM_CHECKED em_code em_read(em_machine *machine, uint32_t offset, uint32_t *value);
 
 /* The driver writes a register. */
-uint32_t em_write(em_machine *machine, uint32_t offset, uint32_t value);
+EM_CHECKED em_code em_write(em_machine *machine, uint32_t offset, uint32_t value);
 
 /* What a read would give. It is no event, and clears nothing. */
-uint32_t em_look(const em_machine *machine, uint32_t offset, uint32_t *value);
+EM_CHECKED em_code em_look(const em_machine *machine, uint32_t offset, uint32_t *value);
 
 /* A register, and what a read of it would give. */
 typedef struct em_register {
@@ -193,7 +212,7 @@ typedef struct em_register {
 /* All registers that are not zero, by offset: at most EM_REGISTERS of them. Where `room` is too small it is refused as
    EM_ROOM, and `count` tells how much is needed. It is no event. The cost is that of some thousand looks. */
 #define EM_REGISTERS 350
-uint32_t em_registers(const em_machine *machine, em_register *out, size_t room, size_t *count);
+EM_CHECKED em_code em_registers(const em_machine *machine, em_register *out, size_t room, size_t *count);
 
 /* ---- rings; constant */
 
@@ -213,7 +232,7 @@ typedef struct em_ring_setup {
 } em_ring_setup;
 
 /* How the registers set a ring of enum em_rings up. It is no event. Refused as EM_NO_RING. */
-uint32_t em_ring(const em_machine *machine, uint32_t side, em_ring_setup *setup);
+EM_CHECKED em_code em_ring(const em_machine *machine, uint32_t side, em_ring_setup *setup);
 
 /* A descriptor of a ring. */
 typedef struct em_descriptor {
@@ -224,15 +243,16 @@ typedef struct em_descriptor {
 
 /* The descriptor at an index of a ring, the first at 0. It is no event. Refused as EM_NO_RING, as EM_NO_DESCRIPTOR where
    the ring has not so many, and as EM_RANGE where it leaves guest memory. */
-uint32_t em_ring_descriptor(const em_machine *machine, uint32_t side, uint32_t index, em_descriptor *descriptor);
+EM_CHECKED em_code em_ring_descriptor(const em_machine *machine, uint32_t side, uint32_t index,
+                                      em_descriptor *descriptor);
 
 /* ---- guest memory; the cost is that of copying the octets */
 
 /* The driver writes 1 to 16,384 octets. Where memory is attached they go there too (else EM_UNWRITTEN). */
-uint32_t em_poke(em_machine *machine, uint64_t address, const uint8_t *octets, size_t length);
+EM_CHECKED em_code em_poke(em_machine *machine, uint64_t address, const uint8_t *octets, size_t length);
 
 /* Copies octets out; any number of them. It is no event. */
-uint32_t em_peek(const em_machine *machine, uint64_t address, uint8_t *out, size_t length);
+EM_CHECKED em_code em_peek(const em_machine *machine, uint64_t address, uint8_t *out, size_t length);
 
 /* ---- the caller's own memory
 
@@ -270,11 +290,11 @@ uint32_t em_peek(const em_machine *machine, uint64_t address, uint8_t *out, size
 /* Attaches the caller's memory, in the place of other memory that was; `ram` is copied, its context and its table of
    regions are used until then. Nothing is brought over. Refused as EM_BUSY, EM_NOT_MADE or EM_NO_RAM, the first that
    holds. Constant. */
-uint32_t em_attach(em_machine *machine, const em_ram *ram);
+EM_CHECKED em_code em_attach(em_machine *machine, const em_ram *ram);
 
 /* From now on guest memory is the machine's own again, as it has it. em_free does the same. Refused as EM_BUSY or
    EM_NOT_MADE. Constant. */
-uint32_t em_detach(em_machine *machine);
+EM_CHECKED em_code em_detach(em_machine *machine);
 
 /* What the next step of an engine of enum em_rings reads and writes, by what the machine has: a range of no octets, at 0,
    where there are less than two. Of receiving: the descriptor is read; the piece in its buffer and the descriptor's last
@@ -285,12 +305,12 @@ typedef struct em_range {
   uint64_t address;
   uint64_t length;
 } em_range;
-uint32_t em_ring_needs(const em_machine *machine, uint32_t side, em_range reads[2], em_range writes[2]);
+EM_CHECKED em_code em_ring_needs(const em_machine *machine, uint32_t side, em_range reads[2], em_range writes[2]);
 
 /* What the event at k wrote, as em_event counts: of a receive step the piece in its buffer and the descriptor's last 8
    octets, of a transmit step its status octet, of a memory write its octets. It is no event. Refused as EM_NO_EVENT.
    Constant. */
-uint32_t em_written(const em_machine *machine, size_t k, em_range written[2]);
+EM_CHECKED em_code em_written(const em_machine *machine, size_t k, em_range written[2]);
 
 /* ---- guest memory and a copy of it; these never touch attached memory */
 
@@ -298,7 +318,7 @@ uint32_t em_written(const em_machine *machine, size_t k, em_range written[2]);
    and em_sync_in has not brought in since is written over. An octet that is the same already is not written. Refused as
    EM_LENGTH where `size` is not the size of guest memory. The cost is that of copying and comparing all pages, and in
    each page of 4,096 octets that differs of comparing its octets one by one. */
-uint32_t em_sync_out(const em_machine *machine, uint8_t *ram, size_t size);
+EM_CHECKED em_code em_sync_out(const em_machine *machine, uint8_t *ram, size_t size);
 
 /* Makes guest memory what `ram` is, by one memory write in each page of 4,096 octets that differs, the lowest address
    first: from the page's first octet that differs to its last, and so also what is the same between them. Each write is
@@ -306,66 +326,67 @@ uint32_t em_sync_out(const em_machine *machine, uint8_t *ram, size_t size);
    attaches it, and wants neither.) `writes` tells how many were made. Refused as EM_LENGTH where `size` is not the size of guest memory: nothing is done, nor told. Refused as
    EM_MEMORY where the host has no memory for a write: those before it stay, and are told. The cost is that of copying
    and comparing all pages, and of the writes. */
-uint32_t em_sync_in(em_machine *machine, const uint8_t *ram, size_t size, size_t *writes);
+EM_CHECKED em_code em_sync_in(em_machine *machine, const uint8_t *ram, size_t size, size_t *writes);
 
 /* Makes `out` what guest memory is from an address on. An octet that is the same already is not written. Refused as
    EM_RANGE. The cost is that of copying and comparing so many octets. */
-uint32_t em_sync_out_range(const em_machine *machine, uint64_t address, uint8_t *out, size_t length);
+EM_CHECKED em_code em_sync_out_range(const em_machine *machine, uint64_t address, uint8_t *out, size_t length);
 
 /* Makes guest memory what `octets` are from an address on, by one memory write from the first octet that differs to the
    last, or by none; `writes` tells how many. Refused as EM_RANGE, as EM_LENGTH above 16,384 octets, or as EM_MEMORY, the
    first that holds. */
-uint32_t em_sync_in_range(em_machine *machine, uint64_t address, const uint8_t *octets, size_t length, size_t *writes);
+EM_CHECKED em_code em_sync_in_range(em_machine *machine, uint64_t address, const uint8_t *octets, size_t length,
+                                    size_t *writes);
 
 /* How many octets guest memory has. Constant. */
-uint32_t em_memory_size(const em_machine *machine, uint64_t *size);
+EM_CHECKED em_code em_memory_size(const em_machine *machine, uint64_t *size);
 
 /* ---- the wire, the link, and the engines; the cost is that of copying the frame, or its piece */
 
 /* A frame of 14 to 20,000 octets arrives, without its FCS; the event tells what became of it: EM_STORED, or why it was
    dropped. */
-uint32_t em_arrive(em_machine *machine, const uint8_t *frame, size_t length, em_note *event);
+EM_CHECKED em_code em_arrive(em_machine *machine, const uint8_t *frame, size_t length, em_note *event);
 
 /* The link goes up, or down. Constant. */
-uint32_t em_set_link(em_machine *machine, bool up);
+EM_CHECKED em_code em_set_link(em_machine *machine, bool up);
 
 /* The receive engine handles one descriptor: EM_RX_IDLE, or EM_WROTE with the descriptor's index. */
-uint32_t em_rx_step(em_machine *machine, em_note *event);
+EM_CHECKED em_code em_rx_step(em_machine *machine, em_note *event);
 
 /* The transmit engine handles one descriptor: EM_TX_IDLE, or EM_FETCHED or EM_SENT with the descriptor's index. */
-uint32_t em_tx_step(em_machine *machine, em_note *event);
+EM_CHECKED em_code em_tx_step(em_machine *machine, em_note *event);
 
 /* An engine steps until a step is idle or refused, and at most n times that are neither; `done` tells how many those
    were. An idle step is an event too. The cost is that of the steps. */
-uint32_t em_run_rx(em_machine *machine, size_t n, size_t *done);
-uint32_t em_run_tx(em_machine *machine, size_t n, size_t *done);
+EM_CHECKED em_code em_run_rx(em_machine *machine, size_t n, size_t *done);
+EM_CHECKED em_code em_run_tx(em_machine *machine, size_t n, size_t *done);
 
 /* The interrupt line: 1 where it is asserted, else 0. Constant. */
-uint32_t em_line(const em_machine *machine, uint32_t *level);
+EM_CHECKED em_code em_line(const em_machine *machine, uint32_t *level);
 
 /* How many frames were sent since the machine was made. Constant. */
-uint32_t em_wire_count(const em_machine *machine, size_t *count);
+EM_CHECKED em_code em_wire_count(const em_machine *machine, size_t *count);
 
 /* Copies a frame that was sent, the first one at 0, to the head of `out`, and tells its length. Where `room` is too
    small it is refused as EM_ROOM, and `length` tells how much is needed; EM_MOST_SENT is always enough. */
-uint32_t em_wire_frame(const em_machine *machine, size_t index, uint8_t *out, size_t room, size_t *length);
+EM_CHECKED em_code em_wire_frame(const em_machine *machine, size_t index, uint8_t *out, size_t room, size_t *length);
 
 /* ---- back */
 
 /* Takes the newest n events back, or as many as the journal holds, and tells how many: the machine is as it was before
    them. The cost is theirs. */
-uint32_t em_back(em_machine *machine, size_t n, size_t *done);
+EM_CHECKED em_code em_back(em_machine *machine, size_t n, size_t *done);
 
 /* How many events can be taken back. Constant. */
-uint32_t em_can_go_back(const em_machine *machine, size_t *count);
+EM_CHECKED em_code em_can_go_back(const em_machine *machine, size_t *count);
 
 /* ---- what happened, and who did it */
 
 /* The tag of the events from now on: a line's number, a program counter. It begins as 0. Constant. */
-uint32_t em_tag(em_machine *machine, uint64_t tag);
+EM_CHECKED em_code em_tag(em_machine *machine, uint64_t tag);
 
 /* What an event of the journal was: the newest at k = 0, as many as em_can_go_back tells. Constant. */
-uint32_t em_event(const em_machine *machine, size_t k, em_note *event);
+EM_CHECKED em_code em_event(const em_machine *machine, size_t k, em_note *event);
 
 /* What is watched. */
 typedef struct em_watch {
@@ -393,46 +414,242 @@ typedef struct em_change {
 
 /* The newest change of what is watched, with nothing taken back; refused as EM_NO_CHANGE where the journal has none, and
    as EM_RANGE where the octets leave guest memory. The cost is that of a look into each record back to there. */
-uint32_t em_last_change(const em_machine *machine, const em_watch *watch, em_change *change);
+EM_CHECKED em_code em_last_change(const em_machine *machine, const em_watch *watch, em_change *change);
+
+/* ---- what explains: looks at the machine at rest, with the numbers and the words that em_debug has
+
+   A text of a struct ends in a zero octet. */
+
+/* By which rule an event did nothing. The numbers stay as they are. */
+typedef enum em_rule {
+  EM_WHY_NO_RULE = 0, /* none: the event did something */
+  EM_WHY_RX_DISABLED = 1, /* a receive step was idle: RCTL.EN is clear */
+  EM_WHY_RX_NO_RING = 2, /* a receive step was idle: the ring has no descriptor */
+  EM_WHY_RX_HEAD_PAST = 3, /* a receive step was idle: RDH is past the ring */
+  EM_WHY_RX_TAIL_PAST = 4, /* a receive step was idle: RDT is past the ring */
+  EM_WHY_RX_EMPTY = 5, /* a receive step was idle: RDH and RDT are the same */
+  EM_WHY_RX_NO_FRAME = 6, /* a receive step was idle: no frame waits in the FIFO */
+  EM_WHY_TX_DISABLED = 7, /* a transmit step was idle: TCTL.EN is clear */
+  EM_WHY_TX_NO_RING = 8, /* a transmit step was idle: the ring has no descriptor */
+  EM_WHY_TX_HEAD_PAST = 9, /* a transmit step was idle: TDH is past the ring */
+  EM_WHY_TX_TAIL_PAST = 10, /* a transmit step was idle: TDT is past the ring */
+  EM_WHY_TX_EMPTY = 11, /* a transmit step was idle: TDH and TDT are the same */
+  EM_WHY_FRAME_DOWN = 12, /* a frame was dropped: the link is down */
+  EM_WHY_FRAME_DISABLED = 13, /* a frame was dropped: RCTL.EN is clear */
+  EM_WHY_FRAME_UNICAST = 14, /* a frame was dropped: no filter has its destination, a unicast address */
+  EM_WHY_FRAME_MULTICAST = 15, /* a frame was dropped: no filter has its destination, the address of a group */
+  EM_WHY_FRAME_BROADCAST = 16, /* a frame was dropped: no filter has its destination, the broadcast address */
+  EM_WHY_FRAME_UNDERSIZE = 17, /* a frame was dropped: it has fewer than 64 octets with the FCS */
+  EM_WHY_FRAME_OVERSIZE = 18, /* a frame was dropped: it has more octets with the FCS than RCTL.LPE allows */
+  EM_WHY_FRAME_VLAN = 19, /* a frame was dropped: its VLAN is not in VFTA, or its CFI is not let pass */
+  EM_WHY_FRAME_MISSED = 20, /* a frame was dropped: the FIFO has no room for it */
+  EM_WHY_NO_REGISTER = 21, /* an access was refused: no register lies at the offset */
+  EM_WHY_WRITE_RANGE = 22, /* a memory write was refused: its octets leave guest memory */
+  EM_WHY_WRITE_LENGTH = 23, /* a memory write was refused: it has no octet, or more than 16,384 */
+  EM_WHY_FRAME_LENGTH = 24, /* a frame was refused: it has fewer than 14 octets, or more than 20,000 */
+  EM_WHY_RX_DESCRIPTOR = 25, /* a receive step was refused: the descriptor at RDH leaves guest memory */
+  EM_WHY_RX_BUFFER = 26, /* a receive step was refused: what is to go into the descriptor's buffer leaves guest
+                           memory */
+  EM_WHY_TX_DESCRIPTOR = 27, /* a transmit step was refused: the descriptor at TDH leaves guest memory */
+  EM_WHY_TX_EXTENDED = 28, /* a transmit step was refused: the descriptor at TDH is extended (DEXT) */
+  EM_WHY_TX_TOO_LONG = 29, /* a transmit step was refused: the buffers of the frame hold more than 16,380 octets */
+  EM_WHY_TX_BUFFER = 30, /* a transmit step was refused: the buffer of the descriptor at TDH leaves guest memory */
+  EM_WHY_MEMORY = 31 /* an event was refused: the host gave no memory */
+} em_rule;
+
+/* Why an event did nothing. A number that the rule has not is 0. */
+typedef struct em_reason {
+  uint64_t address; /* where the descriptor lies, or the octets of a memory write; the offset of an access */
+  uint64_t buffer;  /* where the descriptor's buffer lies */
+  uint64_t octets;  /* how many octets: of a memory write, of a frame (of one that was dropped with the FCS), of a
+                       transmit descriptor */
+  uint64_t most;    /* how many octets there may be at most, by a buffer or RCTL.LPE; of EM_WHY_FRAME_UNDERSIZE at
+                       least; of EM_WHY_FRAME_MISSED how many frames wait */
+  uint64_t memory;  /* how many octets guest memory has */
+  uint32_t rule;    /* an em_rule */
+  uint32_t index;   /* the descriptor's index, or what RDH, RDT, TDH or TDT holds */
+  uint32_t count;   /* how many descriptors the ring has */
+  uint32_t value;   /* the hash of a destination, or the identifier of a VLAN */
+  uint8_t to[6];    /* the destination that no filter has */
+  char text[256];   /* the reason in words: "the ring is empty (RDH = RDT = 3)" */
+} em_reason;
+
+/* Why an event did nothing: a step that was idle, a frame that was dropped, or an event that was refused. `event` is
+   what its call told, or em_event; `code` is what its call gave. Of a refused event the caller fills the note: as
+   `kind` EM_READ, EM_WRITE or EM_POKE with the offset or the address as `at`, EM_STORED of a frame, EM_WROTE of a step
+   of the receive engine, EM_FETCHED of the transmit engine. `octets` are those of the frame or of the memory write,
+   which no note has; of another event there are none.
+
+   It is asked of the machine as it is now: right behind the event, which left it as it was. It is also right as long as
+   nothing that the rule goes by changed. EM_WHY_NO_RULE and an empty text say that the event did something. Constant,
+   but for the 16 entries of the address filter. */
+EM_CHECKED em_code em_why(const em_machine *machine, const em_note *event, uint32_t code, const uint8_t *octets,
+                          size_t length, em_reason *reason);
+
+/* By which rule an access of a register has a warning. The numbers stay as they are. */
+typedef enum em_warned {
+  EM_WARN_BITS_DROPPED = 1, /* the register keeps only some bits of what was written */
+  EM_WARN_TAIL_PAST_RING = 2, /* the tail is at the ring's count of descriptors or past it */
+  EM_WARN_ENABLED_BEFORE_RING = 3, /* EN is set in RCTL or TCTL while the ring's length is 0 */
+  EM_WARN_DESCRIPTOR_UNWRITTEN = 4, /* the adapter owns a descriptor that is all zeros */
+  EM_WARN_STATUS_LEFT = 5, /* the adapter owns a descriptor whose status has DD */
+  EM_WARN_INTERRUPTS_BEFORE_RINGS = 6, /* causes of a ring are let through while the ring's length is 0 */
+  EM_WARN_READ_AGAIN = 7 /* a read of ICR gave 0, since an earlier event cleared it, and the frame still waits */
+} em_warned;
+
+/* What a driver seems to get wrong by an access of a register. A number that the rule has not is 0. */
+typedef struct em_warning {
+  uint64_t address; /* where the descriptor lies */
+  uint32_t rule;    /* an em_warned */
+  uint32_t offset;  /* of the register that was accessed; of EM_WARN_INTERRUPTS_BEFORE_RINGS of RDLEN or TDLEN */
+  uint32_t index;   /* the descriptor's index, or what the tail holds */
+  uint32_t count;   /* how many descriptors the ring has */
+  uint32_t kept;    /* the bits that the register keeps, */
+  uint32_t written; /* of those that were written */
+  uint32_t causes;  /* that are let through, or that were cleared */
+  char text[256];   /* "warning tail-past-ring: RDT 8 is past the ring of 8, write an index below that" */
+} em_warning;
+
+/* What a driver seems to get wrong by the newest event, as the machine is behind it: a write of a register, or a read
+   of ICR that gave 0. `count` tells how many warnings there are; the others are of the rule 0. The cost is that of a
+   look at each descriptor that a write of RDT or TDT gives to the adapter; of another write it is constant. */
+EM_CHECKED em_code em_warnings(const em_machine *machine, em_warning warnings[6], size_t *count);
+
+/* What is wrong with a descriptor first; 0 where nothing is. The numbers stay as they are. */
+typedef enum em_trouble {
+  EM_TROUBLE_OUTSIDE = 1, /* it lies outside guest memory */
+  EM_TROUBLE_EXTENDED = 2, /* a transmit descriptor of the extended format (DEXT), which the adapter refuses */
+  EM_TROUBLE_NO_LENGTH = 3, /* a transmit descriptor that has no octets to send */
+  EM_TROUBLE_TOO_LONG = 4, /* a transmit descriptor that has more than 16,380 octets to send */
+  EM_TROUBLE_BUFFER_OUTSIDE = 5, /* its buffer lies outside guest memory, or part of it does */
+  EM_TROUBLE_OVER_RING = 6, /* its buffer lies over the ring's own descriptors */
+  EM_TROUBLE_OVER_BUFFER = 7 /* its buffer lies over that of another descriptor of the ring */
+} em_trouble;
+
+/* A descriptor of a ring, with what it says, whose it is, and what is wrong with it. */
+typedef struct em_entry {
+  uint64_t address;  /* where it lies */
+  uint64_t buffer;   /* where its buffer lies */
+  uint32_t index;    /* its index in the ring */
+  uint32_t length;   /* how many octets the adapter put into the buffer, or is to send out of it */
+  uint32_t status;   /* its status octet */
+  uint32_t errors;   /* of a receive descriptor its errors octet; else 0 */
+  uint32_t command;  /* of a transmit descriptor its command octet; else 0 */
+  uint32_t adapters; /* 1 where it is the adapter's; else 0 */
+  uint32_t head;     /* 1 where the head stands here; else 0 */
+  uint32_t tail;     /* 1 where the tail stands here; else 0 */
+  uint32_t trouble;  /* an em_trouble, or 0 */
+  uint32_t other;    /* of EM_TROUBLE_OVER_BUFFER the descriptor over whose buffer its own lies; else 0 */
+  char text[256];    /* its line: ">     0  at 001000  buffer 004000  length     0  adapter" */
+} em_entry;
+
+/* The descriptor at an index of a ring, the first at 0; where it leaves guest memory only its place is known. Refused
+   as EM_NO_RING or EM_NO_DESCRIPTOR. The cost is that of a look at each descriptor of the ring. */
+EM_CHECKED em_code em_ring_entry(const em_machine *machine, uint32_t side, uint32_t index, em_entry *entry);
+
+/* A ring as text, with a zero octet behind it: a line of what the registers say, and a line for each descriptor, of
+   more than 64 for those around the head. `length` tells how many octets it has, without the zero. Where `room` is too
+   small for both it is refused as EM_ROOM, and `length` is told all the same; else as EM_NO_RING, or EM_MEMORY. For
+   each line the cost is that of a look at each descriptor of the ring. */
+EM_CHECKED em_code em_ring_text(const em_machine *machine, uint32_t side, uint8_t *out, size_t room, size_t *length);
+
+/* All that the event at k changed, as em_event counts, as text like that of em_ring_text: a line for each register, for
+   octets of guest memory side by side, the interrupt line, the link, the FIFO and the wire, each with what was before
+   and what is behind it. Refused as EM_NO_EVENT, EM_ROOM or EM_MEMORY. The cost is that of looks into k records for
+   each register. */
+EM_CHECKED em_code em_effect(const em_machine *machine, size_t k, uint8_t *out, size_t room, size_t *length);
+
+/* What an event changed of one thing. */
+typedef struct em_difference {
+  uint64_t address;   /* of octets, where they lie */
+  uint64_t value;     /* what was seen before the event, but for octets; of the line and the link 1 or 0 */
+  uint64_t now;       /* and behind it */
+  uint32_t kind;      /* an em_watched */
+  uint32_t offset;    /* of a register */
+  size_t octets;      /* how many octets side by side, of which the first and the last changed: 1 to 16 */
+  uint8_t before[16]; /* the octets that were seen before the event, and zeros behind them */
+  uint8_t after[16];  /* and behind it */
+} em_difference;
+
+/* All that the event at k changed, as em_event counts: the registers by offset, octets of guest memory by address,
+   the interrupt line, the link, how many frames wait, and how many were sent. `count` tells how many these are;
+   where `room` is too small for all it is refused as EM_ROOM, and `count` is told all the same; else as EM_NO_EVENT,
+   or EM_MEMORY. The cost is that of em_effect. */
+EM_CHECKED em_code em_differences(const em_machine *machine, size_t k, em_difference *out, size_t room, size_t *count);
+
+/* What waits in the FIFO, and what is gathered. */
+typedef struct em_fifo_state {
+  uint64_t frames;   /* how many frames wait */
+  uint64_t octets;   /* how many octets the first of them has; 0 where none waits */
+  uint64_t gathered; /* how many octets are gathered for the next frame to be sent */
+  uint32_t tagged;   /* 1 where a VLAN tag was taken out of the first frame; else 0 */
+  uint32_t tag;      /* that tag; else 0 */
+} em_fifo_state;
+
+/* How many frames wait in the FIFO, what the first of them is, and how many octets are gathered. Constant. */
+EM_CHECKED em_code em_fifo(const em_machine *machine, em_fifo_state *fifo);
+
+/* Copies the first frame that waits to the head of `out`, and tells its length, 0 where none waits. Where `room` is too
+   small it is refused as EM_ROOM, and `length` tells how much is needed: 20,000 octets at most. */
+EM_CHECKED em_code em_fifo_frame(const em_machine *machine, uint8_t *out, size_t room, size_t *length);
+
+/* Copies the octets that are gathered for the next frame to be sent, as em_fifo_frame does: EM_MOST_SENT at most. */
+EM_CHECKED em_code em_gathered(const em_machine *machine, uint8_t *out, size_t room, size_t *length);
+
+/* The FIFO as text like that of em_ring_text: how many frames wait, and the first of them. Refused as EM_ROOM or
+   EM_MEMORY. */
+EM_CHECKED em_code em_fifo_text(const em_machine *machine, uint8_t *out, size_t room, size_t *length);
 
 /* ---- a run, kept as it happens
 
-   From em_record_to on each call that is an event, each step back and each call that an event's rule refuses is written to
-   a file, as a line of the script language with its answer and with where it comes from:
+   From em_record_to on each call that is an event, each step back and each call that an event's rule refuses is written
+   to a file, as a line of the script language with its answer and with where it comes from:
 
        # em_debug --memory 65536 --budget 1048576 --mac 525400123456
        w 00002818 00000003 = ok @ driver.c:57
        r 000000C0 = 00000004 @ driver.c:61
 
-   em_debug takes the file as it is. Each line is written before its call returns, by one write(2): it is there when the
-   process dies, by whatever signal, by abort or _exit. (It does not survive the host's own fall.) A last line without its
-   newline was cut by the end of the process, and says nothing. What was written for a step over attached memory stands
-   there as its memory writes; so does what em_sync_in and em_sync_in_range wrote. A call that malloc stopped is a comment.
-   Looks are not kept, nor what is refused for the handle or for attached memory: the steps back that undo it are.
+   em_debug takes the file as it is. Each line is in the file before its call returns, by one write(2) or by a mapping:
+   it is there when the process dies, by whatever signal, by abort or _exit. (It does not survive the host's own fall.)
+   A last line without its newline was cut by the end of the process, and says nothing. What was written for a step over
+   attached memory stands there as its memory writes; so does what em_sync_in and em_sync_in_range wrote. A call that
+   malloc stopped is a comment. Looks are not kept, nor what is refused for the handle or for attached memory: the steps
+   back that undo it are.
 
-   Where the file can no longer be written, nothing more is kept, and the machine goes on: em_recording_status tells it. (A
-   limit on the size of files raises SIGXFSZ, as in any program.) */
+   Where the file can no longer be written, nothing more is kept, and the machine goes on: em_recording_status tells it.
+   (A limit on the size of files raises SIGXFSZ, as in any program.) */
 
 /* Keeps what happens to the machine from now on in the file at a path, which is made, or made empty; the path is copied. It
    stays open until em_free. Refused as EM_BUSY, EM_NOT_MADE, EM_RECORDED, EM_BEGUN where the machine has performed an event
    since it was made, EM_MEMORY or EM_FILE, the first that holds; errno says why of EM_FILE. Each event costs a system call
    more then, some half a microsecond, and a frame of 1,514 octets some 2 us. It takes 50 KB of memory. */
-uint32_t em_record_to(em_machine *machine, const char *path);
+EM_CHECKED em_code em_record_to(em_machine *machine, const char *path);
+
+/* The same by a mapping of the file: an event costs some 70 ns more, and as much again for where it comes from. The
+   file grows ahead by blanks, up to 128 KiB of them, which em_free takes off: where the process dies they stay, and say
+   nothing. Where a disk is full the file does not grow, which em_recording_status tells; no store to it is SIGBUS, as
+   long as no other program cuts the file.
+
+   It has to be a regular file that can be mapped, in which no other run is kept so (errno is EWOULDBLOCK then), and of
+   no file system that copies what is written anew, as btrfs and ZFS do (EOPNOTSUPP): there a full disk would be SIGBUS.
+   Behind a fork only one of the two processes may use the machine. */
+EM_CHECKED em_code em_record_mapped(em_machine *machine, const char *path);
 
 /* EM_OK where the run is kept, and all that happened so far is in the file. EM_FILE where that failed: `error` tells the
    host's number of the error (errno). It is told once; from then on the run is not kept. EM_UNRECORDED where it is not.
    Constant. */
-uint32_t em_recording_status(em_machine *machine, int *error);
+EM_CHECKED em_code em_recording_status(em_machine *machine, int *error);
 
 /* Where the calls from now on come from: a line of a file, as `__FILE__` and `__LINE__` give it. The text is not copied: it
    has to stay until em_source or em_tag is called again, or em_free. It is written in the lines of a run that is kept, as
    ` @ driver.c:57`, and else nowhere. A tag that em_tag sets later and that is not 0 stands there in its place, as a program
    counter: ` @ 0x00005555DEADBEEF`. With NULL or an empty name nothing stands there. Constant. */
-uint32_t em_source(em_machine *machine, const char *file, uint32_t line);
+EM_CHECKED em_code em_source(em_machine *machine, const char *file, uint32_t line);
 
-/* A handle, of which the next call comes from here: `em_write(EM_HERE(&m), RDT, tail)`. */
+/* A handle, of which the next call comes from here: `must(em_write(EM_HERE(&m), RDT, tail))`. */
 static inline em_machine *em_from(em_machine *machine, const char *file, uint32_t line) {
-  (void)em_source(machine, file, line);
+  em_code code = em_source(machine, file, line);
+  (void)code; /* (the call that follows is refused for the same) */
   return machine;
 }
 #define EM_HERE(machine) em_from((machine), __FILE__, __LINE__)
@@ -457,15 +674,38 @@ static inline em_machine *em_from(em_machine *machine, const char *file, uint32_
 /* The manual's name of the register at an offset, with a zero octet behind it: MTA[5], RAL0. None has more than 9
    letters; `length` tells how many, without the zero. Where `room` is too small for both it is refused as EM_ROOM, and
    `length` is told all the same. Constant. */
-uint32_t em_name(uint32_t offset, uint8_t *out, size_t room, size_t *length);
+EM_CHECKED em_code em_name(uint32_t offset, uint8_t *out, size_t room, size_t *length);
 
 /* The offset of the register that has this name, in either case of its letters. The cost is some hundred comparisons. */
-uint32_t em_find(const uint8_t *name, size_t length, uint32_t *offset);
+EM_CHECKED em_code em_find(const uint8_t *name, size_t length, uint32_t *offset);
+
+/* A bit or a field of a register: of a value it holds (value & mask) / lowest. */
+typedef struct em_field_row {
+  uint32_t mask;   /* its bits; 0 behind the register's last */
+  uint32_t lowest; /* the lowest of them */
+  char name[16];   /* the manual's name: "EN", "BSIZE" */
+} em_field_row;
+
+/* The bits and fields of the register at an offset, from the lowest on, the first at k = 0; behind the last one the
+   mask is 0 and the name empty. A register that is one number, such as RDT, has none. Constant. */
+EM_CHECKED em_code em_field(uint32_t offset, size_t k, em_field_row *field);
+
+/* The name of the register at an offset, a value, and the bits and fields that are set in it, with a zero octet behind
+   them: "RCTL 00008002 EN BAM BSIZE=2048". None has more than 255 octets; `length` tells how many, without the zero.
+   Where `room` is too small for both it is refused as EM_ROOM, and `length` is told all the same. Constant. */
+EM_CHECKED em_code em_value_text(uint32_t offset, uint32_t value, uint8_t *out, size_t room, size_t *length);
 
 /* The name of a refusal, and a sentence, with a zero octet behind it: "Range: the octets leave guest memory". None has
    more than 80 octets; `length` tells how many, without the zero. Where `room` is too small for both it is refused as
    EM_ROOM, and `length` is told all the same. Constant. */
-uint32_t em_refusal(uint32_t refusal, uint8_t *out, size_t room, size_t *length);
+EM_CHECKED em_code em_refusal(uint32_t refusal, uint8_t *out, size_t room, size_t *length);
+
+/* What em_refusal gives, as a text that stays as long as the library does; of EM_OK and of numbers that are none there
+   is one too. */
+const char *em_strerror(em_code code);
+
+/* The version of the library, as EM_VERSION is that of the header. */
+const char *em_version(void);
 
 #ifdef __cplusplus
 }
