@@ -134,6 +134,26 @@ function shortened(text, most) {
   return `${text.slice(0, most)}… (${text.length.toLocaleString("en")} characters)`;
 }
 
+/** In so many characters of a place, the last ones, its file and line are sought. */
+const MOST_OF_PLACE = 200;
+
+/** The last characters of a text, at most so many: of a path they say most. */
+function endOf(text, most) {
+  if (text.length <= most) return text;
+  // (half of a character is none)
+  return `…${text.slice(1 - most).replace(/^[\uDC00-\uDFFF]/, "")}`;
+}
+
+/** A place that a line comes from, in at most so many characters: of a long one its file and line. */
+function shortPlace(text, most) {
+  if (text.length <= most) return text;
+  const from = Math.max(0, text.length - MOST_OF_PLACE);
+  const place = /[^\s/]+:\d+(?= |$)/u.exec(text.slice(from));
+  if (!place) return endOf(text, most);
+  if (from + place.index + place[0].length < most) return `${text.slice(0, most - 1)}…`;
+  return `${endOf(`${text.startsWith("before ") ? "before " : ""}${place[0]}`, most - 1)}…`;
+}
+
 // what is no letter, and can hide others or put them in another order: separators, marks that take no room, and those
 // that turn the direction of writing
 const UNSEEN = /[\u0080-\u009F\u00AD\u061C\u180E\u200B\u200E\u200F\u2028-\u202E\u2060-\u206F\uFEFF\uFFF9-\uFFFB]/g;

@@ -20,8 +20,9 @@ class App {
     this.rings = [new RingPanel(this, "rx"), new RingPanel(this, "tx")];
     this.timeline = new Timeline(this);
     this.memory = new MemoryPanel(this);
+    this.sources = new Sources(this);
     this.panels = [new ScriptPanel(this), this.timeline, new Wave(this, this.timeline), ...this.rings,
-      new Present(this),
+      new Present(this), this.sources,
       new Registers(this), this.memory, new Frames(this)];
     this.signals();
     this.listen();

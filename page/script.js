@@ -4,6 +4,8 @@ const LINE_HEIGHT = 22;
 const SPARE_LINES = 10;
 const LEAST_DIGITS = 4;
 const MOST_LETTERS = 300;
+/** So many letters of a source stand in its column. */
+const COLUMN_LETTERS = 14;
 
 class ScriptPanel {
   constructor(app) {
@@ -13,6 +15,10 @@ class ScriptPanel {
     this.room.style.setProperty("height", `${LINE_HEIGHT * app.run.script.length}px`);
     const digits = String(app.run.script.length).length;
     this.room.style.setProperty("--digits", String(Math.max(LEAST_DIGITS, digits)));
+    // a column of sources, where any line has one
+    this.columns = app.sources.list.length > 0;
+    const longest = app.sources.list.reduce((most, { text }) => Math.max(most, text.length), 0);
+    this.room.style.setProperty("--letters", String(Math.min(COLUMN_LETTERS, longest)));
     this.made = new Map();
     // where it is scrolled to and how tall it is: to ask for it at each step would lay the page out again
     this.top = 0;
@@ -92,11 +98,13 @@ class ScriptPanel {
       ? visible(shortened(line.answer[0], 60)) + (line.answer.length > 1 ? ` … ${line.answer.length} lines` : "") : "";
     const mark = line ? line.mark : "";
     const sign = mark && line.answer.length ? `${MARKS[mark][0]} ` : "";
+    const source = line ? visible(shortPlace(line.source, COLUMN_LETTERS)) : "";
     const option = make("div", {
       role: "option", id: `line-${number}`, "data-line": number, "aria-setsize": this.app.run.script.length,
       "aria-posinset": number, class: text.trimStart().startsWith("#") ? "script-line comment" : "script-line",
       title: text,
-    }, make("span", { class: "number" }, String(number)), make("span", { class: "text" }, text),
+    }, make("span", { class: "number" }, String(number)),
+    ...(this.columns ? [make("span", { class: "source" }, source)] : []), make("span", { class: "text" }, text),
     make("span", { class: `answer${sign ? ` mark-${mark}` : ""}` }, sign + answer));
     option.style.setProperty("top", `${(number - 1) * LINE_HEIGHT}px`);
     // (on paper they lie one below the other, in this order)

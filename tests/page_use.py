@@ -131,21 +131,6 @@ def opens_a_call(tally: Tally, browser, room: Path) -> None:
     tally.check("64 of a long call are listed", [] if listed == 64 else [f"{listed} are"])
 
 
-def names_sources(tally: Tally, browser, room: Path) -> None:
-    """Beside an event stands where its line comes from, if the record says that."""
-    record = recorded.record("link up\nr 8\n")
-    record["lines"][0]["source"] = "driver.c:12"
-    page = room / "sources.html"
-    page.write_bytes(page_of(json.dumps(record).encode()))
-    browser.open(page)
-    seen = []
-    for step in ("to-start", "one-on", "one-on"):
-        browser.run(f"document.getElementById('{step}').click()")
-        seen.append(browser.run(
-            "return [...document.querySelectorAll('#present .note')].map((one) => one.textContent)"))
-    tally.check("sources", [] if seen == [[], ["@ driver.c:12"], []] else [f"{seen}"])
-
-
 def by_tab(tally: Tally, browser) -> None:
     """Every control is reached by Tab, and can be seen to be; a register, an octet and a line are asked about by
     keys."""
@@ -307,6 +292,6 @@ def timing(tally: Tally, browser, room: Path) -> None:
 
 
 def check_use(tally: Tally, browser, room: Path) -> None:
-    for part in (keyboard, opens_a_call, names_sources, labels, widths, paper, schemes):
+    for part in (keyboard, opens_a_call, labels, widths, paper, schemes):
         part(tally, browser, room)
     tally.check("the console", browser.told())
