@@ -3,17 +3,26 @@
 
     bench/watch.py [--runs N] [--no-instructions] [PROGRAM]
 
-PROGRAM is crates/em_speed/out/em_speed where none is named. Each number is the difference of two runs, one of which
+PROGRAM is what bench/speed makes. Where none is named it is proved and built as a crate in a copy of the others, with
+the libraries that stand built in this tree (by `rt ci`, or by `rt lib` in crates/em_watch and crates/em_trail); one that
+is not there is proved first. Each number is the difference of two runs, one of which
 does the same more often, so that start-up and preparation fall out. Times are seconds of the processor, the best of N
 runs (7) of each; instructions are counted by valgrind's callgrind.
 """
 import argparse
 import os
 import re
+import shutil
 import subprocess
+import sys
+import tempfile
 from pathlib import Path
 
 TOP = Path(__file__).resolve().parent.parent
+SOURCES = TOP / "bench" / "speed"
+NAME = "em_speed"
+# What the copy is made of.
+COPIED = ("src", "specs", "proofs", "out/rlib")
 WATCHES = ("register", "line", "octets", "frames")
 # by kind how many events fill the greatest journal with as many records as it holds, or 500,000
 GREATEST = {"registers": 500_000, "memory": 500_000, "idle": 500_000, "frames": 174_000}
@@ -23,6 +32,30 @@ TASKS = ("perform", "note")
 NEVER_STAYS = {("frames", "frames")}
 KINDS = {"registers": "register accesses", "memory": "memory writes", "frames": "arrivals and receive steps",
          "idle": "idle receive steps"}
+
+
+def build(room: Path) -> str:
+    """Proves and builds the program in a copy of the crates; where it lies."""
+    sys.path.insert(0, str(TOP / "tests"))
+    from built import QUICK_RT, mark_built
+    from tally import below
+
+    for name in below():
+        for part in COPIED:
+            if (TOP / "crates" / name / part).is_dir():
+                shutil.copytree(TOP / "crates" / name / part, room / "crates" / name / part)
+    shutil.copy2(TOP / "HANDLES", room)
+    shutil.copy2(TOP / "crates.txt", room)
+    mark_built(room)
+    crate = room / "crates" / NAME
+    (crate / "src").mkdir(parents=True)
+    for file in SOURCES.glob("*.rtt"):
+        (crate / "src" / f"{file.stem}.rt").write_text(file.read_text())
+    with open(room / "crates.txt", "a", encoding="ascii") as table:
+        table.write(f"\n{NAME}: {(SOURCES / 'uses').read_text()}")
+    # it is run once besides
+    subprocess.run([QUICK_RT, "run", "--", "perform", "registers", "2"], cwd=crate, check=True)
+    return str(crate / "out" / NAME)
 
 
 class Measured:
@@ -95,16 +128,17 @@ def trails(measured: Measured, counts: bool) -> None:
 
 def main() -> None:
     parser = argparse.ArgumentParser(description=__doc__.split("\n", maxsplit=1)[0])
-    parser.add_argument("program", nargs="?", default=str(TOP / "crates" / "em_speed" / "out" / "em_speed"))
+    parser.add_argument("program", nargs="?")
     parser.add_argument("--runs", type=int, default=7)
     parser.add_argument("--no-instructions", action="store_true")
     parser.add_argument("--only", choices=["searches", "trails"])
     words = parser.parse_args()
-    measured = Measured(words.program, words.runs)
-    if words.only != "trails":
-        searches(measured, not words.no_instructions)
-    if words.only != "searches":
-        trails(measured, not words.no_instructions)
+    with tempfile.TemporaryDirectory() as room:
+        measured = Measured(words.program or build(Path(room)), words.runs)
+        if words.only != "trails":
+            searches(measured, not words.no_instructions)
+        if words.only != "searches":
+            trails(measured, not words.no_instructions)
 
 
 if __name__ == "__main__":

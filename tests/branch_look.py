@@ -13,6 +13,7 @@ import subprocess
 import tempfile
 from pathlib import Path
 
+from built import QUICK_RT
 from items import read_crate
 from library_crate import CALLING, FILES
 from marked_branches import MARKS, Branch, Marker
@@ -28,7 +29,7 @@ NAME = "em_branches"
 SECONDS = 900
 # A test of a run's bounds, which takes long.
 LEFT_OUT = ("takes_so_many_octets",)
-UNUSED = shutil.ignore_patterns("out", "must-fail", "wrong", "data", "proofs")
+UNUSED = shutil.ignore_patterns("out", "must-fail", "alone", "wrong", "data", "proofs")
 
 MARKING = """//! Tells which branches are run.
 #![tactic(auto)]
@@ -97,22 +98,13 @@ void em_branch_is_run(uint32_t number) {
 
 # What em_calls does, where nothing refuses memory.
 CALLS = """//! What the program em_calls does.
-use crate::refused_calls;
-use crate::traffic;
+use crate::refused_calls::{NAMES, case};
 use std::test::Fail;
 
 #[test]
-fn courses(rt: HostRuntime) -> Result<(), Fail> {
-    for seed in 0..20 {
-        traffic::course(rt.alloc(), seed)?;
-    }
-    Ok(())
-}
-
-#[test]
 fn cases(rt: HostRuntime) -> Result<(), Fail> {
-    for name in %s {
-        refused_calls::case(rt.alloc(), name)?;
+    for name in NAMES {
+        case(rt.alloc(), name)?;
     }
     Ok(())
 }
@@ -184,17 +176,12 @@ class Look:
         (folder / "src" / "lib.rt").write_text(MARKING)
         (folder / "c" / "marks.c").write_text(NOTING % (len(self.branches) + 1, self.noted))
 
-    def cases(self) -> str:
-        """The words of em_calls' cases, as an array of the language."""
-        text = (CRATES / "em_calls" / "src" / "refusals.rt").read_text()
-        return "[" + ", ".join(re.findall(r'^ *("\w+") => a_refused', text, re.M)) + "]"
-
     def files(self) -> dict[str, str]:
         """The modules of the crate of tests, by name, and their text."""
         calls = CRATES / "em_calls" / "src"
         found = {file.stem: file.read_text() for file in calls.glob("*.rt") if file.stem not in ("main", "refusals")}
         found["refused_calls"] = (calls / "refusals.rt").read_text()
-        found["calls"] = CALLS % self.cases()
+        found["calls"] = CALLS
         for file in (CRATES / "em_refused" / "src").glob("*.rt"):
             if file.stem != "lib":
                 found[f"refused_{file.stem}"] = file.read_text()
@@ -230,7 +217,7 @@ class Look:
     def run(self) -> tuple[set[int], str]:
         """The places of the branches that are run, and the end of what was said where it failed."""
         ran = subprocess.run(
-            ["rt", "try", "--test", "--seconds", str(SECONDS)], cwd=self.crate, env=os.environ | {"RT_ALLOW_C": MARKS},
+            [QUICK_RT, "try", "--test", "--seconds", str(SECONDS)], cwd=self.crate, env=os.environ | {"RT_ALLOW_C": MARKS},
             stdout=subprocess.PIPE, stderr=subprocess.STDOUT, stdin=subprocess.DEVNULL, text=True, check=False,
         )
         octets = self.noted.read_bytes() if self.noted.is_file() else b""

@@ -9,7 +9,11 @@ EXAMPLES = TOP / "examples"
 FILES = sorted(LIBRARY.glob("*.rtt"))
 NAME = "em_tests"
 # What the tests of the driver's calls stand on: files of the program em_calls.
-CALLING = [CRATES / "em_calls" / "src" / f"{name}.rt" for name in "digest driven plan random same setup".split()]
+CALLING = [CRATES / "em_calls" / "src" / f"{name}.rt" for name in "digest driven plan same setup".split()]
+# What bench/watch.py measures, whose tests are in `speed`.
+MEASURED = [TOP / "bench" / "speed" / f"{name}.rtt" for name in ("kind", "performs", "words")]
+# The lines that the test `shown` plays, and in `stdout` what they must give.
+SHOWN = LIBRARY / "shown"
 
 
 def uses() -> list[str]:
@@ -32,13 +36,23 @@ def examples() -> str:
     return text
 
 
+def shown_lines(told: Path) -> str:
+    """The lines that the test `shown` plays, as a constant, and the name of the file into which it writes what they give."""
+    lines = literal((SHOWN / "stdin").read_bytes())
+    return f'//! The lines of shown/stdin.\n\npub const LINES: &[u8] = {lines};\n\npub const TOLD: &str = "{told}";\n'
+
+
+def told_in(crate: Path) -> Path:
+    """The file into which the test `shown` writes."""
+    return crate / "told"
+
+
 def copied(to: Path) -> Path:
     """The crate's folder, made below another."""
     crate = to / NAME
     (crate / "src").mkdir(parents=True)
-    for file in FILES:
+    for file in (*FILES, *CALLING, *MEASURED):
         (crate / "src" / f"{file.stem}.rt").write_text(file.read_text())
-    for file in CALLING:
-        (crate / "src" / file.name).write_text(file.read_text())
     (crate / "src" / "examples.rt").write_text(examples())
+    (crate / "src" / "shown_lines.rt").write_text(shown_lines(told_in(crate)))
     return crate

@@ -6,6 +6,8 @@ from pathlib import Path
 
 TOP = Path(__file__).resolve().parent.parent
 CRATES = TOP / "crates"
+# Where a crate's wrong bodies lie.
+FOLDERS = ("must-fail", "alone", "wrong")
 
 
 def below() -> dict[str, list[str]]:

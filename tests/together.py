@@ -80,6 +80,11 @@ def functions_of(file: str, text: str) -> list[Function]:
     return found
 
 
+def has_begun(lines: list[str]) -> bool:
+    """Whether a function's body begins in its first lines, up to one that is changed."""
+    return any(re.match(r"\s*\{$|.*[^ ] \{$", it) for it in lines)
+
+
 def function_of(crate: Path, edit: Path) -> Function | None:
     """The function that has all that the edit changes in its body, if one has."""
     found = set()
@@ -89,11 +94,25 @@ def function_of(crate: Path, edit: Path) -> Function | None:
             return None
         line = text[: text.index(old)].count("\n") + 1
         inside = [it for it in functions_of(file, text) if it.first <= line <= it.last]
-        lines = text.split("\n")
-        if not inside or not any(re.match(r"\s*\{$|.*[^ ] \{$", it) for it in lines[inside[-1].first - 1 : line]):
+        if not inside or not has_begun(text.split("\n")[inside[-1].first - 1 : line]):
             return None
         found.add(inside[-1])
     return found.pop() if len(found) == 1 else None
+
+
+def functions_with(crate: Path, edit: Path) -> list[Function]:
+    """The functions that have something of the edit in their bodies; none where it changes another kind of file than code."""
+    found: dict[Function, None] = {}
+    for file, old, _ in changes_of(edit):
+        path = crate / file
+        if not file.startswith("src/") or not path.is_file():
+            return []
+        text = path.read_text()
+        line = text[: text.index(old)].count("\n") + 1 if old in text else 0
+        inside = [it for it in functions_of(file, text) if it.first <= line <= it.last]
+        if inside and has_begun(text.split("\n")[inside[-1].first - 1 : line]):
+            found[inside[-1]] = None
+    return list(found)
 
 
 def in_rounds(crate: Path, edits: list[Path]) -> list[dict[Function, Path]]:
@@ -123,12 +142,16 @@ def says_of(function: Function, said: str) -> str:
     return notes[0] if notes else ""
 
 
+def module_of(function: Function) -> str:
+    """The module in which a function lies, as it stands before a name."""
+    module = function.file.removeprefix("src/").removesuffix(".rt").replace("/", "::")
+    return "" if module in ("lib", "main") else f"{module}::"
+
+
 def is_not_proved(crate: str, function: Function, said: str) -> bool:
     """Whether a check says that the function itself is not proved."""
-    module = function.file.removeprefix("src/").removesuffix(".rt").replace("/", "::")
-    module = "" if module in ("lib", "main") else f"{module}::"
     for name, verdict in VERDICT.findall(said):
-        rest = name.removeprefix(f"{crate}::{module}")
+        rest = name.removeprefix(f"{crate}::{module_of(function)}")
         *of, last = rest.split("::")
         if rest != name and last == function.name and (not function.type or any(it.startswith(function.type) for it in of)):
             if not PROVED.match(verdict):
@@ -136,14 +159,14 @@ def is_not_proved(crate: str, function: Function, said: str) -> bool:
     return False
 
 
-def judge_together(prover: Prover, crate: Path, edits: list[Path]) -> dict[str, str]:
-    """By edit what the prover says against it, of those that some checks together refuse. `crate` is a folder to change,
-    in a copy of the crates with their libraries."""
+def judge_together(prover: Prover, crate: Path, edits: list[Path], by_function: bool = False) -> dict[str, str]:
+    """By edit what the prover says against it, of those that some checks together refuse: by checks of the whole crate, or of
+    the functions alone that have these edits. `crate` is a folder to change, in a copy of the crates with their libraries."""
     found: dict[str, str] = {}
     left = in_rounds(crate, edits)
     while left:
         some = left.pop()
-        said = checked(prover, crate, list(some.values()))
+        said = checked(prover, crate, list(some.values()), only(crate.name, list(some)) if by_function else [])
         if not VERDICT.search(said) and len(some) > 1:
             half = len(some) // 2
             left += [dict([*some.items()][:half]), dict([*some.items()][half:])]
@@ -151,10 +174,32 @@ def judge_together(prover: Prover, crate: Path, edits: list[Path]) -> dict[str, 
             why = says_of(function, said)
             if why and is_not_proved(crate.name, function, said):
                 found[edit.name] = f"{REFUSED}: {why}"
+    if by_function:
+        found |= judge_each(prover, crate, [edit for edit in edits if not function_of(crate, edit)])
     return found
 
 
-def checked(prover: Prover, crate: Path, edits: list[Path]) -> str:
+def judge_each(prover: Prover, crate: Path, edits: list[Path]) -> dict[str, str]:
+    """The same of edits that lie in several functions: each by a check of its own, which must refuse one of these."""
+    found: dict[str, str] = {}
+    for edit in edits:
+        if functions := functions_with(crate, edit):
+            said = checked(prover, crate, [edit], only(crate.name, functions))
+            refused = [says_of(it, said) for it in functions if is_not_proved(crate.name, it, said)]
+            if why := next(filter(None, refused), ""):
+                found[edit.name] = f"{REFUSED}: {why}"
+    return found
+
+
+def only(crate: str, functions: list[Function]) -> list[str]:
+    """The words by which a check looks at these functions and at no others."""
+    found = []
+    for it in functions:
+        found += ["--only", f"{crate}::{module_of(it)}{f'{it.type}::' if it.type else ''}{it.name}"]
+    return found
+
+
+def checked(prover: Prover, crate: Path, edits: list[Path], words: list[str]) -> str:
     """What a check of the crate with all these edits says; it is then as it was."""
     were: dict[Path, str] = {}
     for edit in edits:
@@ -163,7 +208,7 @@ def checked(prover: Prover, crate: Path, edits: list[Path]) -> str:
             text = path.read_text()
             were.setdefault(path, text)
             path.write_text(text.replace(old, new))
-    said = prover.says([QUICK_RT, "check", "--allow-holes"], crate)
+    said = prover.says([QUICK_RT, "check", "--allow-holes", *words], crate)
     for path, text in were.items():
         path.write_text(text)
     return said

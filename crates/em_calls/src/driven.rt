@@ -1,4 +1,5 @@
-//! A driver as the tests call it. Its calls have no contracts here, so that a test is proved in little time.
+//! A driver as the cases and the tests call it. Its calls have no contracts here, so that a case is proved in little
+//! time. What the tests of tests/library call besides is in `driven_more.rtt` there.
 
 ghost use Rattle.std.specs.Prelude.{◌<◌};
 ghost use Rattle.em_turn.specs.Planned.{planned};
@@ -9,10 +10,8 @@ use crate::plan::Plan;
 use crate::same::same;
 use crate::setup::{driver_with_turns, packet};
 use em_driver::{
-    Batch, Bus, Cause, DeviceStats, E1000, IxyDevice, Layout, PlanRefused, StartRefused, Stopped,
-    Turn, Turns,
+    Batch, Bus, Cause, E1000, IxyDevice, Layout, PlanRefused, StartRefused, Stopped, Turn, Turns,
 };
-use em_regs::Reg;
 use em_step::{Answer, Event};
 use std::alloc::Global;
 use std::collections::VecDeque;
@@ -21,12 +20,12 @@ use std::test::Fail;
 /// A driver, with the packets that it received and those that it is to send.
 #[derive(Drop)]
 pub struct Driven {
-    alloc: Global,
-    driver: E1000<Turns>,
-    received: VecDeque<Vec<u8>>,
-    queue: VecDeque<Vec<u8>>,
+    pub alloc: Global,
+    pub driver: E1000<Turns>,
+    pub received: VecDeque<Vec<u8>>,
+    pub queue: VecDeque<Vec<u8>>,
     // how many events there are behind its start
-    start: usize,
+    pub start: usize,
 }
 
 /// What the counts of a plan's turns show: performed, refused, stored, starved.
@@ -67,15 +66,6 @@ pub fn on_a_driver<F: FnOnce(&mut Driven) -> Result<(), Fail> + Drop>(
 }
 
 impl Driven {
-    /// Begins again: all that came behind the start is taken back.
-    pub fn renew(&mut self) -> Result<(), Fail> {
-        self.forget();
-        self.driver.bus().end_plan();
-        let steps = self.events().saturating_sub(self.start);
-        let done = self.driver.bus().machine_mut().back_by(steps);
-        same("steps", done, steps)
-    }
-
     pub fn alloc(&self) -> Global {
         self.alloc
     }
@@ -92,26 +82,6 @@ impl Driven {
 
     pub fn get_link_speed(&mut self) -> u16 {
         self.driver.get_link_speed()
-    }
-
-    pub fn get_mac_addr(&mut self) -> [u8; 6] {
-        self.driver.get_mac_addr()
-    }
-
-    pub fn set_mac_addr(&mut self, address: [u8; 6]) {
-        self.driver.set_mac_addr(address);
-    }
-
-    pub fn read_stats(&mut self, stats: &mut DeviceStats) {
-        self.driver.read_stats(stats);
-    }
-
-    pub fn reset_stats(&mut self) {
-        self.driver.reset_stats();
-    }
-
-    pub fn is_named(&self, name: &str) -> bool {
-        self.driver.get_driver_name() == name
     }
 
     // ---- what is done beside them
@@ -149,12 +119,6 @@ impl Driven {
         Ok(())
     }
 
-    /// A copy of a packet is to be sent, behind the others.
-    pub fn give_copy(&mut self, packet: &[u8]) -> Result<(), Fail> {
-        self.queue.push_back(packet.to_vec(self.alloc)?)?;
-        Ok(())
-    }
-
     /// Nothing was received and nothing is to be sent.
     pub fn forget(&mut self) {
         self.received.clear();
@@ -167,20 +131,12 @@ impl Driven {
         digest(self.driver.look_bus().machine())
     }
 
-    pub fn look(&self, reg: Reg) -> Option<u32> {
-        self.driver.look_bus().machine().look(reg.offset())
-    }
-
     pub fn events(&self) -> usize {
         self.driver.look_bus().machine().can_go_back()
     }
 
     pub fn wire_len(&self) -> usize {
         self.driver.look_bus().machine().wire_len()
-    }
-
-    pub fn wire_frame(&self, index: usize) -> Option<&[u8]> {
-        self.driver.look_bus().machine().wire_frame(index)
     }
 
     pub fn counts(&self) -> Counts {
@@ -199,16 +155,6 @@ impl Driven {
 
     pub fn queue_len(&self) -> usize {
         self.queue.len()
-    }
-
-    /// The octets of the first packet to send.
-    pub fn first_len(&self) -> usize {
-        self.queue.front().map_or(0, |packet| packet.len())
-    }
-
-    /// The first packet received, which goes.
-    pub fn take_received(&mut self) -> Option<Vec<u8>> {
-        self.received.pop_front()
     }
 
     // ---- what it is to answer
@@ -232,17 +178,5 @@ impl Driven {
         let done = self.back_by(events);
         same("steps", done, events as usize)?;
         same("state", self.digest(), state)
-    }
-
-    /// So many packets were received, numbered from 0 on in octet 6.
-    pub fn received_in_order(&mut self, count: u32) -> Result<(), Fail> {
-        same("received", self.received.len(), count as usize)?;
-        for number in 0..count {
-            let octet = self
-                .take_received()
-                .and_then(|packet| packet.get(6).copied());
-            same("octet 6", octet.map(u32::from), Some(number))?;
-        }
-        Ok(())
     }
 }

@@ -1,42 +1,31 @@
-//! Calls of the driver under random turns of other actors, and prints a line for each course of them.
+//! Calls of the driver, of a machine and of an adapter for which memory can be refused, each case by its name.
 //!
-//! Frames arrive and engines step before any access of the driver, and some calls are taken back. However
-//! they fall, the packets received must be the stored frames, in order, and the sent frames the packets
-//! that the driver took.
-//!
-//! With a word, it does instead what that case of `refusals` says: tests/refused_memory refuses memory to it.
+//! With a word it does what that case of `refusals` says: tests/refused_memory refuses memory to it. Without one it
+//! does each case, to which nothing is refused, and prints a line for it.
 #![tactic(auto)]
 
-use anyhow::Result;
 use std::env;
 use std::test::Fail;
 
 mod digest;
 mod driven;
 mod plan;
-mod random;
 mod refusals;
 mod same;
 mod setup;
-mod traffic;
-
-/// How many courses there are, each of sixty calls by the random numbers of its own seed.
-const COURSES: u64 = 20;
 
 fn main(rt: HostRuntime) -> Result<(), Fail> {
     match env::args(&rt)?.nth(1) {
         Some(name) => refusals::case(rt.alloc(), &name),
-        None => Ok(courses(&rt)?),
+        None => cases(&rt),
     }
 }
 
-/// All courses.
-fn courses(rt: &HostRuntime) -> Result<()> {
-    for seed in 0..COURSES {
-        match traffic::course(rt.alloc(), seed) {
-            Ok(()) => println!(rt; "passed {seed}")?,
-            Err(error) => println!(rt; "{error} {seed}")?,
-        }
+/// All cases.
+fn cases(rt: &HostRuntime) -> Result<(), Fail> {
+    for name in refusals::NAMES {
+        refusals::case(rt.alloc(), name)?;
+        println!(rt; "passed {name}")?;
     }
     Ok(())
 }

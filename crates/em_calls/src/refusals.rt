@@ -72,6 +72,11 @@ const SENT: [(u32, u32, usize); 2] = [(0, 2, 3), (2, 8, 1)];
 /// the frames stored, and that memory was refused. An arrival without a tag takes none.
 const STARVED: [(u32, u32, usize, bool); 2] = [(0, 0, 0, true), (2, 0, 1, true)];
 
+/// The names of the cases.
+pub const NAMES: [&str; 7] = [
+    "machine", "event", "start", "rx_batch", "tx_batch", "plan", "turn",
+];
+
 /// One of the cases below, by its name.
 pub fn case(alloc: Global, name: &str) -> Result<(), Fail> {
     match name {
