@@ -91,9 +91,10 @@ function hex(value, digits) {
   return value.toString(16).toUpperCase().padStart(digits, "0");
 }
 
-/** An address of guest memory, as texts of the project write it. */
+/** An address of guest memory, as texts of the project write it: by octets, three at least. */
 function addressText(address) {
-  return hex(address, 6);
+  const digits = hex(address, 6);
+  return digits.length % 2 === 0 ? digits : `0${digits}`;
 }
 
 /** The octets from an address on, as a range. */

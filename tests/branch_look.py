@@ -13,6 +13,7 @@ import subprocess
 import tempfile
 from pathlib import Path
 
+from built import QUICK_RT
 from items import read_crate
 from library_crate import CALLING, FILES
 from marked_branches import MARKS, Branch, Marker
@@ -230,7 +231,7 @@ class Look:
     def run(self) -> tuple[set[int], str]:
         """The places of the branches that are run, and the end of what was said where it failed."""
         ran = subprocess.run(
-            ["rt", "try", "--test", "--seconds", str(SECONDS)], cwd=self.crate, env=os.environ | {"RT_ALLOW_C": MARKS},
+            [QUICK_RT, "try", "--test", "--seconds", str(SECONDS)], cwd=self.crate, env=os.environ | {"RT_ALLOW_C": MARKS},
             stdout=subprocess.PIPE, stderr=subprocess.STDOUT, stdin=subprocess.DEVNULL, text=True, check=False,
         )
         octets = self.noted.read_bytes() if self.noted.is_file() else b""

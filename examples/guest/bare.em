@@ -1,4 +1,4 @@
-# em_debug --memory 16777216 --budget 16777216 --mac 525400123456
+# em_debug --memory 1024G --budget 16777216 --mac 525400123456
 link up
 w 00000 04000000 # the machine was reset
 r 00008 = 00000083 @ bare.c:143 read_register

@@ -97,6 +97,25 @@ class MemoryAndFrames(unittest.TestCase):
         self.assertEqual(list(m.memory), [1] * 40000 + [0] * 25536)
         self.assertIsInstance(m.memory, bunjelav.GuestMemory)
 
+    def test_memory_at_a_base(self):
+        base = 0x180000000
+        m = Machine(memory=8192, base=base)
+        m.memory[base + 4094 : base + 4099] = b"hello"
+        self.assertEqual((m.memory.base, len(m.memory), m.event(0).at), (base, 8192, base + 4094))
+        self.assertEqual(m.memory[base + 4095], ord("e"))
+        self.assertEqual(m.memory[:], bytes(4094) + b"hello" + bytes(4093))
+        self.assertEqual((m.memory[0:base], m.memory[base + 8191 :], m.memory[-1]), (b"", b"\0", 0))
+        self.assertRaises(bunjelav.Range, m.poke, base - 1, b"12")
+        self.assertRaises(IndexError, m.memory.__getitem__, base - 1)
+        self.assertRaises(IndexError, m.memory.__getitem__, base + 8192)
+        ram = bytearray(8192)
+        m.sync_out(ram)
+        self.assertEqual(bytes(ram), m.memory[:])
+        self.assertEqual(len(Machine(memory=2**40, base=0).memory), 2**40)
+        self.assertEqual(Machine(memory=4096, base=4096, eeprom=[0] * 64).memory.base, 4096)
+        for size, at in ((4096, 1), (0, 0), (4096, 2**40), (2**40, 4096)):
+            self.assertRaises(bunjelav.Size, Machine, memory=size, base=at)
+
     def test_copied_out(self):
         m, ram = Machine(), bytearray(65536)
         m.memory[4094:4099] = b"hello"

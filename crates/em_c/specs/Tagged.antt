@@ -1,5 +1,6 @@
 -- A machine with the tag of its next events, and what becomes of it.
 use Rattle.std.specs.Prelude.{◌≡◌, ℕ, drop}
+use Rattle.em_mem.specs.Memory.{LiesIn}
 use Rattle.em_step.specs.State.{State}
 use Rattle.em_step.specs.Event.{Event}
 use Rattle.em_step.specs.declared.event.Answer.{Answer}
@@ -13,6 +14,10 @@ use Rattle.em_c.specs.declared.tagged.Tagged.{Tagged}
 -- where the machine is
 abbrev pub present_of : Tagged → State
 present_of t = t.traced.view.present
+
+-- octets from an address on lie in its memory
+abbrev pub Holds : Tagged → ℕ → ℕ → Type 0
+Holds t at n = LiesIn (present_of t).base (present_of t).memory at n
 
 -- the event is performed, and noted under the tag, which stays
 pub record Performs (t : Tagged) (event : Event) (answer : Answer) (u : Tagged) : Type 0 where
