@@ -105,7 +105,7 @@ def kinds(top: Path) -> list[tuple[str, int]]:
 
 
 def watches(top: Path) -> list[tuple[str, int]]:
-    rows = found(r"^IsWatch w size \(?watch\.(\w+)[^=]*=\s*\(?w\.kind ≡ (\d+)", text_of(top, "em_c/specs/Watch.antt"), "the watches")
+    rows = found(r"^IsWatch w s \(?watch\.(\w+)[^=]*=\s*\(?w\.kind ≡ (\d+)", text_of(top, "em_c/specs/Watch.antt"), "the watches")
     return [(name.lower(), number(n)) for name, n in rows]
 
 

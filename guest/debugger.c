@@ -1,22 +1,23 @@
 #include "debugger.h"
 
+#include <inttypes.h>
 #include <stdio.h>
 #include <string.h>
 
+#include "device.h"
 #include "options.h"
-#include "ram.h"
 
 void debugger_make(struct debugger *debugger, const char *program, const uint8_t mac[6]) {
-  *debugger = (struct debugger){.words = {program, "--memory", debugger->memory}, .count = 3};
-  snprintf(debugger->memory, sizeof debugger->memory, "%d", MODEL_MEMORY);
+  size_t count = 3;
+  *debugger = (struct debugger){.words = {program, "--memory", debugger->memory}, .played = {program}};
+  snprintf(debugger->memory, sizeof debugger->memory, "%" PRIu64 "G", MODEL_MEMORY >> 30);
   if (memcmp(mac, options_mac, sizeof options_mac) == 0) return;
   for (size_t i = 0; i < sizeof options_mac; i++) snprintf(debugger->mac + 2 * i, 3, "%02X", mac[i]);
-  debugger->words[debugger->count++] = "--mac";
-  debugger->words[debugger->count++] = debugger->mac;
+  debugger->words[count++] = "--mac";
+  debugger->words[count++] = debugger->mac;
 }
 
 char **debugger_words(struct debugger *debugger, const char *run) {
-  debugger->words[debugger->count] = run;
-  debugger->words[debugger->count + 1] = NULL;
-  return (char **)(uintptr_t)debugger->words;
+  debugger->played[1] = run;
+  return (char **)(uintptr_t)(run ? debugger->played : debugger->words);
 }

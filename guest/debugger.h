@@ -8,15 +8,15 @@
 enum { MOST_DEBUGGER_WORDS = 8 };
 
 struct debugger {
-  const char *words[MOST_DEBUGGER_WORDS]; /* the program and its options, and NULL: the run's path goes there */
-  size_t count;
-  char memory[16], mac[16];
+  const char *words[MOST_DEBUGGER_WORDS]; /* the program and its options */
+  const char *played[3];                  /* the program and a run, whose first line has the options */
+  char memory[24], mac[16];
 };
 
 /* Makes the words for this program and this address of the adapter. They stay where they are. */
 void debugger_make(struct debugger *debugger, const char *program, const uint8_t mac[6]);
 
-/* The words, with this run behind them, or without one where that is NULL. */
+/* The words that play this run, or where that is NULL those that play none. */
 char **debugger_words(struct debugger *debugger, const char *run);
 
 #endif

@@ -13,8 +13,7 @@ enum {
   TCTL = 0x0400,
   RDBAL = 0x2800,
   TDBAL = 0x3800,
-  BASE_HIGH = 0x04, /* of a ring's registers, and the tail */
-  TAIL = 0x18,
+  TAIL = 0x18, /* of a ring's registers */
   LEAST_BUDGET = 65536,   /* of the journal, which is not asked here: the run is */
   MOST_BUDGET = 16777216, /* of who plays it: half a million events */
   LEAST_FRAME = 60,
@@ -33,7 +32,7 @@ bool device_make(struct device *device, const uint8_t mac[6], struct run *run, f
       .on_sent = on_sent,
       .whose = whose,
   };
-  if (em_make(&device->machine, MODEL_MEMORY, LEAST_BUDGET, mac) != EM_OK) return false;
+  if (em_make_at(&device->machine, 0, MODEL_MEMORY, LEAST_BUDGET, mac) != EM_OK) return false;
   if (!ram_attach(&device->ram, &device->machine)) return false;
   run_head(run, MODEL_MEMORY, MOST_BUDGET, mac);
   if (em_set_link(&device->machine, true) == EM_OK) run_link(run, true);
@@ -57,13 +56,6 @@ static struct source before(const struct device *device) {
 
 /* ---- accesses */
 
-/* The ring whose address a register holds a half of, or NULL. */
-static struct ring *ring_of_base(struct device *device, uint32_t offset) {
-  if ((offset & ~(uint32_t)BASE_HIGH) == RDBAL) return &device->receive;
-  if ((offset & ~(uint32_t)BASE_HIGH) == TDBAL) return &device->transmit;
-  return NULL;
-}
-
 static void count_access(struct device *device, uint32_t offset) {
   device->tally.accesses++;
   if (device->on_access) device->on_access(device->whose, offset);
@@ -71,32 +63,13 @@ static void count_access(struct device *device, uint32_t offset) {
 
 uint32_t device_read(struct device *device, uint32_t offset) {
   uint32_t value = 0, refusal = em_read(&device->machine, offset, &value);
-  const struct ring *ring = ring_of_base(device, offset);
   count_access(device, offset);
   if (refusal != EM_OK) {
     device->tally.refused++;
     device->refused_reads[offset / 4]++;
   }
   run_read(device->run, offset, refusal, value, here(device));
-  if (ring) value |= (uint32_t)(offset & BASE_HIGH ? ring->beyond >> 32 : ring->beyond);
   return value;
-}
-
-/* Keeps of a ring's address what lies beyond the model's memory, and gives the half that the model gets. */
-static uint32_t split_base(struct ring *ring, uint32_t offset, uint32_t value) {
-  const uint64_t low = UINT32_MAX;
-  if (offset & BASE_HIGH) {
-    ring->beyond = (ring->beyond & low) | (uint64_t)value << 32;
-    return 0;
-  }
-  ring->beyond = (ring->beyond & ~low) | ram_beyond(value);
-  return (uint32_t)ram_place(value);
-}
-
-/* What a write of CTRL with RST leaves of what is kept here. */
-static void forget(struct device *device) {
-  device->waiting = 0;
-  device->receive.beyond = device->transmit.beyond = 0;
 }
 
 /* Whether a write may let a stopped engine go on. */
@@ -110,7 +83,7 @@ static void perform_write(struct device *device, uint32_t offset, uint32_t value
     device->tally.refused++;
     device->refused_writes[offset / 4]++;
   } else if (offset == CTRL && value & CTRL_RST) {
-    forget(device);
+    device->waiting = 0;
   }
   if (wakes(&device->receive, offset)) device->receive.is_stopped = false;
   if (wakes(&device->transmit, offset)) device->transmit.is_stopped = false;
@@ -124,21 +97,16 @@ static void bring_given(struct device *device, const struct ring *ring, uint32_t
   if (em_ring(&device->machine, ring->side, &setup) != EM_OK || setup.tail >= setup.count || tail >= setup.count)
     return;
   for (uint32_t i = setup.tail; i != tail && octets < MOST_GIVEN; i = (i + 1) % setup.count, octets += piece) {
-    ram_begin(&device->ram, &setup, ring->side, i, ring->beyond);
+    ram_begin(&device->ram, &setup, ring->side, i);
     if (!ram_bring(&device->ram, &device->machine, device->run, before(device), &piece)) return;
   }
 }
 
 void device_write(struct device *device, uint32_t offset, uint32_t value) {
-  struct ring *ring = ring_of_base(device, offset);
-  uint32_t held = value;
-  char remark[32];
   count_access(device, offset);
   if (offset == RDBAL + TAIL) bring_given(device, &device->receive, value);
   if (offset == TDBAL + TAIL) bring_given(device, &device->transmit, value);
-  if (ring) held = split_base(ring, offset, value);
-  snprintf(remark, sizeof remark, "the guest wrote %08" PRIX32, value);
-  perform_write(device, offset, held, held != value ? remark : NULL);
+  perform_write(device, offset, value, NULL);
 }
 
 void device_reset(struct device *device) {
@@ -203,16 +171,17 @@ static void stop(struct device *device, struct ring *ring) {
   const char *engine = ring->side == EM_RX_RING ? "receive" : "transmit";
   const struct ram *ram = &device->ram;
   ring->is_stopped = true;
-  run_remark(device->run, "the %s engine stands still: %s at %" PRIX64 " %s", engine, ram->what, ram->where, ram->why);
+  run_remark(device->run, "the %s engine stands still: %s at %" PRIX64 " is no guest memory", engine, ram->what,
+             ram->where);
   if (device->tally.outside++ == 0)
-    say("the %s engine stands still: %s at %" PRIX64 " %s", engine, ram->what, ram->where, ram->why);
+    say("the %s engine stands still: %s at %" PRIX64 " is no guest memory", engine, ram->what, ram->where);
 }
 
 /* Lets an engine handle the descriptor at its head. False where the step was refused, or the guest's memory is not
    there: the engine stands still then. */
 static bool step(struct device *device, struct ring *ring, const em_ring_setup *setup, em_note *note) {
   bool is_receive = ring->side == EM_RX_RING;
-  ram_begin(&device->ram, setup, ring->side, setup->head, ring->beyond);
+  ram_begin(&device->ram, setup, ring->side, setup->head);
   uint32_t refusal = is_receive ? em_rx_step(&device->machine, note) : em_tx_step(&device->machine, note);
   ram_end(&device->ram, &device->machine, device->run, before(device), refusal != EM_OK);
   if (device->ram.what) return stop(device, ring), false;
@@ -234,7 +203,7 @@ static bool receive(struct device *device) {
     device->waiting = 0;
     return false;
   }
-  const bool is_told = em_peek(&device->machine, device->ram.work.place + STATUS, &status, 1) == EM_OK;
+  const bool is_told = em_peek(&device->machine, device->ram.work.address + STATUS, &status, 1) == EM_OK;
   if (is_told && status & STATUS_EOP) device->waiting--;
   return true;
 }

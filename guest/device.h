@@ -11,6 +11,9 @@
 #include "ram.h"
 #include "run.h"
 
+/* The model's guest memory, from address 0 on: as far as addresses of a machine go. Which of it the guest has, QEMU says. */
+#define MODEL_MEMORY (UINT64_C(1) << 40)
+
 enum {
   REGISTERS_END = 0x20000,
   MOST_FRAME = 20000,
@@ -20,7 +23,6 @@ enum {
 /* What an engine works on. */
 struct ring {
   uint32_t side;      /* of enum em_rings */
-  uint64_t beyond;    /* what the guest's address of the ring is beyond the model's memory */
   bool is_stopped;    /* a step was refused: it stands still until the guest writes to its registers */
   uint32_t registers; /* where its registers begin, 64 octets of them, and its control register */
   uint32_t control;

@@ -1,10 +1,5 @@
-/* Guest memory as the library's em_attach takes it: two functions that find an octet of the model's memory in the
-   guest's; and what the adapter finds there that the guest has written, as memory writes of the run.
-
-   The library's memory ends at 16 MiB. So an octet at a guest's address lies in the model at that address modulo 16
-   MiB, and the address in a descriptor is made so on its way there. For a guest with 16 MiB the two are the same. A
-   library whose memory is where a guest's is makes that needless: `ram_place` gives the address then, and what is
-   `beyond` goes. */
+/* Guest memory as the library's em_attach takes it: two functions that find octets at the guest's own addresses; and what
+   the adapter finds there that the guest has written, as memory writes of the run. */
 #ifndef GUEST_RAM_H
 #define GUEST_RAM_H
 
@@ -17,24 +12,22 @@
 #include "run.h"
 
 enum {
-  MODEL_MEMORY = 16777216, /* the most that the library's guest memory can be */
-  MOST_PIECE = 16384,      /* octets of a range of a step */
-  MOST_PIECES = 3          /* ranges of a step: its descriptor, what it reads, and where it writes */
+  MOST_PIECE = 16384, /* octets of a range of a step */
+  MOST_PIECES = 3     /* ranges of a step: its descriptor, what it reads, and where it writes */
 };
 
-/* Octets that were read from guest memory for the model, at their place there; and which of them the model had
-   otherwise, from the first to the last. */
+/* Octets that were read from guest memory for the model; and which of them the model had otherwise, from the first to
+   the last. */
 struct piece {
-  uint64_t place;
+  uint64_t address;
   size_t length, first, count;
   uint8_t octets[MOST_PIECE];
 };
 
-/* The descriptor that is worked on: where it lies in the model, and what its guest's address is beyond that; and so of
-   its buffer. */
+/* The descriptor that is worked on. */
 struct work {
   uint32_t side; /* of enum em_rings */
-  uint64_t place, beyond, buffer_beyond;
+  uint64_t address;
   size_t buffer; /* octets of its buffer */
 };
 
@@ -44,19 +37,15 @@ struct ram {
   struct work work;
   struct piece pieces[MOST_PIECES];
   size_t count;
-  const char *what, *why; /* what was looked for and is not there, or NULL, and why not; and its address */
+  const char *what; /* what was looked for and is no guest memory, or NULL; and its address */
   uint64_t where;
 };
-
-/* Where an octet of the guest's lies in the model, and the rest of its address. */
-uint64_t ram_place(uint64_t address);
-uint64_t ram_beyond(uint64_t address);
 
 /* Attaches it to the machine, with no guest memory yet. Both stay where they are until the machine is freed. */
 bool ram_attach(struct ram *ram, em_machine *machine);
 
-/* Begins work on a descriptor of a ring, whose guest's address is so much beyond the model's. */
-void ram_begin(struct ram *ram, const em_ring_setup *setup, uint32_t side, uint32_t index, uint64_t beyond);
+/* Begins work on a descriptor of a ring. */
+void ram_begin(struct ram *ram, const em_ring_setup *setup, uint32_t side, uint32_t index);
 
 /* Ends it, behind a step of the library's: what was read for it becomes memory writes of the run. Where the step was
    refused the library has taken them back; so they are made again, since the run has them. */

@@ -87,7 +87,7 @@ static void end_line(struct run *run) {
 
 void run_head(struct run *run, uint64_t memory, uint64_t budget, const uint8_t mac[6]) {
   if (run->file < 0) return;
-  put_text(run, "# em_debug --memory %" PRIu64 " --budget %" PRIu64 " --mac ", memory, budget);
+  put_text(run, "# em_debug --memory %" PRIu64 "G --budget %" PRIu64 " --mac ", memory >> 30, budget);
   put_octets(run, mac, 6);
   end_line(run);
 }

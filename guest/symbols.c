@@ -146,7 +146,7 @@ static void read_names(FILE *answers, struct symbols *symbols, uint64_t base) {
     place[strcspn(place, " \n")] = '\0';
     if (!symbol || is_final || place[0] == '?' || function[0] == '?') continue;
     if (symbol->name[0] == '\0' || !is_header(place))
-      snprintf(symbol->name, sizeof symbol->name, "%s %s", place, function);
+      snprintf(symbol->name, sizeof symbol->name, "%s%s, %s", function, strchr(function, '(') ? "" : "()", place);
     is_final = !is_header(place);
   }
   free(function);

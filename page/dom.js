@@ -91,9 +91,10 @@ function hex(value, digits) {
   return value.toString(16).toUpperCase().padStart(digits, "0");
 }
 
-/** An address of guest memory, as texts of the project write it. */
+/** An address of guest memory, as texts of the project write it: by octets, three at least. */
 function addressText(address) {
-  return hex(address, 6);
+  const digits = hex(address, 6);
+  return digits.length % 2 === 0 ? digits : `0${digits}`;
 }
 
 /** The octets from an address on, as a range. */
@@ -150,8 +151,10 @@ function shortPlace(text, most) {
   const from = Math.max(0, text.length - MOST_OF_PLACE);
   const place = /[^\s/]+:\d+(?= |$)/u.exec(text.slice(from));
   if (!place) return endOf(text, most);
-  if (from + place.index + place[0].length < most) return `${text.slice(0, most - 1)}…`;
-  return `${endOf(`${text.startsWith("before ") ? "before " : ""}${place[0]}`, most - 1)}…`;
+  const end = from + place.index + place[0].length, before = text.startsWith("before ") ? "before " : "";
+  if (end === text.length) return endOf(`${before}…${place[0]}`, most);
+  if (end < most) return `${text.slice(0, most - 1)}…`;
+  return `${endOf(`${before}${place[0]}`, most - 1)}…`;
 }
 
 // what is no letter, and can hide others or put them in another order: separators, marks that take no room, and those

@@ -200,10 +200,10 @@ function begin() {
   const { run, fault } = readRecord(byId("record").textContent);
   if (fault) tellBroken(fault, run);
   if (!run) return;
-  const { memory, budget, mac } = run.settings;
+  const { base = 0, memory, budget, mac } = run.settings;
   const events = run.steps.filter((step) => step.performs).length;
   setText(byId("settings"), [
-    `${counted(run.script.length, "line")}, ${counted(events, "event")}`, `${counted(memory, "octet")} of memory`,
+    `${counted(run.script.length, "line")}, ${counted(events, "event")}`, `${counted(memory, "octet")} of memory${base ? ` from ${addressText(base)} on` : ""}`,
     ...(typeof mac === "string" && isDigits(mac) && mac.length === 12 ? [`address ${macText(octetsOf(mac))}`] : []),
     ...(isNumber(budget, Infinity) ? [`a journal of ${counted(budget, "octet")}`] : []),
   ].join(" · "));

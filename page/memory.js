@@ -10,6 +10,33 @@ const MAP_KINDS = [
   ["touched", "", "changed by this step"],
 ];
 
+/** Up to so much memory the map shows all of it. */
+const MAPPED_WHOLE = 16_777_216;
+
+/** What it shows at least of more. */
+const MAPPED_LEAST = 65_536;
+
+/**
+ * What the map shows: all of memory, or of a large one the least part that has each octet which the run changes and begins
+ * at a multiple of its size, a power of 2.
+ * @returns {[number, number]}
+ */
+function mappedRange(memory, steps) {
+  if (memory.size <= MAPPED_WHOLE) return [memory.base, memory.end];
+  let [first, last] = [memory.end, memory.base];
+  for (const { place } of steps) {
+    for (const [address, before] of place.memory) {
+      first = Math.min(first, address);
+      last = Math.max(last, address + before.length / 2 - 1);
+    }
+  }
+  if (first > last) [first, last] = [memory.base, memory.base];
+  let size = MAPPED_LEAST;
+  while (Math.floor(first / size) !== Math.floor(last / size)) size *= 2;
+  const from = first - first % size;
+  return [Math.max(from, memory.base), Math.min(from + size, memory.end)];
+}
+
 /**
  * Whether an octet is not zero, by fours: the map's cells begin and end at multiples of four.
  * @param {Uint8Array} octets
@@ -25,9 +52,10 @@ function hasOctets(octets) {
 class MemoryPanel {
   constructor(app) {
     this.app = app;
-    this.size = app.state.memory.size;
-    this.address = 0;
-    this.focus = 0;
+    ({ base: this.base, end: this.end } = app.state.memory);
+    [this.mapFrom, this.mapEnd] = mappedRange(app.state.memory, app.run.steps);
+    this.address = this.base;
+    this.focus = this.base;
     this.map = byId("map");
     this.grid = byId("octets");
     this.narrow = matchMedia("(max-width: 560px)");
@@ -48,7 +76,7 @@ class MemoryPanel {
   showTyped() {
     const box = byId("address");
     const address = parseInt(box.value, 16);
-    const is = /^(0x)?[0-9a-f]+$/i.test(box.value.trim()) && address < this.size;
+    const is = /^(0x)?[0-9a-f]+$/i.test(box.value.trim()) && address >= this.base && address < this.end;
     setAttribute(box, "aria-invalid", is ? null : "true");
     if (is) this.showAt(address);
   }
@@ -62,11 +90,11 @@ class MemoryPanel {
   /** Sets what is shown: the octets about an address, which stay where they are if it is among them. */
   show(address, exact = false) {
     const across = this.across();
-    this.focus = Math.max(0, Math.min(this.size - 1, address));
+    this.focus = Math.max(this.base, Math.min(this.end - 1, address));
     if (!exact && this.focus >= this.address && this.focus < this.address + ROWS_SHOWN * across) return;
     const row = Math.floor(this.focus / across) - (exact ? 0 : 2);
-    const last = Math.floor(this.size / across) - ROWS_SHOWN;
-    this.address = Math.max(0, Math.min(row, last)) * across;
+    const last = this.end / across - ROWS_SHOWN;
+    this.address = Math.max(this.base / across, Math.min(row, last)) * across;
   }
 
   across() {
@@ -112,7 +140,7 @@ class MemoryPanel {
     }
     const across = this.across();
     const count = ROWS_SHOWN * across;
-    this.address = Math.max(0, Math.min(this.address, this.size - count));
+    this.address = Math.max(this.base, Math.min(this.address, this.end - count));
     if (this.focus < this.address || this.focus >= this.address + count) this.focus = this.address;
     const octets = this.app.state.memory.octets(this.address, count);
     const before = this.app.changes ? octetsBefore(this.app.place, this.address, octets) : octets;
@@ -175,7 +203,7 @@ class MemoryPanel {
     if (by === undefined || event.ctrlKey || event.altKey || event.metaKey) return;
     event.preventDefault();
     event.stopPropagation();
-    const focus = Math.max(0, Math.min(this.size - 1, this.focus + by));
+    const focus = Math.max(this.base, Math.min(this.end - 1, this.focus + by));
     const count = ROWS_SHOWN * across;
     while (focus < this.address) this.address -= Math.abs(by) >= count ? count : across;
     while (focus >= this.address + count) this.address += Math.abs(by) >= count ? count : across;
@@ -191,13 +219,18 @@ class MemoryPanel {
     const { columns, rows } = this.shape(box.width);
     const column = Math.floor(((event.clientX - box.left) / box.width) * columns);
     const row = Math.floor(((event.clientY - box.top) / box.height) * rows);
-    this.showAt(Math.min(this.size - 1, (row * columns + column) * (this.size / MAP_CELLS)));
+    this.showAt(Math.min(this.mapEnd - 1, this.mapFrom + (row * columns + column) * this.cell()));
   }
 
   /** @private */
   shape(width) {
     const columns = MAP_COLUMNS;
     return { columns, rows: MAP_CELLS / columns, side: Math.max(5, Math.min(9, Math.floor(width / columns))) };
+  }
+
+  /** How many octets a cell of the map stands for. @private */
+  cell() {
+    return (this.mapEnd - this.mapFrom) / MAP_CELLS;
   }
 
   /** The parts of memory that mean something here: rings, buffers in use, what this step changed. */
@@ -215,7 +248,7 @@ class MemoryPanel {
       }
     }
     if (app.changes) parts.push(...this.touched());
-    return parts.filter(({ at }) => at < BigInt(this.size));
+    return parts.filter(({ at }) => at >= BigInt(this.base) && at < BigInt(this.end));
   }
 
   /** What the present step changed, pieces that touch each other as one. @private */
@@ -247,7 +280,7 @@ class MemoryPanel {
 
   /** @private */
   paintMap() {
-    const cell = this.size / MAP_CELLS;
+    const cell = this.cell();
     const filled = this.filledCells(cell);
     const key = [widthOf(this.map), window.devicePixelRatio, palette.version, this.address, this.across(), this.regionsKey,
       filled].join();
@@ -258,7 +291,8 @@ class MemoryPanel {
     const across = width / columns;
     const fill = (kind, from, end) => {
       context.fillStyle = palette[`map-${kind}`];
-      for (let index = Math.floor(from / cell); index < Math.ceil(end / cell); index++) {
+      const last = Math.min(MAP_CELLS, Math.ceil(end / cell));
+      for (let index = Math.max(0, Math.floor(from / cell)); index < last; index++) {
         const [x, y] = [(index % columns) * across, Math.floor(index / columns) * side];
         context.fillRect(x + 0.5, y + 0.5, across - 1, side - 1);
       }
@@ -271,13 +305,15 @@ class MemoryPanel {
     filled.forEach((index) => fill("filled", index * cell, (index + 1) * cell));
     for (const wanted of ["buffer", "ring", "touched"]) {
       for (const { kind, at, size } of this.shownParts) {
-        if (kind === wanted) fill(kind, Number(at), Math.min(this.size, Number(at) + size));
+        const from = Number(at) - this.mapFrom;
+        if (kind === wanted) fill(kind, from, from + size);
       }
     }
     const shown = ROWS_SHOWN * this.across();
-    const [first, last] = [Math.floor(this.address / cell), Math.floor((this.address + shown - 1) / cell)];
+    const from = this.address - this.mapFrom;
+    const [first, last] = [Math.floor(from / cell), Math.floor((from + shown - 1) / cell)];
     context.strokeStyle = palette.ink;
-    for (let index = first; index <= last; index++) {
+    for (let index = Math.max(0, first); index <= Math.min(MAP_CELLS - 1, last); index++) {
       context.strokeRect((index % columns) * across + 0.5, Math.floor(index / columns) * side + 0.5, across - 1,
         side - 1);
     }
@@ -285,20 +321,15 @@ class MemoryPanel {
 
   /** The cells of the map in which an octet is not zero. @private */
   filledCells(cell) {
-    const found = [];
-    const { pages } = this.app.state.memory;
-    for (let index = 0; index < MAP_CELLS; index++) {
-      const [from, end] = [index * cell, (index + 1) * cell];
-      for (let page = Math.floor(from / PAGE_OCTETS); page * PAGE_OCTETS < end; page++) {
-        const octets = pages[page];
-        if (!octets) continue;
-        const part = octets.subarray(Math.max(0, from - page * PAGE_OCTETS), end - page * PAGE_OCTETS);
-        if (hasOctets(part)) {
-          found.push(index);
-          break;
-        }
+    const found = new Set();
+    for (const [index, octets] of this.app.state.memory.pages) {
+      const at = index * PAGE_OCTETS - this.mapFrom;
+      if (at < 0 || at >= this.mapEnd - this.mapFrom) continue;
+      for (let one = Math.floor(at / cell); one * cell < at + PAGE_OCTETS; one++) {
+        const part = octets.subarray(Math.max(0, one * cell - at), (one + 1) * cell - at);
+        if (!found.has(one) && hasOctets(part)) found.add(one);
       }
     }
-    return found;
+    return [...found].sort((one, other) => one - other);
   }
 }

@@ -2,7 +2,8 @@
 
 const FORMAT = "bunjelav recording";
 const VERSION = 2;
-const MOST_MEMORY = 16_777_216;
+/** Where guest memory ends at most. */
+const MOST_MEMORY = 2 ** 40;
 /** The bit of STATUS that says that the link is up. */
 const LINK_UP = 1;
 /** What an event can be. */
@@ -33,7 +34,7 @@ class Broken extends Error {}
  * @property {number} last
  *
  * @typedef {Object} Run
- * @property {{memory: number, budget: number, mac: string}} settings
+ * @property {{base: number|undefined, memory: number, budget: number, mac: string}} settings
  * @property {string[]} script
  * @property {Line[]} lines of the script, by number less 1; those that were not played are missing
  * @property {Step[]} steps
@@ -131,6 +132,9 @@ class Reader {
     const { settings, script, start } = record;
     want(isObject(settings) && isNumber(settings.memory, MOST_MEMORY) && settings.memory >= PAGE_OCTETS
       && settings.memory % PAGE_OCTETS === 0, "its size of memory is none that an adapter can have");
+    const { base = 0 } = settings;
+    want(isNumber(base, MOST_MEMORY - settings.memory) && base % PAGE_OCTETS === 0,
+      "no adapter can have its memory where it lies");
     want(isTexts(script), "its script is no list of texts");
     const registers = startRegisters(start);
     /** @type {Place} */
@@ -143,7 +147,8 @@ class Reader {
     this.performed = 0;
     /** @type {Run} */
     this.run = {
-      settings, script, lines: [], root, state: new State(root, registers, settings.memory), ended: false,
+      settings, script, lines: [], root, state: new State(root, registers, new Memory(base, settings.memory)),
+      ended: false,
       steps: [{ kind: "start", mark: "", line: 0, place: root, performs: false, back: 0 }],
     };
   }
@@ -293,7 +298,7 @@ class Reader {
       const [address, before, after] = change;
       want(address >= end, `${name} does not have its octets in their order`);
       end = address + before.length / 2;
-      want(end <= memory.size, `${name} has octets outside memory`);
+      want(address >= memory.base && end <= memory.end, `${name} has octets outside memory`);
       want(memory.holds(address, before), `${name} says what octets stood at ${addressText(address)} before it, and `
         + "others did");
       return [address, before, after];
@@ -387,7 +392,7 @@ function wordsOf(event) {
   switch (event.kind) {
     case "poke":
       return isNumber(event.address, MOST_MEMORY) && isWord(event.length)
-        ? `poke ${hex(event.address, 6)} length ${event.length}` : null;
+        ? `poke ${addressText(event.address)} length ${event.length}` : null;
     case "link":
       return typeof event.up === "boolean" ? `link ${event.up ? "up" : "down"}` : null;
     case "arrive":

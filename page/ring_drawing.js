@@ -69,7 +69,7 @@ class RingDrawing {
     const tracks = tracksOf(found.flatMap(({ of }) => of.slice(0, MOST_ARROWS)), turnOf);
     return found.map((buffer, row) => {
       const { at, size, of } = buffer;
-      const isTouched = at + BigInt(size) <= BigInt(this.app.state.memory.size) && this.touches(at, size);
+      const isTouched = this.app.state.memory.has(at, size) && this.touches(at, size);
       const ways = of.map(({ index, trouble }) => `${index} ${turnOf(index)} ${tracks.get(index) ?? 0} ${trouble}`);
       return {
         key: [at, size, row, found.length, isTouched, ...ways].join(),

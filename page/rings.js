@@ -63,7 +63,7 @@ function descriptorOf(state, ring, index) {
   const address = ring.base + BigInt(DESCRIPTOR_OCTETS * index);
   const owner = ownerOf(ring, index);
   const none = { index, address, owner, octets: null, at: 0n, size: 0, live: false, trouble: "it lies outside memory" };
-  if (address + BigInt(DESCRIPTOR_OCTETS) > BigInt(state.memory.size)) return none;
+  if (!state.memory.has(address, DESCRIPTOR_OCTETS)) return none;
   const octets = state.memory.octets(Number(address), DESCRIPTOR_OCTETS);
   const isExtended = ring.side === "tx" && (octets[11] & 0x20) !== 0;
   const live = owner === "adapter" || (ring.side === "rx" && (octets[12] & 1) !== 0);
@@ -91,22 +91,24 @@ const overlap = (one, size, other, otherSize) =>
  */
 function claimsOf(state, ring) {
   const { memory } = state;
-  if (ring.base > BigInt(memory.size)) return [];
+  if (ring.base > BigInt(memory.end)) return [];
   const base = Number(ring.base);
-  const inside = Math.min(ring.count, Math.floor((memory.size - base) / DESCRIPTOR_OCTETS));
+  const before = Math.max(0, Math.ceil((memory.base - base) / DESCRIPTOR_OCTETS));
+  const inside = Math.min(ring.count, Math.floor((memory.end - base) / DESCRIPTOR_OCTETS));
   const claims = [];
   const isRx = ring.side === "rx";
-  for (let index = 0; index < inside; index++) {
+  for (let index = before; index < inside; index++) {
     const address = base + DESCRIPTOR_OCTETS * index;
     // a ring lies at a multiple of 16, so no descriptor lies in two pages
-    const page = memory.pages[address >>> PAGE_BITS] ?? ZEROS;
-    const from = address & (PAGE_OCTETS - 1);
+    const page = memory.page(address);
+    const from = address % PAGE_OCTETS;
     const isDone = isRx && (page[from + 12] & 1) !== 0;
     if (!isDone && ownerOf(ring, index) === "driver") continue;
     if (!isRx && (page[from + 11] & 0x20) !== 0) continue;
-    // (one that lies at 2^24 or past it lies outside memory)
-    if (page[from + 3] || page[from + 4] || page[from + 5] || page[from + 6] || page[from + 7]) continue;
-    const at = page[from] | (page[from + 1] << 8) | (page[from + 2] << 16);
+    // (one that lies at 2^40 or past it lies outside memory)
+    if (page[from + 5] || page[from + 6] || page[from + 7]) continue;
+    const at = (page[from] | (page[from + 1] << 8) | (page[from + 2] << 16)) + page[from + 3] * 2 ** 24
+      + page[from + 4] * 2 ** 32;
     claims.push([index, at, isRx ? ring.buffer : page[from + 8] | (page[from + 9] << 8)]);
   }
   return claims;
@@ -124,7 +126,7 @@ function troubleOf(state, ring, descriptor, claims) {
     if (size === 0) return "its length is 0";
     if (size > MOST_LENGTH) return `its length is above ${MOST_LENGTH}`;
   }
-  if (at + BigInt(size) > BigInt(state.memory.size)) return "its buffer lies outside memory";
+  if (!state.memory.has(at, size)) return "its buffer lies outside memory";
   if (overlap(at, size, ring.base, DESCRIPTOR_OCTETS * ring.count)) return "its buffer lies over the ring";
   const [from, end] = [Number(at), Number(at) + size];
   // the driver took the frame of one, and posted its buffer again as the other's

@@ -39,9 +39,9 @@ function range(first, last) {
   return Array.from({ length: last - first + 1 }, (_, index) => first + index);
 }
 
-/** The file and the line that a source names, as em_kept and em_guest write one. */
+/** The file and the line that a source names, behind a function where there is one: `driver.c:57`, `give(), driver.c:57`. */
 function placeOf(text) {
-  const [, file, line] = /^(?:before )?(.*):(\d+)(?: .*)?$/su.exec(text) ?? ["", text, "0"];
+  const [, file, line] = /^(?:before )?(?:.*\), )?(.*):(\d+)(?: .*)?$/su.exec(text) ?? ["", text, "0"];
   return { file, line: Number(line) };
 }
 

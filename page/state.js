@@ -1,7 +1,6 @@
 // The adapter's state at a place of the run: it goes forward and back by what each event changed.
 
-const PAGE_BITS = 12;
-const PAGE_OCTETS = 1 << PAGE_BITS;
+const PAGE_OCTETS = 4_096;
 /** A page that was never written. */
 const ZEROS = new Uint8Array(PAGE_OCTETS);
 /** Every so many events a snapshot is kept, from which a far place is reached. */
@@ -38,19 +37,31 @@ const SNAPSHOT_EVERY = 256;
  * @typedef {{place: Place, octets: string, count: number, before: Sending|null}} Sending
  */
 
-/** Guest memory in pages; one that was never written is null. Snapshots share pages, which are copied when written. */
+/** Guest memory in pages, those that were written. Snapshots share pages, which are copied when written. */
 class Memory {
-  /** @param {number} size in octets, a multiple of 4,096 */
-  constructor(size) {
+  /** @param {number} base its first address @param {number} size in octets; both are multiples of 4,096 */
+  constructor(base, size) {
+    this.base = base;
     this.size = size;
-    /** @type {(Uint8Array|null)[]} */
-    this.pages = new Array(size / PAGE_OCTETS).fill(null);
-    this.own = new Uint8Array(size / PAGE_OCTETS);
+    this.end = base + size;
+    /** @type {Map<number, Uint8Array>} by their addresses / 4,096 */
+    this.pages = new Map();
+    /** Those that no snapshot shares. @type {Set<number>} */
+    this.own = new Set();
+  }
+
+  /** Whether these octets lie in it. @param {bigint} at @param {number} size */
+  has(at, size) {
+    return BigInt(this.base) <= at && at + BigInt(size) <= BigInt(this.end);
+  }
+
+  /** The page of an address. @returns {Uint8Array} */
+  page(address) {
+    return this.pages.get(Math.floor(address / PAGE_OCTETS)) ?? ZEROS;
   }
 
   octet(address) {
-    const page = this.pages[address >>> PAGE_BITS];
-    return page ? page[address & (PAGE_OCTETS - 1)] : 0;
+    return this.page(address)[address % PAGE_OCTETS];
   }
 
   /** @returns {Uint8Array} a copy; the range lies within memory */
@@ -85,31 +96,33 @@ class Memory {
 
   /** @private */
   writable(index) {
-    if (!this.own[index]) {
-      this.pages[index] = this.pages[index] ? this.pages[index].slice() : new Uint8Array(PAGE_OCTETS);
-      this.own[index] = 1;
+    let page = this.pages.get(index);
+    if (!page || !this.own.has(index)) {
+      page = page ? page.slice() : new Uint8Array(PAGE_OCTETS);
+      this.pages.set(index, page);
+      this.own.add(index);
     }
-    return this.pages[index];
+    return page;
   }
 
   share() {
-    this.own.fill(0);
-    return this.pages.slice();
+    this.own.clear();
+    return new Map(this.pages);
   }
 
   restore(pages) {
-    this.pages = pages.slice();
-    this.own.fill(0);
+    this.pages = new Map(pages);
+    this.own.clear();
   }
 }
 
 /** Registers and memory at a place. What else a place has stands in the place itself. */
 class State {
-  /** @param {Place} root @param {Uint32Array} registers @param {number} memory its size in octets */
+  /** @param {Place} root @param {Uint32Array} registers @param {Memory} memory */
   constructor(root, registers, memory) {
     this.place = root;
     this.registers = registers;
-    this.memory = new Memory(memory);
+    this.memory = memory;
     this.keep();
   }
 

@@ -22,7 +22,9 @@ from tally import CRATES, TOP, below
 # The crates whose branches are looked at.
 LOOKED_AT = ("em_driver", "em_rx", "em_tx", "em_step", "em_journal")
 # What is run beside tests/library; tests there may name what these stand on, and what em_who stands on.
-RUN = ("em_calls", "em_refused", "em_rows")
+RUN = ("em_calls", "em_refused")
+# What plays the worked rows, and where they lie.
+ROWS, WORKED = TOP / "tests" / "worked_rows.rtt", TOP / "tests" / "worked"
 NAMED = (*RUN, "em_who")
 OF_THE_KIT = "bitflags clap anyhow rand_core rand_pcg"
 NAME = "em_branches"
@@ -135,7 +137,8 @@ def sums() -> dict[str, str]:
     """A sum of each crate that is looked at, and of each thing that is run for it."""
     parts = {f"crates/{name}/src": sorted((CRATES / name / "src").glob("*.rt")) for name in LOOKED_AT + RUN}
     parts |= {str(file.relative_to(TOP)): [file] for file in tests_of_libraries(all_below(NAMED, below()))}
-    for row in sorted((CRATES / "em_rows" / "data").glob("*/script")):
+    parts[str(ROWS.relative_to(TOP))] = [ROWS]
+    for row in sorted(WORKED.glob("*/script")):
         parts[str(row.parent.relative_to(TOP))] = sorted(row.parent.iterdir())
     found = {}
     for name, files in parts.items():
@@ -196,13 +199,11 @@ class Look:
         self.write(files, "lib", "".join(f"#[cfg(test)]\nmod {name};\n" for name in sorted(files)))
 
     def rows(self) -> str:
-        """The program em_rows as a test."""
-        text = (CRATES / "em_rows" / "src" / "main.rt").read_text()
-        data = f"{CRATES}/em_rows/data/"
-        for old, new in (
-            ("#![tactic(auto)]\n", ""), ('"rows"', f'"{data}rows"'), ('"{name}/', f'"{data}{{name}}/'),
-            ("fn main(", "#[test]\nfn each_row("),
-        ):
+        """The test that plays the worked rows, where they lie."""
+        names = self.crate.parent.parent / "rows"
+        names.write_text("".join(f"{row.name}\n" for row in sorted(WORKED.iterdir())))
+        text = ROWS.read_text()
+        for old, new in (('"rows"', f'"{names}"'), ('"{name}/', f'"{WORKED}/{{name}}/')):
             assert old in text
             text = text.replace(old, new)
         return text

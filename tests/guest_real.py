@@ -48,16 +48,16 @@ def bare(tally: Tally, room: Path, qemu: str) -> None:
         tally.check(f"a driver of our own, {machine}", differ({
             "status": (ran.returncode, 0), "interrupts": ("interrupts 00000003" in told, True), "no interrupt": ("no interrupt" in told, False), "done": ("done 00000001" in told, True),
             "the register that is none": ("has not: 00010 (1 reads, 0 writes)" in told, True),
-            "tails": (len(re.findall(rf"^w 03818 0000000[123] @ bare\.c:{tail} send$", text, re.M)), 3),
-            "reads of ICR": (len(re.findall(r"^r 000C0 = 00000003 @ bare\.c:\d+ on_interrupt$", text, re.M)), 3),
+            "tails": (len(re.findall(rf"^w 03818 0000000[123] @ send\(\), bare\.c:{tail}$", text, re.M)), 3),
+            "reads of ICR": (len(re.findall(r"^r 000C0 = 00000003 @ on_interrupt\(\), bare\.c:\d+$", text, re.M)), 3),
             "frames": (sent.stat().st_size, 24 + 3 * (16 + 60))}) + ([] if "done 00000001" in told else [told[-2000:], text[-2000:]]))
         counted_run(tally, f"a driver of our own, {machine}, played again", kept, 9)
         tally.check(f"docs/guest.md, {machine}", written_in_page("bare.c", text))
-        kept_run = re.findall(r"^[rw] .* @ bare\.c:\d+ (?:send|on_interrupt)$", BARE.with_suffix(".em").read_text(), re.M)
+        kept_run = re.findall(r"^[rw] .* @ (?:send|on_interrupt)\(\), bare\.c:\d+$", BARE.with_suffix(".em").read_text(), re.M)
         tally.check(f"bare.em, {machine}", [line for line in kept_run if line not in text.splitlines()] if kept_run else ["none"])
         who = asked(kept, room, "who TDT")
-        number = next((i for i, line in enumerate(text.splitlines(), 1) if line == f"w 03818 00000003 @ bare.c:{tail} send"), 0)
-        tally.check(f"who, {machine}", [] if any(f"line {number} @ bare.c:{tail} send, " in line for line in who) else who)
+        number = next((i for i, line in enumerate(text.splitlines(), 1) if line == f"w 03818 00000003 @ send(), bare.c:{tail}"), 0)
+        tally.check(f"who, {machine}", [] if any(f"line {number} @ send(), bare.c:{tail}, " in line for line in who) else who)
 
 
 def terminal(words: list, script: list[tuple[bytes, bytes]]) -> tuple[int, str]:
@@ -99,7 +99,7 @@ def held(tally: Tally, room: Path, qemu: str) -> None:
         "interrupts": ("interrupts 00000003" in told, True)}) + ([] if status == 0 else [told[-2000:]]))
     named = seen.read_text() if seen.is_file() else ""
     tally.check("held at a terminal, names", differ({
-        "the last access": (named.count(f"w 03818 00000003 @ bare.c:{tail} send\n"), 1),
+        "the last access": (named.count(f"w 03818 00000003 @ send(), bare.c:{tail}\n"), 1),
         "no copy is left": ([path.name for path in room.glob("held.em.*")], [])}))
 
 
@@ -217,7 +217,7 @@ def much(tally: Tally, room: Path, qemu: str, kernel: Path) -> None:
 
 def written_in_page(file: str, text: str) -> list[str]:
     """Which lines that docs/guest.md has of a run of this file's driver are none of it."""
-    page = re.findall(rf"[rw] [0-9A-F]{{5}}[^`|\n]* @ {re.escape(file)}:\d+ \w+", (TOP / "docs" / "guest.md").read_text())
+    page = re.findall(rf"[rw] [0-9A-F]{{5}}[^`|\n]* @ \w+\(\), {re.escape(file)}:\d+", (TOP / "docs" / "guest.md").read_text())
     faults = [f"{line!r} is no line of it" for line in page if line not in text.splitlines()]
     return faults if page else ["it has no line of the run"]
 
@@ -267,7 +267,7 @@ def sender(tally: Tally, room: Path, qemu: str) -> None:
     tail = next(number for number, line in enumerate(SENDER.read_text().splitlines(), 1) if "/* the tail */" in line)
     tally.check("a module of Linux, its lines", differ({
         "tail": (text.count(f"w 03818 00000001 @ sender.c:{tail} send\n"), 1),
-        "reads of ICR": (len(re.findall(r"^r 000C0 = 00000003 @ sender\.c:\d+ on_interrupt$", text, re.M)), 1)}))
+        "reads of ICR": (len(re.findall(r"^r 000C0 = 00000003 @ on_interrupt\(\), sender\.c:\d+$", text, re.M)), 1)}))
     tally.check("docs/guest.md, a module of Linux", written_in_page("sender.c", text))
     counted_run(tally, "a module of Linux, played again", kept, 2, warnings="0")
 

@@ -64,7 +64,8 @@ REFUSED = (
     (["--addr2line", "driver", "nowhere"], 3, "nowhere: there is no such file"),
     (["--addr2line", "driver", "."], 3, ".: the script cannot be read"),
     (["--addr2line", "driver", "--memory", "5", "core"], 2,
-     "--memory 5: octets of guest memory are a multiple of 4096, from 4096 to 16777216"),
+     "--memory 5 --base 0: guest memory begins at a multiple of 4096, has a multiple of 4096 octets, and ends at "
+     "10000000000 at most"),
     (["--addr2line", "driver", "--batch", "--pcap", "core", "core"], 2,
      "--pcap core: core is this file too, and would be written over"),
     (["--addr2line", "driver", "-"], 2,

@@ -19,7 +19,7 @@ KEPT = "".join([
       for at in range(8)),
     "link up = ok @ src/main.c:7\n# a comment @ driver.c:1\n",
     *(f"arrive {'FF' * 6}{'00' * 54} = stored @ src/main.c:8\nrx = wrote {at} @ src/main.c:8\n"
-      "r 000000C0 = 00000084 @ driver.c:30\n" for at in range(3)),
+      "r 000000C0 = 00000084 @ irq(), driver.c:30\n" for at in range(3)),
     "peek 2000 4 @ src/main.c:9\nr 00008\nbogus @ src/main.c:10\n",
 ])
 SHOWN = """
@@ -39,12 +39,13 @@ CHOOSE = """[...document.querySelectorAll('.source-line')].find((one) =>
   one.querySelector('.text').textContent === arguments[0]).click();""" + SHOWN
 STEP = """const s = document.getElementById('slider');
   s.value = arguments[0]; s.dispatchEvent(new Event('input'));""" + SHOWN
-# as em_guest names a program counter
-LONG = "before drivers/net/ethernet/intel/e1000_main.c:1547 e1000_alloc_jumbo_rx_buffers"
+# as em_guest names a program counter, and as another program may
+LONG = "before e1000_alloc_jumbo_rx_buffers(), drivers/net/ethernet/intel/e1000_main.c:1547"
+OTHER = "before drivers/net/ethernet/intel/e1000_main.c:2345 e1000_alloc_jumbo_rx_buffers"
 HOSTILE = [
-    LONG,
+    LONG, OTHER,
     f"<img src=x onerror={RUNS}>", f"</script><script>{RUNS}</script>:1", "__proto__", "constructor:5", "a\tb\x7f.c:1",
-    "\u202egnp.c:3", "\u2066x\u2069:4", "before x.c:2 send", "x" * 5000 + ".c:9", "\u05e9\u05dc\u05d5\u05dd.c:1",
+    "\u202egnp.c:3", "\u2066x\u2069:4", "before send(), x.c:2", "x" * 5000 + ".c:9", "\u05e9\u05dc\u05d5\u05dd.c:1",
     "&lt;b&gt;:2", ":" * 2000, "1" * 400 + ":" + "9" * 400, "\U0001f600" * 40, " ", "0x00000000DEADBEEF",
 ]
 WIDE = """
@@ -75,7 +76,7 @@ def places(script: str) -> dict[str, list[int]]:
 
 
 def in_order(source: str) -> tuple:
-    file, line = re.fullmatch(r"(.*):(\d+)", source).groups()
+    file, line = re.fullmatch(r"(?:.*\), )?(.*):(\d+)", source).groups()
     return file, int(line)
 
 
@@ -87,6 +88,8 @@ def listed(tally: Tally, shown: dict, wanted: dict[str, list[int]]) -> None:
     faults += [] if shown["head"] == f"{len(rows)} sources" and not shown["hidden"] else [f"it says {shown['head']}"]
     tally.check("the sources", faults)
     columns = ["" if line.startswith("#") else line.partition(" @ ")[2] for line in KEPT.splitlines()]
+    # of a long one its end, where it ends in its place
+    columns = [re.sub(r"^irq\(\), ", "…", text) for text in columns]
     faults = [f"{seen!r}, and not {text!r}" for seen, text in zip(shown["columns"], columns) if seen != text]
     tally.check("the column of sources", faults + ([] if len(shown["columns"]) > 9 else ["there is none"]))
 
@@ -185,8 +188,9 @@ def hostile(tally: Tally, browser, room: Path) -> None:
     faults += [] if len(shown["rows"]) == len(HOSTILE) else [f"{len(shown['rows'])} rows"]
     turned = [text for text, _, _ in shown["rows"] for mark in text if mark < " " or mark in "\x7f\u202e\u2066\u2069"]
     faults += [f"a mark in {text!r}" for text in turned]
-    seen = shown["columns"][HOSTILE.index(LONG)], next(text for text, _, _ in shown["rows"] if "1547" in text)
-    faults += [] if seen[0] == "…_main.c:1547…" and "1000_main.c:1547" in seen[1] else [f"a long one is {seen}"]
+    for source, number, column in ((LONG, "1547", "…0_main.c:1547"), (OTHER, "2345", "…_main.c:2345…")):
+        seen = shown["columns"][HOSTILE.index(source)], next(text for text, _, _ in shown["rows"] if number in text)
+        faults += [] if seen[0] == column and f"1000_main.c:{number}" in seen[1] else [f"a long one is {seen}"]
     tally.check("hostile sources", faults + [f"on the console: {one}" for one in browser.told()])
 
 

@@ -146,6 +146,7 @@ def record(script: str, memory: int = 65536, budget: int = 1_048_576, mac: str =
     """The record of a script, by one character for each octet."""
     settings = {"memory": memory, "budget": budget, "mac": mac}
     root, played = walk(script, **settings)
+    settings = {"base": 0} | settings
     lines = script.split("\n")
     texts = [line.encode("latin-1").decode(errors="replace") for line in (lines if lines[-1] else lines[:-1])]
     return {

@@ -244,11 +244,11 @@ class Debugger:
         line = f"{short(self.shown[event.line - 1])}: " if event.of > 1 else ""
         return f"{line}{spoken(event.was)}"
 
-    def opened(self, line: int, most: int) -> list[str]:
-        """The newest events at the place, if they are of this line."""
+    def opened(self, most: int) -> list[str]:
+        """The newest events that stand at the place, those of one line."""
         standing = self.standing()[-min(most, self.reach()):] if min(most, self.reach()) else ()
         return [f"    event {one.number}{f' ({one.access} of {one.of})' if one.of > 1 else ''}: {spoken(one.was)}"
-                for one in standing if one.line == line]
+                for one in standing if one.line == standing[-1].line]
 
     def newest_undone(self) -> int:
         """The newest line up to the place whose answer says that its event did nothing; 0 where none does."""

@@ -335,6 +335,29 @@ def when(time):
     return "" if time is None else f", at {seconds(time)}"
 
 
+class Rings:
+    """Where the rings lie whose tails a log writes, and what memory that wants."""
+
+    def __init__(self):
+        self.words, self.lie = {}, []
+
+    def write(self, name, value):
+        self.words[name] = value
+        side, length = name[:2], self.words.get(f"{name[:2]}LEN", 0)
+        if name in ("RDT", "TDT") and length > 0:
+            base = self.words.get(f"{side}BAH", 0) * 2**32 + self.words.get(f"{side}BAL", 0)
+            self.lie.append((base, base + length))
+
+    def head(self):
+        """The comment that says so, where 64 KiB from address 0 on are not enough and some memory is."""
+        first, end = min((one[0] for one in self.lie), default=0), max((one[1] for one in self.lie), default=0)
+        sizes = [2**power for power in range(27, 41) if first >> power == (end - 1) >> power]
+        if end <= 65_536 or not sizes or first >= 2**40:
+            return []
+        base = first // sizes[0] * sizes[0]
+        return [f"# em_debug --memory {sizes[0] // 2**20}M" + (f" --base {base:X}" if base else "")]
+
+
 def script_of(log, reader, missing, frames=(), at=None, link=True, others=True, polls=False, lines=(1, None)):
     """The script of a log, as octets. `missing` has the names of registers that the model lacks; without `others`,
     accesses of something else are no comments; with `polls`, each read of a poll has its line; `lines` are the first
@@ -345,7 +368,7 @@ def script_of(log, reader, missing, frames=(), at=None, link=True, others=True, 
         frames = placed(places, frames)
     else:
         frames = asked(places, frames, at)
-    accesses, poll = 0, Poll(polls)
+    accesses, poll, rings = 0, Poll(polls), Rings()
     for count, line in enumerate(lines_of(log), 1):
         said = reader.read(line)
         if count < lines[0] or lines[1] is not None and count > lines[1]:
@@ -373,11 +396,12 @@ def script_of(log, reader, missing, frames=(), at=None, link=True, others=True, 
             script.append(f"# line {count}: {text} ({missing.get(offset, 'no register')}){when(time)}")
         else:
             script.append(text + ("" if time is None else f" # {seconds(time)}"))
-            if REGISTERS[offset] == "RCTL" and way == "write":
-                rctl = value
+            if way == "write":
+                rings.write(REGISTERS[offset], value)
+                rctl = value if REGISTERS[offset] == "RCTL" else rctl
     if accesses and (lines[1] is None or lines[1] >= places.lines):
         for number, frame, before, why, is_open in frames:
             if before is None:
                 script += poll.ended() + arrival(frame, number, why, is_open, rctl)
-    script += poll.ended()
+    script = rings.head() + script + poll.ended()
     return b"".join((text if isinstance(text, bytes) else text.encode()) + b"\n" for text in script)

@@ -7,7 +7,8 @@ from second_reading import IN_WORDS
 FIELDS = {
     "read": ["kind", "offset", "register", "value"], "write": ["kind", "offset", "register", "value"],
     "poke": ["kind", "address", "length"], "arrive": ["kind", "length", "answer", "reason"], "link": ["kind", "up"],
-    "rx": ["kind", "answer", "descriptor"], "tx": ["kind", "answer", "descriptor", "length"],
+    "rx": ["kind", "answer", "descriptor", "at", "buffer", "octets"],
+    "tx": ["kind", "answer", "descriptor", "at", "buffer", "octets", "length"],
 }
 BITS = of_docs()
 SPEEDS = (10, 100, 1000, 1000)

@@ -227,6 +227,22 @@ def work_of(s: State, ring: int, control: int) -> tuple[int, int, int, int] | No
     return n, head, tail, s.at(ring + 4) * 2**32 + s.at(ring) + 16 * head
 
 
+def buffer_size(s: State) -> int:
+    rctl = s.at(RCTL)
+    return ((2048, 1024, 512, 256), (2048, 16384, 8192, 4096))[rctl >> 25 & 1][rctl >> 16 & 3]
+
+
+def handled(s: State, kind: str) -> dict:
+    """Where the descriptor lies that the next step of an engine handles, and the octets that it writes into the buffer or
+    reads there."""
+    _, _, _, at = work_of(s, *{"rx": (RECEIVE, RCTL), "tx": (TRANSMIT, TCTL)}[kind])
+    descriptor = s.octets(at, 16)
+    count = int.from_bytes(descriptor[8:10], "little")
+    if kind == "rx":
+        count = min(len(s.fifo[0][0]) - s.taken, buffer_size(s))
+    return {"at": at, "buffer": int.from_bytes(descriptor[:8], "little") if count else 0, "octets": count}
+
+
 def receive(s: State) -> tuple[str, int]:
     """The answer, and its cost."""
     there = work_of(s, RECEIVE, RCTL)
@@ -236,10 +252,8 @@ def receive(s: State) -> tuple[str, int]:
     if at + 16 > s.size():
         raise Refused("DmaRange")
     to = int.from_bytes(s.octets(at, 8), "little")
-    rctl = s.at(RCTL)
-    buffer = ((2048, 1024, 512, 256), (2048, 16384, 8192, 4096))[rctl >> 25 & 1][rctl >> 16 & 3]
     frame, tag = s.fifo[0]
-    piece = frame[s.taken : s.taken + buffer]
+    piece = frame[s.taken : s.taken + buffer_size(s)]
     if to + len(piece) > s.size():
         raise Refused("DmaRange")
     s.store(to, piece)
@@ -251,7 +265,7 @@ def receive(s: State) -> tuple[str, int]:
     if is_last:
         s.fifo, s.taken = s.fifo[1:], 0
         s.raises(RXT0)
-    if (tail - s.at(RECEIVE + 0x10)) % n == n // (2, 4, 8, 8)[rctl >> 8 & 3]:
+    if (tail - s.at(RECEIVE + 0x10)) % n == n // (2, 4, 8, 8)[s.at(RCTL) >> 8 & 3]:
         s.raises(RXDMT0)
     return f"wrote {head}", 40 + len(piece)
 
@@ -351,6 +365,8 @@ class Session:
         self.past.append((self.now, cost))
         self.performed += 1
         self.was = what | answered(what["kind"], text)
+        if "descriptor" in self.was:
+            self.was |= handled(self.now, what["kind"])
         self.now, self.held = state, self.held + cost
         dropped = 0
         while self.held > self.budget:

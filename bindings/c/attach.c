@@ -276,6 +276,15 @@ em_code em_make_with_eeprom(em_machine *machine, uint64_t memory, uint64_t budge
   return UNLESS_CALLING(begun(machine, budget, proved_make_with_eeprom(machine, memory, budget, words)));
 }
 
+em_code em_make_at(em_machine *machine, uint64_t base, uint64_t memory, uint64_t budget, const uint8_t mac[6]) {
+  return UNLESS_CALLING(begun(machine, budget, proved_make_at(machine, base, memory, budget, mac)));
+}
+
+em_code em_make_at_with_eeprom(em_machine *machine, uint64_t base, uint64_t memory, uint64_t budget,
+                               const uint16_t words[64]) {
+  return UNLESS_CALLING(begun(machine, budget, proved_make_at_with_eeprom(machine, base, memory, budget, words)));
+}
+
 /* what touches no memory of the caller's */
 #define PASSED(call, parameters, ...) \
   em_code em_##call parameters { return UNLESS_CALLING(BY_KEEPING(machine, call, __VA_ARGS__)); }

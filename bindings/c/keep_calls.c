@@ -84,13 +84,14 @@ em_code keep_sync_in_range(em_machine *machine, uint64_t address, const uint8_t 
 /* As em_sync_in does it: so in each page. */
 em_code keep_sync_in(em_machine *machine, const uint8_t *ram, size_t size, size_t *writes) {
   enum { PAGE = 4096 };
-  uint64_t all = 0;
+  uint64_t base = 0, all = 0;
   size_t one = 0;
-  em_code why = em_memory_size(machine, &all);
+  em_code why = em_memory_base(machine, &base);
+  if (why == EM_OK) why = em_memory_size(machine, &all);
   if (why != EM_OK || size != all) return proved_sync_in(machine, ram, size, writes); /* (it is refused) */
   *writes = 0;
   for (size_t at = 0; at < size && why == EM_OK; at += PAGE) {
-    why = keep_sync_in_range(machine, at, ram + at, PAGE, &one);
+    why = keep_sync_in_range(machine, base + at, ram + at, PAGE, &one);
     if (why == EM_OK) *writes += one;
   }
   return why;

@@ -13,6 +13,8 @@ static inline void ignore(em_code code) { (void)code; }
 #define PROVED(call) extern __typeof__(em_##call) proved_##call
 PROVED(make);
 PROVED(make_with_eeprom);
+PROVED(make_at);
+PROVED(make_at_with_eeprom);
 PROVED(free);
 PROVED(read);
 PROVED(write);

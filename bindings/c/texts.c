@@ -18,7 +18,7 @@ const char *em_strerror(em_code code) {
     case EM_BUDGET: return "Budget: the budget lies outside 65,536 to 16,777,216";
     case EM_NOT_MADE: return "NotMade: the handle holds no machine";
     case EM_MADE_ALREADY: return "MadeAlready: the handle holds a machine already";
-    case EM_SIZE: return "Size: guest memory has a multiple of 4,096 octets, from 4,096 to 16,777,216";
+    case EM_SIZE: return "Size: guest memory can not have that size, or not lie there";
     case EM_NO_FRAME: return "NoFrame: so many frames were not sent";
     case EM_ROOM: return "Room: there is no room for what is told";
     case EM_NO_EVENT: return "NoEvent: the journal does not hold so many events";

@@ -120,7 +120,7 @@ typedef enum em_code {
   EM_BUDGET = 24,      /* a budget outside 65,536 to 16,777,216 */
   EM_NOT_MADE = 26,    /* the handle holds no machine */
   EM_MADE_ALREADY = 27, /* the handle holds a machine already */
-  EM_SIZE = 28,        /* a guest memory that is no multiple of 4,096 from 4,096 to 16,777,216 octets */
+  EM_SIZE = 28,        /* guest memory can not have that size, or not lie there */
   EM_NO_FRAME = 29,    /* so many frames were not sent */
   EM_ROOM = 30,        /* what is told has more octets than there is room for */
   EM_NO_EVENT = 31,    /* the journal does not hold so many events */
@@ -165,12 +165,15 @@ typedef enum em_kind {
 /* An event that was performed. */
 typedef struct em_note {
   uint64_t tag;    /* what the caller called it by */
-  uint64_t at;     /* of an access the register's offset, of a memory write its address; else 0 */
+  uint64_t at;     /* of an access the register's offset, of a memory write its address, of a step of an engine that was
+                      not idle its descriptor's address; else 0 */
   uint32_t length; /* octets: of an access 4, of a memory write those written, of a frame that arrived or was sent the
                       frame's; else 0 */
   uint32_t value;  /* of a read the value that it gave, of a write the value written, of a step of an engine that was
                       not idle the descriptor's index; else 0 */
   uint32_t kind;   /* an em_kind */
+  uint32_t octets; /* how many octets a step of an engine wrote into its buffer or read there; else 0 */
+  uint64_t buffer; /* where in guest memory they lie; else 0, as of no octets */
 } em_note;
 
 /* Room in which each frame that a machine sends fits: 16,380 gathered octets and a tag. */
@@ -187,6 +190,14 @@ EM_CHECKED em_code em_make(em_machine *machine, uint64_t memory, uint64_t budget
 
 /* The same with the 64 words of the EEPROM. */
 EM_CHECKED em_code em_make_with_eeprom(em_machine *machine, uint64_t memory, uint64_t budget, const uint16_t words[64]);
+
+/* The same two with guest memory of `memory` octets from the address `base` on. Both are multiples of 4,096, `memory` is
+   not 0, and memory ends at 2^40 at most: else EM_SIZE. Addresses outside are refused as EM_RANGE and EM_DMA_RANGE, as
+   ever. A new memory of 1 TiB takes less than 100 KiB, and more as pages are written. */
+EM_CHECKED em_code em_make_at(em_machine *machine, uint64_t base, uint64_t memory, uint64_t budget,
+                              const uint8_t mac[6]);
+EM_CHECKED em_code em_make_at_with_eeprom(em_machine *machine, uint64_t base, uint64_t memory, uint64_t budget,
+                                          const uint16_t words[64]);
 
 /* Frees the machine that the handle holds, if it holds one; then it holds none, and may be made again. Cost: the
    journal's records, and the pages that were written. */
@@ -338,6 +349,9 @@ EM_CHECKED em_code em_sync_out_range(const em_machine *machine, uint64_t address
 EM_CHECKED em_code em_sync_in_range(em_machine *machine, uint64_t address, const uint8_t *octets, size_t length,
                                     size_t *writes);
 
+/* The address of guest memory's first octet. Constant. */
+EM_CHECKED em_code em_memory_base(const em_machine *machine, uint64_t *base);
+
 /* How many octets guest memory has. Constant. */
 EM_CHECKED em_code em_memory_size(const em_machine *machine, uint64_t *size);
 
@@ -465,7 +479,8 @@ typedef struct em_reason {
                        transmit descriptor */
   uint64_t most;    /* how many octets there may be at most, by a buffer or RCTL.LPE; of EM_WHY_FRAME_UNDERSIZE at
                        least; of EM_WHY_FRAME_MISSED how many frames wait */
-  uint64_t memory;  /* how many octets guest memory has */
+  uint64_t base;    /* where guest memory begins, */
+  uint64_t memory;  /* and how many octets it has */
   uint32_t rule;    /* an em_rule */
   uint32_t index;   /* the descriptor's index, or what RDH, RDT, TDH or TDT holds */
   uint32_t count;   /* how many descriptors the ring has */
@@ -609,8 +624,9 @@ EM_CHECKED em_code em_fifo_text(const em_machine *machine, uint8_t *out, size_t 
        w 00002818 00000003 = ok @ driver.c:57
        r 000000C0 = 00000004 @ driver.c:61
 
-   em_debug takes the file as it is. Each line is in the file before its call returns, by one write(2) or by a mapping:
-   it is there when the process dies, by whatever signal, by abort or _exit. (It does not survive the host's own fall.)
+   em_debug, em_record and em_page take the file as it is. Each line is in the file before its call returns, by one
+   write(2) or by a mapping: it is there when the process dies, by whatever signal, by abort or _exit. (It does not
+   survive the host's own fall.)
    A last line without its newline was cut by the end of the process, and says nothing. What was written for a step over
    attached memory stands there as its memory writes; so does what em_sync_in and em_sync_in_range wrote. A call that
    malloc stopped is a comment. Looks are not kept, nor what is refused for the handle or for attached memory: the steps

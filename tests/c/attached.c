@@ -8,7 +8,8 @@
 enum { TX_BUFFER = 0xA000 };
 
 static uint8_t ram[MEMORY];
-static const em_region whole = {0, MEMORY, ram};
+static uint64_t base; /* where it lies, and with it guest memory */
+static em_region whole = {0, MEMORY, ram};
 
 /* ---- functions that fail, refuse, or call the library */
 
@@ -23,7 +24,7 @@ static struct {
 
 static bool has(uint64_t address, size_t length) {
   bool is_none = address < there.to && address + length > there.from;
-  return !is_none && address <= MEMORY && length <= MEMORY - address;
+  return !is_none && address >= base && address - base <= MEMORY && length <= MEMORY - (address - base);
 }
 
 static void ask(uint64_t address, size_t length, bool is_write) {
@@ -44,6 +45,7 @@ static bool is_busy(em_machine *m) {
   size_t n;
   uint32_t refused[] = {
     em_make(m, MEMORY, BUDGET, MAC), em_make_with_eeprom(m, MEMORY, BUDGET, words), em_read(m, STATUS, &value),
+    em_make_at(m, 4096, MEMORY, BUDGET, MAC), em_make_at_with_eeprom(m, 4096, MEMORY, BUDGET, words),
     em_write(m, IMS, 1), em_poke(m, 0, octets, 1), em_sync_in(m, ram, MEMORY, &n),
     em_sync_in_range(m, 0, octets, 1, &n), em_arrive(m, ram, 60, &note), em_set_link(m, false), em_rx_step(m, &note),
     em_tx_step(m, &note), em_run_rx(m, 1, &n), em_run_tx(m, 1, &n), em_back(m, 1, &n), em_tag(m, 5),
@@ -62,7 +64,7 @@ static bool read_there(void *context, uint64_t address, uint8_t *out, size_t len
   ask(address, length, false);
   if (there.calls_back) there.is_well = is_busy(there.calls_back);
   if (!there.writes_alone && !has(address, length)) return false;
-  memcpy(out, ram + address, length);
+  memcpy(out, ram + (address - base), length);
   return true;
 }
 
@@ -71,7 +73,7 @@ static bool write_there(void *context, uint64_t address, const uint8_t *octets, 
   ask(address, length, true);
   if (there.calls_back) there.is_well &= is_busy(there.calls_back);
   if (!there.reads_alone && !has(address, length)) return false;
-  memcpy(ram + address, octets, length);
+  memcpy(ram + (address - base), octets, length);
   return true;
 }
 
@@ -89,20 +91,34 @@ static void put_in_ram(uint64_t at, uint64_t buffer, unsigned length, uint8_t co
   memcpy(ram + at, octets, sizeof octets);
 }
 
+/* Where the rings lie; RDBAH and TDBAH are 0 already, where memory is below 4 GiB. */
+static void set_bases(em_machine *machine) {
+  OK(em_write(machine, RDBAL, (uint32_t)base + RX_RING));
+  OK(em_write(machine, TDBAL, (uint32_t)base + TX_RING));
+  if (base >> 32 == 0) return;
+  OK(em_write(machine, RDBAL + 4, (uint32_t)(base >> 32)));
+  OK(em_write(machine, TDBAL + 4, (uint32_t)(base >> 32)));
+}
+
+static em_machine made_there(void) {
+  em_machine machine = EM_NO_MACHINE;
+  OK(em_make_at(&machine, base, MEMORY, BUDGET, MAC));
+  return machine;
+}
+
 static em_machine attached(const em_ram *memory) {
-  em_machine machine = made();
+  em_machine machine = made_there();
   memset(&there, 0, sizeof there);
   for (size_t i = 0; i < MEMORY; i++) ram[i] = (uint8_t)(i * 7 + i / 256);
   OK(em_attach(&machine, memory));
   OK(em_set_link(&machine, true));
   for (unsigned i = 0; i < DESCRIPTORS; i++) {
-    put_in_ram(RX_RING + 16 * i, BUFFER + 0x800 * i, 0, 0);
-    put_in_ram(TX_RING + 16 * i, TX_BUFFER + 0x800 * i, 100, EOP | RS);
+    put_in_ram(RX_RING + 16 * i, base + BUFFER + 0x800 * i, 0, 0);
+    put_in_ram(TX_RING + 16 * i, base + TX_BUFFER + 0x800 * i, 100, EOP | RS);
   }
-  OK(em_write(&machine, RDBAL, RX_RING));
+  set_bases(&machine);
   OK(em_write(&machine, RDLEN, 16 * DESCRIPTORS));
   OK(em_write(&machine, RDT, 7));
-  OK(em_write(&machine, TDBAL, TX_RING));
   OK(em_write(&machine, TDLEN, 16 * DESCRIPTORS));
   OK(em_write(&machine, RCTL, RCTL_EN | RCTL_BAM));
   OK(em_write(&machine, TCTL, TCTL_EN));
@@ -192,7 +208,7 @@ static void see(em_machine *machine, uint8_t *memory, size_t *count, uint32_t he
 static void refuses_step(bool receives, uint64_t from, uint64_t to, bool reads, uint32_t why) {
   static uint8_t before[MEMORY], after[MEMORY], mine[MEMORY];
   em_machine machine = attached(&by_calls);
-  em_note event = {9, 9, 9, 9, 9};
+  em_note event = {9, 9, 9, 9, 9, 9, 9};
   uint32_t heads[2], now[2];
   size_t count, then, done = 9;
   receive_one(&machine, 60);
@@ -484,7 +500,7 @@ static uint32_t below(uint32_t n) {
 static void store(em_machine *other, uint64_t at, const uint8_t *octets, size_t length) {
   size_t writes;
   memcpy(ram + at, octets, length);
-  MUST(em_sync_in_range(other, at, octets, length, &writes) == EM_OK);
+  MUST(em_sync_in_range(other, base + at, octets, length, &writes) == EM_OK);
 }
 
 static void store_descriptor(em_machine *other) {
@@ -492,7 +508,7 @@ static void store_descriptor(em_machine *other) {
   bool receives = below(2);
   uint64_t buffer = below(20) ? 0x3000 + below(0x8000) : below(2) ? MEMORY - below(70) : RX_RING + below(64);
   unsigned length = below(8) ? below(200) : below(3000);
-  for (int i = 0; i < 8; i++) octets[i] = (uint8_t)(buffer >> 8 * i);
+  for (int i = 0; i < 8; i++) octets[i] = (uint8_t)((base + buffer) >> 8 * i);
   if (below(40) == 0) octets[6] = 1;
   octets[8] = (uint8_t)length, octets[9] = (uint8_t)(length >> 8);
   octets[11] = (uint8_t)((below(4) ? EOP : 0) | (below(2) ? RS : 0) | (below(30) ? 0 : DEXT));
@@ -501,13 +517,14 @@ static void store_descriptor(em_machine *other) {
 
 /* the newest event that is no memory write */
 static em_note newest(em_machine *machine) {
-  em_note note = {0, 0, 0, 0, 0};
+  em_note note = {0, 0, 0, 0, 0, 0, 0};
   for (size_t k = 0; em_event(machine, k, &note) == EM_OK && note.kind == EM_POKE; k++) continue;
   return note;
 }
 
 static bool is_one(em_note a, em_note b) {
-  return a.at == b.at && a.length == b.length && a.value == b.value && a.kind == b.kind;
+  return a.at == b.at && a.length == b.length && a.value == b.value && a.kind == b.kind && a.octets == b.octets &&
+         a.buffer == b.buffer;
 }
 
 static void performs(em_machine *machine, uint32_t what, uint32_t a, uint32_t b, uint32_t told[2]) {
@@ -515,7 +532,7 @@ static void performs(em_machine *machine, uint32_t what, uint32_t a, uint32_t b,
   static const uint32_t values[] = {RCTL_EN | RCTL_BAM, RCTL_EN | RCTL_BAM | 0x10000, RCTL_EN | RCTL_UPE | 0x2030000};
   static const uint32_t enabled[] = {TCTL_EN, TCTL_EN | 8, 0};
   uint8_t frame[1600];
-  em_note note = {0, 0, 0, 0, 0};
+  em_note note = {0, 0, 0, 0, 0, 0, 0};
   size_t done = 0;
   uint32_t at = offsets[a % 8], value = at == RCTL ? values[b % 3] : at == TCTL ? enabled[b % 3] : b % 9;
   fill(frame, sizeof frame);
@@ -528,7 +545,7 @@ static void performs(em_machine *machine, uint32_t what, uint32_t a, uint32_t b,
     case 4: told[0] = em_tx_step(machine, &note); break;
     case 5: told[0] = em_run_rx(machine, a % 5, &done); break;
     case 6: told[0] = em_run_tx(machine, a % 5, &done); break;
-    default: told[0] = em_poke(machine, 0x3000 + a % 0x8000, frame, 1 + b % 200); break;
+    default: told[0] = em_poke(machine, base + 0x3000 + a % 0x8000, frame, 1 + b % 200); break;
   }
   told[1] = note.kind + (uint32_t)done * 100;
 }
@@ -537,7 +554,7 @@ static void are_one(em_machine *one, em_machine *other) {
   static uint8_t memory[MEMORY];
   static em_register a[EM_REGISTERS], b[EM_REGISTERS];
   size_t n = 0, m = 0;
-  MUST(em_peek(other, 0, memory, MEMORY) == EM_OK);
+  MUST(em_peek(other, base, memory, MEMORY) == EM_OK);
   MUST(!memcmp(memory, ram, MEMORY));
   MUST(em_registers(one, a, EM_REGISTERS, &n) == EM_OK && em_registers(other, b, EM_REGISTERS, &m) == EM_OK);
   MUST(n == m && !memcmp(a, b, n * sizeof *a));
@@ -568,13 +585,13 @@ static void go_back(em_machine *one, em_machine *other) {
 }
 
 static void comes_to_the_same(const em_ram *memory, uint32_t first) {
-  em_machine one = attached(memory), other = made();
+  em_machine one = attached(memory), other = made_there();
   size_t writes;
   seed = first;
   OK(em_sync_in(&other, ram, MEMORY, &writes));
   OK(em_set_link(&other, true));
-  const uint32_t setup[][2] = {{RDBAL, RX_RING}, {RDLEN, 128}, {RDT, 7}, {TDBAL, TX_RING}, {TDLEN, 128},
-                               {RCTL, RCTL_EN | RCTL_BAM}, {TCTL, TCTL_EN}};
+  const uint32_t setup[][2] = {{RDLEN, 128}, {RDT, 7}, {TDLEN, 128}, {RCTL, RCTL_EN | RCTL_BAM}, {TCTL, TCTL_EN}};
+  set_bases(&other);
   for (size_t i = 0; i < sizeof setup / sizeof *setup; i++) OK(em_write(&other, setup[i][0], setup[i][1]));
   for (int i = 0; i < 4000; i++) {
     uint32_t what = below(12), a = below(10000), b = below(10000), told[2] = {0, 0}, too[2] = {0, 0};
@@ -605,7 +622,11 @@ int main(void) {
   goes_over_regions();
   tells_needs();
   syncs_ranges();
-  for (uint32_t first = 1; first <= 12; first++) comes_to_the_same(first % 2 ? &by_calls : &by_regions, first);
+  static const uint64_t bases[] = {0, 0x80000000, 0x180000000};
+  for (uint32_t first = 1; first <= 12; first++) {
+    whole.base = base = bases[first / 2 % 3];
+    comes_to_the_same(first % 2 ? &by_calls : &by_regions, first);
+  }
   CHECK(blocks == 0);
   return tell_counts();
 }

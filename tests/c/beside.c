@@ -3,7 +3,7 @@
    time. Each packet comes once, and none of these octets is undone. Under ThreadSanitizer with attach.c compiled so, no
    octet that the library touches is raced for.
 
-       beside FRAMES    the last line is `N passed, M failed` */
+       beside FRAMES BASE    where memory begins, in hexadecimal; the last line is `N passed, M failed` */
 #include "bunjelav.h"
 
 #include <pthread.h>
@@ -12,7 +12,7 @@
 #include <stdlib.h>
 #include <string.h>
 
-enum { RCTL = 0x0100, RDBAL = 0x2800, RDLEN = 0x2808, RDT = 0x2818, EN_AND_BAM = 0x8002, DD = 1 };
+enum { RCTL = 0x0100, RDBAL = 0x2800, RDBAH = 0x2804, RDLEN = 0x2808, RDT = 0x2818, EN_AND_BAM = 0x8002, DD = 1 };
 enum { MEMORY = 65536, RING = 0x1000, BUFFERS = 0x4000, COUNT = 8, SIZE = 2048, LENGTH = 200, OWN = 64 };
 
 static uint8_t ram[MEMORY] __attribute__((aligned(4096)));
@@ -38,6 +38,10 @@ static bool is_set(bool *flag) { return __atomic_load_n(flag, __ATOMIC_ACQUIRE);
 /* the descriptor's last 8 octets: the length, and the status behind the checksum */
 static uint64_t end_of(unsigned index) {
   return __atomic_load_n((uint64_t *)(void *)(ram + RING + 16 * index + 8), __ATOMIC_ACQUIRE);
+}
+
+static void put_buffer(unsigned index, uint64_t address) {
+  for (unsigned i = 0; i < 8; i++) ram[RING + 16 * index + i] = (uint8_t)(address >> 8 * i);
 }
 
 static void *driver(void *nothing) {
@@ -72,17 +76,19 @@ static void *neighbour(void *nothing) {
 }
 
 int main(int count, char **words) {
-  const em_region region = {0, MEMORY, ram};
+  const uint64_t base = count > 2 ? strtoull(words[2], NULL, 16) : 0;
+  const em_region region = {base, MEMORY, ram};
   const em_ram memory = {NULL, NULL, NULL, &region, 1};
   static const uint8_t mac[6] = {0x52, 0x54, 0x00, 0x12, 0x34, 0x56};
   uint8_t frame[LENGTH] = {0xFF, 0xFF, 0xFF, 0xFF, 0xFF, 0xFF};
   pthread_t threads[2];
   frames = count > 1 ? (unsigned)atoi(words[1]) & ~3u : 1000;
-  must(em_make(&machine, MEMORY, 1048576, mac));
+  must(em_make_at(&machine, base, MEMORY, 1048576, mac));
   must(em_attach(&machine, &memory));
   must(em_set_link(&machine, true));
-  for (unsigned i = 0; i < COUNT; i++) ram[RING + 16 * i + 1] = (uint8_t)((BUFFERS + SIZE * i) >> 8);
-  set(RDBAL, RING), set(RDLEN, 16 * COUNT), set(RDT, COUNT - 1), set(RCTL, EN_AND_BAM);
+  for (unsigned i = 0; i < COUNT; i++) put_buffer(i, base + BUFFERS + SIZE * i);
+  set(RDBAL, (uint32_t)(base + RING)), set(RDBAH, (uint32_t)((base + RING) >> 32));
+  set(RDLEN, 16 * COUNT), set(RDT, COUNT - 1), set(RCTL, EN_AND_BAM);
   if (pthread_create(&threads[0], NULL, driver, NULL) || pthread_create(&threads[1], NULL, neighbour, NULL)) return 1;
   for (unsigned number = 0; number < frames;) {
     em_note event;

@@ -35,6 +35,38 @@ static void makes_and_frees(void) {
   CHECK(blocks == 0);
 }
 
+/* where memory may begin and end, and what comes first of two refusals */
+static void makes_at_a_base(void) {
+  em_machine machine = EM_NO_MACHINE;
+  const uint64_t most = UINT64_C(1) << 40;
+  uint16_t words[64] = {0x5452, 0x1200, 0x5634};
+  uint64_t base = 7, size = 7;
+  REFUSED(em_make_at(&machine, 4095, 4096, BUDGET, MAC), EM_SIZE);
+  REFUSED(em_make_at(&machine, 4096, 4095, BUDGET, MAC), EM_SIZE);
+  REFUSED(em_make_at(&machine, 4096, 0, BUDGET, MAC), EM_SIZE);
+  REFUSED(em_make_at(&machine, 4096, most, BUDGET, MAC), EM_SIZE);
+  REFUSED(em_make_at(&machine, most, 4096, BUDGET, MAC), EM_SIZE);
+  REFUSED(em_make_at(&machine, UINT64_MAX - 4095, 4096, BUDGET, MAC), EM_SIZE);
+  REFUSED(em_make_at(&machine, 4095, 4096, 5, MAC), EM_SIZE);
+  REFUSED(em_make_at(&machine, 4096, 4096, 5, MAC), EM_BUDGET);
+  REFUSED(em_make_at_with_eeprom(&machine, most - 4096, 8192, BUDGET, words), EM_SIZE);
+  REFUSED(em_memory_base(&machine, &base), EM_NOT_MADE);
+  CHECK(!machine.made && base == 7);
+  OK(em_make_at(&machine, most - 4096, 4096, BUDGET, MAC));
+  REFUSED(em_make_at(&machine, 0, 4096, BUDGET, MAC), EM_MADE_ALREADY);
+  REFUSED(em_make_at_with_eeprom(&machine, 0, 4096, BUDGET, words), EM_MADE_ALREADY);
+  OK(em_memory_base(&machine, &base));
+  OK(em_memory_size(&machine, &size));
+  CHECK(base == most - 4096 && size == 4096 && read_of(&machine, RAL0) == 0x12005452);
+  em_free(&machine);
+  OK(em_make_at_with_eeprom(&machine, 0, most, BUDGET, words));
+  OK(em_memory_size(&machine, &size));
+  CHECK(size == most && read_of(&machine, RAL0) == 0x12005452);
+  OK(em_poke(&machine, most - 5, (const uint8_t *)"hello", 5));
+  em_free(&machine);
+  CHECK(blocks == 0);
+}
+
 /* each call of a handle that holds no machine */
 static void refuses_an_empty_handle(void) {
   em_machine machine = EM_NO_MACHINE;
@@ -42,7 +74,7 @@ static void refuses_an_empty_handle(void) {
   uint64_t size = 7;
   size_t count = 7;
   uint8_t octets[14] = {7};
-  em_note event = {7, 7, 7, 7, 7};
+  em_note event = {7, 7, 7, 7, 7, 7, 7};
   em_register one = {7, 7};
   em_ring_setup ring = {7, 7, 7, 7, 7, 7};
   em_descriptor descriptor = {{7}, 7};
@@ -86,6 +118,7 @@ static void refuses_an_empty_handle(void) {
   CHECK(change.back == 7 && change.value == 7 && change.before[15] == 7);
   CHECK(value == 7 && size == 7 && count == 7 && octets[0] == 7);
   CHECK(event.tag == 7 && event.at == 7 && event.length == 7 && event.value == 7 && event.kind == 7);
+  CHECK(event.octets == 7 && event.buffer == 7);
 }
 
 static void reads_and_writes_registers(void) {
@@ -298,10 +331,68 @@ static void syncs_in(void) {
   em_free(&machine);
 }
 
+/* memory from an address on: what lies before it, a ring there, and all of it copied in and out */
+static void keeps_memory_at_a_base(void) {
+  enum { PAGES = 3, SIZE = 4096 * PAGES };
+  const uint64_t at = UINT64_C(0x180000000);
+  em_machine machine = EM_NO_MACHINE;
+  static uint8_t ram[SIZE], out[SIZE];
+  uint8_t few[5] = {9, 9, 9, 9, 9};
+  size_t writes = 7, back;
+  em_note event;
+  em_watch watch = {EM_WATCH_OCTETS, 0, at + 4094, 5};
+  em_change change;
+  OK(em_make_at(&machine, at, SIZE, BUDGET, MAC));
+  REFUSED(em_poke(&machine, 0, few, 5), EM_RANGE);
+  REFUSED(em_poke(&machine, at - 1, few, 5), EM_RANGE);
+  REFUSED(em_poke(&machine, at + SIZE - 4, few, 5), EM_RANGE);
+  REFUSED(em_peek(&machine, at - 1, few, 5), EM_RANGE);
+  REFUSED(em_sync_out_range(&machine, at - 1, few, 5), EM_RANGE);
+  REFUSED(em_sync_in_range(&machine, at - 1, few, 5, &writes), EM_RANGE);
+  OK(em_poke(&machine, at + 4094, (const uint8_t *)"hello", 5)); /* over two pages */
+  OK(em_peek(&machine, at + 4094, few, 5));
+  CHECK(memcmp(few, "hello", 5) == 0);
+  OK(em_last_change(&machine, &watch, &change));
+  CHECK(change.back == 1 && change.before[0] == 0);
+  watch.address = at - 1;
+  REFUSED(em_last_change(&machine, &watch, &change), EM_RANGE);
+  OK(em_sync_out(&machine, ram, SIZE));
+  CHECK(ram[4093] == 0 && memcmp(ram + 4094, "hello", 5) == 0);
+  ram[0] = ram[4095] = ram[SIZE - 1] = 7;
+  OK(em_sync_in(&machine, ram, SIZE, &writes));
+  CHECK(writes == 2 && wrote(&machine, 0, at + SIZE - 1, 1, 0) && wrote(&machine, 1, at, 4096, 0));
+  OK(em_peek(&machine, at, out, SIZE));
+  CHECK(memcmp(out, ram, SIZE) == 0);
+  OK(em_sync_in_range(&machine, at + 8, (const uint8_t *)"x", 1, &writes));
+  CHECK(writes == 1 && wrote(&machine, 0, at + 8, 1, 0));
+  /* a ring and its buffer there, and a descriptor before memory */
+  OK(em_set_link(&machine, true));
+  put_descriptor(&machine, at + 0x1000, at + 0x2000, 0, 0);
+  OK(em_write(&machine, RDBAL, (uint32_t)(at + 0x1000)));
+  OK(em_write(&machine, RDBAL + 4, (uint32_t)(at >> 32)));
+  OK(em_write(&machine, RDLEN, 128));
+  OK(em_write(&machine, RDT, 7));
+  OK(em_write(&machine, RCTL, RCTL_EN | RCTL_UPE | RCTL_BAM));
+  fill(ram, 60);
+  OK(em_arrive(&machine, ram, 60, &event));
+  OK(em_rx_step(&machine, &event));
+  CHECK(event.kind == EM_WROTE);
+  CHECK(event.at == at + 0x1000 && event.buffer == at + 0x2000 && event.octets == 60);
+  OK(em_peek(&machine, at + 0x2000, out, 60));
+  CHECK(memcmp(out, ram, 60) == 0);
+  OK(em_arrive(&machine, ram, 60, &event));
+  OK(em_write(&machine, RDBAL + 4, 0));
+  REFUSED(em_rx_step(&machine, &event), EM_DMA_RANGE);
+  OK(em_back(&machine, 100, &back));
+  OK(em_peek(&machine, at, out, SIZE));
+  CHECK(out[0] == 0 && out[4094] == 0 && out[0x2000] == 0);
+  em_free(&machine);
+}
+
 static void receives(void) {
   em_machine machine = made();
   uint8_t frame[20001], out[60], status[8];
-  em_note event = {7, 7, 7, 7, 7};
+  em_note event = {7, 7, 7, 7, 7, 7, 7};
   fill(frame, sizeof frame);
   REFUSED(em_arrive(&machine, frame, 13, &event), EM_LENGTH);
   REFUSED(em_arrive(&machine, frame, 20001, &event), EM_LENGTH);
@@ -313,7 +404,7 @@ static void receives(void) {
   CHECK(event.kind == EM_DISABLED);
   set_receiving(&machine);
   OK(em_rx_step(&machine, &event));
-  CHECK(event.kind == EM_RX_IDLE && event.length == 0);
+  CHECK(event.kind == EM_RX_IDLE && event.length == 0 && event.at == 0 && event.buffer == 0 && event.octets == 0);
   OK(em_arrive(&machine, frame, 59, &event));
   CHECK(event.kind == EM_UNDERSIZE && event.length == 59);
   OK(em_arrive(&machine, frame, 1519, &event));
@@ -326,6 +417,7 @@ static void receives(void) {
   CHECK(event.kind == EM_STORED && event.length == 60);
   OK(em_rx_step(&machine, &event));
   CHECK(event.kind == EM_WROTE && event.value == 0 && event.length == 0);
+  CHECK(event.at == RX_RING && event.buffer == BUFFER && event.octets == 60);
   OK(em_peek(&machine, BUFFER, out, 60));
   CHECK(memcmp(out, frame, 60) == 0);
   OK(em_peek(&machine, RX_RING + 8, status, 8));
@@ -346,7 +438,7 @@ static void sends(void) {
   em_machine machine = made();
   uint8_t frame[64], out[64];
   size_t count = 7, length = 7;
-  em_note event;
+  em_note event, before;
   fill(frame, sizeof frame);
   OK(em_write(&machine, TDBAL, TX_RING));
   OK(em_write(&machine, TDLEN, 16 * DESCRIPTORS));
@@ -366,8 +458,12 @@ static void sends(void) {
   CHECK(length == 7);
   OK(em_tx_step(&machine, &event));
   CHECK(event.kind == EM_FETCHED && event.value == 0 && event.length == 0);
+  CHECK(event.at == TX_RING && event.buffer == BUFFER && event.octets == 20);
   OK(em_tx_step(&machine, &event));
   CHECK(event.kind == EM_SENT && event.value == 1 && event.length == 64);
+  CHECK(event.at == TX_RING + 16 && event.buffer == BUFFER + 20 && event.octets == 44);
+  OK(em_event(&machine, 1, &before));
+  CHECK(before.kind == EM_FETCHED && before.at == TX_RING && before.buffer == BUFFER && before.octets == 20);
   OK(em_wire_count(&machine, &count));
   CHECK(count == 1 && read_of(&machine, TDH) == 2);
   CHECK(read_of(&machine, ICR) == (TXDW | TXQE));
@@ -438,7 +534,7 @@ static void runs_the_engines(void) {
 /* which event did what, and under which tag */
 static void tells_who_did_it(void) {
   em_machine machine = made();
-  em_note event = {7, 7, 7, 7, 7};
+  em_note event = {7, 7, 7, 7, 7, 7, 7};
   em_watch watch = {EM_WATCH_REGISTER, RDT, 0, 0};
   em_change change;
   memset(&change, 7, sizeof change);
@@ -548,9 +644,9 @@ static void tells_texts(void) {
 static void has_its_layouts(void) {
   if (sizeof(void *) != 8) return;
   CHECK(sizeof(em_code) == 4 && sizeof(em_region) == 24 && sizeof(em_ram) == 40 && sizeof(em_machine) == 64);
-  CHECK(sizeof(em_note) == 32 && sizeof(em_register) == 8 && sizeof(em_ring_setup) == 32);
+  CHECK(sizeof(em_note) == 40 && sizeof(em_register) == 8 && sizeof(em_ring_setup) == 32);
   CHECK(sizeof(em_descriptor) == 20 && sizeof(em_range) == 16 && sizeof(em_watch) == 24 && sizeof(em_change) == 32);
-  CHECK(sizeof(em_reason) == 320 && sizeof(em_warning) == 296 && sizeof(em_entry) == 312);
+  CHECK(sizeof(em_reason) == 328 && sizeof(em_warning) == 296 && sizeof(em_entry) == 312);
   CHECK(sizeof(em_fifo_state) == 32 && sizeof(em_field_row) == 24 && sizeof(em_difference) == 72);
 }
 
@@ -567,6 +663,7 @@ static void has_many_machines(void) {
 
 int main(void) {
   makes_and_frees();
+  makes_at_a_base();
   refuses_an_empty_handle();
   reads_and_writes_registers();
   lists_registers();
@@ -575,6 +672,7 @@ int main(void) {
   syncs();
   syncs_out_what_differs();
   syncs_in();
+  keeps_memory_at_a_base();
   receives();
   sends();
   goes_back();

@@ -26,7 +26,7 @@ static em_reason why(em_machine *machine, em_note event, uint32_t code, const ui
 
 /* a note of an event that was refused */
 static em_note asked(uint32_t kind, uint64_t at) {
-  em_note event = {0, 0, 0, 0, 0};
+  em_note event = {0, 0, 0, 0, 0, 0, 0};
   event.kind = kind;
   event.at = at;
   return event;
@@ -232,6 +232,34 @@ static void explains_refused_steps(void) {
   reason = why(&machine, asked(EM_FETCHED, 0), EM_DMA_RANGE, NONE, 0);
   CHECK(reason.rule == EM_WHY_TX_DESCRIPTOR && reason.index == 16 && reason.address == UINT64_MAX);
   CHECK(has_line(reason.text, "descriptor 16 at 010000000000000000, memory ends at 010000"));
+  em_free(&machine);
+}
+
+static void explains_memory_at_a_base(void) {
+  em_machine machine = EM_NO_MACHINE;
+  const uint64_t at = 0x180000000;
+  uint8_t text[4096];
+  em_entry entry;
+  em_reason reason;
+  size_t length;
+  OK(em_make_at(&machine, at, MEMORY, BUDGET, MAC));
+  REFUSED(em_poke(&machine, at - 1, NONE, 1), EM_RANGE);
+  reason = why(&machine, asked(EM_POKE, at - 1), EM_RANGE, NONE, 1);
+  CHECK(reason.rule == EM_WHY_WRITE_RANGE && reason.base == at && reason.memory == MEMORY);
+  CHECK(has_line(reason.text, "1 octets at 017FFFFFFF, memory begins at 0180000000 and ends at 0180010000"));
+  /* a ring there; the buffer of its first descriptor is not, nor is the second ring */
+  put_descriptor(&machine, at + RX_RING, BUFFER, 0, 0);
+  OK(em_write(&machine, RDBAL, (uint32_t)at + RX_RING));
+  OK(em_write(&machine, RDBAL + 4, (uint32_t)(at >> 32)));
+  OK(em_write(&machine, RDLEN, 128));
+  OK(em_write(&machine, RDT, 1));
+  OK(em_ring_entry(&machine, EM_RX_RING, 0, &entry));
+  CHECK(entry.address == at + RX_RING && entry.trouble == EM_TROUBLE_BUFFER_OUTSIDE);
+  OK(em_ring_text(&machine, EM_RX_RING, text, sizeof text, &length));
+  CHECK(strstr((const char *)text, "at 0180001000") != NULL);
+  OK(em_write(&machine, RDBAL + 4, 0));
+  OK(em_ring_entry(&machine, EM_RX_RING, 0, &entry));
+  CHECK(entry.trouble == EM_TROUBLE_OUTSIDE);
   em_free(&machine);
 }
 
@@ -510,7 +538,7 @@ static void names_bits_and_fields(void) {
 
 static void refuses_an_empty_handle(void) {
   em_machine machine = EM_NO_MACHINE;
-  em_note event = {0, 0, 0, 0, EM_RX_IDLE};
+  em_note event = {0, 0, 0, 0, EM_RX_IDLE, 0, 0};
   em_reason reason;
   em_warning warnings[6];
   em_entry entry;
@@ -541,6 +569,7 @@ int main(void) {
   explains_drops();
   explains_refusals();
   explains_refused_steps();
+  explains_memory_at_a_base();
   warns_of_accesses();
   warns_of_a_read();
   tells_of_rings();

@@ -311,6 +311,41 @@ static void keeps_the_eeprom(void) {
   em_free(&m);
 }
 
+static void keeps_memory_at_a_base(void) {
+  enum { SIZE = 8192 };
+  const uint64_t at = 0x180000000;
+  static uint8_t ram[SIZE];
+  em_machine m = EM_NO_MACHINE;
+  size_t count;
+  named("base.em");
+  OK(em_make_at(&m, at, SIZE, 65536, MAC));
+  OK(record(&m, path));
+  want("# em_debug --memory 8192 --budget 65536 --base 0000000180000000 --mac 525400123456\n");
+  OK(em_source(&m, "", 1));
+  OK(em_poke(&m, at + SIZE - 1, MAC, 1)), want("poke 0000000180001FFF 52 = ok\n");
+  REFUSED(em_poke(&m, at + SIZE, MAC, 1), EM_RANGE), want("poke 0000000180002000 52 = refused Range\n");
+  REFUSED(em_poke(&m, 0, MAC, 1), EM_RANGE), want("poke 0000000000000000 52 = refused Range\n");
+  memset(ram, 0, sizeof ram);
+  ram[4095] = ram[4096] = 7;
+  OK(em_sync_in(&m, ram, SIZE, &count));
+  want("poke 0000000180000FFF 07 = ok\n");
+  want("poke 0000000180001000 07");
+  for (unsigned i = 1; i < 4096; i++) want("00");
+  want(" = ok\n");
+  CHECK(count == 2 && is_there());
+  em_free(&m);
+  /* the words of an EEPROM stand behind it, as ever */
+  uint16_t words[64] = {0x5452};
+  named("base-words.em");
+  OK(em_make_at_with_eeprom(&m, 4096, 4096, 65536, words));
+  OK(record(&m, path));
+  want("# em_debug --memory 4096 --budget 65536 --base 0000000000001000 --mac 525400000000\n# eeprom 5452");
+  for (unsigned i = 1; i < 64; i++) want("0000");
+  want("\n");
+  CHECK(is_there());
+  em_free(&m);
+}
+
 static void refuses_calls(void) {
   em_machine m = EM_NO_MACHINE;
   size_t done;
@@ -452,7 +487,7 @@ static void calls_at_random(unsigned rounds) {
   for (unsigned i = 0; i < rounds; i++) {
     uint32_t offset = offsets[draw(sizeof offsets / sizeof *offsets)], a[2] = {0, 0}, b = draw(8) ? draw(16) : draw(1u << 31);
     size_t done[2] = {0, 0}, length = draw(200), at = draw(8) * 16 + (draw(2) ? RX_RING : TX_RING);
-    em_note notes[2] = {{0, 0, 0, 0, 0}, {0, 0, 0, 0, 0}};
+    em_note notes[2] = {{0, 0, 0, 0, 0, 0, 0}, {0, 0, 0, 0, 0, 0, 0}};
     uint8_t octets[256];
     uint32_t codes[2];
     MUST(em_source(&m, draw(2) ? "random.c" : NULL, i) == EM_OK);
@@ -503,6 +538,7 @@ int main(int words, char **word) {
   keeps_steps();
   keeps_what_is_brought();
   keeps_the_eeprom();
+  keeps_memory_at_a_base();
   refuses_calls();
   keeps_want_of_memory();
   if (!is_mapped) goes_on(ENOSPC, 10), goes_on(0, 25), goes_on(EINTR, 1), goes_on(EIO, 100), tears();

@@ -1,19 +1,21 @@
 /* A driver as a teaching kernel has it: rings and packets lie in pages that a page allocator gave, descriptors name them
    by their addresses, and what arrives is taken in the handler of an interrupt. It gives buffers back four at a time,
-   and clears DD in memory alone. Its pages come from a buffer that is attached at BASE, by functions or as a region.
+   and clears DD in memory alone. Its pages come from a buffer that is attached, by functions or as a region: at the end
+   of guest memory of so many octets, which begins at an address.
 
    10,000 frames arrive in bursts, and the driver sends each back: each comes once, in order, and goes out once.
 
-       paged functions|region    the last line is `N passed, M failed` */
+       paged functions|region BASE OCTETS    in hexadecimal; the last line is `N passed, M failed` */
 #include "bunjelav.h"
 
 #include <stdio.h>
 #include <stdlib.h>
 #include <string.h>
 
-enum { BASE = 0x100000, PAGES = 64, PAGE = 4096, MEMORY = 16777216, FRAMES = 10000 };
+enum { PAGES = 64, PAGE = 4096, FRAMES = 10000 };
 
 static uint8_t pages[PAGES * PAGE];
+static uint64_t pages_at; /* where they lie */
 static em_machine machine = EM_NO_MACHINE;
 static unsigned passed, failed;
 
@@ -34,9 +36,11 @@ static void *page_alloc(void) {
   return page;
 }
 
-static uint64_t physical(volatile const void *at) { return BASE + (uint64_t)((volatile const uint8_t *)at - pages); }
+static uint64_t physical(volatile const void *at) {
+  return pages_at + (uint64_t)((volatile const uint8_t *)at - pages);
+}
 
-static void *virtual_of(uint64_t address) { return pages + (address - BASE); }
+static void *virtual_of(uint64_t address) { return pages + (address - pages_at); }
 
 static void reg_write(uint32_t offset, uint32_t value) { must(em_write(&machine, offset, value)); }
 
@@ -169,27 +173,34 @@ static void check_wire(void) {
 
 /* ---- its memory, by functions */
 
+static bool is_here(uint64_t address, size_t length) {
+  return address >= pages_at && address - pages_at <= sizeof pages && length <= sizeof pages - (address - pages_at);
+}
+
 static bool read_pages(void *context, uint64_t address, uint8_t *out, size_t length) {
   (void)context;
-  if (address < BASE || address - BASE > sizeof pages || length > sizeof pages - (address - BASE)) return false;
+  if (!is_here(address, length)) return false;
   memcpy(out, virtual_of(address), length);
   return true;
 }
 
 static bool write_pages(void *context, uint64_t address, const uint8_t *octets, size_t length) {
   (void)context;
-  if (address < BASE || address - BASE > sizeof pages || length > sizeof pages - (address - BASE)) return false;
+  if (!is_here(address, length)) return false;
   memcpy(virtual_of(address), octets, length);
   return true;
 }
 
 int main(int count, char **words) {
-  const em_region region = {BASE, sizeof pages, pages};
-  const em_ram by_functions = {NULL, read_pages, write_pages, NULL, 0}, by_region = {NULL, NULL, NULL, &region, 1};
   static const uint8_t mac[6] = {0x52, 0x54, 0x00, 0x12, 0x34, 0x56};
-  bool is_region = count > 1 && strcmp(words[1], "region") == 0;
+  if (count < 4) return 2;
+  const bool is_region = strcmp(words[1], "region") == 0;
+  const uint64_t base = strtoull(words[2], NULL, 16), octets = strtoull(words[3], NULL, 16);
+  pages_at = base + octets - sizeof pages;
+  const em_region region = {pages_at, sizeof pages, pages};
+  const em_ram by_functions = {NULL, read_pages, write_pages, NULL, 0}, by_region = {NULL, NULL, NULL, &region, 1};
   unsigned random = 1;
-  must(em_make(&machine, MEMORY, 1048576, mac));
+  must(em_make_at(&machine, base, octets, 1048576, mac));
   must(em_attach(&machine, is_region ? &by_region : &by_functions));
   must(em_set_link(&machine, true));
   nic_init();

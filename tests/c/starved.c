@@ -194,21 +194,55 @@ static void is_refused_memory(void) {
   }
 }
 
+/* each of the four calls, twice */
+static uint32_t make_by(int mode, em_machine *machine) {
+  static const uint16_t words[64] = {0};
+  const uint64_t at = UINT64_C(1) << 39;
+  switch (mode / 2) {
+    case 0: return em_make(machine, MEMORY, BUDGET, MAC);
+    case 1: return em_make_with_eeprom(machine, MEMORY, BUDGET, words);
+    case 2: return em_make_at(machine, at, at, BUDGET, MAC);
+    default: return em_make_at_with_eeprom(machine, 0, 2 * at, BUDGET, words);
+  }
+}
+
 /* a handle for which memory is refused holds no machine, and may be made again */
 static void is_not_made(void) {
-  uint16_t words[64] = {0};
-  for (int mode = 0; mode < 4; mode++) {
+  for (int mode = 0; mode < 8; mode++) {
     uint32_t code = EM_MEMORY;
     long n = 0;
     em_machine machine = EM_NO_MACHINE;
     once = mode % 2 == 1;
     for (; n < 100 && code == EM_MEMORY; n++) {
       granted = n;
-      code = mode < 2 ? em_make(&machine, MEMORY, BUDGET, MAC) : em_make_with_eeprom(&machine, MEMORY, BUDGET, words);
+      code = make_by(mode, &machine);
       granted = -1;
       CHECK(code == EM_OK || (code == EM_MEMORY && !machine.made && blocks == 0));
     }
     CHECK(code == EM_OK && machine.made && n > 3);
+    em_free(&machine);
+    CHECK(blocks == 0);
+  }
+}
+
+/* an octet of 1 TiB for which memory is refused is not written, whichever of its tables and pages is wanting */
+static void is_not_written_far(void) {
+  const uint64_t at = (UINT64_C(1) << 40) - 1;
+  uint8_t octet = 7;
+  for (int mode = 0; mode < 2; mode++) {
+    uint32_t code = EM_MEMORY;
+    long n = 0;
+    em_machine machine = EM_NO_MACHINE;
+    OK(em_make_at(&machine, 0, at + 1, BUDGET, MAC));
+    once = mode == 1;
+    for (; n < 100 && code == EM_MEMORY; n++) {
+      granted = n;
+      code = em_poke(&machine, at, MAC, 1);
+      granted = -1;
+      OK(em_peek(&machine, at, &octet, 1));
+      CHECK(code == EM_OK ? octet == MAC[0] : code == EM_MEMORY && octet == 0 && reach(&machine) == 0);
+    }
+    CHECK(code == EM_OK && n > 2);
     em_free(&machine);
     CHECK(blocks == 0);
   }
@@ -305,6 +339,7 @@ static void asks_for_none(void) {
   OK(em_registers(&machine, all->registers, EM_REGISTERS, &count));
   OK(em_ring(&machine, EM_RX_RING, &ring));
   REFUSED(em_ring_descriptor(&machine, EM_RX_RING, ring.count, &descriptor), EM_NO_DESCRIPTOR);
+  OK(em_memory_base(&machine, &size));
   OK(em_peek(&machine, 0, all->memory, MEMORY));
   OK(em_sync_out(&machine, all->memory, MEMORY));
   OK(em_sync_in(&machine, all->memory, MEMORY, &count));
@@ -351,6 +386,7 @@ int main(void) {
   memcpy(tagged + 12, (uint8_t[]){0x81, 0x00, 0x01, 0x23}, 4);
   memset(ram, 9, sizeof ram);
   is_not_made();
+  is_not_written_far();
   is_refused_memory();
   tells_no_text();
   asks_for_none();

@@ -97,6 +97,25 @@ class MemoryAndFrames(unittest.TestCase):
         self.assertEqual(list(m.memory), [1] * 40000 + [0] * 25536)
         self.assertIsInstance(m.memory, bunjelav.GuestMemory)
 
+    def test_memory_at_a_base(self):
+        base = 0x180000000
+        m = Machine(memory=8192, base=base)
+        m.memory[base + 4094 : base + 4099] = b"hello"
+        self.assertEqual((m.memory.base, len(m.memory), m.event(0).at), (base, 8192, base + 4094))
+        self.assertEqual(m.memory[base + 4095], ord("e"))
+        self.assertEqual(m.memory[:], bytes(4094) + b"hello" + bytes(4093))
+        self.assertEqual((m.memory[0:base], m.memory[base + 8191 :], m.memory[-1]), (b"", b"\0", 0))
+        self.assertRaises(bunjelav.Range, m.poke, base - 1, b"12")
+        self.assertRaises(IndexError, m.memory.__getitem__, base - 1)
+        self.assertRaises(IndexError, m.memory.__getitem__, base + 8192)
+        ram = bytearray(8192)
+        m.sync_out(ram)
+        self.assertEqual(bytes(ram), m.memory[:])
+        self.assertEqual(len(Machine(memory=2**40, base=0).memory), 2**40)
+        self.assertEqual(Machine(memory=4096, base=4096, eeprom=[0] * 64).memory.base, 4096)
+        for size, at in ((4096, 1), (0, 0), (4096, 2**40), (2**40, 4096)):
+            self.assertRaises(bunjelav.Size, Machine, memory=size, base=at)
+
     def test_copied_out(self):
         m, ram = Machine(), bytearray(65536)
         m.memory[4094:4099] = b"hello"
@@ -125,8 +144,8 @@ class MemoryAndFrames(unittest.TestCase):
         self.assertTrue(m.arrive(FRAME).is_stored)
         self.assertEqual((m.last_change("frames")[:2], m.last_change("sent")), ((1, 0), None))
         self.assertRaises(bunjelav.Length, m.arrive, b"short")
-        self.assertEqual(m.rx_step()[:4], ("wrote", 0, 0, 0))
-        self.assertTrue(m.rx_step().is_idle)
+        self.assertEqual(m.rx_step(), ("wrote", RING, 0, 0, 0, BUFFER, 60))
+        self.assertEqual(m.rx_step(), ("receive idle", 0, 0, 0, 0, 0, 0))
         first, second = m.ring("rx")[:2]
         self.assertEqual((first.owned, first.length, first.status), (False, 60, 7))
         self.assertEqual((second.owned, second.address), (True, BUFFER + 0x800))
@@ -138,7 +157,7 @@ class MemoryAndFrames(unittest.TestCase):
         m.memory[0x2000:0x2010] = BUFFER.to_bytes(8, "little") + bytes([60, 0, 0, 1, 0, 0, 0, 0])
         m.memory[0x2010:0x2020] = BUFFER.to_bytes(8, "little") + bytes([60, 0, 0, 0x21, 0, 0, 0, 0])
         m.TDBAL, m.TDLEN, m.TCTL, m.TDT = 0x2000, 128, 2, 1
-        self.assertEqual(m.tx_step()[:4], ("sent", 0, 60, 0))
+        self.assertEqual(m.tx_step(), ("sent", 0x2000, 60, 0, 0, BUFFER, 60))
         self.assertEqual(m.wire, [FRAME])
         self.assertEqual((m.last_change("sent")[:2], m.last_change("frames")), ((1, 0), None))
         m.TDT = 2
@@ -716,7 +735,7 @@ class Back(unittest.TestCase):
         m.RDT = 5
         m.memory[0x100:0x102] = b"ab"
         m.link = True
-        self.assertEqual(m.last_change("RDT"), (3, 0, ("write", 0x2818, 4, 5, 77)))
+        self.assertEqual(m.last_change("RDT"), (3, 0, ("write", 0x2818, 4, 5, 77, 0, 0)))
         self.assertEqual(m.last_change(slice(0x101, 0x103))[:2], (2, b"\0\0"))
         self.assertEqual(m.last_change("link")[:2], (1, 0))
         self.assertIsNone(m.last_change("line"))

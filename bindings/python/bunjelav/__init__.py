@@ -56,13 +56,17 @@ _OWN = globals()
 
 
 class Event(NamedTuple):
-    """An event that was performed: what it was, where, how many octets, which value, and the caller's tag."""
+    """An event that was performed: what it was, where, how many octets, which value, and the caller's tag. Of a step of an
+    engine that was not idle `at` is the descriptor's address, `value` its index, and `buffer` and `octets` say which
+    octets of guest memory the step wrote into its buffer or read there."""
 
     kind: str
     at: int
     length: int
     value: int
     tag: int
+    buffer: int = 0
+    octets: int = 0
 
     @property
     def is_stored(self) -> bool:
@@ -128,11 +132,12 @@ def _slices(ranges: Iterable[_tables.Range]) -> List[slice]:
 
 def _event(note: _tables.Note) -> Event:
     kind = _tables.KINDS.get(note.kind, f"unknown kind {note.kind}")
-    return Event(kind, note.at, note.length, note.value, note.tag)
+    return Event(kind, note.at, note.length, note.value, note.tag, note.buffer, note.octets)
 
 
 class GuestMemory:
-    """The guest's memory: m.memory[a], m.memory[a:b], and the same set, by writes of 16,384 octets at most."""
+    """The guest's memory by its addresses: m.memory[a], m.memory[a:b], and the same set, by writes of 16,384 octets at
+    most. `base` is the address of its first octet."""
 
     MOST = 16384
 
@@ -142,19 +147,24 @@ class GuestMemory:
     def __len__(self) -> int:
         return self._machine._told(library.em_memory_size, U64())
 
+    @property
+    def base(self) -> int:
+        return self._machine._told(library.em_memory_base, U64())
+
     def __iter__(self) -> Iterator[int]:
         return iter(self[:])
 
     def _range(self, where: Union[int, slice]) -> range:
-        size = len(self)
+        base, size = self.base, len(self)
         if isinstance(where, slice):
             if where.step not in (None, 1):
                 raise ValueError("octets of memory are taken one after another")
-            return range(*where.indices(size))
+            start, stop, _ = where.indices(base + size)
+            return range(max(start, base), max(stop, base))
         at = operator.index(where)
-        at += size if at < 0 else 0
-        if not 0 <= at < size:
-            raise IndexError(f"guest memory has {size} octets")
+        at += base + size if at < 0 else 0
+        if not base <= at < base + size:
+            raise IndexError(f"guest memory has {size} octets from {base:X}h on")
         return range(at, at + 1)
 
     @overload
@@ -232,7 +242,9 @@ class Machine(Explained):
     """An adapter with its guest's memory and a journal of its latest events.
 
     memory: octets of guest memory, a multiple of 4,096. budget: what the journal's records may cost together; each
-    costs at least 32. mac: the Ethernet address in the EEPROM. eeprom: its 64 words, in place of an address.
+    costs at least 32. mac: the Ethernet address in the EEPROM. eeprom: its 64 words, in place of an address. base: the
+    address of memory's first octet, a multiple of 4,096. Without one memory begins at 0 and has at most 16 MiB; with
+    one it ends at 2^40 at most.
     """
 
     _handle: _tables.Handle
@@ -249,6 +261,7 @@ class Machine(Explained):
         budget: int = 1048576,
         mac: bytes = bytes.fromhex("525400123456"),
         eeprom: Optional[List[int]] = None,
+        base: Optional[int] = None,
     ) -> None:
         set_own = super().__setattr__
         set_own("_handle", _tables.Handle())
@@ -258,17 +271,21 @@ class Machine(Explained):
         set_own("_undone", None)
         set_own("_warns", None)
         set_own("memory", GuestMemory(self))
-        sizes = number_of(memory, 64, "a size", "Size"), number_of(budget, 64, "a budget", "Budget")
+        sizes = [number_of(memory, 64, "a size", "Size"), number_of(budget, 64, "a budget", "Budget")]
+        by_mac, by_eeprom = library.em_make, library.em_make_with_eeprom
+        if base is not None:
+            sizes.insert(0, number_of(base, 64, "a base", "Size"))
+            by_mac, by_eeprom = library.em_make_at, library.em_make_at_with_eeprom
         if eeprom is not None:
             words = [number_of(word, 16, "a word of the EEPROM") for word in eeprom]
             if len(words) != 64:
                 raise ValueError("an EEPROM has 64 words")
-            must(library.em_make_with_eeprom(self._at, *sizes, (ctypes.c_uint16 * 64)(*words)))
+            must(by_eeprom(self._at, *sizes, (ctypes.c_uint16 * 64)(*words)))
             return
         address = octets_of(mac, "an Ethernet address")
         if len(address) != 6:
             raise ValueError("an Ethernet address has 6 octets")
-        must(library.em_make(self._at, *sizes, address))
+        must(by_mac(self._at, *sizes, address))
 
     def close(self) -> None:
         """Frees the machine; each later call raises NotMade."""

@@ -82,7 +82,7 @@ class MadeAlready(Refused):
 
 
 class Size(Refused):
-    """The size of guest memory is no multiple of 4,096 from 4,096 to 16,777,216."""
+    """Guest memory can not have that size, or not lie there."""
 
     number = 28
 

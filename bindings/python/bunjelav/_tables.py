@@ -223,6 +223,8 @@ class Note(Structure):
         ("length", c_uint32),
         ("value", c_uint32),
         ("kind", c_uint32),
+        ("octets", c_uint32),
+        ("buffer", c_uint64),
     ]
 
 
@@ -239,6 +241,7 @@ class Reason(Structure):
         ("buffer", c_uint64),
         ("octets", c_uint64),
         ("most", c_uint64),
+        ("base", c_uint64),
         ("memory", c_uint64),
         ("rule", c_uint32),
         ("index", c_uint32),
@@ -312,9 +315,12 @@ CALLS = {
     "em_gathered": [POINTER(Handle), c_void_p, c_size_t, POINTER(c_size_t)],
     "em_make": [POINTER(Handle), c_uint64, c_uint64, c_void_p],
     "em_make_with_eeprom": [POINTER(Handle), c_uint64, c_uint64, POINTER(c_uint16)],
+    "em_make_at": [POINTER(Handle), c_uint64, c_uint64, c_uint64, c_void_p],
+    "em_make_at_with_eeprom": [POINTER(Handle), c_uint64, c_uint64, c_uint64, POINTER(c_uint16)],
     "em_free": [POINTER(Handle)],
     "em_poke": [POINTER(Handle), c_uint64, c_void_p, c_size_t],
     "em_peek": [POINTER(Handle), c_uint64, c_void_p, c_size_t],
+    "em_memory_base": [POINTER(Handle), POINTER(c_uint64)],
     "em_memory_size": [POINTER(Handle), POINTER(c_uint64)],
     "em_name": [c_uint32, c_void_p, c_size_t, POINTER(c_size_t)],
     "em_find": [c_void_p, c_size_t, POINTER(c_uint32)],

@@ -9,12 +9,17 @@ use core::fmt;
 pub struct Event {
     /// What it was, with what came of it.
     pub kind: Kind,
-    /// Of an access the register's offset, of a memory write its address; else 0.
+    /// Of an access the register's offset, of a memory write its address, of an engine's step that was not idle its
+    /// descriptor's address; else 0.
     pub at: u64,
     /// How many octets an access, a memory write or a frame has; else 0.
     pub length: u32,
     /// Of a read what it gave, of a write what was written, of an engine's step the descriptor's index; else 0.
     pub value: u32,
+    /// Where in guest memory the octets lie that an engine's step wrote into its buffer or read there; else 0.
+    pub buffer: u64,
+    /// How many they are; else 0.
+    pub octets: u32,
     /// The caller's tag.
     pub tag: u64,
 }
@@ -22,7 +27,8 @@ pub struct Event {
 impl Event {
     pub(crate) fn of(note: raw::Note) -> Event {
         let kind = KINDS.iter().find(|it| it.1 == note.kind).map_or(Kind::Other(note.kind), |it| it.0);
-        Event { kind, at: note.at, length: note.length, value: note.value, tag: note.tag }
+        let raw::Note { tag, at, length, value, octets, buffer, .. } = note;
+        Event { kind, at, length, value, buffer, octets, tag }
     }
 }
 

@@ -60,7 +60,9 @@ pub struct Reason {
     pub octets: u64,
     /// How many there may be at most; of a frame that is too short at least; of a full FIFO how many frames wait.
     pub most: u64,
-    /// How many octets guest memory has.
+    /// Where guest memory begins.
+    pub base: u64,
+    /// How many octets it has.
     pub memory: u64,
     /// The descriptor's index, or what RDH, RDT, TDH or TDT holds.
     pub index: u32,
@@ -81,6 +83,7 @@ impl Reason {
             buffer: told.buffer,
             octets: told.octets,
             most: told.most,
+            base: told.base,
             memory: told.memory,
             index: told.index,
             count: told.count,

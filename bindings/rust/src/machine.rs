@@ -77,6 +77,23 @@ impl Machine {
         told(number, machine)
     }
 
+    /// A machine whose guest memory begins at `base`: both are multiples of 4,096, and memory ends at 2^40 at most.
+    pub fn at(base: u64, memory: u64, budget: u64, mac: [u8; 6]) -> Result<Machine, Refusal> {
+        let machine = Machine::none();
+        // SAFETY: the handle holds no machine, and the address has 6 octets.
+        let number = unsafe { raw::em_make_at(machine.handle.get(), base, memory, budget, mac.as_ptr()) };
+        told(number, machine)
+    }
+
+    /// The same with the words of the EEPROM.
+    pub fn at_with_eeprom(base: u64, memory: u64, budget: u64, words: &[u16; 64]) -> Result<Machine, Refusal> {
+        let machine = Machine::none();
+        // SAFETY: the handle holds no machine, and there are 64 words.
+        let number =
+            unsafe { raw::em_make_at_with_eeprom(machine.handle.get(), base, memory, budget, words.as_ptr()) };
+        told(number, machine)
+    }
+
     fn none() -> Machine {
         let handle = raw::Handle { made: false, held: core::ptr::null_mut(), ram: raw::Ram::none(), state: 0 };
         Machine {
@@ -462,6 +479,13 @@ impl Machine {
     /// Copies octets of guest memory out.
     pub fn peek(&self, address: u64, out: &mut [u8]) -> Result<(), Refusal> {
         told(unsafe { raw::em_peek(self.handle.get(), address, out.as_mut_ptr(), out.len()) }, ())
+    }
+
+    /// The address of guest memory's first octet.
+    pub fn memory_base(&self) -> u64 {
+        let mut base = 0;
+        unsafe { raw::em_memory_base(self.handle.get(), &mut base) };
+        base
     }
 
     /// How many octets guest memory has.

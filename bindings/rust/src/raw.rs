@@ -143,6 +143,8 @@ pub(crate) struct Note {
     pub length: u32,
     pub value: u32,
     pub kind: u32,
+    pub octets: u32,
+    pub buffer: u64,
 }
 
 /// A range of guest memory. One of 0 octets stands at 0.
@@ -164,6 +166,7 @@ pub(crate) struct Reason {
     pub buffer: u64,
     pub octets: u64,
     pub most: u64,
+    pub base: u64,
     pub memory: u64,
     pub rule: u32,
     pub index: u32,
@@ -180,6 +183,7 @@ impl Reason {
             buffer: 0,
             octets: 0,
             most: 0,
+            base: 0,
             memory: 0,
             rule: 0,
             index: 0,
@@ -288,9 +292,18 @@ extern "C" {
     pub(crate) fn em_gathered(machine: *mut Handle, out: *mut u8, room: usize, octets: *mut usize) -> u32;
     pub(crate) fn em_make(machine: *mut Handle, memory: u64, budget: u64, mac: *const u8) -> u32;
     pub(crate) fn em_make_with_eeprom(machine: *mut Handle, memory: u64, budget: u64, words: *const u16) -> u32;
+    pub(crate) fn em_make_at(machine: *mut Handle, base: u64, memory: u64, budget: u64, mac: *const u8) -> u32;
+    pub(crate) fn em_make_at_with_eeprom(
+        machine: *mut Handle,
+        base: u64,
+        memory: u64,
+        budget: u64,
+        words: *const u16,
+    ) -> u32;
     pub(crate) fn em_free(machine: *mut Handle);
     pub(crate) fn em_poke(machine: *mut Handle, addr: u64, octets: *const u8, length: usize) -> u32;
     pub(crate) fn em_peek(machine: *mut Handle, addr: u64, out: *mut u8, room: usize) -> u32;
+    pub(crate) fn em_memory_base(machine: *mut Handle, base: *mut u64) -> u32;
     pub(crate) fn em_memory_size(machine: *mut Handle, size: *mut u64) -> u32;
     pub(crate) fn em_name(offset: u32, out: *mut u8, room: usize, octets: *mut usize) -> u32;
     pub(crate) fn em_find(word: *const u8, length: usize, offset: *mut u32) -> u32;

@@ -48,7 +48,7 @@ pub enum Refusal {
     NotMade,
     /// The handle holds a machine already.
     MadeAlready,
-    /// The size of guest memory is no multiple of 4,096 from 4,096 to 16,777,216.
+    /// Guest memory can not have that size, or not lie there.
     Size,
     /// So many frames were not sent.
     NoFrame,

@@ -88,6 +88,25 @@ fn lists_registers_and_copies_memory() {
 }
 
 #[test]
+fn has_memory_at_a_base() {
+    let base = 0x1_8000_0000;
+    let mut m = Machine::at(base, 8_192, 1 << 20, MAC).unwrap();
+    let mut ram = vec![9; 8_192];
+    assert_eq!((m.memory_base(), m.memory_size()), (base, 8_192));
+    assert_eq!(m.poke(base + 4_094, b"hello"), Ok(()));
+    assert_eq!(m.poke(base - 1, b"hello"), Err(Refusal::Range));
+    assert_eq!((m.sync_out(&mut ram), &ram[4_093..4_100]), (Ok(()), b"\0hello\0".as_slice()));
+    ram[8_191] = 1;
+    assert_eq!((m.sync_in(&ram), m.event(0).unwrap().at), (Ok(1), base + 8_191));
+    let refused = [(1, 4_096), (0, 0), (1 << 40, 4_096), (4_096, 1 << 40)];
+    for (base, size) in refused {
+        assert_eq!(Machine::at(base, size, 1 << 20, MAC).err(), Some(Refusal::Size));
+    }
+    let most = Machine::at_with_eeprom(0, 1 << 40, 1 << 20, &[0; 64]).unwrap();
+    assert_eq!(most.memory_size(), 1 << 40);
+}
+
+#[test]
 fn copies_memory_in() {
     let mut m = made();
     let mut ram = vec![0; 65_536];
@@ -112,6 +131,7 @@ fn receives() {
     assert_eq!(m.last_change(Watch::Sent), Ok(None));
     let event = m.rx_step().unwrap();
     assert_eq!((event.kind, event.value), (Kind::Wrote, 0));
+    assert_eq!((event.at, event.buffer, event.octets), (0x1000, BUFFER, 60));
     assert_eq!((m.run_rx(9), m.run_rx(9), m.look(RDH)), (Ok(2), Ok(0), Ok(3)));
     m.write(0x2800, 65_536).unwrap();
     m.arrive(&frame()).unwrap();
@@ -170,6 +190,7 @@ fn sends() {
     assert_eq!(m.wire_frame(0, &mut out), Err(Refusal::NoFrame));
     let event = m.tx_step().unwrap();
     assert_eq!((event.kind, event.value, event.length), (Kind::Sent, 0, 60));
+    assert_eq!((event.at, event.buffer, event.octets), (0x2000, BUFFER, 60));
     assert_eq!(event.to_string(), "sent 0 60");
     assert_eq!(m.last_change(Watch::Sent).unwrap().map(|it| (it.back, it.value)), Some((1, 0)));
     assert_eq!(m.last_change(Watch::Frames), Ok(None));

@@ -95,53 +95,66 @@ pages_step : (n : ℕ) → 0 < n → pages n ≡ suc (pages (n - 4096))
 pages_step n some = omega arith
 
 -- those behind a page
-from_rest : (m w : List ℕ) (at k : ℕ) → at < length w → k ≡ min 4096 (length w - at)
-    → writes_from (pages (length w - at - 4096)) (at + 4096) (drop 4096 (drop at m)) (drop 4096 (drop at w))
-    ≡ writes_from (pages (length w - (at + k))) (at + k) (drop (at + k) m) (drop (at + k) w)
+from_rest : (b : ℕ) (m w : List ℕ) (at k : ℕ) → at < length w → k ≡ min 4096 (length w - at)
+    → writes_from (pages (length w - at - 4096)) (b + at + 4096) (drop 4096 (drop at m)) (drop 4096 (drop at w))
+    ≡ writes_from (pages (length w - (at + k))) (b + (at + k)) (drop (at + k) m) (drop (at + k) w)
 unfolding writes_from
-from_rest m w at k inside is = elim (cases_lt (length w - at) 4096) [
+from_rest b m w at k inside is = elim (cases_lt (length w - at) 4096) [
   | inl short ↦
       let no_more : pages (length w - at - 4096) ≡ 0 = omega (arith, short) in
       let at_end : pages (length w - (at + k)) ≡ 0 = omega (arith, short, is) in
-      ap (λ j. writes_from j (at + 4096) (drop 4096 (drop at m)) (drop 4096 (drop at w))) no_more
-      ∙ sym (ap (λ j. writes_from j (at + k) (drop (at + k) m) (drop (at + k) w)) at_end)
+      ap (λ j. writes_from j (b + at + 4096) (drop 4096 (drop at m)) (drop 4096 (drop at w))) no_more
+      ∙ sym (ap (λ j. writes_from j (b + (at + k)) (drop (at + k) m) (drop (at + k) w)) at_end)
   | inr long ↦
       let whole : 4096 ≡ k = omega (arith, long, is) in
       let left : length w - at - 4096 ≡ length w - (at + k) = omega (arith, whole) in
+      let place : b + at + 4096 ≡ b + (at + k) = omega (arith, whole) in
       let behind_m : drop 4096 (drop at m) ≡ drop (at + k) m
       = drop-drop 4096 at m ∙ ap (λ j. drop (at + j) m) whole in
       let behind_w : drop 4096 (drop at w) ≡ drop (at + k) w
       = drop-drop 4096 at w ∙ ap (λ j. drop (at + j) w) whole in
-      λ i. writes_from (pages (left i)) (at + whole i) (behind_m i) (behind_w i)
+      λ i. writes_from (pages (left i)) (place i) (behind_m i) (behind_w i)
 ]
 
 -- the page at an address, and those behind it
-pub from_next : (m w : List ℕ) (at k : ℕ) → length m ≡ length w → at < length w → k ≡ min 4096 (length w - at)
-    → writes_from (pages (length w - at)) at (drop at m) (drop at w)
-    ≡ page_writes at (part m at k) (part w at k)
-    ++ writes_from (pages (length w - (at + k))) (at + k) (drop (at + k) m) (drop (at + k) w)
+pub from_next : (b : ℕ) (m w : List ℕ) (at k : ℕ) → length m ≡ length w → at < length w → k ≡ min 4096 (length w - at)
+    → writes_from (pages (length w - at)) (b + at) (drop at m) (drop at w)
+    ≡ page_writes (b + at) (part m at k) (part w at k)
+    ++ writes_from (pages (length w - (at + k))) (b + (at + k)) (drop (at + k) m) (drop (at + k) w)
 unfolding writes_from
-from_next m w at k size inside is =
+from_next b m w at k size inside is =
     let page_of : (x : List ℕ) → length x ≡ length w → take 4096 (drop at x) ≡ part x at k
     = λ x long. sym (take_min 4096 (drop at x))
     ∙ ap (λ j. take (min 4096 j) (drop at x)) (length-drop at x ∙ ap (λ j. j - at) long)
     ∙ ap (λ j. take j (drop at x)) (sym is) in
-    ap (λ j. writes_from j at (drop at m) (drop at w)) (pages_step (length w - at) (omega arith))
-    ∙ (λ i. page_writes at (page_of m size i) (page_of w refl i)
-    ++ from_rest m w at k inside is i)
+    ap (λ j. writes_from j (b + at) (drop at m) (drop at w)) (pages_step (length w - at) (omega arith))
+    ∙ (λ i. page_writes (b + at) (page_of m size i) (page_of w refl i)
+    ++ from_rest b m w at k inside is i)
 
--- what is left to be written: the page of the caller's memory at an address, and those behind it
-pub left_next : (all : List Event) (m w : List ℕ) (c at k : ℕ) → length m ≡ length w → at < length w
-    → k ≡ min 4096 (length w - at)
-    → drop c all ≡ writes_from (pages (length w - at)) at (drop at m) (drop at w)
-    → drop c all ≡ page_writes at (part m at (length (part w at (at + k - at)))) (part w at (at + k - at))
-    ++ writes_from (pages (length w - (at + k))) (at + k) (drop (at + k) m) (drop (at + k) w)
-left_next all m w c at k size inside is left =
+-- what is left to be written: the page of the caller's memory at a place, and those behind it, of memory from a base on
+pub left_next : (all : List Event) (b : ℕ) (whole w : List ℕ) (c at k : ℕ) → length (drop b whole) ≡ length w
+    → at < length w → k ≡ min 4096 (length w - at)
+    → drop c all ≡ writes_from (pages (length w - at)) (b + at) (drop at (drop b whole)) (drop at w)
+    → drop c all ≡ page_writes (b + at) (part whole (b + at) (length (part w at (at + k - at)))) (part w at (at + k - at))
+    ++ writes_from (pages (length w - (at + k))) (b + (at + k)) (drop (at + k) (drop b whole)) (drop (at + k) w)
+left_next all b whole w c at k size inside is left =
     let page : part w at (at + k - at) ≡ part w at k = ap (part w at) (omega arith) in
     let long : length (part w at (at + k - at)) ≡ k = ap length page ∙ length-part w at k (omega (arith, is, inside)) in
-    left ∙ from_next m w at k size inside is
-    ∙ (λ i. page_writes at (part m at (sym long i)) (sym page i)
-    ++ writes_from (pages (length w - (at + k))) (at + k) (drop (at + k) m) (drop (at + k) w))
+    left ∙ from_next b (drop b whole) w at k size inside is
+    ∙ (λ i. page_writes (b + at) (take (sym long i) (drop-drop at b whole i)) (sym page i)
+    ++ writes_from (pages (length w - (at + k))) (b + (at + k)) (drop (at + k) (drop b whole)) (drop (at + k) w))
+
+-- octets that are put behind the base
+pub put_behind : (b : ℕ) (m : List ℕ) (at : ℕ) (d : List ℕ) → b ≤ length m
+    → drop b (put m (b + at) d) ≡ put (drop b m) at d
+put_behind b m at d within =
+    let size : length (take b m) ≡ b = length-take-le b m within in
+    let place : b + at + length d ≡ b + (at + length d) = omega arith in
+    let rest : drop (b + at + length d) m ≡ drop (at + length d) (drop b m)
+    = ap (λ k. drop k m) place ∙ sym (drop-drop (at + length d) b m) in
+    ap (drop b) ((λ i. take-add b at m i ++ (d ++ rest i))
+    ∙ append_assoc (take b m) (take at (drop b m)) (d ++ drop (at + length d) (drop b m)))
+    ∙ drop_at (take b m) (take at (drop b m) ++ (d ++ drop (at + length d) (drop b m))) b size
 
 -- behind the last page
 pub no_pages : (n at : ℕ) (m w : List ℕ) → n ≡ 0 → writes_from n at m w ≡ []
@@ -185,9 +198,3 @@ behind_page m w n at k size within is =
     ap (drop (at + k)) is
     ∙ subst (λ j. drop (at + j) (put m at (part w at k)) ≡ drop (at + j) m) long
     (drop_past-put m at (part w at k) (omega (arith, size, long)))
-
-pub size_page : (m w n : List ℕ) (at k : ℕ) → length m ≡ length w → at + k ≤ length w
-    → n ≡ put m at (part w at k) → length n ≡ length w
-size_page m w n at k size within is =
-    let long : length (part w at k) ≡ k = length-part w at k within in
-    ap length is ∙ length-put m at (part w at k) (omega (arith, size, long)) ∙ size

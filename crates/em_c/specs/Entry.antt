@@ -1,5 +1,6 @@
 -- A descriptor of a ring, read.
-use Rattle.std.specs.Prelude.{◌≡◌, ℕ, nat_lt, if◌then◌else◌, List, Option, Some, None, Result, Ok, Err}
+use Rattle.std.specs.Prelude.{◌≡◌, ℕ, nat_lt, if◌then◌else◌, Option, Some, None, Result, Ok, Err}
+use Rattle.em_step.specs.State.{State}
 use Rattle.em_journal.specs.View.{View}
 use Rattle.em_inspect.specs.DescriptorText.{descriptor_text}
 use Rattle.em_inspect.specs.Trouble.{descriptor_in}
@@ -82,10 +83,10 @@ entry_told d = record (fields_told d.fields) {
 
 -- ---- what is told
 
-abbrev pub descriptor_of : ℕ → List ℕ → Result SidedRing Refused → Result Descriptor Refused
-descriptor_of index memory (Ok r) =
-    if nat_lt index r.setup.count then Ok (descriptor_in r memory index) else Err NoDescriptor
-descriptor_of index memory (Err refused) = Err refused
+abbrev pub descriptor_of : ℕ → State → Result SidedRing Refused → Result Descriptor Refused
+descriptor_of index s (Ok r) =
+    if nat_lt index r.setup.count then Ok (descriptor_in r s.base s.memory index) else Err NoDescriptor
+descriptor_of index s (Err refused) = Err refused
 
 -- or its line has no room
 abbrev pub TellsEntry : Result Descriptor Refused → Result EmEntry Refused → Type 0
@@ -94,7 +95,7 @@ TellsEntry (Err refused) outcome = outcome ≡ Err refused
 
 -- of a machine
 abbrev pub EntryIn : ℕ → ℕ → View → Result EmEntry Refused → Type 0
-EntryIn side index v outcome = TellsEntry (descriptor_of index v.present.memory (sided side v)) outcome
+EntryIn side index v outcome = TellsEntry (descriptor_of index v.present (sided side v)) outcome
 
 -- of the machine that is held
 abbrev pub HeldEntry : Option Tagged → ℕ → ℕ → Result EmEntry Refused → Type 0

@@ -1,7 +1,7 @@
 -- What calls tell that only look at a machine.
-use Rattle.std.specs.Prelude.{ℕ, ◌+◌, ◌++◌, ◌==◌, nat_lt, List, length, drop, Option, Some, None, Result, Ok, Err}
+use Rattle.std.specs.Prelude.{ℕ, ◌-◌, ◌++◌, ◌==◌, nat_lt, List, length, drop, Option, Some, None, Result, Ok, Err}
 use Rattle.std.specs.Prelude.{if◌then◌else◌, slice_get, slice_set}
-use Rattle.em_mem.specs.Memory.{part}
+use Rattle.em_mem.specs.Memory.{leaves, part}
 use Rattle.em_regs.specs.Table.{reg_at}
 use Rattle.em_regs.specs.declared.reg.Reg.{Reg}
 use Rattle.em_latch.specs.Latches.{causes, mask}
@@ -30,15 +30,25 @@ value_at offset v = value_in v.present (reg_at offset)
 -- n octets of guest memory from an address on
 abbrev pub octets_at : ℕ → ℕ → View → Result (List ℕ) Refused
 octets_at addr n v =
-    if nat_lt (length v.present.memory) (addr + n) then Err Range else Ok (part v.present.memory addr n)
+    if leaves v.present.base v.present.memory addr n then Err Range else Ok (part v.present.memory addr n)
 
--- how many octets guest memory has
+-- where guest memory begins
+abbrev pub memory_base : View → Result ℕ Refused
+memory_base v = Ok v.present.base
+
+-- how many octets a state's memory has, and all of them
+abbrev pub size_of : State → ℕ
+size_of s = length s.memory - s.base
+
+abbrev pub octets_of : State → List ℕ
+octets_of s = drop s.base s.memory
+
 abbrev pub memory_size : View → Result ℕ Refused
-memory_size v = Ok (length v.present.memory)
+memory_size v = Ok (size_of v.present)
 
 -- all octets of guest memory, where they are so many
 abbrev pub whole_memory : ℕ → View → Result (List ℕ) Refused
-whole_memory n v = if length v.present.memory == n then Ok v.present.memory else Err Length
+whole_memory n v = if size_of v.present == n then Ok (octets_of v.present) else Err Length
 
 -- the interrupt line: 1 where it is asserted, else 0
 abbrev pub line : View → Result ℕ Refused

@@ -1,38 +1,57 @@
--- What em_make makes, and when it makes nothing.
+-- What machines are made of, and when none is made.
 use Rattle.std.specs.Prelude.{◌≡◌, ℕ, List, Option, Some, None}
-use Rattle.em_mem.specs.Memory.{IsMemorySize}
+use Rattle.em_mem.specs.Memory.{IsMemoryRange, IsMemorySize}
 use Rattle.em_step.specs.Cells.{fresh, shows}
 use Rattle.em_journal.specs.Budget.{IsBudget}
 use Rattle.em_journal.specs.View.{opening}
 use Rattle.em_trail.specs.Trail.{starting}
+use Rattle.em_c.specs.declared.making.Place.{Place}
+use Rattle.em_c.specs.declared.making.Place.TheVariants.{First, From}
 use Rattle.em_c.specs.declared.refused.Refused.{Refused}
 use Rattle.em_c.specs.declared.refused.Refused.TheVariants.{Size, Budget, Memory, HasMachine}
 use Rattle.em_c.specs.declared.tagged.Tagged.{Tagged}
 use Rattle.em_c.specs.Refused.{number_of}
 
+-- ---- where memory lies
+
+abbrev pub base_of : Place → ℕ
+base_of (First size) = 0
+base_of (From base size) = base
+
+abbrev pub octets_of : Place → ℕ
+octets_of (First size) = size
+octets_of (From base size) = size
+
+abbrev pub CanLie : Place → Type 0
+CanLie (First size) = IsMemorySize size
+CanLie (From base size) = IsMemoryRange base size
+
+-- ---- a machine
+
 -- after a reset, over a memory of zeros and these words in the EEPROM, with the link down, nothing to take back, and
 -- the tag 0
-abbrev pub new_machine : ℕ → ℕ → List ℕ → Tagged
-new_machine size budget words = record {
-  traced = starting (opening budget (shows (fresh size words)));
+abbrev pub new_machine : Place → ℕ → List ℕ → Tagged
+new_machine place budget words = record {
+  traced = starting (opening budget (shows (fresh (base_of place) (octets_of place) words)));
   tag = 0;
 }
 
--- the size of memory is named first, then the budget, and want of memory where neither refuses; nothing else refuses
-abbrev pub IsRefusedAs : ℕ → ℕ → Refused → Type 0
-IsRefusedAs size budget Size = IsMemorySize size → ⊥
-IsRefusedAs size budget Budget = IsMemorySize size × (IsBudget budget → ⊥)
-IsRefusedAs size budget Memory = IsMemorySize size × IsBudget budget
-IsRefusedAs size budget refused = ⊥
+-- memory that can not lie there is named first, then the budget, and want of memory where neither refuses; nothing else
+-- refuses
+abbrev pub IsRefusedAs : Place → ℕ → Refused → Type 0
+IsRefusedAs place budget Size = CanLie place → ⊥
+IsRefusedAs place budget Budget = CanLie place × (IsBudget budget → ⊥)
+IsRefusedAs place budget Memory = CanLie place × IsBudget budget
+IsRefusedAs place budget refused = ⊥
 
 -- a new machine is held, which can be of these sizes; or the number of the reason is given, and none is held
-abbrev pub IsMade : ℕ → ℕ → List ℕ → ℕ → Option Tagged → Type 0
-IsMade size budget words code (Some t) =
-    (code ≡ 0) × (t ≡ new_machine size budget words) × IsMemorySize size × IsBudget budget
-IsMade size budget words code None =
-    (refused : Refused) × (code ≡ number_of refused) × IsRefusedAs size budget refused
+abbrev pub IsMade : Place → ℕ → List ℕ → ℕ → Option Tagged → Type 0
+IsMade place budget words code (Some t) =
+    (code ≡ 0) × (t ≡ new_machine place budget words) × CanLie place × IsBudget budget
+IsMade place budget words code None =
+    (refused : Refused) × (code ≡ number_of refused) × IsRefusedAs place budget refused
 
 -- a handle that holds a machine keeps it
-abbrev pub Makes : Option Tagged → ℕ → ℕ → List ℕ → ℕ → Option Tagged → Type 0
-Makes (Some t) size budget words code after = (code ≡ number_of HasMachine) × (after ≡ Some t)
-Makes None size budget words code after = IsMade size budget words code after
+abbrev pub Makes : Option Tagged → Place → ℕ → List ℕ → ℕ → Option Tagged → Type 0
+Makes (Some t) place budget words code after = (code ≡ number_of HasMachine) × (after ≡ Some t)
+Makes None place budget words code after = IsMade place budget words code after

@@ -39,4 +39,6 @@ told_note note = record {
   length = note.length;
   value = note.value;
   kind = number_of_kind note.kind;
+  octets = note.octets;
+  buffer = note.buffer;
 }

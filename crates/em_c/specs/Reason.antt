@@ -1,7 +1,8 @@
 -- The reason why an event did nothing, as C sees it.
-use Rattle.std.specs.Prelude.{ℕ, replicate, Option, Some, None}
+use Rattle.std.specs.Prelude.{ℕ, ◌-◌, replicate, Option, Some, None}
 use Rattle.em_reasons.specs.declared.dropped.Dropped.{Dropped}
 use Rattle.em_reasons.specs.declared.dropped.Dropped.TheVariants as dropped
+use Rattle.em_reasons.specs.declared.refused.Bounds.{Bounds}
 use Rattle.em_reasons.specs.declared.refused.Refused.{Refused as WhyRefused}
 use Rattle.em_reasons.specs.declared.refused.Refused.TheVariants as undone
 use Rattle.em_reasons.specs.declared.rx_idle.RxIdle.{RxIdle}
@@ -24,6 +25,7 @@ blank = record {
   buffer = 0;
   octets = 0;
   most = 0;
+  base = 0;
   memory = 0;
   rule = number_of rule.NoRule;
   index = 0;
@@ -65,37 +67,39 @@ of_dropped (dropped.Vlan identifier) = record blank { rule = number_of rule.Fram
 of_dropped (dropped.Missed octets frames) =
     record blank { rule = number_of rule.FrameMissed; octets = octets; most = frames }
 
+-- where something leaves guest memory, which lies there
+abbrev pub in_memory : Bounds → EmReason → EmReason
+in_memory b r = record r { base = b.base; memory = b.end - b.base }
+
 abbrev pub of_refused : WhyRefused → EmReason
 of_refused (undone.NoRegister offset) = record blank { rule = number_of rule.NoRegister; address = offset }
 of_refused (undone.Range at octets memory) =
-    record blank { rule = number_of rule.WriteRange; address = at; octets = octets; memory = memory }
+    in_memory memory (record blank { rule = number_of rule.WriteRange; address = at; octets = octets })
 of_refused (undone.WriteLength octets) = record blank { rule = number_of rule.WriteLength; octets = octets }
 of_refused (undone.FrameLength octets) = record blank { rule = number_of rule.FrameLength; octets = octets }
 of_refused (undone.RxDescriptor index at memory) =
-    record blank { rule = number_of rule.RxDescriptor; index = index; address = address_told at; memory = memory }
-of_refused (undone.RxBuffer index at buffer size frame memory) = record blank {
+    in_memory memory (record blank { rule = number_of rule.RxDescriptor; index = index; address = address_told at })
+of_refused (undone.RxBuffer index at buffer size frame memory) = in_memory memory (record blank {
   rule = number_of rule.RxBuffer;
   index = index;
   address = address_told at;
   buffer = buffer;
   most = size;
   octets = frame;
-  memory = memory;
-}
+})
 of_refused (undone.TxDescriptor index at memory) =
-    record blank { rule = number_of rule.TxDescriptor; index = index; address = address_told at; memory = memory }
+    in_memory memory (record blank { rule = number_of rule.TxDescriptor; index = index; address = address_told at })
 of_refused (undone.Extended index at) =
     record blank { rule = number_of rule.TxExtended; index = index; address = address_told at }
 of_refused (undone.TooLong index at octets) =
     record blank { rule = number_of rule.TxTooLong; index = index; address = address_told at; octets = octets }
-of_refused (undone.TxBuffer index at buffer octets memory) = record blank {
+of_refused (undone.TxBuffer index at buffer octets memory) = in_memory memory (record blank {
   rule = number_of rule.TxBuffer;
   index = index;
   address = address_told at;
   buffer = buffer;
   octets = octets;
-  memory = memory;
-}
+})
 of_refused undone.Memory = record blank { rule = number_of rule.Memory }
 
 abbrev pub numbers_of : Option Why → EmReason

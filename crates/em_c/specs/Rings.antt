@@ -2,6 +2,7 @@
 use Rattle.std.specs.Prelude.{ℕ, ◌==◌, nat_lt, Bool, true, false, if◌then◌else◌, List, Option, Some, None, Result, Ok, Err}
 use Rattle.em_regs.specs.Setup.{rx_setup, tx_setup}
 use Rattle.em_regs.specs.declared.ring.Ring.{Ring}
+use Rattle.em_step.specs.State.{State}
 use Rattle.em_journal.specs.View.{View}
 use Rattle.em_inspect.specs.Ring.{is_adapters, octets_at, rx_ring, tx_ring}
 use Rattle.em_inspect.specs.declared.ring.Side.{Side}
@@ -50,10 +51,11 @@ abbrev pub with_octets : Ring → ℕ → Option (List ℕ) → Result EmDescrip
 with_octets r index None = Err Range
 with_octets r index (Some octets) = Ok (record { octets = octets; adapters = is_told r index })
 
-abbrev pub descriptor_of : ℕ → List ℕ → Result SidedRing Refused → Result EmDescriptor Refused
-descriptor_of index memory (Ok r) =
-    if nat_lt index r.setup.count then with_octets r.setup index (octets_at r.setup memory index) else Err NoDescriptor
-descriptor_of index memory (Err refused) = Err refused
+abbrev pub descriptor_of : ℕ → State → Result SidedRing Refused → Result EmDescriptor Refused
+descriptor_of index s (Ok r) =
+    if nat_lt index r.setup.count then with_octets r.setup index (octets_at r.setup s.base s.memory index)
+    else Err NoDescriptor
+descriptor_of index s (Err refused) = Err refused
 
 abbrev pub descriptor_in : ℕ → ℕ → View → Result EmDescriptor Refused
-descriptor_in side index v = descriptor_of index v.present.memory (sided side v)
+descriptor_in side index v = descriptor_of index v.present (sided side v)

@@ -7,6 +7,7 @@ use Rattle.em_step.specs.Step.{Refuses}
 use Rattle.em_step.specs.declared.event.Answer.{Answer}
 use Rattle.em_step.specs.declared.refusal.Refusal.TheVariants as event
 use Rattle.em_c.specs.Difference.{same_at_head, up_to_last}
+use Rattle.em_c.specs.Looks.{octets_of, size_of}
 use Rattle.em_c.specs.Refused.{number, number_of}
 use Rattle.em_c.specs.declared.refused.Refused.{Refused}
 use Rattle.em_c.specs.declared.refused.Refused.TheVariants.{Length, Memory, NoMachine}
@@ -38,9 +39,9 @@ writes_from (suc k) at memory ram =
 abbrev pub pages : ℕ → ℕ
 pages n = (n + (page_size - 1)) / page_size
 
--- what makes memory the caller's
-abbrev pub writes_of : List ℕ → List ℕ → List Event
-writes_of memory ram = writes_from (pages (length ram)) 0 memory ram
+-- what makes memory the caller's, from its first octet on
+abbrev pub writes_of : Tagged → List ℕ → List Event
+writes_of t ram = writes_from (pages (length ram)) (present_of t).base (octets_of (present_of t)) ram
 
 -- what makes memory the caller's from an address on, within a page
 abbrev pub rewrites : Tagged → ℕ → List ℕ → List Event
@@ -68,6 +69,7 @@ pub record Rewrote (t : Tagged) (at : ℕ) (new : List ℕ) (n : ℕ) (u : Tagge
   pub count : n ≡ length (rewrites t at new)
   pub few : n ≤ 1
   pub performs : PerformsAll (rewrites t at new) t u
+  pub base : (present_of u).base ≡ (present_of t).base
   pub memory : memory_of u ≡ put (memory_of t) at new
 
 -- the write is refused for want of memory, and none was made
@@ -84,12 +86,12 @@ Rewrites t at new (Err refused) u = RefusesWrite t at new refused u
 -- was made
 abbrev pub Syncs : {X : Type 0} → Tagged → List ℕ → ℕ → Result X Refused → ℕ → Tagged → Type 0
 Syncs t ram old (Ok x) new u =
-    let writes = writes_of (memory_of t) ram in
-    (new ≡ length writes) × PerformsAll writes t u × (memory_of u ≡ ram)
+    let writes = writes_of t ram in
+    (new ≡ length writes) × PerformsAll writes t u × (octets_of (present_of u) ≡ ram)
 Syncs t ram old (Err Memory) new u =
-    let writes = writes_of (memory_of t) ram in
-    (length (memory_of t) ≡ length ram) × PerformsAll (take new writes) t u × IsWanting u (drop new writes)
-Syncs t ram old (Err Length) new u = (length (memory_of t) ≡ length ram → ⊥) × (new ≡ old) × (u ≡ t)
+    let writes = writes_of t ram in
+    (size_of (present_of t) ≡ length ram) × PerformsAll (take new writes) t u × IsWanting u (drop new writes)
+Syncs t ram old (Err Length) new u = (size_of (present_of t) ≡ length ram → ⊥) × (new ≡ old) × (u ≡ t)
 Syncs t ram old (Err other) new u = ⊥
 
 -- the call, which tells how many writes were made

@@ -1,5 +1,6 @@
 -- A machine with the tag of its next events, and what becomes of it.
 use Rattle.std.specs.Prelude.{◌≡◌, ℕ, drop}
+use Rattle.em_mem.specs.Memory.{LiesIn}
 use Rattle.em_step.specs.State.{State}
 use Rattle.em_step.specs.Event.{Event}
 use Rattle.em_step.specs.declared.event.Answer.{Answer}
@@ -7,12 +8,17 @@ use Rattle.em_journal.specs.View as journal
 use Rattle.em_journal.specs.View.{View}
 use Rattle.em_trail.specs.Trail.{Trail, Noted}
 use Rattle.em_trail.specs.declared.note.Note.{Note}
+use Rattle.em_trail.specs.Dma.{dma_of}
 use Rattle.em_trail.specs.Note.{note_of}
 use Rattle.em_c.specs.declared.tagged.Tagged.{Tagged}
 
 -- where the machine is
 abbrev pub present_of : Tagged → State
 present_of t = t.traced.view.present
+
+-- octets from an address on lie in its memory
+abbrev pub Holds : Tagged → ℕ → ℕ → Type 0
+Holds t at n = LiesIn (present_of t).base (present_of t).memory at n
 
 -- the event is performed, and noted under the tag, which stays
 pub record Performs (t : Tagged) (event : Event) (answer : Answer) (u : Tagged) : Type 0 where
@@ -23,7 +29,7 @@ pub record Performs (t : Tagged) (event : Event) (answer : Answer) (u : Tagged) 
 pub record IsNoteOf (t : Tagged) (event : Event) (u : Tagged) (note : Note) : Type 0 where
   pub answer : Answer
   pub performed : Performs t event answer u
-  pub noted : note ≡ note_of event answer t.tag
+  pub noted : note ≡ note_of (dma_of (present_of t) event) event answer t.tag
 
 -- a trail after n steps back, or as many as there are: the notes of these events go
 abbrev pub trail_back : ℕ → Trail → Trail

@@ -1,5 +1,6 @@
 -- What a debugger says of a machine at rest, as texts.
 use Rattle.std.specs.Prelude.{◌≡◌, ◌⊎◌, ◌<◌, ◌≤◌, ℕ, ◌+◌, List, length, Option, Some, None, Result, Ok, Err}
+use Rattle.em_step.specs.State.{State}
 use Rattle.em_journal.specs.View.{View}
 use Rattle.em_inspect.specs.declared.ring.SidedRing.{SidedRing}
 use Rattle.em_looks.specs.Effects.{TellsEffect}
@@ -17,12 +18,12 @@ HeldText (Some t) question outcome = (outcome ≡ question t.traced.view) ⊎ (o
 
 -- ---- a ring: its line, and those of its 64 descriptors around the head
 
-abbrev pub text_of_ring : List ℕ → Result SidedRing Refused → Result (List ℕ) Refused
-text_of_ring memory (Ok r) = Ok (window_text r memory)
-text_of_ring memory (Err refused) = Err refused
+abbrev pub text_of_ring : State → Result SidedRing Refused → Result (List ℕ) Refused
+text_of_ring s (Ok r) = Ok (window_text r s.base s.memory)
+text_of_ring s (Err refused) = Err refused
 
 abbrev pub ring_text_in : ℕ → View → Result (List ℕ) Refused
-ring_text_in side v = text_of_ring v.present.memory (sided side v)
+ring_text_in side v = text_of_ring v.present (sided side v)
 
 -- ---- the FIFO: how many frames wait, and the first of them
 

@@ -1,6 +1,8 @@
 -- What C watches, and the change that it is told.
-use Rattle.std.specs.Prelude.{◌≡◌, ◌⊎◌, ℕ, ◌+◌, ◌<◌, ◌≤◌, List, length, replicate, if◌then◌else◌, Option, Some, None}
+use Rattle.std.specs.Prelude.{◌≡◌, ◌⊎◌, ℕ, ◌<◌, ◌≤◌, IsTrue, List, replicate, if◌then◌else◌, Option, Some, None}
+use Rattle.em_mem.specs.Memory.{LiesIn, leaves}
 use Rattle.em_regs.specs.Table.{reg_at}
+use Rattle.em_step.specs.State.{State}
 use Rattle.em_journal.specs.View.{View}
 use Rattle.em_watch.specs.Change.{IsNextChange, NeverDiffers}
 use Rattle.em_watch.specs.declared.change.Change.{Change}
@@ -15,23 +17,24 @@ use Rattle.em_c.specs.declared.watch.EmChange.{EmChange}
 use Rattle.em_c.specs.declared.watch.EmWatch.{EmWatch}
 use Rattle.em_c.specs.Refused.{number_of}
 
--- of a guest memory of so many octets
-abbrev pub IsWatch : EmWatch → ℕ → Watch → Type 0
-IsWatch w size (watch.Register reg) = (w.kind ≡ 1) × (reg_at w.offset ≡ Some reg)
-IsWatch w size (watch.Octets range) =
-    (w.kind ≡ 2) × (range.addr ≡ w.address) × (range.len ≡ w.octets) × (range.addr + range.len ≤ size)
-IsWatch w size watch.Line = w.kind ≡ 3
-IsWatch w size watch.Link = w.kind ≡ 4
-IsWatch w size watch.Frames = w.kind ≡ 5
-IsWatch w size watch.Sent = w.kind ≡ 6
+-- of a machine in this state: octets lie in its guest memory
+abbrev pub IsWatch : EmWatch → State → Watch → Type 0
+IsWatch w s (watch.Register reg) = (w.kind ≡ 1) × (reg_at w.offset ≡ Some reg)
+IsWatch w s (watch.Octets range) =
+    (w.kind ≡ 2) × (range.addr ≡ w.address) × (range.len ≡ w.octets) × LiesIn s.base s.memory w.address w.octets
+IsWatch w s watch.Line = w.kind ≡ 3
+IsWatch w s watch.Link = w.kind ≡ 4
+IsWatch w s watch.Frames = w.kind ≡ 5
+IsWatch w s watch.Sent = w.kind ≡ 6
 
 -- an offset without a register, no octet or more than 16, octets that leave guest memory, or a kind that there is not
-abbrev pub IsNoWatch : EmWatch → ℕ → Refused → Type 0
-IsNoWatch w size NoRegister = (w.kind ≡ 1) × (reg_at w.offset ≡ None)
-IsNoWatch w size Length = (w.kind ≡ 2) × ((w.octets ≡ 0) ⊎ (16 < w.octets))
-IsNoWatch w size Range = (w.kind ≡ 2) × (0 < w.octets) × (w.octets ≤ 16) × (size < w.address + w.octets)
-IsNoWatch w size NoWatch = (w.kind ≡ 0) ⊎ (6 < w.kind)
-IsNoWatch w size refused = ⊥
+abbrev pub IsNoWatch : EmWatch → State → Refused → Type 0
+IsNoWatch w s NoRegister = (w.kind ≡ 1) × (reg_at w.offset ≡ None)
+IsNoWatch w s Length = (w.kind ≡ 2) × ((w.octets ≡ 0) ⊎ (16 < w.octets))
+IsNoWatch w s Range =
+    (w.kind ≡ 2) × (0 < w.octets) × (w.octets ≤ 16) × IsTrue (leaves s.base s.memory w.address w.octets)
+IsNoWatch w s NoWatch = (w.kind ≡ 0) ⊎ (6 < w.kind)
+IsNoWatch w s refused = ⊥
 
 -- what was seen, as a number
 abbrev pub value_of : Sight → ℕ
@@ -59,6 +62,6 @@ ToldChange w v old code new =
 abbrev pub FindsChange : Option Tagged → EmWatch → EmChange → ℕ → EmChange → Type 0
 FindsChange None w old code new = (code ≡ number_of NoMachine) × (new ≡ old)
 FindsChange (Some t) w old code new =
-    let size = length t.traced.view.present.memory in
-    ((watched : Watch) × IsWatch w size watched × ToldChange watched t.traced.view old code new)
-    ⊎ ((refused : Refused) × IsNoWatch w size refused × (code ≡ number_of refused) × (new ≡ old))
+    let s = t.traced.view.present in
+    ((watched : Watch) × IsWatch w s watched × ToldChange watched t.traced.view old code new)
+    ⊎ ((refused : Refused) × IsNoWatch w s refused × (code ≡ number_of refused) × (new ≡ old))

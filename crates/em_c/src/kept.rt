@@ -23,12 +23,19 @@ use std::alloc::Global;
 /// How many words the EEPROM has.
 const EEPROM_WORDS: usize = 64;
 
-/// What a run begins with: of how many octets guest memory is, the journal's budget, and the EEPROM's words.
+/// What a run begins with: where guest memory begins and of how many octets it is, the journal's budget, and the EEPROM's
+/// words.
 #[unsafe(no_mangle)]
-pub extern "C" fn kept_head(memory: u64, budget: u64, words: &[u16; EEPROM_WORDS], text: &mut Text)
-    ensures { Says text.new (head_text memory budget words.now) }
+pub extern "C" fn kept_head(
+    base: u64,
+    memory: u64,
+    budget: u64,
+    words: &[u16; EEPROM_WORDS],
+    text: &mut Text,
+)
+    ensures { Says text.new (head_text base memory budget words.now) }
 {
-    tell_head(text, memory, budget, &Eeprom::of_words(*words));
+    tell_head(text, base, memory, budget, &Eeprom::of_words(*words));
 }
 
 /// Software reads a register.
@@ -223,11 +230,11 @@ fn keep_held(machine: &mut Tagged, event: Event<'_>, source: Source<'_>, text: &
 }
 
 /// What a run begins with; nothing where there is no room for all of it.
-fn tell_head(text: &mut Text, memory: u64, budget: u64, eeprom: &Eeprom)
-    ensures { Says text.new (head_text memory budget eeprom.now) }
+fn tell_head(text: &mut Text, base: u64, memory: u64, budget: u64, eeprom: &Eeprom)
+    ensures { Says text.new (head_text base memory budget eeprom.now) }
 {
     text.clear();
-    if em_kept::write_head(text, memory, budget, eeprom).is_err() {
+    if em_kept::write_head(text, base, memory, budget, eeprom).is_err() {
         text.clear();
     }
 }

@@ -1,9 +1,9 @@
 //! Machines are made, and freed.
 ghost use Rattle.std.specs.Prelude.{◌≡◌, ◌↔◌, None, IfOk, IfErr, OnOk};
 ghost use Rattle.em_eeprom.specs.Eeprom.{words_of_mac};
-ghost use Rattle.em_mem.specs.Memory.{IsMemorySize};
+ghost use Rattle.em_step.specs.Cells.{fresh};
 ghost use Rattle.em_journal.specs.Budget.{IsBudget};
-ghost use Rattle.em_c.specs.Making.{new_machine, IsRefusedAs, Makes};
+ghost use Rattle.em_c.specs.Making.{base_of, new_machine, octets_of, CanLie, IsRefusedAs, Makes};
 
 use crate::handle::EmMachine;
 use crate::refused::{DONE, Refused};
@@ -18,6 +18,15 @@ use std::alloc::Global;
 /// How many words the EEPROM has.
 const EEPROM_WORDS: usize = 64;
 
+/// Where guest memory is to lie.
+#[derive(Clone, Copy, Debug)]
+pub enum Place {
+    /// So many octets from address 0 on: 16 MiB at most.
+    First(u64),
+    /// From an address on, so many octets.
+    From(u64, u64),
+}
+
 /// Makes a machine with this Ethernet address in its EEPROM.
 #[unsafe(no_mangle)]
 pub extern "C" fn em_make(
@@ -27,9 +36,11 @@ pub extern "C" fn em_make(
     budget: u64,
     mac: &[u8; 6],
 ) -> u32
-    ensures { Makes machine.old.sealed.held memory budget (words_of_mac mac.now) result machine.new.sealed.held }
+    ensures { Makes machine.old.sealed.held (Place.First memory) budget (words_of_mac mac.now) result
+        machine.new.sealed.held }
 {
-    make(alloc, machine, memory, budget, Eeprom::of_mac(*mac))
+    let first = Place::First(memory);
+    make(alloc, machine, first, budget, Eeprom::of_mac(*mac))
 }
 
 /// Makes a machine with these words in its EEPROM.
@@ -41,9 +52,45 @@ pub extern "C" fn em_make_with_eeprom(
     budget: u64,
     words: &[u16; EEPROM_WORDS],
 ) -> u32
-    ensures { Makes machine.old.sealed.held memory budget words.now result machine.new.sealed.held }
+    ensures { Makes machine.old.sealed.held (Place.First memory) budget words.now result
+        machine.new.sealed.held }
 {
-    make(alloc, machine, memory, budget, Eeprom::of_words(*words))
+    let first = Place::First(memory);
+    make(alloc, machine, first, budget, Eeprom::of_words(*words))
+}
+
+/// Makes a machine whose guest memory begins at `base`, with this Ethernet address in its EEPROM.
+#[unsafe(no_mangle)]
+pub extern "C" fn em_make_at(
+    alloc: Global,
+    machine: &mut EmMachine,
+    base: u64,
+    memory: u64,
+    budget: u64,
+    mac: &[u8; 6],
+) -> u32
+    ensures { Makes machine.old.sealed.held (Place.From base memory) budget (words_of_mac mac.now) result
+        machine.new.sealed.held }
+{
+    let place = Place::From(base, memory);
+    make(alloc, machine, place, budget, Eeprom::of_mac(*mac))
+}
+
+/// Makes a machine whose guest memory begins at `base`, with these words in its EEPROM.
+#[unsafe(no_mangle)]
+pub extern "C" fn em_make_at_with_eeprom(
+    alloc: Global,
+    machine: &mut EmMachine,
+    base: u64,
+    memory: u64,
+    budget: u64,
+    words: &[u16; EEPROM_WORDS],
+) -> u32
+    ensures { Makes machine.old.sealed.held (Place.From base memory) budget words.now result
+        machine.new.sealed.held }
+{
+    let place = Place::From(base, memory);
+    make(alloc, machine, place, budget, Eeprom::of_words(*words))
 }
 
 /// Frees the machine that a handle holds, where it holds one.
@@ -55,13 +102,13 @@ pub extern "C" fn em_free(alloc: Global, machine: &mut EmMachine)
 }
 
 /// Makes a machine in a handle that holds none.
-fn make(alloc: Global, machine: &mut EmMachine, memory: u64, budget: u64, eeprom: Eeprom) -> u32
-    ensures { Makes machine.old.sealed.held memory budget eeprom result machine.new.sealed.held }
+fn make(alloc: Global, machine: &mut EmMachine, place: Place, budget: u64, eeprom: Eeprom) -> u32
+    ensures { Makes machine.old.sealed.held place budget eeprom result machine.new.sealed.held }
 {
     if machine.made {
         return Refused::HasMachine.number();
     }
-    match made(alloc, memory, budget, eeprom) {
+    match made(alloc, place, budget, eeprom) {
         Ok(made) => {
             machine.put(made);
             DONE
@@ -71,15 +118,15 @@ fn make(alloc: Global, machine: &mut EmMachine, memory: u64, budget: u64, eeprom
 }
 
 /// A new machine in a box.
-fn made(alloc: Global, memory: u64, budget: u64, eeprom: Eeprom) -> Result<Box<Tagged>, Refused>
-    ensures ok { IfOk result (λ made. made.value ≡ new_machine memory budget eeprom) }
-    ensures size { OnOk result (IsMemorySize memory) }
+fn made(alloc: Global, place: Place, budget: u64, eeprom: Eeprom) -> Result<Box<Tagged>, Refused>
+    ensures ok { IfOk result (λ made. made.value ≡ new_machine place budget eeprom) }
+    ensures lies { OnOk result (CanLie place) }
     ensures budget { OnOk result (IsBudget budget) }
-    ensures err { IfErr result (IsRefusedAs memory budget) }
+    ensures err { IfErr result (IsRefusedAs place budget) }
 {
-    let adapter = match Adapter::new(alloc, memory, eeprom) {
+    let adapter = match adapter_at(alloc, place, eeprom) {
         Ok(adapter) => adapter,
-        Err(refusal) => return Err(without_adapter(refusal, memory, budget)),
+        Err(refusal) => return Err(without_adapter(refusal, place, budget)),
     };
     let machine = match Machine::new(alloc, adapter, budget) {
         Ok(machine) => machine,
@@ -95,10 +142,24 @@ fn made(alloc: Global, memory: u64, budget: u64, eeprom: Eeprom) -> Result<Box<T
     Ok(made)
 }
 
+/// A new adapter.
+fn adapter_at(alloc: Global, place: Place, eeprom: Eeprom) -> Result<Adapter, MemRefusal>
+    ensures ok { IfOk result (λ adapter. adapter ≡ fresh (base_of place) (octets_of place) eeprom) }
+    ensures lies { OnOk result (CanLie place) }
+    ensures memory { IfErr result (λ e. e ≡ MemRefusal.Memory → CanLie place) }
+    ensures refused { IfErr result (λ e. (e ≡ MemRefusal.Size) ↔ (CanLie place → ⊥)) }
+{
+    match place {
+        Place::First(size) => Adapter::new(alloc, size, eeprom),
+        Place::From(base, size) => Adapter::at(alloc, base, size, eeprom),
+    }
+}
+
 /// Why no machine is made where no adapter was: a budget that is not allowed is named before the want of memory.
-fn without_adapter(refusal: MemRefusal, memory: u64, budget: u64) -> Refused
-    requires { (refusal ≡ MemRefusal.Size) ↔ (IsMemorySize memory → ⊥) }
-    ensures { IsRefusedAs memory budget result }
+fn without_adapter(refusal: MemRefusal, place: Place, budget: u64) -> Refused
+    requires size { (refusal ≡ MemRefusal.Size) ↔ (CanLie place → ⊥) }
+    requires memory { refusal ≡ MemRefusal.Memory → CanLie place }
+    ensures { IsRefusedAs place budget result }
 {
     match refusal {
         MemRefusal::Size => Refused::Size,

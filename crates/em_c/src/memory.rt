@@ -1,12 +1,14 @@
 //! Guest memory.
-ghost use Rattle.std.specs.Prelude.{◌≡◌, length};
+ghost use Rattle.std.specs.Prelude.{◌≡◌, false, length};
+ghost use Rattle.em_mem.specs.Memory.{LiesIn, leaves};
 ghost use Rattle.em_step.specs.Event.{pokes};
 ghost use Rattle.em_c.specs.Refused.{number, told, Shows};
 ghost use Rattle.em_c.specs.Calls.{Calls};
-ghost use Rattle.em_c.specs.Looks.{asked, octets_at, memory_size};
+ghost use Rattle.em_c.specs.Looks.{asked, octets_at, memory_base, memory_size};
 
 use crate::handle::EmMachine;
 use crate::refused::{Refused, number, tell};
+use em_journal::Machine;
 use em_step::Event;
 use std::alloc::Global;
 
@@ -25,6 +27,15 @@ pub extern "C" fn em_peek(alloc: Global, machine: &mut EmMachine, addr: u64, out
     ensures same { machine.new.sealed.held ≡ machine.old.sealed.held }
 {
     number(copy_out(alloc, machine, addr, out))
+}
+
+/// The address of guest memory's first octet.
+#[unsafe(no_mangle)]
+pub extern "C" fn em_memory_base(alloc: Global, machine: &mut EmMachine, base: &mut u64) -> u32
+    ensures base { Shows (asked machine.old.sealed.held memory_base) base.old result base.new }
+    ensures same { machine.new.sealed.held ≡ machine.old.sealed.held }
+{
+    tell(memory_base(alloc, machine), base)
 }
 
 /// How many octets guest memory has.
@@ -56,6 +67,17 @@ fn copy_out(
     }
 }
 
+/// Where guest memory begins.
+fn memory_base(alloc: Global, machine: &mut EmMachine) -> Result<u64, Refused>
+    ensures base { result ≡ asked machine.old.sealed.held memory_base }
+    ensures same { machine.new.sealed.held ≡ machine.old.sealed.held }
+{
+    let held = machine.take(alloc)?;
+    let base = held.traced.machine().memory_base();
+    machine.put(held);
+    Ok(base)
+}
+
 /// How many octets guest memory has.
 fn memory_size(alloc: Global, machine: &mut EmMachine) -> Result<u64, Refused>
     ensures size { result ≡ asked machine.old.sealed.held memory_size }
@@ -65,4 +87,13 @@ fn memory_size(alloc: Global, machine: &mut EmMachine) -> Result<u64, Refused>
     let size = held.traced.machine().memory_size();
     machine.put(held);
     Ok(size)
+}
+
+/// Whether octets leave guest memory.
+pub fn leaves(machine: &Machine, addr: u64, len: usize) -> bool
+    ensures value { result ≡ leaves machine.now.present.base machine.now.present.memory addr len }
+    ensures lies { result ≡ false → LiesIn machine.now.present.base machine.now.present.memory addr len }
+{
+    let end = machine.memory_end();
+    addr < machine.memory_base() || addr > end || len as u64 > end - addr
 }

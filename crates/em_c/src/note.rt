@@ -11,7 +11,8 @@ use em_trail::{Kind, Note};
 pub struct EmNote {
     /// What the caller called it by.
     pub tag: u64,
-    /// Of an access the register's offset, of a memory write its address; else 0.
+    /// Of an access the register's offset, of a memory write its address, of an engine's step that was not idle its
+    /// descriptor's address; else 0.
     pub at: u64,
     /// How many octets: of an access 4, of a memory write those written, of an arrival or a frame that was sent
     /// the frame's; else 0.
@@ -21,6 +22,10 @@ pub struct EmNote {
     pub value: u32,
     /// What it was, and what came of it: the number of its kind.
     pub kind: u32,
+    /// How many octets an engine's step wrote into its buffer or read there; else 0.
+    pub octets: u32,
+    /// Where in guest memory they lie; else 0, as of no octets.
+    pub buffer: u64,
 }
 
 impl EmNote {
@@ -34,6 +39,8 @@ impl EmNote {
             length: note.length,
             value: note.value,
             kind: number_of_kind(note.kind),
+            octets: note.octets,
+            buffer: note.buffer,
         }
     }
 }

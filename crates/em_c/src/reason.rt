@@ -12,7 +12,7 @@ use crate::rule::Rule;
 use crate::told::address_told;
 use arrayvec::ArrayVec;
 use em_explain::Why;
-use em_reasons::{Dropped, Refused as WhyRefused, RxIdle, TxIdle};
+use em_reasons::{Bounds, Dropped, Refused as WhyRefused, RxIdle, TxIdle};
 
 /// How many octets an Ethernet address has.
 const ADDRESS: usize = 6;
@@ -37,6 +37,8 @@ pub struct EmReason {
     /// How many octets there may be at most (of a frame that is too short, at least); of a full FIFO how many frames
     /// wait.
     pub most: u64,
+    /// Where guest memory begins.
+    pub base: u64,
     /// How many octets guest memory has.
     pub memory: u64,
     /// The number of the rule; 0 where the event did something.
@@ -59,6 +61,7 @@ const BLANK: EmReason = EmReason {
     buffer: 0,
     octets: 0,
     most: 0,
+    base: 0,
     memory: 0,
     rule: 0,
     index: 0,
@@ -209,24 +212,26 @@ fn of_refused(reason: WhyRefused) -> EmReason
             address: u64::from(offset),
             ..by(Rule::NoRegister)
         },
-        WhyRefused::Range { at, octets, memory } => EmReason {
-            address: at,
-            octets,
-            memory,
-            ..by(Rule::WriteRange)
-        },
+        WhyRefused::Range { at, octets, memory } => {
+            let reason = EmReason {
+                address: at,
+                octets,
+                ..by(Rule::WriteRange)
+            };
+            in_memory(memory, reason)
+        }
         WhyRefused::WriteLength { octets } => sized(Rule::WriteLength, octets, 0),
         WhyRefused::FrameLength { octets } => sized(Rule::FrameLength, octets, 0),
         WhyRefused::RxDescriptor { index, at, memory } => {
-            outside(Rule::RxDescriptor, index, at, memory)
+            in_memory(memory, of_descriptor(Rule::RxDescriptor, index, at))
         }
         WhyRefused::TxDescriptor { index, at, memory } => {
-            outside(Rule::TxDescriptor, index, at, memory)
+            in_memory(memory, of_descriptor(Rule::TxDescriptor, index, at))
         }
-        WhyRefused::Extended { index, at } => outside(Rule::TxExtended, index, at, 0),
+        WhyRefused::Extended { index, at } => of_descriptor(Rule::TxExtended, index, at),
         WhyRefused::TooLong { index, at, octets } => EmReason {
             octets: u64::from(octets),
-            ..outside(Rule::TxTooLong, index, at, 0)
+            ..of_descriptor(Rule::TxTooLong, index, at)
         },
         WhyRefused::RxBuffer {
             index,
@@ -235,40 +240,55 @@ fn of_refused(reason: WhyRefused) -> EmReason
             size,
             frame,
             memory,
-        } => EmReason {
-            buffer,
-            octets: frame,
-            most: u64::from(size),
-            ..outside(Rule::RxBuffer, index, at, memory)
-        },
+        } => {
+            let reason = EmReason {
+                buffer,
+                octets: frame,
+                most: u64::from(size),
+                ..of_descriptor(Rule::RxBuffer, index, at)
+            };
+            in_memory(memory, reason)
+        }
         WhyRefused::TxBuffer {
             index,
             at,
             buffer,
             octets,
             memory,
-        } => EmReason {
-            buffer,
-            octets: u64::from(octets),
-            ..outside(Rule::TxBuffer, index, at, memory)
-        },
+        } => {
+            let reason = EmReason {
+                buffer,
+                octets: u64::from(octets),
+                ..of_descriptor(Rule::TxBuffer, index, at)
+            };
+            in_memory(memory, reason)
+        }
         WhyRefused::Memory => by(Rule::Memory),
     }
 }
 
-/// By a rule that went by a descriptor, and in a guest memory of so many octets.
-fn outside(rule: Rule, index: u32, at: u128, memory: u64) -> EmReason
+/// By a rule that went by a descriptor.
+fn of_descriptor(rule: Rule, index: u32, at: u128) -> EmReason
     ensures { result ≡ record the.blank {
       rule = number_of rule;
       index = index;
       address = address_told at;
-      memory = memory;
     } }
 {
     EmReason {
         index,
         address: address_told(at),
-        memory,
         ..by(rule)
+    }
+}
+
+/// Where something leaves guest memory, which lies there.
+fn in_memory(memory: Bounds, reason: EmReason) -> EmReason
+    ensures { result ≡ the.in_memory memory reason }
+{
+    EmReason {
+        base: memory.base,
+        memory: memory.end.saturating_sub(memory.base),
+        ..reason
     }
 }

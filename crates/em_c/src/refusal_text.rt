@@ -72,8 +72,7 @@ fn text_of(refused: Refused) -> &'static str
         Refused::Budget => "Budget: the budget lies outside 65,536 to 16,777,216",
         Refused::NoMachine => "NotMade: the handle holds no machine",
         Refused::HasMachine => "MadeAlready: the handle holds a machine already",
-        Refused::Size =>
-            "Size: guest memory has a multiple of 4,096 octets, from 4,096 to 16,777,216",
+        Refused::Size => "Size: guest memory can not have that size, or not lie there",
         Refused::NoFrame => "NoFrame: so many frames were not sent",
         Refused::Room => "Room: there is no room for what is told",
         Refused::NoEvent => "NoEvent: the journal does not hold so many events",

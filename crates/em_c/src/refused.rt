@@ -31,7 +31,7 @@ pub enum Refused {
     NoMachine = 26,
     /// The handle holds a machine already.
     HasMachine = 27,
-    /// The size of guest memory is no multiple of 4,096 from 4,096 to 16,777,216.
+    /// Guest memory can not have that size, or not lie there.
     Size = 28,
     /// So many frames were not sent.
     NoFrame = 29,

@@ -1,12 +1,12 @@
 //! Guest memory and the caller's own memory are made the same.
-ghost use Rattle.std.specs.Prelude.{◌≡◌, ◌+◌, ◌^◌, ◌≤◌, ◌<◌, length, IfOk, IfErr, OnOk, OnErr};
-ghost use Rattle.em_mem.specs.Memory.{IsHeld, part, put};
+ghost use Rattle.std.specs.Prelude.{◌≡◌, ◌+◌, ◌≤◌, ◌<◌, length, IfOk, IfErr, OnOk, OnErr};
+ghost use Rattle.em_mem.specs.Memory.{LiesIn, part, put};
 ghost use Rattle.em_step.specs.Event.{pokes};
 ghost use Rattle.em_step.specs.Step.{Refuses};
 ghost use Rattle.em_step.specs.declared.refusal.Refusal.TheVariants as event;
 ghost use Rattle.em_c.specs.Refused.{number, told, Shows};
 ghost use Rattle.em_c.specs.Looks.{asked, whole_memory};
-ghost use Rattle.em_c.specs.Tagged.{present_of};
+ghost use Rattle.em_c.specs.Tagged.{Holds, present_of};
 ghost use Rattle.em_c.specs.Sync.{memory_of, PerformsOne, Rewrites, Syncs, SyncsIn};
 
 use crate::difference::{copy_changed, same_at_head, up_to_last};
@@ -14,6 +14,7 @@ use crate::handle::EmMachine;
 use crate::refused::{Refused, number};
 use crate::tagged::Tagged;
 use em_journal::Machine;
+use em_journal::laws::addresses_are_small;
 use em_step::Event;
 use std::alloc::Global;
 
@@ -53,27 +54,27 @@ fn copy_whole(machine: &Machine, ram: &mut [u8]) -> Result<(), Refused>
     if machine.memory_size() != ram.len() as u64 {
         return Err(Refused::Length);
     }
-    copy_pages(machine, 0, ram);
+    copy_pages(machine, machine.memory_base(), ram);
     Ok(())
 }
 
 /// Copies out what differs from an address on, page by page.
-pub fn copy_pages(machine: &Machine, from: usize, ram: &mut [u8])
-    requires held { IsHeld machine.now.present.memory from (length ram.old) }
-    requires fits { from + length ram.old < 2 ^ 64 }
+pub fn copy_pages(machine: &Machine, from: u64, ram: &mut [u8])
+    requires { LiesIn machine.now.present.base machine.now.present.memory from (length ram.old) }
     ensures { ram.new ≡ part machine.now.present.memory from (length ram.old) }
 {
+    addresses_are_small(machine);
     let mut at = 0usize;
     while at < ram.len() {
         let end = at + PAGE.min(ram.len() - at);
-        copy_page(machine, from + at, &mut ram[at..end]);
+        copy_page(machine, from + at as u64, &mut ram[at..end]);
         at = end;
     }
 }
 
 /// Copies out what differs in a page.
-fn copy_page(machine: &Machine, at: usize, ram: &mut [u8])
-    requires held { IsHeld machine.now.present.memory at (length ram.old) }
+fn copy_page(machine: &Machine, at: u64, ram: &mut [u8])
+    requires held { LiesIn machine.now.present.base machine.now.present.memory at (length ram.old) }
     requires most { length ram.old ≤ PAGE }
     ensures { ram.new ≡ part machine.now.present.memory at (length ram.old) }
 {
@@ -87,11 +88,11 @@ fn copy_page(machine: &Machine, at: usize, ram: &mut [u8])
 }
 
 /// Copies octets of guest memory out.
-fn read(machine: &Machine, at: usize, out: &mut [u8])
-    requires { IsHeld machine.now.present.memory at (length out.old) }
+fn read(machine: &Machine, at: u64, out: &mut [u8])
+    requires { LiesIn machine.now.present.base machine.now.present.memory at (length out.old) }
     ensures { out.new ≡ part machine.now.present.memory at (length out.old) }
 {
-    match machine.peek(at as u64, out) {
+    match machine.peek(at, out) {
         Ok(()) => {}
         Err(_) => unreachable!(),
     }
@@ -129,14 +130,16 @@ fn sync_in(machine: &mut Tagged, ram: &[u8], writes: &mut usize) -> Result<(), R
 
 /// Makes guest memory what the caller's memory is, page by page.
 fn sync_pages(machine: &mut Tagged, ram: &[u8], writes: &mut usize) -> Result<(), Refused>
-    requires { length (memory_of machine.old) ≡ length ram.now }
+    requires { (present_of machine.old).base + length ram.now ≡ length (memory_of machine.old) }
     ensures { Syncs machine.old ram.now writes.old result writes.new machine.new }
 {
+    let base = machine.traced.machine().memory_base();
     let mut count = 0usize;
     let mut at = 0usize;
     while at < ram.len() {
+        addresses_are_small(machine.traced.machine());
         let end = at + PAGE.min(ram.len() - at);
-        match sync_page(machine, at, &ram[at..end]) {
+        match sync_page(machine, base + at as u64, &ram[at..end]) {
             Ok(more) => {
                 count += more;
                 at = end;
@@ -152,9 +155,8 @@ fn sync_pages(machine: &mut Tagged, ram: &[u8], writes: &mut usize) -> Result<()
 }
 
 /// Makes a page of guest memory what it is in the caller's memory; gives how many writes that took: one, or none.
-pub fn sync_page(machine: &mut Tagged, at: usize, new: &[u8]) -> Result<usize, Refused>
-    requires held { IsHeld (memory_of machine.old) at (length new.now) }
-    requires fits { at + length new.now < 2 ^ 64 }
+pub fn sync_page(machine: &mut Tagged, at: u64, new: &[u8]) -> Result<usize, Refused>
+    requires held { Holds machine.old at (length new.now) }
     requires most { length new.now ≤ PAGE }
     ensures { Rewrites machine.old at new.now result machine.new }
 {
@@ -164,14 +166,8 @@ pub fn sync_page(machine: &mut Tagged, at: usize, new: &[u8]) -> Result<usize, R
 
 /// Makes octets of guest memory what they are in the caller's memory; gives how many writes that took: one, or none. What
 /// was there goes into `old`.
-pub fn rewrite(
-    machine: &mut Tagged,
-    at: usize,
-    new: &[u8],
-    old: &mut [u8],
-) -> Result<usize, Refused>
-    requires held { IsHeld (memory_of machine.old) at (length new.now) }
-    requires fits { at + length new.now < 2 ^ 64 }
+pub fn rewrite(machine: &mut Tagged, at: u64, new: &[u8], old: &mut [u8]) -> Result<usize, Refused>
+    requires held { Holds machine.old at (length new.now) }
     requires most { length new.now ≤ MOST }
     requires room { length old.old ≡ length new.now }
     ensures { Rewrites machine.old at new.now result machine.new }
@@ -183,24 +179,26 @@ pub fn rewrite(
     let first = same_at_head(old, new);
     let last = up_to_last(old, new);
     let run = &new[first..last];
-    match write(machine, at + first, run) {
+    addresses_are_small(machine.traced.machine());
+    match write(machine, at + first as u64, run) {
         Ok(()) => Ok(1),
         Err(refused) => Err(refused),
     }
 }
 
 /// Writes octets to guest memory.
-fn write(machine: &mut Tagged, at: usize, octets: &[u8]) -> Result<(), Refused>
-    requires held { IsHeld (memory_of machine.old) at (length octets.now) }
+fn write(machine: &mut Tagged, at: u64, octets: &[u8]) -> Result<(), Refused>
+    requires held { Holds machine.old at (length octets.now) }
     requires some { 0 < length octets.now }
     requires most { length octets.now ≤ MOST }
     ensures performs { OnOk result (PerformsOne (pokes at octets.now) machine.old machine.new) }
+    ensures base { OnOk result ((present_of machine.new).base ≡ (present_of machine.old).base) }
     ensures memory { OnOk result (memory_of machine.new ≡ put (memory_of machine.old) at octets.now) }
     ensures wanting { OnErr result (Refuses (present_of machine.old) (pokes at octets.now) event.Memory) }
     ensures only { IfErr result (λ refused. refused ≡ Refused.Memory) }
     ensures same { OnErr result (machine.new ≡ machine.old) }
 {
-    match machine.perform(Event::Poke(at as u64, octets)) {
+    match machine.perform(Event::Poke(at, octets)) {
         Ok(_) => Ok(()),
         Err(_) => Err(Refused::Memory),
     }

@@ -1,12 +1,13 @@
 //! A range of guest memory and of the caller's own memory are made the same.
-ghost use Rattle.std.specs.Prelude.{◌≡◌, ◌+◌, ◌^◌, ◌≤◌, ◌<◌, length};
-ghost use Rattle.em_mem.specs.Memory.{IsHeld, part};
+ghost use Rattle.std.specs.Prelude.{◌≡◌, ◌≤◌, length};
 ghost use Rattle.em_c.specs.Refused.{number, told, Shows};
 ghost use Rattle.em_c.specs.Looks.{asked, octets_at};
-ghost use Rattle.em_c.specs.Sync.{memory_of, Rewrites};
+ghost use Rattle.em_c.specs.Sync.{Rewrites};
 ghost use Rattle.em_c.specs.SyncRange.{SyncsRange, SyncsRangeIn};
+ghost use Rattle.em_c.specs.Tagged.{Holds};
 
 use crate::handle::EmMachine;
+use crate::memory::leaves;
 use crate::refused::{Refused, number, tell};
 use crate::sync::{MOST, PAGE, copy_pages, rewrite, sync_page};
 use crate::tagged::Tagged;
@@ -74,11 +75,10 @@ fn copy_range(machine: &Machine, addr: u64, out: &mut [u8]) -> Result<(), Refuse
     ensures outcome { number result ≡ number (octets_at addr (length out.old) machine.now) }
     ensures octets { out.new ≡ told out.old (octets_at addr (length out.old) machine.now) }
 {
-    let size = machine.memory_size();
-    if addr > size || out.len() as u64 > size - addr {
+    if leaves(machine, addr, out.len()) {
         return Err(Refused::Range);
     }
-    copy_pages(machine, addr as usize, out);
+    copy_pages(machine, addr, out);
     Ok(())
 }
 
@@ -86,20 +86,18 @@ fn copy_range(machine: &Machine, addr: u64, out: &mut [u8]) -> Result<(), Refuse
 fn sync_in(machine: &mut Tagged, addr: u64, octets: &[u8]) -> Result<usize, Refused>
     ensures { SyncsRange machine.old addr octets.now result machine.new }
 {
-    let size = machine.traced.machine().memory_size();
-    if addr > size || octets.len() as u64 > size - addr {
+    if leaves(machine.traced.machine(), addr, octets.len()) {
         return Err(Refused::Range);
     }
     if octets.len() > MOST {
         return Err(Refused::Length);
     }
-    sync_held(machine, addr as usize, octets)
+    sync_held(machine, addr, octets)
 }
 
 /// The same of octets that lie in guest memory.
-fn sync_held(machine: &mut Tagged, at: usize, new: &[u8]) -> Result<usize, Refused>
-    requires held { IsHeld (memory_of machine.old) at (length new.now) }
-    requires fits { at + length new.now < 2 ^ 64 }
+fn sync_held(machine: &mut Tagged, at: u64, new: &[u8]) -> Result<usize, Refused>
+    requires held { Holds machine.old at (length new.now) }
     requires most { length new.now ≤ MOST }
     ensures { Rewrites machine.old at new.now result machine.new }
 {
@@ -116,9 +114,8 @@ fn sync_held(machine: &mut Tagged, at: usize, new: &[u8]) -> Result<usize, Refus
 
 /// The same of as many octets as a memory write can have.
 #[inline(never)]
-fn sync_most(machine: &mut Tagged, at: usize, new: &[u8]) -> Result<usize, Refused>
-    requires held { IsHeld (memory_of machine.old) at (length new.now) }
-    requires fits { at + length new.now < 2 ^ 64 }
+fn sync_most(machine: &mut Tagged, at: u64, new: &[u8]) -> Result<usize, Refused>
+    requires held { Holds machine.old at (length new.now) }
     requires most { length new.now ≤ MOST }
     ensures { Rewrites machine.old at new.now result machine.new }
 {

@@ -1,9 +1,12 @@
 //! Who changed this last?
-ghost use Rattle.std.specs.Prelude.{◌≡◌, ◌⊎◌, ◌+◌, ◌<◌, ◌≤◌, IfOk, IfErr};
+ghost use Rattle.std.specs.Prelude.{◌≡◌, ◌⊎◌, ◌<◌, ◌≤◌, IsTrue, IfOk, IfErr};
+ghost use Rattle.em_mem.specs.Memory.{LiesIn, leaves};
 ghost use Rattle.em_c.specs.Watch.{IsWatch, IsNoWatch, change_of, octets_of, value_of, FindsChange};
 
 use crate::handle::EmMachine;
+use crate::memory::leaves;
 use crate::refused::{DONE, Refused};
+use em_journal::Machine;
 use em_regs::Reg;
 use em_watch::{Change, MemoryRange, Sight, Watch};
 use std::alloc::Global;
@@ -53,7 +56,7 @@ pub extern "C" fn em_last_change(
         Ok(held) => held,
         Err(refused) => return refused.number(),
     };
-    let watched = watch_of(*watch, held.traced.machine().memory_size());
+    let watched = watch_of(*watch, held.traced.machine());
     let found = match watched {
         Ok(watch) => em_watch::last_change(held.traced.machine(), watch),
         Err(_) => None,
@@ -69,17 +72,17 @@ pub extern "C" fn em_last_change(
     }
 }
 
-/// What a caller watches in guest memory of so many octets, or why it is nothing.
-fn watch_of(watch: EmWatch, size: u64) -> Result<Watch, Refused>
-    ensures ok { IfOk result (IsWatch watch size) }
-    ensures err { IfErr result (IsNoWatch watch size) }
+/// What a caller watches of a machine, or why it is nothing.
+fn watch_of(watch: EmWatch, machine: &Machine) -> Result<Watch, Refused>
+    ensures ok { IfOk result (IsWatch watch machine.now.present) }
+    ensures err { IfErr result (IsNoWatch watch machine.now.present) }
 {
     match watch.kind {
         1 => match Reg::of_offset(watch.offset) {
             Some(reg) => Ok(Watch::Register(reg)),
             None => Err(Refused::NoRegister),
         },
-        2 => octets_watch(watch.address, watch.octets, size),
+        2 => octets_watch(watch.address, watch.octets, machine),
         3 => Ok(Watch::Line),
         4 => Ok(Watch::Link),
         5 => Ok(Watch::Frames),
@@ -88,18 +91,19 @@ fn watch_of(watch: EmWatch, size: u64) -> Result<Watch, Refused>
     }
 }
 
-/// So many octets from an address on, in guest memory of that size.
-fn octets_watch(address: u64, octets: usize, size: u64) -> Result<Watch, Refused>
+/// So many octets from an address on, in guest memory.
+fn octets_watch(address: u64, octets: usize, machine: &Machine) -> Result<Watch, Refused>
     ensures ok { IfOk result (λ watch. (range : MemoryRange) × (watch ≡ Watch.Octets range) × (range.addr ≡ address)
-        × (range.len ≡ octets) × (range.addr + range.len ≤ size)) }
+        × (range.len ≡ octets) × LiesIn machine.now.present.base machine.now.present.memory address octets) }
     ensures err { IfErr result (λ refused.
         ((refused ≡ Refused.Length) × ((octets ≡ 0) ⊎ (16 < octets)))
-        ⊎ ((refused ≡ Refused.Range) × (0 < octets) × (octets ≤ 16) × (size < address + octets))) }
+        ⊎ ((refused ≡ Refused.Range) × (0 < octets) × (octets ≤ 16)
+        × IsTrue (leaves machine.now.present.base machine.now.present.memory address octets))) }
 {
     let Some(range) = MemoryRange::new(address, octets) else {
         return Err(Refused::Length);
     };
-    if address > size || octets as u64 > size - address {
+    if leaves(machine, address, octets) {
         return Err(Refused::Range);
     }
     Ok(Watch::Octets(range))

@@ -19,7 +19,8 @@ Options:
       --all-known    With --compare: show those that differ for a known cause, too
       --pcap <FILE>  Write the frames that were sent to this file at the end, as a capture
   -x <COMMANDS>      Take what is typed from this file
-      --memory <N>   Octets of guest memory: a multiple of 4096 up to 16777216 [default: 65536]
+      --memory <N>   Octets of guest memory, a multiple of 4096; K, M or G may stand behind N [default: 65536]
+      --base <HEX>   The address of the first of them, a multiple of 4096 [default: 0]
       --budget <N>   Octets that the journal's records may cost together: from 65536 to 16777216 [default: 1048576]
       --mac <HEX12>  The adapter's Ethernet address, octet 0 first; colons may stand in it [default: 525400123456]
   -h, --help         Print help

@@ -13,7 +13,6 @@ mod compare;
 mod disk;
 mod faults;
 mod files;
-mod head;
 mod help;
 mod marks;
 mod session;
@@ -23,7 +22,6 @@ use crate::compare::{Wanted, compare};
 use crate::disk::Host;
 use crate::faults::{NO_MEMORY, bench_text, console_fault, open_fault, see_commands};
 use crate::files::{file_fault, read_script, tell_bad_lines, tell_marks};
-use crate::head::{Head, has_own_eeprom, head_of, settings_of, without_torn_line};
 use crate::help::{HELP, VERSION};
 use crate::marks::Marks;
 use crate::session::Served;
@@ -32,7 +30,7 @@ use anyhow::{Result, bail};
 use em_console::{Answers, Console, LineConsole, prompt_for, serve};
 use em_debugger::{Added, Debugger, Disk, Score};
 use em_ending::Ending;
-use em_input::{BUDGETS, MACS, SIZES};
+use em_input::{BASES, BUDGETS, Head, MACS, SIZES, take_head};
 use em_journal::{Settings, SettingsRefusal};
 use em_options::{Options, OptionsRefused, options};
 use em_script::BenchFault;
@@ -78,6 +76,7 @@ fn debug<R: Env + Files + Input + Print + Eprint + AllocGlobal>(rt: &R, prompt: 
             let _ = eprintln!(rt; "em_debug: {option} stands twice");
             REFUSED
         }
+        Err(WordsRefused::NoBase) => refused(rt, BASES),
     }
 }
 
@@ -86,7 +85,7 @@ fn with_words<R: Files + Input + Print + Eprint + AllocGlobal>(
     words: &Words,
     prompt: &[u8],
 ) -> u8 {
-    let asked = options(rt.alloc(), words.options.as_slice());
+    let asked = options(rt.alloc(), words.machine.options.as_slice());
     match (words.asked, asked) {
         // what is wrong before a word that asks for help is told first
         (_, Err(OptionsRefused::Parser(error))) => {
@@ -153,14 +152,9 @@ impl<'a> Script<'a> {
         let mut read = read_script(rt, name);
         let mut head = None;
         if let Ok(text) = &mut read {
-            head = head_of(rt.alloc(), text.as_slice()).unwrap_or_default();
-            if head.is_some() {
-                without_torn_line(text);
-                if has_own_eeprom(text.as_slice()) {
-                    let _ = eprintln!(rt;
-                        "em_debug: {name}: line 2: the EEPROM's words are not taken"
-                    );
-                }
+            head = take_head(rt.alloc(), text).unwrap_or_default();
+            if head.is_some_and(|head| head.has_eeprom) {
+                let _ = eprintln!(rt; "em_debug: {name}: line 2: the EEPROM's words are not taken");
             }
         }
         Script {
@@ -187,7 +181,7 @@ fn with_options<R: Files + Input + Print + Eprint + AllocGlobal>(
         Err(_) => return failed(rt, NO_MEMORY),
     }
     let script = Script::read(rt, options.script);
-    let settings = settings_of(words, options, script.head);
+    let settings = words.machine.settings(options.settings(), script.head);
     match Debugger::new(rt.alloc(), settings) {
         Ok(debugger) => {
             let mut served = Served {
@@ -213,13 +207,19 @@ fn with_options<R: Files + Input + Print + Eprint + AllocGlobal>(
 
 /// Says why there is no machine, and gives the status.
 fn without_machine<R: Eprint>(rt: &R, settings: Settings, refusal: SettingsRefusal) -> u8 {
+    let Settings {
+        base,
+        memory,
+        budget,
+        ..
+    } = settings;
     match refusal {
         SettingsRefusal::Size => {
-            let _ = eprintln!(rt; "em_debug: --memory {}: {SIZES}", settings.memory);
+            let _ = eprintln!(rt; "em_debug: --memory {memory} --base {base:X}: {SIZES}");
             REFUSED
         }
         SettingsRefusal::Budget => {
-            let _ = eprintln!(rt; "em_debug: --budget {}: {BUDGETS}", settings.budget);
+            let _ = eprintln!(rt; "em_debug: --budget {budget}: {BUDGETS}");
             REFUSED
         }
         SettingsRefusal::Memory => failed(rt, NO_MEMORY),
@@ -306,6 +306,7 @@ fn with_session<R: Files + Input + Print + Eprint + AllocGlobal>(
         if !matches!(added, Ok(Added { are_read: true, .. })) {
             bad = tell_bad_lines(rt, name, script.as_slice())?;
         }
+        drop(script);
         if words.batch || words.compare {
             let known = play(rt, served, words, added)?;
             return Ok(Found { bad, known });

@@ -1,7 +1,7 @@
 //! Which typed lines were wrong.
 
-use em_expect::expectation;
 use em_input::write_wrong_of;
+use em_line::parts_of;
 use em_prompt::{Typed, Wrong, prompted};
 use em_text::{WriteFailed, write_whole};
 use itoa::Buffer;
@@ -67,9 +67,9 @@ fn wrong_in(line: &[u8]) -> Option<Wrong<'_>> {
     if line.len() >= MOST_TYPED {
         return None;
     }
-    let asked = expectation(line);
-    if asked.answer.is_some() && asked.line.len() < MOST_TYPED {
-        if let Ok(Typed::Line(_)) = prompted(asked.line) {
+    let parts = parts_of(line);
+    if parts.expected.is_some() && parts.said.len() < MOST_TYPED {
+        if let Ok(Typed::Line(_)) = prompted(parts.said) {
             return None;
         }
     }

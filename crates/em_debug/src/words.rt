@@ -1,6 +1,6 @@
 //! The words of the command line.
 
-use em_input::without_colons;
+use em_input::{MachineWords, WordRefused};
 use std::alloc::{AllocError, Global};
 use std::rt::Env;
 use std::{env, io};
@@ -19,8 +19,8 @@ pub enum Asked {
 /// The words, told apart.
 #[derive(Drop)]
 pub struct Words {
-    /// The program's name, and the words that are em_bench's too.
-    pub options: Vec<String>,
+    /// The words that say what the machine is made of.
+    pub machine: MachineWords,
     /// Whether the script is only loaded at first.
     pub step: bool,
     /// Whether the script is listed, and nothing is asked for.
@@ -49,6 +49,8 @@ pub enum WordsRefused {
     NoFile(&'static str),
     /// This option stands twice.
     Twice(&'static str),
+    /// No address stands behind `--base`.
+    NoBase,
 }
 
 impl From<AllocError> for WordsRefused {
@@ -57,11 +59,21 @@ impl From<AllocError> for WordsRefused {
     }
 }
 
+impl From<WordRefused> for WordsRefused {
+    fn from(refused: WordRefused) -> WordsRefused {
+        match refused {
+            WordRefused::Base => WordsRefused::NoBase,
+            WordRefused::TwoBases => WordsRefused::Twice("--base"),
+            WordRefused::Memory => WordsRefused::Memory,
+        }
+    }
+}
+
 impl Words {
     /// Reads the words of the command line, up to one that asks for help or the version.
     pub fn read<R: Env + AllocGlobal>(rt: &R) -> Result<Words, WordsRefused> {
         let mut words = Words {
-            options: Vec::new(rt.alloc()),
+            machine: MachineWords::new(rt.alloc()),
             step: false,
             batch: false,
             compare: false,
@@ -84,6 +96,7 @@ impl Words {
         match before {
             Before::Commands => Err(WordsRefused::NoFile("-x")),
             Before::Capture => Err(WordsRefused::NoFile("--pcap")),
+            _ if words.machine.lacks_base() => Err(WordsRefused::NoBase),
             _ => Ok(words),
         }
     }
@@ -98,12 +111,11 @@ impl Words {
         match before {
             Before::Commands => self.take_commands(word)?,
             Before::Capture => self.take_capture(word)?,
-            Before::Mac => self.put(without_colons(alloc, word.as_str())?)?,
-            Before::Value => self.put(word)?,
             Before::Scripts => {
-                self.put(word)?;
+                self.machine.take(alloc, word)?;
                 return Ok(Before::Scripts);
             }
+            Before::Other if self.machine.awaits_value() => self.machine.take(alloc, word)?,
             Before::Other => return self.take_option(alloc, word),
         }
         Ok(Before::Other)
@@ -121,53 +133,16 @@ impl Words {
             "--all-known" => set(&mut self.all_known, "--all-known")?,
             "-h" | "--help" => self.asked = Asked::Help,
             "-V" | "--version" => self.asked = Asked::Version,
-            "--mac" => {
-                self.put(word)?;
-                return Ok(Before::Mac);
-            }
-            "--memory" | "--budget" => {
-                self.put(word)?;
-                return Ok(Before::Value);
-            }
             "--" => {
-                self.put(word)?;
+                self.machine.take(alloc, word)?;
                 return Ok(Before::Scripts);
             }
-            text => return self.take_other(alloc, text),
+            text => match text.strip_prefix("--pcap=") {
+                Some(name) => self.take_capture(String::from_str(alloc, name)?)?,
+                None => self.machine.take(alloc, word)?,
+            },
         }
         Ok(Before::Other)
-    }
-
-    /// Takes a word that has its option's value in it, or is em_bench's.
-    fn take_other(&mut self, alloc: Global, text: &str) -> Result<Before, WordsRefused> {
-        if let Some(name) = text.strip_prefix("--pcap=") {
-            self.take_capture(String::from_str(alloc, name)?)?;
-        } else if text.starts_with("--mac=") {
-            self.put(without_colons(alloc, text)?)?;
-        } else {
-            self.put(String::from_str(alloc, text)?)?;
-        }
-        Ok(Before::Other)
-    }
-
-    /// Whether one of the words is this option, with its value behind it or in it.
-    pub fn says(&self, option: &str) -> bool {
-        for word in self.options.iter() {
-            if word.as_str() == "--" {
-                return false;
-            }
-            if let Some(behind) = word.as_str().strip_prefix(option) {
-                if behind.is_empty() || behind.starts_with("=") {
-                    return true;
-                }
-            }
-        }
-        false
-    }
-
-    fn put(&mut self, word: String) -> Result<(), AllocError> {
-        self.options.push(word)?;
-        Ok(())
     }
 
     fn take_commands(&mut self, word: String) -> Result<(), WordsRefused> {
@@ -248,10 +223,6 @@ enum Before {
     Commands,
     /// `--pcap`, which a file follows.
     Capture,
-    /// `--mac`, which an address follows.
-    Mac,
-    /// Another option, which a value follows.
-    Value,
     /// `--`, behind which each word is a script.
     Scripts,
     Other,

@@ -14,7 +14,6 @@ use Rattle.em_text.proofs.WritingLemmas.{Appends-more}
 use Rattle.em_text.proofs.LinesLemmas.{lines_of-nil}
 use Rattle.em_tape.specs.Tape.{Tape}
 use Rattle.em_tape.proofs.TapeLaws.{take-more}
-use Rattle.em_debugger.specs.declared.files.Added.{Added}
 use Rattle.em_debugger.specs.Files.{SomeAdded, added_of, are_read, played_in, reads, script_of}
 use Rattle.em_debugger.specs.Place.{line_here, text_of}
 use Rattle.em_debugger.specs.Marks.{marked_in}

@@ -17,7 +17,7 @@ use Rattle.em_tape.specs.Tape.{Tape, event_of}
 use Rattle.em_named.specs.declared.did.Did.{Did}
 use Rattle.em_debugger.specs.declared.debugger.Debugger.{Debugger}
 use Rattle.em_debugger.specs.History.{Opens, ShowsLines, ahead_text, opened, opened_text, opens_more, opens_none, so_far_text}
-use Rattle.em_debugger.specs.History.{did_something, newest_line, lines_between, last_of, line_text, lines_text}
+use Rattle.em_debugger.specs.History.{did_something, line_opened, newest_line, lines_between, last_of, line_text, lines_text}
 
 -- ---- the newest line
 
@@ -228,14 +228,19 @@ OpensSo-end tape here from to old new is h = (h.text, h.written, subst (λ n. Op
 
 -- the lines, and the events of a call among them
 pub around_shown : {T E : Type 0} (first a b last : Option (List ℕ)) (result : Result T E) (d : Debugger)
-    (most here events : ℕ) → events ≡ opened most d.tape here → Appends first a (so_far_text d most here)
-    → ((text : List ℕ) × Appends a b text × Opens d.tape here events 0 text)
+    (most here line events : ℕ) → line ≡ line_opened d.tape → events ≡ opened most d.tape line
+    → Appends first a (so_far_text d most here) → ((text : List ℕ) × Appends a b text × Opens d.tape line events 0 text)
     → Writes b last result (ahead_text d most here)
     → OnOk result ((text : List ℕ) × Appends first last text × ShowsLines d most here text)
-around_shown first a b last (Ok x) d most here events is front events_shown ahead = (
+around_shown first a b last (Ok x) d most here line events at is front events_shown ahead = (
   so_far_text d most here ++ (events_shown.0 ++ ahead_text d most here),
   Appends-more first a last (so_far_text d most here) (events_shown.0 ++ ahead_text d most here) _ front
       (Appends-more a b last events_shown.0 (ahead_text d most here) _ events_shown.1 ahead refl) refl,
-  record { events = events_shown.0; opens = subst (λ n. Opens d.tape here n 0 events_shown.0) is events_shown.2; told = refl },
+  record {
+    events = events_shown.0;
+    opens = subst (λ l. Opens d.tape l (opened most d.tape l) 0 events_shown.0) at
+        (subst (λ n. Opens d.tape line n 0 events_shown.0) is events_shown.2);
+    told = refl;
+  },
 )
-around_shown first a b last (Err x) d most here events is front events_shown ahead = tt
+around_shown first a b last (Err x) d most here line events at is front events_shown ahead = tt

@@ -1,6 +1,7 @@
 pub mod AccessedLaws
 pub mod AddingLaws
 pub mod AnsweringLaws
+pub mod AskedLaws
 pub mod BeginningLaws
 pub mod CameLaws
 pub mod DeeperLaws
@@ -20,6 +21,7 @@ pub mod OffersLaws
 pub mod PerformingLaws
 pub mod PlaceLaws
 pub mod PlayedLaws
+pub mod ReadingLaws
 pub mod RefusedLaws
 pub mod SavedLaws
 pub mod SendingLaws

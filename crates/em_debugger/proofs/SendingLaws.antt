@@ -1,5 +1,5 @@
 -- What is kept of lines that sent frames.
-use Rattle.std.proofs.Common.{◌≡◌, ◌∙◌, ◌+◌, ◌<◌, ◌≤◌, ℕ, zero, suc, List, [], ◌∷◌, ◌++◌, length, get_or, refl, ap, sym}
+use Rattle.std.proofs.Common.{◌≡◌, ◌∙◌, ◌<◌, ℕ, zero, suc, List, [], ◌∷◌, ◌++◌, length, get_or, refl, ap}
 use Rattle.std.proofs.Common.{arith}
 use Rattle.std.specs.Prelude.{◌≢◌, Bool, true, false, nat_lt, if◌then◌else◌, slice_set, Option, Some, None}
 use Rattle.em_debugger.specs.Sending.{KeepsFirst, PutsFirst, StaysSent, first_of, first_sent}

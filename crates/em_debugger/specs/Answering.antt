@@ -5,7 +5,7 @@ use Rattle.em_console.specs.declared.session.Flow.{Flow}
 use Rattle.em_console.specs.declared.session.Flow.TheVariants.{Goes, Ends}
 use Rattle.em_looks.specs.Frames.{waiting_text, sent_text}
 use Rattle.em_looks.specs.Views.{register_text, ring_text, memory_text}
-use Rattle.em_expect.specs.Expectation.{said_in}
+use Rattle.em_line.specs.Parts.{said_in}
 use Rattle.em_prompt.specs.BenchLine.{BenchLine}
 use Rattle.em_prompt.specs.Help.{line_of, help_text}
 use Rattle.em_prompt.specs.Prompt.{Wrong, prompted}

@@ -1,8 +1,7 @@
 -- Comparing the answers of a script with those that its lines expect.
 use Rattle.std.specs.Prelude.{◌≡◌, ℕ, ◌-◌, min, Bool, if◌then◌else◌, List, [], ◌++◌, length, Option, Some, None}
 use Rattle.em_regs.specs.declared.reg.Reg.{Reg}
-use Rattle.em_text.specs.Words.{words_of}
-use Rattle.em_expect.specs.Difference.{register_read}
+use Rattle.em_expect.specs.Difference.{register_of}
 use Rattle.em_named.specs.Numbers.{end_of}
 use Rattle.em_script.specs.declared.outcome.Outcome.{Outcome}
 use Rattle.em_script.specs.declared.outcome.Outcome.TheVariants.{Answered}
@@ -19,7 +18,7 @@ use Rattle.em_debugger.specs.declared.stops.Ran.TheVariants as ran
 use Rattle.em_debugger.specs.declared.stops.Stop.TheVariants as stop
 use Rattle.em_debugger.specs.Departures.{departure_text}
 use Rattle.em_debugger.specs.Performing.{ShowsPerformed}
-use Rattle.em_debugger.specs.Place.{text_of}
+use Rattle.em_debugger.specs.Reading.{access_said}
 use Rattle.em_debugger.specs.Stops.{RanSo}
 use Rattle.em_debugger.specs.Who.{TellsNewest}
 
@@ -32,7 +31,7 @@ value_of _ = None
 abbrev pub differing : Performed → Debugger → Differing
 differing p d = record {
   line = p.line;
-  reg = register_read (words_of (text_of p.line d.tape));
+  reg = register_of (access_said p.line d.tape);
   value = value_of p.outcome;
   performed = p;
 }

@@ -2,21 +2,19 @@
 use Rattle.std.specs.Prelude.{◌≡◌, ℕ, ◌+◌, ◌==◌, ◌||◌, nat_lt, Bool, true, false, if◌then◌else◌}
 use Rattle.std.specs.Prelude.{List, codes, insert, length, Option, Some, None}
 use Rattle.em_line.specs.Command.{Command, event}
-use Rattle.em_line.specs.Grammar.{parsed_line}
-use Rattle.em_line.specs.ParsedLine.{command_in}
 use Rattle.em_step.specs.Event.{receives, transmits}
 use Rattle.em_tape.specs.Texts.{texts}
 use Rattle.em_step.specs.State.{State}
 use Rattle.em_script.specs.declared.outcome.Outcome.{Outcome}
 use Rattle.em_script.specs.declared.outcome.Outcome.TheVariants.{Refused}
-use Rattle.em_tape.specs.Tape.{event_of}
+use Rattle.em_tape.specs.Tape.{Tape, event_of}
 use Rattle.em_prompt.specs.declared.typed.Side.{Side}
 use Rattle.em_prompt.specs.declared.typed.Side.TheVariants.{Receive, Transmit}
 use Rattle.em_reasons.specs.RxIdle.{rx_idle}
 use Rattle.em_reasons.specs.TxIdle.{tx_idle}
 use Rattle.em_debugger.specs.declared.debugger.Debugger.{Debugger}
 use Rattle.em_debugger.specs.declared.performing.Performed.{Performed}
-use Rattle.em_debugger.specs.Place.{text_of}
+use Rattle.em_debugger.specs.Reading.{command_said}
 use Rattle.em_debugger.specs.Told.{moved}
 
 -- whether engines run
@@ -54,8 +52,8 @@ step_in (Some (event transmits)) = Some Transmit
 step_in _ = None
 
 -- the engine whose step a line is
-abbrev pub step_of : List ℕ → Option Side
-step_of line = step_in (command_in (parsed_line line))
+abbrev pub step_of : ℕ → Tape → Option Side
+step_of line tape = step_in (command_said line tape)
 
 abbrev pub step_line : Side → List ℕ
 step_line Receive = codes "rx"
@@ -81,8 +79,8 @@ is_refused _ = false
 abbrev pub engine_behind : ℕ → Performed → Debugger → Option Side
 engine_behind before p d =
     if d.engines == 0 || nat_lt d.tape.whole (length d.tape.did) then None else
-    if is_refused p.outcome then behind_refused d.tape.session.machine.present (step_of (text_of p.line d.tape)) else
-    if nat_lt before (event_of d.tape) then behind_step d.tape.session.machine.present (step_of (text_of p.line d.tape))
+    if is_refused p.outcome then behind_refused d.tape.session.machine.present (step_of p.line d.tape) else
+    if nat_lt before (event_of d.tape) then behind_step d.tape.session.machine.present (step_of p.line d.tape)
     else None
 
 -- ---- a step is a line

@@ -1,20 +1,18 @@
 -- The answers that lines expect, and how many were given so.
-use Rattle.std.specs.Prelude.{ℕ, ◌+◌, ◌&&◌, not, Bool, true, false, if◌then◌else◌, List, [], ◌∷◌, Option, None, unwrap_or}
+use Rattle.std.specs.Prelude.{◌≡◌, ℕ, ◌+◌, ◌&&◌, ◌||◌, not, Bool, true, false, if◌then◌else◌, List, [], ◌∷◌, Option, None, unwrap_or}
 use Rattle.em_step.specs.Event.{Event}
-use Rattle.em_line.specs.Grammar.{parsed_line}
-use Rattle.em_line.specs.ParsedLine.{access_in}
+use Rattle.em_line.specs.Parts.{expected_in}
 use Rattle.em_script.specs.Outcome.{event_came}
 use Rattle.em_tape.specs.Texts.{texts}
 use Rattle.em_expect.specs.Agreement.{agrees_of}
 use Rattle.em_expect.specs.Difference.{difference_text, register_of}
-use Rattle.em_expect.specs.Expectation.{expected_in}
 use Rattle.em_debugger.specs.declared.debugger.Debugger.{Debugger}
 use Rattle.em_debugger.specs.declared.expected.Score.{Score}
 use Rattle.em_debugger.specs.Debugger.{came}
-use Rattle.em_debugger.specs.Place.{text_of}
+use Rattle.em_debugger.specs.Reading.{access_said}
 use Rattle.em_debugger.specs.Counted.{counted}
 use Rattle.em_debugger.specs.Told.{KeepsText, KeepsTexts, told_of}
-use Rattle.em_warnings.specs.Warnings.{found_count, found_in}
+use Rattle.em_warnings.specs.Warnings.{found_count, found_of, is_asked}
 use Rattle.em_warnings.specs.declared.warning.Warning.{Warning}
 
 -- the answer that a line expects, by its number; where it expects none, no octet
@@ -35,7 +33,20 @@ differs event wanted answer = is_wanted wanted && not (agrees_of event wanted an
 
 -- the access to a register that a line says, if it says one
 abbrev pub access_of : ℕ → Debugger → Option Event
-access_of line d = access_in (parsed_line (text_of line d.tape))
+access_of line d = access_said line d.tape
+
+-- the rules are asked of a line
+abbrev pub asks_rules : ℕ → Debugger → Bool
+asks_rules line d = d.warns && is_asked (event_came (came line d))
+
+-- the answer that a line expects, or a rule, asks what the line accesses
+abbrev pub asks_access : ℕ → Debugger → Bool
+asks_access line d = is_wanted (wanted line d) || asks_rules line d
+
+-- it is that, where one of them asks
+pub record IsAskedAccess (line : ℕ) (d : Debugger) (access : Option Event) : Type 0 where
+  pub wants : is_wanted (wanted line d) ≡ true → access ≡ access_of line d
+  pub rules : asks_rules line d ≡ true → access ≡ access_of line d
 
 -- the line was answered otherwise than it expects
 abbrev pub answers_otherwise : Debugger → ℕ → Bool
@@ -53,7 +64,7 @@ with_warnings score more = record score { warnings = counted (score.warnings + m
 -- what the rules say of a line, if that is to be said and they are asked
 abbrev pub warned_behind : Debugger → ℕ → Option (List (Option Warning))
 warned_behind d line =
-    if d.warns then found_in d.tape.session.machine (text_of line d.tape) (event_came (came line d)) else None
+    if d.warns then found_of d.tape.session.machine (access_of line d) (event_came (came line d)) else None
 
 -- the answer to a line is counted, where one is expected
 abbrev pub scored_answer : Debugger → ℕ → Score
@@ -63,12 +74,13 @@ scored_answer d line = if is_wanted (wanted line d) then with_answer d.score (an
 abbrev pub scored : Debugger → ℕ → Score
 scored d line = with_warnings (scored_answer d line) (found_count (warned_behind d line))
 
--- how it differs, if it does
+-- how the answer to an event differs from the one that is wanted, if it does
+abbrev pub compared_of : Option Event → List ℕ → List ℕ → List ℕ
+compared_of event wanted answer =
+    if differs event wanted answer then difference_text (register_of event) wanted answer else []
+
 abbrev pub compared_text : Debugger → ℕ → List ℕ
-compared_text d line =
-    if answers_otherwise d line
-    then difference_text (register_of (access_of line d)) (wanted line d) d.answer.items
-    else []
+compared_text d line = compared_of (access_of line d) (wanted line d) d.answer.items
 
 -- it is kept which answer a line expects, if it expects one
 abbrev pub Expects : ℕ → List ℕ → List (List ℕ) → List (List ℕ) → Type 0

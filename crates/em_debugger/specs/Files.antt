@@ -1,5 +1,5 @@
 -- Loading and saving lines.
-use Rattle.std.specs.Prelude.{◌≡◌, ℕ, ◌+◌, All, Bool, true, false, List, [], ◌++◌, codes, length, map, Option, Some, Result, Ok, Err}
+use Rattle.std.specs.Prelude.{◌≡◌, ℕ, ◌+◌, All, Bool, true, false, List, ◌++◌, codes, length, map, Option, Result, Ok, Err}
 use Rattle.std.specs.List.{flat_map, list_all}
 use Rattle.em_text.specs.Lines.{is_newline, lines_of}
 use Rattle.em_line.specs.Grammar.{parsed_line}
@@ -11,7 +11,7 @@ use Rattle.em_debugger.specs.declared.debugger.Debugger.{Debugger}
 use Rattle.em_debugger.specs.declared.files.Added.{Added}
 use Rattle.em_tape.specs.Tape.{Tape}
 use Rattle.em_tape.specs.Texts.{texts}
-use Rattle.em_expect.specs.Expectation.{said_in}
+use Rattle.em_line.specs.Parts.{said_in}
 use Rattle.em_prompt.specs.Scripted.{played}
 use Rattle.em_debugger.specs.Debugger.{KeepsSome}
 use Rattle.em_debugger.specs.Deeper.{lines_here}

@@ -2,7 +2,7 @@
 use Rattle.std.specs.Prelude.{◌≡◌, ℕ, zero, suc, ◌+◌, ◌-◌, ◌==◌, min, nat_lt, Bool, false, if◌then◌else◌, Option, Some, None}
 use Rattle.std.specs.Prelude.{List, [], ◌++◌, codes, decimal, length, take, drop, filter}
 use Rattle.std.specs.List.{flat_map, range_with_len}
-use Rattle.em_named.specs.Numbers.{end_of}
+use Rattle.em_named.specs.Numbers.{end_of, line_of}
 use Rattle.em_named.specs.declared.did.Did.{Did}
 use Rattle.em_named.specs.declared.did.Did.TheVariants.{Performed, TookBack}
 use Rattle.em_journal.specs.View.{states}
@@ -99,7 +99,11 @@ most_of (Some most) = most
 
 -- ---- the events of a line
 
--- how many of the newest that stand at the place are shown one by one: those of its line, as far as the journal reaches
+-- the line of the newest that stands at the place; where the line of the place took events back, an earlier one
+abbrev pub line_opened : Tape → ℕ
+line_opened tape = line_of (event_of tape) tape.did
+
+-- how many of the newest that stand are shown one by one: those of this line, as far as the journal reaches
 abbrev pub opened : ℕ → Tape → ℕ → ℕ
 opened most tape here =
     min most (min (length tape.session.machine.past) (event_of tape - end_of (here - 1) tape.did))
@@ -118,10 +122,10 @@ pub data Opens (tape : Tape) (here from : ℕ) : ℕ → List ℕ → Type 0 whe
 
 -- ---- what is shown
 
--- the newest lines up to the place, the events of the last, and lines that lie ahead
+-- the newest lines up to the place, the events of the line whose event is the newest that stands, and lines that lie ahead
 pub record ShowsLines (d : Debugger) (most here : ℕ) (text : List ℕ) : Type 0 where
   pub events : List ℕ
-  pub opens : Opens d.tape here (opened most d.tape here) 0 events
+  pub opens : Opens d.tape (line_opened d.tape) (opened most d.tape (line_opened d.tape)) 0 events
   pub told : text ≡ so_far_text d most here ++ (events ++ ahead_text d most here)
 
 abbrev pub ShowsHistory : Debugger → Option ℕ → List ℕ → Type 0

@@ -22,6 +22,7 @@ pub mod Offers
 pub mod Performing
 pub mod Place
 pub mod Played
+pub mod Reading
 pub mod Search
 pub mod Sending
 pub mod Stops

@@ -1,5 +1,5 @@
 -- Lines as they were given, where they say more than what is played of them: names, where they come from, a time.
-use Rattle.std.specs.Prelude.{ℕ, Bool, ◌==◌, ◌||◌, if◌then◌else◌, List, [], ◌++◌, Option, Some, None, codes, is_some, length, unwrap_or}
+use Rattle.std.specs.Prelude.{ℕ, ◌==◌, ◌||◌, if◌then◌else◌, List, [], ◌++◌, Option, Some, None, codes, is_some, length, unwrap_or}
 use Rattle.em_frames.specs.Moment.{time_in}
 use Rattle.em_line.specs.Parts.{comment_in, said_in, source_in}
 use Rattle.em_looks.specs.Numbers.{number_text}

@@ -22,7 +22,8 @@ use Rattle.em_debugger.specs.Debugger.{KeepsSome, came, told}
 use Rattle.em_debugger.specs.Engines.{Engages}
 use Rattle.em_debugger.specs.Expected.{Expects, compared_text, scored, wanted, wanted_in, warned_behind}
 use Rattle.em_debugger.specs.Marks.{line_number_text, marked_in, marks_of, shown_of}
-use Rattle.em_debugger.specs.Place.{line_here, text_of}
+use Rattle.em_debugger.specs.Place.{line_here}
+use Rattle.em_debugger.specs.Reading.{event_said}
 use Rattle.em_debugger.specs.Sending.{KeepsFirst, StaysSent, first_sent}
 use Rattle.em_debugger.specs.Told.{KeepsText, Notes, Stay}
 
@@ -187,7 +188,7 @@ behind_text d line = found_text d.warned ++ compared_text d line
 -- warnings stand behind that, and how it differs from what the line expects
 pub record AnswersPerformed (d : Debugger) (p : Performed) (text : List ℕ) : Type 0 where
   pub explained : List ℕ
-  pub because : Explains d.tape.session.machine.present (text_of p.line d.tape) d.answer.items (event_came p.outcome)
+  pub because : Explains d.tape.session.machine.present (event_said p.line d.tape) d.answer.items (event_came p.outcome)
       explained
   pub told : text ≡ explained ++ behind_text d p.line
 

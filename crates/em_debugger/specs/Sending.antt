@@ -1,6 +1,6 @@
 -- When the frames were sent that are on the wire: by the times of lines, and by which line sent which frames.
-use Rattle.std.specs.Prelude.{◌≡◌, ◌≢◌, ℕ, zero, suc, ◌+◌, ◌-◌, ◌*◌, ◌==◌, nat_lt, is_some, if◌then◌else◌}
-use Rattle.std.specs.Prelude.{List, [], ◌++◌, get_or, length, replicate, take, Option, Some, None, unwrap_or}
+use Rattle.std.specs.Prelude.{◌≡◌, ◌≢◌, ℕ, zero, suc, ◌+◌, ◌-◌, ◌*◌, nat_lt, if◌then◌else◌}
+use Rattle.std.specs.Prelude.{List, [], ◌++◌, get_or, length, replicate, take, Option, Some, None}
 use Rattle.em_tape.specs.Texts.{texts}
 use Rattle.em_debugger.specs.declared.debugger.Debugger.{Debugger}
 use Rattle.em_debugger.specs.declared.sending.Clock.{Clock}

@@ -10,6 +10,7 @@ use Rattle.em_script.specs.Outcome.{event_came}
 use Rattle.em_script.specs.declared.outcome.Outcome.{Outcome}
 use Rattle.em_script.specs.declared.outcome.Outcome.TheVariants as outcome
 use Rattle.em_script.specs.declared.outcome.Refused.TheVariants.{Stopped}
+use Rattle.em_step.specs.Event.{Event}
 use Rattle.em_step.specs.declared.event.Answer.TheVariants as answer
 use Rattle.em_tape.specs.Tape.{Tape}
 use Rattle.em_watch.specs.declared.watch.Watch.{Watch}
@@ -22,7 +23,8 @@ use Rattle.em_debugger.specs.declared.deeper.Unseen.{Unseen}
 use Rattle.em_debugger.specs.declared.deeper.Unseen.TheVariants.{Memory, TooLong}
 use Rattle.em_debugger.specs.Deeper.{IsAgainTo, StandsBehind, too_long_text}
 use Rattle.em_debugger.specs.Performing.{heading_text}
-use Rattle.em_debugger.specs.Place.{line_here, text_of}
+use Rattle.em_debugger.specs.Place.{line_here}
+use Rattle.em_debugger.specs.Reading.{event_said, undone_event}
 use Rattle.em_debugger.specs.Search.{Seeks}
 use Rattle.em_debugger.specs.Marks.{marks_of}
 use Rattle.em_debugger.specs.Who.{event_text}
@@ -69,6 +71,10 @@ front_text d line = heading_text d line ++ codes "  "
 
 -- ---- what is told
 
+-- the event that is asked for: the line's, where it did nothing
+abbrev pub event_asked : ℕ → Debugger → Option Event
+event_asked line d = undone_event (event_came (came line d)) (event_said line d.tape)
+
 -- the newest change up to the place of a tape
 pub record TellsSetter (d : Debugger) (tape : Tape) (watch : Watch) (text : List ℕ) : Type 0 where
   pub given : Sought
@@ -96,7 +102,7 @@ pub data TellsLooks (d : Debugger) (tape : Tape) : List Look → List ℕ → Ty
 -- the line, and its answer with the reason, over a tape that stands behind the line
 pub record TellsReason (d : Debugger) (tape : Tape) (line : ℕ) (answer text : List ℕ) : Type 0 where
   pub explained : List ℕ
-  pub because : Explains tape.session.machine.present (text_of line d.tape) answer (event_came (came line d)) explained
+  pub because : Explains tape.session.machine.present (event_said line d.tape) answer (event_came (came line d)) explained
   pub said : text ≡ front_text d line ++ explained
 
 -- what is kept of the answer, the reason by how the line came out, and what was looked at
@@ -104,7 +110,7 @@ pub record TellsWhyAt (d : Debugger) (tape : Tape) (line : ℕ) (text : List ℕ
   pub reason : List ℕ
   pub because : TellsReason d tape line (told line d ++ codes "\n") reason
   pub looks : List Look
-  pub looked : LookedAt tape.session.machine.present (text_of line d.tape) (event_came (came line d)) looks
+  pub looked : LookedAt tape.session.machine.present (event_said line d.tape) (event_came (came line d)) looks
   pub rest : List ℕ
   pub tells : TellsLooks d tape looks rest
   pub said : text ≡ reason ++ rest

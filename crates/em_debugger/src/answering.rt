@@ -12,7 +12,7 @@ ghost use Rattle.em_debugger.specs.Answering.{Answers, AnswersPrompted, Obeys, S
 use crate::debugger::Debugger;
 use crate::disk::Disk;
 use em_console::Flow;
-use em_expect::expectation;
+use em_line::parts_of;
 use em_looks::{show_memory, show_register, show_ring, show_sent, show_waiting};
 use em_names::nearest;
 use em_prompt::{
@@ -147,7 +147,7 @@ fn asking(line: &[u8]) -> Option<BenchLine<'_>>
     requires { length line.now < 0xFFFF_FFFF }
     ensures { option_map plain_line result ≡ asking line.now }
 {
-    match prompted(expectation(line).line) {
+    match prompted(parts_of(line).said) {
         Ok(Typed::Line(bench)) => Some(bench),
         _ => None,
     }

@@ -3,8 +3,8 @@ ghost use Rattle.std.specs.Prelude.{◌≡◌};
 ghost use Rattle.em_text.specs.Writer.{Writes};
 ghost use Rattle.em_debugger.specs.BenchLooks.{is_look, look_text};
 
+use crate::reading::command_in;
 use em_journal::Machine;
-use em_line::command_of;
 use em_prompt::Command;
 use em_script::show_look;
 use em_text::WriteFailed;
@@ -25,7 +25,7 @@ pub(crate) fn answer_look<W: Write>(
 ) -> Result<(), WriteFailed>
     ensures writes { Writes (W.contents writer.old) (W.contents writer.new) result (look_text machine.now text.now) }
 {
-    match command_of(text) {
+    match command_in(text) {
         Some(command) if command.is_look() => {
             let _ = show_look(writer, machine, command)?;
             Ok(())

@@ -11,8 +11,9 @@ use crate::debugger::Debugger;
 use crate::departures::write_departure;
 use crate::performing::Performed;
 use crate::place::text_of;
+use crate::reading::access_said;
 use crate::stops::{Ran, Stop};
-use em_expect::register_read;
+use em_expect::register_of;
 use em_regs::Reg;
 use em_script::{BenchFault, Outcome};
 use em_step::Answer;
@@ -63,7 +64,7 @@ impl Debugger {
     {
         Differing {
             line: performed.line,
-            reg: register_read(text_of(&self.tape, performed.line)),
+            reg: register_of(access_said(&self.tape, performed.line)),
             value: value_of(performed.outcome),
             performed,
         }

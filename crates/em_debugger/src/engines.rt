@@ -7,13 +7,14 @@ ghost use Rattle.em_debugger.specs.Performing.{IsUnadded};
 
 use crate::debugger::Debugger;
 use crate::performing::Performed;
-use crate::place::text_of;
+use crate::reading::command_said;
 use em_journal::Machine;
-use em_line::{Command, command_of};
+use em_line::Command;
 use em_prompt::Side;
 use em_reasons::{why_rx_idle, why_tx_idle};
 use em_script::{BenchFault, Outcome};
 use em_step::Event;
+use em_tape::Tape;
 use em_text::{WriteFailed, write_whole};
 use std::io::Write;
 
@@ -76,7 +77,7 @@ impl Debugger {
             return None;
         }
         let machine = self.tape.machine();
-        let step = step_of(text_of(&self.tape, performed.line));
+        let step = step_of(&self.tape, performed.line);
         if is_refused(performed.outcome) {
             return behind_refused(machine, step);
         }
@@ -125,10 +126,10 @@ pub(crate) fn is_refused(outcome: Outcome) -> bool
 }
 
 /// The engine whose step a line is.
-fn step_of(line: &[u8]) -> Option<Side>
-    ensures { result ≡ step_of line.now }
+fn step_of(tape: &Tape, line: usize) -> Option<Side>
+    ensures { result ≡ step_of line tape.now }
 {
-    match command_of(line) {
+    match command_said(tape, line) {
         Some(Command::Event(Event::RxStep)) => Some(Side::Receive),
         Some(Command::Event(Event::TxStep)) => Some(Side::Transmit),
         _ => None,

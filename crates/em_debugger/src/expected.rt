@@ -4,16 +4,15 @@ ghost use Rattle.std.specs.Option.{option_map};
 ghost use Rattle.em_step.specs.Event.{plain as plain_event};
 ghost use Rattle.em_text.specs.Writer.{Writes};
 ghost use Rattle.em_tape.specs.Texts.{texts};
-ghost use Rattle.em_debugger.specs.Expected.{answers_otherwise, compared_text, differs, scored, scored_answer, wanted};
-ghost use Rattle.em_debugger.specs.Expected.{warned_behind, with_answer};
+ghost use Rattle.em_debugger.specs.Expected.{IsAskedAccess, answers_otherwise, asks_access, asks_rules, compared_of};
+ghost use Rattle.em_debugger.specs.Expected.{compared_text, differs, scored, scored_answer, wanted, warned_behind, with_answer};
 
 use crate::debugger::Debugger;
-use crate::place::text_of;
+use crate::reading::access_said;
 use em_expect::{agrees_of, write_difference};
-use em_line::accessed;
 use em_step::Event;
 use em_text::WriteFailed;
-use em_warnings::{Found, count_found, found_in};
+use em_warnings::{Found, count_found, found_of, is_asked};
 use std::io::Write;
 
 /// How many answers were as their lines expect, how many were not, and how many warnings lines had.
@@ -85,33 +84,68 @@ impl Debugger {
           warned = warned_behind self.old line;
         } }
     {
-        self.count_expected(line);
-        self.warned = self.warned_behind(line);
-        self.score = self.score.with_warnings(count_found(&self.warned));
+        let access = self.access_asked(line);
+        let found = self.warned_behind(line, access);
+        self.count_expected(line, access);
+        self.score = self.score.with_warnings(count_found(&found));
+        self.warned = found;
     }
 
-    /// What the rules say of a line, if that is to be said and they are asked.
-    fn warned_behind(&self, line: usize) -> Found
+    /// What a line accesses, if the answer that it expects or a rule asks for that. The line is read once for both.
+    fn access_asked(&self, line: usize) -> Option<Event<'static>>
+        ensures { IsAskedAccess line self.now (option_map plain_event result) }
+    {
+        if self.asks_access(line) {
+            access_said(&self.tape, line)
+        } else {
+            None
+        }
+    }
+
+    /// Whether one of them asks. Of most lines none does, and they need not be read.
+    fn asks_access(&self, line: usize) -> bool
+        ensures { result ≡ asks_access line self.now }
+    {
+        !self.wanted.of(line).is_empty() || self.asks_rules(line)
+    }
+
+    /// Whether the rules are asked of a line.
+    fn asks_rules(&self, line: usize) -> bool
+        ensures { result ≡ asks_rules line self.now }
+    {
+        self.warns && is_asked(self.came.of(line).event())
+    }
+
+    /// What the rules say of a line with this access, if that is to be said and they are asked.
+    fn warned_behind(&self, line: usize, access: Option<Event<'_>>) -> Found
+        requires { IsAskedAccess line self.now (option_map plain_event access) }
         ensures { result ≡ warned_behind self.now line }
     {
-        if !self.warns {
-            return None;
+        if self.warns {
+            let came = self.came.of(line).event();
+            found_of(self.tape.machine(), access, came)
+        } else {
+            None
         }
-        found_in(
-            self.tape.machine(),
-            text_of(&self.tape, line),
-            self.came.of(line).event(),
-        )
     }
 
-    /// Counts the answer to a line, if the line expects one.
-    fn count_expected(&mut self, line: usize)
+    /// Counts the answer to a line with this access, if the line expects one.
+    fn count_expected(&mut self, line: usize, access: Option<Event<'_>>)
+        requires { IsAskedAccess line self.old (option_map plain_event access) }
         ensures { self.new ≡ record self.old { score = scored_answer self.old line } }
     {
         if !self.wanted.of(line).is_empty() {
-            let differs = self.answers_otherwise(line);
+            let differs = self.differs_from(line, access);
             self.score = self.score.with(differs);
         }
+    }
+
+    /// Whether a line with this access, whose answer was given last, expects another one.
+    fn differs_from(&self, line: usize, access: Option<Event<'_>>) -> bool
+        requires { IsAskedAccess line self.now (option_map plain_event access) }
+        ensures { result ≡ answers_otherwise self.now line }
+    {
+        differs(access, self.wanted.of(line), self.answer.as_slice())
     }
 
     /// Whether a line, whose answer was given last, expects another one.
@@ -119,15 +153,12 @@ impl Debugger {
         ensures { result ≡ answers_otherwise self.now line }
     {
         let wanted = self.wanted.of(line);
-        // Most lines expect none, and need not be read again.
+        // Most lines expect none, and need not be read.
         if wanted.is_empty() {
             return false;
         }
-        differs(
-            accessed(text_of(&self.tape, line)),
-            wanted,
-            self.answer.as_slice(),
-        )
+        let access = access_said(&self.tape, line);
+        differs(access, wanted, self.answer.as_slice())
     }
 
     /// Writes how the answer to a line differs from the one that the line expects, if it does.
@@ -138,11 +169,29 @@ impl Debugger {
     ) -> Result<(), WriteFailed>
         ensures writes { Writes (W.contents writer.old) (W.contents writer.new) result (compared_text self.now line) }
     {
-        if !self.answers_otherwise(line) {
+        let wanted = self.wanted.of(line);
+        if wanted.is_empty() {
             return Ok(());
         }
-        let event = accessed(text_of(&self.tape, line));
-        write_difference(writer, event, self.wanted.of(line), self.answer.as_slice())
+        let access = access_said(&self.tape, line);
+        write_if_differs(writer, access, wanted, self.answer.as_slice())
+    }
+}
+
+/// Writes how the answer to an event differs from the one that is wanted, if it does.
+fn write_if_differs<W: Write>(
+    writer: &mut W,
+    event: Option<Event<'_>>,
+    wanted: &[u8],
+    answer: &[u8],
+) -> Result<(), WriteFailed>
+    ensures writes { Writes (W.contents writer.old) (W.contents writer.new) result
+        (compared_of (option_map plain_event event.entry) wanted.now answer.now) }
+{
+    if differs(event, wanted, answer) {
+        write_difference(writer, event, wanted, answer)
+    } else {
+        Ok(())
     }
 }
 

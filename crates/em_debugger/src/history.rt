@@ -42,7 +42,8 @@ impl Debugger {
         self.write_around(writer, most_of(typed), here)
     }
 
-    /// Writes the newest lines up to this one, its events, and those that were performed behind it.
+    /// Writes the newest lines up to this one, the events of the line whose event is the newest that stands, and the lines
+    /// that were performed behind it. The two lines are one, but where this one takes events back.
     fn write_around<W: Write>(
         &self,
         writer: &mut W,
@@ -54,7 +55,8 @@ impl Debugger {
             × ShowsLines self.now most here text) }
     {
         self.write_so_far(writer, most, here)?;
-        write_opened(writer, &self.tape, here, opened(most, &self.tape, here))?;
+        let line = self.tape.line_of(self.tape.event());
+        write_opened(writer, &self.tape, line, opened(most, &self.tape, line))?;
         self.write_ahead(writer, most, here)
     }
 
@@ -244,7 +246,7 @@ impl Debugger {
     }
 }
 
-/// How many of the newest events that stand at the place are shown one by one: those of its line.
+/// How many of the newest events that stand at the place are shown one by one: those of this line.
 fn opened(most: usize, tape: &Tape, here: usize) -> usize
     requires { here ≤ length tape.now.did }
     ensures opened { result ≡ opened most tape.now here }

@@ -28,6 +28,7 @@ mod offers;
 mod performing;
 mod place;
 mod played;
+mod reading;
 mod search;
 mod sending;
 mod stops;

@@ -15,7 +15,8 @@ use crate::bench_looks::{answer_look, is_look};
 use crate::debugger::Debugger;
 use crate::files::add_given;
 use crate::marks::{shown_of, write_line_number};
-use crate::place::{line_here, text_of};
+use crate::place::line_here;
+use crate::reading::{event_read, read_undone};
 use em_explain::write_explained;
 use em_looks::{write_counted, write_short};
 use em_prompt::BenchLine;
@@ -158,16 +159,13 @@ impl Debugger {
             × AnswersPerformed self.now performed said) }
     {
         let machine = self.tape.machine();
-        let line = text_of(&self.tape, performed.line);
+        let came = performed.outcome.event();
+        let Ok(read) = read_undone(self.alloc, &self.tape, performed.line, came) else {
+            return Err(WriteFailed);
+        };
+        let event = event_read(&read);
         let answer = self.answer.as_slice();
-        write_explained(
-            self.alloc,
-            writer,
-            machine,
-            line,
-            answer,
-            performed.outcome.event(),
-        )?;
+        write_explained(self.alloc, writer, machine, event, answer, came)?;
         self.write_behind(writer, performed.line)
     }
 

@@ -1,23 +1,26 @@
 //! Why an event did nothing, and who set what decided that.
 ghost use Rattle.std.specs.Prelude.{◌≡◌, ◌≤◌, ◌++◌, ℕ, List, OnOk, codes, length};
+ghost use Rattle.std.specs.Option.{option_map};
 ghost use Rattle.std.specs.Io.KnownBytes.{Appends};
+ghost use Rattle.em_step.specs.Event.{plain as plain_event};
 ghost use Rattle.em_text.specs.Writer.{Writes};
 ghost use Rattle.em_tape.specs.Texts.{texts};
 ghost use Rattle.em_debugger.specs.Performing.{heading_text};
 ghost use Rattle.em_debugger.specs.Why.{TellsLook, TellsLooks, TellsReason, TellsSetter, TellsWatch, TellsWhy};
-ghost use Rattle.em_debugger.specs.Why.{TellsWhyAt, TellsWhyOf, found_setter, front_text, is_undone};
+ghost use Rattle.em_debugger.specs.Why.{TellsWhyAt, TellsWhyOf, event_asked, found_setter, front_text, is_undone};
 ghost use Rattle.em_debugger.specs.Why.{look_line, newest_undone, setter_text, unseen_setter};
 
 use crate::debugger::Debugger;
 use crate::deeper::{Unseen, behind, write_too_long};
-use crate::place::{line_here, text_of};
+use crate::place::line_here;
+use crate::reading::{event_read, read_undone};
 use crate::search::{Found, Sought, search};
 use crate::told::Told;
 use crate::who::write_event;
 use em_explain::{looked_at, watch_of, write_explained, write_look};
 use em_reasons::Look;
 use em_script::{Outcome, Refused};
-use em_step::Answer;
+use em_step::{Answer, Event};
 use em_tape::Tape;
 use em_text::{WriteFailed, write_pieces, write_whole};
 use em_watch::Watch;
@@ -88,33 +91,34 @@ impl Debugger {
         let mut answer = Vec::new(self.alloc);
         write_pieces(&mut answer, &[self.told.of(line), b"\n"])?;
         let answer = answer.as_slice();
-        self.write_reason(writer, tape, line, answer)?;
-        match looked_at(
-            self.alloc,
-            tape.machine(),
-            text_of(&self.tape, line),
-            self.came.of(line).event(),
-        ) {
+        let came = self.came.of(line).event();
+        let Ok(read) = read_undone(self.alloc, &self.tape, line, came) else {
+            return Err(WriteFailed);
+        };
+        let event = event_read(&read);
+        self.write_reason(writer, tape, line, event, answer)?;
+        match looked_at(self.alloc, tape.machine(), event, came) {
             Ok(looks) => self.write_looks(writer, tape, looks.as_slice()),
             Err(_) => Err(WriteFailed),
         }
     }
 
-    /// Writes a line, and its answer with the reason.
+    /// Writes a line, and its answer with the reason, by the event that was asked for.
     fn write_reason<W: Write>(
         &self,
         writer: &mut W,
         tape: &Tape,
         line: usize,
+        event: Option<Event<'_>>,
         answer: &[u8],
     ) -> Result<(), WriteFailed>
+        requires { option_map plain_event event ≡ event_asked line self.now }
         ensures ok { OnOk result ((text : List ℕ) × Appends (W.contents writer.old) (W.contents writer.new) text
             × TellsReason self.now tape.now line answer.now text) }
     {
         self.write_front(writer, line)?;
-        let text = text_of(&self.tape, line);
         let came = self.came.of(line).event();
-        write_explained(self.alloc, writer, tape.machine(), text, answer, came)
+        write_explained(self.alloc, writer, tape.machine(), event, answer, came)
     }
 
     /// Writes a line, and the blanks before its answer.

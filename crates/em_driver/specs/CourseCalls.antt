@@ -1,6 +1,6 @@
 -- The calls of its machine that a course makes as it is played, with those of the turns before its accesses.
-use Rattle.std.specs.Prelude.{◌+◌, nat_lt, if◌then◌else◌, List, [], ◌∷◌, ◌++◌, length, Result, Ok, Err}
-use Rattle.em_mem.specs.Memory.{part}
+use Rattle.std.specs.Prelude.{◌+◌, if◌then◌else◌, List, [], ◌∷◌, ◌++◌, Result, Ok, Err}
+use Rattle.em_mem.specs.Memory.{leaves, part}
 use Rattle.em_regs.specs.Table.{offset_of}
 use Rattle.em_regs.specs.declared.reg.Reg.TheVariants.{Ctrl}
 use Rattle.em_step.specs.Event.{Event, reads, writes, pokes}
@@ -57,7 +57,7 @@ course_calls w (peek addr len stopped next) =
     let m = passed w in
     let memory = (present m).memory in
     passed_calls w
-    ++ (if nat_lt (length memory) (addr + len) then [] else course_calls m (next (part memory addr len)))
+    ++ (if leaves (present m).base memory addr len then [] else course_calls m (next (part memory addr len)))
 course_calls w (poke addr octets stopped more) =
     let m = passed w in
     let e = pokes addr octets in

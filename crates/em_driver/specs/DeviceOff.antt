@@ -17,6 +17,7 @@ pub record IsOff (s : State) : Type 0 where
 -- all but the latches is as it was
 pub record Rests (s t : State) : Type 0 where
   pub registers : t.registers ≡ s.registers
+  pub base : t.base ≡ s.base
   pub memory : t.memory ≡ s.memory
   pub fifo : t.fifo ≡ s.fifo
   pub gathered : t.gathered ≡ s.gathered

@@ -103,9 +103,13 @@ pub record IsSending (l : Layout) (s : State) : Type 0 where
 
 -- ---- both
 
--- the layout is good for the memory, and its addresses are 64-bit numbers
+-- a driver can use the layout in the memory
+abbrev pub IsGoodFor : State → Layout → Type 0
+IsGoodFor s l = IsGoodLayout s.base (length s.memory) l
+
+-- it can, and the layout's addresses are 64-bit numbers
 pub record IsLaidOut (l : Layout) (s : State) : Type 0 where
-  pub good : IsGoodLayout (length s.memory) l
+  pub good : IsGoodFor s l
   pub placed : IsPlaced l
 
 -- as a driver keeps it, but for the status octet of descriptor RDT + 1 at most

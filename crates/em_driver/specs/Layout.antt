@@ -31,26 +31,28 @@ pub record IsCount (count : ℕ) : Type 0 where
   pub least : 8 ≤ count
   pub most : count ≤ 4096
 
--- both regions are inside a memory of that size
-pub record IsInside (size : ℕ) (side : Side) : Type 0 where
-  pub ring : side.ring + ring_octets side ≤ size
-  pub buffers : side.buffers + buffer_octets side ≤ size
+-- both regions are inside a memory that begins at a base, and ends there
+pub record IsInside (base end : ℕ) (side : Side) : Type 0 where
+  pub ring_from : base ≤ side.ring
+  pub ring : side.ring + ring_octets side ≤ end
+  pub buffers_from : base ≤ side.buffers
+  pub buffers : side.buffers + buffer_octets side ≤ end
 
 -- so many octets from one address on, and so many from another: none is of both
 abbrev pub Apart : ℕ → ℕ → ℕ → ℕ → Type 0
 Apart a m b n = (a + m ≤ b) ⊎ (b + n ≤ a)
 
--- a driver can use it in a memory of that size
-pub record IsGoodSide (size : ℕ) (side : Side) : Type 0 where
+-- a driver can use it in such a memory
+pub record IsGoodSide (base end : ℕ) (side : Side) : Type 0 where
   pub count : IsCount side.count
   pub aligned : side.ring % 16 ≡ 0
-  pub inside : IsInside size side
+  pub inside : IsInside base end side
   pub apart : Apart side.ring (ring_octets side) side.buffers (buffer_octets side)
 
--- what a driver needs to count its places: it is inside some memory whose size is a 64-bit number
+-- what a driver needs to count its places: it is inside some memory whose end is a 64-bit number
 pub record IsPlacedSide (side : Side) : Type 0 where
   pub count : IsCount side.count
-  pub inside : IsInside 0xFFFF_FFFF_FFFF_FFFF side
+  pub inside : IsInside 0 0xFFFF_FFFF_FFFF_FFFF side
 
 -- ---- both sides
 -- no region of one side has an octet in common with one of the other
@@ -60,10 +62,10 @@ pub record AreDisjoint (a b : Side) : Type 0 where
   pub first_ring : Apart a.ring (ring_octets a) b.buffers (buffer_octets b)
   pub second_ring : Apart b.ring (ring_octets b) a.buffers (buffer_octets a)
 
--- a driver can use it in a memory of that size
-pub record IsGoodLayout (size : ℕ) (l : Layout) : Type 0 where
-  pub receive : IsGoodSide size (rx l)
-  pub transmit : IsGoodSide size (tx l)
+-- a driver can use it in a memory that begins at a base, and ends there
+pub record IsGoodLayout (base end : ℕ) (l : Layout) : Type 0 where
+  pub receive : IsGoodSide base end (rx l)
+  pub transmit : IsGoodSide base end (tx l)
   pub disjoint : AreDisjoint (rx l) (tx l)
 
 pub record IsPlaced (l : Layout) : Type 0 where

@@ -1,6 +1,6 @@
 -- What a call of the driver does and answers where memory is refused nowhere: its course, played.
-use Rattle.std.specs.Prelude.{◌≡◌, ℕ, ◌+◌, nat_lt, Bool, true, ◌||◌, if◌then◌else◌, List, length, Result, Ok, Err}
-use Rattle.em_mem.specs.Memory.{part}
+use Rattle.std.specs.Prelude.{◌≡◌, ℕ, ◌+◌, Bool, true, ◌||◌, if◌then◌else◌, List, Result, Ok, Err}
+use Rattle.em_mem.specs.Memory.{leaves, part}
 use Rattle.em_regs.specs.Table.{offset_of}
 use Rattle.em_regs.specs.declared.reg.Reg.TheVariants.{Ctrl}
 use Rattle.em_step.specs.Cost.{cost}
@@ -83,7 +83,7 @@ play w (reset stopped more) =
 play w (peek addr len stopped next) =
     let m = passed w in
     let memory = (present m).memory in
-    if nat_lt (length memory) (addr + len) then ended m stopped else play m (next (part memory addr len))
+    if leaves (present m).base memory addr len then ended m stopped else play m (next (part memory addr len))
 play w (poke addr octets stopped more) =
     let m = passed w in
     let e = pokes addr octets in

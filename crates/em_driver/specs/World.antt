@@ -1,8 +1,8 @@
 -- A bus, with what other actors do on it before each access of a driver.
-use Rattle.std.specs.Prelude.{◌≡◌, ◌⊎◌, ℕ, ◌+◌, ◌≤◌, ◌<◌, Bool, true, false, List, [], ◌∷◌, ◌++◌, length, refl}
+use Rattle.std.specs.Prelude.{◌≡◌, ◌⊎◌, ℕ, ◌+◌, Bool, true, false, IsTrue, List, [], ◌∷◌, ◌++◌, refl}
 use Rattle.std.specs.Prelude.{Result, Ok, Err, Option, Some, None, All}
 use Rattle.std.specs.Coded.{Coded, code_by, coded×, coded_list, coded_option, coded_ℕ, coded_bool}
-use Rattle.em_mem.specs.Memory.{part}
+use Rattle.em_mem.specs.Memory.{LiesIn, leaves, part}
 use Rattle.em_step.specs.Cost.{cost}
 use Rattle.em_step.specs.Event.{Event}
 use Rattle.em_step.specs.State.{State}
@@ -169,10 +169,10 @@ pub record IsRefused (w : World) (e : Event) (refusal : Refusal) (v : World) : T
 -- octets of memory, which is no event
 pub record Peeks (w : World) (addr len : ℕ) (octets : List ℕ) (v : World) : Type 0 where
   pub passes : Passes w v
-  pub held : addr + len ≤ length v.machine.present.memory
+  pub held : LiesIn v.machine.present.base v.machine.present.memory addr len
   pub gives : octets ≡ part v.machine.present.memory addr len
 
--- octets past the end of memory
+-- octets that leave memory
 pub record PeeksPast (w : World) (addr len : ℕ) (v : World) : Type 0 where
   pub passes : Passes w v
-  pub past : length v.machine.present.memory < addr + len
+  pub past : IsTrue (leaves v.machine.present.base v.machine.present.memory addr len)

@@ -47,7 +47,11 @@ pub trait Bus {
         ensures err { IfErr result (λ refusal.
             IsRefused (world self.old) (pokes addr octets.now) refusal (world self.new)) };
 
-    /// How many octets the memory has.
-    fn size(&self) -> u64
+    /// The address of the first octet of memory.
+    fn base(&self) -> u64
+        ensures { result ≡ (world self.now).machine.present.base };
+
+    /// The address behind its last octet.
+    fn end(&self) -> u64
         ensures { result ≡ length (world self.now).machine.present.memory };
 }

@@ -78,14 +78,14 @@ impl Side {
         self.buffers + BUFFER_OCTETS * u64::from(index)
     }
 
-    /// Whether a driver can use it in a memory of `size` octets.
-    fn is_good(&self, size: u64) -> bool
-        ensures { IsTrue result ↔ IsGoodSide size self.now }
+    /// Whether a driver can use it in a memory from `base` up to `end`.
+    fn is_good(&self, base: u64, end: u64) -> bool
+        ensures { IsTrue result ↔ IsGoodSide base end self.now }
     {
         is_count(self.count)
             && self.ring % DESCRIPTOR_OCTETS == 0
-            && is_within(self.ring, self.ring_octets(), size)
-            && is_within(self.buffers, self.buffer_octets(), size)
+            && is_within(self.ring, self.ring_octets(), base, end)
+            && is_within(self.buffers, self.buffer_octets(), base, end)
             && are_apart(
                 self.ring,
                 self.ring_octets(),
@@ -149,15 +149,15 @@ impl Layout {
         }
     }
 
-    /// Whether a driver can keep its descriptors and buffers so in a memory of `size` octets: both
+    /// Whether a driver can keep its descriptors and buffers so in a memory from `base` up to `end`: both
     /// counts are multiples of 8 from 8 to 4,096, both rings begin at multiples of 16, and the four
     /// regions are inside memory and have no octet in common.
-    pub(crate) fn is_good(&self, size: u64) -> bool
-        ensures { IsTrue result ↔ IsGoodLayout size self.now }
+    pub(crate) fn is_good(&self, base: u64, end: u64) -> bool
+        ensures { IsTrue result ↔ IsGoodLayout base end self.now }
     {
         let rx = self.rx();
         let tx = self.tx();
-        rx.is_good(size) && tx.is_good(size) && rx.is_apart_from(&tx)
+        rx.is_good(base, end) && tx.is_good(base, end) && rx.is_apart_from(&tx)
     }
 }
 
@@ -167,11 +167,11 @@ fn is_count(count: u32) -> bool
     count % LEAST_COUNT == 0 && LEAST_COUNT <= count && count <= MOST_COUNT
 }
 
-/// Whether `len` octets from `start` on lie in a memory of `size` octets.
-fn is_within(start: u64, len: u64, size: u64) -> bool
-    ensures { IsTrue result ↔ (start + len ≤ size) }
+/// Whether `len` octets from `start` on lie in a memory from `base` up to `end`.
+fn is_within(start: u64, len: u64, base: u64, end: u64) -> bool
+    ensures { IsTrue result ↔ ((base ≤ start) × (start + len ≤ end)) }
 {
-    len <= size && start <= size - len
+    base <= start && len <= end && start <= end - len
 }
 
 /// Whether no octet is one of `m` octets from `a` on and one of `n` octets from `b` on.

@@ -28,7 +28,11 @@ impl Bus for Machine {
         Ok(())
     }
 
-    fn size(&self) -> u64 {
-        self.memory_size()
+    fn base(&self) -> u64 {
+        self.memory_base()
+    }
+
+    fn end(&self) -> u64 {
+        self.memory_end()
     }
 }

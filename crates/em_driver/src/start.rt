@@ -1,10 +1,10 @@
 //! The start of the device.
-ghost use Rattle.std.specs.Prelude.{◌≡◌, length, Some, None, IfOk, IfErr, OnOk};
+ghost use Rattle.std.specs.Prelude.{◌≡◌, Some, None, IfOk, IfErr, OnOk};
 ghost use Rattle.em_driver.specs.Course.{Follows};
-ghost use Rattle.em_driver.specs.Layout.{IsGoodLayout};
+ghost use Rattle.em_driver.specs.Driven.{IsGoodFor};
 ghost use Rattle.em_driver.specs.Start.{start as start_of, start_events};
 ghost use Rattle.em_driver.specs.Started.{StartsInOrder};
-ghost use Rattle.em_driver.specs.World.{IsSpared};
+ghost use Rattle.em_driver.specs.World.{IsSpared, present};
 
 use crate::bus::Bus;
 use crate::driver::E1000;
@@ -24,7 +24,7 @@ impl<B: Bus> E1000<B> {
     /// the EEPROM's words do not have the sum that they need; Broken where the device does not give
     /// a word of its EEPROM.
     pub fn start(alloc: Global, bus: B, layout: Layout) -> Result<(E1000<B>, u32), StartRefused<B>>
-        ensures good { IfOk result (λ started. IsGoodLayout (length (B.world bus).machine.present.memory) layout) }
+        ensures good { IfOk result (λ started. IsGoodFor (present (B.world bus)) layout) }
         ensures ok { IfOk result (λ started. Follows (B.world bus) (start_of layout) started.1 None
             (B.world started.0.bus)) }
         ensures counted { IfOk result (λ started. started.1 ≡ start_events layout) }
@@ -32,12 +32,12 @@ impl<B: Bus> E1000<B> {
             → StartsInOrder layout (B.world bus) started.1 (B.world started.0.bus)) }
         ensures layout { IfOk result (λ started. started.0.layout ≡ layout) }
         ensures untouched { IfErr result (λ refused.
-            (IsGoodLayout (length (B.world bus).machine.present.memory) layout → ⊥)
+            (IsGoodFor (present (B.world bus)) layout → ⊥)
             → (refused.cause ≡ Cause.Layout) × (refused.events ≡ 0) × (refused.bus ≡ bus)) }
-        ensures stopped { IfErr result (λ refused. IsGoodLayout (length (B.world bus).machine.present.memory) layout
+        ensures stopped { IfErr result (λ refused. IsGoodFor (present (B.world bus)) layout
             → Follows (B.world bus) (start_of layout) refused.events (Some refused.cause) (B.world refused.bus)) }
     {
-        if layout.is_good(bus.size()) {
+        if layout.is_good(bus.base(), bus.end()) {
             let driver = E1000 { bus, layout, alloc };
             let mut starting = Starting { driver, events: 0 };
             match starting.initialize() {

@@ -259,7 +259,11 @@ impl<M: Acts> Bus for Turns<M> {
         Ok(())
     }
 
-    fn size(&self) -> u64 {
-        self.machine.machine().memory_size()
+    fn base(&self) -> u64 {
+        self.machine.machine().memory_base()
+    }
+
+    fn end(&self) -> u64 {
+        self.machine.machine().memory_end()
     }
 }

@@ -1,6 +1,6 @@
 -- How the program ends: its status and its line on standard error, for each ending.
 use Rattle.std.specs.Prelude.{ℕ, Bool, false, List, [], ◌∷◌, ◌==◌, ◌++◌, if◌then◌else◌, codes}
-use Rattle.std.specs.Prelude.{◌≡◌, Result, Ok, Err}
+use Rattle.std.specs.Prelude.{◌≡◌, ◌<◌, ◌≤◌, ◌⊎◌, Result, Ok, Err}
 use Rattle.std.specs.declared.io.ErrorKind.{ErrorKind as IoKind}
 use Rattle.std.specs.declared.io.ErrorKind.TheVariants as io
 use Rattle.clap.specs.Words.{kind_of}
@@ -88,10 +88,13 @@ ending_of_settings settings.Size = Size
 ending_of_settings settings.Budget = Budget
 ending_of_settings settings.Memory = Fault fault.Memory
 
--- no machine was made of the settings, and the program ends by what refused them
+-- no machine was made of the settings, and the program ends by what refused them: first by more memory than a run of
+-- the program has
 abbrev pub EndsWithoutMachine : Settings → Ending → Type 0
 EndsWithoutMachine settings ending =
-    (refusal : SettingsRefusal) × IsRefusedAs settings refusal × (ending ≡ ending_of_settings refusal)
+    ((16_777_216 < settings.memory) × (ending ≡ Size))
+    ⊎ ((settings.memory ≤ 16_777_216)
+    × ((refusal : SettingsRefusal) × IsRefusedAs settings refusal × (ending ≡ ending_of_settings refusal)))
 
 -- a script that was run, or stopped
 abbrev pub ending_of_run : Result Summary BenchFault → Ending

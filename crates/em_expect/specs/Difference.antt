@@ -8,9 +8,6 @@ use Rattle.hex.specs.Hex.{decode_sized}
 use Rattle.em_regs.specs.Table.{reg_at}
 use Rattle.em_regs.specs.declared.reg.Reg.{Reg}
 use Rattle.em_step.specs.Event.{Event, reads}
-use Rattle.em_text.specs.Words.{words_of}
-use Rattle.em_line.specs.Grammar.{words_form}
-use Rattle.em_line.specs.ParsedLine.{access_in}
 use Rattle.em_names.specs.Bits.{Row, four_digits, number_in, table_of}
 use Rattle.em_names.specs.declared.field.Form.{Form}
 use Rattle.em_names.specs.declared.field.Form.TheVariants.{Bit}
@@ -22,10 +19,6 @@ use Rattle.em_expect.specs.Agreement.{eight_digits, first_line}
 abbrev pub register_of : Option Event → Option Reg
 register_of (Some (reads offset)) = reg_at offset
 register_of _ = None
-
--- the register that a line of these words reads: r OFF
-abbrev pub register_read : List (List ℕ) → Option Reg
-register_read words = register_of (access_in (words_form words))
 
 -- ---- values
 

@@ -3,16 +3,14 @@ ghost use Rattle.std.specs.Prelude.{◌≡◌, ◌<◌, length};
 ghost use Rattle.std.specs.List.{flat_map};
 ghost use Rattle.std.specs.Option.{option_map};
 ghost use Rattle.em_step.specs.Event.{plain};
-ghost use Rattle.em_text.specs.Words.{words_of};
 ghost use Rattle.em_text.specs.Writer.{Writes};
 ghost use Rattle.em_names.specs.Bits.{four_digits, row_of_field};
 ghost use Rattle.em_expect.specs.Agreement.{first_line};
 ghost use Rattle.em_expect.specs.Difference.{difference_text, field_text, fields_text, holds_text};
-ghost use Rattle.em_expect.specs.Difference.{register_of, register_read, value_in, wanted_digit, wanted_digits};
+ghost use Rattle.em_expect.specs.Difference.{register_of, value_in, wanted_digit, wanted_digits};
 ghost use Rattle.em_expect.specs.Difference.{wanted_value};
 
 use crate::agreement::{DASH, DIGITS, eight_digits, first_line};
-use em_line::accessed;
 use em_names::{Field, Form, fields, number_in, write_low};
 use em_regs::Reg;
 use em_step::Event;
@@ -72,14 +70,6 @@ fn write_told<W: Write>(
         return Ok(());
     };
     write_fields(writer, fields(reg), wanted, value)
-}
-
-/// The register that a line reads: of `r OFF` with no word behind it, where a register lies at the offset; else none.
-#[tactic(auto, unfolding(em_line::specs::Grammar::parsed_line))]
-pub fn register_read(line: &[u8]) -> Option<Reg>
-    ensures { result ≡ register_read (words_of line.now) }
-{
-    register_of(accessed(line))
 }
 
 /// The register that an event reads, if it reads one that is there.

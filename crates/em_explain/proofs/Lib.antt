@@ -1,1 +1,2 @@
 mod MaskedLaws
+pub mod WhyLaws

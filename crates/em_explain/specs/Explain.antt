@@ -1,11 +1,9 @@
 -- An answer, and why an event did nothing.
 use Rattle.std.specs.Prelude.{◌≡◌, ℕ, ◌-◌, List, [], ◌∷◌, ◌++◌, codes, length, take, Option, Some, None, Result}
+use Rattle.em_step.specs.Event.{Event}
 use Rattle.em_step.specs.State.{State}
 use Rattle.em_step.specs.declared.event.Answer.{Answer}
 use Rattle.em_step.specs.declared.refusal.Refusal.{Refusal as StepRefusal}
-use Rattle.em_line.specs.Grammar.{parsed_line}
-use Rattle.em_line.specs.ParsedLine.{event_in}
-use Rattle.em_line.specs.Parts.{said_in}
 use Rattle.em_reasons.specs.DroppedText.{dropped_text}
 use Rattle.em_reasons.specs.RefusedText.{refused_text}
 use Rattle.em_reasons.specs.RxIdleText.{rx_idle_text}
@@ -30,8 +28,8 @@ with_reason answer (octet ∷ octets) =
     take (length answer - 1) answer ++ (codes ": " ++ ((octet ∷ octets) ++ codes "\n"))
 
 -- the answer to a line whose event came to this, and why that did nothing, in the state that it left
-pub record Explains (s : State) (line answer : List ℕ) (came : Option (Result Answer StepRefusal)) (text : List ℕ)
-    : Type 0 where
+pub record Explains (s : State) (event : Option Event) (answer : List ℕ) (came : Option (Result Answer StepRefusal))
+    (text : List ℕ) : Type 0 where
   pub why : Option Why
-  pub because : IsWhyOf s (event_in (parsed_line (said_in line))) (undone_of came) why
+  pub because : IsWhyOf s event (undone_of came) why
   pub told : text ≡ with_reason answer (why_text why)

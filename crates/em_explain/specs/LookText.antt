@@ -1,8 +1,8 @@
 -- What was looked at, and its value, in words.
-use Rattle.std.specs.Prelude.{ℕ, Bool, ◌+◌, ◌==◌, ◌&&◌, not, nat_le, if◌then◌else◌, bit_and, count_by}
+use Rattle.std.specs.Prelude.{ℕ, Bool, ◌==◌, ◌&&◌, not, nat_le, if◌then◌else◌, bit_and, count_by}
 use Rattle.std.specs.Prelude.{List, [], ◌++◌, length, codes, decimal, Option, Some, None}
 use Rattle.std.specs.List.{flat_map, range_with_len}
-use Rattle.em_mem.specs.Memory.{part}
+use Rattle.em_mem.specs.Memory.{leaves, part}
 use Rattle.em_regs.specs.declared.reg.Reg.{Reg}
 use Rattle.em_regs.specs.declared.reg.Reg.TheVariants.{Rah}
 use Rattle.em_step.specs.State.{State}
@@ -73,18 +73,18 @@ abbrev pub place_text : ℕ → ℕ → List ℕ
 place_text at first = at_text at ++ from_text first
 
 -- the octets, where memory has them, and as many as a descriptor has at most
-abbrev pub seen_text : List ℕ → ℕ → ℕ → List ℕ
-seen_text memory address count =
-    if nat_le count 16 && nat_le (address + count) (length memory)
+abbrev pub seen_text : ℕ → List ℕ → ℕ → ℕ → List ℕ
+seen_text base memory address count =
+    if nat_le count 16 && not (leaves base memory address count)
     then codes ": " ++ hex_text (part memory address count)
     else codes ": not shown"
 
-abbrev pub shown_text : List ℕ → Option ℕ → ℕ → List ℕ
-shown_text memory None count = codes ": not shown"
-shown_text memory (Some address) count = seen_text memory address count
+abbrev pub shown_text : ℕ → List ℕ → Option ℕ → ℕ → List ℕ
+shown_text base memory None count = codes ": not shown"
+shown_text base memory (Some address) count = seen_text base memory address count
 
-abbrev pub octets_text : List ℕ → ℕ → ℕ → ℕ → List ℕ
-octets_text memory at first count = place_text at first ++ shown_text memory (address_of at first) count
+abbrev pub octets_text : ℕ → List ℕ → ℕ → ℕ → ℕ → List ℕ
+octets_text base memory at first count = place_text at first ++ shown_text base memory (address_of at first) count
 
 -- ---- each
 
@@ -92,4 +92,4 @@ abbrev pub look_text : State → Look → List ℕ
 look_text s (Bits reg mask) = register_look s reg mask
 look_text s Entries = entries_text (valid_entries s)
 look_text s Frames = frames_text (length s.fifo.frames)
-look_text s (Octets at first count) = octets_text s.memory at first count
+look_text s (Octets at first count) = octets_text s.base s.memory at first count

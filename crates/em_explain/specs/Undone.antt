@@ -1,5 +1,5 @@
 -- Outcomes of events that did nothing.
-use Rattle.std.specs.Prelude.{Option, Some, None, Result, Ok, Err, option_and_then}
+use Rattle.std.specs.Prelude.{Bool, Option, Some, None, Result, Ok, Err, is_some, option_and_then}
 use Rattle.em_step.specs.declared.event.Answer.{Answer}
 use Rattle.em_step.specs.declared.event.Answer.TheVariants as answer
 use Rattle.em_step.specs.declared.refusal.Refusal.{Refusal as StepRefusal}
@@ -16,3 +16,7 @@ undone_by (Err refusal) = Some (Refused refusal)
 -- the same of a line, by what its event came to, if it had one
 abbrev pub undone_of : Option (Result Answer StepRefusal) → Option Undone
 undone_of came = option_and_then undone_by came
+
+-- it did nothing
+abbrev pub is_undone : Option (Result Answer StepRefusal) → Bool
+is_undone came = is_some (undone_of came)

@@ -141,7 +141,7 @@ fn write_descriptor<W: Write>(
     count: u32,
 ) -> Result<(), WriteFailed>
     ensures writes { Writes (W.contents writer.old) (W.contents writer.new) result
-        (octets_text machine.now.present.memory at first count) }
+        (octets_text machine.now.present.base machine.now.present.memory at first count) }
 {
     write_place(writer, at, first)?;
     write_shown(writer, machine, address_of(at, first), count)
@@ -180,7 +180,7 @@ fn write_shown<W: Write>(
     count: u32,
 ) -> Result<(), WriteFailed>
     ensures writes { Writes (W.contents writer.old) (W.contents writer.new) result
-        (shown_text machine.now.present.memory address count) }
+        (shown_text machine.now.present.base machine.now.present.memory address count) }
 {
     match address {
         Some(address) => write_seen(writer, machine, address, count as usize),
@@ -196,7 +196,7 @@ fn write_seen<W: Write>(
     count: usize,
 ) -> Result<(), WriteFailed>
     ensures writes { Writes (W.contents writer.old) (W.contents writer.new) result
-        (seen_text machine.now.present.memory address count) }
+        (seen_text machine.now.present.base machine.now.present.memory address count) }
 {
     let mut octets = [0; MOST_SHOWN];
     if count > MOST_SHOWN {

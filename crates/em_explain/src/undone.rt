@@ -1,6 +1,6 @@
 //! Outcomes of events that did nothing.
 ghost use Rattle.std.specs.Prelude.{◌≡◌};
-ghost use Rattle.em_explain.specs.Undone.{undone_by, undone_of};
+ghost use Rattle.em_explain.specs.Undone.{is_undone, undone_by, undone_of};
 
 use em_step::{Answer, Reason, Refusal};
 
@@ -35,4 +35,11 @@ pub(crate) fn undone_of(came: Option<Result<Answer, Refusal>>) -> Option<Undone>
         Some(outcome) => undone_by(outcome),
         None => None,
     }
+}
+
+/// Whether an event did nothing that came to this, if there was one. Only then is it asked which event it was.
+pub fn is_undone(came: Option<Result<Answer, Refusal>>) -> bool
+    ensures { result ≡ is_undone came }
+{
+    undone_of(came).is_some()
 }

@@ -1,15 +1,12 @@
-//! Why the event of a line did nothing.
-ghost use Rattle.std.specs.Prelude.{◌≡◌, IfOk, Some};
+//! Why an event did nothing.
+ghost use Rattle.std.specs.Prelude.{◌≡◌, Some};
+ghost use Rattle.std.specs.Option.{option_map};
 ghost use Rattle.em_step.specs.Event.{plain};
-ghost use Rattle.em_line.specs.Grammar.{parsed_line};
-ghost use Rattle.em_line.specs.ParsedLine.{event_in};
-ghost use Rattle.em_line.specs.Parts.{said_in};
 ghost use Rattle.em_explain.specs.Undone.{undone_by, undone_of};
 ghost use Rattle.em_explain.specs.Why.{IsLost, IsRefused, IsWhy, idle_why, IsWhyOf};
 
 use crate::undone::{Undone, undone_by, undone_of};
 use em_journal::Machine;
-use em_line::Line;
 use em_reasons::{
     Dropped, Look, Refused, RxIdle, TxIdle, why_dropped, why_refused, why_rx_idle, why_tx_idle,
     write_dropped, write_refused, write_rx_idle, write_tx_idle,
@@ -73,23 +70,18 @@ pub fn why_of(machine: &Machine, event: Event<'_>, outcome: Result<Answer, Refus
     }
 }
 
-/// Why the event of a line did nothing that came to this, if it did nothing. The machine is as the line left it.
-pub(crate) fn why_of_line(
-    alloc: Global,
+/// The same of an event, if there was one, that came to this. The machine is as the event left it.
+pub(crate) fn why_came(
     machine: &Machine,
-    line: &[u8],
+    event: Option<Event<'_>>,
     came: Option<Result<Answer, Refusal>>,
-) -> Result<Option<Why>, AllocError>
-    ensures { IfOk result
-        (IsWhyOf machine.now.present (event_in (parsed_line (said_in line.now))) (undone_of came)) }
+) -> Option<Why>
+    ensures { IsWhyOf machine.now.present (option_map plain event.entry) (undone_of came) result }
 {
-    let Some(undone) = undone_of(came) else {
-        return Ok(None);
-    };
-    let line = Line::read(alloc, line)?;
-    match line.event() {
-        Some(event) => Ok(why_undone(machine, event, undone)),
-        None => Ok(None),
+    let undone = undone_of(came)?;
+    match event {
+        Some(event) => why_undone(machine, event, undone),
+        None => None,
     }
 }
 

@@ -4,10 +4,13 @@
 
 mod bad;
 mod files;
+mod head;
+mod numbers;
 mod script;
 mod words;
 
 pub use bad::{write_wrong_of, wrong_in};
 pub use files::{InputRefused, input_of, is_one_file};
+pub use head::{Head, take_head};
 pub use script::{InputFault, MOST_INPUT, is_compressed, read_input};
-pub use words::{BUDGETS, MACS, SIZES, without_colons};
+pub use words::{BASES, BUDGETS, MACS, MachineWords, SIZES, WordRefused};

@@ -1,9 +1,17 @@
-//! Words of a command line, as each program has them.
+//! Words of a command line, as each program has them that takes more than em_bench's.
 
+use crate::head::Head;
+use crate::numbers::{address_of, size_of};
+use em_journal::Settings;
 use std::alloc::{AllocError, Global};
 
-/// What `--memory` may have.
-pub const SIZES: &str = "octets of guest memory are a multiple of 4096, from 4096 to 16777216";
+/// What `--memory` and `--base` may have.
+pub const SIZES: &str =
+    "guest memory begins at a multiple of 4096, has a multiple of 4096 octets, and ends at \
+10000000000 at most";
+
+/// What `--base` has to have.
+pub const BASES: &str = "--base wants 1 to 16 hexadecimal digits";
 
 /// What `--budget` may have.
 pub const BUDGETS: &str = "the journal's records may cost from 65536 to 16777216 octets together";
@@ -11,8 +19,192 @@ pub const BUDGETS: &str = "the journal's records may cost from 65536 to 16777216
 /// What `--mac` may have.
 pub const MACS: &str = "an Ethernet address is 12 hexadecimal digits, in which colons may stand";
 
+/// The words that say what a machine is made of.
+#[derive(Drop)]
+pub struct MachineWords {
+    /// The program's name, and the words as em_bench has them: addresses without colons, and sizes in octets.
+    pub options: Vec<String>,
+    /// Where memory begins, if a word says so.
+    base: Option<u64>,
+    /// Whether a word says how much memory there is.
+    has_size: bool,
+    /// Whether one says how much the journal's records may cost.
+    has_budget: bool,
+    /// Whether one gives an Ethernet address.
+    has_mac: bool,
+    awaits: Awaits,
+}
+
+/// What the word before one is to it.
+#[derive(Clone, Copy, PartialEq, Eq, Debug)]
+enum Awaits {
+    /// `--mac`, which an address follows.
+    Mac,
+    /// `--memory`, which a size follows.
+    Size,
+    /// `--base`, which an address follows.
+    Base,
+    /// `--budget`, which a number follows.
+    Budget,
+    /// `--` stood before: each word is a file.
+    Files,
+    Nothing,
+}
+
+/// Why a word is refused.
+#[derive(Clone, Copy, PartialEq, Eq, Debug)]
+pub enum WordRefused {
+    /// What stands behind `--base` is no address.
+    Base,
+    /// `--base` stands twice.
+    TwoBases,
+    /// Memory was refused.
+    Memory,
+}
+
+impl From<AllocError> for WordRefused {
+    fn from(_: AllocError) -> WordRefused {
+        WordRefused::Memory
+    }
+}
+
+impl MachineWords {
+    /// No word was taken.
+    pub fn new(alloc: Global) -> MachineWords {
+        MachineWords {
+            options: Vec::new(alloc),
+            base: None,
+            has_size: false,
+            has_budget: false,
+            has_mac: false,
+            awaits: Awaits::Nothing,
+        }
+    }
+
+    /// Whether the next word is an option's value.
+    pub fn awaits_value(&self) -> bool {
+        self.awaits != Awaits::Nothing && self.awaits != Awaits::Files
+    }
+
+    /// Whether a value is missing that em_bench knows nothing of.
+    pub fn lacks_base(&self) -> bool {
+        self.awaits == Awaits::Base
+    }
+
+    /// Takes a word.
+    pub fn take(&mut self, alloc: Global, word: String) -> Result<(), WordRefused> {
+        let awaits = self.awaits;
+        self.awaits = Awaits::Nothing;
+        match awaits {
+            Awaits::Mac => self.put(without_colons(alloc, word.as_str())?)?,
+            Awaits::Size => self.put(in_octets(alloc, word.as_str())?)?,
+            Awaits::Base => self.set_base(word.as_str())?,
+            Awaits::Budget => self.put(word)?,
+            Awaits::Files => {
+                self.awaits = Awaits::Files;
+                self.put(word)?;
+            }
+            Awaits::Nothing => self.take_option(alloc, word)?,
+        }
+        Ok(())
+    }
+
+    /// Takes a word that is no option's value.
+    fn take_option(&mut self, alloc: Global, word: String) -> Result<(), WordRefused> {
+        match word.as_str() {
+            "--" => self.awaits = Awaits::Files,
+            "--mac" => {
+                self.has_mac = true;
+                self.awaits = Awaits::Mac;
+            }
+            "--budget" => {
+                self.has_budget = true;
+                self.awaits = Awaits::Budget;
+            }
+            "--memory" => {
+                self.has_size = true;
+                self.awaits = Awaits::Size;
+            }
+            "--base" => {
+                self.awaits = Awaits::Base;
+                return Ok(());
+            }
+            text => return self.take_other(alloc, text),
+        }
+        self.put(word)?;
+        Ok(())
+    }
+
+    /// Takes a word that has its option's value in it, or is none of these options.
+    fn take_other(&mut self, alloc: Global, text: &str) -> Result<(), WordRefused> {
+        if let Some(base) = text.strip_prefix("--base=") {
+            return self.set_base(base);
+        }
+        if let Some(size) = text.strip_prefix("--memory=") {
+            self.has_size = true;
+            let size = in_octets(alloc, size)?;
+            self.put(format!(in alloc; "--memory={size}")?)?;
+        } else if text.starts_with("--mac=") {
+            self.has_mac = true;
+            self.put(without_colons(alloc, text)?)?;
+        } else {
+            self.has_budget = self.has_budget || text.starts_with("--budget=");
+            self.put(String::from_str(alloc, text)?)?;
+        }
+        Ok(())
+    }
+
+    /// Puts a word behind em_bench's.
+    fn put(&mut self, word: String) -> Result<(), AllocError> {
+        self.options.push(word)?;
+        Ok(())
+    }
+
+    /// What the machine is made of: what the words say by em_bench's settings, and else what the head of the script says.
+    /// Where a word says something of memory, the head says nothing of it.
+    pub fn settings(&self, said: Settings, head: Option<Head>) -> Settings {
+        let base = self.base.unwrap_or(0);
+        let Some(head) = head else {
+            return Settings { base, ..said };
+        };
+        let (base, memory) = if self.base.is_some() || self.has_size {
+            (base, said.memory)
+        } else {
+            (
+                head.base.unwrap_or(base),
+                head.memory.unwrap_or(said.memory),
+            )
+        };
+        Settings {
+            base,
+            memory,
+            budget: if self.has_budget {
+                said.budget
+            } else {
+                head.budget.unwrap_or(said.budget)
+            },
+            mac: if self.has_mac {
+                said.mac
+            } else {
+                head.mac.unwrap_or(said.mac)
+            },
+        }
+    }
+
+    fn set_base(&mut self, text: &str) -> Result<(), WordRefused> {
+        if self.base.is_some() {
+            return Err(WordRefused::TwoBases);
+        }
+        self.base = address_of(text.as_bytes());
+        if self.base.is_none() {
+            return Err(WordRefused::Base);
+        }
+        Ok(())
+    }
+}
+
 /// An Ethernet address as em_bench has it: without colons.
-pub fn without_colons(alloc: Global, word: &str) -> Result<String, AllocError> {
+fn without_colons(alloc: Global, word: &str) -> Result<String, AllocError> {
     let mut digits = String::new(alloc);
     for digit in word.chars() {
         if digit != ':' {
@@ -20,4 +212,12 @@ pub fn without_colons(alloc: Global, word: &str) -> Result<String, AllocError> {
         }
     }
     Ok(digits)
+}
+
+/// A size as em_bench has it: without K, M or G. What is no size stays as it is.
+fn in_octets(alloc: Global, word: &str) -> Result<String, AllocError> {
+    match size_of(word.as_bytes()) {
+        Some(size) => size.to_string(alloc),
+        None => String::from_str(alloc, word),
+    }
 }

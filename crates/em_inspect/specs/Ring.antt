@@ -2,7 +2,7 @@
 use Rattle.std.specs.Prelude.{ℕ, ◌+◌, ◌*◌, ◌&&◌, ◌||◌, nat_lt, nat_le, if◌then◌else◌, Bool, List, length, slice_index}
 use Rattle.std.specs.Prelude.{Option, Some, None}
 use Rattle.std.specs.Option.{option_map}
-use Rattle.em_mem.specs.Memory.{part}
+use Rattle.em_mem.specs.Memory.{leaves, part}
 use Rattle.em_regs.specs.declared.setup.RxSetup.{RxSetup}
 use Rattle.em_regs.specs.declared.setup.TxSetup.{TxSetup}
 use Rattle.em_regs.specs.declared.ring.Ring.{Ring}
@@ -42,9 +42,9 @@ abbrev pub extent_of : Ring → Extent
 extent_of r = record { at = r.base; size = 16 * r.count }
 
 -- the octets of descriptor i in guest memory; none where it leaves it
-abbrev pub octets_at : Ring → List ℕ → ℕ → Option (List ℕ)
-octets_at r memory i =
-    if nat_lt (length memory) (descriptor_at r i + 16) then None else Some (part memory (descriptor_at r i) 16)
+abbrev pub octets_at : Ring → ℕ → List ℕ → ℕ → Option (List ℕ)
+octets_at r base memory i =
+    if leaves base memory (descriptor_at r i) 16 then None else Some (part memory (descriptor_at r i) 16)
 
 abbrev pub rx_fields : RxDescriptor → Fields
 rx_fields d = record { buffer = d.address; length = d.length; bits = Rx d.status d.errors }
@@ -59,5 +59,5 @@ fields_in Transmit octets = record {
 }
 
 -- what descriptor i says
-abbrev pub fields_at : SidedRing → List ℕ → ℕ → Option Fields
-fields_at r memory i = option_map (fields_in r.side) (octets_at r.setup memory i)
+abbrev pub fields_at : SidedRing → ℕ → List ℕ → ℕ → Option Fields
+fields_at r base memory i = option_map (fields_in r.side) (octets_at r.setup base memory i)

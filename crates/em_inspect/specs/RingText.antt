@@ -2,6 +2,7 @@
 use Rattle.std.specs.Prelude.{ℕ, ◌+◌, ◌-◌, ◌==◌, min, nat_lt, if◌then◌else◌, Bool, List, [], ◌++◌, length, codes}
 use Rattle.std.specs.Prelude.{decimal}
 use Rattle.std.specs.List.{flat_map, range_with_len}
+use Rattle.em_mem.specs.Memory.{leaves}
 use Rattle.em_inspect.specs.declared.ring.Side.{Side}
 use Rattle.em_inspect.specs.declared.ring.Side.TheVariants.{Receive, Transmit}
 use Rattle.em_inspect.specs.declared.ring.SidedRing.{SidedRing}
@@ -53,26 +54,26 @@ abbrev pub ring_line : SidedRing → Bool → List ℕ
 ring_line r outside = if r.setup.count == 0 then empty_line r else full_line r outside
 
 -- descriptor 0 lies outside guest memory, or part of it does
-abbrev pub is_outside : SidedRing → List ℕ → Bool
-is_outside r memory = nat_lt (length memory) (r.setup.base + 16)
+abbrev pub is_outside : SidedRing → ℕ → List ℕ → Bool
+is_outside r base memory = leaves base memory r.setup.base 16
 
 -- the line of descriptor i
-abbrev pub line_of_index : SidedRing → List ℕ → ℕ → List ℕ
-line_of_index r memory i = descriptor_text (descriptor_in r memory i)
+abbrev pub line_of_index : SidedRing → ℕ → List ℕ → ℕ → List ℕ
+line_of_index r base memory i = descriptor_text (descriptor_in r base memory i)
 
 -- the lines of n descriptors, from an index on
-abbrev pub descriptors_text : SidedRing → List ℕ → ℕ → ℕ → List ℕ
-descriptors_text r memory from n = flat_map (λ k. line_of_index r memory (from + k)) (range_with_len 0 n)
+abbrev pub descriptors_text : SidedRing → ℕ → List ℕ → ℕ → ℕ → List ℕ
+descriptors_text r base memory from n = flat_map (λ k. line_of_index r base memory (from + k)) (range_with_len 0 n)
 
 -- how many descriptors are shown, of so many from an index on
 abbrev pub shown : SidedRing → Bool → ℕ → ℕ → ℕ
 shown r outside from most = if outside then 0 else min most (r.setup.count - from)
 
 -- the ring's line, and those of descriptors
-abbrev pub ring_text : SidedRing → List ℕ → ℕ → ℕ → List ℕ
-ring_text r memory from most =
-    let outside = is_outside r memory in
-    ring_line r outside ++ descriptors_text r memory from (shown r outside from most)
+abbrev pub ring_text : SidedRing → ℕ → List ℕ → ℕ → ℕ → List ℕ
+ring_text r base memory from most =
+    let outside = is_outside r base memory in
+    ring_line r outside ++ descriptors_text r base memory from (shown r outside from most)
 
 -- the first of 64 descriptors to show: eight before the head, or so many before the ring's end
 abbrev pub shown_from : SidedRing → ℕ

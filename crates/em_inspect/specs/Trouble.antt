@@ -3,6 +3,7 @@ use Rattle.std.specs.Prelude.{ℕ, ◌+◌, ◌==◌, ◌&&◌, nat_lt, not, if�
 use Rattle.std.specs.Prelude.{Option, Some, None}
 use Rattle.std.specs.Option.{option_map, option_map_or}
 use Rattle.std.specs.List.{range_with_len}
+use Rattle.em_mem.specs.Memory.{leaves}
 use Rattle.em_regs.specs.declared.ring.Ring.{Ring}
 use Rattle.em_regs.specs.Setup.{bit}
 use Rattle.em_inspect.specs.declared.ring.Side.{Side}
@@ -58,8 +59,8 @@ abbrev pub claim_in : SidedRing → ℕ → Option Fields → Option Extent
 claim_in r i None = None
 claim_in r i (Some f) = claimed r i f
 
-abbrev pub claim_of : SidedRing → List ℕ → ℕ → Option Extent
-claim_of r memory i = claim_in r i (fields_at r memory i)
+abbrev pub claim_of : SidedRing → ℕ → List ℕ → ℕ → Option Extent
+claim_of r base memory i = claim_in r i (fields_at r base memory i)
 
 -- the driver has taken the frame of one of descriptors i and j, and posted its buffer again as the other's: they name
 -- the same buffer, and not both are the adapter's
@@ -71,13 +72,13 @@ abbrev pub clash : Ring → ℕ → Extent → ℕ → Extent → Bool
 clash r i a j b = overlaps a b && not (is_posted_again r i a j b)
 
 -- descriptor j is another one than i, whose buffer lies over this one
-abbrev pub is_over : SidedRing → List ℕ → ℕ → Extent → ℕ → Bool
-is_over r memory i buffer j =
-    if j == i then false else option_map_or (clash r.setup i buffer j) (claim_of r memory j) false
+abbrev pub is_over : SidedRing → ℕ → List ℕ → ℕ → Extent → ℕ → Bool
+is_over r base memory i buffer j =
+    if j == i then false else option_map_or (clash r.setup i buffer j) (claim_of r base memory j) false
 
 -- the lowest such
-abbrev pub lowest_over : SidedRing → List ℕ → ℕ → Extent → Option ℕ
-lowest_over r memory i buffer = find (is_over r memory i buffer) (range_with_len 0 r.setup.count)
+abbrev pub lowest_over : SidedRing → ℕ → List ℕ → ℕ → Extent → Option ℕ
+lowest_over r base memory i buffer = find (is_over r base memory i buffer) (range_with_len 0 r.setup.count)
 
 -- ---- in the order in which they are told
 
@@ -94,11 +95,11 @@ format_trouble (Receive size) f = None
 format_trouble Transmit f = sent_trouble f
 
 -- what is wrong with the buffer of descriptor i
-abbrev pub buffer_trouble : SidedRing → List ℕ → ℕ → Extent → Option Trouble
-buffer_trouble r memory i buffer =
-    if nat_lt (length memory) (buffer.at + buffer.size) then Some BufferOutside
+abbrev pub buffer_trouble : SidedRing → ℕ → List ℕ → ℕ → Extent → Option Trouble
+buffer_trouble r base memory i buffer =
+    if leaves base memory buffer.at buffer.size then Some BufferOutside
     else if overlaps buffer (extent_of r.setup) then Some OverRing
-    else option_map OverBuffer (lowest_over r memory i buffer)
+    else option_map OverBuffer (lowest_over r base memory i buffer)
 
 -- the first, or else the second
 abbrev pub or_else : Option Trouble → Option Trouble → Option Trouble
@@ -106,26 +107,27 @@ or_else None trouble = trouble
 or_else (Some trouble) _ = Some trouble
 
 -- what is wrong with a live descriptor
-abbrev pub live_trouble : SidedRing → List ℕ → ℕ → Fields → Option Trouble
-live_trouble r memory i f =
-    or_else (format_trouble r.side f) (buffer_trouble r memory i (buffer_of r.side f))
+abbrev pub live_trouble : SidedRing → ℕ → List ℕ → ℕ → Fields → Option Trouble
+live_trouble r base memory i f =
+    or_else (format_trouble r.side f) (buffer_trouble r base memory i (buffer_of r.side f))
 
-abbrev pub trouble_in : SidedRing → List ℕ → ℕ → Option Fields → Option Trouble
-trouble_in r memory i None = Some Outside
-trouble_in r memory i (Some f) = if is_live (owner_of r.setup i) f.bits then live_trouble r memory i f else None
+abbrev pub trouble_in : SidedRing → ℕ → List ℕ → ℕ → Option Fields → Option Trouble
+trouble_in r base memory i None = Some Outside
+trouble_in r base memory i (Some f) =
+    if is_live (owner_of r.setup i) f.bits then live_trouble r base memory i f else None
 
 -- what is wrong with descriptor i first
-abbrev pub trouble_of : SidedRing → List ℕ → ℕ → Option Trouble
-trouble_of r memory i = trouble_in r memory i (fields_at r memory i)
+abbrev pub trouble_of : SidedRing → ℕ → List ℕ → ℕ → Option Trouble
+trouble_of r base memory i = trouble_in r base memory i (fields_at r base memory i)
 
 -- descriptor i
-abbrev pub descriptor_in : SidedRing → List ℕ → ℕ → Descriptor
-descriptor_in r memory i = record {
+abbrev pub descriptor_in : SidedRing → ℕ → List ℕ → ℕ → Descriptor
+descriptor_in r base memory i = record {
   index = i;
   address = descriptor_at r.setup i;
   owner = owner_of r.setup i;
   is_head = i == r.setup.head;
   is_tail = i == r.setup.tail;
-  fields = fields_at r memory i;
-  trouble = trouble_of r memory i;
+  fields = fields_at r base memory i;
+  trouble = trouble_of r base memory i;
 }

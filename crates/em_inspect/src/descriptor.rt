@@ -62,7 +62,7 @@ pub struct Descriptor {
 impl SidedRing {
     /// What the descriptor at an index says; none where it lies outside guest memory.
     pub(crate) fn fields(&self, machine: &Machine, index: u32) -> Option<Fields>
-        ensures { result ≡ fields_at self.now machine.now.present.memory index }
+        ensures { result ≡ fields_at self.now machine.now.present.base machine.now.present.memory index }
     {
         let octets = octets_at(machine, &self.setup, index)?;
         Some(self.side.fields(octets))
@@ -71,7 +71,7 @@ impl SidedRing {
 
 /// The octets of the descriptor at an index of a ring; none where it lies outside guest memory.
 pub fn octets_at(machine: &Machine, ring: &Ring, index: u32) -> Option<[u8; DESCRIPTOR_OCTETS]>
-    ensures { result ≡ octets_at ring.now machine.now.present.memory index }
+    ensures { result ≡ octets_at ring.now machine.now.present.base machine.now.present.memory index }
 {
     addresses_are_small(machine);
     let address = ring.address_of(index)?;

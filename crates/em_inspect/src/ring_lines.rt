@@ -35,9 +35,10 @@ impl SidedRing {
 
     /// Whether descriptor 0 lies outside guest memory, or part of it does.
     fn is_outside(&self, machine: &Machine) -> bool
-        ensures { result ≡ is_outside self.now machine.now.present.memory }
+        ensures { result ≡ is_outside self.now machine.now.present.base machine.now.present.memory }
     {
-        u128::from(machine.memory_size()) < u128::from(self.setup.base) + DESCRIPTOR_OCTETS as u128
+        let end = u128::from(self.setup.base) + DESCRIPTOR_OCTETS as u128;
+        self.setup.base < machine.memory_base() || u128::from(machine.memory_end()) < end
     }
 }
 
@@ -53,7 +54,7 @@ pub fn write_ring<W: Write>(
     most: u32,
 ) -> Result<(), WriteFailed>
     ensures writes { Writes (W.contents writer.old) (W.contents writer.new) result
-        (ring_text ring.now machine.now.present.memory from most) }
+        (ring_text ring.now machine.now.present.base machine.now.present.memory from most) }
 {
     let outside = ring.is_outside(machine);
     write_ring_line(writer, ring, outside)?;
@@ -179,7 +180,7 @@ fn write_descriptors<W: Write>(
 ) -> Result<(), WriteFailed>
     requires { from + shown ≤ 0xFFFF_FFFF }
     ensures writes { Writes (W.contents writer.old) (W.contents writer.new) result
-        (descriptors_text ring.now machine.now.present.memory from shown) }
+        (descriptors_text ring.now machine.now.present.base machine.now.present.memory from shown) }
 {
     for k in 0..shown {
         write_descriptor_at(writer, machine, ring, from + k)?;
@@ -194,7 +195,7 @@ fn write_descriptor_at<W: Write>(
     index: u32,
 ) -> Result<(), WriteFailed>
     ensures writes { Writes (W.contents writer.old) (W.contents writer.new) result
-        (line_of_index ring.now machine.now.present.memory index) }
+        (line_of_index ring.now machine.now.present.base machine.now.present.memory index) }
 {
     write_descriptor(writer, &ring.descriptor(machine, index))
 }

@@ -43,7 +43,7 @@ impl SidedRing {
     /// Only the buffers of live descriptors count: of those that are the adapter's, and of those of the receive ring
     /// that it has written back (DD) and the driver has not taken. It looks at each descriptor of the ring.
     pub fn descriptor(&self, machine: &Machine, index: u32) -> Descriptor
-        ensures { result ≡ descriptor_in self.now machine.now.present.memory index }
+        ensures { result ≡ descriptor_in self.now machine.now.present.base machine.now.present.memory index }
     {
         Descriptor {
             index,
@@ -57,7 +57,7 @@ impl SidedRing {
     }
 
     fn trouble(&self, machine: &Machine, index: u32) -> Option<Trouble>
-        ensures { result ≡ trouble_of self.now machine.now.present.memory index }
+        ensures { result ≡ trouble_of self.now machine.now.present.base machine.now.present.memory index }
     {
         let Some(fields) = self.fields(machine, index) else {
             return Some(Trouble::Outside);
@@ -70,7 +70,7 @@ impl SidedRing {
 
     /// What is wrong with a live descriptor.
     fn live_trouble(&self, machine: &Machine, index: u32, fields: &Fields) -> Option<Trouble>
-        ensures { result ≡ live_trouble self.now machine.now.present.memory index fields.now }
+        ensures { result ≡ live_trouble self.now machine.now.present.base machine.now.present.memory index fields.now }
     {
         match self.side.format_trouble(fields) {
             Some(trouble) => Some(trouble),
@@ -80,9 +80,10 @@ impl SidedRing {
 
     /// What is wrong with the buffer of a descriptor.
     fn buffer_trouble(&self, machine: &Machine, index: u32, buffer: &Extent) -> Option<Trouble>
-        ensures { result ≡ buffer_trouble self.now machine.now.present.memory index buffer.now }
+        ensures { result
+            ≡ buffer_trouble self.now machine.now.present.base machine.now.present.memory index buffer.now }
     {
-        if u128::from(machine.memory_size()) < buffer.end() {
+        if buffer.at < machine.memory_base() || u128::from(machine.memory_end()) < buffer.end() {
             return Some(Trouble::BufferOutside);
         }
         if buffer.overlaps(&self.extent()) {
@@ -106,14 +107,14 @@ impl SidedRing {
 
     /// The lowest descriptor whose buffer lies over that of the one at an index.
     fn lowest_over(&self, machine: &Machine, index: u32, buffer: &Extent) -> Option<u32>
-        ensures { result ≡ lowest_over self.now machine.now.present.memory index buffer.now }
+        ensures { result ≡ lowest_over self.now machine.now.present.base machine.now.present.memory index buffer.now }
     {
         (0..self.setup.count).find(|other| self.is_over(machine, index, buffer, *other))
     }
 
     /// Whether the buffer of another descriptor lies over that of the one at an index.
     fn is_over(&self, machine: &Machine, index: u32, buffer: &Extent, other: u32) -> bool
-        ensures { result ≡ is_over self.now machine.now.present.memory index buffer.now other }
+        ensures { result ≡ is_over self.now machine.now.present.base machine.now.present.memory index buffer.now other }
     {
         if other == index {
             return false;
@@ -141,7 +142,7 @@ impl SidedRing {
 
     /// The buffer of a live descriptor; none where it is not live, or has none.
     fn claim(&self, machine: &Machine, index: u32) -> Option<Extent>
-        ensures { result ≡ claim_of self.now machine.now.present.memory index }
+        ensures { result ≡ claim_of self.now machine.now.present.base machine.now.present.memory index }
     {
         let fields = self.fields(machine, index)?;
         if owner_of(&self.setup, index).is_live(&fields.bits) && !fields.bits.is_extended() {

@@ -6,7 +6,7 @@ use Rattle.std.proofs.lemmas.Option.{slice_get_cases, slice_get_past}
 use Rattle.em_step.specs.Cells.{Cells, shows}
 use Rattle.em_step.specs.Undo.{Undo, Fits, undo}
 use Rattle.em_step.specs.State.{State}
-use Rattle.em_step.proofs.SizeLaws.{memory_size}
+use Rattle.em_step.proofs.SizeLaws.{memory_base, memory_size}
 use Rattle.em_journal.specs.Record.{IsRecordAt}
 use Rattle.em_journal.specs.Records.{AllFit, back_through, view_of}
 use Rattle.em_journal.specs.View.{HaveMemoryOf, View}
@@ -47,23 +47,31 @@ record_none (Some x) f rs k n is size = (
   λ past. absurd (let same = is ∙ slice_get_past rs k (omega (arith, size, past)) in cc),
 )
 
--- ---- memory has as many octets in each state as now
+-- ---- memory begins where it begins now, and has as many octets, in each state
+abbrev IsAsNow : Cells → State → Type 0
+IsAsNow c s = (s.base ≡ (shows c).base) × (length s.memory ≡ length (shows c).memory)
+
 sizes_in : (c : Cells) (rs : List Undo) → AllFit c rs → (k : ℕ) (s : State) → slice_get (back_through c rs) k ≡ Some s
-    → length s.memory ≡ length (shows c).memory
+    → IsAsNow c s
 sizes_in c [] fit k s is = absurd (cc)
 sizes_in c (r ∷ rs) fit zero s is =
-    let same : shows (undo c r) ≡ s = cc in
-    ap (λ (x : State). length x.memory) (sym same) ∙ memory_size c r fit.0
-sizes_in c (r ∷ rs) fit (suc k) s is = sizes_in (undo c r) rs fit.1 k s is ∙ memory_size c r fit.0
+    let same : shows (undo c r) ≡ s = cc in (
+      ap (λ (x : State). x.base) (sym same) ∙ memory_base c r,
+      ap (λ (x : State). length x.memory) (sym same) ∙ memory_size c r fit.0,
+    )
+sizes_in c (r ∷ rs) fit (suc k) s is =
+    let before = sizes_in (undo c r) rs fit.1 k s is in
+    (before.0 ∙ memory_base c r, before.1 ∙ memory_size c r fit.0)
 
 sizes : (c : Cells) (rs : List Undo) → AllFit c rs → (k : ℕ) (s : State)
-    → slice_get (shows c ∷ back_through c rs) k ≡ Some s → length s.memory ≡ length (shows c).memory
+    → slice_get (shows c ∷ back_through c rs) k ≡ Some s → IsAsNow c s
 sizes c rs fit zero s is =
     let same : shows c ≡ s = cc in
-    ap (λ (x : State). length x.memory) (sym same)
+    (ap (λ (x : State). x.base) (sym same), ap (λ (x : State). length x.memory) (sym same))
 sizes c rs fit (suc k) s is = sizes_in c rs fit k s is
 
-pub sizes_stay : (budget : ℕ) (c : Cells) (rs : List Undo) (v : View) (size : ℕ) → AllFit c rs
-    → view_of budget c rs ≡ v → size ≡ length (shows c).memory → HaveMemoryOf size v
-sizes_stay budget c rs v size fit view is =
-    subst (HaveMemoryOf size) view (λ k s at. sizes c rs fit k s at ∙ sym is)
+pub sizes_stay : (budget : ℕ) (c : Cells) (rs : List Undo) (v : View) (end : ℕ) → AllFit c rs
+    → view_of budget c rs ≡ v → end ≡ length (shows c).memory → HaveMemoryOf v.present.base end v
+sizes_stay budget c rs v end fit view is =
+    subst (λ (x : View). HaveMemoryOf x.present.base end x) view
+    (λ k s at. let now = sizes c rs fit k s at in record { begins = now.0; ends = now.1 ∙ sym is })

@@ -76,9 +76,9 @@ undos_same (r ∷ rs) m x y less fits room same =
 at_effect : (e : Effect) (x y : OldOctets) → x.top ≡ y.top → IsAtBy e x → IsAtBy e y
 at_effect effect.Nothing x y same at = tt
 at_effect (effect.Register old) x y same at = tt
-at_effect (effect.Octets a len place) x y same at = at ∙ same
+at_effect (effect.Octets high len low place) x y same at = at ∙ same
 at_effect (effect.Arrival old place) x y same at = at ∙ same
-at_effect (effect.RxStep left len buffer end_at place) x y same at = at ∙ same
+at_effect (effect.RxStep high word low end rest) x y same at = at ∙ same
 at_effect (effect.TxStep old head) x y same at = tt
 at_effect (effect.Link old) x y same at = tt
 at_effect (effect.Reset old) x y same at = tt
@@ -362,12 +362,12 @@ at_place : (e : Effect) (n : ℕ) (o : OldOctets) → n < length o.octets → o.
     → IsAtBy e (given_up n o) → changed e (given_up n o) ≡ changed e (octets_from e o)
 at_place effect.Nothing n o less inside at = refl
 at_place (effect.Register old) n o less inside at = refl
-at_place (effect.Octets a len place) n o less inside at =
-    ap (changed (effect.Octets a len place)) (sym (seen_given n o less inside) ∙ ap (λ (k : ℕ). seen_from k o) (sym at))
+at_place (effect.Octets high len low place) n o less inside at =
+    ap (changed (effect.Octets high len low place)) (sym (seen_given n o less inside) ∙ ap (λ (k : ℕ). seen_from k o) (sym at))
 at_place (effect.Arrival old place) n o less inside at =
     ap (changed (effect.Arrival old place)) (sym (seen_given n o less inside) ∙ ap (λ (k : ℕ). seen_from k o) (sym at))
-at_place (effect.RxStep left len buffer end_at place) n o less inside at =
-    ap (changed (effect.RxStep left len buffer end_at place))
+at_place (effect.RxStep high word low end rest) n o less inside at =
+    ap (changed (effect.RxStep high word low end rest))
     (sym (seen_given n o less inside) ∙ ap (λ (k : ℕ). seen_from k o) (sym at))
 at_place (effect.TxStep old head) n o less inside at = refl
 at_place (effect.Link old) n o less inside at = refl
@@ -377,11 +377,11 @@ placed : (e : Effect) (n : ℕ) (o : OldOctets) → n < length o.octets → o.to
     → IsAtBy e (given_up n o) → IsPlacedBy e o
 placed effect.Nothing n o less inside at = tt
 placed (effect.Register old) n o less inside at = tt
-placed (effect.Octets a len place) n o less inside at =
+placed (effect.Octets high len low place) n o less inside at =
     omega (arith, at, forward-inside (length o.octets) n o.top inside (omega (arith, less)))
 placed (effect.Arrival old place) n o less inside at =
     omega (arith, at, forward-inside (length o.octets) n o.top inside (omega (arith, less)))
-placed (effect.RxStep left len buffer end_at place) n o less inside at =
+placed (effect.RxStep high word low end rest) n o less inside at =
     omega (arith, at, forward-inside (length o.octets) n o.top inside (omega (arith, less)))
 placed (effect.TxStep old head) n o less inside at = tt
 placed (effect.Link old) n o less inside at = tt

@@ -1,6 +1,6 @@
 -- What settings make, and when they make nothing.
 use Rattle.std.specs.Prelude.{◌≡◌, ℕ, List, [], ◌∷◌, codes}
-use Rattle.em_mem.specs.Memory.{IsMemorySize}
+use Rattle.em_mem.specs.Memory.{IsMemoryRange}
 use Rattle.em_eeprom.specs.Eeprom.{words_of_mac}
 use Rattle.em_step.specs.Cells.{fresh, shows}
 use Rattle.em_journal.specs.Budget.{IsBudget}
@@ -9,9 +9,10 @@ use Rattle.em_journal.specs.declared.settings.Settings.{Settings}
 use Rattle.em_journal.specs.declared.settings.SettingsRefusal.{SettingsRefusal}
 use Rattle.em_journal.specs.declared.settings.SettingsRefusal.TheVariants.{Size, Budget, Memory}
 
--- where nobody says otherwise: 64 KiB of memory, 1 MiB for the journal, and an address that is administered locally
+-- where nobody says otherwise: 64 KiB of memory from address 0 on, 1 MiB for the journal, and an address that is administered locally
 abbrev pub defaults : Settings
 defaults = record {
+  base = 0;
   memory = 65_536;
   budget = 1_048_576;
   mac = 0x52 ∷ 0x54 ∷ 0x00 ∷ 0x12 ∷ 0x34 ∷ 0x56 ∷ [];
@@ -20,18 +21,19 @@ defaults = record {
 abbrev pub IsDefault : Settings → Type 0
 IsDefault settings = settings ≡ defaults
 
--- after a reset, over a memory of zeros, with the link down and nothing to take back
+-- after a reset, over a memory of zeros from its base on, with the link down and nothing to take back
 abbrev pub new_machine : Settings → View
-new_machine settings = opening settings.budget (shows (fresh settings.memory (words_of_mac settings.mac)))
+new_machine settings =
+    opening settings.budget (shows (fresh settings.base settings.memory (words_of_mac settings.mac)))
 
--- a memory and a journal can be of these sizes
+-- memory can lie there, and a journal can be of this size
 abbrev pub AreAllowed : Settings → Type 0
-AreAllowed settings = IsMemorySize settings.memory × IsBudget settings.budget
+AreAllowed settings = IsMemoryRange settings.base settings.memory × IsBudget settings.budget
 
--- the size of memory is named first, then the budget, and want of memory where neither refuses
+-- where memory lies is named first, then the budget, and want of memory where neither refuses
 abbrev pub IsRefusedAs : Settings → SettingsRefusal → Type 0
-IsRefusedAs settings Size = IsMemorySize settings.memory → ⊥
-IsRefusedAs settings Budget = IsMemorySize settings.memory × (IsBudget settings.budget → ⊥)
+IsRefusedAs settings Size = IsMemoryRange settings.base settings.memory → ⊥
+IsRefusedAs settings Budget = IsMemoryRange settings.base settings.memory × (IsBudget settings.budget → ⊥)
 IsRefusedAs settings Memory = AreAllowed settings
 
 -- the name of what refused settings, as it is printed

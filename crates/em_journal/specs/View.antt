@@ -29,9 +29,14 @@ opening budget s = record { budget = budget; present = s; past = []; costs = [] 
 abbrev pub states : View → List State
 states v = v.present ∷ v.past
 
--- in each of them memory has so many octets
-abbrev pub HaveMemoryOf : ℕ → View → Type 0
-HaveMemoryOf size v = (k : ℕ) (s : State) → slice_get (states v) k ≡ Some s → length s.memory ≡ size
+-- memory begins at a base, and ends there
+pub record HasMemoryOf (base end : ℕ) (s : State) : Type 0 where
+  pub begins : s.base ≡ base
+  pub ends : length s.memory ≡ end
+
+-- so it does in each of them
+abbrev pub HaveMemoryOf : ℕ → ℕ → View → Type 0
+HaveMemoryOf base end v = (k : ℕ) (s : State) → slice_get (states v) k ≡ Some s → HasMemoryOf base end s
 
 -- how many costs, from the newest on, the budget holds
 abbrev pub reach : ℕ → List ℕ → ℕ

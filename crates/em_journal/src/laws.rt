@@ -64,5 +64,5 @@ pub fn made_pages()
 pub fn addresses_are_small(machine: &Machine)
     ensures { length machine.now.present.memory < 2 ^ 64 }
 {
-    machine.memory_size();
+    machine.memory_end();
 }

@@ -19,7 +19,7 @@ ghost use Rattle.std.specs.Prelude.{◌≡◌, ◌+◌, ◌<◌, ◌≤◌, ◌�
 ghost use Rattle.std.specs.Prelude.{◌/◌, IfSome, IsNone};
 ghost use Rattle.std.specs.Prelude.{length, min, replicate, slice_get};
 ghost use Rattle.std.specs.Option.{option_map};
-ghost use Rattle.em_mem.specs.Memory.{part};
+ghost use Rattle.em_mem.specs.Memory.{LiesIn, leaves, part};
 ghost use Rattle.em_regs.specs.Table.{IsReg, offset_of, reg_at};
 ghost use Rattle.em_regs.specs.RegFile.{IsStored, OnlyStores};
 ghost use Rattle.em_latch.specs.Latches.{IsAsserted, IsLatched};
@@ -411,9 +411,12 @@ impl Machine {
 
     /// Copies the octets of guest memory at an address out. Refused as Range where they leave
     /// memory; `out` then stays.
+    #[inline(always)]
     pub fn peek(&self, addr: u64, out: &mut [u8]) -> Result<(), Refusal>
         ensures ok { OnOk result (out.new ≡ part self.now.present.memory addr (length out.old)) }
-        ensures range { IsErrOf result Refusal.Range ↔ (length self.now.present.memory < addr + length out.old) }
+        ensures held { OnOk result (LiesIn self.now.present.base self.now.present.memory addr (length out.old)) }
+        ensures range { IsErrOf result Refusal.Range
+            ↔ IsTrue (leaves self.now.present.base self.now.present.memory addr (length out.old)) }
         ensures only { IfErr result (λ e. e ≡ Refusal.Range) }
         ensures same { OnErr result (out.new ≡ out.old) }
     {
@@ -478,10 +481,25 @@ impl Machine {
         self.adapter.gathered()
     }
 
+    /// The address of the first octet of the guest's memory.
+    pub fn memory_base(&self) -> u64
+        ensures { result ≡ self.now.present.base }
+    {
+        self.adapter.memory_base()
+    }
+
+    /// The address behind the last octet of the guest's memory. In each state memory begins and ends where it does now.
+    pub fn memory_end(&self) -> u64
+        ensures end { result ≡ length self.now.present.memory }
+        ensures states { HaveMemoryOf self.now.present.base result self.now }
+    {
+        self.adapter.memory_end()
+    }
+
     /// How many octets the guest's memory has: as many in each state.
     pub fn memory_size(&self) -> u64
-        ensures size { result ≡ length self.now.present.memory }
-        ensures states { HaveMemoryOf result self.now }
+        ensures size { self.now.present.base + result ≡ length self.now.present.memory }
+        ensures states { HaveMemoryOf self.now.present.base (self.now.present.base + result) self.now }
     {
         self.adapter.memory_size()
     }

@@ -10,8 +10,8 @@ impl Machine {
     /// What the next step of the receive engine reads of guest memory, and what it writes there.
     pub fn needs_rx(&self) -> Needs
         ensures needs { result ≡ rx_needs self.now.present }
-        ensures reads { AreHeld self.now.present.memory result.reads }
-        ensures writes { AreHeld self.now.present.memory result.writes }
+        ensures reads { AreHeld self.now.present.base self.now.present.memory result.reads }
+        ensures writes { AreHeld self.now.present.base self.now.present.memory result.writes }
     {
         self.adapter.needs_rx()
     }
@@ -19,8 +19,8 @@ impl Machine {
     /// The same of the transmit engine.
     pub fn needs_tx(&self) -> Needs
         ensures needs { result ≡ tx_needs self.now.present }
-        ensures reads { AreHeld self.now.present.memory result.reads }
-        ensures writes { AreHeld self.now.present.memory result.writes }
+        ensures reads { AreHeld self.now.present.base self.now.present.memory result.reads }
+        ensures writes { AreHeld self.now.present.base self.now.present.memory result.writes }
     {
         self.adapter.needs_tx()
     }

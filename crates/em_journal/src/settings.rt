@@ -1,6 +1,6 @@
 //! What a machine is made of, and what it is made of where nobody says otherwise.
 ghost use Rattle.std.specs.Prelude.{◌≡◌, ◌↔◌, IfOk, IfErr, OnOk};
-ghost use Rattle.em_mem.specs.Memory.{IsMemorySize};
+ghost use Rattle.em_mem.specs.Memory.{IsMemoryRange};
 ghost use Rattle.em_journal.specs.Settings.{name_of, new_machine, AreAllowed, IsRefusedAs};
 
 use crate::machine::{Machine, is_budget};
@@ -14,7 +14,9 @@ use thiserror::Error;
 /// What a machine is made of; `Settings::default()` is what it is made of where nobody says otherwise.
 #[derive(Clone, Copy, PartialEq, Eq, Debug)]
 pub struct Settings {
-    /// How many octets the guest's memory has: a multiple of 4,096 from 4,096 to 16,777,216.
+    /// The address of the first octet of the guest's memory: a multiple of 4,096.
+    pub base: u64,
+    /// How many octets that memory has: a multiple of 4,096, from 4,096 on. It ends at 2^40 at most.
     pub memory: u64,
     /// The journal's budget in octets of cost, from 65,536 to 16,777,216.
     pub budget: u64,
@@ -22,8 +24,9 @@ pub struct Settings {
     pub mac: [u8; 6],
 }
 
-/// 64 KiB of memory, 1 MiB for the journal, and an address that is administered locally.
+/// 64 KiB of memory from address 0 on, 1 MiB for the journal, and an address that is administered locally.
 const DEFAULTS: Settings = Settings {
+    base: 0,
     memory: 65_536,
     budget: 1_048_576,
     mac: [0x52, 0x54, 0x00, 0x12, 0x34, 0x56],
@@ -43,7 +46,7 @@ impl Default for Settings {
 #[derive(Clone, Copy, PartialEq, Eq, Debug, Error)]
 #[error("{}", self.name())]
 pub enum SettingsRefusal {
-    /// The size of memory is not a multiple of 4,096 from 4,096 to 16,777,216.
+    /// Memory can not lie there, or have that size.
     Size,
     /// The budget lies outside 65,536 to 16,777,216 octets of cost.
     Budget,
@@ -74,7 +77,7 @@ impl Settings {
         ensures allowed { OnOk result (AreAllowed self.now) }
         ensures err { IfErr result (IsRefusedAs self.now) }
     {
-        let adapter = match Adapter::new(alloc, self.memory, Eeprom::of_mac(self.mac)) {
+        let adapter = match Adapter::at(alloc, self.base, self.memory, Eeprom::of_mac(self.mac)) {
             Ok(adapter) => adapter,
             Err(refusal) => return Err(self.without_adapter(refusal)),
         };
@@ -88,7 +91,8 @@ impl Settings {
     /// What refuses settings for which no adapter was made: a budget that is not allowed is named
     /// before the want of memory.
     fn without_adapter(&self, refusal: MemRefusal) -> SettingsRefusal
-        requires { (refusal ≡ MemRefusal.Size) ↔ (IsMemorySize self.now.memory → ⊥) }
+        requires size { (refusal ≡ MemRefusal.Size) ↔ (IsMemoryRange self.now.base self.now.memory → ⊥) }
+        requires memory { refusal ≡ MemRefusal.Memory → IsMemoryRange self.now.base self.now.memory }
         ensures { IsRefusedAs self.now result }
     {
         match refusal {

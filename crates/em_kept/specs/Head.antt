@@ -4,17 +4,28 @@ use Rattle.std.specs.Int.{w16, to_be_bytes}
 use Rattle.std.specs.List.{flat_map, list_all, range_with_len}
 use Rattle.em_eeprom.specs.Eeprom.{mac_of, word_at, words_of_mac}
 use Rattle.em_text.specs.Writer.{hex_line_text, hex_text}
-use Rattle.em_kept.specs.Kept.{numbers_behind}
+use Rattle.em_kept.specs.Kept.{address_digits, numbers_behind}
 
 -- the address, and the end of the line
 abbrev pub mac_text : List ℕ → List ℕ
 mac_text mac = codes " --mac " ++ hex_line_text mac
 
+-- where memory begins
+abbrev pub marked_base_text : ℕ → List ℕ
+marked_base_text base = codes " --base " ++ address_digits base
+
+-- where that is not at address 0
+abbrev pub base_text : ℕ → List ℕ
+base_text base = if base == 0 then [] else marked_base_text base
+
+abbrev pub base_and_mac_text : ℕ → List ℕ → List ℕ
+base_and_mac_text base mac = base_text base ++ mac_text mac
+
 -- the words of a command line
-abbrev pub settings_text : ℕ → ℕ → List ℕ → List ℕ
-settings_text memory budget mac =
+abbrev pub settings_text : ℕ → ℕ → ℕ → List ℕ → List ℕ
+settings_text base memory budget mac =
     numbers_behind (codes "# em_debug --memory ") memory (codes " --budget ") budget
-    ++ mac_text mac
+    ++ base_and_mac_text base mac
 
 -- ---- the EEPROM
 
@@ -45,18 +56,19 @@ marked_words_text words = codes "# eeprom " ++ words_line_text words
 abbrev pub words_text : List ℕ → List ℕ
 words_text words = if is_of_mac words then [] else marked_words_text words
 
-abbrev pub head_text : ℕ → ℕ → List ℕ → List ℕ
-head_text memory budget words = settings_text memory budget (mac_of words) ++ words_text words
+abbrev pub head_text : ℕ → ℕ → ℕ → List ℕ → List ℕ
+head_text base memory budget words = settings_text base memory budget (mac_of words) ++ words_text words
 
 -- ---- line by line
 
-abbrev pub settings_line : ℕ → ℕ → List ℕ → List ℕ
-settings_line memory budget mac =
-    numbers_behind (codes "# em_debug --memory ") memory (codes " --budget ") budget ++ (codes " --mac " ++ hex_text mac)
+abbrev pub settings_line : ℕ → ℕ → ℕ → List ℕ → List ℕ
+settings_line base memory budget mac =
+    numbers_behind (codes "# em_debug --memory ") memory (codes " --budget ") budget
+    ++ (base_text base ++ (codes " --mac " ++ hex_text mac))
 
 abbrev pub words_line : List ℕ → List ℕ
 words_line words = codes "# eeprom " ++ words_from words 0 64
 
-abbrev pub head_lines : ℕ → ℕ → List ℕ → List (List ℕ)
-head_lines memory budget words =
-    settings_line memory budget (mac_of words) ∷ (if is_of_mac words then [] else words_line words ∷ [])
+abbrev pub head_lines : ℕ → ℕ → ℕ → List ℕ → List (List ℕ)
+head_lines base memory budget words =
+    settings_line base memory budget (mac_of words) ∷ (if is_of_mac words then [] else words_line words ∷ [])

@@ -2,13 +2,14 @@
 ghost use Rattle.std.specs.Prelude.{◌≡◌, ◌<◌, ◌++◌};
 ghost use Rattle.em_text.specs.Writer.{Writes, hex_text};
 ghost use Rattle.em_eeprom.specs.Eeprom.{word_at};
-ghost use Rattle.em_kept.specs.Head.{head_text, is_of_mac, mac_text, marked_words_text, same_below, settings_text};
+ghost use Rattle.em_kept.specs.Head.{base_and_mac_text, base_text, head_text, is_of_mac, mac_text, marked_base_text};
+ghost use Rattle.em_kept.specs.Head.{marked_words_text, same_below, settings_text};
 ghost use Rattle.em_kept.specs.Head.{word_digits, words_from, words_line_text, words_text};
 
 use crate::answer::write_numbers;
-use crate::digits::word_digits;
+use crate::digits::{address_digits, word_digits};
 use em_eeprom::Eeprom;
-use em_text::{WriteFailed, write_octets_line, write_whole};
+use em_text::{WriteFailed, write_octets_line, write_pieces, write_whole};
 use std::io::Write;
 
 /// How many words an EEPROM has.
@@ -18,25 +19,28 @@ const WORDS: u8 = 64;
 /// where they are others than those that a command line gives it for this address.
 pub fn write_head<W: Write>(
     writer: &mut W,
+    base: u64,
     memory: u64,
     budget: u64,
     eeprom: &Eeprom,
 ) -> Result<(), WriteFailed>
     ensures writes { Writes (W.contents writer.old) (W.contents writer.new) result
-        (head_text memory budget eeprom.now) }
+        (head_text base memory budget eeprom.now) }
 {
-    write_settings(writer, memory, budget, eeprom.mac())?;
+    write_settings(writer, base, memory, budget, eeprom.mac())?;
     write_words(writer, eeprom)
 }
 
 /// Writes the words of a command line.
 fn write_settings<W: Write>(
     writer: &mut W,
+    base: u64,
     memory: u64,
     budget: u64,
     mac: [u8; 6],
 ) -> Result<(), WriteFailed>
-    ensures writes { Writes (W.contents writer.old) (W.contents writer.new) result (settings_text memory budget mac) }
+    ensures writes { Writes (W.contents writer.old) (W.contents writer.new) result
+        (settings_text base memory budget mac) }
 {
     write_numbers(
         writer,
@@ -45,7 +49,32 @@ fn write_settings<W: Write>(
         b" --budget ",
         budget,
     )?;
+    write_base_and_mac(writer, base, mac)
+}
+
+/// Writes where memory begins, the address, and the end of the line.
+fn write_base_and_mac<W: Write>(writer: &mut W, base: u64, mac: [u8; 6]) -> Result<(), WriteFailed>
+    ensures writes { Writes (W.contents writer.old) (W.contents writer.new) result (base_and_mac_text base mac) }
+{
+    write_base(writer, base)?;
     write_mac(writer, mac)
+}
+
+/// Writes where memory begins, where that is not at address 0.
+fn write_base<W: Write>(writer: &mut W, base: u64) -> Result<(), WriteFailed>
+    ensures writes { Writes (W.contents writer.old) (W.contents writer.new) result (base_text base) }
+{
+    if base == 0 {
+        return Ok(());
+    }
+    write_marked_base(writer, base)
+}
+
+/// Writes where memory begins.
+fn write_marked_base<W: Write>(writer: &mut W, base: u64) -> Result<(), WriteFailed>
+    ensures writes { Writes (W.contents writer.old) (W.contents writer.new) result (marked_base_text base) }
+{
+    write_pieces(writer, &[b" --base ", &address_digits(base)])
 }
 
 /// Writes the address, and the end of the line.

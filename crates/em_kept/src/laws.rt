@@ -48,8 +48,8 @@ pub fn lines_stay_lines()
 
 /// What a kept run begins with does nothing when it is played.
 pub fn the_head_is_silent()
-    ensures { (memory budget : ℕ) (words : List ℕ) → memory < 2 ^ 64 → budget < 2 ^ 64 → IsEeprom words
-        → AreSilent (lines_of (head_text memory budget words)) }
+    ensures { (base memory budget : ℕ) (words : List ℕ) → memory < 2 ^ 64 → budget < 2 ^ 64 → IsEeprom words
+        → AreSilent (lines_of (head_text base memory budget words)) }
 {}
 
 /// A name of at most 4,096 octets of which none is replaced is written as it is.

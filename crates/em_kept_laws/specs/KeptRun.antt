@@ -45,8 +45,8 @@ text_of (refused e refusal source) = refused_text e refusal source
 text_of (went_back asked taken source) = back_text asked taken source
 
 -- behind what `write_head` writes
-abbrev pub file_text : ℕ → ℕ → List ℕ → List Kept → List ℕ
-file_text memory budget words run = head_text memory budget words ++ flat_map text_of run
+abbrev pub file_text : ℕ → ℕ → ℕ → List ℕ → List Kept → List ℕ
+file_text base memory budget words run = head_text base memory budget words ++ flat_map text_of run
 
 -- ---- what comes of the calls' own types
 

@@ -10,9 +10,9 @@ ghost use Rattle.em_kept_laws.specs.KeptRun.{AreTyped, Kept, PlaysTheSame, calls
 /// The text that is kept of a run, head and all, played line by line from what it says that the machine was made of: it
 /// leads to the machine that the run led to, with the same states to go back to, and each line is answered as it says.
 pub fn a_kept_run_plays_the_same()
-    ensures { (run : List Kept) (memory budget : ℕ) (words : List ℕ) (w : View) → AreTyped run
+    ensures { (run : List Kept) (base memory budget : ℕ) (words : List ℕ) (w : View) → AreTyped run
         → memory < 2 ^ 64 → budget < 2 ^ 64 → IsEeprom words
-        → Leads budget (shows (fresh memory words)) (calls_of_run run) w
-        → PlaysTheSame (lines_of (file_text memory budget words run))
-        (opening budget (shows (fresh memory words))) w }
+        → Leads budget (shows (fresh base memory words)) (calls_of_run run) w
+        → PlaysTheSame (lines_of (file_text base memory budget words run))
+        (opening budget (shows (fresh base memory words))) w }
 {}

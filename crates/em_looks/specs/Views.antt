@@ -1,7 +1,7 @@
 -- A register, a ring and guest memory, as text.
 use Rattle.std.specs.Prelude.{ℕ, ◌+◌, nat_lt, if◌then◌else◌, min, List, ◌++◌, codes, length, unwrap_or}
 use Rattle.std.specs.Option.{option_map}
-use Rattle.em_mem.specs.Memory.{part}
+use Rattle.em_mem.specs.Memory.{leaves, part}
 use Rattle.em_regs.specs.declared.reg.Reg.{Reg}
 use Rattle.em_regs.specs.Setup.{rx_setup, tx_setup}
 use Rattle.em_regs.specs.Storage.{Registers}
@@ -32,17 +32,17 @@ ring_of registers Receive = rx_ring (rx_setup registers)
 ring_of registers Transmit = tx_ring (tx_setup registers)
 
 -- its 64 descriptors around the head
-abbrev pub window_text : SidedRing → List ℕ → List ℕ
-window_text r memory = ring.ring_text r memory (ring.shown_from r) 64
+abbrev pub window_text : SidedRing → ℕ → List ℕ → List ℕ
+window_text r base memory = ring.ring_text r base memory (ring.shown_from r) 64
 
 abbrev pub ring_text : State → Side → List ℕ
-ring_text s side = window_text (ring_of s.registers side) s.memory
+ring_text s side = window_text (ring_of s.registers side) s.base s.memory
 
 -- n octets of guest memory from an address on, if it has them
-abbrev pub octets_text : List ℕ → ℕ → ℕ → List ℕ
-octets_text memory addr n =
-    if nat_lt (length memory) (addr + n) then refusal_text Range else lines_text addr (part memory addr n)
+abbrev pub octets_text : ℕ → List ℕ → ℕ → ℕ → List ℕ
+octets_text base memory addr n =
+    if leaves base memory addr n then refusal_text Range else lines_text addr (part memory addr n)
 
 -- of more octets than 16,384 the first
 abbrev pub memory_text : State → ℕ → ℕ → List ℕ
-memory_text s addr len = octets_text s.memory addr (min len 16_384)
+memory_text s addr len = octets_text s.base s.memory addr (min len 16_384)

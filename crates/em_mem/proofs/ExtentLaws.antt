@@ -5,7 +5,7 @@ use Rattle.std.specs.Prelude.{Option, IfSome, max, nat_lt, slice_get}
 use Rattle.std.proofs.lemmas.Bool.{cases_lt}
 use Rattle.std.proofs.lemmas.Bool.Decides.{nat_tests}
 use Rattle.std.proofs.lemmas.Option.{slice_get-get_or, slice_get_past}
-use Rattle.em_mem.specs.Memory.{Cells, Fits, IsHeld, Patch, put, undo}
+use Rattle.em_mem.specs.Memory.{Cells, Fits, EndsIn, Patch, put, undo}
 use Rattle.em_mem.specs.Extent.{SameUpTo, least, next_octet}
 use Rattle.em_mem.proofs.PutLaws.{length-put}
 use Rattle.em_mem.proofs.WindowLaws.{before_put, past_put}
@@ -21,12 +21,12 @@ beside_if a i at n false is from below =
     let past : at + n ≤ max at a = grind (arith, nat_tests) in
     elim (cases_lt i at) [ inl l ↦ inl l | inr l ↦ inr (omega (arith, past, from, l)) ]
 
-get_or_beside : (m : List ℕ) (a : ℕ) (d : List ℕ) (i : ℕ) → IsHeld m a (length d) → i < length m
+get_or_beside : (m : List ℕ) (a : ℕ) (d : List ℕ) (i : ℕ) → EndsIn m a (length d) → i < length m
     → IsBeside i a (length d) → get_or m i 0 ≡ get_or (put m a d) i 0
 get_or_beside m a d i held l (inl before) = sym (before_put m a d i before l)
 get_or_beside m a d i held l (inr past) = sym (past_put m a d i (omega (arith, held)) past)
 
-octet_beside : (m : List ℕ) (a : ℕ) (d : List ℕ) (i : ℕ) → IsHeld m a (length d) → IsBeside i a (length d)
+octet_beside : (m : List ℕ) (a : ℕ) (d : List ℕ) (i : ℕ) → EndsIn m a (length d) → IsBeside i a (length d)
     → slice_get m i ≡ slice_get (put m a d) i
 octet_beside m a d i held beside =
     let size = length-put m a d held in
@@ -46,7 +46,7 @@ same_up_to a p next is m fits =
     let before : Bool = nat_lt (max p.at a) (p.at + length p.octets) in
     record {
       from = subst (λ x. IfSome x (λ k. a ≤ k)) (sym is) (from_if a p.at before);
-      same = λ i from below. octet_beside m.octets p.at p.octets i fits.held
+      same = λ i from below. octet_beside m.octets p.at p.octets i fits.held.to
           (beside_if a i p.at (length p.octets) before refl from (subst (λ x. IfSome x (λ k. i < k)) is below));
     }
 

@@ -19,7 +19,7 @@ use Rattle.std.proofs.Common.{
 use Rattle.std.proofs.lemmas.List.{length-take-le, drop-drop}
 use Rattle.std.proofs.lemmas.Slice.{take-put_mid, drop-put_mid}
 use borrow.Rule.Slice.PartMut.{put_mid}
-use Rattle.em_mem.specs.Memory.{IsHeld, part, put}
+use Rattle.em_mem.specs.Memory.{EndsIn, part, put}
 use Rattle.em_mem.proofs.PutLaws.{put-put, part_past-put, part-append}
 
 -- a piece of old octets comes after those read so far
@@ -32,7 +32,7 @@ read_step m a done count k out new l so_far size is =
 -- a piece of d is written after those written so far
 pub wrote_step : (m n w : List ℕ) (a done count : ℕ) (d piece : List ℕ) → n ≡ put m a (take done d)
     → piece ≡ take count (drop done d) → w ≡ put n (a + done) piece → done + count ≤ length d
-    → IsHeld m a (length d) → w ≡ put m a (take (done + count) d)
+    → EndsIn m a (length d) → w ≡ put m a (take (done + count) d)
 wrote_step m n w a done count d piece so_far is wrote l held =
     let first : length (take done d) ≡ done = length-take-le done d (omega arith) in
     let second : length (take count (drop done d)) ≡ count = length-take-le count (drop done d)
@@ -43,7 +43,7 @@ wrote_step m n w a done count d piece so_far is wrote l held =
 
 -- the old octets of a piece are not those written so far
 pub old_step : (m n : List ℕ) (a done count : ℕ) (d new : List ℕ) → n ≡ put m a (take done d)
-    → new ≡ part n (a + done) count → done ≤ length d → IsHeld m a (length d) → new ≡ part m (a + done) count
+    → new ≡ part n (a + done) count → done ≤ length d → EndsIn m a (length d) → new ≡ part m (a + done) count
 old_step m n a done count d new so_far is l held =
     let first : length (take done d) ≡ done = length-take-le done d l in
     let at : a + done ≡ a + length (take done d) = omega arith in

@@ -19,16 +19,14 @@ use Rattle.std.proofs.Common.{
   take-add,
 }
 use Rattle.std.proofs.lemmas.List.{take_at, drop_at, length-take-le, drop-drop, take-append-drop, append_assoc}
-use Rattle.em_mem.specs.Memory.{Cells, IsHeld, IsMade, Reverses, part, put}
-use Rattle.std.proofs.lemmas.List.{take-append-le, drop-append-le}
-use Rattle.std.proofs.Math.Seq.{take-append-add, drop-append-add}
+use Rattle.em_mem.specs.Memory.{Cells, EndsIn, IsHeld, IsMade, Reverses, part, put}
 
 -- a held part has as many octets as were asked for
-pub length-part : (m : List ℕ) (a n : ℕ) → IsHeld m a n → length (part m a n) ≡ n
+pub length-part : (m : List ℕ) (a n : ℕ) → EndsIn m a n → length (part m a n) ≡ n
 length-part m a n held = length-take-le n (drop a m) (omega (arith, length-drop a m))
 
 -- a write leaves the size
-pub length-put : (m : List ℕ) (a : ℕ) (d : List ℕ) → IsHeld m a (length d) → length (put m a d) ≡ length m
+pub length-put : (m : List ℕ) (a : ℕ) (d : List ℕ) → EndsIn m a (length d) → length (put m a d) ≡ length m
 length-put m a d held =
     let front : length (take a m) ≡ a = length-take-le a m (omega arith) in
     let whole = length-append (take a m) (d ++ drop (a + length d) m) in
@@ -37,30 +35,30 @@ length-put m a d held =
     omega arith
 
 -- what lies before a write
-take-put : (m : List ℕ) (a : ℕ) (d : List ℕ) → IsHeld m a (length d) → take a (put m a d) ≡ take a m
+take-put : (m : List ℕ) (a : ℕ) (d : List ℕ) → EndsIn m a (length d) → take a (put m a d) ≡ take a m
 take-put m a d held = take_at (take a m) (d ++ drop (a + length d) m) a (length-take-le a m (omega arith))
 
 -- what lies from a write on
-drop-put : (m : List ℕ) (a : ℕ) (d : List ℕ) → IsHeld m a (length d) → drop a (put m a d) ≡ d ++ drop (a + length d) m
+drop-put : (m : List ℕ) (a : ℕ) (d : List ℕ) → EndsIn m a (length d) → drop a (put m a d) ≡ d ++ drop (a + length d) m
 drop-put m a d held = drop_at (take a m) (d ++ drop (a + length d) m) a (length-take-le a m (omega arith))
 
 -- what lies past a write
-pub drop_past-put : (m : List ℕ) (a : ℕ) (d : List ℕ) → IsHeld m a (length d)
+pub drop_past-put : (m : List ℕ) (a : ℕ) (d : List ℕ) → EndsIn m a (length d)
     → drop (a + length d) (put m a d) ≡ drop (a + length d) m
 drop_past-put m a d held = sym (drop-drop (length d) a (put m a d)) ∙ ap (drop (length d)) (drop-put m a d held)
     ∙ drop_at d (drop (a + length d) m) (length d) refl
 
 -- a read of what was written
-pub part-put : (m : List ℕ) (a : ℕ) (d : List ℕ) → IsHeld m a (length d) → part (put m a d) a (length d) ≡ d
+pub part-put : (m : List ℕ) (a : ℕ) (d : List ℕ) → EndsIn m a (length d) → part (put m a d) a (length d) ≡ d
 part-put m a d held = ap (take (length d)) (drop-put m a d held) ∙ take_at d (drop (a + length d) m) (length d) refl
 
 -- a read past a write gives the old octets
-pub part_past-put : (m : List ℕ) (a : ℕ) (d : List ℕ) (n : ℕ) → IsHeld m a (length d)
+pub part_past-put : (m : List ℕ) (a : ℕ) (d : List ℕ) (n : ℕ) → EndsIn m a (length d)
     → part (put m a d) (a + length d) n ≡ part m (a + length d) n
 part_past-put m a d n held = ap (take n) (drop_past-put m a d held)
 
 -- the old octets, put back, take a write back
-pub put-part : (m : List ℕ) (a : ℕ) (d e : List ℕ) → IsHeld m a (length d) → e ≡ part m a (length d)
+pub put-part : (m : List ℕ) (a : ℕ) (d e : List ℕ) → EndsIn m a (length d) → e ≡ part m a (length d)
     → put (put m a d) a e ≡ m
 put-part m a d e held is =
     let size : length e ≡ length d = ap length is ∙ length-part m a (length d) held in
@@ -74,23 +72,26 @@ put-part m a d e held is =
 
 -- the same, at the list that the write left
 pub put_back : (m w : List ℕ) (a : ℕ) (d e : List ℕ) → w ≡ put m a d → e ≡ part m a (length d)
-    → IsHeld m a (length d) → put w a e ≡ m
+    → EndsIn m a (length d) → put w a e ≡ m
 put_back m w a d e left is held = ap (λ x. put x a e) left ∙ put-part m a d e held is
 
 -- a record of the old octets takes a write back
-pub write_reverses : (c d : Cells) (a : ℕ) (written old : List ℕ) → IsHeld c.octets a (length written)
-    → IsMade c a (length written) → d.octets ≡ put c.octets a written → d.made ≡ c.made
+pub write_reverses : (c d : Cells) (a : ℕ) (written old : List ℕ) → IsHeld c a (length written)
+    → IsMade c a (length written) → d.base ≡ c.base → d.octets ≡ put c.octets a written → d.made ≡ c.made
     → old ≡ part c.octets a (length written) → Reverses c d (record { at = a; octets = old })
-write_reverses c d a written old held made wrote kept is =
-    let octets = put_back c.octets d.octets a written old wrote is held in
-    let size = ap length is ∙ length-part c.octets a (length written) held in
-    let same_size = ap length wrote ∙ length-put c.octets a written held in
+write_reverses c d a written old held made begins wrote kept is =
+    let octets = put_back c.octets d.octets a written old wrote is held.to in
+    let size = ap length is ∙ length-part c.octets a (length written) held.to in
+    let same_size = ap length wrote ∙ length-put c.octets a written held.to in
     record {
       fits = record {
-        held = omega (arith, size, same_size, held);
+        held = record {
+          from = omega (arith, begins, held.from);
+          to = omega (arith, size, same_size, held.to);
+        };
         made = λ i h. rw kept (made i (omega (arith, size)));
       };
-      restores = λ i. record { octets = octets i; made = kept i };
+      restores = λ i. record { base = begins i; octets = octets i; made = kept i };
     }
 
 -- two writes end to end are one
@@ -116,28 +117,3 @@ put-put m a d e held =
 -- two reads end to end are one
 pub part-append : (m : List ℕ) (a k n : ℕ) → part m a k ++ part m (a + k) n ≡ part m a (k + n)
 part-append m a k n = ap (λ t. take k (drop a m) ++ take n t) (sym (drop-drop k a m)) ∙ sym (take-add k n (drop a m))
-
--- ---- a part, and a write, within the first of two lists, or after it
-pub part_left : (xs ys : List ℕ) (o n : ℕ) → IsHeld xs o n → part (xs ++ ys) o n ≡ part xs o n
-part_left xs ys o n held = ap (take n) (drop-append-le o xs ys (omega arith))
-    ∙ take-append-le n (drop o xs) ys (omega (arith, length-drop o xs))
-
-pub part_right : (xs ys : List ℕ) (k o n : ℕ) → k ≡ length xs + o → part (xs ++ ys) k n ≡ part ys o n
-part_right xs ys k o n after = ap (λ m. take n (drop m (xs ++ ys))) after ∙ ap (take n) (drop-append-add xs ys o)
-
-pub put_left : (xs ys : List ℕ) (o : ℕ) (d : List ℕ) → IsHeld xs o (length d) → put (xs ++ ys) o d ≡ put xs o d ++ ys
-put_left xs ys o d held =
-    let front = take-append-le o xs ys (omega arith) in
-    let back = drop-append-le (o + length d) xs ys held in
-    let all : put (xs ++ ys) o d ≡ take o xs ++ (d ++ (drop (o + length d) xs ++ ys)) = λ i. front i ++ (d ++ back i) in
-    all ∙ ap (λ t. take o xs ++ t) (sym (append_assoc d (drop (o + length d) xs) ys))
-    ∙ sym (append_assoc (take o xs) (d ++ drop (o + length d) xs) ys)
-
-pub put_right : (xs ys : List ℕ) (k o : ℕ) (d : List ℕ) → k ≡ length xs + o → put (xs ++ ys) k d ≡ xs ++ put ys o d
-put_right xs ys k o d after =
-    let front : take k (xs ++ ys) ≡ xs ++ take o ys = ap (λ m. take m (xs ++ ys)) after ∙ take-append-add xs ys o in
-    let end : k + length d ≡ length xs + (o + length d) = omega arith in
-    let back : drop (k + length d) (xs ++ ys) ≡ drop (o + length d) ys = ap (λ m. drop m (xs ++ ys)) end
-    ∙ drop-append-add xs ys (o + length d) in
-    let all : put (xs ++ ys) k d ≡ (xs ++ take o ys) ++ (d ++ drop (o + length d) ys) = λ i. front i ++ (d ++ back i) in
-    all ∙ append_assoc xs (take o ys) (d ++ drop (o + length d) ys)

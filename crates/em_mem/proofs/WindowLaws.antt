@@ -17,7 +17,7 @@ use Rattle.std.proofs.lemmas.Bool.{cases_lt}
 use Rattle.std.proofs.Math.ListN.{drop_of_length-le}
 use Rattle.std.proofs.Math.Seq.{take-append-add}
 use borrow.Rule.Slice.PartMut.{put_mid}
-use Rattle.em_mem.specs.Memory.{Cells, Fits, IsHeld, Patch, part, put, undo}
+use Rattle.em_mem.specs.Memory.{Cells, Fits, EndsIn, Patch, part, put, undo}
 use Rattle.em_mem.specs.Window.{IsWindow, lay_over}
 use Rattle.em_mem.proofs.PutLaws.{length-put}
 
@@ -70,7 +70,7 @@ length-lay_over a w p =
     )
 
 -- the same octet in both
-octet-lay_over : (m : List ℕ) (a : ℕ) (w : List ℕ) (p : Patch) (i : ℕ) → IsHeld m p.at (length p.octets)
+octet-lay_over : (m : List ℕ) (a : ℕ) (w : List ℕ) (p : Patch) (i : ℕ) → EndsIn m p.at (length p.octets)
     → part m a (length w) ≡ w → i < length w
     → get_or (part (put m p.at p.octets) a (length w)) i 0 ≡ get_or (lay_over a w p) i 0
 octet-lay_over m a w p i held is l =
@@ -98,7 +98,7 @@ octet-lay_over m a w p i held is l =
     ] in
     left ∙ same ∙ sym right
 
-part-undone : (m : List ℕ) (a : ℕ) (w : List ℕ) (p : Patch) → IsHeld m p.at (length p.octets)
+part-undone : (m : List ℕ) (a : ℕ) (w : List ℕ) (p : Patch) → EndsIn m p.at (length p.octets)
     → part m a (length w) ≡ w → part (put m p.at p.octets) a (length w) ≡ lay_over a w p
 part-undone m a w p held is =
     let size : length (part (put m p.at p.octets) a (length w)) ≡ length w
@@ -110,7 +110,7 @@ part-undone m a w p held is =
 pub window-undone : (a : ℕ) (w new : List ℕ) (p : Patch) → new ≡ lay_over a w p → (m : Cells) → Fits m p
     → IsWindow m.octets a w → IsWindow (undo m p).octets a new
 window-undone a w new p laid m fits is =
-    ap (part (undo m p).octets a) (ap length laid ∙ length-lay_over a w p) ∙ part-undone m.octets a w p fits.held is
+    ap (part (undo m p).octets a) (ap length laid ∙ length-lay_over a w p) ∙ part-undone m.octets a w p fits.held.to is
     ∙ sym laid
 
 -- ---- one octet of a window with a patch laid over it

@@ -9,6 +9,8 @@ use Rattle.std.specs.Prelude.{
   ◌<◌,
   ◌≤◌,
   ◌⊎◌,
+  ◌||◌,
+  nat_lt,
   Bool,
   true,
   false,
@@ -23,39 +25,66 @@ use Rattle.std.specs.Prelude.{
 }
 use Rattle.std.specs.Coded.{Coded, code_by, coded×, coded_list, coded_ℕ, coded_bool}
 
--- what guest memory keeps: its octets, and for each page whether it is made
+-- what guest memory keeps: where it begins, the octets from address 0 up to its end, and for each page from address 0 on
+-- whether it is made. What is listed before the base is no memory, and zero
 pub record Cells : Type 0 where
+  pub base : ℕ
   pub octets : List ℕ
   pub made : List Bool
 
--- cells are stored as the pair of their fields
+-- cells are stored as the tuple of their fields
 abbrev pub cells_code : Coded Cells
-cells_code = code_by (List ℕ × List Bool) (coded× (coded_list coded_ℕ) (coded_list coded_bool))
-    (λ c. (c.octets, c.made)) (λ p. record { octets = p.0; made = p.1 }) (λ _. refl)
+cells_code =
+    code_by (ℕ × (List ℕ × List Bool)) (coded× coded_ℕ (coded× (coded_list coded_ℕ) (coded_list coded_bool)))
+    (λ c. (c.base, (c.octets, c.made))) (λ p. record { base = p.0; octets = p.1.0; made = p.1.1 }) (λ _. refl)
 
 -- the octets of a page
 abbrev pub page_size : ℕ
 page_size = 4096
 
--- a size that guest memory can have: whole pages, one at least, and 16 MiB at most
+-- a size that guest memory from address 0 on can have: whole pages, one at least, and 16 MiB at most
 abbrev pub IsMemorySize : ℕ → Type 0
 IsMemorySize size = (page_size ≤ size) × (size ≤ 16777216) × (size % page_size ≡ 0)
+
+-- where guest memory can lie: whole pages from a whole page on, one at least, and up to address 2^40
+pub record IsMemoryRange (base size : ℕ) : Type 0 where
+  pub least : page_size ≤ size
+  pub end : base + size ≤ 1099511627776
+  pub whole_size : size % page_size ≡ 0
+  pub whole_base : base % page_size ≡ 0
 
 -- so many zeros
 unfoldable pub zeros : ℕ → List ℕ
 zeros n = replicate n 0
 
--- for each page of memory of this size that it is not made
+-- for so many pages that they are not made
 unfoldable pub none_made : ℕ → List Bool
-none_made size = replicate (size / page_size) false
+none_made n = replicate n false
 
--- memory of this size, all zero, with no page made
-abbrev pub fresh : ℕ → Cells
-fresh size = record { octets = zeros size; made = none_made size }
+-- memory of this size from a base on, all zero, with no page made
+abbrev pub fresh : ℕ → ℕ → Cells
+fresh base size = record {
+  base = base;
+  octets = zeros (base + size);
+  made = none_made ((base + size) / page_size);
+}
 
--- the range of n octets from a on lies in memory
-abbrev pub IsHeld : List ℕ → ℕ → ℕ → Type 0
-IsHeld octets a n = a + n ≤ length octets
+-- the range of n octets from a on ends in a list
+abbrev pub EndsIn : List ℕ → ℕ → ℕ → Type 0
+EndsIn octets a n = a + n ≤ length octets
+
+-- it lies in memory that begins at a base
+pub record LiesIn (base : ℕ) (octets : List ℕ) (a n : ℕ) : Type 0 where
+  pub from : base ≤ a
+  pub to : EndsIn octets a n
+
+-- it leaves that memory
+abbrev pub leaves : ℕ → List ℕ → ℕ → ℕ → Bool
+leaves base octets a n = nat_lt a base || nat_lt (length octets) (a + n)
+
+-- it lies in the memory of these cells
+abbrev pub IsHeld : Cells → ℕ → ℕ → Type 0
+IsHeld c a n = LiesIn c.base c.octets a n
 
 -- the range of n octets from a on lies in one page
 abbrev pub IsInOnePage : ℕ → ℕ → Type 0
@@ -88,7 +117,7 @@ pub record Patch : Type 0 where
 
 -- the patch lies in memory, in pages that are made
 pub record Fits (c : Cells) (p : Patch) : Type 0 where
-  pub held : IsHeld c.octets p.at (length p.octets)
+  pub held : IsHeld c p.at (length p.octets)
   pub made : IsMade c p.at (length p.octets)
 
 -- the cells with the patch put back: pages that are made stay made
@@ -102,6 +131,7 @@ pub record Reverses (old new : Cells) (p : Patch) : Type 0 where
 
 -- d is c, but that d may have more pages made
 pub record MorePages (c d : Cells) : Type 0 where
+  pub base : d.base ≡ c.base
   pub octets : d.octets ≡ c.octets
   pub made : (p : ℕ) → IsPageMade c p → IsPageMade d p
 

@@ -1,29 +1,29 @@
 //! Guest memory: the octets of the guest, and which of its pages are made.
-ghost use Rattle.std.specs.Prelude.{◌≡◌, ◌+◌, ◌%◌, ◌≤◌, ◌<◌, ◌↔◌, ◌++◌, length, take};
-ghost use Rattle.std.specs.Prelude.{IfOk, IfErr, IsErrOf, IsOk, IsTrue, IsSome, IfSome, OnOk};
-ghost use Rattle.em_mem.specs.Memory.{IsHeld, IsInOnePage, IsMade, IsMemorySize, MakesOnly, MorePages};
-ghost use Rattle.em_mem.specs.Memory.{fresh, part, put, Fits, undo, Reverses};
+ghost use Rattle.std.specs.Prelude.{◌≡◌, ◌+◌, ◌/◌, ◌%◌, ◌≤◌, ◌<◌, ◌↔◌, ◌⊎◌, ◌++◌, ℕ, length, not, take};
+ghost use Rattle.std.specs.Prelude.{IfOk, IfErr, IsErrOf, IsOk, IsTrue, IsSome, IfSome, OnErr, OnOk};
+ghost use Rattle.em_mem.specs.Memory.{IsHeld, IsInOnePage, IsMade, IsMemoryRange, IsMemorySize, IsPageMade};
+ghost use Rattle.em_mem.specs.Memory.{MakesOnly, MorePages, fresh, leaves, part, put, Fits, undo, Reverses};
 ghost use Rattle.em_mem.specs.OldOctets.{saved};
+ghost use Rattle.em_mem.specs.Pages.{IsPageFrom};
 
 use crate::laws::places_are_small;
-use crate::page::Page;
+use crate::store::Store;
 use crate::{
-    MOST_MEMORY, MemRefusal, MemUndo, OldOctets, PAGE_OCTETS, Reversible, Saved, page, table,
+    MOST_END, MOST_MEMORY, MemRefusal, MemUndo, OldOctets, PAGE_OCTETS, Reversible, Saved,
 };
-use std::alloc::Global;
+use std::alloc::{AllocError, Global};
 use std::marker::Model;
 
 /// How many octets `swap` reads out before it writes over them.
 const SWAPPED: usize = 64;
 
-/// The octets of the guest, in pages of 4,096. A page is made before it is first written, and never
+/// The octets of the guest from an address on, in pages of 4,096. A page is made before it is first written, and never
 /// given back.
 #[derive(Drop)]
 pub struct GuestMemory {
-    alloc: Global,
-    pages: Vec<Page>,
-    // Stands for each page that is not made, so that `slice` can lend its octets.
-    zeros: Box<[u8; PAGE_OCTETS]>,
+    base: u64,
+    size: u64,
+    store: Store,
 }
 
 impl Model for GuestMemory {
@@ -33,66 +33,91 @@ impl Model for GuestMemory {
 
     ghost coded = { cells_code };
 
-    ghost use Rattle.em_mem.specs.Pages.{table_octets, table_made, IsTable};
+    ghost use Rattle.em_mem.specs.Pages.{cells_of, IsMemory};
 
-    ghost view = { λ m. record { octets = table_octets m.pages.items; made = table_made m.pages.items } };
+    ghost view = { λ m. cells_of m.base m.size m.store };
 
-    ghost invariant = { λ m. IsTable m.pages.items m.zeros.value };
+    ghost invariant = { λ m. IsMemory m.base m.size m.store };
 }
 
 impl GuestMemory {
-    /// Memory of `size` octets, all zero, with no page made. `Size` comes before any memory is
+    /// Memory of `size` octets from address 0 on, all zero, with no page made. `Size` comes before any memory is
     /// taken, where `size` is not a multiple of 4,096 from 4,096 to 16,777,216.
     pub fn new(alloc: Global, size: u64) -> Result<GuestMemory, MemRefusal>
-        ensures ok { IfOk result (λ memory. memory ≡ fresh size) }
+        ensures ok { IfOk result (λ memory. memory ≡ fresh 0 size) }
         ensures fit { OnOk result (IsMemorySize size) }
         ensures size { IsErrOf result MemRefusal.Size ↔ (IsMemorySize size → ⊥) }
         ensures memory { IsErrOf result MemRefusal.Memory → IsMemorySize size }
     {
-        let at_least = PAGE_OCTETS as u64;
-        if size < at_least || size > MOST_MEMORY || size % at_least != 0 {
+        if size > MOST_MEMORY {
             return Err(MemRefusal::Size);
         }
-        let pages = table::no_pages(alloc, size as usize / PAGE_OCTETS)?;
-        let zeros = page::new_page(alloc)?;
-        Ok(GuestMemory {
-            alloc,
-            pages,
-            zeros,
-        })
+        GuestMemory::at(alloc, 0, size)
+    }
+
+    /// Memory of `size` octets from `base` on, all zero, with no page made. `Size` comes before any memory is taken,
+    /// where `size` or `base` is not a multiple of 4,096, `size` is 0, or memory would end past 2^40.
+    pub fn at(alloc: Global, base: u64, size: u64) -> Result<GuestMemory, MemRefusal>
+        ensures ok { IfOk result (λ memory. memory ≡ fresh base size) }
+        ensures fit { OnOk result (IsMemoryRange base size) }
+        ensures size { IsErrOf result MemRefusal.Size ↔ (IsMemoryRange base size → ⊥) }
+        ensures memory { IsErrOf result MemRefusal.Memory → IsMemoryRange base size }
+    {
+        if !is_memory_range(base, size) {
+            return Err(MemRefusal::Size);
+        }
+        let store = Store::new(alloc, size as usize / PAGE_OCTETS)?;
+        Ok(GuestMemory { base, size, store })
+    }
+
+    /// The address of the first octet.
+    #[inline(always)]
+    pub fn base(&self) -> u64
+        ensures { result ≡ self.now.base }
+    {
+        self.base
     }
 
     /// The size of memory in octets.
+    #[inline(always)]
     pub fn len(&self) -> u64
-        ensures len { result ≡ length self.now.octets }
-        ensures most { result ≤ MOST_MEMORY }
+        ensures { self.now.base + result ≡ length self.now.octets }
     {
-        (self.pages.len() * PAGE_OCTETS) as u64
+        self.size
+    }
+
+    /// The address behind the last octet.
+    #[inline(always)]
+    pub fn end(&self) -> u64
+        ensures end { result ≡ length self.now.octets }
+        ensures most { result ≤ MOST_END }
+    {
+        self.base + self.size
     }
 
     /// Whether the `len` octets from `addr` on lie in memory.
     pub fn holds(&self, addr: u64, len: u64) -> bool
-        ensures { IsTrue result ↔ IsHeld self.now.octets addr len }
+        ensures held { IsTrue result ↔ IsHeld self.now addr len }
+        ensures leaves { result ≡ not (leaves self.now.base self.now.octets addr len) }
     {
-        let size = self.len();
         match addr.checked_add(len) {
-            Some(end) => end <= size,
+            Some(end) => self.base <= addr && end <= self.end(),
             None => false,
         }
     }
 
     /// Where the range of `len` octets from `addr` on ends.
-    fn end(&self, addr: u64, len: u64) -> u64
-        requires { IsHeld self.now.octets addr len }
+    fn range_end(&self, addr: u64, len: u64) -> u64
+        requires { IsHeld self.now addr len }
         ensures end { result ≡ addr + len }
-        ensures most { result ≤ MOST_MEMORY }
+        ensures most { result ≤ MOST_END }
     {
-        self.len().min(addr + len)
+        self.end().min(addr + len)
     }
 
     /// The `len` octets from `addr` on, where they lie in memory and in one page: without a copy.
     pub fn slice(&self, addr: u64, len: usize) -> Option<&[u8]>
-        ensures found { IsSome result ↔ (IsHeld self.now.octets addr len × IsInOnePage addr len) }
+        ensures found { IsSome result ↔ (IsHeld self.now addr len × IsInOnePage addr len) }
         ensures octets { IfSome result (λ octets. octets.now ≡ part self.now.octets addr len) }
     {
         if self.holds(addr, len as u64) {
@@ -105,29 +130,29 @@ impl GuestMemory {
     /// The `len` octets from `addr` on, which lie in memory; none where they do not lie in one page.
     #[inline(always)]
     pub fn piece(&self, addr: u64, len: usize) -> Option<&[u8]>
-        requires { IsHeld self.now.octets addr len }
+        requires { IsHeld self.now addr len }
         ensures found { IsSome result ↔ IsInOnePage addr len }
         ensures octets { IfSome result (λ octets. octets.now ≡ part self.now.octets addr len) }
     {
         if len == 0 {
             return Some(&[]);
         }
-        let at = addr as usize;
-        if len > PAGE_OCTETS - at % PAGE_OCTETS {
+        if len > PAGE_OCTETS - addr as usize % PAGE_OCTETS {
             return None;
         }
-        Some(self.slice_in_page(at, len))
+        Some(self.slice_in_page(addr, len))
     }
 
     /// The `len` octets from `addr` on, which lie in one page of memory.
-    fn slice_in_page(&self, addr: usize, len: usize) -> &[u8]
+    fn slice_in_page(&self, addr: u64, len: usize) -> &[u8]
         requires some { 0 < len }
-        requires held { IsHeld self.now.octets addr len }
+        requires held { IsHeld self.now addr len }
         requires one { IsInOnePage addr len }
         ensures { result.now ≡ part self.now.octets addr len }
     {
-        let octets = page::octets(&self.pages[addr / PAGE_OCTETS], &self.zeros);
-        let at = addr % PAGE_OCTETS;
+        let from = (addr - self.base) as usize;
+        let octets = self.store.octets(from / PAGE_OCTETS);
+        let at = from % PAGE_OCTETS;
         &octets[at..at + len]
     }
 
@@ -136,7 +161,7 @@ impl GuestMemory {
     /// where all pages of the range are made already.
     #[inline(always)]
     pub fn touch(&mut self, addr: u64, len: u64) -> Result<(), MemRefusal>
-        requires { IsHeld self.old.octets addr len }
+        requires { IsHeld self.old addr len }
         ensures more { MorePages self.old self.new }
         ensures made { OnOk result (IsMade self.new addr len) }
         ensures only { MakesOnly self.old self.new addr len }
@@ -146,17 +171,61 @@ impl GuestMemory {
         if len == 0 {
             return Ok(());
         }
+        let _ = &self.base;
         places_are_small(self);
-        let first = addr as usize / PAGE_OCTETS;
-        let last = (addr + len - 1) as usize / PAGE_OCTETS;
-        table::make_pages(self.alloc, self.pages.as_mut_slice(), first, last)?;
+        let first = addr / PAGE_OCTETS as u64;
+        let last = (addr + len - 1) / PAGE_OCTETS as u64;
+        // most ranges lie in one page
+        if first == last {
+            self.make_page(first)?;
+        } else {
+            self.make_each(first, last)?;
+        }
         Ok(())
+    }
+
+    /// Makes the pages from the first to the last, one after another. Where memory is refused, some of them may be made.
+    #[cold]
+    #[inline(never)]
+    fn make_each(&mut self, first: u64, last: u64) -> Result<(), AllocError>
+        requires order { first ≤ last }
+        requires few { last < MOST_END }
+        requires from { IsPageFrom self.old first }
+        requires last { IsPageFrom self.old last }
+        ensures base { self.new.base ≡ self.old.base }
+        ensures octets { self.new.octets ≡ self.old.octets }
+        ensures made { OnOk result ((p : ℕ) → first ≤ p → p ≤ last → IsPageMade self.new p) }
+        ensures more { (p : ℕ) → IsPageMade self.old p → IsPageMade self.new p }
+        ensures only { (p : ℕ) → IsPageMade self.new p → IsPageMade self.old p ⊎ ((first ≤ p) × (p ≤ last)) }
+        ensures ready { ((p : ℕ) → first ≤ p → p ≤ last → IsPageMade self.old p) → IsOk result }
+    {
+        for page in first..last + 1 {
+            self.make_page(page)?;
+        }
+        Ok(())
+    }
+
+    /// Makes one page. Where memory is refused, memory is as it was.
+    #[inline(always)]
+    fn make_page(&mut self, page: u64) -> Result<(), AllocError>
+        requires { IsPageFrom self.old page }
+        ensures base { self.new.base ≡ self.old.base }
+        ensures octets { self.new.octets ≡ self.old.octets }
+        ensures len { length self.new.made ≡ length self.old.made }
+        ensures made { OnOk result (IsPageMade self.new page) }
+        ensures more { (p : ℕ) → IsPageMade self.old p → IsPageMade self.new p }
+        ensures only { (p : ℕ) → IsPageMade self.new p → IsPageMade self.old p ⊎ (p ≡ page) }
+        ensures same { OnErr result (self.new ≡ self.old) }
+        ensures ready { IsPageMade self.old page → IsOk result }
+    {
+        let first = self.base / PAGE_OCTETS as u64;
+        self.store.make((page - first) as usize)
     }
 
     /// Copies the octets from `addr` on into `out`. The range may cross page ends.
     #[inline(always)]
     pub fn read_into(&self, addr: u64, out: &mut [u8])
-        requires { IsHeld self.now.octets addr (length out.old) }
+        requires { IsHeld self.now addr (length out.old) }
         ensures { out.new ≡ part self.now.octets addr (length out.old) }
     {
         match self.piece(addr, out.len()) {
@@ -168,10 +237,10 @@ impl GuestMemory {
     /// Copies the octets from `addr` on into `out`, page by page.
     #[inline(never)]
     pub(crate) fn read_pieces(&self, addr: u64, out: &mut [u8])
-        requires { IsHeld self.now.octets addr (length out.old) }
+        requires { IsHeld self.now addr (length out.old) }
         ensures { out.new ≡ part self.now.octets addr (length out.old) }
     {
-        let end = self.end(addr, out.len() as u64);
+        let end = self.range_end(addr, out.len() as u64);
         let mut done = 0;
         while addr + (done as u64) < end {
             let from = addr + done as u64;
@@ -187,7 +256,7 @@ impl GuestMemory {
     /// The `N` octets from `addr` on. The range may cross page ends.
     #[inline(always)]
     pub fn read_array<const N: usize>(&self, addr: u64) -> [u8; N]
-        requires { IsHeld self.now.octets addr N }
+        requires { IsHeld self.now addr N }
         ensures { result ≡ part self.now.octets addr N }
     {
         let mut octets = [0; N];
@@ -198,7 +267,7 @@ impl GuestMemory {
     /// Saves the `len` octets from `addr` on before the old octets of other records. The range may cross page ends.
     #[inline(always)]
     pub fn save(&self, addr: u64, len: usize, old: &mut OldOctets)
-        requires held { IsHeld self.now.octets addr len }
+        requires held { IsHeld self.now addr len }
         requires room { len ≤ length old.old.octets }
         ensures { old.new ≡ saved (part self.now.octets addr len) old.old }
     {
@@ -212,7 +281,7 @@ impl GuestMemory {
     /// comes before them.
     #[inline(never)]
     fn save_pieces(&self, addr: u64, len: usize, old: &mut OldOctets)
-        requires held { IsHeld self.now.octets addr len }
+        requires held { IsHeld self.now addr len }
         requires room { len ≤ length old.old.octets }
         ensures { old.new ≡ saved (part self.now.octets addr len) old.old }
     {
@@ -233,9 +302,10 @@ impl GuestMemory {
     /// `touch` made the pages.
     #[inline(always)]
     pub fn write_saving(&mut self, addr: u64, written: &[u8], old: &mut OldOctets)
-        requires held { IsHeld self.old.octets addr (length written.now) }
+        requires held { IsHeld self.old addr (length written.now) }
         requires made { IsMade self.old addr (length written.now) }
         requires room { length written.now ≤ length old.old.octets }
+        ensures base { self.new.base ≡ self.old.base }
         ensures octets { self.new.octets ≡ put self.old.octets addr written.now }
         ensures made { self.new.made ≡ self.old.made }
         ensures saved { old.new ≡ saved (part self.old.octets addr (length written.now)) old.old }
@@ -261,8 +331,9 @@ impl GuestMemory {
     /// the pages.
     #[inline(always)]
     pub fn write(&mut self, addr: u64, written: &[u8])
-        requires held { IsHeld self.old.octets addr (length written.now) }
+        requires held { IsHeld self.old addr (length written.now) }
         requires made { IsMade self.old addr (length written.now) }
+        ensures base { self.new.base ≡ self.old.base }
         ensures octets { self.new.octets ≡ put self.old.octets addr written.now }
         ensures made { self.new.made ≡ self.old.made }
     {
@@ -277,8 +348,9 @@ impl GuestMemory {
     /// `touch` made the pages.
     #[inline(always)]
     pub fn write_both(&mut self, addr: u64, first: &[u8], second: &[u8])
-        requires held { IsHeld self.old.octets addr (length first.now + length second.now) }
+        requires held { IsHeld self.old addr (length first.now + length second.now) }
         requires made { IsMade self.old addr (length first.now + length second.now) }
+        ensures base { self.new.base ≡ self.old.base }
         ensures octets { self.new.octets ≡ put self.old.octets addr (first.now ++ second.now) }
         ensures made { self.new.made ≡ self.old.made }
     {
@@ -292,12 +364,13 @@ impl GuestMemory {
     /// Writes the octets from `addr` on, page by page.
     #[inline(never)]
     fn write_pieces(&mut self, addr: u64, written: &[u8])
-        requires held { IsHeld self.old.octets addr (length written.now) }
+        requires held { IsHeld self.old addr (length written.now) }
         requires made { IsMade self.old addr (length written.now) }
+        ensures base { self.new.base ≡ self.old.base }
         ensures octets { self.new.octets ≡ put self.old.octets addr written.now }
         ensures made { self.new.made ≡ self.old.made }
     {
-        let end = self.end(addr, written.len() as u64);
+        let end = self.range_end(addr, written.len() as u64);
         let mut done = 0;
         while addr + (done as u64) < end {
             let from = addr + done as u64;
@@ -310,8 +383,9 @@ impl GuestMemory {
     /// Writes octets from `addr` on, and gives the old ones. The range may cross page ends. It takes no
     /// memory: `touch` made the pages.
     pub fn replace<const N: usize>(&mut self, addr: u64, written: &[u8; N]) -> [u8; N]
-        requires held { IsHeld self.old.octets addr N }
+        requires held { IsHeld self.old addr N }
         requires made { IsMade self.old addr N }
+        ensures base { self.new.base ≡ self.old.base }
         ensures octets { self.new.octets ≡ put self.old.octets addr written.now }
         ensures made { self.new.made ≡ self.old.made }
         ensures old { result ≡ part self.old.octets addr N }
@@ -325,23 +399,25 @@ impl GuestMemory {
     /// Writes octets within one page, which is made.
     fn write_piece(&mut self, addr: u64, written: &[u8])
         requires some { 0 < length written.now }
-        requires held { IsHeld self.old.octets addr (length written.now) }
+        requires held { IsHeld self.old addr (length written.now) }
         requires made { IsMade self.old addr (length written.now) }
         requires one { IsInOnePage addr (length written.now) }
+        ensures base { self.new.base ≡ self.old.base }
         ensures octets { self.new.octets ≡ put self.old.octets addr written.now }
         ensures made { self.new.made ≡ self.old.made }
     {
-        let index = addr as usize / PAGE_OCTETS;
-        let at = addr as usize % PAGE_OCTETS;
-        page::write(&mut self.pages[index], at, written);
+        let from = (addr - self.base) as usize;
+        self.store
+            .write(from / PAGE_OCTETS, from % PAGE_OCTETS, written);
     }
 
     /// Writes the octets of `swapped` from `addr` on, and leaves the old ones in `swapped`. The range
     /// may cross page ends. It takes no memory: `touch` made the pages.
     pub fn swap(&mut self, addr: u64, swapped: &mut [u8])
-        requires held { IsHeld self.old.octets addr (length swapped.old) }
+        requires held { IsHeld self.old addr (length swapped.old) }
         requires made { IsMade self.old addr (length swapped.old) }
 
+        ensures base { self.new.base ≡ self.old.base }
         ensures octets { self.new.octets ≡ put self.old.octets addr swapped.old }
         ensures made { self.new.made ≡ self.old.made }
         ensures old { swapped.new ≡ part self.old.octets addr (length swapped.old) }
@@ -350,7 +426,7 @@ impl GuestMemory {
         ensures len { length swapped.new ≡ length swapped.old }
         ensures reverses { Reverses self.old self.new (record { at = addr; octets = swapped.new }) }
     {
-        let end = self.end(addr, swapped.len() as u64);
+        let end = self.range_end(addr, swapped.len() as u64);
         let mut done = 0;
         while addr + (done as u64) < end {
             let from = addr + done as u64;
@@ -363,8 +439,9 @@ impl GuestMemory {
     /// Writes at most 64 octets, and leaves the old ones in their place: they are read before the write.
     fn swap_piece(&mut self, addr: u64, swapped: &mut [u8])
         requires few { length swapped.old ≤ SWAPPED }
-        requires held { IsHeld self.old.octets addr (length swapped.old) }
+        requires held { IsHeld self.old addr (length swapped.old) }
         requires made { IsMade self.old addr (length swapped.old) }
+        ensures base { self.new.base ≡ self.old.base }
         ensures octets { self.new.octets ≡ put self.old.octets addr swapped.old }
         ensures made { self.new.made ≡ self.old.made }
         ensures old { swapped.new ≡ part self.old.octets addr (length swapped.old) }
@@ -392,6 +469,18 @@ fn in_page(addr: u64, len: usize) -> usize
     ensures some { 0 < len → 0 < result }
 {
     (PAGE_OCTETS - addr as usize % PAGE_OCTETS).min(len)
+}
+
+/// Whether memory can lie there.
+fn is_memory_range(base: u64, size: u64) -> bool
+    ensures { IsTrue result ↔ IsMemoryRange base size }
+{
+    let page = PAGE_OCTETS as u64;
+    page <= size
+        && size <= MOST_END
+        && base <= MOST_END - size
+        && size % page == 0
+        && base % page == 0
 }
 
 impl Reversible for GuestMemory {

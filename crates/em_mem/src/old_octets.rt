@@ -6,8 +6,9 @@ use crate::ring::{pieces, put_front, put_octets};
 use std::alloc::{AllocError, Global};
 use std::marker::Model;
 
-/// The most octets that there can be room for: more than the greatest budget of a journal.
-pub const MOST_ROOM: usize = 0x200_0000;
+/// The most octets that there can be room for: more than the greatest budget of a journal, and so few that a place has
+/// 25 bits.
+pub const MOST_ROOM: usize = 0x1FF_FFFF;
 
 /// Old octets, those of the newest record first. There is room for so many; of more the oldest go.
 #[derive(Drop)]

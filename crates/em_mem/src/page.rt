@@ -1,7 +1,7 @@
 //! One page of guest memory, made or not.
-ghost use Rattle.std.specs.Prelude.{◌≡◌, ◌+◌, ◌≤◌, IfOk, IsOk, OnErr, OnOk, length, true};
+ghost use Rattle.std.specs.Prelude.{◌≡◌, ◌+◌, ◌≤◌, ◌∷◌, [], IfOk, IsOk, OnErr, OnOk, length, true};
 ghost use Rattle.em_mem.specs.Memory.{put};
-ghost use Rattle.em_mem.specs.Pages.{zero_page, page_octets, is_made};
+ghost use Rattle.em_mem.specs.Pages.{zero_page, page_octets, page_made, is_made};
 
 use crate::PAGE_OCTETS;
 use std::alloc::{AllocError, Global};
@@ -18,6 +18,7 @@ pub(crate) fn new_page(alloc: Global) -> Result<Box<[u8; PAGE_OCTETS]>, AllocErr
 }
 
 /// The octets of a page, where `zeros` stands for one that is not made.
+#[inline]
 pub(crate) fn octets<'a>(page: &'a Page, zeros: &'a [u8; PAGE_OCTETS]) -> &'a [u8]
     requires { zeros.now ≡ zero_page }
     ensures { result.now ≡ page_octets page.now }
@@ -29,11 +30,11 @@ pub(crate) fn octets<'a>(page: &'a Page, zeros: &'a [u8; PAGE_OCTETS]) -> &'a [u
 }
 
 /// Makes a page, if it is not made yet. Its octets stay.
-#[inline(always)]
+#[inline]
 pub(crate) fn make(alloc: Global, page: &mut Page) -> Result<(), AllocError>
     ensures octets { page_octets page.new ≡ page_octets page.old }
-    ensures made { OnOk result (is_made page.new ≡ true) }
-    ensures more { is_made page.old ≡ true → is_made page.new ≡ true }
+    ensures made { OnOk result (page_made page.new ≡ true ∷ []) }
+    ensures same { OnErr result (page.new ≡ page.old) }
     ensures ready { is_made page.old ≡ true → IsOk result }
 {
     if page.is_none() {
@@ -44,10 +45,11 @@ pub(crate) fn make(alloc: Global, page: &mut Page) -> Result<(), AllocError>
 }
 
 /// Makes a page of zeros in place of what is there.
+#[cold]
 #[inline(never)]
 fn make_now(alloc: Global, page: &mut Page) -> Result<(), AllocError>
     ensures octets { OnOk result (page_octets page.new ≡ zero_page) }
-    ensures made { OnOk result (is_made page.new ≡ true) }
+    ensures made { OnOk result (page_made page.new ≡ true ∷ []) }
     ensures same { OnErr result (page.new ≡ page.old) }
 {
     *page = Some(new_page(alloc)?);
@@ -55,6 +57,7 @@ fn make_now(alloc: Global, page: &mut Page) -> Result<(), AllocError>
 }
 
 /// Writes octets over those of a made page.
+#[inline]
 pub(crate) fn write(page: &mut Page, at: usize, written: &[u8])
     requires made { is_made page.old ≡ true }
     requires range { at + length written.now ≤ length (page_octets page.old) }

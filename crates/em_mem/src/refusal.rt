@@ -8,7 +8,7 @@ use thiserror::Error;
 #[derive(Clone, Copy, Debug, PartialEq, Eq, Error)]
 #[error("{}", self.name())]
 pub enum MemRefusal {
-    /// The size is not a multiple of 4,096 from 4,096 to 16,777,216.
+    /// Memory can not have that size, or not from that address on.
     Size = 1,
     /// A growth was refused.
     Memory = 9,

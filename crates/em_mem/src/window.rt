@@ -1,7 +1,9 @@
 //! Guest memory as it was before a write, seen through a window: memory itself is neither copied nor changed.
-ghost use Rattle.std.specs.Prelude.{◌≡◌, ◌^◌, ◌<◌, ◌++◌, length, take, drop};
+ghost use Rattle.std.specs.Prelude.{◌≡◌, ◌≤◌, ◌++◌, length, take, drop};
 ghost use Rattle.em_mem.specs.Memory.{Cells, Fits, undo};
 ghost use Rattle.em_mem.specs.Window.{IsWindow, lay_over};
+
+use crate::MOST_END;
 
 /// Lays the octets that lay from `at` on over a window of memory from `addr` on. The window is then what it is once
 /// they are put back.
@@ -19,7 +21,7 @@ pub fn lay_over(at: u64, octets: &[u8], addr: u64, window: &mut [u8])
 /// does with octets in one piece.
 #[inline(always)]
 pub fn lay_both_over(at: u64, first: &[u8], second: &[u8], addr: u64, window: &mut [u8])
-    requires { at < 2 ^ 32 }
+    requires { at ≤ MOST_END }
     ensures { window.new ≡ lay_over addr window.old (record { at = at; octets = first.now ++ second.now }) }
 {
     lay(at, first, addr, window);

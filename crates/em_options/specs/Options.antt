@@ -118,6 +118,7 @@ IsRefusedFor words Mac = (fault_of em_bench words ≡ []) × IfSome (said (codes
 -- what a machine is made of
 abbrev pub settings_of : Options → Settings
 settings_of options = record {
+  base = 0;
   memory = options.memory;
   budget = options.budget;
   mac = options.mac;

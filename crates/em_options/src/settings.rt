@@ -25,11 +25,12 @@ pub struct Options<'a> {
 }
 
 impl Options<'_> {
-    /// What the machine is made of.
+    /// What the machine is made of: its memory begins at address 0.
     pub fn settings(&self) -> Settings
         ensures { result ≡ settings_of self.now }
     {
         Settings {
+            base: 0,
             memory: self.memory,
             budget: self.budget,
             mac: self.mac,

@@ -4,7 +4,7 @@ use Rattle.std.proofs.Common.{sym, ap}
 use Rattle.std.proofs.Common.{◌∙◌, arith, subst}
 use Rattle.std.specs.Prelude.{[], ◌∷◌, ◌+◌, ◌==◌, ◌||◌, ◌↔◌, nat_le, nat_lt, not, is_some, IsSome, if◌then◌else◌}
 use Rattle.std.proofs.lemmas.Bool.Decides.{nat_tests}
-use Rattle.em_mem.specs.Memory.{part}
+use Rattle.em_mem.specs.Memory.{leaves, part}
 use Rattle.em_regs.specs.declared.setup.RxSetup.{RxSetup}
 use Rattle.em_regs.specs.declared.setup.TxSetup.{TxSetup}
 use Rattle.em_regs.specs.Setup.{rx_setup, tx_setup}
@@ -130,12 +130,13 @@ busy_step true x s r busy is = cc
 busy_step false x s r busy is = is
 
 -- a step that is not idle and not refused handles a descriptor
-transmit_handles : (q : TxSetup) (s : Shown) (r : TxAnswer × Shown) → tx.is_idle q ≡ false → transmit q s ≡ Ok r
+transmit_handles : (q : TxSetup) (base : ℕ) (s : Shown) (r : TxAnswer × Shown) → tx.is_idle q ≡ false
+    → transmit q base s ≡ Ok r
     → IsHandled r.0
 unfolding transmit
-transmit_handles q s r busy is =
+transmit_handles q base s r busy is =
     let d = part s.memory (tx.place q) 16 in
-    by_tests (nat_lt (length s.memory) (tx.place q + 16)) (refusal s.gathered s.memory d) (handle q d s) r
+    by_tests (leaves base s.memory (tx.place q) 16) (refusal base s.gathered s.memory d) (handle q d s) r
     (handled q d s) (busy_step (tx.is_idle q) _ s r busy is)
 
 -- a step that handles a descriptor is not idle
@@ -152,13 +153,13 @@ busy_out s (Ok r) handles same = handled_answers (with_shown s r.1) s r.0 (handl
 busy_out s (Err refusal) handles same = cc
 
 tx_out : (s : State) (idle : Bool) → tx.is_idle (tx_setup s.registers) ≡ idle
-    → (idle ≡ true) ↔ (tx_stepped s (transmit (tx_setup s.registers) (sending s)) ≡ Ok (Idle, s))
+    → (idle ≡ true) ↔ (tx_stepped s (transmit (tx_setup s.registers) s.base (sending s)) ≡ Ok (Idle, s))
 tx_out s true is =
-    (λ h. ap (tx_stepped s) (transmit-idle (tx_setup s.registers) (sending s) is), λ h. refl)
+    (λ h. ap (tx_stepped s) (transmit-idle (tx_setup s.registers) s.base (sending s) is), λ h. refl)
 tx_out s false is = (
   λ h. cc,
-  λ h. busy_out s (transmit (tx_setup s.registers) (sending s))
-      (λ r. transmit_handles (tx_setup s.registers) (sending s) r is) h,
+  λ h. busy_out s (transmit (tx_setup s.registers) s.base (sending s))
+      (λ r. transmit_handles (tx_setup s.registers) s.base (sending s) r is) h,
 )
 
 pub tx_idle_where : (s : State) (o : Option TxIdle) → o ≡ tx_idle s → IsSome o ↔ IsIdleSending s

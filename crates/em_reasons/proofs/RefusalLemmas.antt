@@ -3,7 +3,7 @@ use Rattle.std.proofs.Common.{◌≡◌, ℕ, Bool, true, false, List, length, O
 use Rattle.std.proofs.Common.{sym, ap}
 use Rattle.std.proofs.Common.{◌∙◌}
 use Rattle.std.specs.Prelude.{[], ◌∷◌, ◌+◌, ◌*◌, ◌==◌, ◌&&◌, ◌||◌, ◌↔◌, nat_lt, is_none, option_map, if◌then◌else◌}
-use Rattle.em_mem.specs.Memory.{part}
+use Rattle.em_mem.specs.Memory.{leaves, part}
 use Rattle.em_regs.specs.declared.reg.Reg.{Reg}
 use Rattle.em_regs.specs.declared.setup.RxSetup.{RxSetup}
 use Rattle.em_regs.specs.declared.setup.TxSetup.{TxSetup}
@@ -30,6 +30,7 @@ use Rattle.em_step.specs.declared.refusal.Refusal.{Refusal}
 use Rattle.em_step.specs.declared.refusal.Refusal.TheVariants as refusal
 use Rattle.em_reasons.specs.Foretold.{refusal_in}
 use Rattle.em_reasons.specs.Table.{first_of}
+use Rattle.em_reasons.specs.declared.refused.Bounds.{Bounds}
 use Rattle.em_reasons.specs.declared.refused.Refused.{Refused}
 use Rattle.em_reasons.specs.declared.refused.Refused.TheVariants.{NoRegister, Range, WriteLength, FrameLength}
 use Rattle.em_reasons.specs.declared.refused.Refused.TheVariants.{RxDescriptor, RxBuffer, TxDescriptor, Extended}
@@ -37,7 +38,7 @@ use Rattle.em_reasons.specs.declared.refused.Refused.TheVariants.{TooLong}
 use Rattle.em_inspect.specs.Ring.{octets_at}
 use Rattle.em_regs.specs.Ring.{descriptor_at, rx_ring, tx_ring}
 use Rattle.em_regs.specs.declared.ring.Ring.{Ring}
-use Rattle.em_reasons.specs.Refused.{access_table, refusal_of, refusal_table, refused_descriptor}
+use Rattle.em_reasons.specs.Refused.{access_table, bounds, bounds_of, refusal_of, refusal_table, refused_descriptor}
 use Rattle.em_reasons.specs.Refused.{refused_receive, refused_transmit}
 use Rattle.em_reasons.specs.Refused.{refused_write, rx_buffer, rx_table, tx_buffer, tx_octets, tx_table, unless_idle}
 use Rattle.em_reasons.specs.Refused.{why}
@@ -52,12 +53,12 @@ of_access : (o : ℕ) (reg : Option Reg) (access : Reg → Answer × State)
 of_access o None access = refl
 of_access o (Some reg) access = refl
 
-of_write : (outside short : Bool) (a n size : ℕ) (r : Answer × State)
-    → said ((outside, Range a n size) ∷ (short, WriteLength n) ∷ [])
+of_write : (outside short : Bool) (a n : ℕ) (memory : Bounds) (r : Answer × State)
+    → said ((outside, Range a n memory) ∷ (short, WriteLength n) ∷ [])
     ≡ refusal_in (if outside then Err refusal.Range else if short then Err refusal.Length else Ok r)
-of_write true short a n size r = refl
-of_write false true a n size r = refl
-of_write false false a n size r = refl
+of_write true short a n memory r = refl
+of_write false true a n memory r = refl
+of_write false false a n memory r = refl
 
 of_frame : (length : Bool) (n : ℕ) (r : Answer × State)
     → said ((length, FrameLength n) ∷ []) ≡ refusal_in (if length then Err refusal.Length else Ok r)
@@ -98,20 +99,20 @@ unfolding transmit tx_cause
 refusal_said s (reads o) = of_access o (reg_at o) _
 refusal_said s (writes o v) = of_access o (reg_at o) _
 refusal_said s (pokes a octets) =
-    of_write (nat_lt (length s.memory) (a + length octets)) (length octets == 0 || nat_lt 16_384 (length octets))
-    a (length octets) (length s.memory) _
+    of_write (leaves s.base s.memory a (length octets)) (length octets == 0 || nat_lt 16_384 (length octets))
+    a (length octets) (bounds_of s) _
 refusal_said s (arrives f) = of_frame (nat_lt (length f) 14 || nat_lt 20_000 (length f)) (length f) _
 refusal_said s (links up) = refl
 refusal_said s receives =
     let q = rx_setup s.registers in
-    of_receive s q (rx.is_idle q s.fifo) (nat_lt (length s.memory) (rx.descriptor_at q + 16))
-    (nat_lt (length s.memory) (rx.buffer_at q s.memory + rx.count_of q s.fifo)) _ _ refl refl
+    of_receive s q (rx.is_idle q s.fifo) (leaves s.base s.memory (rx.descriptor_at q) 16)
+    (leaves s.base s.memory (rx.buffer_at q s.memory) (rx.count_of q s.fifo)) _ _ refl refl
 refusal_said s transmits =
     let q = tx_setup s.registers in
     let d = tx_octets q s.memory in
-    of_transmit s (tx.is_idle q) (nat_lt (length s.memory) (tx.place q + 16)) (dext d)
+    of_transmit s (tx.is_idle q) (leaves s.base s.memory (tx.place q) 16) (dext d)
     (nat_lt 16380 (length s.gathered + length_of d))
-    (nat_lt 0 (length_of d) && nat_lt (length s.memory) (address d + length_of d)) _ _ _ _ _ refl refl refl refl
+    (nat_lt 0 (length_of d) && leaves s.base s.memory (address d) (length_of d)) _ _ _ _ _ refl refl refl refl
 
 is_refused : (x : Result (Answer × State) Refusal) (r : Refusal) → (x ≡ Err r) ↔ (refusal_in x ≡ Some r)
 is_refused (Ok a) r = (λ h. cc, λ h. cc)
@@ -172,11 +173,11 @@ access_refused s e o r d table is h =
     ∙ ap Some (sym is)
 
 pub write_refused : (s : State) (a : ℕ) (octets : List ℕ) (r : Refusal) (d : Refused)
-    → d ≡ refused_write (length s.memory) a (length octets) → step s (pokes a octets) ≡ Err r
+    → d ≡ refused_write (bounds_of s) a (length octets) → step s (pokes a octets) ≡ Err r
     → why s (pokes a octets) ≡ Some d
 write_refused s a octets r d is h =
-    two (nat_lt (length s.memory) (a + length octets)) (length octets == 0 || nat_lt 16_384 (length octets))
-    (Range a (length octets) (length s.memory)) (WriteLength (length octets)) r (said_of s (pokes a octets) r h)
+    two (leaves s.base s.memory a (length octets)) (length octets == 0 || nat_lt 16_384 (length octets))
+    (Range a (length octets) (bounds_of s)) (WriteLength (length octets)) r (said_of s (pokes a octets) r h)
     ∙ ap Some (sym is)
 
 pub frame_refused : (s : State) (f : List ℕ) (r : Refusal) → step s (arrives f) ≡ Err r
@@ -185,17 +186,17 @@ frame_refused s f r h =
     one (nat_lt (length f) 14 || nat_lt 20_000 (length f)) (FrameLength (length f)) r (said_of s (arrives f) r h)
 
 pub receive_refused : (s : State) (r : Refusal) (d : Refused)
-    → d ≡ refused_receive (rx_setup s.registers) s.memory s.fifo → step s receives ≡ Err r
+    → d ≡ refused_receive (rx_setup s.registers) s.base s.memory s.fifo → step s receives ≡ Err r
     → why s receives ≡ Some d
 receive_refused s r d is h =
     let q = rx_setup s.registers in
-    two_busy (rx.is_idle q s.fifo) (nat_lt (length s.memory) (rx.descriptor_at q + 16))
-    (nat_lt (length s.memory) (rx.buffer_at q s.memory + rx.count_of q s.fifo))
-    (RxDescriptor q.head (rx.descriptor_at q) (length s.memory)) (rx_buffer q s.memory s.fifo) r
+    two_busy (rx.is_idle q s.fifo) (leaves s.base s.memory (rx.descriptor_at q) 16)
+    (leaves s.base s.memory (rx.buffer_at q s.memory) (rx.count_of q s.fifo))
+    (RxDescriptor q.head (rx.descriptor_at q) (bounds_of s)) (rx_buffer q s.base s.memory s.fifo) r
     (said_of s receives r h)
     ∙ ap Some (sym is)
 
-by_descriptor : (r : Refusal) (q : TxSetup) (memory d : List ℕ)
+by_descriptor : (r : Refusal) (q : TxSetup) (memory : Bounds) (d : List ℕ)
     → of_descriptor r (Extended q.head (tx.place q)) (TooLong q.head (tx.place q) (length_of d)) (tx_buffer q memory d)
     ≡ refused_descriptor r q memory d
 by_descriptor refusal.NoRegister q memory d = refl
@@ -207,18 +208,18 @@ by_descriptor refusal.TooLong q memory d = refl
 by_descriptor refusal.Memory q memory d = refl
 
 pub transmit_refused : (s : State) (r : Refusal) (d : Refused)
-    → d ≡ refused_transmit r (tx_setup s.registers) s.memory → step s transmits ≡ Err r
+    → d ≡ refused_transmit r (tx_setup s.registers) s.base s.memory → step s transmits ≡ Err r
     → why s transmits ≡ Some d
 transmit_refused s r d is h =
     let q = tx_setup s.registers in
     let octets = tx_octets q s.memory in
-    let outside = nat_lt (length s.memory) (tx.place q + 16) in
-    let here = TxDescriptor q.head (tx.place q) (length s.memory) in
+    let outside = leaves s.base s.memory (tx.place q) 16 in
+    let here = TxDescriptor q.head (tx.place q) (bounds_of s) in
     four_busy (tx.is_idle q) outside (dext octets) (nat_lt 16380 (length s.gathered + length_of octets))
-    (nat_lt 0 (length_of octets) && nat_lt (length s.memory) (address octets + length_of octets)) here
-    (Extended q.head (tx.place q)) (TooLong q.head (tx.place q) (length_of octets)) (tx_buffer q s.memory octets) r
+    (nat_lt 0 (length_of octets) && leaves s.base s.memory (address octets) (length_of octets)) here
+    (Extended q.head (tx.place q)) (TooLong q.head (tx.place q) (length_of octets)) (tx_buffer q (bounds_of s) octets) r
     refl refl refl (said_of s transmits r h)
-    ∙ ap (λ (x : Refused). Some (if outside then here else x)) (by_descriptor r q s.memory octets)
+    ∙ ap (λ (x : Refused). Some (if outside then here else x)) (by_descriptor r q (bounds_of s) octets)
     ∙ ap Some (sym is)
 
 pub link_refused : (s : State) (up : Bool) (r : Refusal) (d : Refused) → step s (links up) ≡ Err r
@@ -252,10 +253,10 @@ tables_lack s (arrives f) = (λ h. cc, tt)
 tables_lack s (links up) = tt
 tables_lack s receives =
     let q = rx_setup s.registers in
-    lacks_busy (rx.is_idle q s.fifo) (rx_table q s.memory s.fifo) (λ h. cc, (λ h. cc, tt))
+    lacks_busy (rx.is_idle q s.fifo) (rx_table q s.base s.memory s.fifo) (λ h. cc, (λ h. cc, tt))
 tables_lack s transmits =
     let q = tx_setup s.registers in
-    lacks_busy (tx.is_idle q) (tx_table q s.memory s.gathered (tx_octets q s.memory))
+    lacks_busy (tx.is_idle q) (tx_table q (bounds_of s) s.gathered (tx_octets q s.memory))
     (λ h. cc, (λ h. cc, (λ h. cc, (λ h. cc, tt))))
 
 pub never_memory : (s : State) (e : Event) (r : Refusal) (d : Refused) → r ≡ refusal.Memory → step s e ≡ Err r
@@ -273,58 +274,59 @@ inside true x octets h = cc
 inside false x octets h = (refl, cc)
 
 -- the descriptor of an index in a ring that is known to be another one
-pub octets_in : (memory : List ℕ) (i : ℕ) {o : Option (List ℕ)} {r q : Ring} → o ≡ octets_at r memory i → r ≡ q
-    → o ≡ octets_at q memory i
-octets_in memory i is same = is ∙ ap (λ (r : Ring). octets_at r memory i) same
+pub octets_in : (base : ℕ) (memory : List ℕ) (i : ℕ) {o : Option (List ℕ)} {r q : Ring} → o ≡ octets_at r base memory i
+    → r ≡ q → o ≡ octets_at q base memory i
+octets_in base memory i is same = is ∙ ap (λ (r : Ring). octets_at r base memory i) same
 
 pub place_in : (i : ℕ) {place : ℕ} {r q : Ring} → place ≡ descriptor_at r i → r ≡ q → place ≡ descriptor_at q i
 place_in i is same = is ∙ ap (λ (r : Ring). descriptor_at r i) same
 
-pub receive_outside : (p q : RxSetup) (memory : List ℕ) (fifo : Fifo) (place size : ℕ) → p ≡ q
-    → None ≡ octets_at (rx_ring p) memory p.head → place ≡ p.base + 16 * p.head → size ≡ length memory
-    → RxDescriptor p.head place size ≡ refused_receive q memory fifo
-receive_outside p q memory fifo place size same none at count =
-    let test : nat_lt (length memory) (rx.descriptor_at p + 16) ≡ true = outside _ _ none in
-    ap (λ (n : ℕ). RxDescriptor p.head n size) at
-    ∙ ap (λ (n : ℕ). RxDescriptor p.head (rx.descriptor_at p) n) count
-    ∙ sym (ap (λ (b : Bool). if b then RxDescriptor p.head (rx.descriptor_at p) (length memory)
-    else rx_buffer p memory fifo) test)
-    ∙ ap (λ (r : RxSetup). refused_receive r memory fifo) same
+pub receive_outside : (p q : RxSetup) (base : ℕ) (memory : List ℕ) (fifo : Fifo) (place : ℕ) (lies_in : Bounds) → p ≡ q
+    → None ≡ octets_at (rx_ring p) base memory p.head → place ≡ p.base + 16 * p.head → lies_in ≡ bounds base memory
+    → RxDescriptor p.head place lies_in ≡ refused_receive q base memory fifo
+receive_outside p q base memory fifo place lies_in same none at lies =
+    let test : leaves base memory (rx.descriptor_at p) 16 ≡ true = outside _ _ none in
+    ap (λ (n : ℕ). RxDescriptor p.head n lies_in) at
+    ∙ ap (λ (b : Bounds). RxDescriptor p.head (rx.descriptor_at p) b) lies
+    ∙ sym (ap (λ (b : Bool). if b then RxDescriptor p.head (rx.descriptor_at p) (bounds base memory)
+    else rx_buffer p base memory fifo) test)
+    ∙ ap (λ (r : RxSetup). refused_receive r base memory fifo) same
 
-pub receive_inside : (p q : RxSetup) (memory octets : List ℕ) (fifo : Fifo) (place buffer n size : ℕ) → p ≡ q
-    → Some octets ≡ octets_at (rx_ring p) memory p.head → place ≡ p.base + 16 * p.head
-    → buffer ≡ (descriptor_of octets).address → n ≡ length (first fifo).octets → size ≡ length memory
-    → RxBuffer p.head place buffer p.buffer n size ≡ refused_receive q memory fifo
-receive_inside p q memory octets fifo place buffer n size same some at address frame count =
+pub receive_inside : (p q : RxSetup) (base : ℕ) (memory octets : List ℕ) (fifo : Fifo) (place buffer n : ℕ)
+    (lies_in : Bounds) → p ≡ q
+    → Some octets ≡ octets_at (rx_ring p) base memory p.head → place ≡ p.base + 16 * p.head
+    → buffer ≡ (descriptor_of octets).address → n ≡ length (first fifo).octets → lies_in ≡ bounds base memory
+    → RxBuffer p.head place buffer p.buffer n lies_in ≡ refused_receive q base memory fifo
+receive_inside p q base memory octets fifo place buffer n lies_in same some at address frame lies =
     let there = part memory (rx.descriptor_at p) 16 in
-    let found = inside (nat_lt (length memory) (rx.descriptor_at p + 16)) there octets some in
-    ap (λ (k : ℕ). RxBuffer p.head k buffer p.buffer n size) at
-    ∙ ap (λ (k : ℕ). RxBuffer p.head (rx.descriptor_at p) k p.buffer n size)
+    let found = inside (leaves base memory (rx.descriptor_at p) 16) there octets some in
+    ap (λ (k : ℕ). RxBuffer p.head k buffer p.buffer n lies_in) at
+    ∙ ap (λ (k : ℕ). RxBuffer p.head (rx.descriptor_at p) k p.buffer n lies_in)
     (address ∙ ap (λ (l : List ℕ). (descriptor_of l).address) found.1)
-    ∙ ap (λ (k : ℕ). RxBuffer p.head (rx.descriptor_at p) (rx.buffer_at p memory) p.buffer k size) frame
-    ∙ ap (λ (k : ℕ).
-    RxBuffer p.head (rx.descriptor_at p) (rx.buffer_at p memory) p.buffer (length (first fifo).octets) k) count
-    ∙ sym (ap (λ (b : Bool). if b then RxDescriptor p.head (rx.descriptor_at p) (length memory)
-    else rx_buffer p memory fifo) found.0)
-    ∙ ap (λ (r : RxSetup). refused_receive r memory fifo) same
+    ∙ ap (λ (k : ℕ). RxBuffer p.head (rx.descriptor_at p) (rx.buffer_at p memory) p.buffer k lies_in) frame
+    ∙ ap (λ (b : Bounds).
+    RxBuffer p.head (rx.descriptor_at p) (rx.buffer_at p memory) p.buffer (length (first fifo).octets) b) lies
+    ∙ sym (ap (λ (b : Bool). if b then RxDescriptor p.head (rx.descriptor_at p) (bounds base memory)
+    else rx_buffer p base memory fifo) found.0)
+    ∙ ap (λ (r : RxSetup). refused_receive r base memory fifo) same
 
-pub transmit_outside : (r : Refusal) (p q : TxSetup) (memory : List ℕ) (place size : ℕ) → p ≡ q
-    → None ≡ octets_at (tx_ring p) memory p.head → place ≡ p.base + 16 * p.head → size ≡ length memory
-    → TxDescriptor p.head place size ≡ refused_transmit r q memory
-transmit_outside r p q memory place size same none at count =
-    let test : nat_lt (length memory) (tx.place p + 16) ≡ true = outside _ _ none in
-    ap (λ (n : ℕ). TxDescriptor p.head n size) at
-    ∙ ap (λ (n : ℕ). TxDescriptor p.head (tx.place p) n) count
-    ∙ sym (ap (λ (b : Bool). if b then TxDescriptor p.head (tx.place p) (length memory)
-    else refused_descriptor r p memory (tx_octets p memory)) test)
-    ∙ ap (λ (s : TxSetup). refused_transmit r s memory) same
+pub transmit_outside : (r : Refusal) (p q : TxSetup) (base : ℕ) (memory : List ℕ) (place : ℕ) (lies_in : Bounds) → p ≡ q
+    → None ≡ octets_at (tx_ring p) base memory p.head → place ≡ p.base + 16 * p.head → lies_in ≡ bounds base memory
+    → TxDescriptor p.head place lies_in ≡ refused_transmit r q base memory
+transmit_outside r p q base memory place lies_in same none at lies =
+    let test : leaves base memory (tx.place p) 16 ≡ true = outside _ _ none in
+    ap (λ (n : ℕ). TxDescriptor p.head n lies_in) at
+    ∙ ap (λ (b : Bounds). TxDescriptor p.head (tx.place p) b) lies
+    ∙ sym (ap (λ (b : Bool). if b then TxDescriptor p.head (tx.place p) (bounds base memory)
+    else refused_descriptor r p (bounds base memory) (tx_octets p memory)) test)
+    ∙ ap (λ (s : TxSetup). refused_transmit r s base memory) same
 
-pub transmit_inside : (r : Refusal) (p q : TxSetup) (memory octets : List ℕ) (d : Refused) → p ≡ q
-    → Some octets ≡ octets_at (tx_ring p) memory p.head → d ≡ refused_descriptor r p memory octets
-    → d ≡ refused_transmit r q memory
-transmit_inside r p q memory octets d same some is =
-    let found = inside (nat_lt (length memory) (tx.place p + 16)) (part memory (tx.place p) 16) octets some in
-    is ∙ ap (λ (l : List ℕ). refused_descriptor r p memory l) found.1
-    ∙ sym (ap (λ (b : Bool). if b then TxDescriptor p.head (tx.place p) (length memory)
-    else refused_descriptor r p memory (tx_octets p memory)) found.0)
-    ∙ ap (λ (s : TxSetup). refused_transmit r s memory) same
+pub transmit_inside : (r : Refusal) (p q : TxSetup) (base : ℕ) (memory octets : List ℕ) (d : Refused) → p ≡ q
+    → Some octets ≡ octets_at (tx_ring p) base memory p.head → d ≡ refused_descriptor r p (bounds base memory) octets
+    → d ≡ refused_transmit r q base memory
+transmit_inside r p q base memory octets d same some is =
+    let found = inside (leaves base memory (tx.place p) 16) (part memory (tx.place p) 16) octets some in
+    is ∙ ap (λ (l : List ℕ). refused_descriptor r p (bounds base memory) l) found.1
+    ∙ sym (ap (λ (b : Bool). if b then TxDescriptor p.head (tx.place p) (bounds base memory)
+    else refused_descriptor r p (bounds base memory) (tx_octets p memory)) found.0)
+    ∙ ap (λ (s : TxSetup). refused_transmit r s base memory) same

@@ -6,7 +6,7 @@ use Rattle.std.specs.Prelude.{if◌then◌else◌, bit_and, min}
 use Rattle.std.proofs.lemmas.Bool.Decides.{nat_tests}
 use Rattle.std.proofs.lemmas.List.{get_or-drop, get_or-take}
 use Rattle.byteorder.specs.Endian.{little_from, little_number}
-use Rattle.em_mem.specs.Memory.{part}
+use Rattle.em_mem.specs.Memory.{leaves, part}
 use Rattle.em_regs.specs.declared.reg.Reg.TheVariants.{Rctl, Rdbal, Rdbah, Rdh, Tdbal, Tdbah, Tdh}
 use Rattle.em_regs.specs.declared.setup.RxSetup.{RxSetup}
 use Rattle.em_regs.specs.declared.setup.TxSetup.{TxSetup}
@@ -19,11 +19,12 @@ use Rattle.em_step.specs.Event.{Event, reads, writes, pokes, arrives, links, rec
 use Rattle.em_step.specs.State.{State}
 use Rattle.em_step.specs.Step.{step}
 use Rattle.em_step.specs.declared.refusal.Refusal.{Refusal}
+use Rattle.em_reasons.specs.declared.refused.Bounds.{Bounds}
 use Rattle.em_reasons.specs.declared.refused.Refused.{Refused}
 use Rattle.em_reasons.specs.declared.refused.Refused.TheVariants.{RxDescriptor, RxBuffer, TxDescriptor, TxBuffer}
 use Rattle.em_reasons.specs.declared.refused.Refused.TheVariants.{Extended, TooLong}
 use Rattle.em_reasons.specs.Looks.{looks_before, refused_looks, rx_place, tx_place}
-use Rattle.em_reasons.specs.Refused.{IsBusy, refusal_of, rx_table, tx_octets, tx_table, unless_idle, why, write_table}
+use Rattle.em_reasons.specs.Refused.{IsBusy, bounds_of, is_past, refusal_of, rx_table, tx_octets, tx_table, unless_idle, why, write_table}
 use Rattle.em_reasons.specs.SameLooks.{SameLooks}
 use Rattle.em_reasons.specs.Table.{first_of}
 use Rattle.em_reasons.proofs.BitLemmas.{bits_within, field_same, has_same}
@@ -138,21 +139,21 @@ pub tx_busy : (t : State) → IsBusy t transmits → tx.is_idle (tx_setup t.regi
 tx_busy t is = none_is _ _ is (tx_tests (tx_setup t.registers))
 
 -- ---- receive steps
-abbrev rx_first : ℕ → ℕ → ℕ → Row
-rx_first size head place = (nat_lt size (place + 16), RxDescriptor head place size)
+abbrev rx_first : Bounds → ℕ → ℕ → Row
+rx_first size head place = (is_past size place 16, RxDescriptor head place size)
 
-abbrev rx_second : ℕ → ℕ → ℕ → ℕ → ℕ → ℕ → ℕ → Row
+abbrev rx_second : Bounds → ℕ → ℕ → ℕ → ℕ → ℕ → ℕ → Row
 rx_second size head place buffer room count n =
-    (nat_lt size (buffer + count), RxBuffer head place buffer room n size)
+    (is_past size buffer count, RxBuffer head place buffer room n size)
 
 -- the first row is the same where these numbers are
 abbrev behind : Row → List Row → Option Refused
 behind row rows = first_of (row ∷ rows)
 
-rx_first_same : {size place head z p h : ℕ} (rows : List Row) → z ≡ size → p ≡ place → h ≡ head
+rx_first_same : {size z : Bounds} {place head p h : ℕ} (rows : List Row) → z ≡ size → p ≡ place → h ≡ head
     → behind (rx_first z h p) rows ≡ behind (rx_first size head place) rows
-rx_first_same {size = size} {place = place} {z = z} {p = p} {h = h} rows same at index =
-    ap (λ (v : ℕ). behind (rx_first v h p) rows) same
+rx_first_same {size = size} {place = place} {p = p} {h = h} rows same at index =
+    ap (λ (v : Bounds). behind (rx_first v h p) rows) same
     ∙ ap (λ (v : ℕ). behind (rx_first size h v) rows) at
     ∙ ap (λ (v : ℕ). behind (rx_first size v place) rows) index
 
@@ -174,7 +175,7 @@ buffer_bits x y same =
     ap (λ (b : Bool). size b (x / 2 ^ 16 % 4)) (has_same 0x0200_0000 x y (bits_within 0x0200_0000 0x0203_0000 x y refl same))
     ∙ ap (size (has y 0x0200_0000)) (field_same 2 16 x y (bits_within 0x0003_0000 0x0203_0000 x y refl same))
 
-rx_all : {size head place buffer room count n z h p b r c k : ℕ} → z ≡ size → h ≡ head → p ≡ place → b ≡ buffer
+rx_all : {size z : Bounds} {head place buffer room count n h p b r c k : ℕ} → z ≡ size → h ≡ head → p ≡ place → b ≡ buffer
     → r ≡ room → c ≡ count → k ≡ n
     → behind (rx_first z h p) (rx_second z h p b r c k ∷ [])
     ≡ behind (rx_first size head place) (rx_second size head place buffer room count n ∷ [])
@@ -189,21 +190,21 @@ buffer_same s t looks octets =
     ∙ number_at_start s.memory t.memory (rx.descriptor_at (rx_setup s.registers)) 8 (omega arith) (omega arith) octets
 
 abbrev rx_rows : State → List Row
-rx_rows s = rx_table (rx_setup s.registers) s.memory s.fifo
+rx_rows s = rx_table (rx_setup s.registers) s.base s.memory s.fifo
 
-rx_descriptor : (s t : State) → length t.memory ≡ length s.memory → SameLooks s t rx_place → (r : Refused)
-    → nat_lt (length s.memory) (rx.descriptor_at (rx_setup s.registers) + 16) ≡ true
+rx_descriptor : (s t : State) → bounds_of t ≡ bounds_of s → SameLooks s t rx_place → (r : Refused)
+    → leaves s.base s.memory (rx.descriptor_at (rx_setup s.registers)) 16 ≡ true
     → first_of (rx_rows s) ≡ Some r → first_of (rx_rows t) ≡ Some r
 rx_descriptor s t size looks r holds found =
     rx_first_same (drop 1 (rx_rows t)) size (rx_at s t looks) looks.1.1.0
-    ∙ decides (rx_first (length s.memory) (rx_setup s.registers).head (rx.descriptor_at (rx_setup s.registers)))
+    ∙ decides (rx_first (bounds_of s) (rx_setup s.registers).head (rx.descriptor_at (rx_setup s.registers)))
     (drop 1 (rx_rows t)) (drop 1 (rx_rows s)) holds
     ∙ found
 
-rx_buffer_out : (s t : State) → length t.memory ≡ length s.memory → (r : Refused)
+rx_buffer_out : (s t : State) → bounds_of t ≡ bounds_of s → (r : Refused)
     → SameLooks s t (refused_looks (RxBuffer (rx_setup s.registers).head (rx.descriptor_at (rx_setup s.registers))
     (rx.buffer_at (rx_setup s.registers) s.memory) (rx_setup s.registers).buffer (length (first s.fifo).octets)
-    (length s.memory)))
+    (bounds_of s)))
     → first_of (rx_rows s) ≡ Some r → first_of (rx_rows t) ≡ Some r
 rx_buffer_out s t size r looks found =
     let room = buffer_bits _ _ looks.1.0 in
@@ -219,22 +220,22 @@ looks_as : (s t : State) (x r : Refused) → x ≡ r → SameLooks s t (refused_
 looks_as s t x r same = subst (λ (y : Refused). SameLooks s t (refused_looks y)) (sym same)
 
 stay_receiving : (s t : State) (r : Refused) → why s receives ≡ Some r → SameLooks s t (refused_looks r)
-    → length t.memory ≡ length s.memory → IsBusy t receives → why t receives ≡ Some r
+    → bounds_of t ≡ bounds_of s → IsBusy t receives → why t receives ≡ Some r
 stay_receiving s t r is looks size runs =
     let q = rx_setup s.registers in
     let found = not_idle (rx.is_idle q s.fifo) (rx_rows s) r is in
     busy (rx.is_idle (rx_setup t.registers) t.fifo) (rx_rows t) (rx_busy t runs)
-    ∙ elim (by_first (nat_lt (length s.memory) (rx.descriptor_at q + 16)) _ r _ found) [
+    ∙ elim (by_first (leaves s.base s.memory (rx.descriptor_at q) 16) _ r _ found) [
       | inl here ↦ rx_descriptor s t size (looks_as s t _ r here.1 looks) r here.0 found
-      | inr later ↦ elim (by_first (nat_lt (length s.memory) (rx.buffer_at q s.memory + rx.count_of q s.fifo)) _ r _ later.1) [
+      | inr later ↦ elim (by_first (leaves s.base s.memory (rx.buffer_at q s.memory) (rx.count_of q s.fifo)) _ r _ later.1) [
         | inl here ↦ rx_buffer_out s t size r (looks_as s t _ r here.1 looks) found
         | inr none ↦ let no = none.1 in cc
       ]
     ]
 
 -- ---- transmit steps
-abbrev tx_first : ℕ → ℕ → ℕ → Row
-tx_first size head place = (nat_lt size (place + 16), TxDescriptor head place size)
+abbrev tx_first : Bounds → ℕ → ℕ → Row
+tx_first size head place = (is_past size place 16, TxDescriptor head place size)
 
 abbrev tx_second : Bool → ℕ → ℕ → Row
 tx_second extended head place = (extended, Extended head place)
@@ -242,26 +243,26 @@ tx_second extended head place = (extended, Extended head place)
 abbrev tx_third : ℕ → ℕ → ℕ → ℕ → Row
 tx_third gathered n head place = (nat_lt 16380 (gathered + n), TooLong head place n)
 
-abbrev tx_fourth : ℕ → ℕ → ℕ → ℕ → ℕ → Row
-tx_fourth size a n head place = (nat_lt 0 n && nat_lt size (a + n), TxBuffer head place a n size)
+abbrev tx_fourth : Bounds → ℕ → ℕ → ℕ → ℕ → Row
+tx_fourth size a n head place = (nat_lt 0 n && is_past size a n, TxBuffer head place a n size)
 
-front_one : {size head place z h p : ℕ} (rows : List Row) → z ≡ size → h ≡ head → p ≡ place
+front_one : {size z : Bounds} {head place h p : ℕ} (rows : List Row) → z ≡ size → h ≡ head → p ≡ place
     → behind (tx_first z h p) rows ≡ behind (tx_first size head place) rows
 front_one rows same index at = rw (same, index, at) refl
 
-front_two : {size head place z h p : ℕ} {extended e : Bool} (rows : List Row) → z ≡ size → h ≡ head → p ≡ place
+front_two : {size z : Bounds} {head place h p : ℕ} {extended e : Bool} (rows : List Row) → z ≡ size → h ≡ head → p ≡ place
     → e ≡ extended
     → behind (tx_first z h p) (tx_second e h p ∷ rows)
     ≡ behind (tx_first size head place) (tx_second extended head place ∷ rows)
 front_two rows same index at format = rw (same, index, at, format) refl
 
-front_three : {size head place gathered n z h p g k : ℕ} {extended e : Bool} (rows : List Row) → z ≡ size → h ≡ head
+front_three : {size z : Bounds} {head place gathered n h p g k : ℕ} {extended e : Bool} (rows : List Row) → z ≡ size → h ≡ head
     → p ≡ place → e ≡ extended → g ≡ gathered → k ≡ n
     → behind (tx_first z h p) (tx_second e h p ∷ tx_third g k h p ∷ rows)
     ≡ behind (tx_first size head place) (tx_second extended head place ∷ tx_third gathered n head place ∷ rows)
 front_three rows same index at format earlier long = rw (same, index, at, format, earlier, long) refl
 
-front_four : {size head place gathered n a z h p g k b : ℕ} {extended e : Bool} → z ≡ size → h ≡ head
+front_four : {size z : Bounds} {head place gathered n a h p g k b : ℕ} {extended e : Bool} → z ≡ size → h ≡ head
     → p ≡ place → e ≡ extended → g ≡ gathered → k ≡ n → b ≡ a
     → behind (tx_first z h p) (tx_second e h p ∷ tx_third g k h p ∷ tx_fourth z b k h p ∷ [])
     ≡ behind (tx_first size head place)
@@ -270,7 +271,7 @@ front_four same index at format earlier long address = rw (same, index, at, form
 
 abbrev tx_rows : State → List Row
 tx_rows s =
-    tx_table (tx_setup s.registers) s.memory s.gathered (tx_octets (tx_setup s.registers) s.memory)
+    tx_table (tx_setup s.registers) (bounds_of s) s.gathered (tx_octets (tx_setup s.registers) s.memory)
 
 -- the descriptor at TDH, where it lies in the first of two states
 abbrev there : State → State → List ℕ
@@ -281,7 +282,7 @@ octets_there s t looks = ap (λ (a : ℕ). part t.memory a 16) (tx_at s t looks)
 
 -- each of the four tests, where it decides
 abbrev one_of : State → Refused
-one_of s = TxDescriptor (tx_setup s.registers).head (tx.place (tx_setup s.registers)) (length s.memory)
+one_of s = TxDescriptor (tx_setup s.registers).head (tx.place (tx_setup s.registers)) (bounds_of s)
 
 abbrev two_of : State → Refused
 two_of s = Extended (tx_setup s.registers).head (tx.place (tx_setup s.registers))
@@ -292,10 +293,10 @@ three_of s = TooLong (tx_setup s.registers).head (tx.place (tx_setup s.registers
 abbrev four_of : State → Refused
 four_of s =
     TxBuffer (tx_setup s.registers).head (tx.place (tx_setup s.registers)) (address (there s s))
-    (length_of (there s s)) (length s.memory)
+    (length_of (there s s)) (bounds_of s)
 
 abbrev is_one : State → Bool
-is_one s = nat_lt (length s.memory) (tx.place (tx_setup s.registers) + 16)
+is_one s = leaves s.base s.memory (tx.place (tx_setup s.registers)) 16
 
 abbrev is_two : State → Bool
 is_two s = dext (there s s)
@@ -305,7 +306,7 @@ is_three s = nat_lt 16380 (length s.gathered + length_of (there s s))
 
 abbrev is_four : State → Bool
 is_four s =
-    nat_lt 0 (length_of (there s s)) && nat_lt (length s.memory) (address (there s s) + length_of (there s s))
+    nat_lt 0 (length_of (there s s)) && leaves s.base s.memory (address (there s s)) (length_of (there s s))
 
 -- the first that holds, and its reason
 abbrev First : State → Refused → Type 0
@@ -330,7 +331,7 @@ first_holds s r found = elim (by_first (is_one s) (one_of s) r _ found) [
 ]
 
 -- where the first test is the same
-one_again : (s t : State) (r : Refused) → length t.memory ≡ length s.memory → SameLooks s t tx_place
+one_again : (s t : State) (r : Refused) → bounds_of t ≡ bounds_of s → SameLooks s t tx_place
     → is_one s ≡ true → first_of (tx_rows s) ≡ Some r → first_of (tx_rows t) ≡ Some r
 one_again s t r size place holds found =
     front_one (drop 1 (tx_rows t)) size place.1.1.0 (tx_at s t place)
@@ -338,7 +339,7 @@ one_again s t r size place holds found =
     ∙ found
 
 -- the first two
-two_again : (s t : State) (r : Refused) → length t.memory ≡ length s.memory
+two_again : (s t : State) (r : Refused) → bounds_of t ≡ bounds_of s
     → SameLooks s t (refused_looks (two_of s)) → is_two s ≡ true → first_of (tx_rows s) ≡ Some r
     → first_of (tx_rows t) ≡ Some r
 two_again s t r size looks holds found =
@@ -371,7 +372,7 @@ address_there s t place octets =
     ap address (octets_there s t place) ∙ address_of_tx s.memory t.memory (tx.place (tx_setup s.registers)) octets
 
 -- the first three
-three_again : (s t : State) (r : Refused) → length t.memory ≡ length s.memory
+three_again : (s t : State) (r : Refused) → bounds_of t ≡ bounds_of s
     → length t.gathered ≡ length s.gathered → SameLooks s t (refused_looks (three_of s))
     → SameLooks s t (looks_before (three_of s)) → is_three s ≡ true → first_of (tx_rows s) ≡ Some r
     → first_of (tx_rows t) ≡ Some r
@@ -384,7 +385,7 @@ three_again s t r size earlier looks before holds found =
     ∙ found
 
 -- all four
-four_again : (s t : State) (r : Refused) → length t.memory ≡ length s.memory
+four_again : (s t : State) (r : Refused) → bounds_of t ≡ bounds_of s
     → length t.gathered ≡ length s.gathered → SameLooks s t (refused_looks (four_of s))
     → SameLooks s t (looks_before (four_of s)) → first_of (tx_rows s) ≡ Some r → first_of (tx_rows t) ≡ Some r
 four_again s t r size earlier looks before found =
@@ -397,7 +398,7 @@ before_as : (s t : State) (x r : Refused) → x ≡ r → SameLooks s t (looks_b
 before_as s t x r same = subst (λ (y : Refused). SameLooks s t (looks_before y)) (sym same)
 
 stay_transmitting : (s t : State) (r : Refused) → why s transmits ≡ Some r → SameLooks s t (refused_looks r)
-    → SameLooks s t (looks_before r) → length t.memory ≡ length s.memory → length t.gathered ≡ length s.gathered
+    → SameLooks s t (looks_before r) → bounds_of t ≡ bounds_of s → length t.gathered ≡ length s.gathered
     → IsBusy t transmits → why t transmits ≡ Some r
 stay_transmitting s t r is looks before size earlier runs =
     let found = not_idle (tx.is_idle (tx_setup s.registers)) (tx_rows s) r is in
@@ -417,12 +418,12 @@ stay_transmitting s t r is looks before size earlier runs =
 
 -- ---- each event, for the same reason
 pub stays_refused_so : (s t : State) (e : Event) (r : Refused) → why s e ≡ Some r → SameLooks s t (refused_looks r)
-    → SameLooks s t (looks_before r) → length t.memory ≡ length s.memory → length t.gathered ≡ length s.gathered
+    → SameLooks s t (looks_before r) → bounds_of t ≡ bounds_of s → length t.gathered ≡ length s.gathered
     → IsBusy t e → why t e ≡ Some r
 stays_refused_so s t (reads o) r is looks before size earlier runs = is
 stays_refused_so s t (writes o v) r is looks before size earlier runs = is
 stays_refused_so s t (pokes a octets) r is looks before size earlier runs =
-    ap (λ (v : ℕ). first_of (write_table v a (length octets))) size ∙ is
+    ap (λ (v : Bounds). first_of (write_table v a (length octets))) size ∙ is
 stays_refused_so s t (arrives f) r is looks before size earlier runs = is
 stays_refused_so s t (links up) r is looks before size earlier runs = cc
 stays_refused_so s t receives r is looks before size earlier runs = stay_receiving s t r is looks size runs
@@ -444,20 +445,20 @@ three_holds s t earlier looks holds =
     (more (length s.gathered) (length t.gathered) _ _ earlier
     (long_there s t 8 2 (omega arith) (omega arith) (omega arith) looks.1 looks.0) holds)
 
-four_holds : (s t : State) → length t.memory ≡ length s.memory → SameLooks s t (refused_looks (four_of s))
+four_holds : (s t : State) → bounds_of t ≡ bounds_of s → SameLooks s t (refused_looks (four_of s))
     → is_four s ≡ true → is_some (first_of (tx_rows t)) ≡ true
 four_holds s t size looks holds =
     let d = tx_octets (tx_setup t.registers) t.memory in
     let n = long_there s t 0 10 (omega arith) (omega arith) (omega arith) looks.1 looks.0 in
     let a = address_there s t looks.1 looks.0 in
     some_where (tx_rows t) 3 _ refl
-    (ap (λ (v : ℕ). nat_lt 0 v && nat_lt (length t.memory) (address d + v)) n
-    ∙ ap (λ (v : ℕ). nat_lt 0 (length_of (there s s)) && nat_lt (length t.memory) (v + length_of (there s s))) a
-    ∙ ap (λ (v : ℕ). nat_lt 0 (length_of (there s s)) && nat_lt v (address (there s s) + length_of (there s s))) size
+    (ap (λ (v : ℕ). nat_lt 0 v && is_past (bounds_of t) (address d) v) n
+    ∙ ap (λ (v : ℕ). nat_lt 0 (length_of (there s s)) && is_past (bounds_of t) v (length_of (there s s))) a
+    ∙ ap (λ (v : Bounds). nat_lt 0 (length_of (there s s)) && is_past v (address (there s s)) (length_of (there s s))) size
     ∙ holds)
 
 keep_transmitting : (s t : State) (r : Refused) → why s transmits ≡ Some r → SameLooks s t (refused_looks r)
-    → length t.memory ≡ length s.memory → length s.gathered ≤ length t.gathered → IsBusy t transmits
+    → bounds_of t ≡ bounds_of s → length s.gathered ≤ length t.gathered → IsBusy t transmits
     → is_some (why t transmits) ≡ true
 keep_transmitting s t r is looks size earlier runs =
     let found = not_idle (tx.is_idle (tx_setup s.registers)) (tx_rows s) r is in
@@ -481,18 +482,18 @@ refused_so t e (Some r) is some =
     (refusal_of r, (refused_with_reason t e (refusal_of r)).1 (ap (option_map refusal_of) is))
 
 keeps : (s t : State) (e : Event) (r : Refused) → why s e ≡ Some r → SameLooks s t (refused_looks r)
-    → length t.memory ≡ length s.memory → length s.gathered ≤ length t.gathered → IsBusy t e
+    → bounds_of t ≡ bounds_of s → length s.gathered ≤ length t.gathered → IsBusy t e
     → is_some (why t e) ≡ true
 keeps s t (reads o) r is looks size earlier runs = ap is_some is
 keeps s t (writes o v) r is looks size earlier runs = ap is_some is
 keeps s t (pokes a octets) r is looks size earlier runs =
-    ap is_some (ap (λ (v : ℕ). first_of (write_table v a (length octets))) size ∙ is)
+    ap is_some (ap (λ (v : Bounds). first_of (write_table v a (length octets))) size ∙ is)
 keeps s t (arrives f) r is looks size earlier runs = ap is_some is
 keeps s t (links up) r is looks size earlier runs = cc
 keeps s t receives r is looks size earlier runs = ap is_some (stay_receiving s t r is looks size runs)
 keeps s t transmits r is looks size earlier runs = keep_transmitting s t r is looks size earlier runs
 
 pub stays_refused : (s t : State) (e : Event) (r : Refused) → why s e ≡ Some r → SameLooks s t (refused_looks r)
-    → length t.memory ≡ length s.memory → length s.gathered ≤ length t.gathered → IsBusy t e
+    → bounds_of t ≡ bounds_of s → length s.gathered ≤ length t.gathered → IsBusy t e
     → (again : Refusal) × (step t e ≡ Err again)
 stays_refused s t e r is looks size earlier runs = refused_so t e (why t e) refl (keeps s t e r is looks size earlier runs)

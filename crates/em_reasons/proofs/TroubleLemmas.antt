@@ -3,7 +3,8 @@ use Rattle.std.proofs.Common.{◌≡◌, ◌∙◌, ◌+◌, ◌<◌, ◌≤◌,
 use Rattle.std.proofs.Common.{length, sym, ap, arith}
 use Rattle.std.specs.Prelude.{◌==◌, ◌&&◌, ◌||◌, nat_le, nat_lt, min, not, option_map, if◌then◌else◌}
 use Rattle.std.proofs.lemmas.Bool.Decides.{nat_tests}
-use Rattle.em_mem.specs.Memory.{part}
+use Rattle.em_mem.specs.Memory.{leaves, part}
+use Rattle.em_mem.proofs.NeedsLaws.{lies_by_test, stays_in}
 use Rattle.em_regs.specs.declared.ring.Ring.{Ring}
 use Rattle.em_regs.specs.Ring as ring
 use Rattle.em_regs.specs.Setup.{rx_setup, tx_setup}
@@ -24,11 +25,12 @@ use Rattle.em_inspect.specs.declared.trouble.Trouble.TheVariants as trouble
 use Rattle.em_inspect.specs.Extent.{overlaps}
 use Rattle.em_inspect.specs.Ring.{extent_of, fields_in, is_adapters, owner_of, rx_ring, tx_ring}
 use Rattle.em_inspect.specs.Trouble.{buffer_of, is_live, live_trouble, lowest_over, or_else, trouble_in}
+use Rattle.em_reasons.specs.declared.refused.Bounds.{Bounds}
 use Rattle.em_reasons.specs.declared.refused.Refused.{Refused}
 use Rattle.em_reasons.specs.declared.refused.Refused.TheVariants.{RxDescriptor, RxBuffer, TxDescriptor, TxBuffer}
 use Rattle.em_reasons.specs.declared.refused.Refused.TheVariants.{Extended, TooLong}
 use Rattle.em_reasons.specs.Foretold.{FillsBuffer, IsLongAlone, foretold, refusal_in, rx_trouble, tx_trouble}
-use Rattle.em_reasons.specs.Refused.{IsBusy, refusal_of, rx_table, tx_octets, tx_table, unless_idle}
+use Rattle.em_reasons.specs.Refused.{IsBusy, bounds_of, refusal_of, rx_table, tx_octets, tx_table, unless_idle}
 use Rattle.em_reasons.specs.Table.{first_of}
 use Rattle.em_reasons.proofs.RefusalLemmas.{refusal_said, said}
 use Rattle.em_reasons.proofs.RefusedStay.{busy, rx_busy, tx_busy}
@@ -76,18 +78,18 @@ first_false true b h = cc
 first_false false b h = refl
 
 -- what is wrong with it: it lies outside memory, or what is wrong with a live one
-of_octets : (r : SidedRing) (m : List ℕ) (i : ℕ) (outside : Bool) (x : List ℕ) → owner_of r.setup i ≡ Adapter
-    → trouble_in r m i (option_map (fields_in r.side) (if outside then None else Some x))
-    ≡ (if outside then Some trouble.Outside else live_trouble r m i (fields_in r.side x))
-of_octets r m i true x is = refl
-of_octets r m i false x is =
-    ap (λ (o : Owner). if is_live o (fields_in r.side x).bits then live_trouble r m i (fields_in r.side x) else None) is
+of_octets : (r : SidedRing) (base : ℕ) (m : List ℕ) (i : ℕ) (outside : Bool) (x : List ℕ)
+    → owner_of r.setup i ≡ Adapter → trouble_in r base m i (option_map (fields_in r.side) (if outside then None else Some x))
+    ≡ (if outside then Some trouble.Outside else live_trouble r base m i (fields_in r.side x))
+of_octets r base m i true x is = refl
+of_octets r base m i false x is =
+    ap (λ (o : Owner). if is_live o (fields_in r.side x).bits then live_trouble r base m i (fields_in r.side x) else None) is
 
 -- ---- the receive engine
 abbrev rx_said : Bool → Bool → Option Refusal
 rx_said outside buffer = if outside then Some refusal.DmaRange else if buffer then Some refusal.DmaRange else None
 
-rx_rows_said : (a b : Bool) (i at size place n room : ℕ)
+rx_rows_said : (a b : Bool) (i at : ℕ) (size : Bounds) (place n room : ℕ)
     → said ((a, RxDescriptor i at size) ∷ (b, RxBuffer i at place room n size) ∷ []) ≡ rx_said a b
 rx_rows_said true b i at size place n room = refl
 rx_rows_said false true i at size place n room = refl
@@ -115,12 +117,16 @@ rx_by false buffer true over lowest less full =
 rx_by false buffer false over lowest less full =
     ap (λ (b : Bool). if b then Some refusal.DmaRange else None) (less refl) ∙ sym (over_nothing over lowest)
 
-part_within : (size a room left : ℕ) → nat_lt size (a + room) ≡ false → nat_lt size (a + min room left) ≡ false
-part_within size a room left h = grind (arith, nat_tests)
+part_within : (base : ℕ) (m : List ℕ) (a room left : ℕ) → leaves base m a room ≡ false
+    → leaves base m a (min room left) ≡ false
+part_within base m a room left h =
+    let held = lies_by_test base m a room h in
+    stays_in base m a (min room left) (record { from = held.from; to = omega (arith, held.to) })
 
-part_whole : (size a room left : ℕ) → room ≤ left → nat_lt size (a + room) ≡ true
-    → nat_lt size (a + min room left) ≡ true
-part_whole size a room left fills h = grind (arith, nat_tests)
+part_whole : (base : ℕ) (m : List ℕ) (a room left : ℕ) → room ≤ left → leaves base m a room ≡ true
+    → leaves base m a (min room left) ≡ true
+part_whole base m a room left fills h =
+    let whole : min room left ≡ room = omega (arith, fills) in ap (λ (n : ℕ). leaves base m a n) whole ∙ h
 
 -- what is told of the descriptor at RDH, in the cases of the engine
 abbrev rx_told : State → Option Trouble
@@ -128,16 +134,16 @@ rx_told s =
     let q = rx_setup s.registers in
     let r = rx_ring q in
     let buffer = buffer_of r.side (fields_in r.side (part s.memory (rx.descriptor_at q) 16)) in
-    if nat_lt (length s.memory) (rx.descriptor_at q + 16) then Some trouble.Outside
-    else buffer_told (nat_lt (length s.memory) (rx.buffer_at q s.memory + q.buffer)) (overlaps buffer (extent_of r.setup))
-    (lowest_over r s.memory q.head buffer)
+    if leaves s.base s.memory (rx.descriptor_at q) 16 then Some trouble.Outside
+    else buffer_told (leaves s.base s.memory (rx.buffer_at q s.memory) q.buffer) (overlaps buffer (extent_of r.setup))
+    (lowest_over r s.base s.memory q.head buffer)
 
 rx_told_so : (s : State) → IsBusy s receives → rx_trouble s ≡ rx_told s
 rx_told_so s runs =
     let q = rx_setup s.registers in
     let r = rx_ring q in
     let on = first_false _ _ (rx_busy s runs) in
-    of_octets r s.memory q.head (nat_lt (length s.memory) (rx.descriptor_at q + 16))
+    of_octets r s.base s.memory q.head (leaves s.base s.memory (rx.descriptor_at q) 16)
     (part s.memory (rx.descriptor_at q) 16) (owner_by _ (head_is_adapters r.setup on))
 
 pub receives_as_told : (s : State) → IsBusy s receives
@@ -145,14 +151,14 @@ pub receives_as_told : (s : State) → IsBusy s receives
     → refusal_in (step s receives) ≡ foretold (rx_trouble s)
 receives_as_told s runs fills =
     let q = rx_setup s.registers in
-    let size = length s.memory in
     let a = rx.buffer_at q s.memory in
     let told = rx_told_so s runs in
     sym (refusal_said s receives)
-    ∙ ap (option_map refusal_of) (busy (rx.is_idle q s.fifo) (rx_table q s.memory s.fifo) (rx_busy s runs))
-    ∙ rx_rows_said (nat_lt size (rx.descriptor_at q + 16)) (nat_lt size (a + rx.count_of q s.fifo)) _ _ _ _ _ _
-    ∙ rx_by _ _ (nat_lt size (a + q.buffer)) _ _ (part_within size a q.buffer (rest s.fifo))
-    (λ is. part_whole size a q.buffer (rest s.fifo) (fills (told ∙ is)))
+    ∙ ap (option_map refusal_of) (busy (rx.is_idle q s.fifo) (rx_table q s.base s.memory s.fifo) (rx_busy s runs))
+    ∙ rx_rows_said (leaves s.base s.memory (rx.descriptor_at q) 16) (leaves s.base s.memory a (rx.count_of q s.fifo)) _ _ _
+    _ _ _
+    ∙ rx_by _ _ (leaves s.base s.memory a q.buffer) _ _ (part_within s.base s.memory a q.buffer (rest s.fifo))
+    (λ is. part_whole s.base s.memory a q.buffer (rest s.fifo) (fills (told ∙ is)))
     ∙ ap foretold (sym told)
 
 -- ---- the transmit engine
@@ -164,7 +170,7 @@ tx_said outside extended long buffer =
     else if buffer then Some refusal.DmaRange
     else None
 
-tx_rows_said : (a e l b : Bool) (i at size n place : ℕ)
+tx_rows_said : (a e l b : Bool) (i at : ℕ) (size : Bounds) (n place : ℕ)
     → said ((a, TxDescriptor i at size) ∷ (e, Extended i at) ∷ (l, TooLong i at n) ∷ (b, TxBuffer i at place n size) ∷ [])
     ≡ tx_said a e l b
 tx_rows_said true e l b i at size n place = refl
@@ -227,10 +233,10 @@ tx_told s =
     let r = tx_ring q in
     let d = tx_octets q s.memory in
     let buffer = buffer_of r.side (fields_in r.side d) in
-    if nat_lt (length s.memory) (tx.place q + 16) then Some trouble.Outside
+    if leaves s.base s.memory (tx.place q) 16 then Some trouble.Outside
     else sent_told (dext d) (length_of d == 0) (nat_lt 16380 (length_of d))
-    (buffer_told (nat_lt (length s.memory) (address d + length_of d)) (overlaps buffer (extent_of r.setup))
-    (lowest_over r s.memory q.head buffer))
+    (buffer_told (leaves s.base s.memory (address d) (length_of d)) (overlaps buffer (extent_of r.setup))
+    (lowest_over r s.base s.memory q.head buffer))
 
 tx_told_so : (s : State) → IsBusy s transmits → tx_trouble s ≡ tx_told s
 unfolding dext
@@ -238,25 +244,24 @@ tx_told_so s runs =
     let q = tx_setup s.registers in
     let r = tx_ring q in
     let d = tx_octets q s.memory in
-    let outside = nat_lt (length s.memory) (tx.place q + 16) in
+    let outside = leaves s.base s.memory (tx.place q) 16 in
     let buffer = buffer_of r.side (fields_in r.side d) in
-    of_octets r s.memory q.head outside d (owner_by _ (head_is_adapters r.setup (tx_busy s runs)))
+    of_octets r s.base s.memory q.head outside d (owner_by _ (head_is_adapters r.setup (tx_busy s runs)))
     ∙ ap (λ (o : Option Trouble). if outside then Some trouble.Outside else o)
     (sent_by (dext d) (length_of d == 0) (nat_lt 16380 (length_of d))
-    (buffer_told (nat_lt (length s.memory) (address d + length_of d)) (overlaps buffer (extent_of r.setup))
-    (lowest_over r s.memory q.head buffer)))
+    (buffer_told (leaves s.base s.memory (address d) (length_of d)) (overlaps buffer (extent_of r.setup))
+    (lowest_over r s.base s.memory q.head buffer)))
 
 pub transmits_as_told : (s : State) → IsBusy s transmits → IsLongAlone s
     → refusal_in (step s transmits) ≡ foretold (tx_trouble s)
 transmits_as_told s runs alone =
     let q = tx_setup s.registers in
     let d = tx_octets q s.memory in
-    let size = length s.memory in
     let n = length_of d in
-    let out = nat_lt size (address d + n) in
+    let out = leaves s.base s.memory (address d) n in
     sym (refusal_said s transmits)
-    ∙ ap (option_map refusal_of) (busy (tx.is_idle q) (tx_table q s.memory s.gathered d) (tx_busy s runs))
-    ∙ tx_rows_said (nat_lt size (tx.place q + 16)) (dext d) (nat_lt 16380 (length s.gathered + n)) (nat_lt 0 n && out) _ _
+    ∙ ap (option_map refusal_of) (busy (tx.is_idle q) (tx_table q (bounds_of s) s.gathered d) (tx_busy s runs))
+    ∙ tx_rows_said (leaves s.base s.memory (tx.place q) 16) (dext d) (nat_lt 16380 (length s.gathered + n)) (nat_lt 0 n && out) _ _
     _ _ _
     ∙ tx_by _ _ (n == 0) (nat_lt 16380 n) out _ _ (nat_lt 0 n) _ (empty_none n) (empty_any n) (empty_short n) alone
     (longer (length s.gathered) n)

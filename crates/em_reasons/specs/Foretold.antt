@@ -20,10 +20,10 @@ refusal_in (Err refused) = Some refused
 
 -- what is wrong with the descriptor at RDH, and at TDH
 abbrev pub rx_trouble : State → Option Trouble
-rx_trouble s = trouble_of (rx_ring (rx_setup s.registers)) s.memory (rx_setup s.registers).head
+rx_trouble s = trouble_of (rx_ring (rx_setup s.registers)) s.base s.memory (rx_setup s.registers).head
 
 abbrev pub tx_trouble : State → Option Trouble
-tx_trouble s = trouble_of (tx_ring (tx_setup s.registers)) s.memory (tx_setup s.registers).head
+tx_trouble s = trouble_of (tx_ring (tx_setup s.registers)) s.base s.memory (tx_setup s.registers).head
 
 -- the refusal that it foretells: a length of 0, and a buffer over the ring or another buffer, refuse nothing
 abbrev pub foretold : Option Trouble → Option Refusal

@@ -1,7 +1,7 @@
 -- Why an event was refused.
-use Rattle.std.specs.Prelude.{◌≡◌, ℕ, ◌+◌, ◌==◌, ◌&&◌, ◌||◌, nat_lt, is_none, Bool, List, [], ◌∷◌, length, Option, None}
+use Rattle.std.specs.Prelude.{◌≡◌, ℕ, ◌+◌, ◌==◌, ◌&&◌, ◌||◌, nat_lt, is_none, Bool, List, [], ◌∷◌, length, Option, Some, None}
 use Rattle.std.specs.Prelude.{if◌then◌else◌}
-use Rattle.em_mem.specs.Memory.{part}
+use Rattle.em_mem.specs.Memory.{leaves, part}
 use Rattle.em_regs.specs.declared.setup.RxSetup.{RxSetup}
 use Rattle.em_regs.specs.declared.setup.TxSetup.{TxSetup}
 use Rattle.em_regs.specs.Setup.{rx_setup, tx_setup}
@@ -14,6 +14,7 @@ use Rattle.em_step.specs.Event.{Event, reads, writes, pokes, arrives, links, rec
 use Rattle.em_step.specs.State.{State}
 use Rattle.em_step.specs.declared.refusal.Refusal.{Refusal}
 use Rattle.em_step.specs.declared.refusal.Refusal.TheVariants as refusal
+use Rattle.em_reasons.specs.declared.refused.Bounds.{Bounds}
 use Rattle.em_reasons.specs.declared.refused.Refused.{Refused}
 use Rattle.em_reasons.specs.declared.refused.Refused.TheVariants.{NoRegister, Range, WriteLength, FrameLength}
 use Rattle.em_reasons.specs.declared.refused.Refused.TheVariants.{RxDescriptor, RxBuffer, TxDescriptor, TxBuffer}
@@ -22,29 +23,51 @@ use Rattle.em_reasons.specs.RxIdle.{rx_idle}
 use Rattle.em_reasons.specs.Table.{first_of}
 use Rattle.em_reasons.specs.TxIdle.{tx_idle}
 
+-- ---- where guest memory lies
+abbrev pub bounds : ℕ → List ℕ → Bounds
+bounds base memory = record { base = base; end = length memory }
+
+abbrev pub bounds_of : State → Bounds
+bounds_of s = bounds s.base s.memory
+
+-- the n octets from a on leave it
+abbrev pub is_past : Bounds → ℕ → ℕ → Bool
+is_past b a n = nat_lt a b.base || nat_lt b.end (a + n)
+
+-- of a reason that something leaves it
+abbrev pub memory_of : Refused → Option Bounds
+memory_of (Range at octets memory) = Some memory
+memory_of (RxDescriptor index at memory) = Some memory
+memory_of (RxBuffer index at buffer size frame memory) = Some memory
+memory_of (TxDescriptor index at memory) = Some memory
+memory_of (TxBuffer index at buffer octets memory) = Some memory
+memory_of _ = None
+
+-- ---- the tests
 -- of an access: no register lies at the offset
 abbrev pub access_table : ℕ → List (Bool × Refused)
 access_table o = (is_none (reg_at o), NoRegister o) ∷ []
 
 -- of a memory write: the octets leave memory, and then they are none or more than 16,384
-abbrev pub write_table : ℕ → ℕ → ℕ → List (Bool × Refused)
-write_table size a n =
-    (nat_lt size (a + n), Range a n size) ∷ (n == 0 || nat_lt 16_384 n, WriteLength n) ∷ []
+abbrev pub write_table : Bounds → ℕ → ℕ → List (Bool × Refused)
+write_table memory a n =
+    (is_past memory a n, Range a n memory) ∷ (n == 0 || nat_lt 16_384 n, WriteLength n) ∷ []
 
 -- of a frame: it has fewer than 14 octets or more than 20,000
 abbrev pub frame_table : ℕ → List (Bool × Refused)
 frame_table n = (nat_lt n 14 || nat_lt 20_000 n, FrameLength n) ∷ []
 
 -- the descriptor at RDH, which lies there, and where its buffer lies
-abbrev pub rx_buffer : RxSetup → List ℕ → Fifo → Refused
-rx_buffer q memory fifo =
-    RxBuffer q.head (rx.descriptor_at q) (rx.buffer_at q memory) q.buffer (length (first fifo).octets) (length memory)
+abbrev pub rx_buffer : RxSetup → ℕ → List ℕ → Fifo → Refused
+rx_buffer q base memory fifo =
+    RxBuffer q.head (rx.descriptor_at q) (rx.buffer_at q memory) q.buffer (length (first fifo).octets)
+    (bounds base memory)
 
 -- of a receive step that is not idle: the descriptor leaves memory, and then what is to go into its buffer
-abbrev pub rx_table : RxSetup → List ℕ → Fifo → List (Bool × Refused)
-rx_table q memory fifo =
-    (nat_lt (length memory) (rx.descriptor_at q + 16), RxDescriptor q.head (rx.descriptor_at q) (length memory))
-    ∷ (nat_lt (length memory) (rx.buffer_at q memory + rx.count_of q fifo), rx_buffer q memory fifo)
+abbrev pub rx_table : RxSetup → ℕ → List ℕ → Fifo → List (Bool × Refused)
+rx_table q base memory fifo =
+    (leaves base memory (rx.descriptor_at q) 16, RxDescriptor q.head (rx.descriptor_at q) (bounds base memory))
+    ∷ (leaves base memory (rx.buffer_at q memory) (rx.count_of q fifo), rx_buffer q base memory fifo)
     ∷ []
 
 -- the octets of the descriptor at TDH
@@ -52,17 +75,17 @@ abbrev pub tx_octets : TxSetup → List ℕ → List ℕ
 tx_octets q memory = part memory (tx.place q) 16
 
 -- that descriptor d, which lies there, and where its buffer lies
-abbrev pub tx_buffer : TxSetup → List ℕ → List ℕ → Refused
-tx_buffer q memory d = TxBuffer q.head (tx.place q) (address d) (length_of d) (length memory)
+abbrev pub tx_buffer : TxSetup → Bounds → List ℕ → Refused
+tx_buffer q memory d = TxBuffer q.head (tx.place q) (address d) (length_of d) memory
 
 -- of a transmit step that is not idle: the descriptor leaves memory; it has DEXT; its octets are, with those that are
 -- gathered, more than 16,380; and it has some, and they leave memory
-abbrev pub tx_table : TxSetup → List ℕ → List ℕ → List ℕ → List (Bool × Refused)
+abbrev pub tx_table : TxSetup → Bounds → List ℕ → List ℕ → List (Bool × Refused)
 tx_table q memory gathered d =
-    (nat_lt (length memory) (tx.place q + 16), TxDescriptor q.head (tx.place q) (length memory))
+    (is_past memory (tx.place q) 16, TxDescriptor q.head (tx.place q) memory)
     ∷ (dext d, Extended q.head (tx.place q))
     ∷ (nat_lt 16380 (length gathered + length_of d), TooLong q.head (tx.place q) (length_of d))
-    ∷ (nat_lt 0 (length_of d) && nat_lt (length memory) (address d + length_of d), tx_buffer q memory d)
+    ∷ (nat_lt 0 (length_of d) && is_past memory (address d) (length_of d), tx_buffer q memory d)
     ∷ []
 
 -- an idle step is not refused
@@ -73,14 +96,14 @@ unless_idle idle table = if idle then [] else table
 abbrev pub refusal_table : State → Event → List (Bool × Refused)
 refusal_table s (reads o) = access_table o
 refusal_table s (writes o v) = access_table o
-refusal_table s (pokes a octets) = write_table (length s.memory) a (length octets)
+refusal_table s (pokes a octets) = write_table (bounds_of s) a (length octets)
 refusal_table s (arrives f) = frame_table (length f)
 refusal_table s (links up) = []
 refusal_table s receives =
-    let q = rx_setup s.registers in unless_idle (rx.is_idle q s.fifo) (rx_table q s.memory s.fifo)
+    let q = rx_setup s.registers in unless_idle (rx.is_idle q s.fifo) (rx_table q s.base s.memory s.fifo)
 refusal_table s transmits =
     let q = tx_setup s.registers in
-    unless_idle (tx.is_idle q) (tx_table q s.memory s.gathered (tx_octets q s.memory))
+    unless_idle (tx.is_idle q) (tx_table q (bounds_of s) s.gathered (tx_octets q s.memory))
 
 -- why an event is refused, if it is, and not for want of memory
 abbrev pub why : State → Event → Option Refused
@@ -107,20 +130,20 @@ refusal_of (TooLong i at n) = refusal.TooLong
 refusal_of Memory = refusal.Memory
 
 -- ---- by the refusal that was answered
-abbrev pub refused_write : ℕ → ℕ → ℕ → Refused
-refused_write size a n = if nat_lt size (a + n) then Range a n size else WriteLength n
+abbrev pub refused_write : Bounds → ℕ → ℕ → Refused
+refused_write memory a n = if is_past memory a n then Range a n memory else WriteLength n
 
-abbrev pub refused_receive : RxSetup → List ℕ → Fifo → Refused
-refused_receive q memory fifo =
-    if nat_lt (length memory) (rx.descriptor_at q + 16) then RxDescriptor q.head (rx.descriptor_at q) (length memory)
-    else rx_buffer q memory fifo
+abbrev pub refused_receive : RxSetup → ℕ → List ℕ → Fifo → Refused
+refused_receive q base memory fifo =
+    if leaves base memory (rx.descriptor_at q) 16 then RxDescriptor q.head (rx.descriptor_at q) (bounds base memory)
+    else rx_buffer q base memory fifo
 
-abbrev pub refused_descriptor : Refusal → TxSetup → List ℕ → List ℕ → Refused
+abbrev pub refused_descriptor : Refusal → TxSetup → Bounds → List ℕ → Refused
 refused_descriptor refusal.Extended q memory d = Extended q.head (tx.place q)
 refused_descriptor refusal.TooLong q memory d = TooLong q.head (tx.place q) (length_of d)
 refused_descriptor _ q memory d = tx_buffer q memory d
 
-abbrev pub refused_transmit : Refusal → TxSetup → List ℕ → Refused
-refused_transmit r q memory =
-    if nat_lt (length memory) (tx.place q + 16) then TxDescriptor q.head (tx.place q) (length memory)
-    else refused_descriptor r q memory (tx_octets q memory)
+abbrev pub refused_transmit : Refusal → TxSetup → ℕ → List ℕ → Refused
+refused_transmit r q base memory =
+    if leaves base memory (tx.place q) 16 then TxDescriptor q.head (tx.place q) (bounds base memory)
+    else refused_descriptor r q (bounds base memory) (tx_octets q memory)

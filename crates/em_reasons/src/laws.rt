@@ -64,15 +64,15 @@ pub fn dropped_frames_stay_dropped()
 /// As long as what the test looked at stays as it is, the event is refused whenever it is asked for: a step of an engine
 /// where it is not idle. It is refused for the same reason where what the tests before it look at stays, too.
 ///
-/// Two numbers count that are no look: guest memory keeps its size, and of the octets that are gathered none has gone.
+/// What counts and is no look: guest memory lies where it lay, and of the octets that are gathered none has gone.
 pub fn refused_events_stay_refused()
     ensures again { (s t : State) (e : Event) (reason : Refused) → refused.why s e ≡ Some reason →
-        SameLooks s t (refused_looks reason) → length t.memory ≡ length s.memory →
+        SameLooks s t (refused_looks reason) → refused.bounds_of t ≡ refused.bounds_of s →
         length s.gathered ≤ length t.gathered → refused.IsBusy t e →
         (again : Refusal) × (step t e ≡ Err again) }
     ensures same { (s t : State) (e : Event) (reason : Refused) → refused.why s e ≡ Some reason →
         SameLooks s t (refused_looks reason) → SameLooks s t (looks_before reason) →
-        length t.memory ≡ length s.memory → length t.gathered ≡ length s.gathered → refused.IsBusy t e →
+        refused.bounds_of t ≡ refused.bounds_of s → length t.gathered ≡ length s.gathered → refused.IsBusy t e →
         refused.why t e ≡ Some reason }
 {}
 

@@ -20,7 +20,7 @@ mod tx_idle_text;
 pub use dropped::{Dropped, why_dropped};
 pub use dropped_text::write_dropped;
 pub use look::Look;
-pub use refused::{Refused, why_refused};
+pub use refused::{Bounds, Refused, why_refused};
 pub use refused_text::write_refused;
 pub use rx_idle::{RxIdle, why_rx_idle};
 pub use rx_idle_text::write_rx_idle;

@@ -5,7 +5,7 @@ ghost use Rattle.em_rx.specs.Fifo.{first};
 ghost use Rattle.em_step.specs.Event.{plain};
 ghost use Rattle.em_step.specs.Step.{step};
 ghost use Rattle.em_reasons.specs.Refused.{refused_descriptor, refused_receive, refused_transmit};
-ghost use Rattle.em_reasons.specs.Refused.{refused_write, why};
+ghost use Rattle.em_reasons.specs.Refused.{bounds_of, memory_of, refused_write, why};
 
 use em_inspect::octets_at;
 use em_journal::Machine;
@@ -14,6 +14,13 @@ use em_rx::RxDescriptor;
 use em_step::{Event, Refusal};
 use em_tx::TxDescriptor;
 
+/// Where guest memory lies: the address of its first octet, and the one behind its last.
+#[derive(Clone, Copy, Debug, PartialEq, Eq)]
+pub struct Bounds {
+    pub base: u64,
+    pub end: u64,
+}
+
 /// Why an event was refused. The tests of an event are made in this order, and the first that holds is the reason.
 #[derive(Clone, Copy, Debug, PartialEq, Eq)]
 pub enum Refused {
@@ -21,11 +28,11 @@ pub enum Refused {
     NoRegister {
         offset: u32,
     },
-    /// So many octets from an address on leave guest memory, which has so many.
+    /// So many octets from an address on leave guest memory, which lies there.
     Range {
         at: u64,
         octets: u64,
-        memory: u64,
+        memory: Bounds,
     },
     /// A memory write has no octet, or more than 16,384.
     WriteLength {
@@ -39,7 +46,7 @@ pub enum Refused {
     RxDescriptor {
         index: u32,
         at: u128,
-        memory: u64,
+        memory: Bounds,
     },
     /// What is to go of the first frame, which has so many octets, into the buffer of the descriptor at RDH leaves
     /// guest memory.
@@ -49,13 +56,13 @@ pub enum Refused {
         buffer: u64,
         size: u32,
         frame: u64,
-        memory: u64,
+        memory: Bounds,
     },
     /// The descriptor at TDH leaves guest memory.
     TxDescriptor {
         index: u32,
         at: u128,
-        memory: u64,
+        memory: Bounds,
     },
     /// The descriptor at TDH is extended (DEXT).
     Extended {
@@ -74,10 +81,36 @@ pub enum Refused {
         at: u128,
         buffer: u64,
         octets: u16,
-        memory: u64,
+        memory: Bounds,
     },
     /// The host refused memory that the event takes.
     Memory,
+}
+
+impl Refused {
+    /// Where guest memory lies, for a reason that something leaves it.
+    pub(crate) fn memory(&self) -> Option<Bounds>
+        ensures { result ≡ memory_of self.now }
+    {
+        match self {
+            Refused::Range { memory, .. } => Some(*memory),
+            Refused::RxDescriptor { memory, .. } => Some(*memory),
+            Refused::RxBuffer { memory, .. } => Some(*memory),
+            Refused::TxDescriptor { memory, .. } => Some(*memory),
+            Refused::TxBuffer { memory, .. } => Some(*memory),
+            _ => None,
+        }
+    }
+}
+
+/// Where a machine's guest memory lies.
+fn bounds_of(machine: &Machine) -> Bounds
+    ensures { result ≡ bounds_of machine.now.present }
+{
+    Bounds {
+        base: machine.memory_base(),
+        end: machine.memory_end(),
+    }
 }
 
 /// Why a machine refused an event with this refusal. A refused event changes nothing, so it is asked of the machine
@@ -106,10 +139,10 @@ pub fn why_refused(machine: &Machine, event: Event<'_>, refusal: Refusal) -> Ref
 
 /// Why a memory write was refused.
 fn refused_write(machine: &Machine, at: u64, octets: u64) -> Refused
-    ensures { result ≡ refused_write (length machine.now.present.memory) at octets }
+    ensures { result ≡ refused_write (bounds_of machine.now.present) at octets }
 {
-    let memory = machine.memory_size();
-    if u128::from(memory) < u128::from(at) + u128::from(octets) {
+    let memory = bounds_of(machine);
+    if at < memory.base || u128::from(memory.end) < u128::from(at) + u128::from(octets) {
         Refused::Range { at, octets, memory }
     } else {
         Refused::WriteLength { octets }
@@ -118,14 +151,14 @@ fn refused_write(machine: &Machine, at: u64, octets: u64) -> Refused
 
 /// Why a receive step was refused.
 fn refused_receive(machine: &Machine) -> Refused
-    ensures { result ≡ refused_receive (rx_setup machine.now.present.registers) machine.now.present.memory
-        machine.now.present.fifo }
+    ensures { result ≡ refused_receive (rx_setup machine.now.present.registers) machine.now.present.base
+        machine.now.present.memory machine.now.present.fifo }
 {
     let setup = machine.ring_rx();
     let ring = setup.ring();
     let index = setup.head;
     let at = ring.descriptor_at(index);
-    let memory = machine.memory_size();
+    let memory = bounds_of(machine);
     match octets_at(machine, &ring, index) {
         None => Refused::RxDescriptor { index, at, memory },
         Some(octets) => Refused::RxBuffer {
@@ -152,7 +185,7 @@ fn first_len(machine: &Machine) -> u64
 /// Why a transmit step was refused so.
 fn refused_transmit(machine: &Machine, refusal: Refusal) -> Refused
     ensures { result ≡ refused_transmit refusal (tx_setup machine.now.present.registers)
-        machine.now.present.memory }
+        machine.now.present.base machine.now.present.memory }
 {
     let setup = machine.ring_tx();
     let ring = setup.ring();
@@ -160,7 +193,7 @@ fn refused_transmit(machine: &Machine, refusal: Refusal) -> Refused
         None => Refused::TxDescriptor {
             index: setup.head,
             at: ring.descriptor_at(setup.head),
-            memory: machine.memory_size(),
+            memory: bounds_of(machine),
         },
         Some(octets) => refused_descriptor(machine, refusal, &setup, octets),
     }
@@ -173,7 +206,7 @@ fn refused_descriptor(
     setup: &TxSetup,
     octets: [u8; DESCRIPTOR_OCTETS],
 ) -> Refused
-    ensures { result ≡ refused_descriptor refusal setup.now machine.now.present.memory octets }
+    ensures { result ≡ refused_descriptor refusal setup.now (bounds_of machine.now.present) octets }
 {
     let descriptor = TxDescriptor::of_octets(octets);
     let index = setup.head;
@@ -191,7 +224,7 @@ fn refused_descriptor(
             at,
             buffer: descriptor.address(),
             octets: length,
-            memory: machine.memory_size(),
+            memory: bounds_of(machine),
         },
     }
 }

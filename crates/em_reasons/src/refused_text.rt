@@ -1,9 +1,9 @@
 //! Why an event was refused, in words.
 ghost use Rattle.em_text.specs.Writer.{Writes};
-ghost use Rattle.em_reasons.specs.RefusedText.{descriptor_then, end_text, long_text, range_text, refused_text};
-ghost use Rattle.em_reasons.specs.RefusedText.{rx_buffer_text, tx_buffer_text};
+ghost use Rattle.em_reasons.specs.RefusedText.{bounds_text, descriptor_then, long_text, memory_text, range_text};
+ghost use Rattle.em_reasons.specs.RefusedText.{reason_text, refused_text, rx_buffer_text, tx_buffer_text};
 
-use crate::Refused;
+use crate::{Bounds, Refused};
 use em_pieces::{Piece, write_text};
 use em_text::{WriteFailed, write_whole};
 use std::io::Write;
@@ -11,6 +11,48 @@ use std::io::Write;
 /// Writes why an event was refused: `descriptor 2 at 001020, buffer 00FFC0 of 1088 octets, memory ends at 010000`.
 pub fn write_refused<W: Write>(writer: &mut W, reason: Refused) -> Result<(), WriteFailed>
     ensures writes { Writes (W.contents writer.old) (W.contents writer.new) result (refused_text reason) }
+{
+    write_reason(writer, reason)?;
+    write_memory(writer, reason.memory())
+}
+
+/// Writes where guest memory lies, where a reason speaks of it.
+fn write_memory<W: Write>(writer: &mut W, memory: Option<Bounds>) -> Result<(), WriteFailed>
+    ensures writes { Writes (W.contents writer.old) (W.contents writer.new) result (memory_text memory) }
+{
+    match memory {
+        Some(memory) => write_bounds(writer, memory),
+        None => Ok(()),
+    }
+}
+
+/// Writes where guest memory ends, and where it begins, if not at 0.
+fn write_bounds<W: Write>(writer: &mut W, memory: Bounds) -> Result<(), WriteFailed>
+    ensures writes { Writes (W.contents writer.old) (W.contents writer.new) result (bounds_text memory) }
+{
+    if memory.base == 0 {
+        return write_text(
+            writer,
+            &[
+                Piece::Text(b", memory ends at "),
+                Piece::Address(memory.end as u128),
+            ],
+        );
+    }
+    write_text(
+        writer,
+        &[
+            Piece::Text(b", memory begins at "),
+            Piece::Address(memory.base as u128),
+            Piece::Text(b" and ends at "),
+            Piece::Address(memory.end as u128),
+        ],
+    )
+}
+
+/// Writes a reason, up to where guest memory lies.
+fn write_reason<W: Write>(writer: &mut W, reason: Refused) -> Result<(), WriteFailed>
+    ensures writes { Writes (W.contents writer.old) (W.contents writer.new) result (reason_text reason) }
 {
     match reason {
         Refused::NoRegister { offset } => write_text(
@@ -20,7 +62,7 @@ pub fn write_refused<W: Write>(writer: &mut W, reason: Refused) -> Result<(), Wr
                 Piece::Address(offset as u128),
             ],
         ),
-        Refused::Range { at, octets, memory } => write_range(writer, at, octets, memory),
+        Refused::Range { at, octets, .. } => write_range(writer, at, octets),
         Refused::WriteLength { octets } => write_text(
             writer,
             &[
@@ -35,14 +77,14 @@ pub fn write_refused<W: Write>(writer: &mut W, reason: Refused) -> Result<(), Wr
                 Piece::Text(b" octets are not 14 to 20000"),
             ],
         ),
-        Refused::RxDescriptor { index, at, memory } => write_outside(writer, index, at, memory),
+        Refused::RxDescriptor { index, at, .. } => write_descriptor(writer, index, at, b""),
         Refused::RxBuffer {
             index,
             at,
             buffer,
             size,
             frame,
-            memory,
+            ..
         } => write_rx_buffer(
             writer,
             Buffer {
@@ -52,9 +94,8 @@ pub fn write_refused<W: Write>(writer: &mut W, reason: Refused) -> Result<(), Wr
                 octets: size,
             },
             frame,
-            memory,
         ),
-        Refused::TxDescriptor { index, at, memory } => write_outside(writer, index, at, memory),
+        Refused::TxDescriptor { index, at, .. } => write_descriptor(writer, index, at, b""),
         Refused::Extended { index, at } => {
             write_descriptor(writer, index, at, b" is extended (DEXT)")
         }
@@ -64,7 +105,7 @@ pub fn write_refused<W: Write>(writer: &mut W, reason: Refused) -> Result<(), Wr
             at,
             buffer,
             octets,
-            memory,
+            ..
         } => write_tx_buffer(
             writer,
             Buffer {
@@ -73,19 +114,13 @@ pub fn write_refused<W: Write>(writer: &mut W, reason: Refused) -> Result<(), Wr
                 buffer,
                 octets: octets as u32,
             },
-            memory,
         ),
         Refused::Memory => write_whole(writer, b"the host has no memory for it"),
     }
 }
 
-fn write_range<W: Write>(
-    writer: &mut W,
-    at: u64,
-    octets: u64,
-    memory: u64,
-) -> Result<(), WriteFailed>
-    ensures writes { Writes (W.contents writer.old) (W.contents writer.new) result (range_text at octets memory) }
+fn write_range<W: Write>(writer: &mut W, at: u64, octets: u64) -> Result<(), WriteFailed>
+    ensures writes { Writes (W.contents writer.old) (W.contents writer.new) result (range_text at octets) }
 {
     write_text(
         writer,
@@ -93,8 +128,6 @@ fn write_range<W: Write>(
             Piece::Number(octets),
             Piece::Text(b" octets at "),
             Piece::Address(at as u128),
-            Piece::Text(b", memory ends at "),
-            Piece::Address(memory as u128),
         ],
     )
 }
@@ -117,29 +150,6 @@ fn write_descriptor<W: Write>(
             Piece::Text(b" at "),
             Piece::Address(at),
             Piece::Text(text),
-        ],
-    )
-}
-
-/// Writes that a descriptor leaves guest memory.
-fn write_outside<W: Write>(
-    writer: &mut W,
-    index: u32,
-    at: u128,
-    memory: u64,
-) -> Result<(), WriteFailed>
-    ensures writes { Writes (W.contents writer.old) (W.contents writer.new) result
-        (descriptor_then index at (end_text memory)) }
-{
-    write_text(
-        writer,
-        &[
-            Piece::Text(b"descriptor "),
-            Piece::Number(index as u64),
-            Piece::Text(b" at "),
-            Piece::Address(at),
-            Piece::Text(b", memory ends at "),
-            Piece::Address(memory as u128),
         ],
     )
 }
@@ -176,14 +186,9 @@ struct Buffer {
 }
 
 /// Writes where a receive descriptor and its buffer lie, of so many octets for a frame, outside guest memory.
-fn write_rx_buffer<W: Write>(
-    writer: &mut W,
-    place: Buffer,
-    frame: u64,
-    memory: u64,
-) -> Result<(), WriteFailed>
+fn write_rx_buffer<W: Write>(writer: &mut W, place: Buffer, frame: u64) -> Result<(), WriteFailed>
     ensures writes { Writes (W.contents writer.old) (W.contents writer.new) result
-        (rx_buffer_text place.index place.at place.buffer place.octets frame memory) }
+        (rx_buffer_text place.index place.at place.buffer place.octets frame) }
 {
     write_text(
         writer,
@@ -198,16 +203,14 @@ fn write_rx_buffer<W: Write>(
             Piece::Number(place.octets as u64),
             Piece::Text(b" octets for a frame of "),
             Piece::Number(frame),
-            Piece::Text(b", memory ends at "),
-            Piece::Address(memory as u128),
         ],
     )
 }
 
 /// Writes where a transmit descriptor and its buffer lie, which is outside guest memory.
-fn write_tx_buffer<W: Write>(writer: &mut W, place: Buffer, memory: u64) -> Result<(), WriteFailed>
+fn write_tx_buffer<W: Write>(writer: &mut W, place: Buffer) -> Result<(), WriteFailed>
     ensures writes { Writes (W.contents writer.old) (W.contents writer.new) result
-        (tx_buffer_text place.index place.at place.buffer place.octets memory) }
+        (tx_buffer_text place.index place.at place.buffer place.octets) }
 {
     write_text(
         writer,
@@ -220,8 +223,7 @@ fn write_tx_buffer<W: Write>(writer: &mut W, place: Buffer, memory: u64) -> Resu
             Piece::Address(place.buffer as u128),
             Piece::Text(b" of "),
             Piece::Number(place.octets as u64),
-            Piece::Text(b" octets, memory ends at "),
-            Piece::Address(memory as u128),
+            Piece::Text(b" octets"),
         ],
     )
 }

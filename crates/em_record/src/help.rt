@@ -11,7 +11,8 @@ Arguments:
   [SCRIPT]  A script of em_bench's language, with all that em_debug takes; standard input without one, or for -
 
 Options:
-      --memory <N>   Octets of guest memory: a multiple of 4096 up to 16777216 [default: 65536]
+      --memory <N>   Octets of guest memory, a multiple of 4096; K, M or G may stand behind N [default: 65536]
+      --base <HEX>   The address of the first of them, a multiple of 4096 [default: 0]
       --budget <N>   Octets that the journal's records may cost together: from 65536 to 16777216 [default: 1048576]
       --mac <HEX12>  The adapter's Ethernet address, octet 0 first; colons may stand in it [default: 525400123456]
   -h, --help         Print help

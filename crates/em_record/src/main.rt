@@ -15,9 +15,10 @@ use crate::help::{HELP, VERSION};
 use crate::recorder::Recorder;
 use em_ending::Ending;
 use em_input::{
-    BUDGETS, InputRefused, MACS, MOST_INPUT, SIZES, input_of, is_one_file, without_colons, wrong_in,
+    BASES, BUDGETS, Head, InputRefused, MACS, MOST_INPUT, MachineWords, SIZES, WordRefused,
+    input_of, is_one_file, take_head, wrong_in,
 };
-use em_journal::SettingsRefusal;
+use em_journal::{Settings, SettingsRefusal};
 use em_options::{Options, OptionsRefused, options};
 use em_script::BenchFault;
 use em_text::next_line;
@@ -54,36 +55,40 @@ fn main(rt: HostRuntime) -> ExitCode {
 
 /// Does what the words of the command line ask for, and gives the status.
 fn with_runtime<R: Env + Files + Input + Print + Eprint + AllocGlobal>(rt: &R) -> u8 {
-    match words(rt) {
-        Ok(words) => with_words(rt, words.as_slice()),
+    let given = match env::args(rt) {
+        Ok(given) => given,
         Err(error) => {
             let _ = eprintln!(rt; "em_record: {error}");
-            Ending::without_words(&error).status()
+            return Ending::without_words(&error).status();
+        }
+    };
+    let mut words = MachineWords::new(rt.alloc());
+    for word in given {
+        if let Err(refused) = words.take(rt.alloc(), word) {
+            return without_word(rt, refused);
         }
     }
+    if words.lacks_base() {
+        return without_word(rt, WordRefused::Base);
+    }
+    with_words(rt, &words)
 }
 
-/// The words of the command line, the program's name first, with addresses as em_bench has them.
-fn words<R: Env + AllocGlobal>(rt: &R) -> io::Result<Vec<String>> {
-    let mut words: Vec<String> = Vec::new(rt.alloc());
-    let mut is_address = false;
-    for word in env::args(rt)? {
-        let is_next = word.as_str() == "--mac";
-        if is_address || word.as_str().starts_with("--mac=") {
-            words.push(without_colons(rt.alloc(), word.as_str())?)?;
-        } else {
-            words.push(word)?;
-        }
-        is_address = is_next;
-    }
-    Ok(words)
+/// Says why a word is refused, and gives the status.
+fn without_word<R: Eprint>(rt: &R, refused: WordRefused) -> u8 {
+    let _ = match refused {
+        WordRefused::Base => eprintln!(rt; "em_record: {BASES}"),
+        WordRefused::TwoBases => eprintln!(rt; "em_record: --base stands twice"),
+        WordRefused::Memory => return stopped(rt, BenchFault::Memory),
+    };
+    REFUSED
 }
 
 /// Help and version, as em_bench has them: what is wrong before a word that asks for them is told first.
-fn with_words<R: Files + Input + Print + Eprint + AllocGlobal>(rt: &R, words: &[String]) -> u8 {
-    match options(rt.alloc(), words) {
-        Ok(options) => with_options(rt, &options),
-        Err(refused) => match asked(words, &refused) {
+fn with_words<R: Files + Input + Print + Eprint + AllocGlobal>(rt: &R, words: &MachineWords) -> u8 {
+    match options(rt.alloc(), words.options.as_slice()) {
+        Ok(options) => with_options(rt, &options, words),
+        Err(refused) => match asked(words.options.as_slice(), &refused) {
             Some(text) => told(rt, text),
             None => without_options(rt, &refused),
         },
@@ -146,46 +151,80 @@ fn refused_over<R: Eprint>(rt: &R, name: &str) -> u8 {
     REFUSED
 }
 
-/// Makes the machine, then reads the script and records it.
+/// Reads the script, makes the machine that it and the words say, and records the run. What is wrong with the settings is told
+/// before what is wrong with the script.
 fn with_options<R: Files + Input + Print + Eprint + AllocGlobal>(
     rt: &R,
     options: &Options<'_>,
+    words: &MachineWords,
 ) -> u8 {
     let name = options.script.unwrap_or(STANDARD_INPUT);
     if is_one_file(rt, name, OUTPUT) {
         return refused_over(rt, name);
     }
-    match Recorder::new(rt.alloc(), options.settings()) {
+    let mut script = input_of(rt, name);
+    let Ok(head) = head_of(rt, name, &mut script) else {
+        return stopped(rt, BenchFault::Memory);
+    };
+    let settings = words.settings(options.settings(), head);
+    match Recorder::new(rt.alloc(), settings) {
         Ok(mut recorder) => {
-            let status = with_recorder(rt, name, &mut recorder);
+            let status = match script {
+                Ok(script) => with_recorder(rt, name, script.as_slice(), &mut recorder),
+                Err(refused) => without_script(rt, name, refused),
+            };
             // The system takes its memory back when the program ends, all at once.
             mem::forget(recorder);
             status
         }
-        Err(SettingsRefusal::Size) => {
-            let _ = eprintln!(rt; "em_record: --memory {}: {SIZES}", options.memory);
-            REFUSED
-        }
-        Err(SettingsRefusal::Budget) => {
-            let _ = eprintln!(rt; "em_record: --budget {}: {BUDGETS}", options.budget);
-            REFUSED
-        }
-        Err(SettingsRefusal::Memory) => stopped(rt, BenchFault::Memory),
+        Err(refusal) => without_machine(rt, settings, refusal),
     }
 }
 
-/// Reads the script, says what is wrong with its lines, and records it.
-fn with_recorder<R: Files + Input + Print + Eprint + AllocGlobal>(
+/// The head of a script that was read, if it has one.
+fn head_of<R: Eprint + AllocGlobal>(
     rt: &R,
     name: &str,
+    script: &mut Result<Vec<u8>, InputRefused>,
+) -> Result<Option<Head>, AllocError> {
+    let Ok(script) = script else {
+        return Ok(None);
+    };
+    let head = take_head(rt.alloc(), script)?;
+    if head.is_some_and(|head| head.has_eeprom) {
+        let _ = eprintln!(rt; "em_record: {name}: line 2: the EEPROM's words are not taken");
+    }
+    Ok(head)
+}
+
+/// Says why there is no machine, and gives the status.
+fn without_machine<R: Eprint>(rt: &R, settings: Settings, refusal: SettingsRefusal) -> u8 {
+    let Settings {
+        base,
+        memory,
+        budget,
+        ..
+    } = settings;
+    let _ = match refusal {
+        SettingsRefusal::Size => eprintln!(rt;
+            "em_record: --memory {memory} --base {base:X}: {SIZES}"
+        ),
+        SettingsRefusal::Budget => eprintln!(rt; "em_record: --budget {budget}: {BUDGETS}"),
+        SettingsRefusal::Memory => return stopped(rt, BenchFault::Memory),
+    };
+    REFUSED
+}
+
+/// Says what is wrong with the lines of a script, and records it.
+fn with_recorder<R: Print + Eprint + AllocGlobal>(
+    rt: &R,
+    name: &str,
+    script: &[u8],
     recorder: &mut Recorder,
 ) -> u8 {
-    match input_of(rt, name) {
-        Ok(script) => match tell_bad_lines(rt, name, script.as_slice()) {
-            Ok(()) => with_script(rt, recorder, script.as_slice()),
-            Err(AllocError) => stopped(rt, BenchFault::Memory),
-        },
-        Err(refused) => without_script(rt, name, refused),
+    match tell_bad_lines(rt, name, script) {
+        Ok(()) => with_script(rt, recorder, script),
+        Err(AllocError) => stopped(rt, BenchFault::Memory),
     }
 }
 

@@ -1,10 +1,11 @@
 -- What a machine shows in one state.
-use Rattle.std.specs.Prelude.{ℕ, Bool, List, length, Option, slice_get}
+use Rattle.std.specs.Prelude.{ℕ, Bool, List, length, Option}
 use Rattle.std.specs.Option.{option_map}
 use Rattle.em_regs.specs.Table.{reg_at}
 use Rattle.em_latch.specs.Latches.{causes, mask}
 use Rattle.em_step.specs.State.{State}
 use Rattle.em_step.specs.Access.{gives}
+use Rattle.em_watch.specs.MemoryChange.{octet_in}
 use Rattle.em_watch.specs.Watching.{is_asserted}
 
 pub record Shown : Type 0 where
@@ -26,7 +27,7 @@ pub record Shown : Type 0 where
 abbrev pub shown_in : State → Shown
 shown_in s = record {
   register = λ o. option_map (gives s) (reg_at o);
-  octet = λ a. slice_get s.memory a;
+  octet = λ a. octet_in s a;
   frames = length s.fifo.frames;
   wire = s.wire;
   gathered = s.gathered;

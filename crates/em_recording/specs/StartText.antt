@@ -13,9 +13,10 @@ use Rattle.em_recording.specs.Text.{number_text, octets_text}
 -- what a machine is made of
 abbrev pub settings_text : Settings → List ℕ
 settings_text made =
-    number_text (codes "\"settings\":{\"memory\":") made.memory
+    number_text (codes "\"settings\":{\"base\":") made.base
+    ++ (number_text (codes ",\"memory\":") made.memory
     ++ (number_text (codes ",\"budget\":") made.budget
-    ++ (octets_text (codes ",\"mac\":") made.mac ++ codes "},\n"))
+    ++ (octets_text (codes ",\"mac\":") made.mac ++ codes "},\n")))
 
 -- a value under a register's name, behind a text
 abbrev pub named_text : List ℕ → Reg → ℕ → List ℕ

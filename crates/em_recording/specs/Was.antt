@@ -23,29 +23,39 @@ arrival_text octets became why =
     codes ",\"kind\":\"arrive\",\"length\":" ++ (decimal octets
     ++ (codes ",\"answer\":\"" ++ (became ++ (why ++ codes "\""))))
 
--- a kind, with the register, the place, how many octets and the value, as the kind has them
-abbrev pub fields_of : Kind → Option Reg → ℕ → ℕ → ℕ → List ℕ
-fields_of Read register at octets value = access_text (codes "read") register at value
-fields_of Write register at octets value = access_text (codes "write") register at value
-fields_of Poke register at octets value =
-    codes ",\"kind\":\"poke\",\"address\":" ++ (decimal at ++ (codes ",\"length\":" ++ decimal octets))
-fields_of Stored register at octets value = arrival_text octets (codes "stored") []
-fields_of (Dropped reason) register at octets value =
-    arrival_text octets (codes "dropped\",\"reason\":\"") (reason_text reason)
-fields_of LinkUp register at octets value = codes ",\"kind\":\"link\",\"up\":true"
-fields_of LinkDown register at octets value = codes ",\"kind\":\"link\",\"up\":false"
-fields_of ReceiveIdle register at octets value = codes ",\"kind\":\"rx\",\"answer\":\"idle\""
-fields_of Wrote register at octets value =
-    codes ",\"kind\":\"rx\",\"answer\":\"wrote\",\"descriptor\":" ++ decimal value
-fields_of TransmitIdle register at octets value = codes ",\"kind\":\"tx\",\"answer\":\"idle\""
-fields_of Fetched register at octets value =
-    codes ",\"kind\":\"tx\",\"answer\":\"fetched\",\"descriptor\":" ++ decimal value
-fields_of Sent register at octets value =
-    codes ",\"kind\":\"tx\",\"answer\":\"sent\",\"descriptor\":" ++ (decimal value
-    ++ (codes ",\"length\":" ++ decimal octets))
+-- a step of an engine handled a descriptor: its index and its address, and the octets of a buffer
+abbrev pub step_text : List ℕ → Note → List ℕ
+step_text word note =
+    codes ",\"kind\":\"" ++ (word ++ (codes "\",\"descriptor\":" ++ (decimal note.value
+    ++ (codes ",\"at\":" ++ (decimal note.at ++ (codes ",\"buffer\":" ++ (decimal note.buffer
+    ++ (codes ",\"octets\":" ++ decimal note.octets))))))))
+
+-- the same of a step that sent a frame, and how many octets the frame has
+abbrev pub sent_text : Note → List ℕ
+sent_text note =
+    codes ",\"kind\":\"tx\",\"answer\":\"sent\",\"descriptor\":" ++ (decimal note.value
+    ++ (codes ",\"at\":" ++ (decimal note.at ++ (codes ",\"buffer\":" ++ (decimal note.buffer
+    ++ (codes ",\"octets\":" ++ (decimal note.octets ++ (codes ",\"length\":" ++ decimal note.length))))))))
+
+-- a kind, with the register, and what else the note has for an event of this kind
+abbrev pub fields_of : Kind → Option Reg → Note → List ℕ
+fields_of Read register note = access_text (codes "read") register note.at note.value
+fields_of Write register note = access_text (codes "write") register note.at note.value
+fields_of Poke register note =
+    codes ",\"kind\":\"poke\",\"address\":" ++ (decimal note.at ++ (codes ",\"length\":" ++ decimal note.length))
+fields_of Stored register note = arrival_text note.length (codes "stored") []
+fields_of (Dropped reason) register note =
+    arrival_text note.length (codes "dropped\",\"reason\":\"") (reason_text reason)
+fields_of LinkUp register note = codes ",\"kind\":\"link\",\"up\":true"
+fields_of LinkDown register note = codes ",\"kind\":\"link\",\"up\":false"
+fields_of ReceiveIdle register note = codes ",\"kind\":\"rx\",\"answer\":\"idle\""
+fields_of Wrote register note = step_text (codes "rx\",\"answer\":\"wrote") note
+fields_of TransmitIdle register note = codes ",\"kind\":\"tx\",\"answer\":\"idle\""
+fields_of Fetched register note = step_text (codes "tx\",\"answer\":\"fetched") note
+fields_of Sent register note = sent_text note
 
 abbrev pub kind_text : Note → List ℕ
-kind_text note = fields_of note.kind (register_of note) note.at note.length note.value
+kind_text note = fields_of note.kind (register_of note) note
 
 -- all of it in words, as a debugger tells it
 abbrev pub spoken_text : Note → List ℕ

@@ -20,7 +20,8 @@ const WORDS: u32 = SPACE / WORD;
 pub fn write_settings<W: Write>(writer: &mut W, settings: &Settings) -> Result<(), WriteFailed>
     ensures writes { Writes (W.contents writer.old) (W.contents writer.new) result (settings_text settings.now) }
 {
-    write_number(writer, b"\"settings\":{\"memory\":", settings.memory)?;
+    write_number(writer, b"\"settings\":{\"base\":", settings.base)?;
+    write_number(writer, b",\"memory\":", settings.memory)?;
     write_number(writer, b",\"budget\":", settings.budget)?;
     write_hex(writer, b",\"mac\":", &settings.mac)?;
     write_whole(writer, b"},\n")

@@ -1,7 +1,7 @@
 //! What an event was, as fields of its record.
 ghost use Rattle.em_text.specs.Writer.{Writes};
 ghost use Rattle.em_noted.specs.Note.{register_of};
-ghost use Rattle.em_recording.specs.Was.{access_text, arrival_text, kind_text, spoken_text, was_text};
+ghost use Rattle.em_recording.specs.Was.{access_text, arrival_text, kind_text, sent_text, spoken_text, step_text, was_text};
 
 use em_noted::{reason_name, register_of, write_note};
 use em_pieces::{Piece, write_text};
@@ -54,31 +54,53 @@ fn write_kind<W: Write>(writer: &mut W, note: Note) -> Result<(), WriteFailed>
         Kind::LinkUp => write_whole(writer, b",\"kind\":\"link\",\"up\":true"),
         Kind::LinkDown => write_whole(writer, b",\"kind\":\"link\",\"up\":false"),
         Kind::ReceiveIdle => write_whole(writer, b",\"kind\":\"rx\",\"answer\":\"idle\""),
-        Kind::Wrote => write_text(
-            writer,
-            &[
-                Piece::Text(b",\"kind\":\"rx\",\"answer\":\"wrote\",\"descriptor\":"),
-                Piece::Number(note.value as u64),
-            ],
-        ),
+        Kind::Wrote => write_step(writer, b"rx\",\"answer\":\"wrote", note),
         Kind::TransmitIdle => write_whole(writer, b",\"kind\":\"tx\",\"answer\":\"idle\""),
-        Kind::Fetched => write_text(
-            writer,
-            &[
-                Piece::Text(b",\"kind\":\"tx\",\"answer\":\"fetched\",\"descriptor\":"),
-                Piece::Number(note.value as u64),
-            ],
-        ),
-        Kind::Sent => write_text(
-            writer,
-            &[
-                Piece::Text(b",\"kind\":\"tx\",\"answer\":\"sent\",\"descriptor\":"),
-                Piece::Number(note.value as u64),
-                Piece::Text(b",\"length\":"),
-                Piece::Number(note.length as u64),
-            ],
-        ),
+        Kind::Fetched => write_step(writer, b"tx\",\"answer\":\"fetched", note),
+        Kind::Sent => write_sent(writer, note),
     }
+}
+
+/// Writes a step of an engine that handled a descriptor: its index and its address, and the octets of a buffer.
+fn write_step<W: Write>(writer: &mut W, word: &[u8], note: Note) -> Result<(), WriteFailed>
+    ensures writes { Writes (W.contents writer.old) (W.contents writer.new) result (step_text word.now note) }
+{
+    write_text(
+        writer,
+        &[
+            Piece::Text(b",\"kind\":\""),
+            Piece::Text(word),
+            Piece::Text(b"\",\"descriptor\":"),
+            Piece::Number(note.value as u64),
+            Piece::Text(b",\"at\":"),
+            Piece::Number(note.at),
+            Piece::Text(b",\"buffer\":"),
+            Piece::Number(note.buffer),
+            Piece::Text(b",\"octets\":"),
+            Piece::Number(note.octets as u64),
+        ],
+    )
+}
+
+/// Writes the same of a step that sent a frame, and how many octets the frame has.
+fn write_sent<W: Write>(writer: &mut W, note: Note) -> Result<(), WriteFailed>
+    ensures writes { Writes (W.contents writer.old) (W.contents writer.new) result (sent_text note) }
+{
+    write_text(
+        writer,
+        &[
+            Piece::Text(b",\"kind\":\"tx\",\"answer\":\"sent\",\"descriptor\":"),
+            Piece::Number(note.value as u64),
+            Piece::Text(b",\"at\":"),
+            Piece::Number(note.at),
+            Piece::Text(b",\"buffer\":"),
+            Piece::Number(note.buffer),
+            Piece::Text(b",\"octets\":"),
+            Piece::Number(note.octets as u64),
+            Piece::Text(b",\"length\":"),
+            Piece::Number(note.length as u64),
+        ],
+    )
 }
 
 /// Writes a read or a write of a register.

@@ -99,6 +99,7 @@ impl RegFile {
     pub fn ring_rx(&self) -> RxSetup
         ensures setup { result ≡ rx_setup self.now }
         ensures count { result.count < 2 ^ 28 }
+        ensures some { 0 < result.buffer }
         ensures buffer { result.buffer ≤ 16_384 }
     {
         let rctl = self.look(Reg::Rctl);
@@ -145,6 +146,7 @@ impl RegFile {
 /// The size of a receive buffer in octets by RCTL.BSIZE and BSEX (manual, chapter on register descriptions).
 pub fn buffer_size(rctl: u32) -> u32
     ensures size { result ≡ buffer_size rctl }
+    ensures some { 0 < result }
     ensures most { result ≤ 16_384 }
 {
     let bsize = (rctl / BSIZE_BIT % 4) as usize;

@@ -1,16 +1,17 @@
 -- A receive step over one memory, by the step over another one that agrees on what it reads.
-use Rattle.std.proofs.Common.{◌≡◌, ◌∙◌, ℕ, ◌+◌, Bool, true, false, nat_lt, if◌then◌else◌, List, [], ◌∷◌, length, take}
+use Rattle.std.proofs.Common.{◌≡◌, ◌∙◌, ℕ, ◌+◌, Bool, true, false, nat_lt, ◌||◌, if◌then◌else◌, List, [], ◌∷◌}
+use Rattle.std.proofs.Common.{length, take}
 use Rattle.std.proofs.Common.{◌≤◌, Result, Ok, Err, refl, sym, ap, subst, arith}
 use Rattle.std.proofs.lemmas.List.Elements.{All-head}
 use Rattle.em_mem.specs.declared.needs.Needs.{Needs}
 use Rattle.em_mem.specs.Memory as memory
-use Rattle.em_mem.specs.Memory.{IsHeld, part, put}
+use Rattle.em_mem.specs.Memory.{LiesIn, leaves, part, put}
 use Rattle.em_mem.specs.OldOctets.{OldOctets}
 use Rattle.em_mem.proofs.PutLaws.{length-part, length-put}
 use Rattle.std.proofs.lemmas.Bool.Decides.{nat_tests}
 use Rattle.std.proofs.lemmas.List.{length-take-le}
 use Rattle.em_mem.specs.Needs.{AgreeOn, no_octets, nothing, reads_only, with_octets_of}
-use Rattle.em_mem.proofs.NeedsLaws.{agree_first, held_by_test, two_taken_out}
+use Rattle.em_mem.proofs.NeedsLaws.{agree_first, lies_by_test, stays_in, two_taken_out}
 use Rattle.em_regs.specs.declared.setup.RxSetup.{RxSetup}
 use Rattle.em_rx.specs.Descriptor.{descriptor_of, written_back}
 use Rattle.em_rx.specs.Fifo.{Cells, Fifo, first, next}
@@ -25,7 +26,7 @@ use Rattle.em_rx.specs.declared.refusal.RxRefusal.TheVariants.{DmaRange}
 use Rattle.em_rx.specs.declared.step.RxAnswer.TheVariants.{Idle}
 use Rattle.em_rx.proofs.StepLaws.{length-next}
 
-module _ (q : RxSetup) (fifo : Fifo) (m n : List ℕ) where
+module _ (q : RxSetup) (base : ℕ) (fifo : Fifo) (m n : List ℕ) where
   -- by whether the step is idle, the descriptor leaves memory, and its buffer does
   abbrev needs_if : List ℕ → Bool → Bool → Bool → Needs
   needs_if x idle out short =
@@ -41,11 +42,11 @@ module _ (q : RxSetup) (fifo : Fifo) (m n : List ℕ) where
       else if short then Err DmaRange
       else Ok (delivery q x fifo)
 
-  abbrev leaves : List ℕ → Bool
-  leaves x = nat_lt (length x) (descriptor_at q + 16)
+  abbrev is_out : List ℕ → Bool
+  is_out x = leaves base x (descriptor_at q) 16
 
   abbrev buffer_leaves : List ℕ → Bool
-  buffer_leaves x = nat_lt (length x) (buffer_at q x + count_of q fifo)
+  buffer_leaves x = leaves base x (buffer_at q x) (count_of q fifo)
 
   -- the descriptor has the same octets
   abbrev IsSame : Type 0
@@ -54,11 +55,12 @@ module _ (q : RxSetup) (fifo : Fifo) (m n : List ℕ) where
   same_buffer : IsSame → buffer_at q m ≡ buffer_at q n
   same_buffer same = ap (λ (d : List ℕ). (descriptor_of d).address) same
 
-  same_leaves : length m ≡ length n → leaves m ≡ leaves n
-  same_leaves size = ap (λ (k : ℕ). nat_lt k (descriptor_at q + 16)) size
+  same_leaves : length m ≡ length n → is_out m ≡ is_out n
+  same_leaves size = ap (λ (k : ℕ). nat_lt (descriptor_at q) base || nat_lt k (descriptor_at q + 16)) size
 
   same_test : length m ≡ length n → IsSame → buffer_leaves m ≡ buffer_leaves n
-  same_test size same = λ i. nat_lt (size i) (same_buffer same i + count_of q fifo)
+  same_test size same = λ i.
+      nat_lt (same_buffer same i) base || nat_lt (size i) (same_buffer same i + count_of q fifo)
 
   first_if : (idle out s t : Bool) → take 1 (needs_if m idle out s).reads ≡ take 1 (needs_if n idle out t).reads
   first_if true out s t = refl
@@ -86,17 +88,19 @@ module _ (q : RxSetup) (fifo : Fifo) (m n : List ℕ) where
       }
 
   -- what the step writes is taken out
-  written : length m ≡ length n → IsSame → IsHeld n (descriptor_at q) 16 → IsHeld n (buffer_at q n) (count_of q fifo)
+  written : length m ≡ length n → IsSame → LiesIn base n (descriptor_at q) 16
+      → LiesIn base n (buffer_at q n) (count_of q fifo)
       → after_write q m fifo ≡ with_octets_of m (after_write q n fifo) (piece q n fifo ∷ end q ∷ [])
   written size same held_d held_b =
       let octets : List ℕ = next fifo (count_of q fifo) in
       let back : List ℕ = written_back (count_of q fifo) (is_last q fifo) (first fifo).tag in
       ap (λ (a : ℕ). put (put m a octets) (descriptor_at q + 8) back) (same_buffer same)
       ∙ sym (two_taken_out m n (buffer_at q n) octets (descriptor_at q + 8) back (count_of q fifo) size
-      (length-next fifo (count_of q fifo) (omega arith)) held_b (omega (arith, held_d)))
+      (length-next fifo (count_of q fifo) (omega arith)) held_b.to (omega (arith, held_d.to)))
 
   step_by : (idle out s t : Bool) → length m ≡ length n → (IsSame → s ≡ t)
-      → (out ≡ false → IsHeld n (descriptor_at q) 16) → (t ≡ false → IsHeld n (buffer_at q n) (count_of q fifo))
+      → (out ≡ false → LiesIn base n (descriptor_at q) 16) → (t ≡ false → LiesIn base n (buffer_at q n)
+      (count_of q fifo))
       → (idle ≡ false → out ≡ false → IsSame)
       → receive_if m idle out s ≡ taken_into m (needs_if n idle out t).writes (receive_if n idle out t)
   step_by true out s t size test held_d held_b same = refl
@@ -117,39 +121,37 @@ module _ (q : RxSetup) (fifo : Fifo) (m n : List ℕ) where
       (subst (λ b. AgreeOn m n (take 1 (needs_if n b out t).reads)) not_idle agree)
       )
 
-  pub first_same : length m ≡ length n → take 1 (needs q m fifo).reads ≡ take 1 (needs q n fifo).reads
+  pub first_same : length m ≡ length n → take 1 (needs q base m fifo).reads ≡ take 1 (needs q base n fifo).reads
   first_same size =
       ap (λ (b : Bool). take 1 (needs_if m (is_idle q fifo) b (buffer_leaves m)).reads) (same_leaves size)
-      ∙ first_if (is_idle q fifo) (leaves n) (buffer_leaves m) (buffer_leaves n)
+      ∙ first_if (is_idle q fifo) (is_out n) (buffer_leaves m) (buffer_leaves n)
 
-  pub needs_same : AgreeOn m n (take 1 (needs q n fifo).reads) → needs q m fifo ≡ needs q n fifo
+  pub needs_same : AgreeOn m n (take 1 (needs q base n fifo).reads) → needs q base m fifo ≡ needs q base n fifo
   needs_same agree =
       ap (λ (b : Bool). needs_if m (is_idle q fifo) b (buffer_leaves m)) (same_leaves agree.size)
-      ∙ needs_by (is_idle q fifo) (leaves n) (buffer_leaves m) (buffer_leaves n) (same_test agree.size) agree
+      ∙ needs_by (is_idle q fifo) (is_out n) (buffer_leaves m) (buffer_leaves n) (same_test agree.size) agree
 
-  pub step_same : AgreeOn m n (needs q n fifo).reads
-      → receive q m fifo ≡ taken_into m (needs q n fifo).writes (receive q n fifo)
+  pub step_same : AgreeOn m n (needs q base n fifo).reads
+      → receive q base m fifo ≡ taken_into m (needs q base n fifo).writes (receive q base n fifo)
   step_same agree =
       ap (λ (b : Bool). receive_if m (is_idle q fifo) b (buffer_leaves m)) (same_leaves agree.size)
-      ∙ step_by (is_idle q fifo) (leaves n) (buffer_leaves m) (buffer_leaves n) agree.size (same_test agree.size)
-      (held_by_test (length n) (descriptor_at q + 16)) (held_by_test (length n) (buffer_at q n + count_of q fifo))
-      (same_by (is_idle q fifo) (leaves n) (buffer_leaves n) (agree_first m n (needs q n fifo).reads agree))
+      ∙ step_by (is_idle q fifo) (is_out n) (buffer_leaves m) (buffer_leaves n) agree.size (same_test agree.size)
+      (lies_by_test base n (descriptor_at q) 16) (lies_by_test base n (buffer_at q n) (count_of q fifo))
+      (same_by (is_idle q fifo) (is_out n) (buffer_leaves n) (agree_first m n (needs q base n fifo).reads agree))
 
 -- an idle step writes nothing
-pub idle_writes : (q : RxSetup) (fifo : Fifo) (m : List ℕ) → is_idle q fifo ≡ true
-    → no_octets ∷ no_octets ∷ [] ≡ (needs q m fifo).writes
-idle_writes q fifo m idle = rw idle refl
+pub idle_writes : (q : RxSetup) (base : ℕ) (fifo : Fifo) (m : List ℕ) → is_idle q fifo ≡ true
+    → no_octets ∷ no_octets ∷ [] ≡ (needs q base m fifo).writes
+idle_writes q base fifo m idle = rw idle refl
 
 -- the next piece lies where the needs say
-pub piece_writes : (q : RxSetup) (fifo : Fifo) (m : List ℕ) (p : OldPiece) → IsNextPiece q m fifo p
-    → written_at p ≡ (needs q m fifo).writes
-piece_writes q fifo m p is =
+pub piece_writes : (q : RxSetup) (base : ℕ) (fifo : Fifo) (m : List ℕ) (p : OldPiece) → IsNextPiece q base m fifo p
+    → written_at p ≡ (needs q base m fifo).writes
+piece_writes q base fifo m p is =
     let busy : is_idle q fifo ≡ false = is.writes in
-    let inside : nat_lt (length m) (descriptor_at q + 16) ≡ false
-    = (let held = is.end_held in let at = is.end_at in grind (arith, nat_tests)) in
-    let held : buffer_at q m + count_of q fifo ≤ length m = omega (arith, is.held, is.buffer, is.len) in
-    let fits : nat_lt (length m) (buffer_at q m + count_of q fifo) ≡ false = grind (arith, nat_tests) in
-    let told : (needs q m fifo).writes ≡ piece q m fifo ∷ end q ∷ [] = rw (busy, inside, fits) refl in
+    let inside : leaves base m (descriptor_at q) 16 ≡ false = is.inside in
+    let fits : leaves base m (buffer_at q m) (count_of q fifo) ≡ false = is.fits in
+    let told : (needs q base m fifo).writes ≡ piece q m fifo ∷ end q ∷ [] = rw (busy, inside, fits) refl in
     (λ i. record { at = is.buffer i; len = is.len i } ∷ record { at = is.end_at i; len = 8 } ∷ []) ∙ sym told
 
 -- before a step memory was as it is, but in the ranges that its record says
@@ -162,9 +164,9 @@ piece_before r c m o whole fits =
     let last_octets : List ℕ = part o.octets r.len 8 in
     let count : length first_octets ≡ r.len = length-take-le r.len o.octets (omega (arith, whole)) in
     let end_count : length last_octets ≡ 8 = length-part o.octets r.len 8 whole in
-    let size = length-put m.octets r.buffer first_octets fits.first.held in
+    let size = length-put m.octets r.buffer first_octets fits.first.held.to in
     let after : List ℕ = put (put m.octets r.buffer first_octets) r.end_at last_octets in
     ap (λ (k : ℕ). with_octets_of m.octets after
     (record { at = r.buffer; len = r.len } ∷ record { at = r.end_at; len = k } ∷ [])) (sym end_count)
     ∙ two_taken_out m.octets m.octets r.buffer first_octets r.end_at last_octets r.len refl count
-    (omega (arith, fits.first.held, count)) (omega (arith, fits.second.held, size))
+    (omega (arith, fits.first.held.to, count)) (omega (arith, fits.second.held.to, size))

@@ -6,7 +6,7 @@ use Rattle.std.proofs.lemmas.List.{length-take-le, drop-append-le, take-append-l
 use Rattle.std.proofs.lemmas.Bool.{cases_eq, cases_lt}
 use Rattle.std.proofs.lemmas.Bool.Decides.{nat_tests}
 use Rattle.std.proofs.Math.Nat.{mul-le-mul_right}
-use Rattle.em_mem.specs.Memory.{IsHeld, part, put}
+use Rattle.em_mem.specs.Memory.{EndsIn, leaves, part, put}
 use Rattle.em_mem.proofs.PutLaws.{drop_past-put, length-part, length-put, part-put}
 use Rattle.em_regs.specs.declared.setup.RxSetup.{RxSetup}
 use Rattle.em_regs.specs.Ring.{following}
@@ -19,10 +19,11 @@ use Rattle.em_rx.specs.Pieces.{AreApart, Engine, GoesInPieces, IsDelivered, afte
 use Rattle.em_rx.specs.Pieces.{piece_len, place, place_at, with_outcome}
 use Rattle.em_rx.specs.declared.refusal.RxRefusal.{RxRefusal}
 use Rattle.em_rx.specs.declared.refusal.RxRefusal.TheVariants.{DmaRange}
+use Rattle.em_mem.proofs.NeedsLaws.{stays_in}
 use Rattle.em_mem.proofs.RingLaws.{wrap-below}
 
 -- a range apart from what is written stays
-part-put_apart : (m : List ℕ) (a n b : ℕ) (d : List ℕ) → IsHeld m b (length d) → AreApart a n b (length d) →
+part-put_apart : (m : List ℕ) (a n b : ℕ) (d : List ℕ) → EndsIn m b (length d) → AreApart a n b (length d) →
     part (put m b d) a n ≡ part m a n
 part-put_apart m a n b d held (inl before) =
     let front : length (take b m) ≡ b = length-take-le b m (omega arith) in
@@ -104,7 +105,8 @@ record IsKept (q : RxSetup) (m : List ℕ) (frame : Frame) (j k : ℕ) (w : List
   ahead : (i : ℕ) → k ≤ i → i < j → part w (place_at q i) 16 ≡ part m (place_at q i) 16
   done : (i : ℕ) → i < k → IsDelivered q m w frame j i
 
-module _ (q : RxSetup) (m : List ℕ) (frame : Frame) (frames : List Frame) (j : ℕ) (fit : GoesInPieces q m frame j) where
+module _ (q : RxSetup) (base : ℕ) (m : List ℕ) (frame : Frame) (frames : List Frame) (j : ℕ)
+    (fit : GoesInPieces q base m frame j) where
   abbrev L : ℕ
   L = length frame.octets
 
@@ -124,7 +126,7 @@ module _ (q : RxSetup) (m : List ℕ) (frame : Frame) (frames : List Frame) (j :
   setup_at k = record q { head = place q k }
 
   abbrev engine_at : ℕ → List ℕ → Engine
-  engine_at k w = record { setup = setup_at k; memory = w; fifo = fifo_at k }
+  engine_at k w = record { setup = setup_at k; base = base; memory = w; fifo = fifo_at k }
 
   abbrev piece : ℕ → List ℕ
   piece k = part frame.octets (k * B) (piece_len q L k)
@@ -196,21 +198,25 @@ module _ (q : RxSetup) (m : List ℕ) (frame : Frame) (frames : List Frame) (j :
         (not_tail q.count q.head q.tail k fit.head fit.tail (omega (arith, fit.ours)))
         (omega arith)
 
-    descriptor_in : nat_lt (length w) (place_at q k + 16) ≡ false
-    descriptor_in = grind (arith, nat_tests, fit.descriptor_held k h, kept.size)
+    descriptor_in : leaves base w (place_at q k) 16 ≡ false
+    descriptor_in =
+        let held = fit.descriptor_held k h in
+        stays_in base w (place_at q k) 16 (record { from = held.from; to = omega (arith, held.to, kept.size) })
 
-    piece_in : nat_lt (length w) (buffer_at setup w + piece_len q L k) ≡ false
+    piece_in : leaves base w (buffer_at setup w) (piece_len q L k) ≡ false
     piece_in =
-        ap (λ (p : ℕ). nat_lt (length w) (p + piece_len q L k)) buffer_is
-        ∙ grind (arith, nat_tests, fit.piece_held k h, kept.size)
+        let held = fit.piece_held k h in
+        ap (λ (p : ℕ). leaves base w p (piece_len q L k)) buffer_is
+        ∙ stays_in base w (piece_at q m k) (piece_len q L k)
+        (record { from = held.from; to = omega (arith, held.to, kept.size) })
 
-    receives : receive setup w (begun k) ≡ Ok (delivery setup w (begun k))
+    receives : receive setup base w (begun k) ≡ Ok (delivery setup w (begun k))
     receives =
         let out : Result Outcome RxRefusal = Err DmaRange in
         let wrote : Result Outcome RxRefusal = Ok (delivery setup w (begun k)) in
         if_false (is_idle setup (begun k)) _ _ idle_not
-        ∙ if_false (nat_lt (length w) (place_at q k + 16)) out _ descriptor_in
-        ∙ if_false (nat_lt (length w) (buffer_at setup w + piece_len q L k)) out wrote piece_in
+        ∙ if_false (leaves base w (place_at q k) 16) out _ descriptor_in
+        ∙ if_false (leaves base w (buffer_at setup w) (piece_len q L k)) out wrote piece_in
 
     memory_is : after_write setup w (begun k) ≡ memory_after k w
     memory_is =
@@ -224,28 +230,30 @@ module _ (q : RxSetup) (m : List ℕ) (frame : Frame) (frames : List Frame) (j :
     step_is : after_step (engine_at k w) ≡ Ok (engine_at (suc k) (memory_after k w))
     step_is =
         let test : nat_lt k j ≡ true = grind (arith, nat_tests) in
-        let here : Engine = record { setup = setup; memory = w; fifo = begun k } in
+        let here : Engine = record { setup = setup; base = base; memory = w; fifo = begun k } in
         let there : with_outcome here (delivery setup w (begun k)) ≡ engine_at (suc k) (memory_after k w)
         = λ i. record {
           setup = record q { head = following_place q.count q.head k fit.head (omega (arith, few)) i };
+          base = base;
           memory = memory_is i;
           fifo = fifo_is k h i;
         } in
-        ap (λ (f : Fifo). after_step (record { setup = setup; memory = w; fifo = f })) (if_true _ (begun k) gone test)
+        ap (λ (f : Fifo). after_step (record { setup = setup; base = base; memory = w; fifo = f })) (if_true _
+        (begun k) gone test)
         ∙ ap (and_then (λ (x : Outcome). let r : Result Engine RxRefusal = Ok (with_outcome here x) in r)) receives
         ∙ ap (λ (x : Engine). let r : Result Engine RxRefusal = Ok x in r) there
 
     abbrev first : List ℕ
     first = put w (piece_at q m k) (piece k)
 
-    held_piece : IsHeld w (piece_at q m k) (length (piece k))
-    held_piece = omega (arith, fit.piece_held k h, kept.size, length-piece k h)
+    held_piece : EndsIn w (piece_at q m k) (length (piece k))
+    held_piece = omega (arith, (fit.piece_held k h).to, kept.size, length-piece k h)
 
     size_first : length first ≡ length w
     size_first = length-put w (piece_at q m k) (piece k) held_piece
 
-    held_back : IsHeld first (place_at q k + 8) 8
-    held_back = omega (arith, fit.descriptor_held k h, kept.size, size_first)
+    held_back : EndsIn first (place_at q k + 8) 8
+    held_back = omega (arith, (fit.descriptor_held k h).to, kept.size, size_first)
 
     size_after : length (memory_after k w) ≡ length m
     size_after = length-put first (place_at q k + 8) (back k) held_back ∙ size_first ∙ kept.size
@@ -331,7 +339,7 @@ module _ (q : RxSetup) (m : List ℕ) (frame : Frame) (frames : List Frame) (j :
   ]
 
   start : (fifo : Fifo) → fifo ≡ record { frames = frame ∷ frames; taken = 0 } →
-      (let s : Engine = record { setup = q; memory = m; fifo = fifo } in s) ≡ engine_at 0 m
+      (let s : Engine = record { setup = q; base = base; memory = m; fifo = fifo } in s) ≡ engine_at 0 m
   start fifo is =
       let head : q.head ≡ place q 0 = grind (arith, nat_tests, fit.head) in
       let test : nat_lt 0 j ≡ true = grind (arith, nat_tests, some_piece) in
@@ -340,11 +348,11 @@ module _ (q : RxSetup) (m : List ℕ) (frame : Frame) (frames : List Frame) (j :
       = is
       ∙ ap (λ (taken : ℕ). let f : Fifo = record { frames = frame ∷ frames; taken = taken } in f) none_taken
       ∙ sym (if_true _ (begun 0) gone test) in
-      λ i. record { setup = record q { head = head i }; memory = m; fifo = begins i }
+      λ i. record { setup = record q { head = head i }; base = base; memory = m; fifo = begins i }
 
   -- after as many steps as the frame has pieces
   pub pieces : (fifo : Fifo) → fifo ≡ record { frames = frame ∷ frames; taken = 0 } →
-      (t : Engine) × (after_steps j (record { setup = q; memory = m; fifo = fifo }) ≡ Ok t)
+      (t : Engine) × (after_steps j (record { setup = q; base = base; memory = m; fifo = fifo }) ≡ Ok t)
       × (t.fifo ≡ record { frames = frames; taken = 0 })
       × ((i : ℕ) → i < j → IsDelivered q m t.memory frame j i)
   pieces fifo is =

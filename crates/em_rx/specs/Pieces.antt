@@ -1,7 +1,7 @@
 -- Receive steps one after another, with nothing between them, and the pieces of one frame.
 use Rattle.std.specs.Prelude.{◌≡◌, ℕ, suc, zero, ◌+◌, ◌-◌, ◌*◌, ◌<◌, ◌≤◌, ◌⊎◌, ◌==◌, min, true, List, length, Result}
 use Rattle.std.specs.Prelude.{Ok, Err}
-use Rattle.em_mem.specs.Memory.{IsHeld, part}
+use Rattle.em_mem.specs.Memory.{LiesIn, part}
 use Rattle.em_regs.specs.declared.setup.RxSetup.{RxSetup}
 use Rattle.em_mem.specs.Ring.{wrap}
 use Rattle.em_rx.specs.Frame.{Frame}
@@ -15,6 +15,7 @@ use Rattle.em_rx.specs.declared.refusal.RxRefusal.{RxRefusal}
 -- what the receive engine works on
 pub record Engine : Type 0 where
   pub setup : RxSetup
+  pub base : ℕ
   pub memory : List ℕ
   pub fifo : Fifo
 
@@ -27,6 +28,7 @@ head_after head (Wrote index next causes) = next
 abbrev pub with_outcome : Engine → Outcome → Engine
 with_outcome s outcome = record {
   setup = record s.setup { head = head_after s.setup.head outcome.answer };
+  base = s.base;
   memory = outcome.memory;
   fifo = outcome.fifo;
 }
@@ -38,7 +40,7 @@ and_then f (Err refusal) = Err refusal
 
 -- the engine after a step
 abbrev pub after_step : Engine → Result Engine RxRefusal
-after_step s = and_then (λ outcome. Ok (with_outcome s outcome)) (receive s.setup s.memory s.fifo)
+after_step s = and_then (λ outcome. Ok (with_outcome s outcome)) (receive s.setup s.base s.memory s.fifo)
 
 -- the engine after so many steps
 abbrev pub after_steps : ℕ → Engine → Result Engine RxRefusal
@@ -67,7 +69,7 @@ AreApart a n b m = (a + n ≤ b) ⊎ (b + m ≤ a)
 
 -- a frame goes in j pieces into buffers that are the adapter's: all of them and their descriptors lie in memory, and no
 -- two of these have an octet in common
-pub record GoesInPieces (q : RxSetup) (memory : List ℕ) (frame : Frame) (j : ℕ) : Type 0 where
+pub record GoesInPieces (q : RxSetup) (base : ℕ) (memory : List ℕ) (frame : Frame) (j : ℕ) : Type 0 where
   pub enabled : q.enabled ≡ true
   pub head : q.head < q.count
   pub tail : q.tail < q.count
@@ -75,8 +77,8 @@ pub record GoesInPieces (q : RxSetup) (memory : List ℕ) (frame : Frame) (j : �
   pub enough : length frame.octets ≤ j * q.buffer
   pub least : j * q.buffer < length frame.octets + q.buffer
   pub ours : j ≤ wrap q.count (q.tail + q.count - q.head)
-  pub descriptor_held : (i : ℕ) → i < j → IsHeld memory (place_at q i) 16
-  pub piece_held : (i : ℕ) → i < j → IsHeld memory (piece_at q memory i) (piece_len q (length frame.octets) i)
+  pub descriptor_held : (i : ℕ) → i < j → LiesIn base memory (place_at q i) 16
+  pub piece_held : (i : ℕ) → i < j → LiesIn base memory (piece_at q memory i) (piece_len q (length frame.octets) i)
   pub descriptors : (i k : ℕ) → i < k → k < j → AreApart (place_at q i) 16 (place_at q k) 16
   pub pieces : (i k : ℕ) → i < k → k < j →
       AreApart (piece_at q memory i) (piece_len q (length frame.octets) i)

@@ -1,7 +1,7 @@
 -- The receive engine's step, over what the registers set up, the octets of guest memory and what the FIFO shows.
-use Rattle.std.specs.Prelude.{◌≡◌, ℕ, ◌+◌, ◌-◌, ◌%◌, ◌==◌, ◌||◌, min, nat_lt, nat_le, if◌then◌else◌, Bool, false}
+use Rattle.std.specs.Prelude.{◌≡◌, ℕ, ◌+◌, ◌-◌, ◌%◌, ◌==◌, ◌||◌, min, nat_le, if◌then◌else◌, Bool, false}
 use Rattle.std.specs.Prelude.{List, length, Result, Ok, Err}
-use Rattle.em_mem.specs.Memory.{IsHeld, part, put}
+use Rattle.em_mem.specs.Memory.{LiesIn, leaves, part, put}
 use Rattle.em_regs.specs.declared.setup.RxSetup.{RxSetup}
 use Rattle.em_regs.specs.Ring as ring
 use Rattle.em_regs.specs.Ring.{rx_ring}
@@ -67,30 +67,33 @@ delivery q memory fifo = record {
   fifo = after_delivery fifo (count_of q fifo);
 }
 
--- the step: idle, or refused where the descriptor or then its buffer leaves memory, or a delivery
-abbrev pub receive : RxSetup → List ℕ → Fifo → Result Outcome RxRefusal
-receive q memory fifo =
+-- the step, where memory begins at a base: idle, or refused where the descriptor or then its buffer leaves memory, or a
+-- delivery
+abbrev pub receive : RxSetup → ℕ → List ℕ → Fifo → Result Outcome RxRefusal
+receive q base memory fifo =
     if is_idle q fifo then Ok (record { answer = Idle; memory = memory; fifo = fifo })
-    else if nat_lt (length memory) (descriptor_at q + 16) then Err DmaRange
-    else if nat_lt (length memory) (buffer_at q memory + count_of q fifo) then Err DmaRange
+    else if leaves base memory (descriptor_at q) 16 then Err DmaRange
+    else if leaves base memory (buffer_at q memory) (count_of q fifo) then Err DmaRange
     else Ok (delivery q memory fifo)
 
 -- the step may be refused so: for want of memory only where it would write
-abbrev pub Refuses : RxSetup → List ℕ → Fifo → RxRefusal → Type 0
-Refuses q memory fifo DmaRange = receive q memory fifo ≡ Err DmaRange
-Refuses q memory fifo Memory = receive q memory fifo ≡ Ok (delivery q memory fifo)
+abbrev pub Refuses : RxSetup → ℕ → List ℕ → Fifo → RxRefusal → Type 0
+Refuses q base memory fifo DmaRange = receive q base memory fifo ≡ Err DmaRange
+Refuses q base memory fifo Memory = receive q base memory fifo ≡ Ok (delivery q memory fifo)
 
 -- how many octets of memory the step writes: those of the piece, and 8 of the descriptor
 abbrev pub octets_written : RxSetup → Fifo → ℕ
 octets_written q fifo = if is_idle q fifo then 0 else count_of q fifo + 8
 
 -- the step writes this piece: there its buffer and the end of its descriptor lie, and the frame leaves with it or stays
-pub record IsNextPiece (q : RxSetup) (memory : List ℕ) (fifo : Fifo) (p : OldPiece) : Type 0 where
+pub record IsNextPiece (q : RxSetup) (base : ℕ) (memory : List ℕ) (fifo : Fifo) (p : OldPiece) : Type 0 where
   pub writes : is_idle q fifo ≡ false
-  pub delivers : receive q memory fifo ≡ Ok (delivery q memory fifo)
+  pub inside : leaves base memory (descriptor_at q) 16 ≡ false
+  pub fits : leaves base memory (buffer_at q memory) (count_of q fifo) ≡ false
+  pub delivers : receive q base memory fifo ≡ Ok (delivery q memory fifo)
   pub buffer : p.buffer ≡ buffer_at q memory
   pub end_at : p.end_at ≡ descriptor_at q + 8
   pub len : p.len ≡ count_of q fifo
   pub left : p.left ≡ is_last q fifo
-  pub held : IsHeld memory p.buffer p.len
-  pub end_held : IsHeld memory p.end_at 8
+  pub held : LiesIn base memory p.buffer p.len
+  pub end_held : LiesIn base memory p.end_at 8

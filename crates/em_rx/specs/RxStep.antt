@@ -1,8 +1,9 @@
 -- The two parts of what a step of the receive engine gives.
-use Rattle.std.specs.Prelude.{◌≡◌, ◌≤◌, ◌+◌, ℕ, length}
+use Rattle.std.specs.Prelude.{◌≡◌, ◌≤◌, ◌<◌, ◌^◌, ◌+◌, ℕ, length}
 use Rattle.em_mem.specs.OldOctets.{OldOctets, Saves}
 use Rattle.em_rx.specs.Records.{saved_of, step_patch}
 use Rattle.em_rx.specs.RxUndo.{RxUndo, Nothing, Step}
+use Rattle.em_rx.specs.declared.undo.OldPiece.{OldPiece}
 use Rattle.em_rx.specs.declared.step.RxAnswer.{RxAnswer}
 use Rattle.em_rx.specs.declared.step.RxAnswer.TheVariants as answer
 use Rattle.em_rx.specs.declared.step.RxStep.{RxStep}
@@ -29,3 +30,14 @@ KeepsStep Idle more old new = new ≡ old
 KeepsStep (Wrote index next causes piece) more old new =
     (saved_of piece + more ≤ length new.octets)
     × (saved_of piece + more ≤ length old.octets → Saves (saved_of piece) old new)
+
+-- a piece has an octet, and lies with its descriptor's end below 2^40: so a record of it has few bits
+pub record IsSmall (p : OldPiece) : Type 0 where
+  pub some : 0 < p.len
+  pub most : p.len ≤ 16_384
+  pub buffer : p.buffer < 2 ^ 40
+  pub end_at : p.end_at < 2 ^ 40
+
+abbrev pub IsSmallStep : RxStep → Type 0
+IsSmallStep Idle = Unit {0}
+IsSmallStep (Wrote index next causes piece) = IsSmall piece

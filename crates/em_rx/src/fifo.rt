@@ -327,7 +327,8 @@ impl Fifo {
     /// How many octets of the first frame are not in guest memory yet.
     pub(crate) fn rest(&self) -> u32
         requires { 0 < length (shows self.now).frames }
-        ensures { result ≡ rest (shows self.now) }
+        ensures rest { result ≡ rest (shows self.now) }
+        ensures some { 0 < result }
     {
         self.first_entry().len as u32 - self.places.taken
     }
@@ -394,17 +395,18 @@ impl Fifo {
         requires some { 0 < length (shows self.old).frames }
         requires count { piece.now.len ≤ rest (shows self.old) }
         requires left { piece.now.left ≡ nat_le (rest (shows self.old)) piece.now.len }
-        requires held { IsHeld memory.old.octets piece.now.buffer piece.now.len }
-        requires end_held { IsHeld memory.old.octets piece.now.end_at 8 }
+        requires held { IsHeld memory.old piece.now.buffer piece.now.len }
+        requires end_held { IsHeld memory.old piece.now.end_at 8 }
         requires made { IsMade memory.old piece.now.buffer piece.now.len }
         requires end_made { IsMade memory.old piece.now.end_at 8 }
         requires old_room { saved_of piece.now ≤ length old.old.octets }
         ensures shown { shows self.new ≡ after_delivery (shows self.old) piece.now.len }
+        ensures base { memory.new.base ≡ memory.old.base }
         ensures octets { memory.new.octets ≡ delivered (shows self.old) memory.old.octets piece.now }
         ensures saves { Saves (saved_of piece.now) old.old old.new }
         ensures reverses { ReversesStep self.old self.new memory.old memory.new (step_patch piece.now old.new) }
     {
-        let (buffer, end_at) = (piece.buffer as u64, piece.end_at as u64);
+        let (buffer, end_at) = (piece.buffer, piece.end_at);
         let end = written_back(piece.len, piece.left, self.first_entry().tag);
         memory.save(end_at, WRITTEN_OCTETS, old);
         memory.save(buffer, piece.len as usize, old);
@@ -418,8 +420,9 @@ impl Fifo {
     fn write_next(&self, memory: &mut GuestMemory, addr: u64, count: u32)
         requires some { 0 < length (shows self.now).frames }
         requires count { count ≤ rest (shows self.now) }
-        requires held { IsHeld memory.old.octets addr count }
+        requires held { IsHeld memory.old addr count }
         requires made { IsMade memory.old addr count }
+        ensures base { memory.new.base ≡ memory.old.base }
         ensures octets { memory.new.octets ≡ put memory.old.octets addr (next (shows self.now) count) }
         ensures made { memory.new.made ≡ memory.old.made }
     {
@@ -474,8 +477,8 @@ impl Fifo {
         ensures memory { memory.new ≡ with_both memory.old (step_patch taken.now old.now) }
     {
         let len = taken.len as usize;
-        memory.put_saved_back(taken.buffer as u64, len, old);
-        memory.put_saved_back(taken.end_at as u64, WRITTEN_OCTETS, &old.behind(len));
+        memory.put_saved_back(taken.buffer, len, old);
+        memory.put_saved_back(taken.end_at, WRITTEN_OCTETS, &old.behind(len));
         self.places = self.places_before(taken.len as u32, taken.left);
     }
 }

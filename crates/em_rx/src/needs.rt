@@ -16,9 +16,9 @@ impl Fifo {
     /// piece into the buffer and then the end of the descriptor. Where its buffer lies the descriptor's octets say, as
     /// they are in memory now.
     pub fn needs(&self, memory: &GuestMemory, setup: &RxSetup) -> Needs
-        ensures needs { result ≡ needs setup.now memory.now.octets (shows self.now) }
-        ensures reads { AreHeld memory.now.octets result.reads }
-        ensures writes { AreHeld memory.now.octets result.writes }
+        ensures needs { result ≡ needs setup.now memory.now.base memory.now.octets (shows self.now) }
+        ensures reads { AreHeld memory.now.base memory.now.octets result.reads }
+        ensures writes { AreHeld memory.now.base memory.now.octets result.writes }
     {
         if self.is_idle(setup) {
             return Needs::nothing();

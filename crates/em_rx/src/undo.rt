@@ -32,9 +32,9 @@ impl OldFrame {
 #[derive(Clone, Copy)]
 pub struct OldPiece {
     /// Where the piece lies in guest memory.
-    pub buffer: u32,
+    pub buffer: u64,
     /// Where the end of its descriptor lies.
-    pub end_at: u32,
+    pub end_at: u64,
     /// How many octets the piece has.
     pub len: u16,
     /// Whether the frame left the FIFO with it.

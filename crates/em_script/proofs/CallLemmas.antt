@@ -6,6 +6,7 @@ use Rattle.std.proofs.Common.{◌+◌, true, false, cond, nat_lt}
 use Rattle.std.specs.Prelude.{replicate}
 use Rattle.std.proofs.lemmas.List.{nil_from_length, take_all}
 use Rattle.std.proofs.lemmas.Bool.{cases_lt}
+use Rattle.em_mem.specs.Memory.{leaves}
 use Rattle.em_step.specs.State.{State}
 use Rattle.em_step.specs.Event.{Event}
 use Rattle.em_step.specs.Step.{step}
@@ -85,7 +86,7 @@ command_runs memory back machine allowed =
     run_one machine _ (back_call machine.past) (back_does machine machine.past refl)
 command_runs memory (back_by most) machine allowed = backs_run most machine
 command_runs memory (peek addr n) machine allowed =
-    look_leaves (nat_lt (length machine.present.memory) (addr + n)) machine _ _ _
+    look_leaves (leaves machine.present.base machine.present.memory addr n) machine _ _ _
 command_runs memory _ machine allowed = refl
 
 -- what is asked of a driver

@@ -1,6 +1,6 @@
 -- What a line asks of a driver tells of memory.
-use Rattle.std.proofs.Common.{◌≡◌, ℕ, ◌≤◌, nat_le, Bool, true, false, cond, List, [], length, Option, Some, None, ap}
-use Rattle.std.proofs.Common.{refl}
+use Rattle.std.proofs.Common.{◌≡◌, ◌∙◌, ◌&&◌, ◌==◌, ℕ, ◌≤◌, nat_le, Bool, true, false, cond, List, [], length, Option, Some, None, ap}
+use Rattle.std.proofs.Common.{refl, sym}
 use Rattle.std.proofs.Common.{inl, inr, arith}
 use Rattle.std.specs.Prelude.{unwrap_or}
 use Rattle.em_driver.specs.World.{World}
@@ -14,9 +14,11 @@ use Rattle.em_driver.specs.Receive.{rx_batch}
 use Rattle.em_driver.specs.Transmit.{tx_batch}
 use Rattle.em_driver.specs.Calls.{read_stats, get_mac_addr, set_mac_addr}
 use Rattle.em_driver.specs.Receive.{Answered}
+use Rattle.em_driver.specs.Driven.{IsGoodFor}
 use Rattle.em_driver.specs.Layout.{IsCount, IsGoodLayout}
 use Rattle.em_driver.specs.declared.outcome.Cause.{Cause}
-use Rattle.std.proofs.lemmas.Bool.{cases_lt, le-leb, lt-leb}
+use Rattle.std.proofs.lemmas.Bool.{le-leb}
+use Rattle.std.proofs.lemmas.Bool.Decides.{nat_tests}
 use Rattle.em_driver.specs.declared.stats.DeviceStats.{DeviceStats}
 use Rattle.em_driver.proofs.course.MappedAnswers.{answering_tells, answering_follows}
 use Rattle.em_driver.proofs.course.HappenedCalls.{call_happens, unplanned_fed}
@@ -28,7 +30,7 @@ use Rattle.em_line.specs.Request.{Request, starts, sends, receives, stats, addre
 use Rattle.em_script.specs.DriverAnswer as answers
 use Rattle.em_script.specs.DriverAnswer.{DriverAnswer, says_memory, call_text}
 use Rattle.em_script.specs.Runner.{SaysMemory}
-use Rattle.em_script.specs.Calling.{init_layout, no_stats, course_of, world_at, CanBeDone}
+use Rattle.em_script.specs.Calling.{holds_init, init_layout, no_stats, course_of, world_at, CanBeDone}
 use Rattle.em_script.proofs.DriverAnswerLemmas.{call_says}
 
 tells_done : (answer : DriverAnswer) → Tells says_memory (done answer)
@@ -42,7 +44,7 @@ init_tells true = answering_tells (λ answer. answers.start answer) says_memory 
 init_tells false = tells_done (answers.start (Some cause.Layout))
 
 pub request_tells : (request : Request) (w : World) → Tells says_memory (course_of request w)
-request_tells starts w = init_tells (nat_le 0x9000 (length w.machine.present.memory))
+request_tells starts w = init_tells (holds_init w.machine.present.base (length w.machine.present.memory))
 request_tells (sends packets) w =
     answering_tells (λ answer. answers.batch [] answer.1) says_memory (tx_batch init_layout 0 packets)
     (tx_batch_tells (λ answer. batch_says answer) init_layout 0 packets)
@@ -116,20 +118,37 @@ set_address w v octets follows = answering_follows (λ answer. answers.set) (set
 -- ---- a start
 
 -- the memory in which the layout of a line is good
-good_size : (size : ℕ) → 0x9000 ≤ size → IsGoodLayout size init_layout
-good_size size le =
+both : (a b : Bool) → (a && b) ≡ true → (a ≡ true) × (b ≡ true)
+both true b is = (refl, is)
+both false b is = cc
+
+good_memory : (base end : ℕ) → holds_init base end ≡ true → IsGoodLayout base end init_layout
+good_memory base end holds =
+    let tests = both (base == 0) (nat_le 0x9000 end) holds in
+    let zero : base ≡ 0 = grind (arith, nat_tests) in
+    let le : 0x9000 ≤ end = grind (arith, nat_tests) in
     let eight : IsCount 8 = record { eights = refl; least = omega arith; most = omega arith } in
     record {
       receive = record {
         count = eight;
         aligned = refl;
-        inside = record { ring = omega arith; buffers = omega arith };
+        inside = record {
+          ring_from = omega (arith, zero);
+          ring = omega (arith, le);
+          buffers_from = omega (arith, zero);
+          buffers = omega (arith, le);
+        };
         apart = inl (omega arith);
       };
       transmit = record {
         count = eight;
         aligned = refl;
-        inside = record { ring = omega arith; buffers = omega arith };
+        inside = record {
+          ring_from = omega (arith, zero);
+          ring = omega (arith, le);
+          buffers_from = omega (arith, zero);
+          buffers = omega (arith, le);
+        };
         apart = inl (omega arith);
       };
       disjoint = record {
@@ -140,20 +159,25 @@ good_size size le =
       };
     }
 
-good_layout : (size : ℕ) → IsGoodLayout size init_layout → 0x9000 ≤ size
-good_layout size good = omega (arith, good.transmit.inside.buffers)
+good_layout : (base end : ℕ) → IsGoodLayout base end init_layout → holds_init base end ≡ true
+good_layout base end good =
+    let zero : base ≡ 0 = omega (arith, good.receive.inside.ring_from) in
+    let le : 0x9000 ≤ end = omega (arith, good.transmit.inside.buffers) in
+    let first : (base == 0) ≡ true = grind (arith, nat_tests) in
+    ap (λ b. b && nat_le 0x9000 end) first ∙ le-leb 0x9000 end le
 
 -- a start on a memory that is large enough
-on_good : (w v : World) (events : ℕ) (answer : Option Cause) → 0x9000 ≤ length w.machine.present.memory
+on_good : (w v : World) (events : ℕ) (answer : Option Cause)
+    → holds_init w.machine.present.base (length w.machine.present.memory) ≡ true
     → Follows w (start_of init_layout) events answer v → Follows w (course_of starts w) events (answers.start answer) v
-on_good w v events answer le follows =
-    rw (le-leb 0x9000 (length w.machine.present.memory) le)
+on_good w v events answer holds follows =
+    rw holds
     (answering_follows (λ a. answers.start a) (start_of init_layout) w v events answer follows)
 
 -- a driver was started
-pub started : (w v : World) (events : ℕ) → IsGoodLayout (length w.machine.present.memory) init_layout
+pub started : (w v : World) (events : ℕ) → IsGoodFor w.machine.present init_layout
     → Follows w (start_of init_layout) events None v → Follows w (course_of starts w) events (answers.start None) v
-started w v events good follows = on_good w v events None (good_layout _ good) follows
+started w v events good follows = on_good w v events None (good_layout _ _ good) follows
 
 -- nothing was done
 nothing : (w v : World) (events : ℕ) (answer answered : DriverAnswer) → answered ≡ answer → events ≡ 0 → v ≡ w
@@ -163,18 +187,19 @@ nothing w v events answer answered same none left = record { events_are = none; 
 
 -- a start stopped, or found too little memory for the layout
 pub not_started : (w v : World) (events : ℕ) (why : Cause)
-    → ((IsGoodLayout (length w.machine.present.memory) init_layout → ⊥)
+    → ((IsGoodFor w.machine.present init_layout → ⊥)
     → (why ≡ cause.Layout) × (events ≡ 0) × (v ≡ w))
-    → (IsGoodLayout (length w.machine.present.memory) init_layout
+    → (IsGoodFor w.machine.present init_layout
     → Follows w (start_of init_layout) events (Some why) v)
     → Follows w (course_of starts w) events (answers.start (Some why)) v
 not_started w v events why untouched stopped =
-    let size = length w.machine.present.memory in
-    elim (cases_lt size 0x9000) [
-      | inl small ↦
-          let left = untouched (λ good. omega (arith, good_layout size good, small)) in
-          rw (lt-leb 0x9000 size small)
-          (nothing w v events (answers.start (Some cause.Layout)) (answers.start (Some why))
-          (ap (λ c. answers.start (Some c)) left.0) left.1 left.2)
-      | inr le ↦ on_good w v events (Some why) le (stopped (good_size size le))
-    ]
+    by_test (holds_init w.machine.present.base (length w.machine.present.memory)) refl
+  where
+    by_test : (b : Bool) → holds_init w.machine.present.base (length w.machine.present.memory) ≡ b
+        → Follows w (course_of starts w) events (answers.start (Some why)) v
+    by_test false is =
+        let left = untouched (λ good. let not_so : false ≡ true = sym is ∙ good_layout _ _ good in cc) in
+        rw is
+        (nothing w v events (answers.start (Some cause.Layout)) (answers.start (Some why))
+        (ap (λ c. answers.start (Some c)) left.0) left.1 left.2)
+    by_test true is = on_good w v events (Some why) is (stopped (good_memory _ _ is))

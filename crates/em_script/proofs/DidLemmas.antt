@@ -2,7 +2,7 @@
 use Rattle.std.proofs.Common.{◌≡◌, ℕ, zero, suc, ◌+◌, nat_lt, Bool, true, false, cond, List, [], ◌∷◌, ◌++◌}
 use Rattle.std.proofs.Common.{length, min, Option, Some, None, Result, Ok, Err, refl, ap, arith}
 use Rattle.std.specs.Prelude.{replicate}
-use Rattle.em_mem.specs.Memory.{part}
+use Rattle.em_mem.specs.Memory.{leaves, part}
 use Rattle.em_regs.specs.Table.{offset_of}
 use Rattle.em_regs.specs.declared.reg.Reg.TheVariants.{Ctrl}
 use Rattle.em_step.specs.Event.{Event, reads, writes, pokes}
@@ -122,7 +122,7 @@ play_counts (reset stopped more) w =
 play_counts (peek addr len stopped next) w =
     let m = passed w in
     let memory = (present m).memory in
-    let past = nat_lt (length memory) (addr + len) in
+    let past = leaves (present m).base memory addr len in
     let octets = part memory addr len in
     let did = play m (next octets) in
     let calls = course_calls m (next octets) in

@@ -1,5 +1,5 @@
 -- What a line asks of a driver, what the driver then does, what is printed and what is left.
-use Rattle.std.specs.Prelude.{◌≡◌, ℕ, ◌+◌, nat_le, Bool, true, if◌then◌else◌, List, [], length, IsTrue}
+use Rattle.std.specs.Prelude.{◌≡◌, ℕ, ◌+◌, ◌==◌, ◌&&◌, nat_le, Bool, true, if◌then◌else◌, List, [], length, IsTrue}
 use Rattle.std.specs.Prelude.{Option, Some, None}
 use Rattle.em_driver.specs.World.{World}
 use Rattle.em_journal.specs.History.{Call, Run}
@@ -44,10 +44,13 @@ init_layout = record {
   tx_buffers = 0x5000;
 }
 
--- of a memory of so many octets, which is large enough, or not
-abbrev pub init_course : ℕ → Course DriverAnswer
-init_course size =
-    if nat_le 0x9000 size then answering (λ answer. start answer) (start_of init_layout)
+-- whether these lie in a memory that begins at a base, and ends there
+abbrev pub holds_init : ℕ → ℕ → Bool
+holds_init base end = base == 0 && nat_le 0x9000 end
+
+abbrev pub init_course : ℕ → ℕ → Course DriverAnswer
+init_course base end =
+    if holds_init base end then answering (λ answer. start answer) (start_of init_layout)
     else done (start (Some cause.Layout))
 
 abbrev pub no_stats : DeviceStats
@@ -55,7 +58,7 @@ no_stats = record { rx_pkts = 0; tx_pkts = 0; rx_bytes = 0; tx_bytes = 0 }
 
 -- the course of a request to a driver over this world
 abbrev pub course_of : Request → World → Course DriverAnswer
-course_of request.starts w = init_course (length w.machine.present.memory)
+course_of request.starts w = init_course w.machine.present.base (length w.machine.present.memory)
 course_of (request.sends packets) w = answering (λ answer. batch [] answer.1) (tx_batch init_layout 0 packets)
 course_of (request.receives most) w =
     answering (λ answer. batch answer.0 answer.1) (rx_batch init_layout 0 most [])

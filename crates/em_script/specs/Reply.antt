@@ -2,7 +2,7 @@
 use Rattle.std.specs.Prelude.{◌≡◌, ℕ, ◌+◌, ◌==◌, Bool, true, false, not, nat_lt, min, if◌then◌else◌, List, [], ◌∷◌}
 use Rattle.std.specs.Prelude.{length}
 use Rattle.std.specs.Prelude.{replicate, bit_and, Option, Some, None, Result, Ok, Err, IsTrue}
-use Rattle.em_mem.specs.Memory.{part}
+use Rattle.em_mem.specs.Memory.{leaves, part}
 use Rattle.em_latch.specs.Latches.{causes, mask}
 use Rattle.em_step.specs.State.{State}
 use Rattle.em_step.specs.Event.{Event}
@@ -89,7 +89,7 @@ call_reply is_empty machine = refusal_reply empty_text Empty machine
 -- to a look at n octets of memory, from an address on
 abbrev pub peek_reply : ℕ → ℕ → View → Reply
 peek_reply addr n machine =
-    if nat_lt (length machine.present.memory) (addr + n) then
+    if leaves machine.present.base machine.present.memory addr n then
     refusal_reply (refusal_text Range) (By Range) machine
     else done_reply (hex_line_text (part machine.present.memory addr n)) machine
 

@@ -12,7 +12,7 @@ use Rattle.em_script.specs.declared.seat.Seat.TheVariants.{Bare, Driven, Moved}
 abbrev pub world_in : {M : Type 0} → Seat M → World
 world_in (Bare turns) = turns
 world_in (Driven driver) = driver.bus
-world_in Moved = quiet (opening 0 (shows (fresh 0 [])))
+world_in Moved = quiet (opening 0 (shows (fresh 0 0 [])))
 
 abbrev pub is_driven : {M : Type 0} → Seat M → Bool
 is_driven (Driven driver) = true

@@ -4,7 +4,7 @@ ghost use Rattle.std.specs.Option.{option_map};
 ghost use Rattle.em_text.specs.Words.{words_of};
 ghost use Rattle.em_line.specs.Arguments.{arguments_of};
 ghost use Rattle.em_line.specs.Command.{plain};
-ghost use Rattle.em_line.specs.Grammar.{parsed_line, named_form, command_form, look_form, turns_form};
+ghost use Rattle.em_line.specs.Grammar.{parsed_line, named_form, command_form, link_form, look_form, turns_form};
 ghost use Rattle.em_line.specs.ParsedLine.{command_line, request_line};
 ghost use Rattle.em_line.specs.Request.{request_form};
 ghost use Rattle.em_script.specs.Reply.{Performs, Plays};
@@ -128,13 +128,7 @@ impl Player {
             return Ok(play_command(writer, session, line.number, command, &mut self.peek_buffer));
         }
         if is_name(line.name, b"link") {
-            return Ok(play_command(
-                writer,
-                session,
-                line.number,
-                link_form(line.words),
-                &mut self.peek_buffer,
-            ));
+            return Ok(self.play_link(writer, session, line.number, line.words));
         }
         self.play_look(writer, session, line)
     }
@@ -174,6 +168,27 @@ impl Player {
             ));
         }
         self.play_request(writer, session, line.number, line.name, line.words)
+    }
+
+    /// Plays a line that sets the link, as few lines do.
+    #[inline(never)]
+    fn play_link<W: Write, M: Acts>(
+        &mut self,
+        writer: &mut W,
+        session: &mut Session<M>,
+        number: u32,
+        words: Words<'_>,
+    ) -> Result<Outcome, WriteFailed>
+        ensures { Performs number (link_form (arguments_of (words_of words.entry.0.now)))
+            session.old session.new (W.contents writer.old) (W.contents writer.new) result }
+    {
+        play_command(
+            writer,
+            session,
+            number,
+            link_form(words),
+            &mut self.peek_buffer,
+        )
     }
 
     /// Sets the plan that the words of a line say, if they say one.

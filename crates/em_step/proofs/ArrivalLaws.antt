@@ -3,7 +3,7 @@ use Rattle.std.proofs.Common.{◌≡◌, ℕ, ◌+◌, ◌-◌, ◌≤◌, Bool,
 use Rattle.std.proofs.Common.{arith, refl, length-append, length-drop}
 use Rattle.std.specs.Prelude.{if◌then◌else◌, nat_lt, not}
 use Rattle.std.proofs.lemmas.List.{length-take}
-use Rattle.std.proofs.lemmas.Bool.Decides.{nat_tests}
+use Rattle.std.proofs.lemmas.Bool.{ltb-false}
 use Rattle.em_regs.specs.Storage.{Registers}
 use Rattle.em_address.specs.declared.kind.Kind.{Kind}
 use Rattle.em_filter.specs.declared.outcome.Verdict.TheVariants.{Reject, Undersize, Oversize, Accept}
@@ -38,8 +38,9 @@ accepted_sizes s f kind is =
     let long : Bool = nat_lt (longest s) (length f + 4) in
     let known : (short ≡ false) × (long ≡ false) =
     sizes (accepts s (destination f)) short long (passes_vlan s f) _ kind is in
-    let most : longest s ≤ 16384 = longest_most (lpe s) in
-    (grind (arith, nat_tests), grind (arith, nat_tests))
+    let least : 64 ≤ length f + 4 = ltb-false _ _ known.0 in
+    let few : length f + 4 ≤ longest s = ltb-false _ _ known.1 in
+    (omega (arith, least), omega (arith, few, longest_most (lpe s)))
 
 -- a tagged frame is stored without four octets
 pub stored_len : (f : List ℕ) (t : Bool) → 16 ≤ length f →

@@ -36,7 +36,7 @@ use Rattle.std.proofs.lemmas.List.{length-take-le}
 use Rattle.em_step.specs.Undo.{changed, held, held_by, undo_of}
 use Rattle.em_step.specs.declared.event.Answer.{Answer}
 use Rattle.em_step.specs.declared.event.Answer.TheVariants.{Stored}
-use Rattle.em_step.specs.Undo.{Changed, Undo, Nothing, Register, Octets, Arrival, RxStep, TxStep, Link, Reset}
+use Rattle.em_step.specs.Undo.{piece, Changed, Undo, Nothing, Register, Octets, Arrival, RxStep, TxStep, Link, Reset}
 
 effect_least : (p : Changed) → least_cost ≤ cost_of_effect p
 effect_least Nothing = omega arith
@@ -116,15 +116,15 @@ cost_most s (links up) r is = omega arith
 cost_most s receives r is = omega (arith, piece_most s)
 cost_most s transmits r is =
     let q = tx_setup s.registers in
-    let most = sent_by_engine s (transmitted s) r (tx.cost q (sending s)) (tx_laws.cost_most q (sending s)) is in
+    let most = sent_by_engine s (transmitted s) r (tx.cost q (sending s)) (tx_laws.cost_most q s.base (sending s)) is in
     omega (arith, most)
 
 by_effect_least : (e : Effect) → least_cost ≤ cost_by_effect e
 by_effect_least effect.Nothing = omega arith
 by_effect_least (effect.Register old) = omega arith
-by_effect_least (effect.Octets at len place) = omega arith
+by_effect_least (effect.Octets high len low place) = omega arith
 by_effect_least (effect.Arrival old place) = omega arith
-by_effect_least (effect.RxStep left len buffer end_at place) = omega arith
+by_effect_least (effect.RxStep high word low end rest) = omega arith
 by_effect_least (effect.TxStep old head) = omega arith
 by_effect_least (effect.Link old) = omega arith
 by_effect_least (effect.Reset old) = omega arith
@@ -137,9 +137,10 @@ cost_as_effect : (e : Effect) (o : OldOctets) → held_by e ≤ length o.octets
     → cost_of_effect (changed e o) ≡ cost_by_effect e
 cost_as_effect effect.Nothing o room = refl
 cost_as_effect (effect.Register old) o room = refl
-cost_as_effect (effect.Octets at len place) o room = omega (arith, length-take-le len o.octets room)
+cost_as_effect (effect.Octets high len low place) o room = omega (arith, length-take-le len o.octets room)
 cost_as_effect (effect.Arrival old place) o room = omega (arith, length-take-le old.len o.octets room)
-cost_as_effect (effect.RxStep left len buffer end_at place) o room =
+cost_as_effect (effect.RxStep high word low end rest) o room =
+    let len : ℕ = (piece high word low end rest).len in
     let g = given_up 4 o in
     let size : length g.octets ≡ length o.octets = length-turn 4 o.octets in
     omega (

@@ -3,7 +3,7 @@ use Rattle.std.proofs.Common.{◌≡◌, inl, inr, Bool, true, false, cond, IsTr
 use Rattle.std.proofs.Common.{Result, Ok, Err}
 use Rattle.std.proofs.Common.{refl, sym, ap, ◌∙◌, arith, subst}
 use Rattle.std.specs.Prelude.{IsOk, not, nat_lt, ◌+◌, ◌≤◌, ◌==◌, if◌then◌else◌}
-use Rattle.em_mem.specs.Memory.{part}
+use Rattle.em_mem.specs.Memory.{leaves, part}
 use Rattle.em_regs.specs.declared.reg.Reg.TheVariants.{Rdh}
 use Rattle.em_regs.specs.declared.setup.RxSetup.{RxSetup}
 use Rattle.em_regs.specs.declared.setup.TxSetup.{TxSetup}
@@ -35,20 +35,21 @@ use Rattle.em_step.specs.declared.event.Answer.TheVariants.{Wrote}
 -- what a step that wrote leaves, part by part
 pub rx_wrote : (s t : State) {q : RxSetup} {a : RxAnswer} {index next causes : ℕ}
     → q ≡ rx_setup s.registers
-    → receive q s.memory s.fifo ≡ Ok (record { answer = a; memory = t.memory; fifo = t.fifo })
+    → receive q s.base s.memory s.fifo ≡ Ok (record { answer = a; memory = t.memory; fifo = t.fifo })
     → a ≡ rx_answer.Wrote index next causes
     → t.registers ≡ put s.registers Rdh next → t.latches ≡ after_raise s.latches causes
-    → t.gathered ≡ s.gathered → t.wire ≡ s.wire → t.eeprom ≡ s.eeprom → t.link ≡ s.link
+    → t.base ≡ s.base → t.gathered ≡ s.gathered → t.wire ≡ s.wire → t.eeprom ≡ s.eeprom → t.link ≡ s.link
     → rx_step s ≡ Ok (Wrote index, t)
 rx_wrote s t {q = q} {a = a} {index = index} {next = next} {causes = causes}
-    setup is answer registers latches gathered wire eeprom link =
+    setup is answer registers latches base gathered wire eeprom link =
     let left : RxAnswer → Outcome = λ x. record { answer = x; memory = t.memory; fifo = t.fifo } in
-    let by_setup : receive (rx_setup s.registers) s.memory s.fifo ≡ Ok (left (rx_answer.Wrote index next causes))
-    = ap (λ p. receive p s.memory s.fifo) (sym setup) ∙ is ∙ ap (λ x. Ok (left x)) answer in
+    let by_setup : receive (rx_setup s.registers) s.base s.memory s.fifo ≡ Ok (left (rx_answer.Wrote index next causes))
+    = ap (λ p. receive p s.base s.memory s.fifo) (sym setup) ∙ is ∙ ap (λ x. Ok (left x)) answer in
     let same : Path State _ _ = λ i. record {
       registers = sym registers i;
       latches = sym latches i;
       fifo = t.fifo;
+      base = sym base i;
       memory = t.memory;
       gathered = sym gathered i;
       wire = sym wire i;
@@ -81,12 +82,13 @@ busy_step true x s r busy is = cc
 busy_step false x s r busy is = is
 
 -- a step that is not idle and not refused handles a descriptor
-transmit_handles : (q : TxSetup) (s : Shown) (r : TxAnswer × Shown) → is_idle q ≡ false → transmit q s ≡ Ok r
+transmit_handles : (q : TxSetup) (base : ℕ) (s : Shown) (r : TxAnswer × Shown) → is_idle q ≡ false
+    → transmit q base s ≡ Ok r
     → IsHandled r.0
 unfolding transmit
-transmit_handles q s r busy is =
+transmit_handles q base s r busy is =
     let d = part s.memory (place q) 16 in
-    by_tests IsHandled (nat_lt (length s.memory) (place q + 16)) (refusal s.gathered s.memory d) (handle q d s) r
+    by_tests IsHandled (leaves base s.memory (place q) 16) (refusal base s.gathered s.memory d) (handle q d s) r
     (handled q d s) (busy_step (is_idle q) _ s r busy is)
 
 -- the causes that a step raises: two at most
@@ -117,12 +119,13 @@ idle_step P true x s r rests handles is =
     let found : (tx_answer.Idle, s) ≡ r = cc in subst (λ (y : TxAnswer × Shown). P y.0) found rests
 idle_step P false x s r rests handles is = handles is
 
-pub raises_few : (q : TxSetup) (s : Shown) (r : TxAnswer × Shown) → transmit q s ≡ Ok r → causes_raised r.0 ≤ 3
+pub raises_few : (q : TxSetup) (base : ℕ) (s : Shown) (r : TxAnswer × Shown) → transmit q base s ≡ Ok r
+    → causes_raised r.0 ≤ 3
 unfolding transmit
-raises_few q s r is =
+raises_few q base s r is =
     let d = part s.memory (place q) 16 in
     idle_step RaisesFew (is_idle q) _ s r (omega arith)
-    (by_tests RaisesFew (nat_lt (length s.memory) (place q + 16)) (refusal s.gathered s.memory d) (handle q d s) r
+    (by_tests RaisesFew (leaves base s.memory (place q) 16) (refusal base s.gathered s.memory d) (handle q d s) r
     (handled_few q d s)) is
 
 needs_answer : (s : State) (a : TxAnswer) → IsHandled a → IsTrue (not (takes_none (after_tx_answer s a).0))
@@ -140,14 +143,15 @@ not_true : (b : Bool) → IsTrue (not b) → b ≡ false
 not_true true is = cc
 not_true false is = refl
 
-pub tx_refuses : (s : State) (q : TxSetup) (e : TxRefusal) → q ≡ tx_setup s.registers → tx.Refuses q (sending s) e
+pub tx_refuses : (s : State) (q : TxSetup) (e : TxRefusal) → q ≡ tx_setup s.registers
+    → tx.Refuses q s.base (sending s) e
     → Refuses s transmits (tx_refused e)
 tx_refuses s q e setup (inl (memory, busy, ok)) =
-    let handles = λ (r : TxAnswer × Shown) (is : transmit q (sending s) ≡ Ok r).
-    transmit_handles q (sending s) r (not_true (is_idle q) busy) is in
+    let handles = λ (r : TxAnswer × Shown) (is : transmit q s.base (sending s) ≡ Ok r).
+    transmit_handles q s.base (sending s) r (not_true (is_idle q) busy) is in
     let wanted : IsTrue (needs_memory (tx_step s))
-    = subst (λ p. IsTrue (needs_memory (tx_stepped s (transmit p (sending s))))) setup
-    (needs s (transmit q (sending s)) ok handles) in
+    = subst (λ p. IsTrue (needs_memory (tx_stepped s (transmit p s.base (sending s))))) setup
+    (needs s (transmit q s.base (sending s)) ok handles) in
     inl (ap tx_refused memory, refl, wanted)
 tx_refuses s q e setup (inr is) =
-    inr (ap (λ p. tx_stepped s (transmit p (sending s))) (sym setup) ∙ ap (tx_stepped s) is)
+    inr (ap (λ p. tx_stepped s (transmit p s.base (sending s))) (sym setup) ∙ ap (tx_stepped s) is)

@@ -24,6 +24,7 @@ shows_after c d more = λ i. record {
   registers = more.registers i;
   latches = more.latches i;
   fifo = rx.shows (more.fifo i);
+  base = more.memory.base i;
   memory = more.memory.octets i;
   gathered = more.gathered.octets i;
   wire = more.wire i;

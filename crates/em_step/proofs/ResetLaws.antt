@@ -71,14 +71,15 @@ fresh_fifo : rx.shows rx.fresh ≡ rx.empty
 unfolding rx.fresh
 fresh_fifo = refl
 
-pub new_is_reset : (size : ℕ) (eeprom : List ℕ) →
-    shows (cells.fresh size eeprom) ≡ reset (shows (cells.fresh size eeprom))
-new_is_reset size eeprom =
-    let c : Cells = cells.fresh size eeprom in
+pub new_is_reset : (base size : ℕ) (eeprom : List ℕ) →
+    shows (cells.fresh base size eeprom) ≡ reset (shows (cells.fresh base size eeprom))
+new_is_reset base size eeprom =
+    let c : Cells = cells.fresh base size eeprom in
     λ i. record {
       registers = c.registers;
       latches = c.latches;
       fifo = fresh_fifo i;
+      base = c.memory.base;
       memory = c.memory.octets;
       gathered = [];
       wire = [];

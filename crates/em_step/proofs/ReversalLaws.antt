@@ -15,6 +15,7 @@ use Rattle.std.specs.Prelude.{IsTrue, List, []}
 -- the same pages are no fewer
 pub more_same : (c d : memory.Cells) → d ≡ c → memory.MorePages c d
 more_same c d same = record {
+  base = ap (λ (m : memory.Cells). m.base) same;
   octets = ap (λ (m : memory.Cells). m.octets) same;
   made = λ p made. subst (λ (m : memory.Cells). memory.IsPageMade m p) (sym same) made;
 }

@@ -9,7 +9,7 @@ use Rattle.em_mem.proofs.OldOctetsLaws.{first-given_up, first-saved, length-save
 use Rattle.em_rx.specs.Records.{frame_patch, saved_of, step_patch}
 use Rattle.em_rx.specs.declared.undo.OldPiece.{OldPiece}
 use Rattle.em_step.specs.Cost.{cost_by, cost_by_effect}
-use Rattle.em_step.specs.Undo.{Octets, Arrival, RxStep, changed, held, held_by, piece, receiving, undo_of}
+use Rattle.em_step.specs.Undo.{Octets, Arrival, RxStep, address, changed, held, held_by, piece, receiving, undo_of}
 use Rattle.em_step.specs.declared.undo.Effect.{Effect}
 use Rattle.em_step.specs.declared.undo.Effect.TheVariants as effect
 use Rattle.em_step.specs.declared.undo.Record.{Record}
@@ -54,12 +54,12 @@ changed_same : (e : Effect) (x y : OldOctets) → held_by e ≤ length x.octets 
     → take (held_by e) x.octets ≡ take (held_by e) y.octets → changed e x ≡ changed e y
 changed_same effect.Nothing x y fits held same = refl
 changed_same (effect.Register old) x y fits held same = refl
-changed_same (effect.Octets at len place) x y fits held same =
-    ap (λ (octets : List ℕ). Octets (record { at = at; octets = octets })) same
+changed_same (effect.Octets high len low place) x y fits held same =
+    ap (λ (octets : List ℕ). Octets (record { at = address high low; octets = octets })) same
 changed_same (effect.Arrival old place) x y fits held same =
     ap (λ (octets : List ℕ). Arrival (record { octets = octets; entry = old.entry })) same
-changed_same (effect.RxStep left len buffer end_at place) x y fits held same =
-    receiving_same (piece left len buffer end_at) x y fits held same
+changed_same (effect.RxStep high word low end rest) x y fits held same =
+    receiving_same (piece high word low end rest) x y fits held same
 changed_same (effect.TxStep old head) x y fits held same = refl
 changed_same (effect.Link old) x y fits held same = refl
 changed_same (effect.Reset old) x y fits held same = refl
@@ -73,9 +73,9 @@ undo_same r x y fits held same =
 held_cost : (e : Effect) → held_by e ≤ cost_by_effect e
 held_cost effect.Nothing = omega arith
 held_cost (effect.Register old) = omega arith
-held_cost (effect.Octets at len place) = omega arith
+held_cost (effect.Octets high len low place) = omega arith
 held_cost (effect.Arrival old place) = omega arith
-held_cost (effect.RxStep left len buffer end_at place) = omega arith
+held_cost (effect.RxStep high word low end rest) = omega arith
 held_cost (effect.TxStep old head) = omega arith
 held_cost (effect.Link old) = omega arith
 held_cost (effect.Reset old) = omega arith

@@ -18,7 +18,7 @@ use Rattle.em_step.specs.Undo.{Changed, Undo, Nothing, Register, Octets, Arrival
 
 size_patch : (m : memory.Cells) (p : memory.Patch) → memory.Fits m p
     → length (memory.undo m p).octets ≡ length m.octets
-size_patch m p fits = length-put m.octets p.at p.octets fits.held
+size_patch m p fits = length-put m.octets p.at p.octets fits.held.to
 
 size_both : (c : fifo.Cells) (m : memory.Cells) (p : StepPatch) → rx.FitsStep c m p
     → length (rx.with_both m p).octets ≡ length m.octets
@@ -51,3 +51,27 @@ size_effect c l (Reset old) fits = size_transmit (tx_cells_of c) old.gathered fi
 pub memory_size : (c : Cells) (r : Undo) → Fits c r
     → length (shows (undo c r)).memory ≡ length (shows c).memory
 memory_size c r fits = size_effect c (latches.undo c.latches r.latches) r.effect fits.effect
+
+-- ---- and it begins where it began
+base_status : (m : memory.Cells) (status : Option memory.Patch) → (tx.status_undo m status).base ≡ m.base
+base_status m None = refl
+base_status m (Some status) = refl
+
+base_transmit : (c : tx_cells.Cells) (r : TxUndo) → (tx.undo c r).memory.base ≡ c.memory.base
+base_transmit c tx_undo.Nothing = refl
+base_transmit c (tx_undo.Step change) = base_status c.memory change.status
+base_transmit c (tx_undo.Cleared old) = refl
+
+base_effect : (c : Cells) (l : Registers) (e : Changed)
+    → (undo_effect (record c { latches = l }) e).memory.base ≡ c.memory.base
+base_effect c l Nothing = refl
+base_effect c l (Register old) = refl
+base_effect c l (Octets old) = refl
+base_effect c l (Arrival old) = refl
+base_effect c l (RxStep head old) = refl
+base_effect c l (TxStep old head) = base_status c.memory old.status
+base_effect c l (Link old) = refl
+base_effect c l (Reset old) = base_transmit (tx_cells_of c) old.gathered
+
+pub memory_base : (c : Cells) (r : Undo) → (shows (undo c r)).base ≡ (shows c).base
+memory_base c r = base_effect c (latches.undo c.latches r.latches) r.effect

@@ -6,7 +6,7 @@ use Rattle.std.specs.Prelude.{◌⊎◌, nat_lt, nat_le, slice_index_or, All}
 use Rattle.std.proofs.lemmas.Bool.{eqb-false, ltb-false}
 use Rattle.std.proofs.lemmas.Bool.Decides.{nat_tests}
 use Rattle.std.proofs.lemmas.List.{take_all}
-use Rattle.em_mem.specs.Memory.{IsHeld, part, put}
+use Rattle.em_mem.specs.Memory.{LiesIn, leaves, part, put}
 use Rattle.em_mem.proofs.PutLaws.{length-part}
 use Rattle.em_regs.specs.declared.reg.Reg.TheVariants.{Tdh, Tdt}
 use Rattle.em_regs.specs.declared.setup.RxSetup.{RxSetup}
@@ -95,7 +95,7 @@ abbrev ArrivedAs : State → List ℕ → Answer × State → Type 0
 ArrivedAs s f r = KeepsAllButFifo s r.1 × Admits s f r.0 r.1
 
 same_state : (s : State) → KeepsAllButFifo s s
-same_state s = record { registers = refl; memory = refl; gathered = refl; wire = refl }
+same_state s = record { registers = refl; base = refl; memory = refl; gathered = refl; wire = refl }
 
 kept_plain : (s : State) (f : List ℕ) → vme s.registers ≡ false → kept_frame s f ≡ plain f
 kept_plain s f no_vme = ap (stored_frame f) (untagged s.registers f no_vme)
@@ -104,9 +104,9 @@ admitted : (s : State) (f : List ℕ) (kind : Kind) (b : Bool) → is_enabled s 
     → vme s.registers ≡ false
     → ArrivedAs s f (if b then (Dropped Missed, after_miss s) else (Stored, after_accept s f kind))
 admitted s f kind true on usual no_vme =
-    (record { registers = refl; memory = refl; gathered = refl; wire = refl }, inl (Missed, refl, refl))
+    (record { registers = refl; base = refl; memory = refl; gathered = refl; wire = refl }, inl (Missed, refl, refl))
 admitted s f kind false on usual no_vme = (
-  record { registers = refl; memory = refl; gathered = refl; wire = refl },
+  record { registers = refl; base = refl; memory = refl; gathered = refl; wire = refl },
   inr (refl, on, usual, ap (after_arrival s.fifo) (kept_plain s f no_vme)),
 )
 
@@ -115,9 +115,9 @@ judged_by : (s : State) (f : List ℕ) (v : Verdict) → verdict s.registers f �
     → ArrivedAs s f (judgement s f v)
 judged_by s f Reject is on no_lpe no_vme = (same_state s, inl (Rejected, refl, refl))
 judged_by s f TooShort is on no_lpe no_vme =
-    (record { registers = refl; memory = refl; gathered = refl; wire = refl }, inl (Undersize, refl, refl))
+    (record { registers = refl; base = refl; memory = refl; gathered = refl; wire = refl }, inl (Undersize, refl, refl))
 judged_by s f TooLong is on no_lpe no_vme =
-    (record { registers = refl; memory = refl; gathered = refl; wire = refl }, inl (Oversize, refl, refl))
+    (record { registers = refl; base = refl; memory = refl; gathered = refl; wire = refl }, inl (Oversize, refl, refl))
 judged_by s f (Accept kind) is on no_lpe no_vme =
     admitted s f kind (lacks_room s f) on (accepted s.registers f kind no_lpe is) no_vme
 
@@ -224,6 +224,7 @@ received_by s false false false r is ok size none all =
         first = first;
         usual = good.usual;
         registers = ap (λ x. x.1.registers) now;
+        base = ap (λ x. x.1.base) now;
         memory = ap (λ x. x.1.memory) now;
         fifo = ap (λ x. x.1.fifo) now;
         gathered = ap (λ x. x.1.gathered) now;
@@ -237,8 +238,8 @@ pub received_whole : (s : State) (r : Answer × State) → rx_step s ≡ Ok r
     → (r.1 ≡ s) ⊎ ((f : List ℕ) × (frames : List Frame) × ReceivesWhole s f frames r.1)
 received_whole s r ok size none all =
     let q = rx_setup s.registers in
-    received_by s (is_idle q s.fifo) (nat_lt (length s.memory) (descriptor_at q + 16))
-    (nat_lt (length s.memory) (buffer_at q s.memory + count_of q s.fifo)) r refl ok size none all
+    received_by s (is_idle q s.fifo) (leaves s.base s.memory (descriptor_at q) 16)
+    (leaves s.base s.memory (buffer_at q s.memory) (count_of q s.fifo)) r refl ok size none all
 
 -- ---- transmit steps
 
@@ -263,15 +264,15 @@ frame_is q d octets no_vlan pad =
     ap (λ v. with_padding q.pad (with_tag (tag_of v d (length octets)) octets)) no_vlan
     ∙ ap (λ b. with_padding b octets) pad
 
-handled_whole : (q : TxSetup) (d : List ℕ) (s : Shown) → s.gathered ≡ [] → command d ≡ 0x0B → 1 ≤ length_of d
-    → IsHeld s.memory (address d) (length_of d) → q.vlan ≡ None → q.pad ≡ true
+handled_whole : (q : TxSetup) (base : ℕ) (d : List ℕ) (s : Shown) → s.gathered ≡ [] → command d ≡ 0x0B → 1 ≤ length_of d
+    → LiesIn base s.memory (address d) (length_of d) → q.vlan ≡ None → q.pad ≡ true
     → handle q d s ≡ send q d s (padded (part s.memory (address d) (length_of d)))
 unfolding handle
-handled_whole q d s none cmd some held no_vlan pad =
+handled_whole q base d s none cmd some held no_vlan pad =
     let packet : List ℕ = part s.memory (address d) (length_of d) in
     let octets : gather s d ≡ packet = ap (λ g. g ++ packet) none in
     let long : nat_lt 0 (length (gather s d)) ≡ true
-    = grind (arith, nat_tests, ap length octets, length-part s.memory (address d) (length_of d) held) in
+    = grind (arith, nat_tests, ap length octets, length-part s.memory (address d) (length_of d) held.to) in
     let goes : sends d (length (gather s d)) ≡ true = λ i. eop_set d cmd i && long i in
     ap (λ b. if b then send q d s (frame q d (gather s d)) else fetch q d s (gather s d)) goes
     ∙ ap (λ o. send q d s (frame q d o)) octets
@@ -290,7 +291,7 @@ transmitted_by : (s : State) (idle a : Bool) (r : Answer × State)
     → tx.is_idle (tx_setup s.registers) ≡ idle
     → tx_stepped s (if idle then Ok (tx_answer.Idle, sending s)
     else if a then Err tx_refusal.DmaRange
-    else unless (refusal s.gathered s.memory (next_descriptor s))
+    else unless (refusal s.base s.gathered s.memory (next_descriptor s))
     (handle (tx_setup s.registers) (next_descriptor s) (sending s))) ≡ Ok r
     → (tx_setup s.registers).vlan ≡ None → (tx_setup s.registers).pad ≡ true → s.gathered ≡ []
     → (value_of s.registers Tdh ≢ value_of s.registers Tdt → IsWhole s)
@@ -303,8 +304,8 @@ transmitted_by s false false r is ok no_vlan pad none whole =
     let tests = tx_not_idle q.enabled (nat_le q.count q.head) (nat_le q.count q.tail) (q.head == q.tail) is in
     let apart = eqb-false q.head q.tail tests.1 in
     let w = whole apart in
-    let sent = unless_ok s (refusal s.gathered s.memory d) (handle q d (sending s)) r ok in
-    let handled = handled_whole q d (sending s) none w.command w.least w.held no_vlan pad in
+    let sent = unless_ok s (refusal s.base s.gathered s.memory d) (handle q d (sending s)) r ok in
+    let handled = handled_whole q s.base d (sending s) none w.command w.least w.held no_vlan pad in
     let out : TxAnswer × Shown = send q d (sending s) (padded (next_packet s)) in
     let now : r ≡ after_tx_answer (with_shown s out.1) out.0
     = sym (ok_is _ r sent) ∙ ap (λ (o : TxAnswer × Shown). after_tx_answer (with_shown s o.1) o.0) handled in
@@ -312,6 +313,7 @@ transmitted_by s false false r is ok no_vlan pad none whole =
       enabled = tests.0;
       apart = apart;
       registers = ap (λ x. x.1.registers) now;
+      base = ap (λ x. x.1.base) now;
       memory = ap (λ x. x.1.memory) now ∙ report_is (tx.place q) d s.memory w.command;
       fifo = ap (λ x. x.1.fifo) now;
       gathered = ap (λ x. x.1.gathered) now;
@@ -326,4 +328,4 @@ pub sent_whole : (s : State) (r : Answer × State) → tx_step s ≡ Ok r
 unfolding transmit
 sent_whole s r ok no_vlan pad none whole =
     let q = tx_setup s.registers in
-    transmitted_by s (tx.is_idle q) (nat_lt (length s.memory) (tx.place q + 16)) r refl ok no_vlan pad none whole
+    transmitted_by s (tx.is_idle q) (leaves s.base s.memory (tx.place q) 16) r refl ok no_vlan pad none whole

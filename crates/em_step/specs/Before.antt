@@ -1,6 +1,6 @@
 -- What a record tells of the state before the event, without being put back.
 use Rattle.std.specs.Prelude.{◌≡◌, ℕ, ◌+◌, ◌-◌, Bool, false, if◌then◌else◌, List, [], ◌∷◌, length, unwrap_or}
-use Rattle.std.specs.Prelude.{Option, None}
+use Rattle.std.specs.Prelude.{◌≤◌, IfSome, Option, None}
 use Rattle.em_mem.specs.Extent as extent
 use Rattle.em_mem.specs.Extent.{SameUpTo}
 use Rattle.em_mem.specs.declared.needs.Range.{Range}
@@ -34,9 +34,14 @@ abbrev pub PutsBackWindow : Undo → ℕ → List ℕ → List ℕ → Type 0
 PutsBackWindow r a now before =
     (c : Cells) → Fits c r → IsWindow (shows c).memory a now → IsWindow (shows (undo c r)).memory a before
 
--- no octet of memory from address a on, up to the next one, or to the end where there is none, is another one then
+-- no octet of memory from address a on, up to the next one, or to the end where there is none, is another one then; and
+-- the next one is one of memory
+pub record AreSame (s t : State) (a : ℕ) (next : Option ℕ) : Type 0 where
+  pub octets : SameUpTo s.memory t.memory a next
+  pub inside : IfSome next (λ k. s.base ≤ k)
+
 abbrev pub LeavesUpTo : Undo → ℕ → Option ℕ → Type 0
-LeavesUpTo r a next = (c : Cells) → Fits c r → SameUpTo (shows c).memory (shows (undo c r)).memory a next
+LeavesUpTo r a next = (c : Cells) → Fits c r → AreSame (shows c) (shows (undo c r)) a next
 
 -- memory before the event is as it is now, but in these ranges
 abbrev pub WroteOnly : Undo → List Range → Type 0

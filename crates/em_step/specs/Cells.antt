@@ -48,6 +48,7 @@ shows c = record {
   registers = c.registers;
   latches = c.latches;
   fifo = rx.shows c.fifo;
+  base = c.memory.base;
   memory = c.memory.octets;
   gathered = c.gathered.octets;
   wire = c.wire;
@@ -55,14 +56,14 @@ shows c = record {
   link = c.link;
 }
 
--- a new adapter, over a memory of that size that is all zero and with those words in its EEPROM: as after a reset, with
--- the link down and no frame on the wire
-abbrev pub fresh : ℕ → List ℕ → Cells
-fresh size eeprom = record {
+-- a new adapter, over a memory of that size from a base on that is all zero, and with those words in its EEPROM: as
+-- after a reset, with the link down and no frame on the wire
+abbrev pub fresh : ℕ → ℕ → List ℕ → Cells
+fresh base size eeprom = record {
   registers = registers.reset (mac_of eeprom);
   latches = latches.fresh;
   fifo = rx.fresh;
-  memory = memory.fresh size;
+  memory = memory.fresh base size;
   gathered = none_gathered;
   wire = [];
   eeprom = eeprom;

@@ -12,7 +12,7 @@ use Rattle.em_step.specs.Step.{resets}
 use Rattle.em_step.specs.declared.undo.Record.{Record}
 use Rattle.em_step.specs.declared.undo.Effect.{Effect}
 use Rattle.em_step.specs.declared.undo.Effect.TheVariants as effect
-use Rattle.em_step.specs.Undo.{Changed, Undo, Nothing, Register, Octets, Arrival, RxStep, TxStep, Link, Reset}
+use Rattle.em_step.specs.Undo.{piece, Changed, Undo, Nothing, Register, Octets, Arrival, RxStep, TxStep, Link, Reset}
 
 -- of an event whose record holds no octets
 abbrev pub least_cost : ℕ
@@ -50,9 +50,9 @@ cost_of r = cost_of_effect r.effect
 abbrev pub cost_by_effect : Effect → ℕ
 cost_by_effect effect.Nothing = least_cost
 cost_by_effect (effect.Register old) = least_cost
-cost_by_effect (effect.Octets at len place) = least_cost + len
+cost_by_effect (effect.Octets high len low place) = least_cost + len
 cost_by_effect (effect.Arrival old place) = least_cost + old.len
-cost_by_effect (effect.RxStep left len buffer end_at place) = least_cost + (len + 8)
+cost_by_effect (effect.RxStep high word low end rest) = least_cost + ((piece high word low end rest).len + 8)
 cost_by_effect (effect.TxStep old head) = least_cost + old.cost
 cost_by_effect (effect.Link old) = least_cost
 cost_by_effect (effect.Reset old) = most_cost

@@ -25,7 +25,7 @@ use Rattle.em_step.specs.declared.refusal.Refusal.TheVariants.{DmaRange, Extende
 -- ---- receiving
 -- the receive engine's step, by the registers of its ring
 abbrev pub received : State → Result rx.Outcome RxRefusal
-received s = rx.receive (rx_setup s.registers) s.memory s.fifo
+received s = rx.receive (rx_setup s.registers) s.base s.memory s.fifo
 
 -- memory and the FIFO as the receive engine leaves them
 abbrev pub with_outcome : State → rx.Outcome → State
@@ -57,7 +57,7 @@ sending s = record { gathered = s.gathered; wire = s.wire; memory = s.memory }
 
 -- the transmit engine's step, by the registers of its ring
 abbrev pub transmitted : State → Result (TxAnswer × Shown) TxRefusal
-transmitted s = tx.transmit (tx_setup s.registers) (sending s)
+transmitted s = tx.transmit (tx_setup s.registers) s.base (sending s)
 
 -- memory, gathered octets and wire as the transmit engine leaves them
 abbrev pub with_shown : State → Shown → State

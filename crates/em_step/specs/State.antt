@@ -13,7 +13,9 @@ pub record State : Type 0 where
   pub latches : Registers
   -- the frames that arrived and are not in memory yet
   pub fifo : Fifo
-  -- the octets of the guest's memory
+  -- the address of the first octet of the guest's memory
+  pub base : ℕ
+  -- its octets, from address 0 on up to its end: what is listed before its first octet is no memory
   pub memory : List ℕ
   -- the octets that are gathered for the next frame to be sent
   pub gathered : List ℕ
@@ -38,20 +40,21 @@ fifo_code =
 abbrev pub state_code : Coded State
 state_code =
     code_by
-    (Registers × (Registers × (Fifo × (List ℕ × (List ℕ × (List (List ℕ) × (List ℕ × Bool)))))))
-    (coded× registers_code (coded× registers_code (coded× fifo_code
+    (Registers × (Registers × (Fifo × (ℕ × (List ℕ × (List ℕ × (List (List ℕ) × (List ℕ × Bool))))))))
+    (coded× registers_code (coded× registers_code (coded× fifo_code (coded× coded_ℕ
     (coded× (coded_list coded_ℕ) (coded× (coded_list coded_ℕ) (coded× (coded_list (coded_list coded_ℕ))
-    (coded× (coded_list coded_ℕ) coded_bool)))))))
-    (λ s. (s.registers, (s.latches, (s.fifo, (s.memory, (s.gathered, (s.wire, (s.eeprom, s.link))))))))
+    (coded× (coded_list coded_ℕ) coded_bool))))))))
+    (λ s. (s.registers, (s.latches, (s.fifo, (s.base, (s.memory, (s.gathered, (s.wire, (s.eeprom, s.link)))))))))
     (λ p. record {
       registers = p.0;
       latches = p.1.0;
       fifo = p.1.1.0;
-      memory = p.1.1.1.0;
-      gathered = p.1.1.1.1.0;
-      wire = p.1.1.1.1.1.0;
-      eeprom = p.1.1.1.1.1.1.0;
-      link = p.1.1.1.1.1.1.1;
+      base = p.1.1.1.0;
+      memory = p.1.1.1.1.0;
+      gathered = p.1.1.1.1.1.0;
+      wire = p.1.1.1.1.1.1.0;
+      eeprom = p.1.1.1.1.1.1.1.0;
+      link = p.1.1.1.1.1.1.1.1;
     })
     (λ _. refl)
 

@@ -1,7 +1,7 @@
 -- One event: the refusal whose cause comes first, or the answer and the next state.
 use Rattle.std.specs.Prelude.{◌≡◌, ◌⊎◌, ℕ, ◌+◌, ◌==◌, ◌||◌, nat_lt, Bool, true, false, not, IsTrue, if◌then◌else◌}
 use Rattle.std.specs.Prelude.{List, length, Option, Some, None, Result, Ok, Err}
-use Rattle.em_mem.specs.Memory.{put}
+use Rattle.em_mem.specs.Memory.{leaves, put}
 use Rattle.em_regs.specs.Table.{reg_at}
 use Rattle.em_regs.specs.declared.reg.Reg.{Reg}
 use Rattle.em_step.specs.Event.{Event, reads, writes, pokes, arrives, links, receives, transmits}
@@ -22,7 +22,7 @@ at_register (Some reg) access = Ok (access reg)
 -- a memory write has 1 to 16,384 octets; the range is tested before the length
 abbrev pub poke : State → ℕ → List ℕ → Result (Answer × State) Refusal
 poke s a octets =
-    if nat_lt (length s.memory) (a + length octets) then Err Range
+    if leaves s.base s.memory a (length octets) then Err Range
     else if length octets == 0 || nat_lt 16_384 (length octets) then Err Length
     else Ok (Done, record s { memory = put s.memory a octets })
 

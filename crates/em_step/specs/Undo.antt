@@ -1,5 +1,5 @@
 -- What a record puts back, and when it can be put back into an adapter.
-use Rattle.std.specs.Prelude.{◌≡◌, ℕ, ◌+◌, ◌≤◌, Bool, List, length, take}
+use Rattle.std.specs.Prelude.{◌≡◌, ℕ, ◌+◌, ◌*◌, ◌/◌, ◌%◌, ◌==◌, ◌≤◌, Bool, List, length, take}
 use Rattle.std.specs.Int.{w32, from_le_bytes}
 use Rattle.em_mem.specs.Memory as memory
 use Rattle.em_mem.specs.OldOctets.{Keeps, OldOctets, given_up, seen_from}
@@ -56,9 +56,22 @@ pub record Undo : Type 0 where
   pub latches : List Growth
   pub effect : Changed
 
--- a receive step's record, by its parts
-abbrev pub piece : Bool → ℕ → ℕ → ℕ → OldPiece
-piece left len buffer end_at = record { buffer = buffer; end_at = end_at; len = len; left = left }
+-- ---- an address of 40 bits in two numbers: its highest octet, and the 32 bits below
+abbrev pub address : ℕ → ℕ → ℕ
+address high low = low + 0x1_0000_0000 * high
+
+-- ---- a receive step's record in five numbers: two addresses, so many octets, whether the frame left, and a place of 25
+-- bits among old octets
+abbrev pub piece : ℕ → ℕ → ℕ → ℕ → ℕ → OldPiece
+piece high word low end rest = record {
+  buffer = address high low;
+  end_at = address (rest / 0x100_0000) end;
+  len = word % 0x4000 + 1;
+  left = word / 0x4000 % 2 == 1;
+}
+
+abbrev pub place_of : ℕ → ℕ → ℕ
+place_of word rest = rest % 0x100_0000 + 0x100_0000 * (word / 0x8000)
 
 -- with its octets, of which those of RDH come first
 abbrev pub receiving : OldPiece → OldOctets → Changed
@@ -71,9 +84,9 @@ aside b = record { registers = b.registers.value; latches = b.latches; places = 
 abbrev pub changed : Effect → OldOctets → Changed
 changed effect.Nothing o = Nothing
 changed (effect.Register old) o = Register old
-changed (effect.Octets at len place) o = Octets (record { at = at; octets = take len o.octets })
+changed (effect.Octets high len low place) o = Octets (record { at = address high low; octets = take len o.octets })
 changed (effect.Arrival old place) o = Arrival (frame_patch old o)
-changed (effect.RxStep left len buffer end_at place) o = receiving (piece left len buffer end_at) o
+changed (effect.RxStep high word low end rest) o = receiving (piece high word low end rest) o
 changed (effect.TxStep old head) o = TxStep old head
 changed (effect.Link old) o = Link old
 changed (effect.Reset old) o = Reset (aside old.value)
@@ -84,9 +97,9 @@ undo_of r o = record { latches = r.latches; effect = changed r.effect o }
 
 -- how many octets were saved for it
 abbrev pub held_by : Effect → ℕ
-held_by (effect.Octets at len place) = len
+held_by (effect.Octets high len low place) = len
 held_by (effect.Arrival old place) = old.len
-held_by (effect.RxStep left len buffer end_at place) = len + 12
+held_by (effect.RxStep high word low end rest) = (piece high word low end rest).len + 12
 held_by effect = 0
 
 abbrev pub held : Record → ℕ
@@ -94,9 +107,9 @@ held r = held_by r.effect
 
 -- its octets were saved at a place of the ring
 abbrev pub IsPlacedBy : Effect → OldOctets → Type 0
-IsPlacedBy (effect.Octets at len place) o = place ≤ length o.octets
+IsPlacedBy (effect.Octets high len low place) o = place ≤ length o.octets
 IsPlacedBy (effect.Arrival old place) o = place ≤ length o.octets
-IsPlacedBy (effect.RxStep left len buffer end_at place) o = place ≤ length o.octets
+IsPlacedBy (effect.RxStep high word low end rest) o = place_of word rest ≤ length o.octets
 IsPlacedBy effect o = Unit {0}
 
 abbrev pub IsPlaced : Record → OldOctets → Type 0
@@ -104,9 +117,9 @@ IsPlaced r o = IsPlacedBy r.effect o
 
 -- there they come first
 abbrev pub IsAtBy : Effect → OldOctets → Type 0
-IsAtBy (effect.Octets at len place) o = place ≡ o.top
+IsAtBy (effect.Octets high len low place) o = place ≡ o.top
 IsAtBy (effect.Arrival old place) o = place ≡ o.top
-IsAtBy (effect.RxStep left len buffer end_at place) o = place ≡ o.top
+IsAtBy (effect.RxStep high word low end rest) o = place_of word rest ≡ o.top
 IsAtBy effect o = Unit {0}
 
 abbrev pub IsAt : Record → OldOctets → Type 0
@@ -125,9 +138,9 @@ pub record KeepsFor (r : Record) (old new : OldOctets) : Type 0 where
 
 -- the octets from its own on
 abbrev pub octets_from : Effect → OldOctets → OldOctets
-octets_from (effect.Octets at len place) o = seen_from place o
+octets_from (effect.Octets high len low place) o = seen_from place o
 octets_from (effect.Arrival old place) o = seen_from place o
-octets_from (effect.RxStep left len buffer end_at place) o = seen_from place o
+octets_from (effect.RxStep high word low end rest) o = seen_from (place_of word rest) o
 octets_from effect o = o
 
 -- what it means, wherever its octets lie among these

@@ -1,7 +1,7 @@
 -- What arrivals and engine steps leave where each frame has one descriptor, and lies whole in its buffer.
 use Rattle.std.specs.Prelude.{◌≡◌, ◌≢◌, ◌⊎◌, ℕ, ◌+◌, ◌-◌, ◌/◌, ◌%◌, ◌≤◌, true, List, [], ◌∷◌, ◌++◌, length}
 use Rattle.std.specs.Prelude.{replicate, slice_index, None}
-use Rattle.em_mem.specs.Memory.{IsHeld, part, put}
+use Rattle.em_mem.specs.Memory.{LiesIn, part, put}
 use Rattle.em_regs.specs.declared.reg.Reg.TheVariants.{Rdh, Tdh, Rdt, Tdt}
 use Rattle.em_regs.specs.RegFile as registers
 use Rattle.em_regs.specs.Setup.{rx_setup, tx_setup, value_of}
@@ -32,6 +32,7 @@ plain octets = record { octets = octets; tag = None }
 -- all but the FIFO and the latches is as it was
 pub record KeepsAllButFifo (s t : State) : Type 0 where
   pub registers : t.registers ≡ s.registers
+  pub base : t.base ≡ s.base
   pub memory : t.memory ≡ s.memory
   pub gathered : t.gathered ≡ s.gathered
   pub wire : t.wire ≡ s.wire
@@ -49,6 +50,7 @@ pub record ReceivesWhole (s : State) (f : List ℕ) (frames : List Frame) (t : S
   pub first : s.fifo.frames ≡ plain f ∷ frames
   pub usual : IsUsual f
   pub registers : t.registers ≡ registers.put s.registers Rdh (rx.following (rx_setup s.registers))
+  pub base : t.base ≡ s.base
   pub memory :
       t.memory
       ≡ put (put s.memory (rx.buffer_at (rx_setup s.registers) s.memory) f)
@@ -74,13 +76,14 @@ next_packet s = part s.memory (address (next_descriptor s)) (length_of (next_des
 pub record IsWhole (s : State) : Type 0 where
   pub command : slice_index (next_descriptor s) 11 ≡ 0x0B
   pub least : 1 ≤ length_of (next_descriptor s)
-  pub held : IsHeld s.memory (address (next_descriptor s)) (length_of (next_descriptor s))
+  pub held : LiesIn s.base s.memory (address (next_descriptor s)) (length_of (next_descriptor s))
 
 -- that packet went onto the wire, padded, and DD was reported
 pub record SendsWhole (s t : State) : Type 0 where
   pub enabled : (tx_setup s.registers).enabled ≡ true
   pub apart : value_of s.registers Tdh ≢ value_of s.registers Tdt
   pub registers : t.registers ≡ registers.put s.registers Tdh (tx.next (tx_setup s.registers))
+  pub base : t.base ≡ s.base
   pub memory : t.memory ≡ put s.memory (tx.place (tx_setup s.registers) + 12) (1 ∷ [])
   pub fifo : t.fifo ≡ s.fifo
   pub gathered : t.gathered ≡ []

@@ -3,7 +3,7 @@ ghost use Rattle.std.specs.Prelude.{◌≡◌, ◌≢◌, ◌↔◌, ◌+◌, �
 ghost use Rattle.std.specs.Prelude.{if◌then◌else◌, IsTrue, false, [], length, slice_get};
 ghost use Rattle.std.specs.Prelude.{IfOk, IfErr, IfSome, IsNone, OnOk, OnErr, IsErrOf};
 ghost use Rattle.std.specs.Option.{option_map};
-ghost use Rattle.em_mem.specs.Memory.{IsHeld, IsMemorySize, part, put};
+ghost use Rattle.em_mem.specs.Memory.{IsMemoryRange, IsMemorySize, LiesIn, leaves, part};
 ghost use Rattle.em_regs.specs.Table.{IsReg, row_of, offset_of, reg_at};
 ghost use Rattle.em_regs.specs.RegFile.{IsStored, OnlyStores};
 ghost use Rattle.em_latch.specs.Latches.{is_latched, IsLatched, IsAsserted};
@@ -22,6 +22,7 @@ ghost use Rattle.em_step.specs.Undo.{Register, Reset, TxStep, aside};
 ghost use Rattle.em_step.specs.Cost.{cost_by, cost_of, least_cost, most_cost};
 
 use crate::event::{Answer, Event};
+use crate::packed::piece_of;
 use crate::refusal::Refusal;
 use crate::undo::{BeforeReset, Effect, LEAST_COST, MOST_COST, Record, Undo};
 use bitflags::Flags;
@@ -29,7 +30,7 @@ use em_eeprom::Eeprom;
 use em_latch::Latches;
 use em_mem::{GuestMemory, MemRefusal, OldOctets, Reversible, Saved, Spares};
 use em_regs::{Causes, Ctrl, Eerd, Kind, Reg, RegFile, RegUndo, Status};
-use em_rx::{Fifo, OldPiece, Places, StoredFrame};
+use em_rx::{Fifo, Places, StoredFrame};
 use em_tx::{Change, Gather, TxUndo, Wire, take_back};
 use std::alloc::{AllocError, Global};
 use std::marker::Model;
@@ -75,15 +76,37 @@ impl Model for Adapter {
 }
 
 impl Adapter {
-    /// An adapter after a reset, over a guest memory of `size` octets that are all zero.
+    /// An adapter after a reset, over a guest memory of `size` octets from address 0 on that are all zero.
     ///
     /// Refused as Size where `size` is no multiple of 4,096 from 4,096 to 16,777,216.
     pub fn new(alloc: Global, size: u64, eeprom: Eeprom) -> Result<Adapter, MemRefusal>
-        ensures ok { IfOk result (λ adapter. adapter ≡ fresh size eeprom) }
+        ensures ok { IfOk result (λ adapter. adapter ≡ fresh 0 size eeprom) }
         ensures size { OnOk result (IsMemorySize size) }
+        ensures memory { IfErr result (λ e. e ≡ MemRefusal.Memory → IsMemorySize size) }
         ensures refused { IfErr result (λ e. (e ≡ MemRefusal.Size) ↔ (IsMemorySize size → ⊥)) }
     {
         let memory = GuestMemory::new(alloc, size)?;
+        Adapter::over(alloc, memory, eeprom)
+    }
+
+    /// An adapter after a reset, over a guest memory of `size` octets from `base` on that are all zero.
+    ///
+    /// Refused as Size where `base` or `size` is no multiple of 4,096, `size` is 0, or memory would end past 2^40.
+    pub fn at(alloc: Global, base: u64, size: u64, eeprom: Eeprom) -> Result<Adapter, MemRefusal>
+        ensures ok { IfOk result (λ adapter. adapter ≡ fresh base size eeprom) }
+        ensures size { OnOk result (IsMemoryRange base size) }
+        ensures memory { IfErr result (λ e. e ≡ MemRefusal.Memory → IsMemoryRange base size) }
+        ensures refused { IfErr result (λ e. (e ≡ MemRefusal.Size) ↔ (IsMemoryRange base size → ⊥)) }
+    {
+        let memory = GuestMemory::at(alloc, base, size)?;
+        Adapter::over(alloc, memory, eeprom)
+    }
+
+    /// An adapter after a reset, over this guest memory.
+    fn over(alloc: Global, memory: GuestMemory, eeprom: Eeprom) -> Result<Adapter, MemRefusal>
+        ensures ok { IfOk result (λ adapter. adapter ≡ record (fresh 0 0 eeprom) { memory = memory }) }
+        ensures refused { IfErr result (λ e. e ≡ MemRefusal.Memory) }
+    {
         let Ok(fifo) = Fifo::new(alloc) else {
             return Err(MemRefusal::Memory);
         };
@@ -118,7 +141,9 @@ impl Adapter {
     /// stays.
     pub fn peek(&self, addr: u64, out: &mut [u8]) -> Result<(), Refusal>
         ensures ok { OnOk result (out.new ≡ part (shows self.now).memory addr (length out.old)) }
-        ensures range { IsErrOf result Refusal.Range ↔ (length (shows self.now).memory < addr + length out.old) }
+        ensures held { OnOk result (LiesIn (shows self.now).base (shows self.now).memory addr (length out.old)) }
+        ensures range { IsErrOf result Refusal.Range
+            ↔ IsTrue (leaves (shows self.now).base (shows self.now).memory addr (length out.old)) }
         ensures only { IfErr result (λ e. e ≡ Refusal.Range) }
         ensures same { OnErr result (out.new ≡ out.old) }
     {
@@ -195,9 +220,23 @@ impl Adapter {
         &self.eeprom
     }
 
+    /// The address of the first octet of the guest's memory.
+    pub fn memory_base(&self) -> u64
+        ensures { result ≡ (shows self.now).base }
+    {
+        self.memory.base()
+    }
+
+    /// The address behind the last octet of the guest's memory.
+    pub fn memory_end(&self) -> u64
+        ensures { result ≡ length (shows self.now).memory }
+    {
+        self.memory.end()
+    }
+
     /// How many octets the guest's memory has.
     pub fn memory_size(&self) -> u64
-        ensures { result ≡ length (shows self.now).memory }
+        ensures { (shows self.now).base + result ≡ length (shows self.now).memory }
     {
         self.memory.len()
     }
@@ -373,23 +412,15 @@ impl Adapter {
         match effect {
             Effect::Nothing => {}
             Effect::Register(old) => self.registers.take_back(old),
-            Effect::Octets { at, len, .. } => self.take_back_octets(at, len, old),
+            Effect::Octets { high, len, low, .. } => self.take_back_octets(high, low, len, old),
             Effect::Arrival(frame, _) => self.take_back_arrival(&frame, old),
             Effect::RxStep {
-                left,
-                len,
-                buffer,
-                end_at,
-                ..
-            } => {
-                let piece = OldPiece {
-                    buffer,
-                    end_at,
-                    len,
-                    left,
-                };
-                self.take_back_receiving(&piece, old)
-            }
+                high,
+                word,
+                low,
+                end,
+                rest,
+            } => self.take_back_receiving(&piece_of(high, word, low, end, rest), old),
             Effect::TxStep(change, head) => self.take_back_sending(change, head),
             Effect::Link(old) => self.link = old,
             // what it put aside has every word of the latches

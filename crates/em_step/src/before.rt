@@ -11,13 +11,13 @@ ghost use Rattle.em_step.specs.Before.{LeavesUpTo, PutsBack, PutsBackGathered, P
 ghost use Rattle.em_step.specs.Before.{WroteOnly, frames_before, gathered_before, has_sent, written};
 ghost use Rattle.em_step.specs.Before.{latched_before, link_before, next_octet, octets_before, register_before};
 ghost use Rattle.em_step.specs.Before.{status_before, stored_before};
-ghost use Rattle.em_step.specs.Undo.{IsPlaced, held, past_of, piece, word};
+ghost use Rattle.em_step.specs.Undo.{IsPlaced, held, past_of, word};
 
 use crate::adapter::status_of;
+use crate::packed::{address_in, piece_of, place_in};
 use crate::undo::{Effect, HEAD_OCTETS, Record};
 use em_mem::{OldOctets, Range, Saved, lay_both_over, next_in};
 use em_regs::{Kind, Reg};
-use em_rx::OldPiece;
 use std::alloc::AllocError;
 use std::marker::Model;
 
@@ -52,9 +52,8 @@ impl<'a> Past<'a> {
         ensures { result ≡ past_of record.now old.now }
     {
         let old = match &record.effect {
-            Effect::Octets { place, .. }
-            | Effect::Arrival(_, place)
-            | Effect::RxStep { place, .. } => old.from(*place as usize),
+            Effect::Octets { place, .. } | Effect::Arrival(_, place) => old.from(*place as usize),
+            Effect::RxStep { word, rest, .. } => old.from(place_in(*word, *rest)),
             _ => old.newest(),
         };
         Past { record, old }
@@ -200,17 +199,17 @@ impl<'a> Past<'a> {
         ensures { window.new ≡ octets_before self.now.effect addr window.old }
     {
         match &self.record.effect {
-            Effect::Octets { at, len, .. } => {
+            Effect::Octets { high, len, low, .. } => {
                 let (front, back) = self.old.first(usize::from(*len));
-                lay_both_over(u64::from(*at), front, back, addr, window);
+                lay_both_over(address_in(*high, *low), front, back, addr, window);
             }
             Effect::RxStep {
-                left,
-                len,
-                buffer,
-                end_at,
-                ..
-            } => piece_of(*left, *len, *buffer, *end_at).lay_over(
+                high,
+                word,
+                low,
+                end,
+                rest,
+            } => piece_of(*high, *word, *low, *end, *rest).lay_over(
                 &self.old.behind(HEAD_OCTETS),
                 addr,
                 window,
@@ -227,14 +226,16 @@ impl<'a> Past<'a> {
         ensures { result ≡ next_octet self.now.effect addr }
     {
         match &self.record.effect {
-            Effect::Octets { at, len, .. } => { next_in(u64::from(*at), usize::from(*len), addr) }
+            Effect::Octets { high, len, low, .. } => {
+                next_in(address_in(*high, *low), usize::from(*len), addr)
+            }
             Effect::RxStep {
-                left,
-                len,
-                buffer,
-                end_at,
-                ..
-            } => piece_of(*left, *len, *buffer, *end_at).next_octet(addr),
+                high,
+                word,
+                low,
+                end,
+                rest,
+            } => piece_of(*high, *word, *low, *end, *rest).next_octet(addr),
             Effect::TxStep(old, _) => old.next_octet(addr),
             Effect::Reset(old) => old.gathered.next_octet(addr),
             _ => None,
@@ -247,20 +248,20 @@ impl<'a> Past<'a> {
         ensures { result ≡ written self.now.effect }
     {
         match &self.record.effect {
-            Effect::Octets { at, len, .. } => {
+            Effect::Octets { high, len, low, .. } => {
                 let range = Range {
-                    at: u64::from(*at),
+                    at: address_in(*high, *low),
                     len: u64::from(*len),
                 };
                 [range, Range::none()]
             }
             Effect::RxStep {
-                left,
-                len,
-                buffer,
-                end_at,
-                ..
-            } => piece_of(*left, *len, *buffer, *end_at).written(),
+                high,
+                word,
+                low,
+                end,
+                rest,
+            } => piece_of(*high, *word, *low, *end, *rest).written(),
             Effect::TxStep(old, _) => [old.written(), Range::none()],
             Effect::Reset(old) => old.gathered.written(),
             _ => [Range::none(), Range::none()],
@@ -286,12 +287,12 @@ impl<'a> Past<'a> {
         match &self.record.effect {
             Effect::Arrival(old, _) => old.frames_before(now),
             Effect::RxStep {
-                left,
-                len,
-                buffer,
-                end_at,
-                ..
-            } => piece_of(*left, *len, *buffer, *end_at).frames_before(now),
+                high,
+                word,
+                low,
+                end,
+                rest,
+            } => piece_of(*high, *word, *low, *end, *rest).frames_before(now),
             Effect::Reset(old) => old.places.count as usize,
             _ => now,
         }
@@ -318,19 +319,6 @@ impl<'a> Past<'a> {
             Effect::Reset(old) => old.gathered.has_sent(),
             _ => false,
         }
-    }
-}
-
-/// A receive step's record, by its parts.
-#[inline(always)]
-fn piece_of(left: bool, len: u16, buffer: u32, end_at: u32) -> OldPiece
-    ensures { result ≡ piece left len buffer end_at }
-{
-    OldPiece {
-        buffer,
-        end_at,
-        len,
-        left,
     }
 }
 

@@ -47,7 +47,8 @@ pub fn a_reset_leaves_zeros()
 
 /// A new adapter is one that was reset.
 pub fn a_new_adapter_is_reset()
-    ensures { (size : ℕ) (eeprom : List ℕ) → shows (fresh size eeprom) ≡ reset (shows (fresh size eeprom)) }
+    ensures { (base size : ℕ) (eeprom : List ℕ) →
+        shows (fresh base size eeprom) ≡ reset (shows (fresh base size eeprom)) }
 {}
 
 /// Where each frame has one descriptor and lies whole in its buffer of 2,048 octets, with no VLAN tag:

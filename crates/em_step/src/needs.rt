@@ -16,8 +16,8 @@ impl Adapter {
     /// other ranges. Both memories have one size.
     pub fn needs_rx(&self) -> Needs
         ensures needs { result ≡ rx_needs (shows self.now) }
-        ensures reads { AreHeld (shows self.now).memory result.reads }
-        ensures writes { AreHeld (shows self.now).memory result.writes }
+        ensures reads { AreHeld (shows self.now).base (shows self.now).memory result.reads }
+        ensures writes { AreHeld (shows self.now).base (shows self.now).memory result.writes }
     {
         self.fifo.needs(&self.memory, &self.registers.ring_rx())
     }
@@ -25,8 +25,8 @@ impl Adapter {
     /// The same of the transmit engine.
     pub fn needs_tx(&self) -> Needs
         ensures needs { result ≡ tx_needs (shows self.now) }
-        ensures reads { AreHeld (shows self.now).memory result.reads }
-        ensures writes { AreHeld (shows self.now).memory result.writes }
+        ensures reads { AreHeld (shows self.now).base (shows self.now).memory result.reads }
+        ensures writes { AreHeld (shows self.now).base (shows self.now).memory result.writes }
     {
         needs(&self.gather, &self.memory, &self.registers.ring_tx())
     }

@@ -1,6 +1,6 @@
 //! Writes of guest memory by software.
 ghost use Rattle.std.specs.Prelude.{◌≡◌, ◌+◌, ◌<◌, ◌≤◌, [], length, IfOk, IfErr, OnOk, OnErr};
-ghost use Rattle.em_mem.specs.Memory.{IsHeld, put};
+ghost use Rattle.em_mem.specs.Memory.{LiesIn, put};
 ghost use Rattle.em_mem.specs.OldOctets.{Keeps};
 ghost use Rattle.em_step.specs.Cells.{shows, MorePages};
 ghost use Rattle.em_step.specs.Event.{pokes};
@@ -10,6 +10,7 @@ ghost use Rattle.em_step.specs.Cost.{cost_of_effect, least_cost};
 
 use crate::adapter::Adapter;
 use crate::event::Answer;
+use crate::packed::{address_in, parts_of};
 use crate::refusal::Refusal;
 use crate::undo::{Effect, Record};
 use em_mem::laws::places_are_small;
@@ -51,7 +52,7 @@ impl Adapter {
         octets: &[u8],
         old: &mut OldOctets,
     ) -> Result<Effect, Refusal>
-        requires held { IsHeld (shows self.old).memory addr (length octets.now) }
+        requires held { LiesIn (shows self.old).base (shows self.old).memory addr (length octets.now) }
         requires some { 0 < length octets.now }
         requires most { length octets.now ≤ 16_384 }
         ensures state { OnOk result (shows self.new
@@ -73,21 +74,23 @@ impl Adapter {
         }
         places_are_small(&self.memory);
         self.memory.write_saving(addr, octets, old);
+        let (high, low) = parts_of(addr);
         Ok(Effect::Octets {
-            at: addr as u32,
+            high,
             len: octets.len() as u16,
+            low,
             place: old.place() as u32,
         })
     }
 
     /// Takes a memory write back.
     #[inline(never)]
-    pub(crate) fn take_back_octets(&mut self, at: u32, len: u16, old: &Saved<'_>)
+    pub(crate) fn take_back_octets(&mut self, high: u8, low: u32, len: u16, old: &Saved<'_>)
         requires room { len ≤ length old.now.octets }
-        requires fits { EffectFits self.old (changed (Effect.Octets at len 0) old.now) }
-        ensures { self.new ≡ undo_effect self.old (changed (Effect.Octets at len 0) old.now) }
+        requires fits { EffectFits self.old (changed (Effect.Octets high len low 0) old.now) }
+        ensures { self.new ≡ undo_effect self.old (changed (Effect.Octets high len low 0) old.now) }
     {
-        self.memory
-            .put_saved_back(u64::from(at), usize::from(len), old);
+        let at = address_in(high, low);
+        self.memory.put_saved_back(at, usize::from(len), old);
     }
 }

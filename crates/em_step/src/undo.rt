@@ -3,6 +3,7 @@ ghost use Rattle.std.specs.Prelude.{◌≡◌, ◌≤◌, []};
 ghost use Rattle.em_step.specs.Cost.{cost_by, cost_of, least_cost, most_cost};
 ghost use Rattle.em_step.specs.Undo.{held};
 
+use crate::packed::len_of;
 use em_latch::{LatchUndo, Latches};
 use em_mem::OldOctets;
 use em_regs::{RegFile, RegUndo};
@@ -38,22 +39,24 @@ pub enum Effect {
     Nothing,
     /// A register.
     Register(RegUndo),
-    /// Octets of guest memory: where they lay, how many, and the place where they were saved.
+    /// Octets of guest memory: where they lay (`address_in`), how many, and the place where they were saved.
     Octets {
-        at: u32,
+        high: u8,
         len: u16,
+        low: u32,
         place: u32,
     },
     /// What a frame replaced in the FIFO, and the place where its octets were saved.
     Arrival(OldFrame, u32),
-    /// What a step of the receive engine replaced in guest memory: the parts of an `OldPiece`, and the place where its
-    /// octets were saved, those of RDH before them.
+    /// What a step of the receive engine replaced in guest memory: an `OldPiece`, and the place where its octets were
+    /// saved, those of RDH before them, as `packed` puts them into five numbers. All variants have their fields at the
+    /// same places: a record is then copied in two pieces.
     RxStep {
-        left: bool,
-        len: u16,
-        buffer: u32,
-        end_at: u32,
-        place: u32,
+        high: u8,
+        word: u16,
+        low: u32,
+        end: u32,
+        rest: u32,
     },
     /// What a step of the transmit engine gathered, sent and overwrote in guest memory, and TDH.
     TxStep(Change, u32),
@@ -106,7 +109,7 @@ impl Record {
             Effect::Nothing | Effect::Register(_) | Effect::Link(_) => LEAST_COST,
             Effect::Octets { len, .. } => LEAST_COST + u32::from(*len),
             Effect::Arrival(frame, _) => LEAST_COST + frame.len() as u32,
-            Effect::RxStep { len, .. } => LEAST_COST + (u32::from(*len) + 8),
+            Effect::RxStep { word, .. } => LEAST_COST + (u32::from(len_of(*word)) + 8),
             Effect::TxStep(change, _) => LEAST_COST + change.cost(),
             Effect::Reset(_) => MOST_COST,
         }
@@ -120,7 +123,7 @@ impl Record {
         match &self.effect {
             Effect::Octets { len, .. } => usize::from(*len),
             Effect::Arrival(frame, _) => frame.len(),
-            Effect::RxStep { len, .. } => usize::from(*len) + STEP_OCTETS,
+            Effect::RxStep { word, .. } => usize::from(len_of(*word)) + STEP_OCTETS,
             _ => 0,
         }
     }

@@ -356,9 +356,9 @@ receive_alike : (s : State) (n : Registers) → AgreeInRules s.registers n
     → Alike (rx_step s) (rx_step (with_registers s n))
 receive_alike s n h =
     let t : State = with_registers s n in
-    let same : rx_step t ≡ rx_stepped t (rx.receive (rx_setup s.registers) s.memory s.fifo)
-    = ap (λ q. rx_stepped t (rx.receive q s.memory s.fifo)) (rx_same s.registers n h) in
-    subst (λ x. Alike (rx_step s) x) (sym same) (rx_by s n (rx.receive (rx_setup s.registers) s.memory s.fifo) h)
+    let same : rx_step t ≡ rx_stepped t (rx.receive (rx_setup s.registers) s.base s.memory s.fifo)
+    = ap (λ q. rx_stepped t (rx.receive q s.base s.memory s.fifo)) (rx_same s.registers n h) in
+    subst (λ x. Alike (rx_step s) x) (sym same) (rx_by s n (rx.receive (rx_setup s.registers) s.base s.memory s.fifo) h)
 
 tx_answered : (s : State) (n : Registers) (a : TxAnswer) → AgreeInRules s.registers n
     → Alike (Ok (after_tx_answer s a)) (Ok (after_tx_answer (with_registers s n) a))
@@ -377,9 +377,9 @@ transmit_alike : (s : State) (n : Registers) → AgreeInRules s.registers n
     → Alike (tx_step s) (tx_step (with_registers s n))
 transmit_alike s n h =
     let t : State = with_registers s n in
-    let same : tx_step t ≡ tx_stepped t (tx.transmit (tx_setup s.registers) (sending s))
-    = ap (λ q. tx_stepped t (tx.transmit q (sending s))) (tx_same s.registers n h) in
-    subst (λ x. Alike (tx_step s) x) (sym same) (tx_by s n (tx.transmit (tx_setup s.registers) (sending s)) h)
+    let same : tx_step t ≡ tx_stepped t (tx.transmit (tx_setup s.registers) s.base (sending s))
+    = ap (λ q. tx_stepped t (tx.transmit q s.base (sending s))) (tx_same s.registers n h) in
+    subst (λ x. Alike (tx_step s) x) (sym same) (tx_by s n (tx.transmit (tx_setup s.registers) s.base (sending s)) h)
 
 -- ---- any event
 
@@ -388,7 +388,7 @@ pub alike : (s : State) (n : Registers) (e : Event) → AgreeInRules s.registers
 alike s n (reads o) h noread = absurd noread
 alike s n (writes o v) h noread = written_by s n v (reg_at o) h
 alike s n (pokes a d) h noread =
-    poked_by s n a d (nat_lt (length s.memory) (a + length d)) (length d == 0 || nat_lt 16_384 (length d)) h
+    poked_by s n a d (memory.leaves s.base s.memory a (length d)) (length d == 0 || nat_lt 16_384 (length d)) h
 alike s n (arrives f) h noread = sized_by s n f (nat_lt (length f) 14 || nat_lt 20_000 (length f)) h
 alike s n (links up) h noread = linked_by s n up (differ up s.link) h
 alike s n receives h noread = receive_alike s n h

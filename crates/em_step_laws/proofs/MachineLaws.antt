@@ -21,6 +21,7 @@ call_reached : (v w : View) (call : Call) → Does v call w → AreReached v →
 call_reached v w (performs e answer) does h =
     let here = All-head IsReached v.present v.past h in
     let now : IsReached w.present = record {
+      base = here.base;
       size = here.size;
       eeprom = here.eeprom;
       events = e ∷ here.events;
@@ -38,9 +39,9 @@ run_reached : (v w : View) (calls : List Call) → Run v calls w → AreReached 
 run_reached v w [] run h = subst AreReached (sym run) h
 run_reached v w (call ∷ calls) (m, does, run) h = run_reached m w calls run (call_reached v m call does h)
 
-pub machine_reached : (budget size : ℕ) (eeprom : List ℕ) (calls : List Call) (v : View)
-    → Leads budget (shows (fresh size eeprom)) calls v → All IsReached (states v)
-machine_reached budget size eeprom calls v run =
-    let s : State = shows (fresh size eeprom) in
-    let new : IsReached s = record { size = size; eeprom = eeprom; events = []; performed = refl } in
+pub machine_reached : (budget base size : ℕ) (eeprom : List ℕ) (calls : List Call) (v : View)
+    → Leads budget (shows (fresh base size eeprom)) calls v → All IsReached (states v)
+machine_reached budget base size eeprom calls v run =
+    let s : State = shows (fresh base size eeprom) in
+    let new : IsReached s = record { base = base; size = size; eeprom = eeprom; events = []; performed = refl } in
     run_reached (opening budget s) v calls run (All-cons IsReached s [] new (All-nil IsReached))

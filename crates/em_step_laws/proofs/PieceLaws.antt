@@ -3,6 +3,7 @@ use Rattle.std.proofs.Common.{◌≡◌, ℕ, suc, zero, ◌+◌, ◌<◌, ◌�
 use Rattle.std.proofs.Common.{if◌then◌else◌, List, ◌∷◌, length, refl, sym, ap, subst, ◌∙◌, inl, inr, arith, Result}
 use Rattle.std.proofs.Common.{Ok, Err}
 use Rattle.std.proofs.lemmas.Bool.Decides.{nat_tests}
+use Rattle.em_mem.specs.Memory.{leaves}
 use Rattle.em_regs.specs.declared.setup.RxSetup.{RxSetup}
 use Rattle.em_regs.specs.Setup.{rx_setup}
 use Rattle.em_regs.specs.Ring as ring
@@ -28,7 +29,7 @@ use Rattle.em_step.proofs.SetupLaws.{rx_setup-head}
 
 -- what the receive engine works on
 abbrev pub engine_of : State → Engine
-engine_of s = record { setup = rx_setup s.registers; memory = s.memory; fifo = s.fifo }
+engine_of s = record { setup = rx_setup s.registers; base = s.base; memory = s.memory; fifo = s.fifo }
 
 -- ---- where a step goes on to
 -- a step that writes is not idle
@@ -54,11 +55,12 @@ following_within : (h n : ℕ) → h < n → ring.following n h < n
 following_within h n less = grind (arith, nat_tests)
 
 -- and goes on to a descriptor of the ring
-next_within : (q : RxSetup) (m : List ℕ) (f : Fifo) (o : Outcome) (index next causes : ℕ) → receive q m f ≡ Ok o →
+next_within : (q : RxSetup) (base : ℕ) (m : List ℕ) (f : Fifo) (o : Outcome) (index next causes : ℕ) →
+    receive q base m f ≡ Ok o →
     o.answer ≡ Wrote index next causes → next < q.count
-next_within q m f o index next causes is answer =
-    let out : Bool = nat_lt (length m) (descriptor_at q + 16) in
-    let far : Bool = nat_lt (length m) (buffer_at q m + count_of q f) in
+next_within q base m f o index next causes is answer =
+    let out : Bool = leaves base m (descriptor_at q) 16 in
+    let far : Bool = leaves base m (buffer_at q m) (count_of q f) in
     let wrote = wrote_delivery (is_idle q f) out far m f (delivery q m f) o index next causes is answer in
     let test : nat_le q.count q.head ≡ false
     = head_within (not q.enabled) (nat_le q.count q.head) (nat_le q.count q.tail) (q.head == q.tail)
@@ -83,6 +85,7 @@ engine_after u o Idle below = refl
 engine_after u o (Wrote index next causes) below =
     λ i. record {
       setup = rx_setup-head u.registers next (below index next causes refl) i;
+      base = u.base;
       memory = o.memory;
       fifo = o.fifo;
     }
@@ -93,11 +96,11 @@ one_step : (u : State) (e : Engine) → (rx_setup u.registers).count ≤ 65_536 
 one_step u e few is =
     let q : RxSetup = rx_setup u.registers in
     let goes_on : Outcome → Result Engine RxRefusal = λ o. Ok (rx.with_outcome (engine_of u) o) in
-    let (o, done, on) = not_refused goes_on (receive q u.memory u.fifo) e is in
+    let (o, done, on) = not_refused goes_on (receive q u.base u.memory u.fifo) e is in
     let left : rx.with_outcome (engine_of u) o ≡ e = cc in
     let after = after_rx_answer (with_outcome u o) o.answer in
     let below = λ (index next causes : ℕ) (answer : o.answer ≡ Wrote index next causes).
-    let inside : next < q.count = next_within q u.memory u.fifo o index next causes done answer in
+    let inside : next < q.count = next_within q u.base u.memory u.fifo o index next causes done answer in
     (let r : next < 65_536 = omega (arith, inside, few) in r) in (
       after.1,
       (after.0, ap (rx_stepped u) done),
@@ -126,14 +129,14 @@ lifted s few (suc k) e is =
 
 -- a frame that goes in j pieces is in its buffers after j receive steps
 pub pieces : (s : State) (frame : Frame) (frames : List Frame) (j : ℕ) → IsReached s →
-    GoesInPieces (rx_setup s.registers) s.memory frame j →
+    GoesInPieces (rx_setup s.registers) s.base s.memory frame j →
     s.fifo ≡ record { frames = frame ∷ frames; taken = 0 } →
     (t : State) × AreReceived j s t × (t.fifo ≡ record { frames = frames; taken = 0 })
     × ((i : ℕ) → i < j → IsDelivered (rx_setup s.registers) s.memory t.memory frame j i)
 pieces s frame frames j reached fit holds =
     let few : (rx_setup s.registers).count ≤ 65_536 = few_reached s reached in
     let q : RxSetup = rx_setup s.registers in
-    let (e, is, gone, done) = rx_laws.pieces q s.memory frame frames j fit s.fifo holds in
+    let (e, is, gone, done) = rx_laws.pieces q s.base s.memory frame frames j fit s.fifo holds in
     let (t, steps, there, count) = lifted s few j e is in (
       t,
       steps,

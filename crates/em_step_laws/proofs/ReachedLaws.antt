@@ -4,6 +4,7 @@ use Rattle.std.proofs.Common.{arith, length, nat_lt, not, ◌||◌, ◌==◌, if
 use Rattle.std.proofs.Common.{Result, Ok, Err}
 use Rattle.std.proofs.lemmas.Nat.{and_le_r}
 use Rattle.std.specs.Prelude.{bit_and, ◌+◌}
+use Rattle.em_mem.specs.Memory.{leaves}
 use Rattle.em_regs.specs.declared.reg.Reg.{Reg}
 use Rattle.em_regs.specs.declared.reg.Reg.TheVariants.{Eerd, Rdh, Rdlen, Tdh}
 use Rattle.em_regs.specs.declared.table.Kind.{Kind}
@@ -162,7 +163,7 @@ event_keeps s (writes o v) r few is =
     access_keeps (reg_at o) (λ reg. (Done, after_write s reg v)) r
     (λ reg. write_keeps (row_of reg).kind s reg v few) is
 event_keeps s (pokes a d) r few is =
-    poke_keeps (nat_lt (length s.memory) (a + length d)) (length d == 0 || nat_lt 16_384 (length d)) _ r few is
+    poke_keeps (leaves s.base s.memory a (length d)) (length d == 0 || nat_lt 16_384 (length d)) _ r few is
 event_keeps s (arrives f) r few is =
     arrive_keeps (nat_lt (length f) 14 || nat_lt 20_000 (length f)) (arrival s f) r
     (arrival_keeps (not s.link) (not (is_enabled s)) s f few) is
@@ -184,5 +185,5 @@ performed_keeps (e ∷ events) s t few is =
 pub few_reached : (s : State) → IsReached s → (rx_setup s.registers).count ≤ 65_536
 few_reached s is =
     let few : KeepsLength s.registers
-    = performed_keeps is.events (shows (fresh is.size is.eeprom)) s (reset_keeps (mac_of is.eeprom)) is.performed in
+    = performed_keeps is.events (shows (fresh is.base is.size is.eeprom)) s (reset_keeps (mac_of is.eeprom)) is.performed in
     omega (arith, few)

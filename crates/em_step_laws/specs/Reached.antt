@@ -14,7 +14,8 @@ ArePerformed (e ∷ events) s t =
 
 -- some events lead a new adapter to this state
 pub record IsReached (s : State) : Type 0 where
+  pub base : ℕ
   pub size : ℕ
   pub eeprom : List ℕ
   pub events : List Event
-  pub performed : ArePerformed events (shows (fresh size eeprom)) s
+  pub performed : ArePerformed events (shows (fresh base size eeprom)) s

@@ -28,7 +28,7 @@ pub fn fates()
 pub fn pieces()
     ensures { (s : State) (frame : Frame) (frames : List Frame) (j : ℕ) →
         IsReached s →
-        GoesInPieces (rx_setup s.registers) s.memory frame j →
+        GoesInPieces (rx_setup s.registers) s.base s.memory frame j →
         s.fifo ≡ record { frames = frame ∷ frames; taken = 0 } →
         (t : State) × AreReceived j s t
         × (t.fifo ≡ record { frames = frames; taken = 0 })
@@ -43,8 +43,8 @@ pub fn rings_are_small()
 /// Every state that a machine with a new adapter comes to is reached, after any of its calls, and so is
 /// each that steps back lead to: the laws of such states hold of them.
 pub fn machines_are_reached()
-    ensures { (budget size : ℕ) (eeprom : List ℕ) (calls : List Call) (v : View)
-        → Leads budget (shows (fresh size eeprom)) calls v → All IsReached (states v) }
+    ensures { (budget base size : ℕ) (eeprom : List ℕ) (calls : List Call) (v : View)
+        → Leads budget (shows (fresh base size eeprom)) calls v → All IsReached (states v) }
 {}
 
 /// Registers and bits without a rule are inert: what they hold changes no answer of any event but a

@@ -20,12 +20,12 @@ use Rattle.em_trail.specs.declared.note.Note.{Note}
 use Rattle.em_tape.specs.Led.{HasLed, IsTold}
 use Rattle.em_tape.specs.Tape.{HoldsTape, Tape, standing}
 
-states-one : (l : List State) (v : View) → v.past ≡ l → 0 < length l → states (after_back v) ≡ v.past
+pub states-one : (l : List State) (v : View) → v.past ≡ l → 0 < length l → states (after_back v) ≡ v.past
 states-one [] v is some = absurd (omega arith)
 states-one (s ∷ older) v is some = ap (λ x. states (back_to x v)) is ∙ sym is
 
 -- what lies so many steps further back
-states-back : (n k : ℕ) (v : View) → n ≤ length v.past
+pub states-back : (n k : ℕ) (v : View) → n ≤ length v.past
     → slice_get (states (after_backs n v)) k ≡ slice_get (states v) (n + k)
 states-back zero k v le = let e : k ≡ 0 + k = omega arith in ap (slice_get (states v)) e
 states-back (suc n) k v le =

@@ -7,3 +7,4 @@ pub mod CutLaws
 pub mod DidLaws
 pub mod PlaceLaws
 pub mod LedLaws
+pub mod OneStateLaws

@@ -12,7 +12,7 @@ use Rattle.em_script.specs.PlayedLine.{PlayedLine, after_played, after_all, AreA
 use Rattle.em_tape.specs.Tape.{IsAt, HadMemory, session_at, taken_back}
 
 -- such lines are those with memory
-all_with_memory : (all : List PlayedLine) → HadMemory all
+pub all_with_memory : (all : List PlayedLine) → HadMemory all
     → all ≡ with_memory (map (λ (played : PlayedLine). played.line) all)
 all_with_memory [] had = refl
 all_with_memory (x ∷ xs) had =

@@ -6,4 +6,5 @@ pub mod Led
 pub mod Replied
 pub mod Tape
 pub mod Moves
+pub mod OneState
 pub mod Texts

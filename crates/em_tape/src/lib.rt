@@ -18,6 +18,8 @@ mod tape;
 mod text;
 
 pub use em_named::{Did, Name};
-pub use laws::{a_named_event_led, a_place_shows_the_same};
+pub use laws::{
+    a_cut_shows_the_same, a_named_event_led, a_place_shows_the_same, an_event_names_one_state,
+};
 pub use tape::{MOST_LINES, MOST_OCTETS, Tape};
 pub use text::Text;

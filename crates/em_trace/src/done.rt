@@ -3,6 +3,7 @@
 use crate::arriving::{Arrival, Seen, Why};
 use crate::counts::Counts;
 use crate::ranges::Lines;
+use crate::rings::Room;
 use crate::text::plural;
 use anyhow::Result;
 use em_frames::is_unpadded;
@@ -51,6 +52,8 @@ pub struct Done {
     pub other_octets: u64,
     /// Those of registers that the model lacks.
     pub missing: Counts,
+    /// The memory that the script wants, where it is not the usual.
+    pub room: Option<Room>,
 }
 
 impl Done {
@@ -75,7 +78,13 @@ impl Done {
             octets: 0,
             other_octets: 0,
             missing: Counts::new(alloc)?,
+            room: None,
         })
+    }
+
+    /// The script wants this memory.
+    pub fn want(&mut self, room: Option<Room>) {
+        self.room = room;
     }
 
     /// Whether this line is asked for; one that is not is counted.

@@ -17,6 +17,7 @@ mod lines;
 mod missing;
 mod poll;
 mod ranges;
+mod rings;
 mod shown;
 mod survey;
 mod text;
@@ -28,6 +29,7 @@ use crate::done::Done;
 use crate::faults::{is_gzip, open_fault, packed, read_fault};
 use crate::frames::{Frames, packets_of};
 use crate::survey::Survey;
+use crate::text::write_text;
 use crate::translating::{Wanted, translate};
 use crate::words::{WordsRefused, parse, wanted};
 use anyhow::{Context, Result, bail};
@@ -191,9 +193,18 @@ fn written<R: Print + Eprint + AllocGlobal, B: BufRead>(
     seen: Option<Seen>,
     lines: &mut B,
 ) -> Result<u8> {
-    let mut out = BufWriter::with_capacity(rt.alloc(), BUFFER, io::writer(rt))?;
-    let mut done = translate(rt, wanted, frames, lines, &mut out)?;
+    // (the head says what memory the whole log wants)
+    let mut script = Vec::new(rt.alloc());
+    let mut done = translate(rt, wanted, frames, lines, &mut script)?;
     done.seen = seen;
+    let mut head = Vec::new(rt.alloc());
+    if let Some(room) = done.room {
+        room.write(&mut head)?;
+    }
+    done.octets = done.octets.saturating_add(head.len() as u64);
+    let mut out = BufWriter::with_capacity(rt.alloc(), BUFFER, io::writer(rt))?;
+    write_text(&mut out, head.as_slice())?;
+    write_text(&mut out, script.as_slice())?;
     out.flush().context("the script cannot be written")?;
     told_of(rt, &done)?;
     Ok(if done.is_well() { WELL } else { UNREAD })

@@ -7,6 +7,7 @@ use crate::lines::read_line;
 use crate::missing::missing_name;
 use crate::poll::Poll;
 use crate::ranges::Lines;
+use crate::rings::Rings;
 use crate::shown::{Address, value_of};
 use crate::text::{
     write_access, write_kept, write_missing, write_other_size, write_poll, write_text, write_unlike,
@@ -77,6 +78,7 @@ struct Script<'a> {
     keeps_polls: bool,
     /// The read that was written last, if more such reads would be a poll.
     poll: Option<Poll>,
+    rings: Rings,
 }
 
 /// Writes the script of a log, and says on standard error which lines cannot be read.
@@ -113,6 +115,8 @@ pub fn translate<E: Eprint + AllocGlobal, R: BufRead, W: Write>(
         script.pass(out)?;
     }
     script.end(out)?;
+    let room = script.rings.room();
+    script.done.want(room);
     Ok(script.done)
 }
 
@@ -131,6 +135,7 @@ impl<'a> Script<'a> {
             skips_others: wanted.skips_others,
             keeps_polls: wanted.keeps_polls,
             poll: None,
+            rings: Rings::NONE,
         })
     }
 
@@ -230,6 +235,7 @@ impl<'a> Script<'a> {
             let name = missing_name(access.offset).unwrap_or("no register");
             return write_missing(&mut self.lines, number, access, name, moment);
         };
+        self.rings.pass(reg, access);
         let value = value_of(access);
         if let (Reg::Rctl, Way::Write, Some(rctl)) = (reg, access.way, value) {
             self.frames.set_rctl(rctl);

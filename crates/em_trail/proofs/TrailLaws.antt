@@ -11,6 +11,7 @@ use Rattle.em_step.specs.declared.event.Answer.{Answer}
 use Rattle.em_journal.specs.View.{View, states, reach}
 use Rattle.em_journal.specs.History.{Does, performs}
 use Rattle.em_trail.specs.declared.note.Note.{Note}
+use Rattle.em_trail.specs.Dma.{dma_of}
 use Rattle.em_trail.specs.Note.{note_of}
 use Rattle.em_trail.specs.Trail.{Tells, IsTrail, HoldsTrail, newest, TellsAt}
 
@@ -56,7 +57,7 @@ take-cons (suc m) n x xs le = ap (λ l. x ∷ l) (sym (take-take m n xs (omega a
 
 -- an event was performed: of its note and those before as many are a trail as the journal has records
 trail-noted : (v w : View) (notes : List Note) (note : Note) (event : Event) (answer : Answer) (tag : ℕ)
-    → IsTrail v.present v.past notes → Does v (performs event answer) w → note ≡ note_of event answer tag
+    → IsTrail v.present v.past notes → Does v (performs event answer) w → note ≡ note_of (dma_of v.present event) event answer tag
     → IsTrail w.present w.past (take (length w.past) (note ∷ notes))
 trail-noted v w notes note event answer tag old does noted =
     let tells : Tells note v.present w.present
@@ -65,18 +66,23 @@ trail-noted v w notes note event answer tag old does noted =
     subst (λ past. IsTrail w.present past (take (length w.past) (note ∷ notes)))
     (sym (past_is v w event answer does)) (trail-take (length w.past) w.present (states v) (note ∷ notes) all)
 
+-- the ring's newest notes are then its note, and those before
+pub newest_noted : (v w : View) (old new : Buffer Note) (note : Note) (event : Event) (answer : Answer)
+    → Does v (performs event answer) w → new ≡ buffer (take old.capacity (note ∷ old.items)) old.capacity
+    → length w.past ≤ old.capacity → newest w new.items ≡ take (length w.past) (note ∷ newest v old.items)
+newest_noted v w old new note event answer does put room =
+    ap (λ (b : Buffer Note). take (length w.past) b.items) put
+    ∙ take-take (length w.past) old.capacity (note ∷ old.items) room
+    ∙ take-cons (length w.past) (length v.past) note old.items (one_more v w event answer does)
+
 -- its note was put first in the ring, which had a place for each record
 pub holds-noted : (v w : View) (old new : Buffer Note) (note : Note) (event : Event) (answer : Answer) (tag : ℕ)
-    → HoldsTrail old v → Does v (performs event answer) w → note ≡ note_of event answer tag
+    → HoldsTrail old v → Does v (performs event answer) w → note ≡ note_of (dma_of v.present event) event answer tag
     → new ≡ buffer (take old.capacity (note ∷ old.items)) old.capacity → length w.past ≤ old.capacity
     → HoldsTrail new w
 holds-noted v w old new note event answer tag held does noted put room =
-    let n = length w.past in
-    let is : newest w new.items ≡ take n (note ∷ newest v old.items)
-    = ap (λ (b : Buffer Note). take n b.items) put ∙ take-take n old.capacity (note ∷ old.items) room
-    ∙ take-cons n (length v.past) note old.items (one_more v w event answer does) in
     record {
-      trail = subst (IsTrail w.present w.past) (sym is)
+      trail = subst (IsTrail w.present w.past) (sym (newest_noted v w old new note event answer does put room))
           (trail-noted v w (newest v old.items) note event answer tag held.trail does noted);
       places = ap (λ (b : Buffer Note). b.capacity) put ∙ held.places
           ∙ ap (λ (x : View). x.budget / least_cost) (sym does.1);

@@ -1,2 +1,3 @@
+pub mod Dma
 pub mod Note
 pub mod Trail

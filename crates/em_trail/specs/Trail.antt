@@ -10,6 +10,7 @@ use Rattle.em_step.specs.declared.event.Answer.{Answer}
 use Rattle.em_journal.specs.View.{View}
 use Rattle.em_journal.specs.History.{Does, performs, goes_back}
 use Rattle.em_trail.specs.declared.note.Note.{Note}
+use Rattle.em_trail.specs.Dma.{dma_of}
 use Rattle.em_trail.specs.Note.{note_of}
 
 pub record Trail : Type 0 where
@@ -30,7 +31,7 @@ pub record Tells (note : Note) (before after : State) : Type 0 where
   pub answer : Answer
   pub tag : ℕ
   pub stepped : step before event ≡ Ok (answer, after)
-  pub noted : note ≡ note_of event answer tag
+  pub noted : note ≡ note_of (dma_of before event) event answer tag
 
 -- as many notes as states to go back to, and each tells of the event that led away from the state beside it
 abbrev pub IsTrail : State → List State → List Note → Type 0
@@ -56,7 +57,7 @@ starting view = record { view = view; notes = [] }
 -- an event was performed: its note comes first, and as many stay as the journal has records
 pub record Noted (old new : Trail) (tag : ℕ) (event : Event) (answer : Answer) : Type 0 where
   pub performed : Does old.view (performs event answer) new.view
-  pub notes : new.notes ≡ take (length new.view.past) (note_of event answer tag ∷ old.notes)
+  pub notes : new.notes ≡ take (length new.view.past) (note_of (dma_of old.view.present event) event answer tag ∷ old.notes)
 
 -- the newest event was taken back, and the note told of it
 pub record TakesBack (old new : Trail) (note : Note) : Type 0 where

@@ -2,6 +2,7 @@
 #![tactic(auto)]
 
 mod acts;
+mod dma;
 mod note;
 mod traced;
 

@@ -1,8 +1,9 @@
 //! What is kept of an event.
 ghost use Rattle.std.specs.Prelude.{◌≡◌};
 ghost use Rattle.em_step.specs.Event.{plain};
-ghost use Rattle.em_trail.specs.Note.{note_of, value_of, arrived, received, sent};
+ghost use Rattle.em_trail.specs.Note.{plain_note, note_of, value_of, arrived, received, sent, stepped};
 
+use crate::dma::Dma;
 use em_step::{Answer, Event, Reason};
 use std::mem::size_of;
 
@@ -35,24 +36,30 @@ pub enum Kind {
     Sent,
 }
 
-/// An event that was performed, in 32 octets.
+/// An event that was performed, in 40 octets.
 #[derive(Clone, Copy, PartialEq, Eq, Debug)]
 pub struct Note {
     /// What the caller calls it by: a line's number, a program counter.
     pub tag: u64,
-    /// Of an access the register's offset, of a memory write its address; else 0.
+    /// Of an access the register's offset, of a memory write its address, of an engine's step that was not idle its
+    /// descriptor's address; else 0.
     pub at: u64,
+    /// Of an engine's step that was not idle, where in guest memory the octets lie that it wrote into its buffer or read
+    /// there; else 0, as of no octets.
+    pub buffer: u64,
     /// How many octets: of an access 4, of a memory write those written, of an arrival or a frame that was sent
     /// the frame's; else 0.
     pub length: u32,
     /// Of a read the value that it gave, of a write the value written, of an engine's step that was not idle the
     /// descriptor's index; else 0.
     pub value: u32,
+    /// How many octets an engine's step wrote into its buffer or read there; else 0.
+    pub octets: u32,
     /// What it was.
     pub kind: Kind,
 }
 
-const _: () = prove!(size_of::<Note>() == 32);
+const _: () = prove!(size_of::<Note>() == 40);
 
 /// How many octets an access has.
 const WORD: u32 = 4;
@@ -60,49 +67,65 @@ const WORD: u32 = 4;
 /// One more than the greatest 32-bit length.
 const LENGTHS: usize = 0x1_0000_0000;
 
-/// The note of an event that was answered so.
+/// The note of an event that had this to do with guest memory, and was answered so.
 #[inline(always)]
-pub(crate) fn note_of(event: Event<'_>, answer: Answer, tag: u64) -> Note
-    ensures { result ≡ note_of (plain event.entry) answer tag }
+pub(crate) fn note_of(dma: Dma, event: Event<'_>, answer: Answer, tag: u64) -> Note
+    ensures { result ≡ note_of dma (plain event.entry) answer tag }
 {
     match event {
-        Event::Read(offset) => Note {
+        Event::Read(offset) => plain_note(
             tag,
-            at: u64::from(offset),
-            length: WORD,
-            value: value_of(answer),
-            kind: Kind::Read,
-        },
-        Event::Write(offset, value) => Note {
+            u64::from(offset),
+            WORD,
+            value_of(answer),
+            Kind::Read,
+        ),
+        Event::Write(offset, value) => plain_note(tag, u64::from(offset), WORD, value, Kind::Write),
+        Event::Poke(addr, octets) => {
+            plain_note(tag, addr, (octets.len() % LENGTHS) as u32, 0, Kind::Poke)
+        }
+        Event::Arrive(frame) => plain_note(
             tag,
-            at: u64::from(offset),
-            length: WORD,
-            value,
-            kind: Kind::Write,
-        },
-        Event::Poke(addr, octets) => Note {
-            tag,
-            at: addr,
-            length: (octets.len() % LENGTHS) as u32,
-            value: 0,
-            kind: Kind::Poke,
-        },
-        Event::Arrive(frame) => Note {
-            tag,
-            at: 0,
-            length: (frame.len() % LENGTHS) as u32,
-            value: 0,
-            kind: arrived(answer),
-        },
-        Event::Link(up) => Note {
-            tag,
-            at: 0,
-            length: 0,
-            value: 0,
-            kind: if up { Kind::LinkUp } else { Kind::LinkDown },
-        },
-        Event::RxStep => received(answer, tag),
-        Event::TxStep => sent(answer, tag),
+            0,
+            (frame.len() % LENGTHS) as u32,
+            0,
+            arrived(answer),
+        ),
+        Event::Link(true) => plain_note(tag, 0, 0, 0, Kind::LinkUp),
+        Event::Link(false) => plain_note(tag, 0, 0, 0, Kind::LinkDown),
+        Event::RxStep => received(dma, answer, tag),
+        Event::TxStep => sent(dma, answer, tag),
+    }
+}
+
+/// The note of an event that is no step of an engine, or an idle one.
+#[inline(always)]
+fn plain_note(tag: u64, at: u64, length: u32, value: u32, kind: Kind) -> Note
+    ensures { result ≡ plain_note tag at length value kind }
+{
+    Note {
+        tag,
+        at,
+        buffer: 0,
+        length,
+        value,
+        octets: 0,
+        kind,
+    }
+}
+
+/// The note of a step of an engine: how many octets its frame has, and its descriptor's index.
+fn stepped(dma: Dma, tag: u64, frame: u32, index: u32, kind: Kind) -> Note
+    ensures { result ≡ stepped dma tag frame index kind }
+{
+    Note {
+        tag,
+        at: dma.descriptor,
+        buffer: dma.buffer.at,
+        length: frame,
+        value: index,
+        octets: (dma.buffer.len % LENGTHS as u64) as u32,
+        kind,
     }
 }
 
@@ -127,36 +150,22 @@ fn arrived(answer: Answer) -> Kind
 }
 
 /// The note of a step of the receive engine.
-fn received(answer: Answer, tag: u64) -> Note
-    ensures { result ≡ received answer tag }
+fn received(dma: Dma, answer: Answer, tag: u64) -> Note
+    ensures { result ≡ received dma answer tag }
 {
-    let (value, kind) = match answer {
-        Answer::Wrote { index } => (index, Kind::Wrote),
-        _ => (0, Kind::ReceiveIdle),
-    };
-    Note {
-        tag,
-        at: 0,
-        length: 0,
-        value,
-        kind,
+    match answer {
+        Answer::Wrote { index } => stepped(dma, tag, 0, index, Kind::Wrote),
+        _ => plain_note(tag, 0, 0, 0, Kind::ReceiveIdle),
     }
 }
 
 /// The note of a step of the transmit engine.
-fn sent(answer: Answer, tag: u64) -> Note
-    ensures { result ≡ sent answer tag }
+fn sent(dma: Dma, answer: Answer, tag: u64) -> Note
+    ensures { result ≡ sent dma answer tag }
 {
-    let (length, value, kind) = match answer {
-        Answer::Fetched { index } => (0, index, Kind::Fetched),
-        Answer::Sent { index, octets } => (octets, index, Kind::Sent),
-        _ => (0, 0, Kind::TransmitIdle),
-    };
-    Note {
-        tag,
-        at: 0,
-        length,
-        value,
-        kind,
+    match answer {
+        Answer::Fetched { index } => stepped(dma, tag, 0, index, Kind::Fetched),
+        Answer::Sent { index, octets } => stepped(dma, tag, octets, index, Kind::Sent),
+        _ => plain_note(tag, 0, 0, 0, Kind::TransmitIdle),
     }
 }

@@ -7,6 +7,7 @@ ghost use Rattle.em_step.specs.Step.{Refuses};
 ghost use Rattle.em_journal.specs.View.{after_backs, states};
 ghost use Rattle.em_trail.specs.Trail.{Noted, TakesBack, TellsAt, starting};
 
+use crate::dma::{Dma, dma_of};
 use crate::note::{Note, note_of};
 use circular_buffer::HeapCircularBuffer;
 use em_journal::{Empty, Machine};
@@ -69,10 +70,11 @@ impl Traced {
         ensures err { IfErr result (λ refusal. Refuses self.old.view.present (plain event.entry) refusal) }
         ensures same { OnErr result (self.new ≡ self.old) }
     {
+        let dma = dma_of(&self.machine, event);
         let answer = self.machine.perform(event)?;
         // A full ring drops its oldest note. That one is not needed, since there are no more records than places.
         prove!(self.machine.can_go_back() <= self.notes.capacity());
-        self.notes.push_front(note_of(event, answer, tag));
+        self.notes.push_front(note_of(dma, event, answer, tag));
         Ok(answer)
     }
 
@@ -85,7 +87,12 @@ impl Traced {
     {
         let value = self.machine.read_register(reg);
         prove!(self.machine.can_go_back() <= self.notes.capacity());
-        self.notes.push_front(note_of(Event::Read(reg.offset()), Answer::Value(value), tag));
+        self.notes.push_front(note_of(
+            Dma::none(),
+            Event::Read(reg.offset()),
+            Answer::Value(value),
+            tag,
+        ));
         value
     }
 
@@ -100,7 +107,12 @@ impl Traced {
     {
         self.machine.write_register(reg, value)?;
         prove!(self.machine.can_go_back() <= self.notes.capacity());
-        self.notes.push_front(note_of(Event::Write(reg.offset(), value), Answer::Done, tag));
+        self.notes.push_front(note_of(
+            Dma::none(),
+            Event::Write(reg.offset(), value),
+            Answer::Done,
+            tag,
+        ));
         Ok(())
     }
 

@@ -24,7 +24,7 @@ use Rattle.std.specs.Prelude.{nat_lt}
 use Rattle.std.proofs.Common.{length-append}
 use Rattle.std.proofs.lemmas.List.{length-take}
 use Rattle.std.proofs.lemmas.Bool.Decides.{nat_tests}
-use Rattle.em_mem.specs.Memory.{part}
+use Rattle.em_mem.specs.Memory.{leaves, part}
 use Rattle.em_regs.specs.declared.setup.TxSetup.{TxSetup}
 use Rattle.em_tx.specs.declared.answer.TxAnswer.{TxAnswer}
 use Rattle.em_tx.specs.declared.answer.TxAnswer.TheVariants.{Idle}
@@ -44,9 +44,9 @@ few_by_test false true rest is = cc
 few_by_test false false rest is = refl
 
 -- a descriptor that is not refused leaves at most 16,380 octets gathered
-few : (g m d : List ℕ) → refusal g m d ≡ None → length g + length_of d ≤ 16380
+few : (base : ℕ) (g m d : List ℕ) → refusal base g m d ≡ None → length g + length_of d ≤ 16380
 unfolding refusal
-few g m d none =
+few base g m d none =
     let small : nat_lt 16380 (length g + length_of d) ≡ false
     = few_by_test (dext d) (nat_lt 16380 (length g + length_of d)) _ none in
     grind (arith, nat_tests)
@@ -84,12 +84,14 @@ of_refusal : (o : Option TxRefusal) (y r : TxAnswer × Shown) (n : ℕ)
 of_refusal None y r n then is = then refl
 of_refusal (Some refused) y r n then is = cc
 
-pub cost_most : (q : TxSetup) (s : Shown) (r : TxAnswer × Shown) → transmit q s ≡ Ok r → cost q s ≤ 32765
+pub cost_most : (q : TxSetup) (base : ℕ) (s : Shown) (r : TxAnswer × Shown) → transmit q base s ≡ Ok r
+    → cost q s ≤ 32765
 unfolding transmit
-cost_most q s r is =
+cost_most q base s r is =
     let d = part s.memory (place q) 16 in
     let n = handling_cost q d s in
-    let small = λ (none : refusal s.gathered s.memory d ≡ None). handling_most q d s (few s.gathered s.memory d none) in
+    let small = λ (none : refusal base s.gathered s.memory d ≡ None). handling_most q d s
+    (few base s.gathered s.memory d none) in
     of_idle (is_idle q) _ s r n
-    (of_range (nat_lt (length s.memory) (place q + 16)) _ r n
-    (of_refusal (refusal s.gathered s.memory d) (handle q d s) r n small)) is
+    (of_range (leaves base s.memory (place q) 16) _ r n
+    (of_refusal (refusal base s.gathered s.memory d) (handle q d s) r n small)) is

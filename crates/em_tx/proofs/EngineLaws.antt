@@ -21,9 +21,9 @@ use Rattle.std.proofs.Common.{
   subst,
   arith,
 }
-use Rattle.std.specs.Prelude.{nat_lt, not, IsOk}
-use Rattle.std.proofs.lemmas.Bool.Decides.{nat_tests}
-use Rattle.em_mem.specs.Memory.{IsHeld, part}
+use Rattle.std.specs.Prelude.{not, IsOk}
+use Rattle.em_mem.specs.Memory.{LiesIn, leaves, part}
+use Rattle.em_mem.proofs.NeedsLaws.{stays_in}
 use Rattle.em_regs.specs.declared.setup.TxSetup.{TxSetup}
 use Rattle.em_tx.specs.declared.answer.TxAnswer.{TxAnswer}
 use Rattle.em_tx.specs.declared.answer.TxAnswer.TheVariants.{Idle}
@@ -34,43 +34,43 @@ use Rattle.em_tx.specs.Cells.{Gathered, Shown, cells, shows}
 use Rattle.em_tx.specs.Engine.{refusal, handle, unless, transmit, Refuses}
 use Rattle.em_tx.specs.Ring.{is_idle, place}
 
-pub transmit-idle : (q : TxSetup) (s : Shown) → is_idle q ≡ true → transmit q s ≡ Ok (Idle, s)
+pub transmit-idle : (q : TxSetup) (base : ℕ) (s : Shown) → is_idle q ≡ true → transmit q base s ≡ Ok (Idle, s)
 unfolding transmit
-transmit-idle q s none = rw none refl
+transmit-idle q base s none = rw none refl
 
-pub Refuses-off_memory : (q : TxSetup) (s : Shown) → is_idle q ≡ false
-    → length s.memory < place q + 16 → Refuses q s DmaRange
+pub Refuses-off_memory : (q : TxSetup) (base : ℕ) (s : Shown) → is_idle q ≡ false
+    → leaves base s.memory (place q) 16 ≡ true → Refuses q base s DmaRange
 unfolding transmit
-Refuses-off_memory q s some past =
-    let test : nat_lt (length s.memory) (place q + 16) ≡ true = grind (arith, nat_tests) in
-    inr (rw (some, test) refl)
+Refuses-off_memory q base s some out = inr (rw (some, out) refl)
 
 -- a descriptor d that lies in memory
-transmit-at_descriptor : (q : TxSetup) (s : Shown) (d : List ℕ) → is_idle q ≡ false → IsHeld s.memory (place q) 16
-    → d ≡ part s.memory (place q) 16 → transmit q s ≡ unless (refusal s.gathered s.memory d) (handle q d s)
+transmit-at_descriptor : (q : TxSetup) (base : ℕ) (s : Shown) (d : List ℕ) → is_idle q ≡ false
+    → LiesIn base s.memory (place q) 16
+    → d ≡ part s.memory (place q) 16 → transmit q base s ≡ unless (refusal base s.gathered s.memory d) (handle q d s)
 unfolding transmit
-transmit-at_descriptor q s d some held is =
-    let test : nat_lt (length s.memory) (place q + 16) ≡ false = grind (arith, nat_tests) in
-    rw (some, test) (ap (λ e. unless (refusal s.gathered s.memory e) (handle q e s)) (sym is))
+transmit-at_descriptor q base s d some held is =
+    let test : leaves base s.memory (place q) 16 ≡ false = stays_in base s.memory (place q) 16 held in
+    rw (some, test) (ap (λ e. unless (refusal base s.gathered s.memory e) (handle q e s)) (sym is))
 
-pub Refuses-refusal : (q : TxSetup) (s : Shown) (d : List ℕ) {e : TxRefusal} → is_idle q ≡ false
-    → IsHeld s.memory (place q) 16 → d ≡ part s.memory (place q) 16
-    → refusal s.gathered s.memory d ≡ Some e → Refuses q s e
-Refuses-refusal q s d {e = e} some held is why =
-    inr (transmit-at_descriptor q s d some held is ∙ ap (λ o. unless o (handle q d s)) why)
+pub Refuses-refusal : (q : TxSetup) (base : ℕ) (s : Shown) (d : List ℕ) {e : TxRefusal} → is_idle q ≡ false
+    → LiesIn base s.memory (place q) 16 → d ≡ part s.memory (place q) 16
+    → refusal base s.gathered s.memory d ≡ Some e → Refuses q base s e
+Refuses-refusal q base s d {e = e} some held is why =
+    inr (transmit-at_descriptor q base s d some held is ∙ ap (λ o. unless o (handle q d s)) why)
 
-pub transmit-handle : (q : TxSetup) (s : Shown) (d : List ℕ) {r : TxAnswer × Shown} → is_idle q ≡ false
-    → IsHeld s.memory (place q) 16 → d ≡ part s.memory (place q) 16
-    → refusal s.gathered s.memory d ≡ None → r ≡ handle q d s → transmit q s ≡ Ok r
-transmit-handle q s d {r = r} some held is allowed same =
-    transmit-at_descriptor q s d some held is ∙ ap (λ o. unless o (handle q d s)) allowed ∙ ap Ok (sym same)
+pub transmit-handle : (q : TxSetup) (base : ℕ) (s : Shown) (d : List ℕ) {r : TxAnswer × Shown} → is_idle q ≡ false
+    → LiesIn base s.memory (place q) 16 → d ≡ part s.memory (place q) 16
+    → refusal base s.gathered s.memory d ≡ None → r ≡ handle q d s → transmit q base s ≡ Ok r
+transmit-handle q base s d {r = r} some held is allowed same =
+    transmit-at_descriptor q base s d some held is ∙ ap (λ o. unless o (handle q d s)) allowed ∙ ap Ok (sym same)
 
-pub Refuses-memory : (q : TxSetup) (s : Shown) (d : List ℕ) {e : TxRefusal} → is_idle q ≡ false
-    → IsHeld s.memory (place q) 16 → d ≡ part s.memory (place q) 16
-    → refusal s.gathered s.memory d ≡ None → e ≡ Memory → Refuses q s e
-Refuses-memory q s d {e = e} some held is allowed memory =
+pub Refuses-memory : (q : TxSetup) (base : ℕ) (s : Shown) (d : List ℕ) {e : TxRefusal} → is_idle q ≡ false
+    → LiesIn base s.memory (place q) 16 → d ≡ part s.memory (place q) 16
+    → refusal base s.gathered s.memory d ≡ None → e ≡ Memory → Refuses q base s e
+Refuses-memory q base s d {e = e} some held is allowed memory =
     let turn : IsTrue (not (is_idle q)) = ap not some in
-    let well : IsOk (transmit q s) = subst IsOk (sym (transmit-handle q s d some held is allowed refl)) refl in
+    let well : IsOk (transmit q base s) = subst IsOk (sym
+    (transmit-handle q base s d some held is allowed refl)) refl in
     inl (memory, turn, well)
 
 -- the same is shown where the parts are the same

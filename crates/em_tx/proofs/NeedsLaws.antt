@@ -1,14 +1,14 @@
 -- A transmit step over one memory, by the step over another one that agrees on what it reads.
-use Rattle.std.proofs.Common.{◌≡◌, ◌∙◌, ℕ, ◌+◌, Bool, true, false, nat_lt, if◌then◌else◌, List, [], ◌∷◌, ◌++◌}
+use Rattle.std.proofs.Common.{◌≡◌, ◌∙◌, ℕ, ◌+◌, Bool, true, false, nat_lt, ◌||◌, if◌then◌else◌, List, [], ◌∷◌, ◌++◌}
 use Rattle.std.proofs.Common.{length, take, Option, Some, None, Result, Ok, Err, refl, sym, ap, arith}
 use Rattle.std.proofs.lemmas.Bool.Decides.{nat_tests}
 use Rattle.std.proofs.lemmas.List.Elements.{All-head, All-tail}
 use Rattle.em_mem.specs.declared.needs.Needs.{Needs}
 use Rattle.em_mem.specs.declared.needs.Range.{Range}
 use Rattle.em_mem.specs.Memory as mem
-use Rattle.em_mem.specs.Memory.{IsHeld, part, put}
+use Rattle.em_mem.specs.Memory.{LiesIn, leaves, part, put}
 use Rattle.em_mem.specs.Needs.{AgreeOn, no_octets, nothing, with_octets_of}
-use Rattle.em_mem.proofs.NeedsLaws.{agree_first, held_by_test, one_taken_out}
+use Rattle.em_mem.proofs.NeedsLaws.{agree_first, held_by_test, lies_by_test, one_taken_out, stays_in}
 use Rattle.em_regs.specs.declared.setup.TxSetup.{TxSetup}
 use Rattle.em_tx.specs.Cells.{Shown}
 use Rattle.em_tx.specs.Descriptor.{address, length_of, rs}
@@ -23,19 +23,19 @@ use Rattle.em_tx.specs.declared.refusal.TxRefusal.{TxRefusal}
 use Rattle.em_tx.specs.declared.refusal.TxRefusal.TheVariants.{DmaRange}
 
 -- a refusal looks at the size of memory alone
-refusal_same : (g m n d : List ℕ) → length m ≡ length n → refusal g m d ≡ refusal g n d
+refusal_same : (base : ℕ) (g m n d : List ℕ) → length m ≡ length n → refusal base g m d ≡ refusal base g n d
 unfolding refusal
-refusal_same g m n d size = rw size refl
+refusal_same base g m n d size = rw size refl
 
-module _ (q : TxSetup) (s : Shown) (m n : List ℕ) where
+module _ (q : TxSetup) (base : ℕ) (s : Shown) (m n : List ℕ) where
   abbrev g : List ℕ
   g = s.gathered
 
   abbrev octets_at : List ℕ → List ℕ
   octets_at x = part x (place q) 16
 
-  abbrev leaves : List ℕ → Bool
-  leaves x = nat_lt (length x) (place q + 16)
+  abbrev is_out : List ℕ → Bool
+  is_out x = leaves base x (place q) 16
 
   abbrev IsSame : Type 0
   IsSame = octets_at m ≡ octets_at n
@@ -50,15 +50,15 @@ module _ (q : TxSetup) (s : Shown) (m n : List ℕ) where
       else unless refused (handle q d (over s x))
 
   transmit_is : (x : List ℕ)
-      → transmit q (over s x) ≡ transmit_if x (octets_at x) (is_idle q) (leaves x) (refusal g x (octets_at x))
+      → transmit q base (over s x) ≡ transmit_if x (octets_at x) (is_idle q) (is_out x) (refusal base g x (octets_at x))
   unfolding transmit
   transmit_is x = refl
 
-  same_leaves : length m ≡ length n → leaves m ≡ leaves n
-  same_leaves size = ap (λ (k : ℕ). nat_lt k (place q + 16)) size
+  same_leaves : length m ≡ length n → is_out m ≡ is_out n
+  same_leaves size = ap (λ (k : ℕ). nat_lt (place q) base || nat_lt k (place q + 16)) size
 
-  same_refusal : length m ≡ length n → IsSame → refusal g m (octets_at m) ≡ refusal g n (octets_at n)
-  same_refusal size same = refusal_same g m n (octets_at m) size ∙ ap (refusal g n) same
+  same_refusal : length m ≡ length n → IsSame → refusal base g m (octets_at m) ≡ refusal base g n (octets_at n)
+  same_refusal size same = refusal_same base g m n (octets_at m) size ∙ ap (refusal base g n) same
 
   first_if : (idle out : Bool) (d e : List ℕ) (r t : Option TxRefusal)
       → take 1 (needs_if d idle out r).reads ≡ take 1 (needs_if e idle out t).reads
@@ -102,11 +102,11 @@ module _ (q : TxSetup) (s : Shown) (m n : List ℕ) where
       )
 
   -- what is written is taken out
-  report_if : (b : Bool) → IsHeld n (place q) 16
+  report_if : (b : Bool) → LiesIn base n (place q) 16
       → (if b then put m (place q + 12) (1 ∷ []) else m)
       ≡ with_octets_of m (if b then put n (place q + 12) (1 ∷ []) else n)
       ((if b then record { at = place q + 12; len = 1 } else no_octets) ∷ no_octets ∷ [])
-  report_if true held = sym (one_taken_out m n (place q + 12) (1 ∷ []) (omega (arith, held)))
+  report_if true held = sym (one_taken_out m n (place q + 12) (1 ∷ []) (omega (arith, held.to)))
   report_if false held = refl
 
   abbrev handled : List ℕ → List ℕ → List ℕ → Bool → TxAnswer × Shown
@@ -126,7 +126,7 @@ module _ (q : TxSetup) (s : Shown) (m n : List ℕ) where
   unfolding handle
   handle_is x d = refl
 
-  handle_over : (d : List ℕ) → IsHeld n (place q) 16 → AgreeOn m n (needs_of q d None).reads
+  handle_over : (d : List ℕ) → LiesIn base n (place q) 16 → AgreeOn m n (needs_of q d None).reads
       → handle q d (over s m) ≡ (
         (handle q d (over s n)).0,
         over (handle q d (over s n)).1 (with_octets_of m (handle q d (over s n)).1.memory (needs_of q d None).writes),
@@ -145,12 +145,12 @@ module _ (q : TxSetup) (s : Shown) (m n : List ℕ) where
       ∙ ap (λ (r : TxAnswer × Shown). (r.0, over r.1 (with_octets_of m r.1.memory (needs_of q d None).writes)))
       (sym (handle_is n d))
 
-  unless_by : (d : List ℕ) (t : Option TxRefusal) → IsHeld n (place q) 16 → AgreeOn m n (needs_of q d t).reads
+  unless_by : (d : List ℕ) (t : Option TxRefusal) → LiesIn base n (place q) 16 → AgreeOn m n (needs_of q d t).reads
       → unless t (handle q d (over s m)) ≡ taken_into m (needs_of q d t).writes (unless t (handle q d (over s n)))
   unless_by d None held agree = ap Ok (handle_over d held agree)
   unless_by d (Some x) held agree = refl
 
-  step_by : (idle out : Bool) (r t : Option TxRefusal) → (IsSame → r ≡ t) → (out ≡ false → IsHeld n (place q) 16)
+  step_by : (idle out : Bool) (r t : Option TxRefusal) → (IsSame → r ≡ t) → (out ≡ false → LiesIn base n (place q) 16)
       → AgreeOn m n (needs_if (octets_at n) idle out t).reads
       → transmit_if m (octets_at m) idle out r
       ≡ taken_into m (needs_if (octets_at n) idle out t).writes (transmit_if n (octets_at n) idle out t)
@@ -161,48 +161,49 @@ module _ (q : TxSetup) (s : Shown) (m n : List ℕ) where
       (λ i. unless (test same i) (handle q (same i) (over s m)))
       ∙ unless_by (octets_at n) t (held refl) agree
 
-  pub first_same : length m ≡ length n → take 1 (needs q g m).reads ≡ take 1 (needs q g n).reads
+  pub first_same : length m ≡ length n → take 1 (needs q base g m).reads ≡ take 1 (needs q base g n).reads
   first_same size =
-      ap (λ (b : Bool). take 1 (needs_if (octets_at m) (is_idle q) b (refusal g m (octets_at m))).reads)
+      ap (λ (b : Bool). take 1 (needs_if (octets_at m) (is_idle q) b (refusal base g m (octets_at m))).reads)
       (same_leaves size)
-      ∙ first_if (is_idle q) (leaves n) (octets_at m) (octets_at n) (refusal g m (octets_at m))
-      (refusal g n (octets_at n))
+      ∙ first_if (is_idle q) (is_out n) (octets_at m) (octets_at n) (refusal base g m (octets_at m))
+      (refusal base g n (octets_at n))
 
-  pub needs_same : AgreeOn m n (take 1 (needs q g n).reads) → needs q g m ≡ needs q g n
+  pub needs_same : AgreeOn m n (take 1 (needs q base g n).reads) → needs q base g m ≡ needs q base g n
   needs_same agree =
-      ap (λ (b : Bool). needs_if (octets_at m) (is_idle q) b (refusal g m (octets_at m))) (same_leaves agree.size)
-      ∙ needs_by (is_idle q) (leaves n) (refusal g m (octets_at m)) (refusal g n (octets_at n))
+      ap (λ (b : Bool). needs_if (octets_at m) (is_idle q) b (refusal base g m (octets_at m))) (same_leaves agree.size)
+      ∙ needs_by (is_idle q) (is_out n) (refusal base g m (octets_at m)) (refusal base g n (octets_at n))
       (same_refusal agree.size) agree
 
-  pub step_same : AgreeOn m n (needs q g n).reads
-      → transmit q (over s m) ≡ taken_into m (needs q g n).writes (transmit q (over s n))
+  pub step_same : AgreeOn m n (needs q base g n).reads
+      → transmit q base (over s m) ≡ taken_into m (needs q base g n).writes (transmit q base (over s n))
   step_same agree =
       transmit_is m
-      ∙ ap (λ (b : Bool). transmit_if m (octets_at m) (is_idle q) b (refusal g m (octets_at m)))
+      ∙ ap (λ (b : Bool). transmit_if m (octets_at m) (is_idle q) b (refusal base g m (octets_at m)))
       (same_leaves agree.size)
-      ∙ step_by (is_idle q) (leaves n) (refusal g m (octets_at m)) (refusal g n (octets_at n))
-      (same_refusal agree.size) (held_by_test (length n) (place q + 16)) agree
-      ∙ ap (taken_into m (needs q g n).writes) (sym (transmit_is n))
+      ∙ step_by (is_idle q) (is_out n) (refusal base g m (octets_at m)) (refusal base g n (octets_at n))
+      (same_refusal agree.size) (lies_by_test base n (place q) 16) agree
+      ∙ ap (taken_into m (needs q base g n).writes) (sym (transmit_is n))
 
 -- a descriptor that is handled writes its status octet
-pub handled_writes : (q : TxSetup) (g m d : List ℕ) → is_idle q ≡ false → IsHeld m (place q) 16
-    → d ≡ part m (place q) 16 → refusal g m d ≡ None
-    → status (place q) d ∷ no_octets ∷ [] ≡ (needs q g m).writes
-handled_writes q g m d busy held is allowed =
-    let inside : nat_lt (length m) (place q + 16) ≡ false = grind (arith, nat_tests) in
+pub handled_writes : (q : TxSetup) (base : ℕ) (g m d : List ℕ) → is_idle q ≡ false → LiesIn base m (place q) 16
+    → d ≡ part m (place q) 16 → refusal base g m d ≡ None
+    → status (place q) d ∷ no_octets ∷ [] ≡ (needs q base g m).writes
+handled_writes q base g m d busy held is allowed =
+    let inside : leaves base m (place q) 16 ≡ false = stays_in base m (place q) 16 held in
     sym (
     rw (busy, inside) (
-    ap (λ (x : List ℕ). (needs_of q x (refusal g m x)).writes) (sym is)
+    ap (λ (x : List ℕ). (needs_of q x (refusal base g m x)).writes) (sym is)
     ∙ ap (λ (t : Option TxRefusal). (needs_of q d t).writes) allowed
     )
     )
 
 -- an idle step writes nothing
-pub idle_writes : (q : TxSetup) (g m : List ℕ) → is_idle q ≡ true → no_octets ∷ no_octets ∷ [] ≡ (needs q g m).writes
-idle_writes q g m idle = rw idle refl
+pub idle_writes : (q : TxSetup) (base : ℕ) (g m : List ℕ) → is_idle q ≡ true
+    → no_octets ∷ no_octets ∷ [] ≡ (needs q base g m).writes
+idle_writes q base g m idle = rw idle refl
 
 -- before a step memory was as it is, but where its record says
 pub status_before : (m : mem.Cells) (status : Option mem.Patch) → StatusFits m status
     → with_octets_of m.octets (status_undo m status).octets (written_at status ∷ []) ≡ (status_undo m status).octets
 status_before m None fits = refl
-status_before m (Some status) fits = one_taken_out m.octets m.octets status.at status.octets fits.held
+status_before m (Some status) fits = one_taken_out m.octets m.octets status.at status.octets fits.held.to

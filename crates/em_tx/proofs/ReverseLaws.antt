@@ -8,6 +8,7 @@ use Rattle.em_regs.specs.declared.setup.TxSetup.{TxSetup}
 use Rattle.em_tx.specs.Cells.{Cells, cells, with_room}
 use Rattle.em_tx.specs.Frame.{tag_of, frame, without_tag}
 use Rattle.em_tx.specs.Change.{sent_with}
+use Rattle.em_tx.specs.declared.change.Sent.TheVariants.{NoFrame}
 use Rattle.em_tx.specs.Undo.{FrameFits, Reverses, SentFits, StatusReverses, front_of, gathered_before}
 use Rattle.em_tx.specs.Undo.{last_of, status_undo, wire_before}
 use Rattle.em_tx.specs.declared.undo.TxUndo.TheVariants.{Step}
@@ -27,6 +28,7 @@ front_of-append w f = ap (λ n. take n (w ++ f ∷ [])) (length-before_last w f)
 -- memory that is as it was has the same pages made
 MorePages-same : (m n : mem.Cells) → n ≡ m → mem.MorePages m n
 MorePages-same m n is = record {
+  base = ap (λ x. x.base) is;
   octets = ap (λ x. x.octets) is;
   made = λ p made. subst (λ x. mem.IsPageMade x p) (sym is) made;
 }
@@ -84,3 +86,17 @@ Reverses-send q d {old = old} {o = o} new g {w = w} {v = v} m n cost {count = k}
         memory = MorePages-same m (status_undo n status) back.restores;
       };
     }
+
+-- octets that were gathered behind those are cut off
+pub Reverses-fetch : {old o : List ℕ} (new : List ℕ) {w : List (List ℕ)} (m n : mem.Cells) (cost : ℕ) {count : ℕ}
+    {status : Option mem.Patch} → o ≡ old ++ new → count ≡ length old → StatusReverses m n status
+    → Reverses (cells (with_room old) w m) (cells (with_room o) w n)
+    (Step (record { count = count; cost = cost; sent = NoFrame; status = status }))
+Reverses-fetch {old = old} {o = o} new {w = w} m n cost {count = k} {status = status} is_o count back = record {
+  fits = (omega (arith, ap length is_o, length-append old new, count), back.fits);
+  restores = record {
+    gathered = record { octets = ap (take k) is_o ∙ take_at old new k (sym count); room = λ room. room };
+    wire = refl;
+    memory = MorePages-same m (status_undo n status) back.restores;
+  };
+}

@@ -25,7 +25,7 @@ use Rattle.std.specs.Prelude.{
   IsOk,
   IsTrue,
 }
-use Rattle.em_mem.specs.Memory.{IsHeld, part, put}
+use Rattle.em_mem.specs.Memory.{LiesIn, leaves, part, put}
 use Rattle.em_regs.specs.declared.setup.TxSetup.{TxSetup}
 use Rattle.em_tx.specs.declared.answer.TxAnswer.{TxAnswer}
 use Rattle.em_tx.specs.declared.answer.TxAnswer.TheVariants.{Idle, Fetched, Sent}
@@ -36,19 +36,19 @@ use Rattle.em_tx.specs.Descriptor.{address, length_of, eop, rs, dext}
 use Rattle.em_tx.specs.Frame.{frame, kind_sent}
 use Rattle.em_tx.specs.Ring.{is_idle, place, next, causes}
 
--- the first cause that refuses the descriptor d, over gathered octets and memory; of a length of 0 the address is not
--- looked at
-unfoldable pub refusal : List ℕ → List ℕ → List ℕ → Option TxRefusal
-refusal g m d =
+-- the first cause that refuses the descriptor d, over gathered octets and memory from a base on; of a length of 0 the
+-- address is not looked at
+unfoldable pub refusal : ℕ → List ℕ → List ℕ → List ℕ → Option TxRefusal
+refusal base g m d =
     if dext d then Some Extended
     else if nat_lt 16380 (length g + length_of d) then Some TooLong
-    else if nat_lt 0 (length_of d) && nat_lt (length m) (address d + length_of d) then Some DmaRange
+    else if nat_lt 0 (length_of d) && leaves base m (address d) (length_of d) then Some DmaRange
     else None
 
 -- a descriptor with no cause of a refusal
-pub record Allows (g m d : List ℕ) : Type 0 where
+pub record Allows (base : ℕ) (g m d : List ℕ) : Type 0 where
   pub few : length g + length_of d ≤ 16380
-  pub held : 0 < length_of d → IsHeld m (address d) (length_of d)
+  pub held : 0 < length_of d → LiesIn base m (address d) (length_of d)
 
 -- gathered octets, and after them those that memory has in the descriptor's buffer
 abbrev pub with_buffer : List ℕ → List ℕ → List ℕ → List ℕ
@@ -91,17 +91,17 @@ abbrev pub unless : {A : Type 0} → Option TxRefusal → A → Result A TxRefus
 unless None x = Ok x
 unless (Some refused) x = Err refused
 
--- the answer and what is shown next, or the first cause of a refusal
-unfoldable pub transmit : TxSetup → Shown → Result (TxAnswer × Shown) TxRefusal
-transmit q s =
+-- the answer and what is shown next, or the first cause of a refusal, where memory begins at a base
+unfoldable pub transmit : TxSetup → ℕ → Shown → Result (TxAnswer × Shown) TxRefusal
+transmit q base s =
     if is_idle q then Ok (Idle, s)
-    else if nat_lt (length s.memory) (place q + 16) then Err DmaRange
-    else let d = part s.memory (place q) 16 in unless (refusal s.gathered s.memory d) (handle q d s)
+    else if leaves base s.memory (place q) 16 then Err DmaRange
+    else let d = part s.memory (place q) 16 in unless (refusal base s.gathered s.memory d) (handle q d s)
 
 -- what refuses a step: its first cause, or, where it has none and is not idle, the want of memory
-abbrev pub Refuses : TxSetup → Shown → TxRefusal → Type 0
-Refuses q s refused =
-    ((refused ≡ Memory) × IsTrue (not (is_idle q)) × IsOk (transmit q s)) ⊎ (transmit q s ≡ Err refused)
+abbrev pub Refuses : TxSetup → ℕ → Shown → TxRefusal → Type 0
+Refuses q base s refused =
+    ((refused ≡ Memory) × IsTrue (not (is_idle q)) × IsOk (transmit q base s)) ⊎ (transmit q base s ≡ Err refused)
 
 -- what the handling of the descriptor d costs beyond the least
 abbrev pub handling_cost : TxSetup → List ℕ → Shown → ℕ

@@ -23,7 +23,7 @@ impl Change {
         ensures before { (c : Cells) → ChangeFits c self.now
             → length c.wire ≡ length (undo_change c self.now).wire + (if result then 1 else 0) }
     {
-        is_frame(self.sent)
+        is_frame(self.sent())
     }
 
     /// Makes gathered octets those of before the step, where `last` is the frame that went last to the wire. Where
@@ -35,7 +35,7 @@ impl Change {
             → (undo_change c self.now).gathered.octets ≡ gathered.new.items) }
     {
         let count = self.gathered();
-        match self.sent {
+        match self.sent() {
             Sent::NoFrame => {
                 gathered.truncate(count);
                 Ok(())
@@ -53,7 +53,7 @@ impl Change {
         ensures before { (c : Cells) → ChangeFits c self.now → IsWindow c.memory.octets addr window.old
             → IsWindow (undo_change c self.now).memory.octets addr window.new }
     {
-        lay_status(&self.status, addr, window);
+        lay_status(&self.status(), addr, window);
     }
 
     /// The address of the status octet that the step overwrote, where it lies at `addr` or beyond. Up to there, or to
@@ -64,7 +64,7 @@ impl Change {
         ensures same { (c : Cells) → ChangeFits c self.now
             → SameUpTo c.memory.octets (undo_change c self.now).memory.octets addr result }
     {
-        next_of_status(&self.status, addr)
+        next_of_status(&self.status(), addr)
     }
 }
 

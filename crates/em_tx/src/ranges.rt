@@ -13,16 +13,16 @@ use crate::gather::Gather;
 use crate::ring;
 use crate::undo::TxUndo;
 use em_mem::laws::places_are_small;
-use em_mem::{GuestMemory, Needs, Range};
+use em_mem::{GuestMemory, MOST_END, Needs, Range};
 use em_regs::{DESCRIPTOR_OCTETS, TxSetup};
 
 /// What the next step reads of guest memory, and what it writes there: it reads its descriptor and then the buffer, and
 /// writes the status octet where RS asks for it. What lies behind the first range the descriptor's octets say, as they
 /// are in memory now.
 pub fn needs(gather: &Gather, memory: &GuestMemory, setup: &TxSetup) -> Needs
-    ensures needs { result ≡ needs setup.now gather.now.octets memory.now.octets }
-    ensures reads { AreHeld memory.now.octets result.reads }
-    ensures writes { AreHeld memory.now.octets result.writes }
+    ensures needs { result ≡ needs setup.now memory.now.base gather.now.octets memory.now.octets }
+    ensures reads { AreHeld memory.now.base memory.now.octets result.reads }
+    ensures writes { AreHeld memory.now.base memory.now.octets result.writes }
 {
     if setup.ring().is_idle() {
         return Needs::nothing();
@@ -60,7 +60,7 @@ fn buffer_of(descriptor: &TxDescriptor) -> Range
 
 /// The range of the status octet, of the descriptor at this place.
 fn status_of(at: u64, descriptor: &TxDescriptor) -> Range
-    requires { at ≤ 16_777_216 }
+    requires { at ≤ MOST_END }
     ensures { result ≡ status at descriptor.now }
 {
     if !descriptor.rs() {
@@ -81,7 +81,7 @@ impl Change {
             → with_octets_of c.memory.octets (undo_change c self.now).memory.octets (result ∷ [])
             ≡ (undo_change c self.now).memory.octets }
     {
-        range_of(&self.status)
+        range_of(&self.status())
     }
 }
 

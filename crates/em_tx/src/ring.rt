@@ -1,6 +1,6 @@
 //! The ring of transmit descriptors, by its set-up.
-ghost use Rattle.std.specs.Prelude.{◌≡◌, ◌+◌, ◌*◌, ◌≤◌, ◌<◌, ◌^◌, IfSome, IfNone, length};
-ghost use Rattle.em_mem.specs.Memory.{IsHeld, part};
+ghost use Rattle.std.specs.Prelude.{◌≡◌, ◌+◌, ◌*◌, ◌≤◌, ◌<◌, ◌^◌, IfSome, IfNone, length, true};
+ghost use Rattle.em_mem.specs.Memory.{IsHeld, leaves, part};
 ghost use Rattle.em_tx.specs.Ring.{causes, place};
 
 use crate::descriptor::TxDescriptor;
@@ -38,8 +38,8 @@ pub(crate) struct Found {
 pub(crate) fn first(memory: &GuestMemory, setup: &TxSetup) -> Option<Found>
     ensures place { IfSome result (λ found. found.place ≡ place setup.now) }
     ensures octets { IfSome result (λ found. found.descriptor ≡ part memory.now.octets (place setup.now) 16) }
-    ensures held { IfSome result (λ found. IsHeld memory.now.octets (place setup.now) 16) }
-    ensures none { IfNone result (length memory.now.octets < place setup.now + 16) }
+    ensures held { IfSome result (λ found. IsHeld memory.now (place setup.now) 16) }
+    ensures none { IfNone result (leaves memory.now.base memory.now.octets (place setup.now) 16 ≡ true) }
 {
     places_are_small(memory);
     let place = setup.ring().address_of(setup.head)?;

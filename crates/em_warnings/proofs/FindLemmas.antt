@@ -75,7 +75,7 @@ both_fail true = refl
 both_fail false = refl
 
 -- a descriptor outside guest memory has no flaw
-pub unflawed : (r : Ring) (v : View) (flaw : Flaw) (i : ℕ) → octets_at r v.present.memory i ≡ None
+pub unflawed : (r : Ring) (v : View) (flaw : Flaw) (i : ℕ) → octets_at r v.present.base v.present.memory i ≡ None
     → is_flawed r v flaw i ≡ false
 unflawed r v flaw i none =
     ap (λ (o : Option (List ℕ)). is_adapters r i && option_map_or (has_flaw v flaw (descriptor_at r i)) o false) none

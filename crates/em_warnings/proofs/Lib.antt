@@ -1,3 +1,4 @@
 mod FindLemmas
 mod WrittenLaws
 mod RulesLaws
+pub mod AskedLaws

@@ -1,12 +1,13 @@
 -- What a search for the newest change of a descriptor finds.
 use Rattle.std.proofs.Common.{◌≡◌, ◌∙◌, ◌+◌, ◌<◌, ◌≤◌, ◌⊎◌, ℕ, zero, suc, Bool, true, false, Option, Some, None}
 use Rattle.std.proofs.Common.{List, ap, arith, cond, inl, inr, length, not, refl, sym}
-use Rattle.std.specs.Prelude.{◌≢◌, find, if◌then◌else◌, min, nat_lt, option_map, slice_get}
+use Rattle.std.specs.Prelude.{◌≢◌, find, if◌then◌else◌, min, option_map, slice_get}
 use Rattle.std.specs.List.{range_with_len}
 use Rattle.std.proofs.lemmas.Bool.Decides.{nat_tests}
 use Rattle.std.proofs.lemmas.List.{length-map}
 use Rattle.std.proofs.lemmas.Option.{slice_get-map, slice_get_within}
 use Rattle.std.proofs.lemmas.Slice.Eq.{bytes_eq-Decides}
+use Rattle.em_mem.specs.Memory.{leaves}
 use Rattle.em_journal.specs.View.{View, states}
 use Rattle.em_step.specs.State.{State}
 use Rattle.em_watch.specs.Change.{IsNextChange, StaysTo}
@@ -67,13 +68,13 @@ is_so false false xs ys e = ap (λ (zs : List ℕ). Some (Octets zs)) ((bytes_eq
 
 -- the same is seen as now
 same_now : (v : View) (at : ℕ) (seen : Option Sight) → seen ≡ seen_at v at 0 → not (is_same seen (seen_at v at 0)) ≡ false
-same_now v at seen is = ap (λ o. not (is_same o (seen_at v at 0))) is ∙ ap not (same_so (nat_lt (length v.present.memory) (at + 16)) _)
+same_now v at seen is = ap (λ o. not (is_same o (seen_at v at 0))) is ∙ ap not (same_so (leaves v.present.base v.present.memory at 16) _)
 
 -- another is
 other_by : (at : ℕ) (now s : State) (b : Bool) → is_same (Some (seen_in at s)) (Some (seen_in at now)) ≡ b
     → Some (seen_in at now) ≢ Some (seen_in at s) → not b ≡ true
 other_by at now s true e other =
-    absurd (other (sym (is_so (nat_lt (length s.memory) (at + 16)) (nat_lt (length now.memory) (at + 16)) _ _ e)))
+    absurd (other (sym (is_so (leaves s.base s.memory at 16) (leaves now.base now.memory at 16) _ _ e)))
 other_by at now s false e other = refl
 
 other_now : (at : ℕ) (now : State) (o : Option State) (seen : Sight) → option_map (seen_in at) o ≡ Some seen

@@ -23,7 +23,8 @@ has_flaw v flaw at octets = is_in flaw octets && not (is_excused v flaw (at % 2 
 -- descriptor i is the adapter's, lies in guest memory, and has the flaw
 abbrev pub is_flawed : Ring → View → Flaw → ℕ → Bool
 is_flawed r v flaw i =
-    is_adapters r i && option_map_or (has_flaw v flaw (descriptor_at r i)) (octets_at r v.present.memory i) false
+    is_adapters r i && option_map_or (has_flaw v flaw (descriptor_at r i))
+    (octets_at r v.present.base v.present.memory i) false
 
 -- the first such from one index on, below another
 abbrev pub first_from : Ring → View → Flaw → ℕ → ℕ → Option ℕ

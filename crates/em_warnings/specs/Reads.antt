@@ -39,12 +39,13 @@ abbrev pub before_head : Ring → ℕ
 before_head r = if r.head == 0 then r.count - 1 else r.head - 1
 
 -- a frame waits for the driver: that descriptor, the last one that the adapter wrote back, has DD
-abbrev pub waits : Ring → List ℕ → Bool
-waits r memory =
-    option_map_or (λ octets. nat_lt 0 r.count && is_in StatusLeft octets) (octets_at r memory (before_head r)) false
+abbrev pub waits : Ring → ℕ → List ℕ → Bool
+waits r base memory =
+    option_map_or (λ octets. nat_lt 0 r.count && is_in StatusLeft octets) (octets_at r base memory
+    (before_head r)) false
 
 abbrev pub frame_waits : State → Bool
-frame_waits s = waits (rx_ring (rx_setup s.registers)) s.memory
+frame_waits s = waits (rx_ring (rx_setup s.registers)) s.base s.memory
 
 -- so many steps back the causes stood that were cleared there: one of them of receiving, with an event at least between
 -- that one and the read, and since then the driver gave back no descriptor and took no frame

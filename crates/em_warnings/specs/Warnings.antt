@@ -1,4 +1,4 @@
--- The warnings of a line.
+-- The warnings of an event.
 use Rattle.std.specs.Prelude.{ℕ, suc, ◌==◌, if◌then◌else◌, Bool, true, false, List, [], ◌∷◌, Option, Some, None, Result, Ok}
 use Rattle.std.specs.List.{flat_map}
 use Rattle.em_regs.specs.declared.reg.Reg.{Reg}
@@ -7,8 +7,6 @@ use Rattle.em_step.specs.Event.{Event}
 use Rattle.em_step.specs.declared.event.Answer.{Answer}
 use Rattle.em_step.specs.declared.event.Answer.TheVariants as answer
 use Rattle.em_step.specs.declared.refusal.Refusal.{Refusal}
-use Rattle.em_line.specs.Grammar.{parsed_line}
-use Rattle.em_line.specs.ParsedLine.{access_in}
 use Rattle.em_expect.specs.Difference.{register_of}
 use Rattle.em_journal.specs.View.{View}
 use Rattle.em_warnings.specs.declared.warning.Warning.{Warning}
@@ -38,31 +36,27 @@ abbrev pub of_write : View → Option (Reg × ℕ) → Option (List (Option Warn
 of_write v None = None
 of_write v (Some write) = Some (warnings_of v write.0 write.1)
 
--- of an access that was done, if it is a write
-abbrev pub of_access : View → Option Event → Option (List (Option Warning))
-of_access v None = None
-of_access v (Some e) = of_write v (written_by e)
+-- of an event that was done, if it is a write
+abbrev pub of_done : View → Option Event → Option (List (Option Warning))
+of_done v None = None
+of_done v (Some e) = of_write v (written_by e)
 
 -- of a read of a register that gave 0: one rule asks about ICR
 abbrev pub of_read : View → Option Reg → Option (List (Option Warning))
 of_read v (Some Icr) = Some (alone (read_again v))
 of_read v _ = None
 
--- of an access with its outcome, as it left the machine: a write that was performed, and a read that gave 0
+-- of an event with its outcome, as it left the machine: a write that was performed, and a read that gave 0
 abbrev pub found_of : View → Option Event → Option (Result Answer Refusal) → Option (List (Option Warning))
-found_of v access (Some (Ok answer.Done)) = of_access v access
-found_of v access (Some (Ok (answer.Value value))) = if value == 0 then of_read v (register_of access) else None
-found_of v access _ = None
+found_of v event (Some (Ok answer.Done)) = of_done v event
+found_of v event (Some (Ok (answer.Value value))) = if value == 0 then of_read v (register_of event) else None
+found_of v event _ = None
 
 -- they are asked where it came to this
 abbrev pub is_asked : Option (Result Answer Refusal) → Bool
 is_asked (Some (Ok answer.Done)) = true
 is_asked (Some (Ok (answer.Value value))) = value == 0
 is_asked _ = false
-
--- of a line whose event came to this
-abbrev pub found_in : View → List ℕ → Option (Result Answer Refusal) → Option (List (Option Warning))
-found_in v line came = found_of v (access_in (parsed_line line)) came
 
 -- ---- how many warnings these are, and a line for each
 
@@ -73,11 +67,3 @@ found_count (Some warnings) = there warnings
 abbrev pub found_text : Option (List (Option Warning)) → List ℕ
 found_text None = []
 found_text (Some warnings) = lines_of warnings
-
--- of an event with its outcome
-abbrev pub event_warnings : View → Event → Result Answer Refusal → List ℕ
-event_warnings v e outcome = found_text (found_of v (Some e) (Some outcome))
-
--- of a line whose event came to this
-abbrev pub warnings_text : View → List ℕ → Option (Result Answer Refusal) → List ℕ
-warnings_text v line came = found_text (found_in v line came)

@@ -13,7 +13,7 @@ use Rattle.em_watch.specs.declared.watch.Sight.TheVariants.{Nothing, Octets}
 
 -- what is seen of the 16 octets of the descriptor at an address, in a state
 abbrev pub seen_in : ℕ → State → Sight
-seen_in at s = octets_sight s.memory at 16
+seen_in at s = octets_sight s.base s.memory at 16
 
 -- so many steps back, if steps back lead so far
 abbrev pub seen_at : View → ℕ → ℕ → Option Sight

@@ -38,12 +38,12 @@ fn first_below(machine: &Machine, ring: &Ring, flaw: Flaw, from: u32, to: u32) -
     (from..to).find(|index| is_flawed(machine, ring, flaw, *index))
 }
 
-/// How many of a ring's first descriptors lie in guest memory, if it had as many. None behind them does, so a ring outside
-/// memory, which a register may name, is not gone over.
+/// How many of a ring's first descriptors end before guest memory does, if it had as many. None behind them lies in memory,
+/// so a ring past its end, which a register may name, is not gone over.
 fn held(machine: &Machine, ring: &Ring) -> u64
-    ensures { (i : ℕ) → result ≤ i → octets_at ring.now machine.now.present.memory i ≡ None }
+    ensures { (i : ℕ) → result ≤ i → octets_at ring.now machine.now.present.base machine.now.present.memory i ≡ None }
 {
-    machine.memory_size().saturating_sub(ring.base) / 16
+    machine.memory_end().saturating_sub(ring.base) / 16
 }
 
 /// Whether the descriptor of an index is such.

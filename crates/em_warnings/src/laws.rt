@@ -1,8 +1,12 @@
-//! What the search for a flaw finds.
-ghost use Rattle.std.specs.Prelude.{◌≡◌, ◌<◌, ℕ, true, false, Some, None};
+//! What the search for a flaw finds, and when rules are asked.
+ghost use Rattle.std.specs.Prelude.{◌≡◌, ◌<◌, ℕ, true, false, Option, Some, None, Result};
 ghost use Rattle.em_journal.specs.View.{View};
 ghost use Rattle.em_regs.specs.declared.ring.Ring.{Ring};
+ghost use Rattle.em_step.specs.Event.{Event};
+ghost use Rattle.em_step.specs.declared.event.Answer.{Answer};
+ghost use Rattle.em_step.specs.declared.refusal.Refusal.{Refusal};
 ghost use Rattle.em_warnings.specs.Descriptors.{first_flawed, is_flawed};
+ghost use Rattle.em_warnings.specs.Warnings.{found_of, is_asked};
 ghost use Rattle.em_warnings.specs.declared.flaw.Flaw.{Flaw};
 
 /// A descriptor that is found has the flaw: it is the adapter's, lies in guest memory, and its octets have it, with no
@@ -12,4 +16,10 @@ pub fn flaws_are_found()
         → is_flawed r v flaw i ≡ true }
     ensures none { (r : Ring) (v : View) (flaw : Flaw) → first_flawed r v flaw ≡ None
         → (i : ℕ) → i < r.count → is_flawed r v flaw i ≡ false }
+{}
+
+/// Where the rules are not asked, nothing is found, whatever the event was.
+pub fn nothing_is_found_unasked()
+    ensures { (v : View) (event : Option Event) (came : Option (Result Answer Refusal)) → is_asked came ≡ false
+        → found_of v event came ≡ None }
 {}

@@ -13,7 +13,7 @@ mod warning;
 mod write_line;
 mod written;
 
-pub use lines::{Found, count_found, found_in, write_event_warnings, write_found, write_warnings};
+pub use lines::{Found, count_found, found_of, is_asked, write_found};
 pub use reads::read_again;
 pub use rules::{RULES, warnings_of};
 pub use said::write_warning;

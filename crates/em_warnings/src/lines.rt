@@ -1,10 +1,10 @@
-//! The warnings of a line.
+//! The warnings of an event.
 ghost use Rattle.std.specs.Prelude.{◌≡◌, [], ◌∷◌};
 ghost use Rattle.std.specs.Option.{option_map};
 ghost use Rattle.em_step.specs.Event.{plain};
 ghost use Rattle.em_text.specs.Writer.{Writes};
-ghost use Rattle.em_warnings.specs.Warnings.{event_warnings, found_count, found_in, found_of, found_text, is_asked};
-ghost use Rattle.em_warnings.specs.Warnings.{line_of, lines_of, of_access, of_read, of_write, there, warnings_text};
+ghost use Rattle.em_warnings.specs.Warnings.{found_count, found_of, found_text, is_asked, line_of, lines_of, of_done};
+ghost use Rattle.em_warnings.specs.Warnings.{of_read, of_write, there};
 
 use crate::reads::read_again;
 use crate::rules::{RULES, alone, warnings_of};
@@ -13,7 +13,6 @@ use crate::warning::Warning;
 use crate::write_line::written_by;
 use em_expect::register_of;
 use em_journal::Machine;
-use em_line::accessed;
 use em_regs::Reg;
 use em_step::{Answer, Event, Refusal};
 use em_text::WriteFailed;
@@ -22,73 +21,35 @@ use std::io::Write;
 /// What each rule says of an access, in the order of the rules, if they are asked.
 pub type Found = Option<[Option<Warning>; RULES]>;
 
-/// Writes the warnings of a line whose event came to this, one in a line each, if it has any. The machine is as the line
-/// left it.
-pub fn write_warnings<W: Write>(
-    writer: &mut W,
-    machine: &Machine,
-    line: &[u8],
-    came: Option<Result<Answer, Refusal>>,
-) -> Result<(), WriteFailed>
-    ensures writes { Writes (W.contents writer.old) (W.contents writer.new) result
-        (warnings_text machine.now line.now came) }
-{
-    write_found(writer, &found_in(machine, line, came))
-}
-
-/// Writes the warnings of an event with this outcome. The machine is as the event left it.
-pub fn write_event_warnings<W: Write>(
-    writer: &mut W,
-    machine: &Machine,
-    event: Event<'_>,
-    outcome: Result<Answer, Refusal>,
-) -> Result<(), WriteFailed>
-    ensures writes { Writes (W.contents writer.old) (W.contents writer.new) result
-        (event_warnings machine.now (plain event.entry) outcome) }
-{
-    write_found(writer, &found_of(machine, Some(event), Some(outcome)))
-}
-
-/// What each rule says of a line whose event came to this, in the order of the rules, if they are asked: only a line `w OFF
-/// VALUE` that was done has warnings, and a line that read 0 from ICR one. The machine is as the line left it.
-pub fn found_in(machine: &Machine, line: &[u8], came: Option<Result<Answer, Refusal>>) -> Found
-    ensures { result ≡ found_in machine.now line.now came }
-{
-    // What most lines came to has no warning, which is seen sooner than what they say.
-    if is_asked(came) {
-        found_of(machine, accessed(line), came)
-    } else {
-        None
-    }
-}
-
-/// Whether the rules are asked of an access that came to this.
-fn is_asked(came: Option<Result<Answer, Refusal>>) -> bool
+/// Whether the rules are asked of what came to this. Most of what lines come to has no warning, whatever they say: so a line
+/// need not be read before this is asked.
+pub fn is_asked(came: Option<Result<Answer, Refusal>>) -> bool
     ensures { result ≡ is_asked came }
 {
     matches!(came, Some(Ok(Answer::Done | Answer::Value(0))))
 }
 
-/// What each rule says of an access that came to this, if they are asked.
-fn found_of(
+/// What each rule says of an event that came to this, in the order of the rules, if they are asked: only a write of a register
+/// that was done has warnings, and a read of ICR that gave 0 one. The machine is as the event left it.
+pub fn found_of(
     machine: &Machine,
-    access: Option<Event<'_>>,
+    event: Option<Event<'_>>,
     came: Option<Result<Answer, Refusal>>,
 ) -> Found
-    ensures { result ≡ found_of machine.now (option_map plain access.entry) came }
+    ensures { result ≡ found_of machine.now (option_map plain event.entry) came }
 {
     match came {
-        Some(Ok(Answer::Done)) => of_access(machine, access),
-        Some(Ok(Answer::Value(0))) => of_read(machine, register_of(access)),
+        Some(Ok(Answer::Done)) => of_done(machine, event),
+        Some(Ok(Answer::Value(0))) => of_read(machine, register_of(event)),
         _ => None,
     }
 }
 
-/// What each rule says of an access that was done, if it is a write.
-fn of_access(machine: &Machine, access: Option<Event<'_>>) -> Found
-    ensures { result ≡ of_access machine.now (option_map plain access.entry) }
+/// What each rule says of an event that was done, if it is a write.
+fn of_done(machine: &Machine, event: Option<Event<'_>>) -> Found
+    ensures { result ≡ of_done machine.now (option_map plain event.entry) }
 {
-    match access {
+    match event {
         Some(event) => of_write(machine, written_by(event)),
         None => None,
     }

@@ -69,7 +69,7 @@ fn frame_waits(machine: &Machine) -> bool
 
 /// Whether one does in this ring.
 fn waits(machine: &Machine, ring: &Ring) -> bool
-    ensures { result ≡ waits ring.now machine.now.present.memory }
+    ensures { result ≡ waits ring.now machine.now.present.base machine.now.present.memory }
 {
     let octets = octets_at(machine, ring, before_head(ring));
     match octets {

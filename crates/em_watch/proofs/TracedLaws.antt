@@ -1,13 +1,14 @@
 -- A watched thing, followed back over records.
 use Rattle.std.proofs.Common.{◌≡◌, ℕ, ◌+◌, ◌-◌, ◌≤◌, Bool, true, false, cond, List, [], ◌∷◌, ◌++◌, zero, suc}
 use Rattle.std.proofs.Common.{length, length-append, take, drop, map, refl, sym, ap, ◌∙◌, subst, arith, Some}
-use Rattle.std.specs.Prelude.{nat_lt, slice_get, replicate}
+use Rattle.std.specs.Prelude.{◌||◌, nat_lt, slice_get, replicate}
 use Rattle.std.specs.Option.{option_map}
 use Rattle.std.proofs.Math.Seq.{take-append_seam, drop-append_seam}
 use Rattle.std.proofs.lemmas.Bool.Decides.{nat_tests}
 use Rattle.std.proofs.lemmas.List.{length-take-le, take-append-drop}
 use Rattle.std.proofs.lemmas.Option.{slice_get-map}
-use Rattle.em_mem.specs.Memory.{part}
+use Rattle.em_mem.specs.Memory.{leaves, part}
+use Rattle.em_mem.proofs.NeedsLaws.{lies_by_test}
 use Rattle.em_mem.proofs.PutLaws.{length-part}
 use Rattle.em_regs.specs.declared.reg.Reg.{Reg}
 use Rattle.em_regs.specs.declared.reg.Reg.TheVariants.{Icr, Ims}
@@ -16,7 +17,7 @@ use Rattle.em_step.specs.Cells.{Cells, shows}
 use Rattle.em_step.specs.State.{State}
 use Rattle.em_step.specs.Undo.{Undo, Fits, undo}
 use Rattle.em_step.specs.Access.{gives}
-use Rattle.em_step.proofs.SizeLaws.{memory_size}
+use Rattle.em_step.proofs.SizeLaws.{memory_base, memory_size}
 use Rattle.em_journal.specs.View.{View, states}
 use Rattle.em_mem.specs.Window.{IsWindow}
 use Rattle.em_step.specs.Before.{PutsBack}
@@ -39,7 +40,7 @@ shown_if false t u = refl
 
 pub shown-traced : (w : Watch) (s : State) → shown (traced w s) ≡ sight w s
 shown-traced (Register reg) s = shown_if (nat_lt (index_of reg) (row_of reg).words) _ _
-shown-traced (Octets range) s = shown_if (nat_lt (length s.memory) (range.addr + range.len)) _ _
+shown-traced (Octets range) s = shown_if (leaves s.base s.memory range.addr range.len) _ _
 shown-traced Line s = refl
 shown-traced Link s = refl
 shown-traced Frames s = refl
@@ -91,31 +92,33 @@ padded c r a n behind new fits held goes =
     (λ i. there i ++ sym after i) ∙ take-append-drop n new
 
 octets_back : (c : Cells) (r : Undo) (range : MemoryRange) (behind : List ℕ) (u : Traced) (b : Bool)
-    → nat_lt (length (shows c).memory) (range.addr + range.len) ≡ b → Fits c r
+    → leaves (shows c).base (shows c).memory range.addr range.len ≡ b → Fits c r
     → GoesBack r (cond b traced.Nothing (traced.Octets range (part (shows c).memory range.addr range.len ++ behind))) u
     → cond b traced.Nothing (traced.Octets range (part (shows (undo c r)).memory range.addr range.len ++ behind)) ≡ u
 octets_back c r range behind u true there fits goes = goes
 octets_back c r range behind u false there fits goes =
-    let held : range.addr + range.len ≤ length (shows c).memory = grind (arith, nat_tests) in
+    let held : range.addr + range.len ≤ length (shows c).memory
+    = (lies_by_test (shows c).base (shows c).memory range.addr range.len there).to in
     ap (traced.Octets range) (padded c r range.addr range.len behind goes.0 fits held goes.2) ∙ goes.1
 
--- as memory keeps its size
-octets_size : (memory : List ℕ) (range : MemoryRange) (size : ℕ) → length memory ≡ size
-    → traced_octets memory range
-    ≡ cond (nat_lt size (range.addr + range.len)) traced.Nothing
+-- as memory keeps its base and its size
+octets_size : (base : ℕ) (memory : List ℕ) (range : MemoryRange) (was size : ℕ) → base ≡ was → length memory ≡ size
+    → traced_octets base memory range
+    ≡ cond (nat_lt range.addr was || nat_lt size (range.addr + range.len)) traced.Nothing
     (traced.Octets range (part memory range.addr range.len ++ replicate (MOST_WATCHED - range.len) 0))
-octets_size memory range size is =
-    ap (λ n. cond (nat_lt n (range.addr + range.len)) traced.Nothing
-    (traced.Octets range (part memory range.addr range.len ++ replicate (MOST_WATCHED - range.len) 0))) is
+octets_size base memory range was size begins is =
+    λ i. cond (nat_lt range.addr (begins i) || nat_lt (is i) (range.addr + range.len)) traced.Nothing
+    (traced.Octets range (part memory range.addr range.len ++ replicate (MOST_WATCHED - range.len) 0))
 
 back_at : (w : Watch) (c : Cells) (r : Undo) (u : Traced) → Fits c r → GoesBack r (traced w (shows c)) u
     → traced w (shows (undo c r)) ≡ u
 back_at (Register reg) c r u fits goes =
     register_back c r reg u (nat_lt (index_of reg) (row_of reg).words) fits goes
 back_at (Octets range) c r u fits goes =
-    octets_size (shows (undo c r)).memory range (length (shows c).memory) (memory_size c r fits)
+    octets_size (shows (undo c r)).base (shows (undo c r)).memory range (shows c).base (length (shows c).memory)
+    (memory_base c r) (memory_size c r fits)
     ∙ octets_back c r range (replicate (MOST_WATCHED - range.len) 0) u
-    (nat_lt (length (shows c).memory) (range.addr + range.len)) refl fits goes
+    (leaves (shows c).base (shows c).memory range.addr range.len) refl fits goes
 back_at Line c r u fits goes =
     let causes = goes.2 c fits refl in
     let mask = goes.3 c fits refl in
@@ -177,7 +180,7 @@ octets_traceable range octets false = tt
 
 traceable : (w : Watch) (s : State) → IsTraceable (traced w s)
 traceable (Register reg) s = traceable_if reg (gives s reg) (nat_lt (index_of reg) (row_of reg).words) refl
-traceable (Octets range) s = octets_traceable range _ (nat_lt (length s.memory) (range.addr + range.len))
+traceable (Octets range) s = octets_traceable range _ (leaves s.base s.memory range.addr range.len)
 traceable Line s = tt
 traceable Link s = tt
 traceable Frames s = tt

@@ -1,5 +1,7 @@
 -- Which octets of guest memory one event changed. So many steps back lead to just before it.
-use Rattle.std.specs.Prelude.{◌≡◌, ◌≢◌, ℕ, ◌+◌, ◌-◌, ◌<◌, ◌≤◌, List, length, map, Option, Some, slice_get, slice_index}
+use Rattle.std.specs.Prelude.{◌≡◌, ◌≢◌, ℕ, ◌+◌, ◌-◌, ◌<◌, ◌≤◌, nat_lt, if◌then◌else◌, List, map, Option, Some, None}
+use Rattle.std.specs.Prelude.{slice_get, slice_index}
+use Rattle.em_mem.specs.Memory.{LiesIn}
 use Rattle.em_step.specs.State.{State}
 use Rattle.em_journal.specs.View.{View, states}
 use Rattle.em_watch.specs.Difference.{IsDifference}
@@ -9,9 +11,13 @@ use Rattle.em_watch.specs.declared.range.MemoryRange.{MemoryRange}
 use Rattle.em_watch.specs.declared.watch.Watch.TheVariants.{Octets}
 use Rattle.em_watch.specs.declared.watch.Sight.TheVariants as sight
 
--- the octet at an address so many steps back, if memory has it
+-- the octet at an address, if memory has it
+abbrev pub octet_in : State → ℕ → Option ℕ
+octet_in s a = if nat_lt a s.base then None else slice_get s.memory a
+
+-- the same so many steps back
 abbrev pub octet_back : View → ℕ → ℕ → Option (Option ℕ)
-octet_back v k a = slice_get (map (λ (s : State). slice_get s.memory a) (states v)) k
+octet_back v k a = slice_get (map (λ (s : State). octet_in s a) (states v)) k
 
 -- the event changed the octet at an address, or left it
 abbrev pub ChangesOctet : View → ℕ → ℕ → Type 0
@@ -38,7 +44,8 @@ pub record IsMemoryChange (v : View) (back : ℕ) (change : MemoryChange) : Type
 -- ---- of a range
 -- memory has it in each state
 abbrev pub HasRange : View → MemoryRange → Type 0
-HasRange v range = (k : ℕ) (s : State) → slice_get (states v) k ≡ Some s → range.addr + range.len ≤ length s.memory
+HasRange v range = (k : ℕ) (s : State) → slice_get (states v) k ≡ Some s
+    → LiesIn s.base s.memory range.addr range.len
 
 -- these are its octets so many steps back, with zeros behind them
 pub record ShowsOctets (v : View) (k : ℕ) (range : MemoryRange) (octets : List ℕ) : Type 0 where

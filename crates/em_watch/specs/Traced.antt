@@ -1,7 +1,7 @@
 -- What has to be known of a state to see a watched thing in it, and how a record takes that back.
 use Rattle.std.specs.Prelude.{◌≡◌, ℕ, ◌+◌, ◌-◌, nat_lt, if◌then◌else◌, List, ◌++◌, length, take, drop, replicate, map, []}
 use Rattle.std.specs.Prelude.{slice_get, Some}
-use Rattle.em_mem.specs.Memory.{part}
+use Rattle.em_mem.specs.Memory.{leaves, part}
 use Rattle.em_regs.specs.declared.reg.Reg.{Reg}
 use Rattle.em_regs.specs.Table.{IsReg, index_of, row_of}
 use Rattle.em_latch.specs.Latches.{causes, mask}
@@ -25,15 +25,15 @@ use Rattle.em_watch.specs.declared.traced.Traced.TheVariants.{Nothing, Register,
 abbrev pub traced_register : State → Reg → Traced
 traced_register s reg = if nat_lt (index_of reg) (row_of reg).words then Register reg (gives s reg) else Nothing
 
-abbrev pub traced_octets : List ℕ → MemoryRange → Traced
-traced_octets memory range =
-    if nat_lt (length memory) (range.addr + range.len) then Nothing
+abbrev pub traced_octets : ℕ → List ℕ → MemoryRange → Traced
+traced_octets base memory range =
+    if leaves base memory range.addr range.len then Nothing
     else Octets range (part memory range.addr range.len ++ replicate (MOST_WATCHED - range.len) 0)
 
 -- in a state
 abbrev pub traced : Watch → State → Traced
 traced (watch.Register reg) s = traced_register s reg
-traced (watch.Octets range) s = traced_octets s.memory range
+traced (watch.Octets range) s = traced_octets s.base s.memory range
 traced watch.Line s = Line (causes s.latches) (mask s.latches)
 traced watch.Link s = Link s.link
 traced watch.Frames s = Frames (length s.fifo.frames)

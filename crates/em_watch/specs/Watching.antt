@@ -1,7 +1,7 @@
 -- What is seen of a watched thing.
 use Rattle.std.specs.Prelude.{ℕ, ◌+◌, ◌-◌, ◌==◌, Bool, not, nat_lt, if◌then◌else◌, List, ◌++◌, length, map, replicate}
 use Rattle.std.specs.Prelude.{bit_and}
-use Rattle.em_mem.specs.Memory.{part}
+use Rattle.em_mem.specs.Memory.{leaves, part}
 use Rattle.em_regs.specs.declared.reg.Reg.{Reg}
 use Rattle.em_regs.specs.Table.{index_of, row_of}
 use Rattle.em_latch.specs.Latches.{causes, mask}
@@ -18,10 +18,10 @@ use Rattle.em_watch.specs.declared.watch.Sight.TheVariants.{Nothing, Value, Octe
 abbrev pub register_sight : State → Reg → Sight
 register_sight s reg = if nat_lt (index_of reg) (row_of reg).words then Value (gives s reg) else Nothing
 
--- of n octets from a on, if memory has them: the octets, and zeros behind them
-abbrev pub octets_sight : List ℕ → ℕ → ℕ → Sight
-octets_sight memory a n =
-    if nat_lt (length memory) (a + n) then Nothing
+-- of n octets from a on, if memory, which begins at a base, has them: the octets, and zeros behind them
+abbrev pub octets_sight : ℕ → List ℕ → ℕ → ℕ → Sight
+octets_sight base memory a n =
+    if leaves base memory a n then Nothing
     else Octets (part memory a n ++ replicate (MOST_WATCHED - n) 0)
 
 -- some cause is set that the mask lets through
@@ -31,7 +31,7 @@ is_asserted causes mask = not (bit_and causes mask == 0)
 -- what is seen in a state
 abbrev pub sight : Watch → State → Sight
 sight (watch.Register reg) s = register_sight s reg
-sight (watch.Octets range) s = octets_sight s.memory range.addr range.len
+sight (watch.Octets range) s = octets_sight s.base s.memory range.addr range.len
 sight watch.Line s = Line (is_asserted (causes s.latches) (mask s.latches))
 sight watch.Link s = Link s.link
 sight watch.Frames s = Count (length s.fifo.frames)

@@ -105,9 +105,9 @@ fn next_window(machine: &Machine, back: usize, from: u64) -> Option<MemoryRange>
     ensures none { IfNone result (LeavesRest machine.now back from) }
 {
     let at = next_place(machine, back, from)?;
-    let size = machine.memory_size();
-    if at < size {
-        Some(MemoryRange::within(at, size - at))
+    let end = machine.memory_end();
+    if at < end {
+        Some(MemoryRange::within(at, end - at))
     } else {
         None
     }
@@ -118,9 +118,12 @@ fn next_place(machine: &Machine, back: usize, from: u64) -> Option<u64>
     requires some { 0 < back }
     requires there { back ≤ length machine.now.past }
     ensures from { IfSome result (λ at. from ≤ at) }
+    ensures inside { IfSome result (λ at. machine.now.present.base ≤ at) }
     ensures left { IfSome result (LeavesOctets machine.now back from) }
     ensures none { IfNone result (LeavesRest machine.now back from) }
 {
+    // in each state it lies where it lies now
+    let _end = machine.memory_end();
     match machine.record(back - 1) {
         Some(past) => past.next_octet(from),
         None => unreachable!(),

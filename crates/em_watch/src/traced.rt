@@ -119,7 +119,7 @@ fn traced_register(machine: &Machine, reg: Reg) -> Traced
 }
 
 fn traced_octets(machine: &Machine, range: MemoryRange) -> Traced
-    ensures { result ≡ traced_octets machine.now.present.memory range }
+    ensures { result ≡ traced_octets machine.now.present.base machine.now.present.memory range }
 {
     let mut octets = [0; MOST_WATCHED];
     match machine.peek(range.addr(), &mut octets[..range.len()]) {

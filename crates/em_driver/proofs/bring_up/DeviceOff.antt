@@ -46,6 +46,7 @@ tx_idle s r off h =
 rests : (s t : State) → t ≡ s → Rests s t
 rests s t is = record {
   registers = ap (λ x. x.registers) is;
+  base = ap (λ x. x.base) is;
   memory = ap (λ x. x.memory) is;
   fifo = ap (λ x. x.fifo) is;
   gathered = ap (λ x. x.gathered) is;
@@ -58,7 +59,14 @@ not_enabled s h on = let off : false ≡ true = sym (ap (λ v. bit_and v 0x2 == 
 admitted_off : (s t : State) (f : List ℕ) (answer : Answer) → IsOff s → KeepsAllButFifo s t → Admits s f answer t
     → Rests s t × (stored_by (Arrive f) answer ≡ [])
 admitted_off s t f answer h k (inl dropped) = (
-  record { registers = k.registers; memory = k.memory; fifo = dropped.2; gathered = k.gathered; wire = k.wire },
+  record {
+    registers = k.registers;
+    base = k.base;
+    memory = k.memory;
+    fifo = dropped.2;
+    gathered = k.gathered;
+    wire = k.wire;
+  },
   ap (stored_by (Arrive f)) dropped.1,
 )
 admitted_off s t f answer h k (inr stored) = absurd (not_enabled s h stored.1)

@@ -1,10 +1,10 @@
--- No turn changes how many octets memory has, in whatever state.
+-- No turn changes where memory lies, in whatever state.
 use Rattle.std.proofs.Common.{◌≡◌, ◌∙◌, ◌||◌, ◌≤◌, ℕ, ◌+◌, Bool, true, false, not, if◌then◌else◌, List, [], ◌∷◌}
 use Rattle.std.proofs.Common.{length, drop, refl, sym, ap, arith, Option, Some, None, Ok, Err}
 use Rattle.std.specs.Prelude.{nat_lt}
-use Rattle.std.proofs.lemmas.Bool.{ltb-false}
 use Rattle.std.proofs.lemmas.List.{length-take}
-use Rattle.em_mem.specs.Memory.{part, put}
+use Rattle.em_mem.specs.Memory.{leaves, part, put}
+use Rattle.em_mem.proofs.NeedsLaws.{lies_by_test}
 use Rattle.em_mem.proofs.PutLaws.{length-put}
 use Rattle.em_regs.specs.Setup.{rx_setup, tx_setup}
 use Rattle.em_filter.specs.declared.outcome.Verdict.{Verdict}
@@ -41,34 +41,39 @@ use Rattle.em_turn.specs.declared.turn.Turn.{Turn}
 use Rattle.em_turn.specs.declared.turn.Turn.TheVariants.{Arrive, RxStep, TxStep}
 use Rattle.em_driver.proofs.order.Accessed.{ok_is}
 
--- the octets of memory are as many
-abbrev SameSize : State → State → Type 0
-SameSize s t = length t.memory ≡ length s.memory
+-- memory begins and ends where it did
+pub record SameRange (s t : State) : Type 0 where
+  pub base : t.base ≡ s.base
+  pub size : length t.memory ≡ length s.memory
+
+-- so it does in a state that is known
+in_other : {s t u : State} → u ≡ t → SameRange s t → SameRange s u
+in_other is h = record { base = ap (λ x. x.base) is ∙ h.base; size = ap (λ x. length x.memory) is ∙ h.size }
 
 -- ---- arrivals
 
 admitted : (s : State) (f : List ℕ) (b : Bool) (a : Answer × State)
-    → SameSize s a.1 → SameSize s (if b then (Dropped Missed, after_miss s) else a).1
-admitted s f true a is = refl
+    → SameRange s a.1 → SameRange s (if b then (Dropped Missed, after_miss s) else a).1
+admitted s f true a is = record { base = refl; size = refl }
 admitted s f false a is = is
 
-judged : (s : State) (f : List ℕ) (v : Verdict) → SameSize s (judgement s f v).1
-judged s f verdict.Reject = refl
-judged s f verdict.Undersize = refl
-judged s f verdict.Oversize = refl
-judged s f (verdict.Accept kind) = admitted s f (lacks_room s f) (Stored, after_accept s f kind) refl
+judged : (s : State) (f : List ℕ) (v : Verdict) → SameRange s (judgement s f v).1
+judged s f verdict.Reject = record { base = refl; size = refl }
+judged s f verdict.Undersize = record { base = refl; size = refl }
+judged s f verdict.Oversize = record { base = refl; size = refl }
+judged s f (verdict.Accept kind) = admitted s f (lacks_room s f) (Stored, after_accept s f kind) (record { base = refl; size = refl })
 
 arrived_by : (s : State) (f : List ℕ) (up on : Bool)
-    → SameSize s (if not up then (Dropped Down, s) else if not on then (Dropped Disabled, s)
+    → SameRange s (if not up then (Dropped Down, s) else if not on then (Dropped Disabled, s)
     else judgement s f (verdict_of s.registers f)).1
-arrived_by s f false on = refl
-arrived_by s f true false = refl
+arrived_by s f false on = record { base = refl; size = refl }
+arrived_by s f true false = record { base = refl; size = refl }
 arrived_by s f true true = judged s f (verdict_of s.registers f)
 
 arrived : (s : State) (f : List ℕ) (long : Bool) (r : Answer × State)
-    → (if long then Err Length else Ok (arrival s f)) ≡ Ok r → SameSize s r.1
+    → (if long then Err Length else Ok (arrival s f)) ≡ Ok r → SameRange s r.1
 arrived s f true r is = cc
-arrived s f false r is = ap (λ x. length x.1.memory) (sym (ok_is _ r is)) ∙ arrived_by s f s.link (is_enabled s)
+arrived s f false r is = in_other (ap (λ x. x.1) (sym (ok_is _ r is))) (arrived_by s f s.link (is_enabled s))
 
 -- ---- receive steps
 
@@ -89,26 +94,30 @@ delivered q m fifo descriptor buffer =
     (written_back n (rx.is_last q fifo) (first fifo).tag) (omega (arith, few)) (omega (arith, eight))
 
 received_by : (s : State) (idle a b : Bool) (r : Answer × State)
-    → nat_lt (length s.memory) (rx.descriptor_at (rx_setup s.registers) + 16) ≡ a
-    → nat_lt (length s.memory)
-    (rx.buffer_at (rx_setup s.registers) s.memory + rx.count_of (rx_setup s.registers) s.fifo) ≡ b
+    → leaves s.base s.memory (rx.descriptor_at (rx_setup s.registers)) 16 ≡ a
+    → leaves s.base s.memory (rx.buffer_at (rx_setup s.registers) s.memory) (rx.count_of (rx_setup s.registers) s.fifo) ≡ b
     → rx_stepped s (if idle then Ok (record { answer = rx_answer.Idle; memory = s.memory; fifo = s.fifo })
     else if a then Err rx_refusal.DmaRange
     else if b then Err rx_refusal.DmaRange
     else Ok (rx.delivery (rx_setup s.registers) s.memory s.fifo)) ≡ Ok r
-    → SameSize s r.1
-received_by s true a b r x y is = ap (λ z. length z.1.memory) (sym (ok_is _ r is))
+    → SameRange s r.1
+received_by s true a b r x y is = in_other (ap (λ z. z.1) (sym (ok_is _ r is))) (record { base = refl; size = refl })
 received_by s false true b r x y is = cc
 received_by s false false true r x y is = cc
 received_by s false false false r x y is =
-    ap (λ z. length z.1.memory) (sym (ok_is _ r is))
-    ∙ delivered (rx_setup s.registers) s.memory s.fifo (ltb-false _ _ x) (ltb-false _ _ y)
+    let q = rx_setup s.registers in
+    in_other (ap (λ z. z.1) (sym (ok_is _ r is)))
+    (record {
+      base = refl;
+      size = delivered q s.memory s.fifo (lies_by_test s.base s.memory (rx.descriptor_at q) 16 x).to
+          (lies_by_test s.base s.memory (rx.buffer_at q s.memory) (rx.count_of q s.fifo) y).to;
+    })
 
-received : (s : State) (r : Answer × State) → rx_step s ≡ Ok r → SameSize s r.1
+received : (s : State) (r : Answer × State) → rx_step s ≡ Ok r → SameRange s r.1
 received s r is =
     let q = rx_setup s.registers in
-    received_by s (rx.is_idle q s.fifo) (nat_lt (length s.memory) (rx.descriptor_at q + 16))
-    (nat_lt (length s.memory) (rx.buffer_at q s.memory + rx.count_of q s.fifo)) r refl refl is
+    received_by s (rx.is_idle q s.fifo) (leaves s.base s.memory (rx.descriptor_at q) 16)
+    (leaves s.base s.memory (rx.buffer_at q s.memory) (rx.count_of q s.fifo)) r refl refl is
 
 -- ---- transmit steps
 
@@ -131,42 +140,42 @@ handled q d s held =
     let octets = tx.gather s d in
     handled_by q d s octets (frame q d octets) (tx.sends d (length octets)) held
 
-answered : (s : State) (a : TxAnswer) → SameSize s (after_tx_answer s a).1
-answered s tx_answer.Idle = refl
-answered s (tx_answer.Fetched index next causes) = refl
-answered s (tx_answer.Sent index next causes octets kind) = refl
+answered : (s : State) (a : TxAnswer) → SameRange s (after_tx_answer s a).1
+answered s tx_answer.Idle = record { base = refl; size = refl }
+answered s (tx_answer.Fetched index next causes) = record { base = refl; size = refl }
+answered s (tx_answer.Sent index next causes octets kind) = record { base = refl; size = refl }
 
 stepped : (s : State) (why : Option TxRefusal) (x : TxAnswer × Shown) (r : Answer × State)
-    → length x.1.memory ≡ length s.memory → tx_stepped s (tx.unless why x) ≡ Ok r → SameSize s r.1
+    → length x.1.memory ≡ length s.memory → tx_stepped s (tx.unless why x) ≡ Ok r → SameRange s r.1
 stepped s None x r size is =
-    ap (λ z. length z.1.memory) (sym (ok_is _ r is)) ∙ answered (with_shown s x.1) x.0 ∙ size
+    let a = answered (with_shown s x.1) x.0 in
+    in_other (ap (λ z. z.1) (sym (ok_is _ r is))) (record { base = a.base; size = a.size ∙ size })
 stepped s (Some why) x r size is = cc
 
 transmitted_by : (s : State) (idle a : Bool) (r : Answer × State)
-    → nat_lt (length s.memory) (tx_ring.place (tx_setup s.registers) + 16) ≡ a
+    → leaves s.base s.memory (tx_ring.place (tx_setup s.registers)) 16 ≡ a
     → tx_stepped s (if idle then Ok (tx_answer.Idle, sending s)
     else if a then Err tx_refusal.DmaRange
-    else tx.unless (tx.refusal s.gathered s.memory (part s.memory (tx_ring.place (tx_setup s.registers)) 16))
+    else tx.unless (tx.refusal s.base s.gathered s.memory (part s.memory (tx_ring.place (tx_setup s.registers)) 16))
     (tx.handle (tx_setup s.registers) (part s.memory (tx_ring.place (tx_setup s.registers)) 16) (sending s))) ≡ Ok r
-    → SameSize s r.1
-transmitted_by s true a r x is = ap (λ z. length z.1.memory) (sym (ok_is _ r is))
+    → SameRange s r.1
+transmitted_by s true a r x is = in_other (ap (λ z. z.1) (sym (ok_is _ r is))) (record { base = refl; size = refl })
 transmitted_by s false true r x is = cc
 transmitted_by s false false r x is =
     let q = tx_setup s.registers in
     let d : List ℕ = part s.memory (tx_ring.place q) 16 in
-    stepped s (tx.refusal s.gathered s.memory d) (tx.handle q d (sending s)) r
-    (handled q d (sending s) (ltb-false _ _ x)) is
+    stepped s (tx.refusal s.base s.gathered s.memory d) (tx.handle q d (sending s)) r
+    (handled q d (sending s) (lies_by_test s.base s.memory (tx_ring.place q) 16 x).to) is
 
-transmitted : (s : State) (r : Answer × State) → tx_step s ≡ Ok r → SameSize s r.1
+transmitted : (s : State) (r : Answer × State) → tx_step s ≡ Ok r → SameRange s r.1
 unfolding tx.transmit
 transmitted s r is =
     let q = tx_setup s.registers in
-    transmitted_by s (tx_ring.is_idle q) (nat_lt (length s.memory) (tx_ring.place q + 16)) r refl is
+    transmitted_by s (tx_ring.is_idle q) (leaves s.base s.memory (tx_ring.place q) 16) r refl is
 
 -- ---- turns
 
-pub turn_size : (s : State) (t : Turn) (r : Answer × State) → step s (event_of t) ≡ Ok r
-    → length r.1.memory ≡ length s.memory
-turn_size s (Arrive f) r is = arrived s f (nat_lt (length f) 14 || nat_lt 20_000 (length f)) r is
-turn_size s RxStep r is = received s r is
-turn_size s TxStep r is = transmitted s r is
+pub turn_range : (s : State) (t : Turn) (r : Answer × State) → step s (event_of t) ≡ Ok r → SameRange s r.1
+turn_range s (Arrive f) r is = arrived s f (nat_lt (length f) 14 || nat_lt 20_000 (length f)) r is
+turn_range s RxStep r is = received s r is
+turn_range s TxStep r is = transmitted s r is

@@ -22,6 +22,7 @@ use Rattle.em_step.specs.State.{State}
 use Rattle.em_step.specs.declared.event.Answer.TheVariants.{Value}
 use Rattle.em_step.proofs.SetupLaws.{put_same, put_other}
 use Rattle.em_driver.specs.Course.{write}
+use Rattle.em_driver.specs.Driven.{IsGoodFor}
 use Rattle.em_driver.specs.Layout.{IsGoodLayout, IsPlaced}
 use Rattle.em_driver.specs.DeviceOff.{IsOff, Rests}
 use Rattle.em_driver.specs.Receive.{rx_buffer, rx_descriptor}
@@ -37,7 +38,7 @@ use Rattle.em_driver.proofs.rings.ReceiveRing.{writes as writes_unit}
 use Rattle.em_driver.proofs.order.EventsOfOthers.{IsElsewhere, same_sides}
 use Rattle.em_driver.proofs.order.Stages.{IsClosed, IsClosedElsewhere, closed_by, Brings, BringsWith, brings_both}
 use Rattle.em_driver.proofs.order.Stages.{brings_write, brings_memory, brings_all, brings_eeprom}
-use Rattle.em_driver.proofs.rings.MemoryUnits.{rx_ring, unit, unit_at}
+use Rattle.em_driver.proofs.rings.MemoryUnits.{good_same, rx_ring, unit, unit_at}
 use Rattle.em_driver.proofs.order.Accessed.{poked, read_keeps, written, written_so}
 
 -- ---- a device that is off
@@ -87,7 +88,7 @@ pub record IsMaking (l : Layout) (sent : List (List ℕ)) (entries : Entries) (k
     (stored : List (List ℕ)) : Type 0
   where
     pub off : IsOff s
-    pub good : IsGoodLayout (length s.memory) l
+    pub good : IsGoodFor s l
     pub holds : Hold s.registers entries
     pub fresh : (i : ℕ) → i < k → unit l s.memory rx_ring i ≡ fresh_descriptor (rx_buffer l i)
     pub none : stored ≡ []
@@ -98,7 +99,7 @@ making_rests : (l : Layout) (sent : List (List ℕ)) (entries : Entries) (k : �
     → IsMaking l sent entries k s stored → Rests s t → added ≡ [] → IsMaking l sent entries k t (stored ++ added)
 making_rests l sent entries k s t stored added h r none = record {
   off = off_rests s t h.off r;
-  good = subst (λ m. IsGoodLayout (length m) l) (sym r.memory) h.good;
+  good = good_same l r.base (ap length r.memory) h.good;
   holds = subst (λ m. Hold m entries) (sym r.registers) h.holds;
   fresh = λ i low. ap (λ m. unit l m rx_ring i) r.memory ∙ h.fresh i low;
   none = ap (λ x. stored ++ x) none ∙ append-nil stored ∙ h.none;
@@ -114,7 +115,7 @@ making_elsewhere : (l : Layout) (sent : List (List ℕ)) (entries : Entries) (k 
     → lie_in 0x2800 0x2818 entries ≡ true → IsClosedElsewhere l (IsMaking l sent entries k)
 making_elsewhere l sent entries k few own s t stored h e = record {
   off = off_elsewhere l s t h.off e;
-  good = subst (λ n. IsGoodLayout n l) (sym e.size) h.good;
+  good = good_same l e.base e.size h.good;
   holds = hold_elsewhere s.registers t.registers 0x2800 0x2818 entries own (λ o out. out.rx_ring) e.registers h.holds;
   fresh = λ i low. e.units rx_ring i (omega arith) ∙ h.fresh i low;
   none = h.none;
@@ -198,7 +199,7 @@ masked l sent =
     subst (λ x. IsMaking l sent [] 0 x stored)
     (sym (written_so s t (offset_of Imc) Imc 0xFFFF_FFFF (reg_at-offset_of Imc (omega arith)) is))
     (making_same l sent [] 0 s (record s { latches = latches.after_write s.latches Imc 0xFFFF_FFFF }) stored h
-    (record { registers = refl; memory = refl; fifo = refl; gathered = refl; wire = refl })))
+    (record { registers = refl; base = refl; memory = refl; fifo = refl; gathered = refl; wire = refl })))
 
 link_put : (l : Layout) (sent : List (List ℕ)) (s : State) (stored : List (List ℕ)) → IsMaking l sent [] 0 s stored
     → IsMaking l sent [] 0 (record s { registers = registers.put s.registers Ctrl 0x41 }) stored
@@ -270,7 +271,14 @@ eeprom_made l sent =
     (λ v s t stored h is.
     let k = read_keeps s t (offset_of Eerd) (Value v) is in
     making_same l sent [] 0 s t stored h
-    (record { registers = k.registers; memory = k.memory; fifo = k.fifo; gathered = k.gathered; wire = k.wire }))
+    (record {
+      registers = k.registers;
+      base = k.base;
+      memory = k.memory;
+      fifo = k.fifo;
+      gathered = k.gathered;
+      wire = k.wire;
+    }))
 
 high_switch : (o : ℕ) → 0x0400 < o → IsNoSwitch o
 high_switch o low = record { ctrl = λ e. omega arith; rctl = λ e. omega arith; tctl = λ e. omega arith }
@@ -325,7 +333,7 @@ descriptor_made l sent k low =
         fifo = h.off.fifo;
         gathered = h.off.gathered;
       };
-      good = w.good;
+      good = good_same l refl w.size h.good;
       holds = tt;
       fresh = λ i below. elim (cases_eq i k) [
         | inl e ↦ subst (λ j. unit l m rx_ring j ≡ fresh_descriptor (rx_buffer l j)) (sym e) here
@@ -357,9 +365,9 @@ rx_registers l more =
     (write Rdh 0
     (write Rdt (l.rx_count - 1) more))))
 
-pub registers_made : (l : Layout) (sent : List (List ℕ)) (size : ℕ) → IsGoodLayout size l → IsPlaced l
+pub registers_made : (l : Layout) (sent : List (List ℕ)) (base end : ℕ) → IsGoodLayout base end l → IsPlaced l
     → Brings l (IsMaking l sent [] l.rx_count) (IsMaking l sent (rx_entries l) l.rx_count) (rx_registers l)
-registers_made l sent size good placed =
+registers_made l sent base end good placed =
     let n : ℕ = l.rx_count in
     let low : ℕ = l.rx_ring % 0x1_0000_0000 in
     let high : ℕ = l.rx_ring / 0x1_0000_0000 in

@@ -12,7 +12,9 @@ use Rattle.em_step.specs.Step.{step}
 use Rattle.em_step.specs.declared.event.Answer.TheVariants.{Done}
 use Rattle.em_step.proofs.ResetLaws.{zero_after_reset}
 use Rattle.em_driver.specs.Course.{done, write, Follows}
+use Rattle.em_driver.specs.Driven.{IsGoodFor}
 use Rattle.em_driver.specs.Layout.{IsGoodLayout, IsPlaced}
+use Rattle.em_driver.proofs.rings.MemoryUnits.{good_same}
 use Rattle.em_driver.specs.DeviceOff.{IsOff}
 use Rattle.em_driver.specs.Start.{Start, device_reset, until_reset, after_reset, start, eeprom}
 use Rattle.em_driver.specs.Start.{receive_address, multicast_table, receive_ring, transmit_ring, descriptors}
@@ -27,25 +29,27 @@ use Rattle.em_driver.proofs.bring_up.TxRingMade.{tx_registers, tx_registers_made
 use Rattle.em_driver.proofs.bring_up.RxRingMade.{IsMaking, link_made, eeprom_made, address_made, table_made}
 use Rattle.em_driver.proofs.bring_up.RxRingMade.{descriptors_made}
 use Rattle.em_driver.proofs.bring_up.RxRingMade.{registers_made, rx_registers}
-use Rattle.em_driver.proofs.bring_up.MemorySize.{turn_size}
+use Rattle.em_driver.proofs.bring_up.MemorySize.{turn_range}
 use Rattle.em_driver.proofs.order.Stages.{Stage, At, IsClosed, closed_by, event_at, not_none}
 use Rattle.em_driver.proofs.order.Accessed.{written_so}
 
 -- ---- until the reset
 
--- the octets of memory are so many
-abbrev IsSized : ℕ → Stage
-IsSized size s stored = length s.memory ≡ size
+-- memory lies from a base on, and ends there
+abbrev IsThere : ℕ → ℕ → Stage
+IsThere base end s stored = (s.base ≡ base) × (length s.memory ≡ end)
 
-sized_closed : (l : Layout) (size : ℕ) → IsClosed l (IsSized size)
-sized_closed l size =
-    closed_by l (IsSized size) (λ s stored t r h is. turn_size s t r is ∙ h) (λ s t stored h e. e.size ∙ h)
+there_closed : (l : Layout) (base end : ℕ) → IsClosed l (IsThere base end)
+there_closed l base end =
+    closed_by l (IsThere base end)
+    (λ s stored t r h is. let k = turn_range s t r is in (k.base ∙ h.0, k.size ∙ h.1))
+    (λ s t stored h e. (e.base ∙ h.0, e.size ∙ h.1))
 
-masked : (size : ℕ) (s t : State) (stored : List (List ℕ)) → IsSized size s stored
-    → step s (writes (offset_of Imc) 0xFFFF_FFFF) ≡ Ok (Done, t) → IsSized size t stored
-masked size s t stored h is =
-    ap (λ x. length x.memory) (written_so s t (offset_of Imc) Imc 0xFFFF_FFFF (reg_at-offset_of Imc (omega arith)) is)
-    ∙ h
+masked : (base end : ℕ) (s t : State) (stored : List (List ℕ)) → IsThere base end s stored
+    → step s (writes (offset_of Imc) 0xFFFF_FFFF) ≡ Ok (Done, t) → IsThere base end t stored
+masked base end s t stored h is =
+    let at = written_so s t (offset_of Imc) Imc 0xFFFF_FFFF (reg_at-offset_of Imc (omega arith)) is in
+    (ap (λ x. x.base) at ∙ h.0, ap (λ x. length x.memory) at ∙ h.1)
 
 is_off : (s : State) → IsOff (reset_of s)
 is_off s = record {
@@ -58,14 +62,14 @@ is_off s = record {
 }
 
 -- the first stage after it
-made_by_reset : (l : Layout) (size : ℕ) (s t : State) (stored : List (List ℕ)) → IsGoodLayout size l
-    → IsSized size s stored → step s (writes (offset_of Ctrl) 0x0400_0000) ≡ Ok (Done, t) → IsMaking l t.wire [] 0 t []
-made_by_reset l size s t stored good h is =
+made_by_reset : (l : Layout) (base end : ℕ) (s t : State) (stored : List (List ℕ)) → IsGoodLayout base end l
+    → IsThere base end s stored → step s (writes (offset_of Ctrl) 0x0400_0000) ≡ Ok (Done, t) → IsMaking l t.wire [] 0 t []
+made_by_reset l base end s t stored good h is =
     subst (λ x. IsMaking l x.wire [] 0 x [])
     (sym (written_so s t (offset_of Ctrl) Ctrl 0x0400_0000 (reg_at-offset_of Ctrl (omega arith)) is))
     (record {
       off = is_off s;
-      good = subst (λ n. IsGoodLayout n l) (sym h) good;
+      good = good_same l h.0 h.1 good;
       holds = tt;
       fresh = λ i low. absurd (omega arith);
       none = refl;
@@ -80,7 +84,8 @@ made_from_reset : (l : Layout) (sent : List (List ℕ)) (w v : World) (n : ℕ) 
 unfolding after_reset receive_ring transmit_ring Follows
 made_from_reset l sent w v n placed spared h f =
     let good = h.good in
-    let size : ℕ = length (present w).memory in
+    let base : ℕ = (present w).base in
+    let end : ℕ = length (present w).memory in
     let before : List (List ℕ) = w.stored in
     let sending : Start = write Tctl 0x0004_010A (done None) in
     let transmit : Start = descriptors l.tx_ring l.tx_count l.tx_buffers (tx_registers l sending) in
@@ -94,10 +99,10 @@ made_from_reset l sent w v n placed spared h f =
     let c = address_made l sent b.0 before b.1.world v table b.1.events b.1.at b.1.follows in
     let d = table_made l sent before c.world v receive c.events c.at c.follows in
     let e = descriptors_made l sent before d.world v (rx_registers l receiving) d.events d.at d.follows in
-    let g = registers_made l sent size good placed before e.world v receiving e.events e.at e.follows in
+    let g = registers_made l sent base end good placed before e.world v receiving e.events e.at e.follows in
     let i = receiving_enabled l sent placed before g.world v transmit g.events g.at g.follows in
     let j = tx_descriptors_made l sent before i.world v (tx_registers l sending) i.events i.at i.follows in
-    let k = tx_registers_made l sent size good placed before j.world v sending j.events j.at j.follows in
+    let k = tx_registers_made l sent base end good placed before j.world v sending j.events j.at j.follows in
     let o = sending_enabled l sent before k.world v (done None) k.events k.at k.follows in
     subst (At l (IsStarted l sent) before) {x = o.world} {y = v} (sym {a = v} {b = o.world} o.follows.world_is) o.at
 
@@ -112,21 +117,22 @@ reset_follows w m r first second =
     writes_on w m r Imc 0xFFFF_FFFF (device_reset end) 2 1 started first refl
     (resets_on m r r (Some Memory) end 1 0 started second refl (ends r started))
 
-from_mask : (l : Layout) (w m v : World) (n k : ℕ) → IsGoodLayout (length (present w).memory) l → IsPlaced l
+from_mask : (l : Layout) (w m v : World) (n k : ℕ) → IsGoodFor (present w) l → IsPlaced l
     → IsSpared l w.spared
     → Accesses w (writes (offset_of Imc) 0xFFFF_FFFF) Done m → n ≡ 1 + k
     → Follows m (device_reset (after_reset l)) k None v → StartsInOrder l w n v
 unfolding Follows until_reset
 from_mask l w m v n k good placed spared first count (inl (refused, none, is)) = absurd (not_none _ is)
 from_mask l w m v n k good placed spared first count (inr step) =
-    let size : ℕ = length (present w).memory in
+    let base : ℕ = (present w).base in
+    let end : ℕ = length (present w).memory in
     let r : World = step.mid in
-    let sized = event_at l (IsSized size) (IsSized size) w.stored w m (writes (offset_of Imc) 0xFFFF_FFFF) Done
-    (sized_closed l size) (masked size)
-    (record { stored = []; is = sym (append-nil w.stored); holds = refl; spared = spared }) first in
-    let made = event_at l (IsSized size) (λ s stored. IsMaking l s.wire [] 0 s []) w.stored m r
-    (writes (offset_of Ctrl) 0x0400_0000) Done (sized_closed l size)
-    (λ s t stored h is. made_by_reset l size s t stored good h is) sized step.step in
+    let there = event_at l (IsThere base end) (IsThere base end) w.stored w m (writes (offset_of Imc) 0xFFFF_FFFF) Done
+    (there_closed l base end) (masked base end)
+    (record { stored = []; is = sym (append-nil w.stored); holds = (refl, refl); spared = spared }) first in
+    let made = event_at l (IsThere base end) (λ s stored. IsMaking l s.wire [] 0 s []) w.stored m r
+    (writes (offset_of Ctrl) 0x0400_0000) Done (there_closed l base end)
+    (λ s t stored h is. made_by_reset l base end s t stored good h is) there step.step in
     let started = made_from_reset l (present r).wire r v step.others placed made.spared made.holds step.more in
     record {
       reset = r;
@@ -142,7 +148,7 @@ from_mask l w m v n k good placed spared first count (inr step) =
       wire = started.holds.wire;
     }
 
-pub start_order : (l : Layout) (w v : World) (n : ℕ) → IsGoodLayout (length (present w).memory) l → IsPlaced l
+pub start_order : (l : Layout) (w v : World) (n : ℕ) → IsGoodFor (present w) l → IsPlaced l
     → IsSpared l w.spared → Follows w (start l) n None v → StartsInOrder l w n v
 unfolding Follows start until_reset
 start_order l w v n good placed spared f =

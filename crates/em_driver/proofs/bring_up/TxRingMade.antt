@@ -116,7 +116,7 @@ listening_elsewhere : (l : Layout) (sent : List (List ℕ)) (entries : Entries) 
 listening_elsewhere l sent entries k few own s t stored h e =
     let r = rx_elsewhere l s t h.receiving e in
     record {
-      layout = laid_same l s t e.size h.layout;
+      layout = laid_same l s t e.base e.size h.layout;
       receiving = r.but;
       marked = r.mark h.marked;
       waits = r.waiting ∙ append-nil (waiting l s) ∙ h.waits;
@@ -218,7 +218,7 @@ listening_put l sent entries k s stored reg v u quiet others kept h =
     = rx_same l s t h.receiving
     (same_ring l s t (put_other_side is_rx_side s.registers reg v quiet.receiving) refl) refl in
     record {
-      layout = laid_same l s t refl h.layout;
+      layout = laid_same l s t refl refl h.layout;
       receiving = r.but;
       marked = r.mark h.marked;
       waits = r.waiting ∙ append-nil (waiting l s) ∙ h.waits;
@@ -299,7 +299,7 @@ descriptor_made l sent k low =
       buffers = λ i below. w.other rx_buffers i below tt;
     }) refl in
     let made : IsListening l sent [] (k + 1) now stored = record {
-      layout = laid_same l s now w.size h.layout;
+      layout = laid_same l s now refl w.size h.layout;
       receiving = r.but;
       marked = r.mark h.marked;
       waits = r.waiting ∙ append-nil (waiting l s) ∙ h.waits;
@@ -345,9 +345,9 @@ quiet o low ring =
           arith;
     }
 
-pub tx_registers_made : (l : Layout) (sent : List (List ℕ)) (size : ℕ) → IsGoodLayout size l → IsPlaced l
+pub tx_registers_made : (l : Layout) (sent : List (List ℕ)) (base end : ℕ) → IsGoodLayout base end l → IsPlaced l
     → Brings l (IsListening l sent [] l.tx_count) (IsListening l sent (tx_entries l) l.tx_count) (tx_registers l)
-tx_registers_made l sent size good placed =
+tx_registers_made l sent base end good placed =
     let n : ℕ = l.tx_count in
     let low : ℕ = l.tx_ring % 0x1_0000_0000 in
     let high : ℕ = l.tx_ring / 0x1_0000_0000 in
@@ -412,7 +412,7 @@ enabled_sending l sent s stored h =
     record {
       driven = record {
         but = record {
-          layout = laid_same l s t refl h.layout;
+          layout = laid_same l s t refl refl h.layout;
           receiving = r.but;
           sending = record {
             tctl = put_same s.registers Tctl 0x4_010A;

@@ -1,8 +1,9 @@
 -- A course that is followed where memory is refused nowhere is played.
-use Rattle.std.proofs.Common.{◌≡◌, ◌∙◌, ◌⊎◌, ℕ, ◌+◌, ◌≤◌, ◌<◌, nat_lt, Bool, true, false, ◌||◌, cond}
-use Rattle.std.proofs.Common.{List, [], ◌∷◌, length, Result, Ok, Err, None, refl, sym, ap, ap₂, subst, inl, inr}
-use Rattle.std.proofs.lemmas.Bool.{false≢true, lt-ltb, le-ltb}
-use Rattle.em_mem.specs.Memory.{part}
+use Rattle.std.proofs.Common.{◌≡◌, ◌∙◌, ◌⊎◌, ℕ, ◌+◌, Bool, true, false, ◌||◌, cond}
+use Rattle.std.proofs.Common.{List, [], ◌∷◌, Result, Ok, Err, None, refl, sym, ap, ap₂, subst, inl, inr}
+use Rattle.std.proofs.lemmas.Bool.{false≢true}
+use Rattle.em_mem.specs.Memory.{LiesIn, leaves, part}
+use Rattle.em_mem.proofs.NeedsLaws.{stays_in}
 use Rattle.em_regs.specs.Table.{offset_of}
 use Rattle.em_regs.specs.declared.reg.Reg.TheVariants.{Ctrl}
 use Rattle.em_step.specs.Event.{Event, reads, writes, pokes}
@@ -138,20 +139,21 @@ ended_is m v n a b at count is = rw (at, count, is) refl
 said : {A T : Type 0} {t u : T} (says : A → Bool) (x a : A) → a ≡ x → says x ≡ true → says a ≡ false → t ≡ u
 said says x a is holds fails = absurd (false≢true (sym fails ∙ ap says is ∙ holds))
 
--- octets past the end of memory
+-- octets that leave memory
 past_is : {A : Type 0} (m v : World) (addr len n : ℕ) (a stopped : A) (more : Played A) → v ≡ m
-    → length v.machine.present.memory < addr + len → n ≡ 0 → a ≡ stopped
-    → cond (nat_lt (length m.machine.present.memory) (addr + len)) (ended m stopped) more
+    → leaves (present v).base (present v).memory addr len ≡ true → n ≡ 0 → a ≡ stopped
+    → cond (leaves (present m).base (present m).memory addr len) (ended m stopped) more
     ≡ record { events = n; answer = a; world = v }
 past_is m v addr len n a stopped more at past count is =
-    let past = subst (λ x. length (present x).memory < addr + len) at past in
-    ap (λ b. cond b (ended m stopped) more) (lt-ltb _ _ past) ∙ ended_is m v n a stopped at count is
+    let past = subst (λ x. leaves (present x).base (present x).memory addr len ≡ true) at past in
+    ap (λ b. cond b (ended m stopped) more) past ∙ ended_is m v n a stopped at count is
 
 -- octets that memory has
 held_is : {A : Type 0} (m : World) (addr len : ℕ) (p more other : Played A)
-    → addr + len ≤ length m.machine.present.memory → more ≡ p
-    → cond (nat_lt (length m.machine.present.memory) (addr + len)) other more ≡ p
-held_is m addr len p more other held is = ap (λ b. cond b other more) (le-ltb _ _ held) ∙ is
+    → LiesIn (present m).base (present m).memory addr len → more ≡ p
+    → cond (leaves (present m).base (present m).memory addr len) other more ≡ p
+held_is m addr len p more other held is =
+    ap (λ b. cond b other more) (stays_in (present m).base (present m).memory addr len held) ∙ is
 
 -- the bus was refused no memory: it can't be, or the answer says so
 abbrev pub IsAmple : {A : Type 0} → (A → Bool) → A → World → Type 0
@@ -235,7 +237,7 @@ followed_is_played bus own (peek addr len stopped next) w v n a tells (inr h) al
     let here = passed w in
     held_is here addr len (record { events = n; answer = a; world = v })
     (play here (next (part (present here).memory addr len))) (ended here stopped)
-    (subst (λ x. addr + len ≤ length (present x).memory) is.0 h.2.held)
+    (subst (λ x. LiesIn (present x).base (present x).memory addr len) is.0 h.2.held)
     (ap₂ (λ x o. play x (next o)) (sym is.0) (sym octets) ∙ more)
 followed_is_played bus own (poke addr octets stopped more) w v n a tells (inl h) alone none ample fed =
     let m = passed w in

@@ -1,7 +1,7 @@
 -- What a course does to the machine is a run of calls.
-use Rattle.std.proofs.Common.{◌≡◌, ℕ, ◌+◌, nat_lt, Bool, true, false, cond, List, [], ◌∷◌, ◌++◌, length}
+use Rattle.std.proofs.Common.{◌≡◌, ℕ, Bool, true, false, cond, List, [], ◌∷◌, ◌++◌}
 use Rattle.std.proofs.Common.{Result, Ok, Err, refl, sym, ap, subst, inl, inr}
-use Rattle.em_mem.specs.Memory.{part}
+use Rattle.em_mem.specs.Memory.{leaves, part}
 use Rattle.em_regs.specs.Table.{offset_of}
 use Rattle.em_regs.specs.declared.reg.Reg.TheVariants.{Ctrl}
 use Rattle.em_step.specs.Event.{Event, reads, writes, pokes}
@@ -83,7 +83,7 @@ play_runs (reset stopped more) w =
 play_runs (peek addr len stopped next) w =
     let m = passed w in
     let memory = (present m).memory in
-    let past = nat_lt (length memory) (addr + len) in
+    let past = leaves (present m).base memory addr len in
     let octets = part memory addr len in
     let calls = course_calls m (next octets) in
     run_join w.machine m.machine (cond past (ended m stopped) (play m (next octets))).world.machine (passed_calls w)

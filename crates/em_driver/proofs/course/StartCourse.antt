@@ -291,14 +291,19 @@ pub stops_as : {w v : World} (part : Layout → Part) {l k : Layout} {before aft
 stops_as {w = w} {v = v} part {l = l} {before = before} {after = after} {why = why} stopped e = subst (λ x. Stops w (part x) before why v after) e stopped
 
 -- a good layout is placed
-placed_side : (size : ℕ) (side : Side) → IsGoodSide size side → size ≤ 0xFFFF_FFFF_FFFF_FFFF → IsPlacedSide side
-placed_side size side good h = record {
+placed_side : (base end : ℕ) (side : Side) → IsGoodSide base end side → end ≤ 0xFFFF_FFFF_FFFF_FFFF → IsPlacedSide side
+placed_side base end side good h = record {
   count = good.count;
-  inside = record { ring = omega (arith, good.inside.ring, h); buffers = omega (arith, good.inside.buffers, h) };
+  inside = record {
+    ring_from = omega arith;
+    ring = omega (arith, good.inside.ring, h);
+    buffers_from = omega arith;
+    buffers = omega (arith, good.inside.buffers, h);
+  };
 }
 
-pub placed : (size : ℕ) (l : Layout) → IsGoodLayout size l → size ≤ 0xFFFF_FFFF_FFFF_FFFF → IsPlaced l
-placed size l good h = record {
-  receive = placed_side size (rx l) good.receive h;
-  transmit = placed_side size (tx l) good.transmit h;
+pub placed : (base end : ℕ) (l : Layout) → IsGoodLayout base end l → end ≤ 0xFFFF_FFFF_FFFF_FFFF → IsPlaced l
+placed base end l good h = record {
+  receive = placed_side base end (rx l) good.receive h;
+  transmit = placed_side base end (tx l) good.transmit h;
 }

@@ -4,7 +4,8 @@ use Rattle.std.proofs.Common.{refl, sym, ap, subst, inl, inr, arith, Option, Som
 use Rattle.std.proofs.Common.{Result, Ok, Err, if◌then◌else◌}
 use Rattle.std.specs.Prelude.{nat_lt}
 use Rattle.std.proofs.lemmas.Bool.Decides.{nat_tests}
-use Rattle.em_mem.specs.Memory.{put}
+use Rattle.em_mem.specs.Memory.{LiesIn, leaves, put}
+use Rattle.em_mem.proofs.NeedsLaws.{stays_in}
 use Rattle.em_regs.specs.declared.reg.Reg.{Reg}
 use Rattle.em_regs.specs.RegFile as registers
 use Rattle.em_regs.specs.Table.{reg_at}
@@ -41,6 +42,7 @@ written s t o reg v there stored by h =
 -- a read leaves all but the latches
 pub record ReadKeeps (s t : State) : Type 0 where
   pub registers : t.registers ≡ s.registers
+  pub base : t.base ≡ s.base
   pub memory : t.memory ≡ s.memory
   pub fifo : t.fifo ≡ s.fifo
   pub gathered : t.gathered ≡ s.gathered
@@ -48,8 +50,8 @@ pub record ReadKeeps (s t : State) : Type 0 where
 
 keeps_by : (s : State) (reg : Reg) (b : Bool)
     → ReadKeeps s (if b then record s { latches = latches.after_read s.latches reg } else s)
-keeps_by s reg true = record { registers = refl; memory = refl; fifo = refl; gathered = refl; wire = refl }
-keeps_by s reg false = record { registers = refl; memory = refl; fifo = refl; gathered = refl; wire = refl }
+keeps_by s reg true = record { registers = refl; base = refl; memory = refl; fifo = refl; gathered = refl; wire = refl }
+keeps_by s reg false = record { registers = refl; base = refl; memory = refl; fifo = refl; gathered = refl; wire = refl }
 
 read_by : (s t : State) (r : Option Reg) (a : Answer)
     → at_register r (λ reg. (Value (gives s reg), after_read s reg)) ≡ Ok (a, t) → ReadKeeps s t
@@ -84,15 +86,16 @@ poked_by s t at octets false false r is h = sym (ap (λ x. x.1) (ok_is _ (Done, 
 pub poked : (s t : State) (at : ℕ) (octets : List ℕ) → step s (pokes at octets) ≡ Ok (Done, t)
     → t ≡ record s { memory = put s.memory at octets }
 poked s t at octets h =
-    poked_by s t at octets (nat_lt (length s.memory) (at + length octets))
+    poked_by s t at octets (leaves s.base s.memory at (length octets))
     (length octets == 0 || nat_lt 16_384 (length octets)) (poke s at octets) refl h
 
 -- a memory write that lies in memory is refused for want of memory alone
-pub poke_refused : (s : State) (at : ℕ) (octets : List ℕ) (refusal : Refusal) → at + length octets ≤ length s.memory
+pub poke_refused : (s : State) (at : ℕ) (octets : List ℕ) (refusal : Refusal)
+    → LiesIn s.base s.memory at (length octets)
     → 1 ≤ length octets → length octets ≤ 16_384 → Refuses s (pokes at octets) refusal → refusal ≡ Memory
 poke_refused s at octets refusal held some few (inl want) = want.0
 poke_refused s at octets refusal held some few (inr h) =
-    let a : nat_lt (length s.memory) (at + length octets) ≡ false = grind (arith, nat_tests) in
+    let a : leaves s.base s.memory at (length octets) ≡ false = stays_in s.base s.memory at (length octets) held in
     let b : (length octets == 0) ≡ false = grind (arith, nat_tests) in
     let c : nat_lt 16_384 (length octets) ≡ false = grind (arith, nat_tests) in
     let out : Result (Answer × State) Refusal = Ok (Done, record s { memory = put s.memory at octets }) in

@@ -125,7 +125,7 @@ pub moves_read : (l : Layout) (s t : State) (o : ℕ) (a : Answer) → IsDrivenB
     → Moves l s t []
 moves_read l s t o a h is =
     let k = read_keeps s t o a is in
-    moves_same l s t h k.registers k.memory k.fifo k.gathered k.wire
+    moves_same l s t h k.registers k.base k.memory k.fifo k.gathered k.wire
 
 pub order_read : (l : Layout) (w v : World) (o : ℕ) (a : Answer) → IsUndisturbed l w → Accesses w (reads o) a v
     → InOrder l w v [] []

@@ -4,9 +4,9 @@ use Rattle.std.proofs.Common.{length, refl, sym, ap, subst, inl, inr, arith, Opt
 use Rattle.std.proofs.Common.{if◌then◌else◌}
 use Rattle.std.specs.FinMap as map
 use Rattle.std.specs.Prelude.{bit_and, nat_lt, IfSome}
-use Rattle.std.proofs.lemmas.Bool.{ltb-false}
 use Rattle.std.proofs.lemmas.List.{append_cancel_left}
-use Rattle.em_mem.specs.Memory.{put}
+use Rattle.em_mem.specs.Memory.{EndsIn, leaves, put}
+use Rattle.em_mem.proofs.NeedsLaws.{lies_by_test}
 use Rattle.em_mem.proofs.PutLaws.{length-put}
 use Rattle.em_regs.specs.declared.reg.Reg.{Reg}
 use Rattle.em_regs.specs.declared.reg.Reg.TheVariants.{Ctrl, Eerd}
@@ -58,16 +58,18 @@ pub record IsElsewhere (l : Layout) (s t : State) : Type 0 where
   pub registers :
       (t.registers ≡ s.registers)
       ⊎ ((o : ℕ) × (v : ℕ) × IsNoDriverRegister o × (t.registers ≡ map.insert s.registers o v))
+  pub base : t.base ≡ s.base
   pub size : length t.memory ≡ length s.memory
   pub units : (k : Region) (i : ℕ) → i < count_of l k → unit l t.memory k i ≡ unit l s.memory k i
   pub fifo : t.fifo ≡ s.fifo
   pub gathered : t.gathered ≡ s.gathered
   pub wire : t.wire ≡ s.wire
 
-elsewhere_same : (l : Layout) (s t : State) → t.registers ≡ s.registers → t.memory ≡ s.memory → t.fifo ≡ s.fifo
-    → t.gathered ≡ s.gathered → t.wire ≡ s.wire → IsElsewhere l s t
-elsewhere_same l s t regs memory fifo gathered wire = record {
+elsewhere_same : (l : Layout) (s t : State) → t.registers ≡ s.registers → t.base ≡ s.base → t.memory ≡ s.memory
+    → t.fifo ≡ s.fifo → t.gathered ≡ s.gathered → t.wire ≡ s.wire → IsElsewhere l s t
+elsewhere_same l s t regs base memory fifo gathered wire = record {
   registers = inl regs;
+  base = base;
   size = ap length memory;
   units = λ k i low. ap (λ m. unit l m k i) memory;
   fifo = fifo;
@@ -79,6 +81,7 @@ word_elsewhere : (l : Layout) (s : State) (o v : ℕ) → IsNoDriverRegister o
     → IsElsewhere l s (record s { registers = map.insert s.registers o v })
 word_elsewhere l s o v out = record {
   registers = inr (o, v, out, refl);
+  base = refl;
   size = refl;
   units = λ k i low. refl;
   fifo = refl;
@@ -115,10 +118,10 @@ write_by : (l : Layout) (s : State) (reg : Reg) (v : ℕ) (kind : Kind) → kind
 write_by l s reg v Stored other out = word_elsewhere l s (offset_of reg) (bit_and v (mask_of reg)) out
 write_by l s reg v Control other out = absurd (other refl)
 write_by l s reg v EepromRead other out = eerd_elsewhere l s v (has v 0x1)
-write_by l s reg v Status other out = elsewhere_same l s s refl refl refl refl refl
+write_by l s reg v Status other out = elsewhere_same l s s refl refl refl refl refl refl
 write_by l s reg v Interrupt other out =
-    elsewhere_same l s (after_latch_write s reg v) refl refl refl refl refl
-write_by l s reg v Counter other out = elsewhere_same l s (after_latch_write s reg v) refl refl refl refl refl
+    elsewhere_same l s (after_latch_write s reg v) refl refl refl refl refl refl
+write_by l s reg v Counter other out = elsewhere_same l s (after_latch_write s reg v) refl refl refl refl refl refl
 
 write_elsewhere : (l : Layout) (s : State) (reg : Reg) (v : ℕ) → IsNoDriverRegister (offset_of reg)
     → IsElsewhere l s (after_write s reg v)
@@ -139,9 +142,10 @@ written_by l s o v (Some reg) r lies out is =
 -- ---- memory, and the link
 
 memory_elsewhere : (l : Layout) (s : State) (a : ℕ) (d : List ℕ) → IsNoDriverMemory l a (length d)
-    → a + length d ≤ length s.memory → IsElsewhere l s (record s { memory = put s.memory a d })
+    → EndsIn s.memory a (length d) → IsElsewhere l s (record s { memory = put s.memory a d })
 memory_elsewhere l s a d out held = record {
   registers = inl refl;
+  base = refl;
   size = length-put s.memory a d held;
   units = λ k i low. unit_outside l s.memory a d held out k i low;
   fifo = refl;
@@ -150,19 +154,19 @@ memory_elsewhere l s a d out held = record {
 }
 
 poked_by : (l : Layout) (s : State) (a : ℕ) (d : List ℕ) (past short : Bool) (r : Answer × State)
-    → IsNoDriverMemory l a (length d) → nat_lt (length s.memory) (a + length d) ≡ past
+    → IsNoDriverMemory l a (length d) → leaves s.base s.memory a (length d) ≡ past
     → (if past then Err Range else if short then Err Length
     else Ok (Done, record s { memory = put s.memory a d })) ≡ Ok r
     → IsElsewhere l s r.1
 poked_by l s a d true short r out is e = cc
 poked_by l s a d false true r out is e = cc
 poked_by l s a d false false r out is e =
-    subst (λ x. IsElsewhere l s x.1) (ok_is _ r e) (memory_elsewhere l s a d out (ltb-false _ _ is))
+    subst (λ x. IsElsewhere l s x.1) (ok_is _ r e) (memory_elsewhere l s a d out (lies_by_test s.base s.memory a (length d) is).to)
 
 link_by : (l : Layout) (s : State) (up b : Bool)
     → IsElsewhere l s (if b then record s { link = up; latches = latches.after_raise s.latches 0x4 } else s)
-link_by l s up true = elsewhere_same l s _ refl refl refl refl refl
-link_by l s up false = elsewhere_same l s s refl refl refl refl refl
+link_by l s up true = elsewhere_same l s _ refl refl refl refl refl refl
+link_by l s up false = elsewhere_same l s s refl refl refl refl refl refl
 
 -- ---- any event
 
@@ -177,10 +181,10 @@ pub others_elsewhere : (l : Layout) (s : State) (e : Event) (r : Answer × State
     → step s e ≡ Ok r → IsElsewhere l s r.1
 others_elsewhere l s (reads o) r plain out is =
     let k = read_keeps s r.1 o r.0 is in
-    elsewhere_same l s r.1 k.registers k.memory k.fifo k.gathered k.wire
+    elsewhere_same l s r.1 k.registers k.base k.memory k.fifo k.gathered k.wire
 others_elsewhere l s (writes o v) r plain out is = written_by l s o v (reg_at o) r (lies o) out is
 others_elsewhere l s (pokes a d) r plain out is =
-    poked_by l s a d (nat_lt (length s.memory) (a + length d)) (length d == 0 || nat_lt 16_384 (length d)) r out
+    poked_by l s a d (leaves s.base s.memory a (length d)) (length d == 0 || nat_lt 16_384 (length d)) r out
     refl is
 others_elsewhere l s (links up) r plain out is =
     subst (λ x. IsElsewhere l s x.1) (ok_is (Done, after_link s up) r is) (link_by l s up (differ up s.link))
@@ -215,7 +219,7 @@ rx_elsewhere l s t h k = rx_same l s t h (record {
 
 elsewhere_moves : (l : Layout) (s t : State) → IsDrivenBut l s → IsElsewhere l s t → Moves l s t []
 elsewhere_moves l s t h k = record {
-  layout = laid_same l s t k.size h.layout;
+  layout = laid_same l s t k.base k.size h.layout;
   receiving = rx_elsewhere l s t h.receiving k;
   sending = tx_same l s t h.sending (record {
     registers = (same_sides s.registers t.registers k.registers).1;

@@ -73,7 +73,7 @@ clears l s t h filled is =
     (w.other rx_buffers i inside tt) in
     let all : Clears l s u = record {
       but = record {
-        layout = laid_same l s u w.size h.but.layout;
+        layout = laid_same l s u refl w.size h.but.layout;
         receiving = record {
           rctl = r.rctl;
           base = r.base;
@@ -180,7 +180,7 @@ gives_back l s t h c is =
     let all : Gives l s u = record {
       driven = record {
         but = record {
-          layout = laid_same l s u refl h.layout;
+          layout = laid_same l s u refl refl h.layout;
           receiving = record {
             rctl = setup.control ∙ r.rctl;
             base = setup.base ∙ r.base;

@@ -51,7 +51,7 @@ hands l s m h size ring buffers kept =
     record {
       driven = record {
         but = record {
-          layout = laid_same l s t size h.but.layout;
+          layout = laid_same l s t refl size h.but.layout;
           receiving = r.but;
           sending = kept_sending l s t h.but.sending kept;
         };
@@ -221,7 +221,7 @@ queues l s t packet h ready free is =
     let all : Queues l s u packet = record {
       driven = record {
         but = record {
-          layout = laid_same l s u refl h.but.layout;
+          layout = laid_same l s u refl refl h.but.layout;
           receiving = r.but;
           sending = record {
             tctl = setup.control ∙ k.tctl;

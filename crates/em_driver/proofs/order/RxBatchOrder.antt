@@ -3,9 +3,10 @@ use Rattle.std.proofs.Common.{◌≡◌, ◌∙◌, ℕ, zero, suc, ◌+◌, ◌
 use Rattle.std.proofs.Common.{◌∷◌, ◌++◌}
 use Rattle.std.proofs.Common.{length, refl, sym, ap, subst, inl, inr, arith, append_assoc, append-nil}
 use Rattle.std.proofs.Common.{if◌then◌else◌}
-use Rattle.std.specs.Prelude.{nat_lt}
+use Rattle.std.specs.Prelude.{nat_lt, IsTrue}
 use Rattle.std.proofs.lemmas.Bool.{lt-ltb}
-use Rattle.em_mem.specs.Memory.{part, put}
+use Rattle.em_mem.specs.Memory.{LiesIn, leaves, part, put}
+use Rattle.em_mem.proofs.NeedsLaws.{stays_in}
 use Rattle.em_regs.specs.declared.reg.Reg.TheVariants.{Rdt}
 use Rattle.em_regs.specs.RegFile as registers
 use Rattle.em_regs.specs.Setup.{value_of}
@@ -30,7 +31,7 @@ use Rattle.em_driver.proofs.rings.RingPlaces.{following_in}
 use Rattle.em_driver.proofs.rings.ReceiveRing.{first_same}
 use Rattle.em_driver.proofs.rings.TransmitRing.{tx_moves_on}
 use Rattle.em_driver.proofs.order.GivenBack.{clears, cleared_moves, first_packet, gives_back}
-use Rattle.em_driver.proofs.rings.MemoryUnits.{rx_ring, rx_buffers, unit_held}
+use Rattle.em_driver.proofs.rings.MemoryUnits.{rx_ring, rx_buffers, unit_lies}
 use Rattle.em_driver.proofs.order.Accessed.{written, read_gives, read_keeps, poked, poke_refused}
 use Rattle.em_driver.proofs.order.Stages.{beside_access}
 use Rattle.em_driver.proofs.order.DrivenWorld.{passed, passed_by, passed_but, passed_driven, still_undisturbed}
@@ -120,12 +121,19 @@ memory_sound l w v queue count a is order =
 
 -- the descriptor and its buffer are held
 descriptor_held : (l : Layout) (w : World) (i : ℕ) → IsDrivenBut l (present w) → i < l.rx_count
-    → rx_descriptor l i + 16 ≤ length (present w).memory
-descriptor_held l w i h low = unit_held l (length (present w).memory) h.layout.good rx_ring i low
+    → LiesIn (present w).base (present w).memory (rx_descriptor l i) 16
+descriptor_held l w i h low = unit_lies l (present w).base (present w).memory h.layout.good rx_ring i low
 
 buffer_held : (l : Layout) (w : World) (i : ℕ) → IsDrivenBut l (present w) → i < l.rx_count
-    → rx_buffer l i + 2048 ≤ length (present w).memory
-buffer_held l w i h low = unit_held l (length (present w).memory) h.layout.good rx_buffers i low
+    → LiesIn (present w).base (present w).memory (rx_buffer l i) 2048
+buffer_held l w i h low = unit_lies l (present w).base (present w).memory h.layout.good rx_buffers i low
+
+-- what lies in memory does not leave it
+no_past : {A : Type 0} (w : World) (addr len : ℕ)
+    → IsTrue (leaves (present w).base (present w).memory addr len)
+    → LiesIn (present w).base (present w).memory addr len → A
+no_past w addr len past held =
+    absurd (let not_so : false ≡ true = sym (stays_in (present w).base (present w).memory addr len held) ∙ past in cc)
 
 -- from the look at the packet on
 packet_order : (l : Layout) (i count len : ℕ) (queue : List (List ℕ)) (more : List (List ℕ) → Course Answered)
@@ -143,7 +151,10 @@ packet_order l i count len queue more w v events a h at filled long rest (inr (i
     let low = following_in l.rx_count (rdt (present w)) h.driven.but.receiving.tail in
     let held = buffer_held l v (first l (present w)) (passed_but l w v p) low in
     let usual = h.driven.but.receiving.lengths (first l (present w)) low filled in
-    absurd (omega (arith, past.past, held, usual.most, long, ap (rx_buffer l) at))
+    no_past v (rx_buffer l i) len past.past (record {
+      from = omega (arith, held.from, ap (rx_buffer l) at);
+      to = omega (arith, held.to, usual.most, long, ap (rx_buffer l) at);
+    })
 packet_order l i count len queue more w v events a h at filled long rest
     (inr (inr (octets, m, peeks, inl (why, refused, none, is)))) =
     let p = passed_by l w m h peeks.passes in
@@ -152,7 +163,11 @@ packet_order l i count len queue more w v events a h at filled long rest
     let low = following_in l.rx_count (rdt (present w)) h.driven.but.receiving.tail in
     let held = descriptor_held l v (first l (present w)) (passed_but l m v q) low in
     let only : why ≡ refusal.Memory
-    = poke_refused (present v) (rx_descriptor l i + 12) (0 ∷ []) why (omega (arith, held, ap (rx_descriptor l) at))
+    = poke_refused (present v) (rx_descriptor l i + 12) (0 ∷ []) why
+    (record {
+      from = omega (arith, held.from, ap (rx_descriptor l) at);
+      to = omega (arith, held.to, ap (rx_descriptor l) at);
+    })
     (omega arith) (omega arith) refused.refuses in
     memory_sound l w v queue count a (is ∙ ap (λ x. (queue, stopped count (cause_of x))) only)
     (order_on l w m v [] [] [] [] (order_passes l w m h peeks.passes) (order_passes l m v hm refused.passes))
@@ -230,7 +245,10 @@ rx_order l (suc left) i count queue w v events a h at (inl (past, none, is)) =
     let p = passed_by l w v h past.passes in
     let held = descriptor_held l v (first l (present w)) (passed_but l w v p)
     (following_in l.rx_count (rdt (present w)) h.driven.but.receiving.tail) in
-    absurd (omega (arith, past.past, held, ap (rx_descriptor l) at))
+    no_past v (rx_descriptor l i) 16 past.past (record {
+      from = omega (arith, held.from, ap (rx_descriptor l) at);
+      to = omega (arith, held.to, ap (rx_descriptor l) at);
+    })
 rx_order l (suc left) i count queue w v events a h at (inr (d, m, peeks, f)) =
     let p = passed_by l w m h peeks.passes in
     let there : first l (present m) ≡ first l (present w) = first_same l (present w)

@@ -34,7 +34,7 @@ use Rattle.em_driver.specs.declared.outcome.Cause.TheVariants.{Memory, Broken, P
 use Rattle.em_driver.proofs.order.HandedOver.{Hands, fills_buffer, writes_descriptor, IsReady, ready_moves}
 use Rattle.em_driver.proofs.order.HandedOver.{queues}
 use Rattle.em_driver.proofs.rings.ReceiveRing.{RxMoves, rx_moves_on}
-use Rattle.em_driver.proofs.rings.MemoryUnits.{tx_ring, tx_buffers, unit, unit_held}
+use Rattle.em_driver.proofs.rings.MemoryUnits.{tx_ring, tx_buffers, unit, unit_lies}
 use Rattle.em_driver.proofs.order.Accessed.{written, read_gives, read_keeps, poked, poke_refused}
 use Rattle.em_driver.proofs.order.Stages.{IsBeside, beside_access}
 use Rattle.em_driver.proofs.order.DrivenWorld.{Passed, passed_by, passed_but, passed_driven, beside_spared, order_on}
@@ -206,11 +206,14 @@ described_order : (l : Layout) (i count : ℕ) (packet : List ℕ) (queue : List
 unfolding Follows
 described_order l i count packet queue more w u v events a at free good has rest (inl (why, refused, none, is)) =
     let p = passed_by l u v has.order.undisturbed refused.passes in
-    let held = unit_held l (length (present v).memory) (passed_but l u v p).layout.good tx_ring
+    let held = unit_lies l (present v).base (present v).memory (passed_but l u v p).layout.good tx_ring
     (tdt (present u)) has.order.undisturbed.driven.but.sending.tail in
     let only : why ≡ refusal.Memory
     = poke_refused (present v) (tx_descriptor l i) (transmit_descriptor (tx_buffer l i) (length packet)) why
-    (omega (arith, held, ap (tx_descriptor l) (at ∙ sym has.tail))) (omega arith) (omega arith) refused.refuses in
+    (record {
+      from = omega (arith, held.from, ap (tx_descriptor l) (at ∙ sym has.tail));
+      to = omega (arith, held.to, ap (tx_descriptor l) (at ∙ sym has.tail));
+    }) (omega arith) (omega arith) refused.refuses in
     memory_halts l w v (packet ∷ queue) count 1 a (is ∙ ap (λ x. (packet ∷ queue, halted count 1 (cause_of x))) only)
     (order_on l w u v [] [] [] [] has.order (order_passes l u v has.order.undisturbed refused.passes))
 described_order l i count packet queue more w u v events a at free good has rest (inr step) =
@@ -240,10 +243,14 @@ unfolding Follows
 packet_order l i count packet queue more w v events a h at free good rest (inl (why, refused, none, is)) =
     let sizes = packet_sizes packet good in
     let p = passed_by l w v h refused.passes in
-    let held = unit_held l (length (present v).memory) (passed_but l w v p).layout.good tx_buffers
+    let held = unit_lies l (present v).base (present v).memory (passed_but l w v p).layout.good tx_buffers
     (tdt (present w)) h.driven.but.sending.tail in
     let only : why ≡ refusal.Memory
-    = poke_refused (present v) (tx_buffer l i) packet why (omega (arith, held, sizes.1, ap (tx_buffer l) at))
+    = poke_refused (present v) (tx_buffer l i) packet why
+    (record {
+      from = omega (arith, held.from, ap (tx_buffer l) at);
+      to = omega (arith, held.to, sizes.1, ap (tx_buffer l) at);
+    })
     (omega (arith, sizes.0)) (omega (arith, sizes.1)) refused.refuses in
     memory_halts l w v (packet ∷ queue) count 0 a (is ∙ ap (λ x. (packet ∷ queue, halted count 0 (cause_of x))) only)
     (order_passes l w v h refused.passes)

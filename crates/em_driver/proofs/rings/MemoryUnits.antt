@@ -1,12 +1,13 @@
 -- Descriptors and buffers of a layout as units of memory, and what a write to one of them leaves of the others.
 use Rattle.std.proofs.Common.{◌≡◌, ◌≢◌, ◌∙◌, ℕ, ◌+◌, ◌-◌, ◌*◌, ◌<◌, ◌≤◌, List, ◌++◌, length, take, drop, sym, ap}
-use Rattle.std.proofs.Common.{inl, inr, arith}
+use Rattle.std.proofs.Common.{inl, inr, arith, subst}
 use Rattle.std.proofs.lemmas.Bool.{cases_lt}
 use Rattle.std.proofs.lemmas.List.{length-take-le, length-drop, drop-append-le, take-append-le}
 use Rattle.std.proofs.lemmas.List.{drop-take}
 use Rattle.std.proofs.lemmas.List.{take-take, drop-drop, take-append-drop, take_at, drop_at}
-use Rattle.em_mem.specs.Memory.{IsHeld, part, put}
-use Rattle.em_mem.proofs.PutLaws.{drop_past-put, length-part, length-put, put_left, put_right}
+use Rattle.em_mem.specs.Memory.{EndsIn, LiesIn, part, put}
+use Rattle.em_mem.proofs.ItemLaws.{put_left, put_right}
+use Rattle.em_mem.proofs.PutLaws.{drop_past-put, length-part, length-put}
 use Rattle.em_driver.specs.Layout.{Apart, IsGoodLayout}
 use Rattle.em_driver.specs.Others.{IsNoDriverMemory}
 use Rattle.em_driver.specs.declared.layout.Layout.{Layout}
@@ -14,7 +15,7 @@ use Rattle.em_driver.specs.declared.layout.Layout.{Layout}
 -- ---- parts of a list
 
 -- what lies apart from a write stays
-part_apart : (m : List ℕ) (a n b : ℕ) (d : List ℕ) → IsHeld m b (length d) → Apart a n b (length d)
+part_apart : (m : List ℕ) (a n b : ℕ) (d : List ℕ) → EndsIn m b (length d) → Apart a n b (length d)
     → part (put m b d) a n ≡ part m a n
 part_apart m a n b d held (inl before) =
     let front : length (take b m) ≡ b = length-take-le b m (omega arith) in
@@ -114,7 +115,7 @@ large : (a i j : ℕ) → i ≢ j → Apart (a + 2048 * i) 2048 (a + 2048 * j) 2
 large a i j h = elim (cases_lt i j) [ inl l ↦ inl (omega arith) | inr l ↦ inr (omega arith) ]
 
 -- two units have no octet in common
-units_apart : (l : Layout) {n : ℕ} → IsGoodLayout n l → (k k' : Region) (i j : ℕ) → i < count_of l k → j < count_of l k'
+units_apart : (l : Layout) {b n : ℕ} → IsGoodLayout b n l → (k k' : Region) (i j : ℕ) → i < count_of l k → j < count_of l k'
     → AreTwo k i k' j → Apart (unit_at l k i) (size_of k) (unit_at l k' j) (size_of k')
 units_apart l h rx_ring rx_ring i j a b two = small l.rx_ring i j two
 units_apart l h rx_ring rx_buffers i j a b two =
@@ -146,19 +147,34 @@ units_apart l h tx_buffers tx_ring i j a b two =
 units_apart l h tx_buffers tx_buffers i j a b two = large l.tx_buffers i j two
 
 -- a unit lies in memory
-pub unit_held : (l : Layout) (n : ℕ) → IsGoodLayout n l → (k : Region) (i : ℕ) → i < count_of l k
+pub unit_from : (l : Layout) {b n : ℕ} → IsGoodLayout b n l → (k : Region) (i : ℕ) → b ≤ unit_at l k i
+unit_from l h rx_ring i = omega (arith, h.receive.inside.ring_from)
+unit_from l h rx_buffers i = omega (arith, h.receive.inside.buffers_from)
+unit_from l h tx_ring i = omega (arith, h.transmit.inside.ring_from)
+unit_from l h tx_buffers i = omega (arith, h.transmit.inside.buffers_from)
+
+pub unit_held : (l : Layout) {b : ℕ} (n : ℕ) → IsGoodLayout b n l → (k : Region) (i : ℕ) → i < count_of l k
     → unit_at l k i + size_of k ≤ n
 unit_held l n h rx_ring i a = omega (arith, h.receive.inside.ring)
 unit_held l n h rx_buffers i a = omega (arith, h.receive.inside.buffers)
 unit_held l n h tx_ring i a = omega (arith, h.transmit.inside.ring)
 unit_held l n h tx_buffers i a = omega (arith, h.transmit.inside.buffers)
 
+pub unit_lies : (l : Layout) (b : ℕ) (m : List ℕ) → IsGoodLayout b (length m) l → (k : Region) (i : ℕ)
+    → i < count_of l k → LiesIn b m (unit_at l k i) (size_of k)
+unit_lies l b m h k i low = record { from = unit_from l h k i; to = unit_held l (length m) h k i low }
+
+-- a layout stays good where memory begins and ends as it did
+pub good_same : (l : Layout) {b c m n : ℕ} → c ≡ b → n ≡ m → IsGoodLayout b m l → IsGoodLayout c n l
+good_same l {b = b} {n = n} base end h =
+    subst (λ x. IsGoodLayout x n l) (sym base) (subst (λ x. IsGoodLayout b x l) (sym end) h)
+
 part_of_apart : {a : ℕ} (n : ℕ) {b u : ℕ} (o w : ℕ) → Apart a n b u → o + w ≤ u → Apart a n (b + o) w
 part_of_apart {a = a} n {b = b} {u = u} o w (inl h) p = inl (omega arith)
 part_of_apart {a = a} n {b = b} {u = u} o w (inr h) p = inr (omega arith)
 
 -- a write to one unit leaves another one
-pub unit_apart : (l : Layout) (m : List ℕ) → IsGoodLayout (length m) l → (k k' : Region) (i j o : ℕ) (d : List ℕ)
+pub unit_apart : (l : Layout) {b : ℕ} (m : List ℕ) → IsGoodLayout b (length m) l → (k k' : Region) (i j o : ℕ) (d : List ℕ)
     → i < count_of l k → j < count_of l k' → o + length d ≤ size_of k' → AreTwo k i k' j
     → unit l (put m (unit_at l k' j + o) d) k i ≡ unit l m k i
 unit_apart l m good k k' i j o d a b inside two =
@@ -178,26 +194,26 @@ unit_free l a n h rx_buffers i low = outside a n (2048 * i) 2048 h.rx_buffers (o
 unit_free l a n h tx_ring i low = outside a n (16 * i) 16 h.tx_ring (omega arith)
 unit_free l a n h tx_buffers i low = outside a n (2048 * i) 2048 h.tx_buffers (omega arith)
 
-pub unit_outside : (l : Layout) (m : List ℕ) (a : ℕ) (d : List ℕ) → IsHeld m a (length d)
+pub unit_outside : (l : Layout) (m : List ℕ) (a : ℕ) (d : List ℕ) → EndsIn m a (length d)
     → IsNoDriverMemory l a (length d) → (k : Region) (i : ℕ) → i < count_of l k
     → unit l (put m a d) k i ≡ unit l m k i
 unit_outside l m a d held h k i low =
     part_apart m (unit_at l k i) (size_of k) a d held (unit_free l a (length d) h k i low)
 
 -- a write to a unit is a write to what it holds
-pub unit_within : (l : Layout) (m : List ℕ) → IsGoodLayout (length m) l → (k : Region) (j o : ℕ) (d : List ℕ)
+pub unit_within : (l : Layout) {b : ℕ} (m : List ℕ) → IsGoodLayout b (length m) l → (k : Region) (j o : ℕ) (d : List ℕ)
     → j < count_of l k → o + length d ≤ size_of k
     → unit l (put m (unit_at l k j + o) d) k j ≡ put (unit l m k j) o d
 unit_within l m good k j o d b inside =
     part_within m (unit_at l k j) (size_of k) o d inside (unit_held l (length m) good k j b)
 
 -- memory stays as long
-pub unit_size : (l : Layout) (m : List ℕ) → IsGoodLayout (length m) l → (k : Region) (j o : ℕ) (d : List ℕ)
+pub unit_size : (l : Layout) {b : ℕ} (m : List ℕ) → IsGoodLayout b (length m) l → (k : Region) (j o : ℕ) (d : List ℕ)
     → j < count_of l k → o + length d ≤ size_of k → length (put m (unit_at l k j + o) d) ≡ length m
 unit_size l m good k j o d b inside =
     let held = unit_held l (length m) good k j b in
     length-put m (unit_at l k j + o) d (omega arith)
 
-pub unit_long : (l : Layout) (m : List ℕ) → IsGoodLayout (length m) l → (k : Region) (i : ℕ) → i < count_of l k
+pub unit_long : (l : Layout) {b : ℕ} (m : List ℕ) → IsGoodLayout b (length m) l → (k : Region) (i : ℕ) → i < count_of l k
     → length (unit l m k i) ≡ size_of k
 unit_long l m good k i a = length-part m (unit_at l k i) (size_of k) (unit_held l (length m) good k i a)

@@ -17,7 +17,6 @@ use Rattle.em_step.specs.declared.event.Answer.{Answer}
 use Rattle.em_step.proofs.WholeLaws.{arrived, received_whole, sent_whole}
 use Rattle.std.proofs.lemmas.List.Elements.{All-cons, All-nil}
 use Rattle.em_driver.specs.Driven.{IsLaidOut, IsReceivingBut, IsDrivenBut, IsDriven}
-use Rattle.em_driver.specs.Layout.{IsGoodLayout}
 use Rattle.em_turn.specs.Turn.{event_of, stored_by}
 use Rattle.em_driver.specs.declared.layout.Layout.{Layout}
 use Rattle.em_turn.specs.declared.turn.Turn.{Turn}
@@ -30,7 +29,7 @@ use Rattle.em_driver.proofs.rings.TransmitRing.{sends, moves_send, is_whole}
 use Rattle.em_driver.proofs.rings.TransmitRing.{no_tags, pads}
 use Rattle.em_driver.proofs.rings.SideRegisters.{rx_side, tx_side, is_rx_side, is_tx_side, SameSide, same_side, IsOther}
 use Rattle.em_driver.proofs.rings.SideRegisters.{word_other, put_other_side}
-use Rattle.em_driver.proofs.rings.MemoryUnits.{rx_ring, rx_buffers, tx_ring, tx_buffers}
+use Rattle.em_driver.proofs.rings.MemoryUnits.{rx_ring, rx_buffers, tx_ring, tx_buffers, good_same}
 
 -- what a turn leaves, and the packets that it added to what waits
 pub record Moves (l : Layout) (s t : State) (added : List (List ℕ)) : Type 0 where
@@ -38,21 +37,23 @@ pub record Moves (l : Layout) (s t : State) (added : List (List ℕ)) : Type 0 w
   pub receiving : RxMoves l s t added
   pub sending : TxMoves l s t
 
-pub laid_same : (l : Layout) (s t : State) → length t.memory ≡ length s.memory → IsLaidOut l s → IsLaidOut l t
-laid_same l s t size h = record { good = subst (λ n. IsGoodLayout n l) (sym size) h.good; placed = h.placed }
+pub laid_same : (l : Layout) (s t : State) → t.base ≡ s.base → length t.memory ≡ length s.memory → IsLaidOut l s
+    → IsLaidOut l t
+laid_same l s t base size h = record { good = good_same l base size h.good; placed = h.placed }
 
 -- neither side's ring changed, nor what is on the wire
-pub moves_same : (l : Layout) (s t : State) → IsDrivenBut l s → t.registers ≡ s.registers → t.memory ≡ s.memory
+pub moves_same : (l : Layout) (s t : State) → IsDrivenBut l s → t.registers ≡ s.registers → t.base ≡ s.base
+    → t.memory ≡ s.memory
     → t.fifo ≡ s.fifo → t.gathered ≡ s.gathered → t.wire ≡ s.wire → Moves l s t []
-moves_same l s t h regs memory fifo gathered wire = record {
-  layout = laid_same l s t (ap length memory) h.layout;
+moves_same l s t h regs base memory fifo gathered wire = record {
+  layout = laid_same l s t base (ap length memory) h.layout;
   receiving = rx_same l s t h.receiving (same_ring l s t (same_side rx_side s.registers t.registers regs) memory) fifo;
   sending = tx_same l s t h.sending
       (same_tx_ring l s t (same_side tx_side s.registers t.registers regs) memory gathered wire);
 }
 
 pub moves_none : (l : Layout) (s : State) → IsDrivenBut l s → Moves l s s []
-moves_none l s h = moves_same l s s h refl refl refl refl refl
+moves_none l s h = moves_same l s s h refl refl refl refl refl refl
 
 -- a word of the registers that neither side goes by
 pub moves_word : (l : Layout) (s : State) (o v : ℕ) → IsDrivenBut l s → IsOther rx_side o → IsOther tx_side o
@@ -60,7 +61,7 @@ pub moves_word : (l : Layout) (s : State) (o v : ℕ) → IsDrivenBut l s → Is
 moves_word l s o v h rx tx =
     let t : State = record s { registers = map.insert s.registers o v } in
     record {
-      layout = laid_same l s t refl h.layout;
+      layout = laid_same l s t refl refl h.layout;
       receiving = rx_same l s t h.receiving (same_ring l s t (word_other is_rx_side s.registers o v rx) refl) refl;
       sending = tx_same l s t h.sending (same_tx_ring l s t (word_other is_tx_side s.registers o v tx) refl refl refl);
     }
@@ -87,7 +88,7 @@ admitted : (l : Layout) (s t : State) (f : List ℕ) (answer : Answer) → IsLai
 admitted l s t f answer laid h k (inl dropped) =
     subst (RxTurn l s t) (sym (ap (stored_by (Arrive f)) dropped.1))
     (record {
-      layout = laid_same l s t (ap length k.memory) laid;
+      layout = laid_same l s t k.base (ap length k.memory) laid;
       receiving = rx_same l s t h (same_ring l s t (same_side rx_side s.registers t.registers k.registers) k.memory)
           dropped.2;
       sending = same_tx_ring l s t (same_side tx_side s.registers t.registers k.registers) k.memory k.gathered k.wire;
@@ -96,7 +97,7 @@ admitted l s t f answer laid h k (inl dropped) =
 admitted l s t f answer laid h k (inr stored) =
     subst (RxTurn l s t) (sym (ap (stored_by (Arrive f)) stored.0))
     (record {
-      layout = laid_same l s t (ap length k.memory) laid;
+      layout = laid_same l s t k.base (ap length k.memory) laid;
       receiving = rx_kept l s t (plain f ∷ []) h
           (same_ring l s t (same_side rx_side s.registers t.registers k.registers) k.memory) stored.3
           (All-cons IsPlain (plain f) [] (record { usual = stored.2; untagged = refl }) (All-nil IsPlain));
@@ -116,7 +117,7 @@ received l s t laid h (inr (f, frames, r)) =
     let w = rx_writes l s t f frames laid h r in
     let next : ℕ = rx.following (rx_setup s.registers) in
     record {
-      layout = laid_same l s t (w.back.size ∙ w.packet.size) laid;
+      layout = laid_same l s t r.base (w.back.size ∙ w.packet.size) laid;
       receiving = moves_fill l s t f frames h (fills l s t f frames laid h r);
       sending = record {
         registers = subst (SameSide tx_side s.registers) (sym r.registers)
@@ -150,7 +151,7 @@ sent l s t h r =
     let k = sends l s t h.layout h.sending r in
     let w = k.0 in
     record {
-      layout = laid_same l s t w.size h.layout;
+      layout = laid_same l s t r.base w.size h.layout;
       receiving = rx_same l s t h.receiving (record {
         registers = subst (SameSide rx_side s.registers) (sym r.registers)
             (put_other_side is_rx_side s.registers Tdh (tx.next (tx_setup s.registers))

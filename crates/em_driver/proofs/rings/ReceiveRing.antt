@@ -35,25 +35,23 @@ use Rattle.em_driver.proofs.rings.RingPlaces.{following_in, following_apart, amo
 use Rattle.em_driver.proofs.rings.RingPlaces.{between_grow, between_same}
 use Rattle.em_driver.proofs.rings.SideRegisters.{rx_side, is_rx_side, SameSetup, SameSide, put_head}
 use Rattle.em_driver.proofs.rings.MemoryUnits.{Region, rx_ring, rx_buffers, AreTwo, count_of, size_of, unit, unit_at}
-use Rattle.em_driver.proofs.rings.MemoryUnits.{unit_apart}
+use Rattle.em_driver.proofs.rings.MemoryUnits.{good_same, unit_apart}
 use Rattle.em_driver.proofs.rings.MemoryUnits.{unit_within, unit_size, unit_long, part_front}
 
 -- ---- one write to memory
 
 -- octets were written into a unit of memory
 pub record Writes (l : Layout) (m n : List ℕ) (k : Region) (j o : ℕ) (d : List ℕ) : Type 0 where
-  pub good : IsGoodLayout (length n) l
   pub size : length n ≡ length m
   pub here : unit l n k j ≡ put (unit l m k j) o d
   pub long : length (unit l m k j) ≡ size_of k
   pub other : (r : Region) (i : ℕ) → i < count_of l r → AreTwo r i k j → unit l n r i ≡ unit l m r i
 
-pub writes : (l : Layout) (m n : List ℕ) (k : Region) (j o : ℕ) (d : List ℕ) → IsGoodLayout (length m) l
+pub writes : (l : Layout) (m n : List ℕ) (k : Region) (j o : ℕ) (d : List ℕ) {base : ℕ} → IsGoodLayout base (length m) l
     → j < count_of l k → o + length d ≤ size_of k → n ≡ put m (unit_at l k j + o) d → Writes l m n k j o d
 writes l m n k j o d good below inside is =
     let size : length n ≡ length m = ap length is ∙ unit_size l m good k j o d below inside in
     record {
-      good = subst (λ x. IsGoodLayout x l) (sym size) good;
       size = size;
       here = ap (λ x. unit l x k j) is ∙ unit_within l m good k j o d below inside;
       long = unit_long l m good k j below;
@@ -283,7 +281,7 @@ rx_writes l s t f frames laid h r =
     record {
       mid = mid;
       packet = one;
-      back = writes l mid t.memory rx_ring b 8 (filled_back (length f)) one.good h.head (omega arith)
+      back = writes l mid t.memory rx_ring b 8 (filled_back (length f)) (good_same l refl one.size laid.good) h.head (omega arith)
           (r.memory ∙ λ p. put (put s.memory ((buffer ∙ zero) p) f) (at p + 8) (filled_back (length f)));
     }
 

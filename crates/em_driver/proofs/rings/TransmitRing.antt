@@ -28,7 +28,7 @@ use Rattle.em_driver.proofs.rings.RingPlaces.{distance_less}
 use Rattle.em_driver.proofs.rings.RingPlaces.{between_shrink, between_same}
 use Rattle.em_driver.proofs.rings.ReceiveRing.{Writes, writes, index_kept}
 use Rattle.em_driver.proofs.rings.SideRegisters.{tx_side, is_tx_side, SameSetup, SameSide, put_head}
-use Rattle.em_driver.proofs.rings.MemoryUnits.{tx_ring, tx_buffers, unit, unit_held, unit_long, part_front}
+use Rattle.em_driver.proofs.rings.MemoryUnits.{tx_ring, tx_buffers, unit, unit_lies, unit_long, part_front}
 
 -- ---- what an event of others leaves of the transmit side
 
@@ -240,11 +240,14 @@ is_whole l s laid h apart =
     = length_is (next_descriptor s) ∙ ap length_of at in
     let address : tx_descriptors.address (next_descriptor s) ≡ tx_buffer l a
     = address_is (next_descriptor s) ∙ ap (little_number 8) at ∙ h.addresses a h.head in
-    let held = unit_held l (length s.memory) laid.good tx_buffers a h.head in
+    let held = unit_lies l s.base s.memory laid.good tx_buffers a h.head in
     record {
       command = ap (λ d. slice_index d 11) at ∙ p.command;
       least = omega (arith, len, p.least);
-      held = omega (arith, len, address, held, p.most);
+      held = record {
+        from = omega (arith, address, held.from);
+        to = omega (arith, len, address, held.to, p.most);
+      };
     }
 
 pub sends : (l : Layout) (s t : State) → IsLaidOut l s → IsSending l s → SendsWhole s t

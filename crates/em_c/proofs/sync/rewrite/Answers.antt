@@ -27,6 +27,7 @@ returns-then-eq c =
       count = sym (ap length none);
       few = omega arith;
       performs = subst (λ events. PerformsAll events c.args.machine.now c.args.machine.now) (sym none) refl;
+      base = refl;
       memory = sym (put_same m c.args.at new (sym old ∙ same));
     }
 
@@ -111,6 +112,7 @@ returns-in-Ok c =
       few = omega arith;
       performs = subst (λ events. PerformsAll events c.args.machine.now c.write.new.machine) (sym one)
           (c.write.new.machine, c.in-Ok.ensures.performs, refl);
+      base = c.in-Ok.ensures.base;
       memory = c.in-Ok.ensures.memory
-          ∙ put_between m new c.args.at f e c.requires.held (omega (arith, before)) c.up_to_last-last.ensures.most head tail;
+          ∙ put_between m new c.args.at f e c.requires.held.to (omega (arith, before)) c.up_to_last-last.ensures.most head tail;
     }

@@ -8,7 +8,7 @@ use Rattle.em_explain.proofs.look_text.write_descriptor.Goals as goal
 pub returns-in_err-write_place : goal.returns-in_err-write_place
 returns-in_err-write_place g c =
     let memory = c.args.machine.now.present.memory in
-    let shown = shown_text memory (address_of c.args.at c.args.first) c.args.count in
+    let shown = shown_text c.args.machine.now.present.base memory (address_of c.args.at c.args.first) c.args.count in
     record {
       writes = MatchResult-from_err _ _ _ c.from_residual.ensures.0 (λ _.
           WritesPart-front shown c.in_err-write_place.ensures.writes refl);
@@ -19,7 +19,10 @@ returns g c =
     let memory = c.args.machine.now.present.memory in
     let place = place_text c.args.at c.args.first in
     record {
-      writes = Writes-more _ _ _ _ place (shown_text memory c.address_of.result c.args.count) _
+      writes =
+          Writes-more _ _ _ _ place (shown_text c.args.machine.now.present.base memory c.address_of.result
+          c.args.count) _
           c.in_ok-write_place.ensures.writes c.write_shown.ensures.writes
-          (ap (λ address. place ++ shown_text memory address c.args.count) (sym c.address_of.ensures.value));
+          (ap (λ address. place ++ shown_text c.args.machine.now.present.base memory address c.args.count)
+          (sym c.address_of.ensures.value));
     }

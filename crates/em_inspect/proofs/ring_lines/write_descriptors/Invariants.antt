@@ -9,4 +9,5 @@ abbrev pub invariant-loop-k : goal.invariant-loop-k
 invariant-loop-k g l =
     let contents = g.W.Write.contents in
     Appends (contents l.fn.writer) (contents l.writer)
-    (flat_map (λ k. line_of_index l.ring l.machine.present.memory (l.from + k)) (range_with_len 0 l.k))
+    (flat_map (λ k. line_of_index l.ring l.machine.present.base l.machine.present.memory (l.from + k))
+    (range_with_len 0 l.k))

@@ -8,7 +8,9 @@ pub returns-in_err-write_ring_line : goal.returns-in_err-write_ring_line
 returns-in_err-write_ring_line g c =
     let ring = c.args.ring.now in
     let lines : Bool → List ℕ
-    = λ o. descriptors_text ring c.args.machine.now.present.memory c.args.from (shown ring o c.args.from c.args.most) in
+    =
+    λ o. descriptors_text ring c.args.machine.now.present.base c.args.machine.now.present.memory c.args.from
+    (shown ring o c.args.from c.args.most) in
     let outside = c.is_outside-outside.result in
     record {
       writes = MatchResult-from_err _ _ _ c.from_residual.ensures.0 (λ _.
@@ -19,7 +21,8 @@ returns-in_err-write_ring_line g c =
 pub returns : goal.returns
 returns g c =
     let ring = c.args.ring.now in
-    let lines : ℕ → List ℕ = λ n. descriptors_text ring c.args.machine.now.present.memory c.args.from n in
+    let lines : ℕ → List ℕ = λ n. descriptors_text ring c.args.machine.now.present.base
+    c.args.machine.now.present.memory c.args.from n in
     let outside = c.is_outside-outside.result in
     record {
       writes = Writes-more _ _ _ _ (ring_line ring outside) (lines c.shown-shown.result) _

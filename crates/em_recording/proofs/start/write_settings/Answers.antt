@@ -11,43 +11,47 @@ returns-in_err-write_number g c =
     let wrote-0 = WroteFront-none (g.W.Write.contents c.args.writer.now) (settings_text c.args.settings.now) in
     record {
       writes = MatchResult-from_err _ _ _ c.from_residual.ensures.0 (λ _.
-          WroteFront-part ((number_text (codes ",\"budget\":") c.args.settings.now.budget) ++ ((octets_text (codes
-          ",\"mac\":") c.args.settings.now.mac) ++ (codes "},\n"))) wrote-0 refl c.in_err-write_number.ensures.writes);
+          WroteFront-part ((number_text (codes ",\"memory\":") c.args.settings.now.memory) ++ ((number_text (codes ",\"budget\":") c.args.settings.now.budget) ++ ((octets_text (codes ",\"mac\":") c.args.settings.now.mac) ++ (codes "},\n")))) wrote-0 refl c.in_err-write_number.ensures.writes);
     }
 
 pub returns-in_err-write_number-2 : goal.returns-in_err-write_number-2
 returns-in_err-write_number-2 g c =
     let wrote-0 = WroteFront-none (g.W.Write.contents c.args.writer.now) (settings_text c.args.settings.now) in
-    let wrote-1 = WroteFront-more (number_text (codes "\"settings\":{\"memory\":") c.args.settings.now.memory) wrote-0
-    refl c.in_ok-write_number.ensures.writes in
+    let wrote-1 = WroteFront-more (number_text (codes "\"settings\":{\"base\":") c.args.settings.now.base) wrote-0 refl c.in_ok-write_number.ensures.writes in
     record {
       writes = MatchResult-from_err _ _ _ c.from_residual-in_err-write_number-2.ensures.0 (λ _.
-          WroteFront-part ((octets_text (codes ",\"mac\":") c.args.settings.now.mac) ++ (codes "},\n")) wrote-1 refl
-          c.in_err-write_number-2.ensures.writes);
+          WroteFront-part ((number_text (codes ",\"budget\":") c.args.settings.now.budget) ++ ((octets_text (codes ",\"mac\":") c.args.settings.now.mac) ++ (codes "},\n"))) wrote-1 refl c.in_err-write_number-2.ensures.writes);
+    }
+
+pub returns-in_err-write_number-3 : goal.returns-in_err-write_number-3
+returns-in_err-write_number-3 g c =
+    let wrote-0 = WroteFront-none (g.W.Write.contents c.args.writer.now) (settings_text c.args.settings.now) in
+    let wrote-1 = WroteFront-more (number_text (codes "\"settings\":{\"base\":") c.args.settings.now.base) wrote-0 refl c.in_ok-write_number.ensures.writes in
+    let wrote-2 = WroteFront-more (number_text (codes ",\"memory\":") c.args.settings.now.memory) wrote-1 refl c.in_ok-write_number-2.ensures.writes in
+    record {
+      writes = MatchResult-from_err _ _ _ c.from_residual-in_err-write_number-3.ensures.0 (λ _.
+          WroteFront-part ((octets_text (codes ",\"mac\":") c.args.settings.now.mac) ++ (codes "},\n")) wrote-2 refl c.in_err-write_number-3.ensures.writes);
     }
 
 pub returns-in_err-write_hex : goal.returns-in_err-write_hex
 returns-in_err-write_hex g c =
     let wrote-0 = WroteFront-none (g.W.Write.contents c.args.writer.now) (settings_text c.args.settings.now) in
-    let wrote-1 = WroteFront-more (number_text (codes "\"settings\":{\"memory\":") c.args.settings.now.memory) wrote-0
-    refl c.in_ok-write_number.ensures.writes in
-    let wrote-2 = WroteFront-more (number_text (codes ",\"budget\":") c.args.settings.now.budget) wrote-1 refl
-    c.in_ok-write_number-2.ensures.writes in
+    let wrote-1 = WroteFront-more (number_text (codes "\"settings\":{\"base\":") c.args.settings.now.base) wrote-0 refl c.in_ok-write_number.ensures.writes in
+    let wrote-2 = WroteFront-more (number_text (codes ",\"memory\":") c.args.settings.now.memory) wrote-1 refl c.in_ok-write_number-2.ensures.writes in
+    let wrote-3 = WroteFront-more (number_text (codes ",\"budget\":") c.args.settings.now.budget) wrote-2 refl c.in_ok-write_number-3.ensures.writes in
     record {
       writes = MatchResult-from_err _ _ _ c.from_residual-in_err-write_hex.ensures.0 (λ _.
-          WroteFront-part (codes "},\n") wrote-2 refl c.in_err-write_hex.ensures.writes);
+          WroteFront-part (codes "},\n") wrote-3 refl c.in_err-write_hex.ensures.writes);
     }
 
 pub returns : goal.returns
 returns g c =
     let wrote-0 = WroteFront-none (g.W.Write.contents c.args.writer.now) (settings_text c.args.settings.now) in
-    let wrote-1 = WroteFront-more (number_text (codes "\"settings\":{\"memory\":") c.args.settings.now.memory) wrote-0
-    refl c.in_ok-write_number.ensures.writes in
-    let wrote-2 = WroteFront-more (number_text (codes ",\"budget\":") c.args.settings.now.budget) wrote-1 refl
-    c.in_ok-write_number-2.ensures.writes in
-    let wrote-3 = WroteFront-more (octets_text (codes ",\"mac\":") c.args.settings.now.mac) wrote-2 refl
-    c.in_ok-write_hex.ensures.writes in
+    let wrote-1 = WroteFront-more (number_text (codes "\"settings\":{\"base\":") c.args.settings.now.base) wrote-0 refl c.in_ok-write_number.ensures.writes in
+    let wrote-2 = WroteFront-more (number_text (codes ",\"memory\":") c.args.settings.now.memory) wrote-1 refl c.in_ok-write_number-2.ensures.writes in
+    let wrote-3 = WroteFront-more (number_text (codes ",\"budget\":") c.args.settings.now.budget) wrote-2 refl c.in_ok-write_number-3.ensures.writes in
+    let wrote-4 = WroteFront-more (octets_text (codes ",\"mac\":") c.args.settings.now.mac) wrote-3 refl c.in_ok-write_hex.ensures.writes in
     record {
-      writes = Writes-more _ _ _ _ wrote-3.front (codes "},\n") _ wrote-3.written c.write_whole.ensures.writes
-          wrote-3.whole;
+      writes = Writes-more _ _ _ _ wrote-4.front (codes "},\n") _ wrote-4.written c.write_whole.ensures.writes
+          wrote-4.whole;
     }

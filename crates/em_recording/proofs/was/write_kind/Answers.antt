@@ -19,13 +19,13 @@ pub returns-in-ReceiveIdle : goal.returns-in-ReceiveIdle
 returns-in-ReceiveIdle g c = record { writes = rw c.in-ReceiveIdle.is c.write_whole-in-ReceiveIdle.ensures.writes }
 
 pub returns-in-Wrote : goal.returns-in-Wrote
-returns-in-Wrote g c = record { writes = rw c.in-Wrote.is c.write_text-in-Wrote.ensures.writes }
+returns-in-Wrote g c = record { writes = rw c.in-Wrote.is c.write_step.ensures.writes }
 
 pub returns-in-TransmitIdle : goal.returns-in-TransmitIdle
 returns-in-TransmitIdle g c = record { writes = rw c.in-TransmitIdle.is c.write_whole-in-TransmitIdle.ensures.writes }
 
 pub returns-in-Fetched : goal.returns-in-Fetched
-returns-in-Fetched g c = record { writes = rw c.in-Fetched.is c.write_text-in-Fetched.ensures.writes }
+returns-in-Fetched g c = record { writes = rw c.in-Fetched.is c.write_step-in-Fetched.ensures.writes }
 
 pub returns-in-Sent : goal.returns-in-Sent
-returns-in-Sent g c = record { writes = rw c.in-Sent.is c.write_text-in-Sent.ensures.writes }
+returns-in-Sent g c = record { writes = rw c.in-Sent.is c.write_sent.ensures.writes }

@@ -16,3 +16,11 @@ loop-window-smaller c =
     let v = c.args.machine.now in
     let held = c.in-Some.ensures.held 0 v.present refl in
     omega (arith, held, c.in-Some.ensures.from)
+
+pub returns-in-Some-changed_in-clause-held : goal.returns-in-Some-changed_in-clause-held
+returns-in-Some-changed_in-clause-held c = λ k s at.
+    let held = c.in-Some.ensures.held k s at in
+    record {
+      from = omega (arith, held.from, c.in-Some-changed_in.ensures.from);
+      to = omega (arith, held.to, c.in-Some-changed_in.ensures.to);
+    }

@@ -9,14 +9,18 @@ returns-in_err-at-clause-none c =
     none_is c.from_residual.result (LeavesRest c.args.machine.now c.args.back c.args.from)
     c.in_err-at.ensures.none
 
-pub returns-then-at-size-clause-held : goal.returns-then-at-size-clause-held
-returns-then-at-size-clause-held c = λ k s at.
-    omega (arith, c.memory_size-size.ensures.states k s at, c.within.ensures.addr, c.within.ensures.held, c.if-at-size.true)
+pub returns-then-at-end-clause-held : goal.returns-then-at-end-clause-held
+returns-then-at-end-clause-held c = λ k s at.
+    let has = c.memory_end-end.ensures.states k s at in
+    record {
+      from = omega (arith, has.begins, c.within.ensures.addr, c.in_ok-at.ensures.inside);
+      to = omega (arith, has.ends, c.within.ensures.addr, c.within.ensures.held, c.if-at-end.true);
+    }
 
-pub returns-else-at-size-clause-none : goal.returns-else-at-size-clause-none
-returns-else-at-size-clause-none c =
+pub returns-else-at-end-clause-none : goal.returns-else-at-end-clause-none
+returns-else-at-end-clause-none c =
     let v = c.args.machine.now in
     let back = c.args.back in
     leaves_rest v back c.args.from c.in_ok-at.at c.in_ok-at.ensures.left
-    (λ a l. past_the_end v back c.memory_size-size.result a c.memory_size-size.ensures.states
-    (omega (arith, l, c.if-at-size.false)) c.requires.there)
+    (λ a l. past_the_end v back v.present.base c.memory_end-end.result a c.memory_end-end.ensures.states
+    (omega (arith, l, c.if-at-end.false)) c.requires.there)

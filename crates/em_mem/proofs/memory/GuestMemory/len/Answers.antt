@@ -1,13 +1,11 @@
-use Rattle.std.proofs.Common.{ap, length, arith}
-use Rattle.em_mem.proofs.PageLaws.{length-table_octets}
+use Rattle.std.proofs.Common.{arith}
+use Rattle.em_mem.proofs.MemoryLaws.{begins, ends}
 use Rattle.em_mem.proofs.memory.GuestMemory.len.Goals as goal
 
-pub returns-clause-len : goal.returns-clause-len
-returns-clause-len c =
+pub returns : goal.returns
+returns c =
     omega (
       arith,
-      c.len.ensures,
-      length-table_octets c.self.inside.pages.items c.self.invariant.whole,
-      ap
-          (λ v. length v.octets) c.self.view_is,
+      begins c.args.self.now c.self.inside.base c.self.inside.size c.self.inside.store c.self.invariant c.self.view_is,
+      ends c.args.self.now c.self.inside.base c.self.inside.size c.self.inside.store c.self.invariant c.self.view_is,
     )

@@ -11,4 +11,4 @@ returns-clause-reverses g c =
     let n : length written ≡ g.row.N = search rules in
     let old = c.read_array-old in
     write_reverses before c.write.new.self at written old.result (rw n c.requires.held) (rw n c.requires.made)
-    c.write.ensures.octets c.write.ensures.made (old.ensures ∙ ap (part before.octets at) (sym n))
+    c.write.ensures.base c.write.ensures.octets c.write.ensures.made (old.ensures ∙ ap (part before.octets at) (sym n))

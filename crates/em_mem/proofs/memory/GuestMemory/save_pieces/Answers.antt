@@ -16,6 +16,6 @@ loop-left-preserved c =
       saved = saved_more m c.args.addr left count n c.args.old.now c.loop-left.old c.save.new.self
           c.loop-left.invariant.saved (omega arith)
           (c.save.ensures ∙ ap (λ d. saved d c.loop-left.old) c.in-Some.ensures.octets)
-          (omega (arith, c.requires.held)) (omega arith)
+          (omega (arith, c.requires.held.to)) (omega arith)
           ∙ ap (λ k. saved (part m (c.args.addr + (left - count)) k) c.args.old.now) sum;
     }

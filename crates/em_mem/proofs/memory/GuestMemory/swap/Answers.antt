@@ -2,7 +2,7 @@ use Rattle.std.proofs.Common.{◌≡◌, ◌∙◌, ℕ, ◌+◌, ◌-◌, ◌/�
 use Rattle.std.proofs.Common.{length, arith, length-drop, slice_index_or}
 use Rattle.std.proofs.lemmas.List.{take_all, length-take-le}
 use Rattle.em_mem.specs.Memory.{part, put}
-use Rattle.em_mem.proofs.PutLaws.{write_reverses, length-part}
+use Rattle.em_mem.proofs.PutLaws.{write_reverses, length-part, length-put}
 use Rattle.em_mem.proofs.PieceLaws.{wrote_step, old_step, read_step, rest_step}
 use Rattle.em_mem.proofs.memory.GuestMemory.swap.Goals as goal
 
@@ -13,6 +13,20 @@ piece_size done count octets within =
     let same_count : done + count - done ≡ count = omega arith in
     ap (λ n. length (take n (drop done octets))) same_count
     ∙ length-take-le count (drop done octets) (omega (arith, length-drop done octets))
+
+pub swap_piece-requires-clause-held : goal.swap_piece-requires-clause-held
+swap_piece-requires-clause-held c =
+    let written = c.args.swapped.now in
+    let done = c.loop-done.done in
+    let size = piece_size done c.min-count.result c.loop-done.swapped (omega arith) in
+    let same : length c.loop-done.self.octets ≡ length c.args.self.now.octets
+    = ap length c.loop-done.invariant.wrote
+    ∙ length-put c.args.self.now.octets c.args.addr (take done written)
+    (omega (arith, length-take-le done written (omega arith), c.requires.held.to)) in
+    record {
+      from = omega (arith, c.requires.held.from, c.loop-done.invariant.begins);
+      to = omega (arith, c.requires.held.to, same, size);
+    }
 
 pub swap_piece-requires-clause-made : goal.swap_piece-requires-clause-made
 swap_piece-requires-clause-made c = λ i l.
@@ -36,13 +50,14 @@ loop-done-preserved c =
     let size = piece_size done count slice (omega arith) in
     let piece_old = c.swap_piece.ensures.old ∙ ap (part so_far (c.args.addr + done)) size in
     let old = old_step before so_far c.args.addr done count written c.swap_piece.new.swapped
-    c.loop-done.invariant.wrote piece_old (omega arith) c.requires.held in
+    c.loop-done.invariant.wrote piece_old (omega arith) c.requires.held.to in
     let old_size : length c.swap_piece.new.swapped ≡ count = ap length old
-    ∙ length-part before (c.args.addr + done) count (omega (arith, c.requires.held)) in
+    ∙ length-part before (c.args.addr + done) count (omega (arith, c.requires.held.to)) in
     record {
       within = omega arith;
+      begins = c.swap_piece.ensures.base ∙ c.loop-done.invariant.begins;
       wrote = wrote_step before so_far c.swap_piece.new.self.octets c.args.addr done count written _
-          c.loop-done.invariant.wrote piece c.swap_piece.ensures.octets (omega arith) c.requires.held;
+          c.loop-done.invariant.wrote piece c.swap_piece.ensures.octets (omega arith) c.requires.held.to;
       kept = c.swap_piece.ensures.made ∙ c.loop-done.invariant.kept;
       old = read_step before c.args.addr done count _ slice c.swap_piece.new.swapped
           (omega arith) c.loop-done.invariant.old old_size old;
@@ -60,4 +75,4 @@ returns-clause-reverses c =
     let old = sym (take_all c.loop-done.done c.loop-done.swapped (omega arith)) ∙ c.loop-done.invariant.old
     ∙ ap (part before c.args.addr) all in
     write_reverses c.args.self.now c.loop-done.self c.args.addr written c.loop-done.swapped c.requires.held
-    c.requires.made wrote c.loop-done.invariant.kept old
+    c.requires.made c.loop-done.invariant.begins wrote c.loop-done.invariant.kept old

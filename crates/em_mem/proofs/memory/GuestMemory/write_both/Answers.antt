@@ -18,4 +18,4 @@ returns-then-not-is_empty-clause-octets c =
     let second = c.args.second.now in
     c.write-then-not-is_empty.ensures.octets
     ∙ ap (λ (x : List ℕ). put x (a + length first) second) c.write.ensures.octets
-    ∙ put-put m a first second (omega (arith, c.requires.held))
+    ∙ put-put m a first second (omega (arith, c.requires.held.to))

@@ -5,6 +5,7 @@ use Rattle.em_mem.proofs.memory.GuestMemory.write_pieces.Given as goal
 abbrev pub invariant-loop-done : goal.invariant-loop-done
 invariant-loop-done l = record {
   within : l.done ≤ length l.written;
+  begins : l.self.base ≡ l.initial.self.base;
   wrote : l.self.octets ≡ put l.initial.self.octets l.addr (take l.done l.written);
   kept : l.self.made ≡ l.initial.self.made;
 }

@@ -9,10 +9,10 @@ returns-clause-reverses c =
     let before = c.args.self.now in
     let written = c.args.written.now in
     let d = part before.octets c.args.addr (length written) in
-    let size : length d ≡ length written = length-part before.octets c.args.addr (length written) c.requires.held in
+    let size : length d ≡ length written = length-part before.octets c.args.addr (length written) c.requires.held.to in
     let first : take (length written) c.save.new.old.octets ≡ d
     = ap (λ n. take n c.save.new.old.octets) (sym size)
     ∙ first-saved d c.args.old.now c.save.new.old c.save.ensures in
     subst (λ octets. Reverses before c.write.new.self (record { at = c.args.addr; octets = octets })) (sym first)
     (write_reverses before c.write.new.self c.args.addr written d c.requires.held c.requires.made
-    c.write.ensures.octets c.write.ensures.made refl)
+    c.write.ensures.base c.write.ensures.octets c.write.ensures.made refl)

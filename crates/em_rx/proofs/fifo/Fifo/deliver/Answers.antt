@@ -16,11 +16,12 @@ pub returns-clause-saves : goal.returns-clause-saves
 returns-clause-saves c =
     let m = c.args.memory.now.octets in
     let r = c.args.piece.now in
-    let older = saves (part m r.end_at 8) 8 c.args.old.now c.save.new.old (length-part m r.end_at 8 c.requires.end_held)
+    let older = saves (part m r.end_at 8) 8 c.args.old.now c.save.new.old
+    (length-part m r.end_at 8 c.requires.end_held.to)
     (omega (arith, c.requires.old_room)) c.save.ensures in
     let size = length-saves older in
     let newer = saves (part m r.buffer r.len) r.len c.save.new.old c.save-2.new.old
-    (length-part m r.buffer r.len c.requires.held) (omega (arith, size, c.requires.old_room)) c.save-2.ensures in
+    (length-part m r.buffer r.len c.requires.held.to) (omega (arith, size, c.requires.old_room)) c.save-2.ensures in
     saves_more older newer c.requires.old_room
 
 pub returns-clause-reverses : goal.returns-clause-reverses
@@ -35,8 +36,8 @@ returns-clause-reverses c =
     let p : StepPatch = step_patch r o in
     let under : List ℕ = part m.octets r.buffer r.len in
     let end : List ℕ = part m.octets r.end_at 8 in
-    let size : length under ≡ r.len = length-part m.octets r.buffer r.len c.requires.held in
-    let eight : length end ≡ 8 = length-part m.octets r.end_at 8 c.requires.end_held in
+    let size : length under ≡ r.len = length-part m.octets r.buffer r.len c.requires.held.to in
+    let eight : length end ≡ 8 = length-part m.octets r.end_at 8 c.requires.end_held.to in
     let first : take r.len o.octets ≡ under
     = ap (λ (n : ℕ). take n o.octets) (sym size) ∙ first-saved under c.save.new.old o c.save-2.ensures in
     let second : part o.octets r.len 8 ≡ end
@@ -56,15 +57,16 @@ returns-clause-reverses c =
     = c.write.ensures.octets ∙ ap (λ (x : List ℕ). memory.put x r.end_at e) c.write_next.ensures.octets in
     let fits_d : memory.Fits m (record { at = r.buffer; octets = d })
     = record {
-      held = omega (arith, c.requires.held, size_d);
+      held = record { from = c.requires.held.from; to = omega (arith, c.requires.held.to, size_d) };
       made = λ i l. c.requires.made i (omega (arith, l, size_d));
     } in
     let fits_e : memory.Fits m (record { at = r.end_at; octets = e })
     = record {
-      held = omega (arith, c.requires.end_held, size_e);
+      held = record { from = c.requires.end_held.from; to = omega (arith, c.requires.end_held.to, size_e) };
       made = λ i l. c.requires.end_made i (omega (arith, l, size_e));
     } in
     step_reverses v new m c.write.new.self p d e (subst IsSound c.self.view_is c.self.invariant) places
     (ap (λ (x : Cells). x.octets) c.self.view_is) (ap (λ (x : Cells). x.entries) c.self.view_is)
-    wrote (c.write.ensures.made ∙ c.write_next.ensures.made) fits_d fits_e
+    (c.write.ensures.base ∙ c.write_next.ensures.base) wrote (c.write.ensures.made
+    ∙ c.write_next.ensures.made) fits_d fits_e
     (first ∙ ap (part m.octets r.buffer) (sym size_d)) (second ∙ ap (part m.octets r.end_at) (sym size_e))

@@ -11,4 +11,4 @@ count_sent-latches-requires-clause-causes c =
     let are : causes_raised (answer_of c.in_ok-transmit.field-0) ≡ h.causes
     = ap (λ (r : TxStep). causes_raised (answer_of r)) h.is
     ∙ ap (λ frame. causes_raised (answer_of (Handled h.index h.next h.causes frame h.change))) c.in-Some.is in
-    omega (arith, are, raises_few _ _ _ c.in_ok-transmit.ensures.ok)
+    omega (arith, are, raises_few _ _ _ _ c.in_ok-transmit.ensures.ok)

@@ -1,5 +1,5 @@
 use Rattle.std.proofs.Common.{◌∙◌, ap, length, arith}
-use Rattle.em_journal.proofs.BackLaws.{more_back, all_back, no_more_back, past_left}
+use Rattle.em_journal.proofs.BackLaws.{more_back, no_more_back, past_left}
 use Rattle.em_trail.specs.Trail.{Trail}
 use Rattle.em_trail.proofs.traced.Traced.back_by.Goals as goal
 

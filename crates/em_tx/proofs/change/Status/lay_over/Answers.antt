@@ -7,4 +7,4 @@ pub returns : goal.returns
 returns c =
     let patch : ℕ → Patch = λ a. record { at = a; octets = c.self.inside.octet } in
     c.lay_over.ensures.octets
-    ∙ ap (λ (p : Patch). lay_over c.args.addr c.args.window.now p) (ap patch c.addr.ensures ∙ c.self.view_is)
+    ∙ ap (λ (p : Patch). lay_over c.args.addr c.args.window.now p) (ap patch c.addr.ensures.addr ∙ c.self.view_is)

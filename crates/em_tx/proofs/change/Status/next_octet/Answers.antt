@@ -7,4 +7,4 @@ pub returns : goal.returns
 returns c =
     let patch : ℕ → Patch = λ a. record { at = a; octets = c.self.inside.octet } in
     c.next_octet.ensures.next
-    ∙ ap (λ (p : Patch). next_octet c.args.addr p) (ap patch c.addr.ensures ∙ c.self.view_is)
+    ∙ ap (λ (p : Patch). next_octet c.args.addr p) (ap patch c.addr.ensures.addr ∙ c.self.view_is)
