@@ -198,7 +198,7 @@ fn written<R: Print + Eprint + AllocGlobal, B: BufRead>(
     let mut done = translate(rt, wanted, frames, lines, &mut script)?;
     done.seen = seen;
     let mut head = Vec::new(rt.alloc());
-    if let Some(room) = done.room {
+    if let Some(room) = wanted.memory.or(done.room) {
         room.write(&mut head)?;
     }
     done.octets = done.octets.saturating_add(head.len() as u64);

@@ -17,7 +17,7 @@ const LEAST_POWER: u32 = 27;
 const END_POWER: u32 = 40;
 
 /// How many octets are a mebibyte.
-const MIB: u64 = 0x10_0000;
+pub const MIB: u64 = 0x10_0000;
 
 /// How many numbers a register has.
 const WORDS: u64 = 0x1_0000_0000;
@@ -127,8 +127,12 @@ impl Room {
     /// Writes the comment that says so at the head of a script, by the words of a command line.
     pub fn write<W: Write>(self, out: &mut W) -> Result<()> {
         let Room { base, size } = self;
-        let size = size / MIB;
-        write!(out, "# em_debug --memory {size}M")?;
+        if size % MIB == 0 {
+            let size = size / MIB;
+            write!(out, "# em_debug --memory {size}M")?;
+        } else {
+            write!(out, "# em_debug --memory {size}")?;
+        }
         if base > 0 {
             write!(out, " --base {base:X}")?;
         }

@@ -7,7 +7,7 @@ use crate::lines::read_line;
 use crate::missing::missing_name;
 use crate::poll::Poll;
 use crate::ranges::Lines;
-use crate::rings::Rings;
+use crate::rings::{Rings, Room};
 use crate::shown::{Address, value_of};
 use crate::text::{
     write_access, write_kept, write_missing, write_other_size, write_poll, write_text, write_unlike,
@@ -43,6 +43,8 @@ pub struct Wanted<'a> {
     pub address: Option<Address>,
     /// The line before which all frames arrive.
     pub at: Option<u64>,
+    /// The memory that the script is to have; without it what the log's rings want.
+    pub memory: Option<Room>,
     pub link: Link,
     /// Whether accesses of something else are left out of the script.
     pub skips_others: bool,

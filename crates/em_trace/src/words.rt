@@ -1,6 +1,7 @@
 //! The words of the command line.
 
 use crate::ranges::Lines;
+use crate::rings::{MIB, Room};
 use crate::shown::Address;
 use crate::translating::{Link, Wanted};
 use clap::{Arg, ArgAction, ArgMatches, Command, Error, value_parser};
@@ -38,6 +39,8 @@ pub enum WordsRefused {
     Lines,
     /// `--at` names a line that is not translated.
     At,
+    /// What stands behind `--memory` is no size, or `--memory-base` has no address or no size beside it.
+    Memory,
 }
 
 impl fmt::Display for WordsRefused {
@@ -50,6 +53,8 @@ impl fmt::Display for WordsRefused {
                 "--from and --to want lines of the log, from 1 on, and --to none before --from; \
                  --form says what the log looks like",
             WordsRefused::At => "--at wants a line from --from to --to",
+            WordsRefused::Memory =>
+                "--memory wants octets, or so many K, M or G, and --memory-base beside it 1 to 16 hexadecimal digits",
         })
     }
 }
@@ -118,6 +123,9 @@ fn with_script<'a>(alloc: Global, command: Command<'a>) -> Result<Command<'a>, A
         .long("skip-others")
         .action(ArgAction::SetTrue)
         .help(skip);
+    let memory =
+        "How much guest memory the script is to have, with K, M or G; without it, what the log's rings want";
+    let base = "The address of its first octet, hexadecimal; without it 0";
     let keep =
         "Write a line for each read of a poll; without it, one line stands for reads that give the same";
     let keep = Arg::new(alloc, "keep-polls")
@@ -128,7 +136,13 @@ fn with_script<'a>(alloc: Global, command: Command<'a>) -> Result<Command<'a>, A
         .value_name("LOG")
         .required(true)
         .help("The log, or - for standard input");
-    command.arg(link)?.arg(skip)?.arg(keep)?.arg(log)
+    command
+        .arg(link)?
+        .arg(option(alloc, "memory", "SIZE", memory))?
+        .arg(option(alloc, "memory-base", "ADDR", base))?
+        .arg(skip)?
+        .arg(keep)?
+        .arg(log)
 }
 
 /// `--name VALUE`
@@ -150,6 +164,7 @@ pub fn wanted<'a>(matches: &ArgMatches<'a>) -> Result<Wanted<'a>, WordsRefused> 
         Some(text) => Some(mac_of(text)?),
         None => None,
     };
+    let memory = room_of(matches.get_str("memory"), matches.get_str("memory-base"))?;
     let lines = lines_of(matches.get_str("from"), matches.get_str("to"))?;
     let at = matches.get_one::<u64>("at");
     if at.is_some_and(|line| !lines.has(line)) {
@@ -162,6 +177,7 @@ pub fn wanted<'a>(matches: &ArgMatches<'a>) -> Result<Wanted<'a>, WordsRefused> 
         lines,
         address,
         at,
+        memory,
         link: match matches.get_str("link") {
             Some("down") => Link::Down,
             _ => Link::Up,
@@ -190,6 +206,40 @@ fn address_of(text: &str) -> Result<u64, WordsRefused> {
     match words.hex_address() {
         Some(address) if words.is_over() => Ok(address),
         _ => Err(WordsRefused::Base),
+    }
+}
+
+/// The memory that a size and an address say, if there is a size.
+fn room_of(size: Option<&str>, base: Option<&str>) -> Result<Option<Room>, WordsRefused> {
+    let Some(size) = size else {
+        return if base.is_some() {
+            Err(WordsRefused::Memory)
+        } else {
+            Ok(None)
+        };
+    };
+    let size = size_of(size).ok_or(WordsRefused::Memory)?;
+    let base = match base {
+        Some(text) => address_of(text).map_err(|_| WordsRefused::Memory)?,
+        None => 0,
+    };
+    Ok(Some(Room { base, size }))
+}
+
+/// The octets that decimal digits write, or so many K, M or G.
+fn size_of(text: &str) -> Option<u64> {
+    let (digits, unit) = match text.as_bytes() {
+        [digits @ .., b'K' | b'k'] => (digits, 0x400),
+        [digits @ .., b'M' | b'm'] => (digits, MIB),
+        [digits @ .., b'G' | b'g'] => (digits, 0x400 * MIB),
+        digits => (digits, 1),
+    };
+    let Ok(digits) = str::from_utf8(digits) else {
+        return None;
+    };
+    match digits.parse::<u64>() {
+        Ok(number) => number.checked_mul(unit),
+        Err(_) => None,
     }
 }
 
