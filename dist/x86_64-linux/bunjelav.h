@@ -184,16 +184,16 @@ typedef struct em_note {
 /* Makes a machine as after a reset: `memory` octets of guest memory, all zero; the link down; this Ethernet address in
    the EEPROM, with its checksum; a journal that holds as many of the latest events as `budget` octets of cost allow
    (each costs at least 32). Refused as EM_MADE_ALREADY, EM_SIZE, EM_BUDGET or EM_MEMORY, the first that holds. It takes
-   three and a half times the budget of memory and 150 KB, which the host's system gives by pages, as they are used;
-   and guest memory by pages, as they are written. */
+   3.75 times the budget of memory and 300 KB, which the host's system gives by pages, as they are used; and guest memory
+   by pages, as they are written. */
 EM_CHECKED em_code em_make(em_machine *machine, uint64_t memory, uint64_t budget, const uint8_t mac[6]);
 
 /* The same with the 64 words of the EEPROM. */
 EM_CHECKED em_code em_make_with_eeprom(em_machine *machine, uint64_t memory, uint64_t budget, const uint16_t words[64]);
 
-/* The same two with guest memory of `memory` octets from the address `base` on. Both are multiples of 4,096, `memory` is
-   not 0, and memory ends at 2^40 at most: else EM_SIZE. Addresses outside are refused as EM_RANGE and EM_DMA_RANGE, as
-   ever. A new memory of 1 TiB takes less than 100 KiB, and more as pages are written. */
+/* The same two with guest memory of `memory` octets from the address `base` on. Both are multiples of 4,096, `memory`
+   is not 0, and memory ends at 2^40 at most: else EM_SIZE. Addresses outside are refused as EM_RANGE and EM_DMA_RANGE,
+   as ever. A new memory of 1 TiB takes less than 100 KiB, and more as pages are written. */
 EM_CHECKED em_code em_make_at(em_machine *machine, uint64_t base, uint64_t memory, uint64_t budget,
                               const uint8_t mac[6]);
 EM_CHECKED em_code em_make_at_with_eeprom(em_machine *machine, uint64_t base, uint64_t memory, uint64_t budget,
