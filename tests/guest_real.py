@@ -266,7 +266,7 @@ def sender(tally: Tally, room: Path, qemu: str) -> None:
     text = kept.read_text()
     tail = next(number for number, line in enumerate(SENDER.read_text().splitlines(), 1) if "/* the tail */" in line)
     tally.check("a module of Linux, its lines", differ({
-        "tail": (text.count(f"w 03818 00000001 @ sender.c:{tail} send\n"), 1),
+        "tail": (text.count(f"w 03818 00000001 @ send(), sender.c:{tail}\n"), 1),
         "reads of ICR": (len(re.findall(r"^r 000C0 = 00000003 @ on_interrupt\(\), sender\.c:\d+$", text, re.M)), 1)}))
     tally.check("docs/guest.md, a module of Linux", written_in_page("sender.c", text))
     counted_run(tally, "a module of Linux, played again", kept, 2, warnings="0")

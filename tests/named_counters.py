@@ -1,8 +1,10 @@
-"""`./em_debug --addr2line`: program counters of a script become functions and lines. A program of our own, in C, writes
-a script whose counters are its own, at lines that are known here."""
+"""`./em_debug --addr2line` and `./em_page --addr2line`: program counters of a script become functions and lines. A program
+of our own, in C, writes a script whose counters are its own, at lines that are known here."""
+import json
 import os
 import pathlib
 import pty
+import re
 import resource
 import select
 import shutil
@@ -11,6 +13,7 @@ import subprocess
 import tempfile
 import time
 
+from page_tools import program as player
 from preload import not_run
 from tally import TOP, Tally
 
@@ -18,6 +21,8 @@ SECONDS = 60
 PROMPT = b"(em) "
 # what ./em_debug takes with this option; what chooses its program is another matter, which tests/wrapper tries
 TOOLS = ("bash", "env", "cat", "readlink", "mktemp", "rm", "mv", "od", "tail", "awk", "addr2line")
+# and what ./em_page takes besides
+PAGE_TOOLS = ("sed", "sha256sum", "base64", "head")
 HEADER = """\
 __attribute__((always_inline)) static inline uintptr_t put(void) { return caller(); }
 """
@@ -63,6 +68,9 @@ REFUSED = (
     # what em_debug refuses by itself
     (["--addr2line", "driver", "nowhere"], 3, "nowhere: there is no such file"),
     (["--addr2line", "driver", "."], 3, ".: the script cannot be read"),
+    (["--addr2line", "driver", "--base", "1001", "core"], 2,
+     "--memory 65536 --base 1001: guest memory begins at a multiple of 4096, has a multiple of 4096 octets, and ends at "
+     "10000000000 at most"),
     (["--addr2line", "driver", "--memory", "5", "core"], 2,
      "--memory 5 --base 0: guest memory begins at a multiple of 4096, has a multiple of 4096 octets, and ends at "
      "10000000000 at most"),
@@ -71,23 +79,47 @@ REFUSED = (
     (["--addr2line", "driver", "-"], 2,
      "a script of standard input goes with --batch, --compare or -x: what is typed comes from there"),
 )
+# the same of ./em_page, with who says it
+REFUSED_PAGES = (
+    (["core", "--addr2line"], 2, "em_page: --addr2line wants a file"),
+    (["--addr2line", "driver", "--addr2line=driver", "core"], 2, "em_page: --addr2line stands twice"),
+    (["--addr2line", "driver"], 2, "em_page: --addr2line wants a script"),
+    (["--addr2line", "driver@x", "core"], 2,
+     "em_page: --addr2line driver@ wants 1 to 16 hexadecimal digits behind the @"),
+    (["--addr2line", "nowhere", "core"], 3, "em_page: --addr2line nowhere: there is no such file"),
+    (["--addr2line", "text", "core"], 3, "em_page: --addr2line text: addr2line cannot read it"),
+    (["--record", "core", "--addr2line", "driver"], 2,
+     "em_page: a record is wanted: ./em_page --record run.json > run.html"),
+    (["--addr2line", "driver", "nowhere"], 3, "em_record: nowhere: there is no such file"),
+    (["--addr2line", "driver", "--base", "7", "core"], 2,
+     "em_record: --memory 65536 --base 7: guest memory begins at a multiple of 4096, has a multiple of 4096 octets, and "
+     "ends at 10000000000 at most"),
+)
+# the record of a page, and its title
+RECORD = re.compile(rb'<script id="record" type="application/json">(.*?)</script>', re.S)
+TITLE = re.compile(rb"<title>(.*?)</title>", re.S)
 
 
 class Room:
-    """A folder with ./em_debug over a program, the tools that it takes, and programs of our own with their scripts."""
+    """A folder with ./em_debug over a program, ./em_page over the recorder that is here, the tools that they take, and
+    programs of our own with their scripts."""
 
     def __init__(self, folder: str, program: str) -> None:
         self.top = pathlib.Path(folder)
         self.tools, self.temporary = self.top / "tools", self.top / "temporary"
         for name in (self.tools, self.temporary):
             name.mkdir()
-        for name in ("em_debug", "addr2line.bash"):
+        for name in ("em_debug", "em_page", "em_record", "addr2line.bash"):
             shutil.copy(TOP / name, self.top)
-        choice = f'run_program() {{\n  exec "${{through[@]}}" "{program}" "$@"\n}}\n'
+        shutil.copytree(TOP / "page", self.top / "page")
+        chosen = f'[ $me = em_debug ] && program="{program}" || program="{player("em_record")}"'
+        choice = f'run_program() {{\n  {chosen}\n  exec "${{through[@]}}" "$program" "$@"\n}}\n'
         (self.top / "program.bash").write_text(choice)
-        for name in TOOLS:
+        for name in (*TOOLS, *PAGE_TOOLS):
             (self.tools / name).symlink_to(shutil.which(name))
         self.environment = {"PATH": str(self.tools), "TMPDIR": str(self.temporary)}
+        # where programs were loaded
+        self.bases: dict[str, int] = {}
 
     def compile(self, name: str, *flags: str, file: str = "driver.c", source: str = SOURCE) -> None:
         """Makes a program, or a part of one, of a source of this name."""
@@ -101,14 +133,15 @@ class Room:
         """Makes a program; the script that it writes, and where it was loaded."""
         self.compile(name, *flags, **how)
         ran = subprocess.run([self.top / name], capture_output=True, check=True, timeout=SECONDS)
-        return ran.stdout, int(ran.stderr, 16)
+        self.bases[name] = int(ran.stderr, 16)
+        return ran.stdout, self.bases[name]
 
     def write(self, name: str, script: bytes) -> str:
         (self.top / name).write_bytes(script)
         return name
 
-    def run(self, *words: str, typed: bytes = b"", **env: str):
-        return subprocess.run(["bash", "em_debug", *words], input=typed, capture_output=True, cwd=self.top,
+    def run(self, *words: str, typed: bytes = b"", by: str = "em_debug", **env: str):
+        return subprocess.run(["bash", by, *words], input=typed, capture_output=True, cwd=self.top,
                               env=self.environment | env, timeout=SECONDS, check=False)
 
 
@@ -194,6 +227,34 @@ def refusals(tally: Tally, room: Room) -> None:
         (room.top / tool).rename(room.tools / tool)
 
 
+def pages(tally: Tally, room: Room) -> None:
+    """The page of such a script has the names: of a file, by an address, and of standard input."""
+    script, said = (room.top / "core").read_bytes(), b"line 4: no command bogus: help says which there are\n"
+    wanted = ["begin(), driver.c:6", "before give(), driver.c:8", "give(), driver.c:8", "1 0x%X", "0xD0"]
+    moved, base = (room.top / "moved core").read_bytes(), room.bases["moved"]
+    for words, typed, name, run_of in (
+        (["--addr2line", "driver", "core"], b"", "core", script),
+        (["--memory=64K", "--addr2line=driver", "--", "core"], b"", "core", script),
+        (["--addr2line", "driver", "-"], script, "-", script),
+        ([f"--addr2line=moved@{base:x}", "moved core"], b"", "moved core", moved),
+    ):
+        ran = room.run(*words, typed=typed, by="em_page")
+        ended(tally, room, " ".join(words), ran, 1, None, f"em_record: {name}: ".encode() + said)
+        record, title = RECORD.search(ran.stdout), TITLE.search(ran.stdout)
+        told = [line["source"] for line in json.loads(record[1])["lines"] if "source" in line] if record else []
+        # (the number that stands behind another word is no counter)
+        wanted[3] = run_of.decode().splitlines()[6].partition("@ ")[2]
+        faults = [] if told == wanted else [f"its sources are {told}, and not {wanted}"]
+        shown = b"A run of the 82540EM" if name == "-" else name.encode() + b": a run of the 82540EM"
+        faults += [] if title and title[1] == shown else [f"its title is {title}"]
+        tally.check(f"./em_page {' '.join(words)}", faults)
+    for words, status, told in REFUSED_PAGES:
+        ended(tally, room, " ".join(words), room.run(*words, by="em_page"), status, b"", f"{told}\n".encode())
+    ran = room.run("--help", by="em_page")
+    is_told = b"--addr2line PROGRAM[@ADDRESS] SCRIPT" in ran.stdout
+    tally.check("./em_page --help", [] if is_told else ["it has no --addr2line"])
+
+
 def used() -> float:
     """The seconds of processors that what was waited for has taken."""
     spent = resource.getrusage(resource.RUSAGE_CHILDREN)
@@ -268,7 +329,7 @@ def try_named_counters(tally: Tally, program: str) -> None:
     with tempfile.TemporaryDirectory() as folder:
         room = Room(folder, program)
         script = named(tally, room)
-        for part in (modules, session, refusals, many, interrupts):
+        for part in (modules, session, refusals, pages, many, interrupts):
             part(tally, room)
         is_kept = (room.top / "core").read_bytes() == script
         tally.check("--addr2line, the script", [] if is_kept else ["it was written to"])

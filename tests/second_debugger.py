@@ -98,6 +98,8 @@ class Debugger:
         self.lines: list[str] = []
         self.shown: list[str] = []
         self.sources: list[str] = []
+        # the answer that each expects
+        self.wanted: list[str] = []
         self.behind = [Behind(machine, (), 0, [], 0, None, False)]
         self.whole = self.back = 0
 
@@ -151,11 +153,33 @@ class Debugger:
         self.lines.append(line)
         self.shown.append(parts.said if says_more else line)
         self.sources.append(parts.source)
+        self.wanted.append(parts.expected)
 
     def named(self, line: int) -> str:
         """A line by its number, with where it comes from."""
         source = self.sources[line - 1]
         return f"line {line} @ {source}" if source else f"line {line}"
+
+    def given(self, line: int) -> str:
+        """A line as it was given, without a comment behind it."""
+        wanted, source = self.wanted[line - 1], self.sources[line - 1]
+        return (short(self.shown[line - 1]) + (f" = {short(wanted)}" if wanted else "")
+                + (f" @ {source}" if source else ""))
+
+    def listed(self, first: int | None = None, last: int | None = None) -> list[str]:
+        """Ten lines around the place or around a line, or those from one to another."""
+        count, here = len(self.lines), self.line_here()
+        if first is not None and first > count:
+            return [f"no line {first}: the script has {count} line{'s' * (count != 1)}"]
+        if last is None:
+            first = (here if first is None else first) - 5
+            while first + 9 > count:
+                first -= 1
+            first = max(first, 1)
+            last = first + 9
+        start = ["> at the start"] if here == 0 and first == 1 else []
+        return start + [f"{'>' if line == here else ' '} {line:5}  {self.given(line)}"
+                        for line in range(first, min(last, count) + 1)]
 
     def performed_next(self) -> None:
         """Performs the line behind the place, whose own line is whole then."""
@@ -169,7 +193,7 @@ class Debugger:
         line, back = self.left_out(True)
         dropped = len(self.lines) - line
         shown = self.state(), len(self.standing())
-        del self.lines[line:], self.shown[line:], self.sources[line:], self.behind[line + 1 :]
+        del self.lines[line:], self.shown[line:], self.sources[line:], self.wanted[line:], self.behind[line + 1 :]
         self.whole, self.back = line, 0
         while back > 0:
             step = min(back, MOST_BACK)

@@ -364,6 +364,9 @@ static void asks_for_none(void) {
   OK(em_line(&machine, &value));
   OK(em_wire_count(&machine, &count));
   OK(em_wire_frame(&machine, 0, all->frames[0], 2048, &count));
+  OK(em_wire_next(&machine, all->frames[0], 2048, &count));
+  OK(em_read_sized(&machine, ICR, 4, &size));
+  OK(em_write_sized(&machine, IMS, 4, LSC));
   OK(em_tag(&machine, 5));
   OK(em_event(&machine, 0, &event));
   OK(em_last_change(&machine, &watch, &change));

@@ -40,6 +40,7 @@ REFUSALS = {
     "Recorded": 43,
     "File": 44,
     "Unrecorded": 45,
+    "Width": 46,
 }
 
 # by number, what each kind of event is called
@@ -324,6 +325,7 @@ CALLS = {
     "em_memory_size": [POINTER(Handle), POINTER(c_uint64)],
     "em_name": [c_uint32, c_void_p, c_size_t, POINTER(c_size_t)],
     "em_find": [c_void_p, c_size_t, POINTER(c_uint32)],
+    "em_wire_next": [POINTER(Handle), c_void_p, c_size_t, POINTER(c_size_t)],
     "em_tag": [POINTER(Handle), c_uint64],
     "em_event": [POINTER(Handle), c_size_t, POINTER(Note)],
     "em_ring_needs": [POINTER(Handle), c_uint32, POINTER(Range), POINTER(Range)],
@@ -336,6 +338,8 @@ CALLS = {
     "em_ring_descriptor": [POINTER(Handle), c_uint32, c_uint32, POINTER(Descriptor)],
     "em_run_rx": [POINTER(Handle), c_size_t, POINTER(c_size_t)],
     "em_run_tx": [POINTER(Handle), c_size_t, POINTER(c_size_t)],
+    "em_read_sized": [POINTER(Handle), c_uint32, c_uint32, POINTER(c_uint64)],
+    "em_write_sized": [POINTER(Handle), c_uint32, c_uint32, c_uint64],
     "em_sync_out": [POINTER(Handle), c_void_p, c_size_t],
     "em_sync_in": [POINTER(Handle), c_void_p, c_size_t, POINTER(c_size_t)],
     "em_sync_out_range": [POINTER(Handle), c_uint64, c_void_p, c_size_t],

@@ -9,7 +9,6 @@ use crate::refused::{Refused, number, tell};
 use crate::room::{lay, lay_in_two};
 use crate::told::flag;
 use em_journal::Machine;
-use std::alloc::Global;
 
 /// What waits in the FIFO, and what is gathered.
 #[repr(C)]
@@ -29,54 +28,42 @@ pub struct EmFifo {
 
 /// How many frames wait in the FIFO, what the first of them is, and how many octets are gathered.
 #[unsafe(no_mangle)]
-pub extern "C" fn em_fifo(alloc: Global, machine: &mut EmMachine, fifo: &mut EmFifo) -> u32
+pub extern "C" fn em_fifo(machine: &mut EmMachine, fifo: &mut EmFifo) -> u32
     ensures fifo { Shows (asked machine.old.sealed.held the.fifo_in) fifo.old result fifo.new }
     ensures same { machine.new.sealed.held ≡ machine.old.sealed.held }
 {
-    tell(fifo_held(alloc, machine), fifo)
+    tell(fifo_held(machine), fifo)
 }
 
 /// Copies the first frame out that waits in the FIFO, and tells how many octets it has: also where there is no room for
 /// them, and then nothing is copied. Where none waits it has none.
 #[unsafe(no_mangle)]
-pub extern "C" fn em_fifo_frame(
-    alloc: Global,
-    machine: &mut EmMachine,
-    out: &mut [u8],
-    octets: &mut usize,
-) -> u32
+pub extern "C" fn em_fifo_frame(machine: &mut EmMachine, out: &mut [u8], octets: &mut usize) -> u32
     ensures frame { Shows (laid_into out.old (asked machine.old.sealed.held the.first_frame)) out.old result out.new }
     ensures octets { octets.new ≡ told octets.old (length_of (asked machine.old.sealed.held the.first_frame)) }
     ensures same { machine.new.sealed.held ≡ machine.old.sealed.held }
 {
-    number(copy_first(alloc, machine, out, octets))
+    number(copy_first(machine, out, octets))
 }
 
 /// Copies the octets out that are gathered for the next frame to be sent, and tells how many they are: also where there
 /// is no room for them, and then nothing is copied.
 #[unsafe(no_mangle)]
-pub extern "C" fn em_gathered(
-    alloc: Global,
-    machine: &mut EmMachine,
-    out: &mut [u8],
-    octets: &mut usize,
-) -> u32
+pub extern "C" fn em_gathered(machine: &mut EmMachine, out: &mut [u8], octets: &mut usize) -> u32
     ensures gathered { Shows (laid_into out.old (asked machine.old.sealed.held the.gathered)) out.old result out.new }
     ensures octets { octets.new ≡ told octets.old (length_of (asked machine.old.sealed.held the.gathered)) }
     ensures same { machine.new.sealed.held ≡ machine.old.sealed.held }
 {
-    number(copy_gathered(alloc, machine, out, octets))
+    number(copy_gathered(machine, out, octets))
 }
 
 /// The FIFO of the machine that is held.
-fn fifo_held(alloc: Global, machine: &mut EmMachine) -> Result<EmFifo, Refused>
+fn fifo_held(machine: &mut EmMachine) -> Result<EmFifo, Refused>
     ensures fifo { result ≡ asked machine.old.sealed.held the.fifo_in }
     ensures same { machine.new.sealed.held ≡ machine.old.sealed.held }
 {
-    let held = machine.take(alloc)?;
-    let fifo = fifo_told(held.traced.machine());
-    machine.put(held);
-    Ok(fifo)
+    let held = machine.held()?;
+    Ok(fifo_told(held.looked_at()))
 }
 
 /// The FIFO of a machine.
@@ -104,21 +91,14 @@ fn fifo_told(machine: &Machine) -> EmFifo
 }
 
 /// Copies the first frame of the machine that is held.
-fn copy_first(
-    alloc: Global,
-    machine: &mut EmMachine,
-    out: &mut [u8],
-    octets: &mut usize,
-) -> Result<(), Refused>
+fn copy_first(machine: &mut EmMachine, out: &mut [u8], octets: &mut usize) -> Result<(), Refused>
     ensures outcome { number result ≡ number (laid_into out.old (asked machine.old.sealed.held the.first_frame)) }
     ensures frame { out.new ≡ told out.old (laid_into out.old (asked machine.old.sealed.held the.first_frame)) }
     ensures octets { octets.new ≡ told octets.old (length_of (asked machine.old.sealed.held the.first_frame)) }
     ensures same { machine.new.sealed.held ≡ machine.old.sealed.held }
 {
-    let held = machine.take(alloc)?;
-    let outcome = lay_first(held.traced.machine(), out, octets);
-    machine.put(held);
-    outcome
+    let held = machine.held()?;
+    lay_first(held.looked_at(), out, octets)
 }
 
 /// Copies the first frame of a machine.
@@ -134,19 +114,12 @@ fn lay_first(machine: &Machine, out: &mut [u8], octets: &mut usize) -> Result<()
 }
 
 /// Copies what the machine that is held has gathered.
-fn copy_gathered(
-    alloc: Global,
-    machine: &mut EmMachine,
-    out: &mut [u8],
-    octets: &mut usize,
-) -> Result<(), Refused>
+fn copy_gathered(machine: &mut EmMachine, out: &mut [u8], octets: &mut usize) -> Result<(), Refused>
     ensures outcome { number result ≡ number (laid_into out.old (asked machine.old.sealed.held the.gathered)) }
     ensures gathered { out.new ≡ told out.old (laid_into out.old (asked machine.old.sealed.held the.gathered)) }
     ensures octets { octets.new ≡ told octets.old (length_of (asked machine.old.sealed.held the.gathered)) }
     ensures same { machine.new.sealed.held ≡ machine.old.sealed.held }
 {
-    let held = machine.take(alloc)?;
-    let outcome = lay(held.traced.machine().gathered(), out, octets);
-    machine.put(held);
-    outcome
+    let held = machine.held()?;
+    lay(held.looked_at().gathered(), out, octets)
 }

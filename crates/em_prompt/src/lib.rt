@@ -33,6 +33,6 @@ pub use kind::{Choice, Kind};
 pub use number::Number;
 pub use prompt::prompted;
 pub use script_line::scripted;
-pub use typed::{Shown, Side, Typed, Until, Which};
+pub use typed::{Lines, Shown, Side, Typed, Until, Which};
 pub use watch::Watch;
 pub use wrong::{Wrong, write_wrong};

@@ -102,7 +102,7 @@ fn with_matches<R: Files + Input + Print + Eprint + AllocGlobal>(
     rt: &R,
     matches: &ArgMatches<'_>,
 ) -> Result<u8> {
-    let wanted = match wanted(matches) {
+    let wanted = match wanted(rt.alloc(), matches) {
         Ok(wanted) => wanted,
         Err(refused) => return refused_by(rt, refused),
     };

@@ -17,7 +17,7 @@ const LEAST_POWER: u32 = 27;
 const END_POWER: u32 = 40;
 
 /// How many octets are a mebibyte.
-pub const MIB: u64 = 0x10_0000;
+const MIB: u64 = 0x10_0000;
 
 /// How many numbers a register has.
 const WORDS: u64 = 0x1_0000_0000;

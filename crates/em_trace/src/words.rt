@@ -1,11 +1,13 @@
 //! The words of the command line.
 
 use crate::ranges::Lines;
-use crate::rings::{MIB, Room};
+use crate::rings::Room;
 use crate::shown::Address;
 use crate::translating::{Link, Wanted};
 use clap::{Arg, ArgAction, ArgMatches, Command, Error, value_parser};
+use em_input::{SIZES, size_of};
 use em_log::Form;
+use em_mem::{GuestMemory, MemRefusal};
 use em_text::Words;
 use std::alloc::{AllocError, Global};
 use std::fmt;
@@ -41,10 +43,15 @@ pub enum WordsRefused {
     At,
     /// What stands behind `--memory` is no size, or `--memory-base` has no address or no size beside it.
     Memory,
+    /// No machine can have such memory.
+    Room(Room),
 }
 
 impl fmt::Display for WordsRefused {
     fn fmt<W: fmt::Write>(&self, f: &mut fmt::Formatter<W>) -> fmt::Result {
+        if let WordsRefused::Room(Room { base, size }) = self {
+            write!(f, "--memory {size} --memory-base {base:X}: ")?;
+        }
         f.write_str(match self {
             WordsRefused::Base => "--base wants 1 to 16 hexadecimal digits",
             WordsRefused::Mac =>
@@ -55,6 +62,7 @@ impl fmt::Display for WordsRefused {
             WordsRefused::At => "--at wants a line from --from to --to",
             WordsRefused::Memory =>
                 "--memory wants octets, or so many K, M or G, and --memory-base beside it 1 to 16 hexadecimal digits",
+            WordsRefused::Room(_) => SIZES,
         })
     }
 }
@@ -155,7 +163,7 @@ fn option<'a>(alloc: Global, name: &'a str, value: &'a str, help: &'a str) -> Ar
 }
 
 /// What the words ask for.
-pub fn wanted<'a>(matches: &ArgMatches<'a>) -> Result<Wanted<'a>, WordsRefused> {
+pub fn wanted<'a>(alloc: Global, matches: &ArgMatches<'a>) -> Result<Wanted<'a>, WordsRefused> {
     let base = match matches.get_str("base") {
         Some(text) => Some(address_of(text)?),
         None => None,
@@ -164,7 +172,11 @@ pub fn wanted<'a>(matches: &ArgMatches<'a>) -> Result<Wanted<'a>, WordsRefused> 
         Some(text) => Some(mac_of(text)?),
         None => None,
     };
-    let memory = room_of(matches.get_str("memory"), matches.get_str("memory-base"))?;
+    let memory = room_of(
+        alloc,
+        matches.get_str("memory"),
+        matches.get_str("memory-base"),
+    )?;
     let lines = lines_of(matches.get_str("from"), matches.get_str("to"))?;
     let at = matches.get_one::<u64>("at");
     if at.is_some_and(|line| !lines.has(line)) {
@@ -209,8 +221,12 @@ fn address_of(text: &str) -> Result<u64, WordsRefused> {
     }
 }
 
-/// The memory that a size and an address say, if there is a size.
-fn room_of(size: Option<&str>, base: Option<&str>) -> Result<Option<Room>, WordsRefused> {
+/// The memory that a size and an address say, if there is a size, and a machine can have it.
+fn room_of(
+    alloc: Global,
+    size: Option<&str>,
+    base: Option<&str>,
+) -> Result<Option<Room>, WordsRefused> {
     let Some(size) = size else {
         return if base.is_some() {
             Err(WordsRefused::Memory)
@@ -218,28 +234,16 @@ fn room_of(size: Option<&str>, base: Option<&str>) -> Result<Option<Room>, Words
             Ok(None)
         };
     };
-    let size = size_of(size).ok_or(WordsRefused::Memory)?;
+    let size = size_of(size.as_bytes()).ok_or(WordsRefused::Memory)?;
     let base = match base {
         Some(text) => address_of(text).map_err(|_| WordsRefused::Memory)?,
         None => 0,
     };
-    Ok(Some(Room { base, size }))
-}
-
-/// The octets that decimal digits write, or so many K, M or G.
-fn size_of(text: &str) -> Option<u64> {
-    let (digits, unit) = match text.as_bytes() {
-        [digits @ .., b'K' | b'k'] => (digits, 0x400),
-        [digits @ .., b'M' | b'm'] => (digits, MIB),
-        [digits @ .., b'G' | b'g'] => (digits, 0x400 * MIB),
-        digits => (digits, 1),
-    };
-    let Ok(digits) = str::from_utf8(digits) else {
-        return None;
-    };
-    match digits.parse::<u64>() {
-        Ok(number) => number.checked_mul(unit),
-        Err(_) => None,
+    let room = Room { base, size };
+    // (where memory is refused to it, it is made by the program that plays the script)
+    match GuestMemory::at(alloc, base, size) {
+        Err(MemRefusal::Size) => Err(WordsRefused::Room(room)),
+        Ok(_) | Err(MemRefusal::Memory) => Ok(Some(room)),
     }
 }
 
