@@ -1,7 +1,7 @@
 use Rattle.std.proofs.Common.{arith}
 use Rattle.em_regs.proofs.TableLaws.{below_space, found_lies, none_found, none_lies, whole_word}
-use Rattle.em_regs.proofs.reg.Reg.of_offset.Goals.{then-offset-ge-SPACE-via-then-offset-ge-SPACE, then-offset-ge-SPACE-via-else-offset-ge-SPACE+then-offset-ne0}
-use Rattle.em_regs.proofs.reg.Reg.of_offset.Goals as goal
+use Rattle.em_regs.proofs.reg.Reg.of_row.Goals.{then-offset-ge-SPACE-via-then-offset-ge-SPACE, then-offset-ge-SPACE-via-else-offset-ge-SPACE+then-offset-ne0}
+use Rattle.em_regs.proofs.reg.Reg.of_row.Goals as goal
 
 pub returns-then-offset-ge-SPACE-clause-table : goal.returns-then-offset-ge-SPACE-clause-table
 returns-then-offset-ge-SPACE-clause-table c = none_found c.args.offset (λ reg has lies.
