@@ -56,6 +56,10 @@ op v = v / 2 ^ 26 % 4
 abbrev pub kept : ℕ → ℕ
 kept v = bit_and v 0x2FFF_FFFF
 
+-- a command asks for an interrupt: I
+abbrev pub asks_for_interrupt : ℕ → Bool
+asks_for_interrupt v = v / 2 ^ 29 % 2 == 1
+
 -- MDIC after a write: R at once, of PHY 1 the word that was read; of another one E
 abbrev pub answer : State → Bool → ℕ → ℕ
 answer s link v =

@@ -4,4 +4,4 @@
 pub mod laws;
 mod phy;
 
-pub use phy::{Phy, PhyUndo};
+pub use phy::{Phy, PhyUndo, asks_for_interrupt};

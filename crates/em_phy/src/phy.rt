@@ -1,6 +1,6 @@
 //! The words of the PHY, and MDIC.
 ghost use Rattle.std.specs.Prelude.{◌≡◌, ◌<◌, ◌/◌, ◌%◌, ◌^◌};
-ghost use Rattle.em_phy.specs.Phy.{after_write, answer, is_read_only, link_bits, put_word, read_word, start, stored, undone};
+ghost use Rattle.em_phy.specs.Phy.{after_write, answer, asks_for_interrupt, is_read_only, link_bits, put_word, read_word, start, stored, undone};
 
 use em_mem::Reversible;
 use std::marker::Model;
@@ -40,6 +40,9 @@ const KEPT: u32 = 0x2FFF_FFFF;
 
 /// R, ready: bit 28.
 const R: u32 = 0x1000_0000;
+
+/// I, that MDAC is to be raised: bit 29.
+const I: u32 = 29;
 
 /// E, that no such PHY is there: bit 30.
 const E: u32 = 0x4000_0000;
@@ -81,6 +84,15 @@ impl Model for PhyUndo {
     ghost invariant = { λ u. u.reg < 32 };
 }
 
+impl PhyUndo {
+    /// What MDIC was.
+    pub fn mdic(&self) -> u32
+        ensures { result ≡ self.now.mdic }
+    {
+        self.mdic
+    }
+}
+
 impl Phy {
     /// The words as they are at power on (QEMU's e1000 has the same), and MDIC 0.
     pub fn new() -> Phy
@@ -101,7 +113,7 @@ impl Phy {
         Phy { mdic: 0, words }
     }
 
-    /// What MDIC says.
+    /// MDIC as it is read.
     pub fn read(&self) -> u32
         ensures { result ≡ self.now.mdic }
     {
@@ -195,6 +207,13 @@ fn register_address(value: u32) -> u8
     ensures small { result < 32 }
 {
     (value >> REGADD & FIVE_BITS) as u8
+}
+
+/// Whether a command asks for an interrupt, which is its caller's to raise.
+pub fn asks_for_interrupt(value: u32) -> bool
+    ensures { result ≡ asks_for_interrupt value }
+{
+    value >> I & 1 == 1
 }
 
 /// PHYADD.
