@@ -1,6 +1,6 @@
 //! A watched thing, followed back over records.
 ghost use Rattle.std.specs.Prelude.{◌≡◌, length};
-ghost use Rattle.em_regs.specs.Table.{IsReg};
+ghost use Rattle.em_regs.specs.Table.{IsRegOf};
 ghost use Rattle.em_step.specs.Access.{gives};
 ghost use Rattle.em_step.specs.Before.{PutsBack};
 ghost use Rattle.em_watch.specs.Traced.{traced, traced_register, traced_octets, shown, IsTraceable};
@@ -97,9 +97,9 @@ impl Traced {
     }
 }
 
-/// A register of the table, as a look at it shows it.
+/// A register that the machine has, as a look at it shows it.
 fn look(machine: &Machine, reg: Reg) -> u32
-    requires { IsReg reg }
+    requires { IsRegOf machine.now.present.profile reg }
     ensures { result ≡ gives machine.now.present reg }
 {
     match machine.look(reg.offset()) {
@@ -111,7 +111,7 @@ fn look(machine: &Machine, reg: Reg) -> u32
 fn traced_register(machine: &Machine, reg: Reg) -> Traced
     ensures { result ≡ traced_register machine.now.present reg }
 {
-    if reg.index() < reg.row().words {
+    if reg.index() < reg.row().words && reg.row().since.is_in(machine.profile()) {
         Traced::Register(reg, look(machine, reg))
     } else {
         Traced::Nothing
