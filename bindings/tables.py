@@ -253,8 +253,7 @@ def exports(made: Crate) -> str:
 def rust_parameter(one: tuple[str, str, str, str]) -> str:
     how, kind, _, name = one
     base = "Handle" if kind == "EmMachine" else kind.removeprefix("Em")
-    # (the handle is written while any call lasts)
-    way = {"value": "", "in": "*const ", "out": "*mut "}["out" if kind == "EmMachine" else how]
+    way = {"value": "", "in": "*const ", "out": "*mut "}[how]
     return f"{name}: {way}{base}"
 
 

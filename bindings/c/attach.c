@@ -297,3 +297,27 @@ PASSED(sync_in_range, (em_machine *machine, uint64_t address, const uint8_t *oct
 PASSED(arrive, (em_machine *machine, const uint8_t *frame, size_t length, em_note *event), frame, length, event)
 PASSED(set_link, (em_machine *machine, bool up), up)
 PASSED(tag, (em_machine *machine, uint64_t tag), tag)
+
+/* Of a run that is kept a word is kept as em_read and em_write keep it; another width leaves no line. */
+#define IS_KEPT(machine, octets) ((machine)->state & KEPT && (octets) == sizeof(uint32_t))
+
+static em_code keep_word(em_machine *machine, uint32_t offset, uint64_t *value) {
+  uint32_t word;
+  em_code why = keep_read(machine, offset, &word);
+  if (why == EM_OK) *value = word;
+  return why;
+}
+
+em_code em_read_sized(em_machine *machine, uint32_t offset, uint32_t octets, uint64_t *value) {
+  return UNLESS_CALLING(IS_KEPT(machine, octets) ? keep_word(machine, offset, value)
+                                                 : proved_read_sized(machine, offset, octets, value));
+}
+
+em_code em_write_sized(em_machine *machine, uint32_t offset, uint32_t octets, uint64_t value) {
+  return UNLESS_CALLING(IS_KEPT(machine, octets) ? keep_write(machine, offset, (uint32_t)value)
+                                                 : proved_write_sized(machine, offset, octets, value));
+}
+
+em_code em_wire_next(em_machine *machine, uint8_t *out, size_t room, size_t *length) {
+  return UNLESS_CALLING(proved_wire_next(machine, out, room, length));
+}

@@ -39,10 +39,10 @@
      overlap the handle.
    - A handle begins as EM_NO_MACHINE. From then on only this library writes it. It is not copied, moved by memcpy while
      its copy is used, or written by hand; it may be moved as a whole, where its old place is then not used again.
-   - One call at a time is made with a handle. Another thread may make the next one, where a lock, a start, a join or
-     the like orders the two. Machines share nothing: each may have a thread of its own, and there may be any number.
-   - A call that takes a `const em_machine *` leaves the machine as it was. While it lasts it writes the handle all the
-     same: it is a call like any other to what stands above, and a handle is no object that was defined const.
+   - A call that takes the handle as `em_machine *` is the only one with it while it lasts. Calls that take it as
+     `const em_machine *` look: they write neither the handle nor the machine, and any number of them may be made with one
+     handle at once, each in a thread of its own. Between a look and a call that is none a lock, a start, a join or the like
+     orders the two, whatever the threads. Machines share nothing: there may be any number, with as many threads.
    - No call is made from a signal handler, or in a forked child of a process with threads.
    - A function of an em_ram is called in the thread of the call that it serves, and returns: it is not left by longjmp
      or an exception. It writes no octet but those that it was called for.
@@ -138,6 +138,7 @@ typedef enum em_code {
   EM_RECORDED = 43,    /* the run is kept already */
   EM_FILE = 44,        /* the file was not opened, or not written */
   EM_UNRECORDED = 45,  /* the run is not kept */
+  EM_WIDTH = 46,       /* an access of a register that has not four octets */
   EM_CODE_WIDE = 0x7FFFFFFF /* none: it gives the type 32 bits, in which numbers of later versions have room */
 } em_code;
 
@@ -210,6 +211,12 @@ EM_CHECKED em_code em_read(em_machine *machine, uint32_t offset, uint32_t *value
 
 /* The driver writes a register. */
 EM_CHECKED em_code em_write(em_machine *machine, uint32_t offset, uint32_t value);
+
+/* The same two by the number of octets that an access has, as the callbacks of virtual machines give it: of 4 octets they
+   are em_read, of which `value` has the 32 bits, and em_write of the lowest 32 bits of `value`. Registers are accessed by
+   words of 32 bits: any other number of octets is refused as EM_WIDTH, before anything else is looked at. */
+EM_CHECKED em_code em_read_sized(em_machine *machine, uint32_t offset, uint32_t octets, uint64_t *value);
+EM_CHECKED em_code em_write_sized(em_machine *machine, uint32_t offset, uint32_t octets, uint64_t value);
 
 /* What a read would give. It is no event, and clears nothing. */
 EM_CHECKED em_code em_look(const em_machine *machine, uint32_t offset, uint32_t *value);
@@ -384,6 +391,14 @@ EM_CHECKED em_code em_wire_count(const em_machine *machine, size_t *count);
 /* Copies a frame that was sent, the first one at 0, to the head of `out`, and tells its length. Where `room` is too
    small it is refused as EM_ROOM, and `length` tells how much is needed; EM_MOST_SENT is always enough. */
 EM_CHECKED em_code em_wire_frame(const em_machine *machine, size_t index, uint8_t *out, size_t room, size_t *length);
+
+/* Hands the next frame over that was sent: each frame once, in the order of sending, whatever em_wire_frame looked at. It
+   goes to the head of `out`, and `length` tells how many octets it has. Where `room` is too small it is refused as EM_ROOM,
+   `length` tells how much is needed, and the frame is the next one still; EM_MOST_SENT is always enough. Refused as
+   EM_NO_FRAME where each frame was handed over. A frame that em_back takes off the wire is gone: one that is sent then is a
+   new one, and is handed over too. It is no event, and nothing that em_back takes back. The cost is that of copying the
+   frame. */
+EM_CHECKED em_code em_wire_next(em_machine *machine, uint8_t *out, size_t room, size_t *length);
 
 /* ---- back */
 
@@ -604,6 +619,12 @@ typedef struct em_fifo_state {
 /* How many frames wait in the FIFO, what the first of them is, and how many octets are gathered. Constant. */
 EM_CHECKED em_code em_fifo(const em_machine *machine, em_fifo_state *fifo);
 
+/* How many octets have room in the FIFO now: 49,152 less those of the frames that wait, each of which counts whole until its
+   last octet is in guest memory. A frame that is accepted is stored where no more of it are stored than that, and else it is
+   EM_MISSED. All of a frame's octets are stored, but for the 4 of a VLAN tag that CTRL.VME has taken out: so a frame of
+   `octets` octets finds room, whatever it is. A virtual machine that asks before it delivers loses none. Constant. */
+EM_CHECKED em_code em_fifo_room(const em_machine *machine, size_t *octets);
+
 /* Copies the first frame that waits to the head of `out`, and tells its length, 0 where none waits. Where `room` is too
    small it is refused as EM_ROOM, and `length` tells how much is needed: 20,000 octets at most. */
 EM_CHECKED em_code em_fifo_frame(const em_machine *machine, uint8_t *out, size_t room, size_t *length);
@@ -673,6 +694,8 @@ static inline em_machine *em_from(em_machine *machine, const char *file, uint32_
 /* The calls of these names, from here. (A word of enum em_kind, as EM_READ, stays that where no bracket follows it.) */
 #define EM_READ(machine, offset, value) em_read(EM_HERE(machine), (offset), (value))
 #define EM_WRITE(machine, offset, value) em_write(EM_HERE(machine), (offset), (value))
+#define EM_READ_SIZED(machine, offset, octets, value) em_read_sized(EM_HERE(machine), (offset), (octets), (value))
+#define EM_WRITE_SIZED(machine, offset, octets, value) em_write_sized(EM_HERE(machine), (offset), (octets), (value))
 #define EM_POKE(machine, address, octets, length) em_poke(EM_HERE(machine), (address), (octets), (length))
 #define EM_SYNC_IN(machine, ram, size, writes) em_sync_in(EM_HERE(machine), (ram), (size), (writes))
 #define EM_SYNC_IN_RANGE(machine, address, octets, length, writes) \

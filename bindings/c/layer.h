@@ -18,6 +18,8 @@ PROVED(make_at_with_eeprom);
 PROVED(free);
 PROVED(read);
 PROVED(write);
+PROVED(read_sized);
+PROVED(write_sized);
 PROVED(poke);
 PROVED(sync_in);
 PROVED(sync_in_range);
@@ -29,6 +31,7 @@ PROVED(run_rx);
 PROVED(run_tx);
 PROVED(back);
 PROVED(tag);
+PROVED(wire_next);
 
 /* What a handle's state has: whether memory is attached, or a function of it is being called (one of these two at most);
    whether the run is kept, in which case the handle has a `kept` in the place of what is attached; whether events were taken

@@ -36,6 +36,7 @@ const char *em_strerror(em_code code) {
     case EM_RECORDED: return "Recorded: the run is kept already";
     case EM_FILE: return "File: the file was not opened, or not written";
     case EM_UNRECORDED: return "Unrecorded: the run is not kept";
+    case EM_WIDTH: return "Width: registers are accessed by four octets";
     default: return "Unknown: no refusal has the number";
   }
 }

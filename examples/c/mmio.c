@@ -35,11 +35,11 @@ static void update_line(nic *n) {
   n->level = level;
 }
 
-/* The guest reads 4 octets of the window. What no register answers reads as ones, as on a bus. */
-static uint32_t bar_read(void *opaque, uint64_t offset) {
+/* The guest reads `size` octets of the window. What is refused reads as ones, as on a bus: of another width, too. */
+static uint64_t bar_read(void *opaque, uint64_t offset, unsigned size) {
   nic *n = opaque;
-  uint32_t value;
-  if (offset > UINT32_MAX || em_read(&n->machine, (uint32_t)offset, &value) != EM_OK) value = UINT32_MAX;
+  uint64_t value;
+  if (offset > UINT32_MAX || em_read_sized(&n->machine, (uint32_t)offset, size, &value) != EM_OK) value = UINT64_MAX;
   update_line(n);
   return value;
 }
@@ -65,10 +65,11 @@ static void run_engines(nic *n) {
   update_line(n);
 }
 
-/* The guest writes 4 octets of the window. */
-static void bar_write(void *opaque, uint64_t offset, uint32_t value) {
+/* The guest writes `size` octets of the window. */
+static void bar_write(void *opaque, uint64_t offset, uint64_t value, unsigned size) {
   nic *n = opaque;
-  if (offset <= UINT32_MAX && em_write(&n->machine, (uint32_t)offset, value) == EM_MEMORY) must(EM_MEMORY, "a write");
+  if (offset > UINT32_MAX) return;
+  if (em_write_sized(&n->machine, (uint32_t)offset, size, value) == EM_MEMORY) must(EM_MEMORY, "a write");
   run_engines(n);
 }
 
@@ -86,20 +87,17 @@ static void deliver(nic *n, const uint8_t *frame, size_t length) {
 /* ---- the guest's side */
 
 enum { ICR = 0x00C0, IMS = 0x00D0, RCTL = 0x0100, RDBAL = 0x2800, RDLEN = 0x2808, RDT = 0x2818 };
-enum { RXT0 = 0x80, EN = 0x2, BAM = 0x8000, RING = 0x1000, BUFFERS = 0x2000 };
+enum { RXT0 = 0x80, EN = 0x2, BAM = 0x8000, RING = 0x1000, BUFFERS = 0x2000, WORD = 4 };
 
 static void start_driver(nic *n) {
   /* the addresses of the buffers, low octet first, of which the second alone is not 0 */
   for (unsigned i = 0; i < 8; i++) n->ram[RING + 16 * i + 1] = (uint8_t)((BUFFERS + 0x800 * i) >> 8);
-  bar_write(n, RDBAL, RING);
-  bar_write(n, RDLEN, 8 * 16);
-  bar_write(n, RDT, 7);
-  bar_write(n, IMS, RXT0);
-  bar_write(n, RCTL, EN | BAM);
+  const uint32_t writes[][2] = {{RDBAL, RING}, {RDLEN, 8 * 16}, {RDT, 7}, {IMS, RXT0}, {RCTL, EN | BAM}};
+  for (unsigned i = 0; i < 5; i++) bar_write(n, writes[i][0], writes[i][1], WORD);
 }
 
 static void handle_interrupt(nic *n) {
-  while (n->level) printf("  guest reads ICR: %08X\n", (unsigned)bar_read(n, ICR));
+  while (n->level) printf("  guest reads ICR: %08X\n", (unsigned)bar_read(n, ICR, WORD));
   set_limit(0, NULL);
 }
 

@@ -49,6 +49,7 @@ static bool is_busy(em_machine *m) {
     em_write(m, IMS, 1), em_poke(m, 0, octets, 1), em_sync_in(m, ram, MEMORY, &n),
     em_sync_in_range(m, 0, octets, 1, &n), em_arrive(m, ram, 60, &note), em_set_link(m, false), em_rx_step(m, &note),
     em_tx_step(m, &note), em_run_rx(m, 1, &n), em_run_tx(m, 1, &n), em_back(m, 1, &n), em_tag(m, 5),
+    em_read_sized(m, STATUS, 4, &size), em_write_sized(m, IMS, 4, 1), em_wire_next(m, octets, sizeof octets, &n),
     em_attach(m, &none), em_detach(m)
   };
   for (size_t i = 0; i < sizeof refused / sizeof *refused; i++) {

@@ -85,6 +85,10 @@ static void refuses_an_empty_handle(void) {
   change.back = change.value = change.before[15] = 7;
   REFUSED(em_read(&machine, STATUS, &value), EM_NOT_MADE);
   REFUSED(em_write(&machine, IMS, 4), EM_NOT_MADE);
+  REFUSED(em_read_sized(&machine, STATUS, 4, &size), EM_NOT_MADE);
+  REFUSED(em_write_sized(&machine, IMS, 4, 4), EM_NOT_MADE);
+  REFUSED(em_read_sized(&machine, STATUS, 2, &size), EM_WIDTH);
+  REFUSED(em_write_sized(&machine, IMS, 2, 4), EM_WIDTH);
   REFUSED(em_look(&machine, STATUS, &value), EM_NOT_MADE);
   REFUSED(em_poke(&machine, 0, octets, 1), EM_NOT_MADE);
   REFUSED(em_peek(&machine, 0, octets, 1), EM_NOT_MADE);
@@ -96,6 +100,7 @@ static void refuses_an_empty_handle(void) {
   REFUSED(em_line(&machine, &value), EM_NOT_MADE);
   REFUSED(em_wire_count(&machine, &count), EM_NOT_MADE);
   REFUSED(em_wire_frame(&machine, 0, octets, 14, &count), EM_NOT_MADE);
+  REFUSED(em_wire_next(&machine, octets, 14, &count), EM_NOT_MADE);
   REFUSED(em_back(&machine, 1, &count), EM_NOT_MADE);
   REFUSED(em_can_go_back(&machine, &count), EM_NOT_MADE);
   REFUSED(em_run_rx(&machine, 1, &count), EM_NOT_MADE);
@@ -142,6 +147,32 @@ static void reads_and_writes_registers(void) {
   CHECK(read_of(&machine, ICR) == 0);
   OK(em_line(&machine, &value));
   CHECK(value == 0);
+  em_free(&machine);
+}
+
+/* by accesses of so many octets: a word is a register's, and nothing else is one */
+static void accesses_words_alone(void) {
+  static const uint32_t others[] = {0, 1, 2, 3, 5, 8, 16, 0x40000004, UINT32_MAX};
+  em_machine machine = made();
+  uint64_t value = 7;
+  OK(em_set_link(&machine, true));
+  for (size_t i = 0; i < sizeof others / sizeof *others; i++) {
+    REFUSED(em_read_sized(&machine, ICR, others[i], &value), EM_WIDTH);
+    REFUSED(em_write_sized(&machine, IMS, others[i], LSC), EM_WIDTH);
+    REFUSED(em_read_sized(&machine, 0x0004, others[i], &value), EM_WIDTH);
+  }
+  CHECK(value == 7 && reach(&machine) == 1);
+  REFUSED(em_read_sized(&machine, 0x0004, 4, &value), EM_NO_REGISTER);
+  REFUSED(em_write_sized(&machine, 0x0004, 4, 1), EM_NO_REGISTER);
+  CHECK(value == 7 && reach(&machine) == 1);
+  OK(em_read_sized(&machine, ICR, 4, &value)); /* as a read does, it clears the causes */
+  CHECK(value == LSC && read_of(&machine, ICR) == 0 && reach(&machine) == 3);
+  value = UINT64_MAX;
+  OK(em_read_sized(&machine, STATUS, 4, &value));
+  CHECK(value == 0x83);
+  OK(em_write_sized(&machine, RAL0, 4, UINT64_C(0xFEDCBA9812345678)));
+  OK(em_read_sized(&machine, RAL0, 4, &value));
+  CHECK(value == 0x12345678 && read_of(&machine, RAL0) == 0x12345678);
   em_free(&machine);
 }
 
@@ -482,6 +513,74 @@ static void sends(void) {
   em_free(&machine);
 }
 
+/* sends the packet of the next descriptor: its octets are all `octet` */
+static void send_packet(em_machine *machine, uint32_t index, size_t length, uint8_t octet) {
+  uint8_t octets[100];
+  em_note event;
+  memset(octets, octet, sizeof octets);
+  OK(em_poke(machine, BUFFER, octets, length));
+  put_descriptor(machine, TX_RING + 16 * index, BUFFER, (unsigned)length, EOP);
+  OK(em_write(machine, TDT, index + 1));
+  OK(em_tx_step(machine, &event));
+  CHECK(event.kind == EM_SENT && event.length == length);
+}
+
+static bool is_next(em_machine *machine, size_t length, uint8_t octet) {
+  uint8_t out[100] = {0};
+  size_t told = 7;
+  return em_wire_next(machine, out, sizeof out, &told) == EM_OK && told == length && out[0] == octet
+    && out[length - 1] == octet && (length == sizeof out || out[length] == 0);
+}
+
+static bool is_none_next(em_machine *machine) {
+  uint8_t out[100] = {9};
+  size_t told = 7;
+  return em_wire_next(machine, out, sizeof out, &told) == EM_NO_FRAME && told == 7 && out[0] == 9;
+}
+
+/* each frame once, also behind steps back */
+static void hands_frames_over(void) {
+  em_machine machine = made();
+  uint8_t out[100];
+  size_t length = 7, done, events = 4; /* of one frame that is sent: two memory writes, a write of TDT, a step */
+  OK(em_write(&machine, TDBAL, TX_RING));
+  OK(em_write(&machine, TDLEN, 16 * DESCRIPTORS));
+  OK(em_write(&machine, TCTL, TCTL_EN));
+  CHECK(is_none_next(&machine));
+  send_packet(&machine, 0, 60, 1);
+  send_packet(&machine, 1, 61, 2);
+  send_packet(&machine, 2, 62, 3);
+  OK(em_wire_frame(&machine, 2, out, sizeof out, &length)); /* a look hands nothing over */
+  size_t before = reach(&machine);
+  memset(out, 9, sizeof out);
+  REFUSED(em_wire_next(&machine, out, 59, &length), EM_ROOM);
+  CHECK(length == 60 && out[0] == 9);
+  REFUSED(em_wire_next(&machine, out, 0, &length), EM_ROOM);
+  CHECK(is_next(&machine, 60, 1) && is_next(&machine, 61, 2));
+  CHECK(reach(&machine) == before);
+  /* back to before the third frame, of which nothing was handed over: it is sent once more, and comes once */
+  OK(em_back(&machine, events, &done));
+  CHECK(is_none_next(&machine));
+  send_packet(&machine, 2, 63, 4);
+  CHECK(is_next(&machine, 63, 4) && is_none_next(&machine));
+  /* back to before the second: what is sent from there is new */
+  OK(em_back(&machine, 2 * events, &done));
+  CHECK(done == 2 * events && is_none_next(&machine));
+  send_packet(&machine, 1, 64, 5);
+  send_packet(&machine, 2, 65, 6);
+  CHECK(is_next(&machine, 64, 5));
+  OK(em_back(&machine, 1, &done)); /* the step alone, whose frame was not handed over */
+  CHECK(is_none_next(&machine));
+  OK(em_run_tx(&machine, 9, &done));
+  CHECK(done == 1 && is_next(&machine, 65, 6) && is_none_next(&machine));
+  OK(em_back(&machine, SIZE_MAX, &done));
+  CHECK(reach(&machine) == 0 && is_none_next(&machine));
+  em_free(&machine);
+  OK(em_make(&machine, MEMORY, BUDGET, MAC)); /* another machine's wire is another one */
+  CHECK(is_none_next(&machine));
+  em_free(&machine);
+}
+
 static void goes_back(void) {
   em_machine machine = made();
   size_t done = 7;
@@ -621,7 +720,7 @@ static void names_registers_and_refusals(void) {
   REFUSED(em_refusal(7, room, sizeof room, &length), EM_NO_REFUSAL);
   for (uint32_t code = 0, known = 0; code < 1000; code++) {
     known += em_refusal(code, room, sizeof room, &length) == EM_OK;
-    if (code == 999) CHECK(known == 28); /* as many as enum em_code has, without EM_OK */
+    if (code == 999) CHECK(known == 29); /* as many as enum em_code has, without EM_OK */
   }
 }
 
@@ -666,6 +765,7 @@ int main(void) {
   makes_at_a_base();
   refuses_an_empty_handle();
   reads_and_writes_registers();
+  accesses_words_alone();
   lists_registers();
   tells_whose_a_descriptor_is();
   reads_and_writes_memory();
@@ -675,6 +775,7 @@ int main(void) {
   keeps_memory_at_a_base();
   receives();
   sends();
+  hands_frames_over();
   goes_back();
   runs_the_engines();
   tells_who_did_it();

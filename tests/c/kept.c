@@ -128,6 +128,25 @@ static void keeps_registers(void) {
   CHECK(is_there());
 }
 
+/* accesses by their number of octets: of a word the line is a register's, and of another width there is none */
+static void keeps_words(void) {
+  em_machine m = kept("words.em");
+  uint64_t value = 7;
+  uint8_t out[60];
+  size_t length;
+  OK(EM_WRITE_SIZED(&m, IMS, 4, UINT64_C(0x500000004))), want("w 000000D0 00000004 = ok @ %s:%d\n", __FILE__, __LINE__);
+  OK(EM_READ_SIZED(&m, IMS, 4, &value)), want("r 000000D0 = 00000004 @ %s:%d\n", __FILE__, __LINE__);
+  CHECK(value == 4 && is_there());
+  REFUSED(EM_READ_SIZED(&m, IMS, 2, &value), EM_WIDTH);
+  REFUSED(EM_WRITE_SIZED(&m, IMS, 8, 1), EM_WIDTH);
+  OK(em_source(&m, NULL, 7));
+  REFUSED(em_read_sized(&m, 0xC1, 4, &value), EM_NO_REGISTER), want("r 000000C1 = refused NoRegister\n");
+  CHECK(value == 4 && reach(&m) == 2);
+  REFUSED(em_wire_next(&m, out, sizeof out, &length), EM_NO_FRAME); /* is kept as little as a look */
+  em_free(&m);
+  CHECK(is_there());
+}
+
 static void keeps_places(void) {
   char name[5000];
   em_machine m = kept("places.em");
@@ -533,6 +552,7 @@ int main(int words, char **word) {
   folder = word[1];
   is_mapped = words > 3;
   keeps_registers();
+  keeps_words();
   keeps_places();
   keeps_octets();
   keeps_steps();

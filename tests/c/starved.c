@@ -353,6 +353,7 @@ static void asks_for_none(void) {
   OK(em_warnings(&machine, warnings, &count));
   REFUSED(em_ring_entry(&machine, EM_RX_RING, ring.count, &entry), EM_NO_DESCRIPTOR);
   OK(em_fifo(&machine, &fifo));
+  OK(em_fifo_room(&machine, &count));
   OK(em_fifo_frame(&machine, all->memory, MEMORY, &count));
   OK(em_gathered(&machine, all->memory, MEMORY, &count));
   OK(em_field(RCTL, 0, &field));
@@ -364,6 +365,9 @@ static void asks_for_none(void) {
   OK(em_line(&machine, &value));
   OK(em_wire_count(&machine, &count));
   OK(em_wire_frame(&machine, 0, all->frames[0], 2048, &count));
+  OK(em_wire_next(&machine, all->frames[0], 2048, &count));
+  OK(em_read_sized(&machine, ICR, 4, &size));
+  OK(em_write_sized(&machine, IMS, 4, LSC));
   OK(em_tag(&machine, 5));
   OK(em_event(&machine, 0, &event));
   OK(em_last_change(&machine, &watch, &change));

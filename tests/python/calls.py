@@ -74,6 +74,17 @@ class Registers(unittest.TestCase):
         with self.assertRaises(AttributeError):
             m.RTD
 
+    def test_accesses_by_their_octets(self):
+        m = Machine()
+        m.write_sized("RAL0", 4, 0xFEDCBA9812345678)
+        self.assertEqual((m.read_sized("RAL0", 4), m.RAL0), (0x12345678, 0x12345678))
+        for octets in (0, 1, 2, 8, 2**32 - 1, 2**32):
+            self.assertRaises(bunjelav.Width, m.read_sized, "RAL0", octets)
+            self.assertRaises(bunjelav.Width, m.write_sized, "RAL0", octets, 1)
+        self.assertRaises(bunjelav.NoRegister, m.read_sized, 4, 4)
+        self.assertRaises(ValueError, m.write_sized, "RAL0", 4, 2**64)
+        self.assertEqual((m.reach, m.RAL0), (2, 0x12345678))
+
     def test_names(self):
         self.assertEqual((offset_of("ims"), offset_of(0xD0), name_of(0x5200 + 4 * 127)), (0xD0, 0xD0, "MTA[127]"))
         self.assertRaises(bunjelav.NoRegister, name_of, 4)
@@ -141,7 +152,9 @@ class MemoryAndFrames(unittest.TestCase):
 
     def test_receiving(self):
         m = receiving()
+        self.assertEqual(m.fifo_room(), 49152)
         self.assertTrue(m.arrive(FRAME).is_stored)
+        self.assertEqual(m.fifo_room(), 49152 - 60)
         self.assertEqual((m.last_change("frames")[:2], m.last_change("sent")), ((1, 0), None))
         self.assertRaises(bunjelav.Length, m.arrive, b"short")
         self.assertEqual(m.rx_step(), ("wrote", RING, 0, 0, 0, BUFFER, 60))
@@ -159,6 +172,7 @@ class MemoryAndFrames(unittest.TestCase):
         m.TDBAL, m.TDLEN, m.TCTL, m.TDT = 0x2000, 128, 2, 1
         self.assertEqual(m.tx_step(), ("sent", 0x2000, 60, 0, 0, BUFFER, 60))
         self.assertEqual(m.wire, [FRAME])
+        self.assertEqual((list(m.wire_next()), list(m.wire_next())), ([FRAME], []))
         self.assertEqual((m.last_change("sent")[:2], m.last_change("frames")), ((1, 0), None))
         m.TDT = 2
         self.assertRaises(bunjelav.Extended, m.tx_step)
@@ -298,7 +312,7 @@ class Numbers(unittest.TestCase):
 class Names(unittest.TestCase):
     def test_refusals_have_their_names(self):
         """Each of the library's refusals is an exception of the module, whatever else the module has."""
-        self.assertEqual(len(_tables.REFUSALS), 28)
+        self.assertEqual(len(_tables.REFUSALS), 29)
         for name, number in _tables.REFUSALS.items():
             refusal = getattr(bunjelav, name)
             self.assertTrue(issubclass(refusal, bunjelav.Refused) and issubclass(refusal, Exception), name)

@@ -387,6 +387,27 @@ class Machine(Explained):
         self._came(library.em_write(self._at, offset, given), _tables.Note(at=offset, kind=_KIND["write"]))
         self._warn()
 
+    def read_sized(self, register: Register, octets: int) -> int:
+        """The driver reads so many octets of the register window: four, as `read` does. Any other number is refused as
+        Width."""
+        value, offset = U64(), offset_of(register)
+        width = number_of(octets, 32, "a number of octets", "Width")
+        self._here()
+        number = library.em_read_sized(self._at, offset, width, ctypes.byref(value))
+        self._came(number, _tables.Note(at=offset, kind=_KIND["read"]))
+        self._warn()
+        return value.value
+
+    def write_sized(self, register: Register, octets: int, value: int) -> None:
+        """The driver writes so many octets of the register window: four, the lowest of the value, as `write` does. Any
+        other number is refused as Width."""
+        given = number_of(value, 64, "what is written")
+        offset, width = offset_of(register), number_of(octets, 32, "a number of octets", "Width")
+        self._here()
+        number = library.em_write_sized(self._at, offset, width, given)
+        self._came(number, _tables.Note(at=offset, kind=_KIND["write"]))
+        self._warn()
+
     def look(self, register: Register) -> int:
         """What a read would give, with nothing changed."""
         return self._told(library.em_look, U32(), offset_of(register))
@@ -614,6 +635,22 @@ class Machine(Explained):
             must(library.em_wire_frame(self._at, index, room, len(room), ctypes.byref(length)))
             frames.append(room.raw[: length.value])
         return frames
+
+    def wire_next(self) -> Iterator[bytes]:
+        """The frames that were sent and not handed over yet, in the order of sending: each is given once. Those that are
+        sent again behind steps back, which took them off the wire, are new ones.
+
+        >>> m = Machine()
+        >>> list(m.wire_next())
+        []
+        """
+        room, length = ctypes.create_string_buffer(_tables.MOST_SENT), SIZE_T()
+        while True:
+            number = library.em_wire_next(self._at, room, len(room), ctypes.byref(length))
+            if number == _tables.REFUSALS["NoFrame"]:
+                return
+            must(number)
+            yield room.raw[: length.value]
 
     # ---- back, and who did it
 

@@ -5,7 +5,7 @@ Written by bindings/tables.py, of the crate em_c: change it there, and run that.
 __all__ = [
     "Refused", "NoRegister", "Range", "Length", "DmaRange", "Extended", "TooLong", "Memory", "Budget", "NotMade",
     "MadeAlready", "Size", "NoFrame", "Room", "NoEvent", "NoChange", "NoWatch", "NoName", "NoRefusal", "NoRing",
-    "NoDescriptor", "Busy", "Unread", "Unwritten", "NoRam", "Begun", "Recorded", "File", "Unrecorded",
+    "NoDescriptor", "Busy", "Unread", "Unwritten", "NoRam", "Begun", "Recorded", "File", "Unrecorded", "Width",
 ]
 
 
@@ -187,3 +187,9 @@ class Unrecorded(Refused):
     """The run is not kept."""
 
     number = 45
+
+
+class Width(Refused):
+    """An access of a register that has not four octets."""
+
+    number = 46

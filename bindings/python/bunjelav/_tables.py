@@ -40,6 +40,7 @@ REFUSALS = {
     "Recorded": 43,
     "File": 44,
     "Unrecorded": 45,
+    "Width": 46,
 }
 
 # by number, what each kind of event is called
@@ -311,6 +312,7 @@ CALLS = {
     "em_field": [c_uint32, c_size_t, POINTER(Field)],
     "em_value_text": [c_uint32, c_uint32, c_void_p, c_size_t, POINTER(c_size_t)],
     "em_fifo": [POINTER(Handle), POINTER(Fifo)],
+    "em_fifo_room": [POINTER(Handle), POINTER(c_size_t)],
     "em_fifo_frame": [POINTER(Handle), c_void_p, c_size_t, POINTER(c_size_t)],
     "em_gathered": [POINTER(Handle), c_void_p, c_size_t, POINTER(c_size_t)],
     "em_make": [POINTER(Handle), c_uint64, c_uint64, c_void_p],
@@ -324,6 +326,7 @@ CALLS = {
     "em_memory_size": [POINTER(Handle), POINTER(c_uint64)],
     "em_name": [c_uint32, c_void_p, c_size_t, POINTER(c_size_t)],
     "em_find": [c_void_p, c_size_t, POINTER(c_uint32)],
+    "em_wire_next": [POINTER(Handle), c_void_p, c_size_t, POINTER(c_size_t)],
     "em_tag": [POINTER(Handle), c_uint64],
     "em_event": [POINTER(Handle), c_size_t, POINTER(Note)],
     "em_ring_needs": [POINTER(Handle), c_uint32, POINTER(Range), POINTER(Range)],
@@ -336,6 +339,8 @@ CALLS = {
     "em_ring_descriptor": [POINTER(Handle), c_uint32, c_uint32, POINTER(Descriptor)],
     "em_run_rx": [POINTER(Handle), c_size_t, POINTER(c_size_t)],
     "em_run_tx": [POINTER(Handle), c_size_t, POINTER(c_size_t)],
+    "em_read_sized": [POINTER(Handle), c_uint32, c_uint32, POINTER(c_uint64)],
+    "em_write_sized": [POINTER(Handle), c_uint32, c_uint32, c_uint64],
     "em_sync_out": [POINTER(Handle), c_void_p, c_size_t],
     "em_sync_in": [POINTER(Handle), c_void_p, c_size_t, POINTER(c_size_t)],
     "em_sync_out_range": [POINTER(Handle), c_uint64, c_void_p, c_size_t],

@@ -49,7 +49,7 @@ mod tables;
 pub use event::words_of;
 pub use event::{fields_of, offset_of, Change, Difference, Event, Field, Fields, Name, Watch};
 pub use explain::{Asked, Entry, Reason, Warning, Warnings};
-pub use machine::{Events, Frame, Frames, Machine};
+pub use machine::{Events, Frame, Frames, Machine, Sent};
 pub use ram::{Octets, Over, Ram};
 pub use raw::{Fifo, Range, Region, Register, RingSetup};
 pub use refusal::Stopped;

@@ -11,8 +11,7 @@ use core::panic::Location;
 
 /// An adapter with its guest's memory and a journal of its latest events.
 ///
-/// It can be handed to another thread. It is not shared between threads, though looks take `&self`: each call writes the
-/// handle while it lasts.
+/// It can be handed to another thread, and several threads can look at it at once: looks take `&self`.
 pub struct Machine {
     handle: UnsafeCell<raw::Handle>,
     /// What is attached, as the library was given it.
@@ -25,9 +24,13 @@ pub struct Machine {
     places: Option<crate::record::Places>,
 }
 
-// SAFETY: a machine shares nothing but the memory that is attached, which is Send, or for which its caller stands; and it
-// is not Sync. That its handle may go to another thread is proved.
+// SAFETY: a machine shares nothing but the memory that is attached, which is Send, or for which its caller stands. That its
+// handle may go to another thread is proved.
 unsafe impl Send for Machine {}
+
+// SAFETY: with a `&` only looks are made. They write neither the handle nor the machine, and leave alone what is attached
+// and the places of a run.
+unsafe impl Sync for Machine {}
 
 /// A call that begins to keep a run.
 #[cfg(feature = "std")]
@@ -106,9 +109,9 @@ impl Machine {
         }
     }
 
-    // SAFETY, of each call below: the handle is this machine's own, no other call is under way (the machine is not Sync,
-    // and it is borrowed while its memory is asked), each pointer is to a value or a slice that lives through the call,
-    // and each length is that of its slice.
+    // SAFETY, of each call below: the handle is this machine's own, no other call is under way but looks beside a look (all
+    // others borrow the machine, also while its memory is asked), each pointer is to a value or a slice that lives through
+    // the call, and each length is that of its slice.
 
     /// Where the next call comes from.
     pub(crate) fn here(&mut self, _at: &'static Location<'static>) {
@@ -187,6 +190,24 @@ impl Machine {
     #[cfg(feature = "std")]
     pub(crate) fn places(&mut self) -> Option<&mut crate::record::Places> {
         self.places.as_mut()
+    }
+
+    /// The driver reads so many octets of the register window: four, as [`read`](Machine::read) does. Any other number is
+    /// refused as [`Refusal::Width`].
+    #[track_caller]
+    pub fn read_sized(&mut self, offset: u32, octets: u32) -> Result<u64, Refusal> {
+        self.here(Location::caller());
+        let mut value = 0;
+        told(unsafe { raw::em_read_sized(self.handle.get(), offset, octets, &mut value) }, ())?;
+        Ok(value)
+    }
+
+    /// The driver writes so many octets of the register window: four, the lowest of the value, as
+    /// [`write`](Machine::write) does. Any other number is refused as [`Refusal::Width`].
+    #[track_caller]
+    pub fn write_sized(&mut self, offset: u32, octets: u32, value: u64) -> Result<(), Refusal> {
+        self.here(Location::caller());
+        told(unsafe { raw::em_write_sized(self.handle.get(), offset, octets, value) }, ())
     }
 
     /// The driver reads the register at an offset.
@@ -272,6 +293,13 @@ impl Machine {
         let mut fifo = Fifo::default();
         unsafe { raw::em_fifo(self.handle.get(), &mut fifo) };
         fifo
+    }
+
+    /// How many octets have room in the FIFO now: a frame of no more finds room, whatever it is.
+    pub fn fifo_room(&self) -> usize {
+        let mut octets = 0;
+        unsafe { raw::em_fifo_room(self.handle.get(), &mut octets) };
+        octets
     }
 
     /// Copies the first frame that waits in the FIFO to the head of `out`, and gives how many octets it has: 0 where
@@ -572,6 +600,24 @@ impl Machine {
         Ok(length)
     }
 
+    /// Copies the next frame that was sent and not handed over yet to the head of `out`, and gives how many octets it has;
+    /// none where each was. A frame is handed over once, in the order of sending; one that has no room in `out` is the next
+    /// one still. Frames that steps back took off the wire, and that are sent again, are new ones.
+    pub fn wire_next_into(&mut self, out: &mut [u8]) -> Result<Option<usize>, Refusal> {
+        let mut length = 0;
+        let number = unsafe { raw::em_wire_next(self.handle.get(), out.as_mut_ptr(), out.len(), &mut length) };
+        match told(number, Some(length)) {
+            Err(Refusal::NoFrame) => Ok(None),
+            given => given,
+        }
+    }
+
+    /// The frames that were sent and not handed over yet, in the order of sending: each is given once, whichever iterator
+    /// asks.
+    pub fn wire_next(&mut self) -> Sent<'_> {
+        Sent { machine: self }
+    }
+
     /// The frames that were sent, the first one first.
     pub fn frames(&self) -> Frames<'_> {
         Frames { machine: self, next: 0 }
@@ -658,6 +704,21 @@ impl Iterator for Events<'_> {
 pub struct Frames<'a> {
     machine: &'a Machine,
     next: usize,
+}
+
+/// The frames that a machine sent and that were not handed over yet.
+pub struct Sent<'a> {
+    machine: &'a mut Machine,
+}
+
+impl Iterator for Sent<'_> {
+    type Item = Frame;
+
+    fn next(&mut self) -> Option<Frame> {
+        let mut frame = Frame { octets: [0; MOST_SENT], length: 0 };
+        frame.length = self.machine.wire_next_into(&mut frame.octets).ok()??;
+        Some(frame)
+    }
 }
 
 /// A frame that was sent.

@@ -274,22 +274,23 @@ pub(crate) struct Change {
 
 #[allow(dead_code)]
 extern "C" {
-    pub(crate) fn em_registers(machine: *mut Handle, out: *mut Register, room: usize, count: *mut usize) -> u32;
+    pub(crate) fn em_registers(machine: *const Handle, out: *mut Register, room: usize, count: *mut usize) -> u32;
     pub(crate) fn em_back(machine: *mut Handle, n: usize, done: *mut usize) -> u32;
-    pub(crate) fn em_can_go_back(machine: *mut Handle, count: *mut usize) -> u32;
+    pub(crate) fn em_can_go_back(machine: *const Handle, count: *mut usize) -> u32;
     pub(crate) fn em_differences(
-        machine: *mut Handle,
+        machine: *const Handle,
         k: usize,
         out: *mut Difference,
         room: usize,
         count: *mut usize,
     ) -> u32;
-    pub(crate) fn em_ring_entry(machine: *mut Handle, side: u32, index: u32, entry: *mut Entry) -> u32;
+    pub(crate) fn em_ring_entry(machine: *const Handle, side: u32, index: u32, entry: *mut Entry) -> u32;
     pub(crate) fn em_field(offset: u32, k: usize, field: *mut Field) -> u32;
     pub(crate) fn em_value_text(offset: u32, value: u32, out: *mut u8, room: usize, octets: *mut usize) -> u32;
-    pub(crate) fn em_fifo(machine: *mut Handle, fifo: *mut Fifo) -> u32;
-    pub(crate) fn em_fifo_frame(machine: *mut Handle, out: *mut u8, room: usize, octets: *mut usize) -> u32;
-    pub(crate) fn em_gathered(machine: *mut Handle, out: *mut u8, room: usize, octets: *mut usize) -> u32;
+    pub(crate) fn em_fifo(machine: *const Handle, fifo: *mut Fifo) -> u32;
+    pub(crate) fn em_fifo_room(machine: *const Handle, octets: *mut usize) -> u32;
+    pub(crate) fn em_fifo_frame(machine: *const Handle, out: *mut u8, room: usize, octets: *mut usize) -> u32;
+    pub(crate) fn em_gathered(machine: *const Handle, out: *mut u8, room: usize, octets: *mut usize) -> u32;
     pub(crate) fn em_make(machine: *mut Handle, memory: u64, budget: u64, mac: *const u8) -> u32;
     pub(crate) fn em_make_with_eeprom(machine: *mut Handle, memory: u64, budget: u64, words: *const u16) -> u32;
     pub(crate) fn em_make_at(machine: *mut Handle, base: u64, memory: u64, budget: u64, mac: *const u8) -> u32;
@@ -302,26 +303,29 @@ extern "C" {
     ) -> u32;
     pub(crate) fn em_free(machine: *mut Handle);
     pub(crate) fn em_poke(machine: *mut Handle, addr: u64, octets: *const u8, length: usize) -> u32;
-    pub(crate) fn em_peek(machine: *mut Handle, addr: u64, out: *mut u8, room: usize) -> u32;
-    pub(crate) fn em_memory_base(machine: *mut Handle, base: *mut u64) -> u32;
-    pub(crate) fn em_memory_size(machine: *mut Handle, size: *mut u64) -> u32;
+    pub(crate) fn em_peek(machine: *const Handle, addr: u64, out: *mut u8, room: usize) -> u32;
+    pub(crate) fn em_memory_base(machine: *const Handle, base: *mut u64) -> u32;
+    pub(crate) fn em_memory_size(machine: *const Handle, size: *mut u64) -> u32;
     pub(crate) fn em_name(offset: u32, out: *mut u8, room: usize, octets: *mut usize) -> u32;
     pub(crate) fn em_find(word: *const u8, length: usize, offset: *mut u32) -> u32;
+    pub(crate) fn em_wire_next(machine: *mut Handle, out: *mut u8, room: usize, octets: *mut usize) -> u32;
     pub(crate) fn em_tag(machine: *mut Handle, tag: u64) -> u32;
-    pub(crate) fn em_event(machine: *mut Handle, k: usize, event: *mut Note) -> u32;
-    pub(crate) fn em_ring_needs(machine: *mut Handle, side: u32, reads: *mut Range, writes: *mut Range) -> u32;
-    pub(crate) fn em_written(machine: *mut Handle, k: usize, written: *mut Range) -> u32;
+    pub(crate) fn em_event(machine: *const Handle, k: usize, event: *mut Note) -> u32;
+    pub(crate) fn em_ring_needs(machine: *const Handle, side: u32, reads: *mut Range, writes: *mut Range) -> u32;
+    pub(crate) fn em_written(machine: *const Handle, k: usize, written: *mut Range) -> u32;
     pub(crate) fn em_refusal(code: u32, out: *mut u8, room: usize, octets: *mut usize) -> u32;
     pub(crate) fn em_read(machine: *mut Handle, offset: u32, value: *mut u32) -> u32;
     pub(crate) fn em_write(machine: *mut Handle, offset: u32, value: u32) -> u32;
-    pub(crate) fn em_look(machine: *mut Handle, offset: u32, value: *mut u32) -> u32;
-    pub(crate) fn em_ring(machine: *mut Handle, side: u32, setup: *mut RingSetup) -> u32;
-    pub(crate) fn em_ring_descriptor(machine: *mut Handle, side: u32, index: u32, descriptor: *mut Descriptor) -> u32;
+    pub(crate) fn em_look(machine: *const Handle, offset: u32, value: *mut u32) -> u32;
+    pub(crate) fn em_ring(machine: *const Handle, side: u32, setup: *mut RingSetup) -> u32;
+    pub(crate) fn em_ring_descriptor(machine: *const Handle, side: u32, index: u32, descriptor: *mut Descriptor) -> u32;
     pub(crate) fn em_run_rx(machine: *mut Handle, n: usize, done: *mut usize) -> u32;
     pub(crate) fn em_run_tx(machine: *mut Handle, n: usize, done: *mut usize) -> u32;
-    pub(crate) fn em_sync_out(machine: *mut Handle, ram: *mut u8, room: usize) -> u32;
+    pub(crate) fn em_read_sized(machine: *mut Handle, offset: u32, octets: u32, value: *mut u64) -> u32;
+    pub(crate) fn em_write_sized(machine: *mut Handle, offset: u32, octets: u32, value: u64) -> u32;
+    pub(crate) fn em_sync_out(machine: *const Handle, ram: *mut u8, room: usize) -> u32;
     pub(crate) fn em_sync_in(machine: *mut Handle, ram: *const u8, length: usize, writes: *mut usize) -> u32;
-    pub(crate) fn em_sync_out_range(machine: *mut Handle, addr: u64, out: *mut u8, room: usize) -> u32;
+    pub(crate) fn em_sync_out_range(machine: *const Handle, addr: u64, out: *mut u8, room: usize) -> u32;
     pub(crate) fn em_sync_in_range(
         machine: *mut Handle,
         addr: u64,
@@ -329,13 +333,13 @@ extern "C" {
         length: usize,
         writes: *mut usize,
     ) -> u32;
-    pub(crate) fn em_ring_text(machine: *mut Handle, side: u32, out: *mut u8, room: usize, octets: *mut usize) -> u32;
-    pub(crate) fn em_fifo_text(machine: *mut Handle, out: *mut u8, room: usize, octets: *mut usize) -> u32;
-    pub(crate) fn em_effect(machine: *mut Handle, k: usize, out: *mut u8, room: usize, octets: *mut usize) -> u32;
-    pub(crate) fn em_warnings(machine: *mut Handle, warnings: *mut Warning, count: *mut usize) -> u32;
-    pub(crate) fn em_last_change(machine: *mut Handle, watch: *const Watch, change: *mut Change) -> u32;
+    pub(crate) fn em_ring_text(machine: *const Handle, side: u32, out: *mut u8, room: usize, octets: *mut usize) -> u32;
+    pub(crate) fn em_fifo_text(machine: *const Handle, out: *mut u8, room: usize, octets: *mut usize) -> u32;
+    pub(crate) fn em_effect(machine: *const Handle, k: usize, out: *mut u8, room: usize, octets: *mut usize) -> u32;
+    pub(crate) fn em_warnings(machine: *const Handle, warnings: *mut Warning, count: *mut usize) -> u32;
+    pub(crate) fn em_last_change(machine: *const Handle, watch: *const Watch, change: *mut Change) -> u32;
     pub(crate) fn em_why(
-        machine: *mut Handle,
+        machine: *const Handle,
         event: *const Note,
         code: u32,
         octets: *const u8,
@@ -346,10 +350,10 @@ extern "C" {
     pub(crate) fn em_set_link(machine: *mut Handle, up: bool) -> u32;
     pub(crate) fn em_rx_step(machine: *mut Handle, event: *mut Note) -> u32;
     pub(crate) fn em_tx_step(machine: *mut Handle, event: *mut Note) -> u32;
-    pub(crate) fn em_line(machine: *mut Handle, level: *mut u32) -> u32;
-    pub(crate) fn em_wire_count(machine: *mut Handle, count: *mut usize) -> u32;
+    pub(crate) fn em_line(machine: *const Handle, level: *mut u32) -> u32;
+    pub(crate) fn em_wire_count(machine: *const Handle, count: *mut usize) -> u32;
     pub(crate) fn em_wire_frame(
-        machine: *mut Handle,
+        machine: *const Handle,
         index: usize,
         out: *mut u8,
         room: usize,

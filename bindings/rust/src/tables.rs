@@ -84,12 +84,14 @@ pub enum Refusal {
     File,
     /// The run is not kept.
     Unrecorded,
+    /// An access of a register that has not four octets.
+    Width,
     /// Another number, which this binding does not know.
     Other(u32),
 }
 
 /// Each refusal with its number.
-pub(crate) const REFUSALS: [(Refusal, u32); 28] = [
+pub(crate) const REFUSALS: [(Refusal, u32); 29] = [
     (Refusal::NoRegister, 1),
     (Refusal::Range, 2),
     (Refusal::Length, 3),
@@ -118,6 +120,7 @@ pub(crate) const REFUSALS: [(Refusal, u32); 28] = [
     (Refusal::Recorded, 43),
     (Refusal::File, 44),
     (Refusal::Unrecorded, 45),
+    (Refusal::Width, 46),
 ];
 
 /// By which rule an event did nothing.

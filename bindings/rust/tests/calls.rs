@@ -75,6 +75,19 @@ fn reads_and_writes() {
 }
 
 #[test]
+fn accesses_words_alone() {
+    let mut m = made();
+    m.write_sized(0x5400, 4, 0xFEDC_BA98_1234_5678).unwrap();
+    assert_eq!((m.read_sized(0x5400, 4), m.look(0x5400)), (Ok(0x1234_5678), Ok(0x1234_5678)));
+    for octets in [0, 1, 2, 8, u32::MAX] {
+        assert_eq!(m.read_sized(0x5400, octets), Err(Refusal::Width));
+        assert_eq!(m.write_sized(0x5400, octets, 1), Err(Refusal::Width));
+    }
+    assert_eq!(m.read_sized(4, 4), Err(Refusal::NoRegister));
+    assert_eq!((m.can_go_back(), m.look(0x5400)), (2, Ok(0x1234_5678)));
+}
+
+#[test]
 fn lists_registers_and_copies_memory() {
     let mut m = made();
     m.write(RDT, 5).unwrap();
@@ -197,6 +210,13 @@ fn sends() {
     assert_eq!((m.wire_count(), m.wire_frame(0, &mut out[..59])), (1, Err(Refusal::Room)));
     assert_eq!((m.wire_frame(0, &mut out), out), (Ok(60), frame()));
     assert!(m.frames().map(|it| it.to_vec()).eq([frame().to_vec()]));
+    assert_eq!(m.wire_next_into(&mut out[..59]), Err(Refusal::Room));
+    assert!(m.wire_next().map(|it| it.to_vec()).eq([frame().to_vec()]));
+    assert_eq!((m.wire_next_into(&mut out), m.wire_next().count()), (Ok(None), 0));
+    // taken back, and sent once more: a new frame
+    assert_eq!((m.back(1), m.wire_next().count()), (1, 0));
+    assert_eq!(m.run_tx(9), Ok(1));
+    assert_eq!((m.wire_next_into(&mut out), m.wire_next_into(&mut out)), (Ok(Some(60)), Ok(None)));
     m.write(0x3818, 2).unwrap();
     assert_eq!(m.run_tx(9), Err(Stopped { refusal: Refusal::Extended, done: 0 }));
 }
@@ -280,6 +300,26 @@ fn goes_to_another_thread() {
         .collect();
     for (k, machine) in machines.into_iter().enumerate() {
         assert_eq!(machine.join().unwrap().look(RDT), Ok(k as u32));
+    }
+}
+
+#[test]
+fn is_looked_at_by_several_threads_at_once() {
+    let mut m = receiving();
+    assert_eq!(m.fifo_room(), 49_152);
+    m.arrive(&frame()).unwrap();
+    for tail in [4, 5] {
+        m.write(RDT, tail).unwrap();
+        std::thread::scope(|scope| {
+            for _ in 0..4 {
+                scope.spawn(|| {
+                    for _ in 0..500 {
+                        assert_eq!((m.look(RDT), m.fifo_room(), m.line()), (Ok(tail), 49_092, false));
+                        assert_eq!((m.event(0).unwrap().value, m.warnings().unwrap().count()), (tail, 0));
+                    }
+                });
+            }
+        });
     }
 }
 

@@ -6,3 +6,4 @@ pub mod DifferenceLaws
 pub mod SyncLaws
 pub mod WarningLaws
 pub mod DifferencesLaws
+pub mod RoomLaws

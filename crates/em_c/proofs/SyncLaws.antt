@@ -6,7 +6,7 @@ use Rattle.em_mem.specs.Memory.{part, put}
 use Rattle.std.proofs.Common.{min, inl, inr}
 use Rattle.std.proofs.lemmas.Bool.{lt-ltb, le-ltb, cases_lt}
 use Rattle.std.proofs.lemmas.List.{take_min}
-use Rattle.em_mem.proofs.PutLaws.{length-part, length-put, drop_past-put}
+use Rattle.em_mem.proofs.PutLaws.{length-part, drop_past-put}
 use Rattle.em_step.specs.Event.{Event, pokes}
 use Rattle.em_c.specs.Difference.{same_at_head, up_to_last}
 use Rattle.em_c.specs.Sync.{IsWanting, PerformsAll, run_writes, page_writes, writes_from, pages}

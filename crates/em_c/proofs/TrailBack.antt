@@ -9,11 +9,13 @@ use Rattle.em_journal.proofs.BackLaws as one
 use Rattle.em_trail.specs.Trail.{TakesBack}
 use Rattle.em_trail.specs.declared.note.Note.{Note}
 use Rattle.em_c.specs.declared.tagged.Tagged.{Tagged}
-use Rattle.em_c.specs.Tagged.{after_backs}
+use Rattle.em_c.specs.Tagged.{backs}
 
--- two machines with the same view, notes and tag are the same
-same : (t u : Tagged) → t.traced.view ≡ u.traced.view → t.traced.notes ≡ u.traced.notes → t.tag ≡ u.tag → t ≡ u
-same t u view notes tag = λ i. record { traced = record { view = view i; notes = notes i }; tag = tag i }
+-- two machines with the same view and notes, of which nothing else differs, are the same
+same : (t u : Tagged) → t.traced.view ≡ u.traced.view → t.traced.notes ≡ u.traced.notes → t.tag ≡ u.tag
+    → t.handed ≡ u.handed → t ≡ u
+same t u view notes tag handed =
+    λ i. record { traced = record { view = view i; notes = notes i }; tag = tag i; handed = handed i }
 
 drop_one_more : (k : ℕ) (xs : List Note) (x : Note) (ys : List Note) → drop k xs ≡ x ∷ ys → drop (suc k) xs ≡ ys
 drop_one_more zero [] x ys is = cc
@@ -22,19 +24,20 @@ drop_one_more (suc k) [] x ys is = cc
 drop_one_more (suc k) (z ∷ xs) x ys is = drop_one_more k xs x ys is
 
 -- k steps are taken, and one more
-pub more_back : (k : ℕ) (t u w : Tagged) (note : Note) → u ≡ after_backs k t → TakesBack u.traced w.traced note
-    → w.tag ≡ u.tag → w ≡ after_backs (k + 1) t
-more_back k t u w note is back tag =
+pub more_back : (k : ℕ) (t u w : Tagged) (note : Note) → u ≡ backs k t → TakesBack u.traced w.traced note
+    → w.tag ≡ u.tag → w.handed ≡ u.handed → w ≡ backs (k + 1) t
+more_back k t u w note is back tag handed =
     let next : suc k ≡ k + 1 = omega arith in
-    same w (after_backs (k + 1) t)
+    same w (backs (k + 1) t)
     (one.more_back k t.traced.view u.traced.view w.traced.view (ap (λ (x : Tagged). x.traced.view) is) back.went.1)
     (sym (drop_one_more k t.traced.notes note w.traced.notes (sym (ap (λ (x : Tagged). x.traced.notes) is) ∙
     back.told))
     ∙ ap (λ n. drop n t.traced.notes) next)
     (tag ∙ ap (λ (x : Tagged). x.tag) is)
+    (handed ∙ ap (λ (x : Tagged). x.handed) is)
 
 -- some are left as long as fewer were taken than there are
-pub some_left : (k : ℕ) (t u : Tagged) → u ≡ after_backs k t → k < length t.traced.notes → u.traced.notes ≡ [] → ⊥
+pub some_left : (k : ℕ) (t u : Tagged) → u ≡ backs k t → k < length t.traced.notes → u.traced.notes ≡ [] → ⊥
 some_left k t u is lt none =
     none_left k t.traced.notes lt (sym (ap (λ (x : Tagged). x.traced.notes) is) ∙ none)
   where
@@ -72,13 +75,14 @@ backs_least (suc n) (s ∷ past) v is =
     ∙ backs_least n past (after_back v) (ap (λ (p : List State). (back_to p v).past) is)
 
 -- as many as were asked for, or as there are
-pub all_back : (n k : ℕ) (t u : Tagged) → u ≡ after_backs k t → k ≡ min n (length t.traced.view.past)
-    → length t.traced.notes ≡ length t.traced.view.past → u ≡ after_backs n t
+pub all_back : (n k : ℕ) (t u : Tagged) → u ≡ backs k t → k ≡ min n (length t.traced.view.past)
+    → length t.traced.notes ≡ length t.traced.view.past → u ≡ backs n t
 all_back n k t u is most beside =
     let most_notes : k ≡ min n (length t.traced.notes) = most ∙ ap (min n) (sym beside) in
-    is ∙ same (after_backs k t) (after_backs n t)
+    is ∙ same (backs k t) (backs n t)
     (ap (λ m. journal.after_backs m t.traced.view) most ∙ backs_least n t.traced.view.past t.traced.view refl)
     (ap (λ m. drop m t.traced.notes) most_notes ∙ drop_least n t.traced.notes)
+    refl
     refl
 
 -- ---- the note of the newest event

@@ -1,6 +1,6 @@
 -- The bits and fields of the registers, and a register's value in words.
 use Rattle.std.specs.Prelude.{◌≡◌, ℕ, ◌++◌, nat_lt, if◌then◌else◌, List, [], length, drop, replicate, Option, Some}
-use Rattle.std.specs.Prelude.{None, Result, Ok, Err}
+use Rattle.std.specs.Prelude.{None, Result, Err}
 use Rattle.std.specs.List.{slice_get}
 use Rattle.em_regs.specs.declared.reg.Reg.{Reg}
 use Rattle.em_regs.specs.Table.{reg_at}

@@ -2,9 +2,11 @@ pub mod Tagged
 pub mod Refused
 pub mod Note
 pub mod Sealed
+pub mod Lent
 pub mod Calls
 pub mod Making
 pub mod Looks
+pub mod Next
 pub mod Notes
 pub mod Names
 pub mod Run
@@ -29,3 +31,4 @@ pub mod Fifo
 pub mod Told
 pub mod Fields
 pub mod Differences
+pub mod Sized

@@ -28,12 +28,13 @@ CanLie (From base size) = IsMemoryRange base size
 
 -- ---- a machine
 
--- after a reset, over a memory of zeros and these words in the EEPROM, with the link down, nothing to take back, and
--- the tag 0
+-- after a reset, over a memory of zeros and these words in the EEPROM, with the link down, nothing to take back,
+-- the tag 0, and no frame handed over
 abbrev pub new_machine : Place → ℕ → List ℕ → Tagged
 new_machine place budget words = record {
   traced = starting (opening budget (shows (fresh (base_of place) (octets_of place) words)));
   tag = 0;
+  handed = 0;
 }
 
 -- memory that can not lie there is named first, then the budget, and want of memory where neither refuses; nothing else

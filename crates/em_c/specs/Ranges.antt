@@ -7,7 +7,6 @@ use Rattle.em_step.specs.Needs.{rx_needs, tx_needs}
 use Rattle.em_step.specs.Undo.{Undo}
 use Rattle.em_journal.specs.Record.{IsRecordAt}
 use Rattle.em_journal.specs.View.{View}
-use Rattle.em_c.specs.Refused.{number_of}
 use Rattle.em_c.specs.declared.ranges.EmRange.{EmRange}
 use Rattle.em_c.specs.declared.refused.Refused.{Refused}
 use Rattle.em_c.specs.declared.refused.Refused.TheVariants.{NoEvent, NoMachine, NoRing}

@@ -1,5 +1,5 @@
 -- The reason why an event did nothing, as C sees it.
-use Rattle.std.specs.Prelude.{ℕ, ◌-◌, replicate, Option, Some, None}
+use Rattle.std.specs.Prelude.{◌-◌, replicate, Option, Some, None}
 use Rattle.em_reasons.specs.declared.dropped.Dropped.{Dropped}
 use Rattle.em_reasons.specs.declared.dropped.Dropped.TheVariants as dropped
 use Rattle.em_reasons.specs.declared.refused.Bounds.{Bounds}

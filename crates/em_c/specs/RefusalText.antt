@@ -5,6 +5,7 @@ use Rattle.em_c.specs.declared.refused.Refused.TheVariants.{NoRegister, Range, L
 use Rattle.em_c.specs.declared.refused.Refused.TheVariants.{Memory, Budget, NoMachine, HasMachine, Size, NoFrame, Room}
 use Rattle.em_c.specs.declared.refused.Refused.TheVariants.{NoEvent, NoChange, NoWatch, NoName, NoRefusal, NoRing, NoDescriptor}
 use Rattle.em_c.specs.declared.refused.Refused.TheVariants.{Busy, Unread, Unwritten, NoRam, Begun, Recorded, File, Unrecorded}
+use Rattle.em_c.specs.declared.refused.Refused.TheVariants.{Width}
 
 -- its name, and a sentence
 abbrev pub text_of : Refused → List ℕ
@@ -36,6 +37,7 @@ text_of Begun = codes "Begun: a run is kept from its first event on"
 text_of Recorded = codes "Recorded: the run is kept already"
 text_of File = codes "File: the file was not opened, or not written"
 text_of Unrecorded = codes "Unrecorded: the run is not kept"
+text_of Width = codes "Width: registers are accessed by four octets"
 
 abbrev pub with_number : ℕ → Option Refused
 with_number code =
@@ -67,6 +69,7 @@ with_number code =
     else if code == 43 then Some Recorded
     else if code == 44 then Some File
     else if code == 45 then Some Unrecorded
+    else if code == 46 then Some Width
     else None
 
 abbrev pub text_or_none : Option Refused → Result (List ℕ) Refused

@@ -6,7 +6,7 @@ use Rattle.em_c.specs.declared.refused.Refused.{Refused}
 use Rattle.em_c.specs.declared.refused.Refused.TheVariants.{NoRegister, Range, Length, DmaRange, Extended, TooLong}
 use Rattle.em_c.specs.declared.refused.Refused.TheVariants.{Memory, Budget, NoMachine, HasMachine, Size, NoFrame, Room}
 use Rattle.em_c.specs.declared.refused.Refused.TheVariants.{NoEvent, NoChange, NoWatch, NoName, NoRefusal, NoRing, NoDescriptor}
-use Rattle.em_c.specs.declared.refused.Refused.TheVariants.{Busy, Unread, Unwritten, NoRam, Begun, Recorded, File, Unrecorded}
+use Rattle.em_c.specs.declared.refused.Refused.TheVariants.{Busy, Unread, Unwritten, NoRam, Begun, Recorded, File, Unrecorded, Width}
 
 -- what refuses an event has the model's number; the others have numbers that no other refusal of the model has
 abbrev pub number_of : Refused → ℕ
@@ -38,6 +38,7 @@ number_of Begun = 42
 number_of Recorded = 43
 number_of File = 44
 number_of Unrecorded = 45
+number_of Width = 46
 
 abbrev pub of_event : Refusal → Refused
 of_event event.NoRegister = NoRegister

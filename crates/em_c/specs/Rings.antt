@@ -1,5 +1,5 @@
 -- The rings as the registers set them up, and whose each descriptor is.
-use Rattle.std.specs.Prelude.{ℕ, ◌==◌, nat_lt, Bool, true, false, if◌then◌else◌, List, Option, Some, None, Result, Ok, Err}
+use Rattle.std.specs.Prelude.{ℕ, ◌==◌, nat_lt, if◌then◌else◌, List, Option, Some, None, Result, Ok, Err}
 use Rattle.em_regs.specs.Setup.{rx_setup, tx_setup}
 use Rattle.em_regs.specs.declared.ring.Ring.{Ring}
 use Rattle.em_step.specs.State.{State}

@@ -1,5 +1,5 @@
 -- A range of guest memory is made what it is in the caller's memory.
-use Rattle.std.specs.Prelude.{◌≡◌, ◌≤◌, ◌<◌, ◌⊎◌, ℕ, IsTrue, List, length, Option, Some, None, Result, Ok, Err}
+use Rattle.std.specs.Prelude.{◌≡◌, ◌≤◌, ◌<◌, ◌⊎◌, ℕ, IsTrue, List, length, Option, Some, None, Result, Err}
 use Rattle.em_mem.specs.Memory.{leaves}
 use Rattle.em_c.specs.Refused.{number_of, Shows}
 use Rattle.em_c.specs.Sync.{Rewrites}

@@ -7,7 +7,6 @@ ghost use Rattle.em_c.specs.AllRegisters.{as_list, count_of, first_in, put_at, r
 use crate::handle::EmMachine;
 use crate::refused::{Refused, number};
 use em_journal::Machine;
-use std::alloc::Global;
 
 /// How many words the registers lie in: they lie below 05800h.
 const WORDS: u32 = 0x1600;
@@ -27,7 +26,6 @@ pub struct EmRegister {
 /// room for all, and then none is put there.
 #[unsafe(no_mangle)]
 pub extern "C" fn em_registers(
-    alloc: Global,
     machine: &mut EmMachine,
     out: &mut [EmRegister],
     count: &mut usize,
@@ -36,25 +34,18 @@ pub extern "C" fn em_registers(
     ensures count { count.new ≡ told count.old (count_of (asked machine.old.sealed.held registers_of)) }
     ensures same { machine.new.sealed.held ≡ machine.old.sealed.held }
 {
-    number(list(alloc, machine, out, count))
+    number(list(machine, out, count))
 }
 
 /// Lists the registers of the machine that is held.
-fn list(
-    alloc: Global,
-    machine: &mut EmMachine,
-    out: &mut [EmRegister],
-    count: &mut usize,
-) -> Result<(), Refused>
+fn list(machine: &mut EmMachine, out: &mut [EmRegister], count: &mut usize) -> Result<(), Refused>
     ensures outcome { number result ≡ number (first_in out.old (asked machine.old.sealed.held registers_of)) }
     ensures registers { out.new ≡ told out.old (first_in out.old (asked machine.old.sealed.held registers_of)) }
     ensures count { count.new ≡ told count.old (count_of (asked machine.old.sealed.held registers_of)) }
     ensures same { machine.new.sealed.held ≡ machine.old.sealed.held }
 {
-    let held = machine.take(alloc)?;
-    let outcome = list_of(held.traced.machine(), out, count);
-    machine.put(held);
-    outcome
+    let held = machine.held()?;
+    list_of(held.looked_at(), out, count)
 }
 
 /// Lists the registers of a machine.

@@ -19,11 +19,11 @@ pub extern "C" fn em_back(alloc: Global, machine: &mut EmMachine, n: usize, done
 
 /// How many events can be taken back.
 #[unsafe(no_mangle)]
-pub extern "C" fn em_can_go_back(alloc: Global, machine: &mut EmMachine, count: &mut usize) -> u32
+pub extern "C" fn em_can_go_back(machine: &mut EmMachine, count: &mut usize) -> u32
     ensures count { Shows (asked machine.old.sealed.held reach) count.old result count.new }
     ensures same { machine.new.sealed.held ≡ machine.old.sealed.held }
 {
-    tell(reach(alloc, machine), count)
+    tell(reach(machine), count)
 }
 
 /// Takes events back.
@@ -38,12 +38,10 @@ pub fn back(alloc: Global, machine: &mut EmMachine, n: usize) -> Result<usize, R
 }
 
 /// How many events can be taken back.
-fn reach(alloc: Global, machine: &mut EmMachine) -> Result<usize, Refused>
+fn reach(machine: &mut EmMachine) -> Result<usize, Refused>
     ensures count { result ≡ asked machine.old.sealed.held reach }
     ensures same { machine.new.sealed.held ≡ machine.old.sealed.held }
 {
-    let held = machine.take(alloc)?;
-    let count = held.traced.machine().can_go_back();
-    machine.put(held);
-    Ok(count)
+    let held = machine.held()?;
+    Ok(held.looked_at().can_go_back())
 }

@@ -79,10 +79,8 @@ fn differences_held(
     ensures err { IfErr result (λ refused. the.HeldDifferences machine.old.sealed.held k (Err refused)) }
     ensures same { machine.new.sealed.held ≡ machine.old.sealed.held }
 {
-    let held = machine.take(alloc)?;
-    let list = differences_of(alloc, held.traced.machine(), k);
-    machine.put(held);
-    list
+    let held = machine.held()?;
+    differences_of(alloc, held.looked_at(), k)
 }
 
 /// What an event of a machine changed.

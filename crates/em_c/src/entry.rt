@@ -13,7 +13,6 @@ use crate::told::{address_told, flag};
 use arrayvec::ArrayVec;
 use em_inspect::{Bits, Descriptor, Fields, Owner, Trouble, write_descriptor};
 use em_journal::Machine;
-use std::alloc::Global;
 
 /// A descriptor of a ring, with what it says, whose it is, and what is wrong with it; the same in words.
 #[repr(C)]
@@ -67,7 +66,6 @@ const BLANK: EmEntry = EmEntry {
 /// The descriptor at an index of a ring, with whose it is and what is wrong with it.
 #[unsafe(no_mangle)]
 pub extern "C" fn em_ring_entry(
-    alloc: Global,
     machine: &mut EmMachine,
     side: u32,
     index: u32,
@@ -77,23 +75,16 @@ pub extern "C" fn em_ring_entry(
         × Shows outcome entry.old result entry.new }
     ensures same { machine.new.sealed.held ≡ machine.old.sealed.held }
 {
-    tell(entry_held(alloc, machine, side, index), entry)
+    tell(entry_held(machine, side, index), entry)
 }
 
 /// A descriptor of the machine that is held.
-fn entry_held(
-    alloc: Global,
-    machine: &mut EmMachine,
-    side: u32,
-    index: u32,
-) -> Result<EmEntry, Refused>
+fn entry_held(machine: &mut EmMachine, side: u32, index: u32) -> Result<EmEntry, Refused>
     ensures entry { the.HeldEntry machine.old.sealed.held side index result }
     ensures same { machine.new.sealed.held ≡ machine.old.sealed.held }
 {
-    let held = machine.take(alloc)?;
-    let entry = entry_in(held.traced.machine(), side, index);
-    machine.put(held);
-    entry
+    let held = machine.held()?;
+    entry_in(held.looked_at(), side, index)
 }
 
 /// A descriptor of a machine.

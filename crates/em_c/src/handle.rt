@@ -22,6 +22,24 @@ pub struct EmMachine {
 }
 
 impl EmMachine {
+    ghost use Rattle.std.specs.Borrow.{sem};
+    ghost use Rattle.em_c.specs.Lent.{LendsHeld};
+
+    /// The machine that is held, in its place: nothing of the handle is written. A call that only looks goes on with a
+    /// `&` to it.
+    pub fn held(&mut self) -> Result<&mut Tagged, Refused>
+        ensures* writes_back { sem 𝓛 (LendsHeld self.entry result) }
+        ensures some { IfOk result (λ held. self.old.sealed.held ≡ Some held.now) }
+        ensures none { IfErr result (λ refused. refused ≡ Refused.NoMachine) }
+        ensures had_none { OnErr result (self.old.sealed.held ≡ None) }
+    {
+        if self.made {
+            Ok(self.sealed.as_mut())
+        } else {
+            Err(Refused::NoMachine)
+        }
+    }
+
     /// Takes the machine out, where there is one.
     pub fn take(&mut self, alloc: Global) -> Result<Box<Tagged>, Refused>
         ensures some { IfOk result (λ b. self.old.sealed.held ≡ Some b.value) }

@@ -136,7 +136,14 @@ fn made(alloc: Global, place: Place, budget: u64, eeprom: Eeprom) -> Result<Box<
     let Ok(traced) = Traced::new(alloc, machine) else {
         return Err(Refused::Memory);
     };
-    let Ok(made) = Box::new(alloc, Tagged { traced, tag: 0 }) else {
+    let Ok(made) = Box::new(
+        alloc,
+        Tagged {
+            traced,
+            tag: 0,
+            handed: 0,
+        },
+    ) else {
         return Err(Refused::Memory);
     };
     Ok(made)

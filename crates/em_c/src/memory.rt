@@ -22,71 +22,60 @@ pub extern "C" fn em_poke(alloc: Global, machine: &mut EmMachine, addr: u64, oct
 
 /// Copies octets of guest memory out.
 #[unsafe(no_mangle)]
-pub extern "C" fn em_peek(alloc: Global, machine: &mut EmMachine, addr: u64, out: &mut [u8]) -> u32
+pub extern "C" fn em_peek(machine: &mut EmMachine, addr: u64, out: &mut [u8]) -> u32
     ensures octets { Shows (asked machine.old.sealed.held (octets_at addr (length out.old))) out.old result out.new }
     ensures same { machine.new.sealed.held ≡ machine.old.sealed.held }
 {
-    number(copy_out(alloc, machine, addr, out))
+    number(copy_out(machine, addr, out))
 }
 
 /// The address of guest memory's first octet.
 #[unsafe(no_mangle)]
-pub extern "C" fn em_memory_base(alloc: Global, machine: &mut EmMachine, base: &mut u64) -> u32
+pub extern "C" fn em_memory_base(machine: &mut EmMachine, base: &mut u64) -> u32
     ensures base { Shows (asked machine.old.sealed.held memory_base) base.old result base.new }
     ensures same { machine.new.sealed.held ≡ machine.old.sealed.held }
 {
-    tell(memory_base(alloc, machine), base)
+    tell(memory_base(machine), base)
 }
 
 /// How many octets guest memory has.
 #[unsafe(no_mangle)]
-pub extern "C" fn em_memory_size(alloc: Global, machine: &mut EmMachine, size: &mut u64) -> u32
+pub extern "C" fn em_memory_size(machine: &mut EmMachine, size: &mut u64) -> u32
     ensures size { Shows (asked machine.old.sealed.held memory_size) size.old result size.new }
     ensures same { machine.new.sealed.held ≡ machine.old.sealed.held }
 {
-    tell(memory_size(alloc, machine), size)
+    tell(memory_size(machine), size)
 }
 
 /// Copies octets of guest memory out.
-fn copy_out(
-    alloc: Global,
-    machine: &mut EmMachine,
-    addr: u64,
-    out: &mut [u8],
-) -> Result<(), Refused>
+fn copy_out(machine: &mut EmMachine, addr: u64, out: &mut [u8]) -> Result<(), Refused>
     ensures outcome { number result ≡ number (asked machine.old.sealed.held (octets_at addr (length out.old))) }
     ensures octets { out.new ≡ told out.old (asked machine.old.sealed.held (octets_at addr (length out.old))) }
     ensures same { machine.new.sealed.held ≡ machine.old.sealed.held }
 {
-    let held = machine.take(alloc)?;
-    let outcome = held.traced.machine().peek(addr, out);
-    machine.put(held);
-    match outcome {
+    let held = machine.held()?;
+    match held.looked_at().peek(addr, out) {
         Ok(()) => Ok(()),
         Err(_) => Err(Refused::Range),
     }
 }
 
 /// Where guest memory begins.
-fn memory_base(alloc: Global, machine: &mut EmMachine) -> Result<u64, Refused>
+fn memory_base(machine: &mut EmMachine) -> Result<u64, Refused>
     ensures base { result ≡ asked machine.old.sealed.held memory_base }
     ensures same { machine.new.sealed.held ≡ machine.old.sealed.held }
 {
-    let held = machine.take(alloc)?;
-    let base = held.traced.machine().memory_base();
-    machine.put(held);
-    Ok(base)
+    let held = machine.held()?;
+    Ok(held.looked_at().memory_base())
 }
 
 /// How many octets guest memory has.
-fn memory_size(alloc: Global, machine: &mut EmMachine) -> Result<u64, Refused>
+fn memory_size(machine: &mut EmMachine) -> Result<u64, Refused>
     ensures size { result ≡ asked machine.old.sealed.held memory_size }
     ensures same { machine.new.sealed.held ≡ machine.old.sealed.held }
 {
-    let held = machine.take(alloc)?;
-    let size = held.traced.machine().memory_size();
-    machine.put(held);
-    Ok(size)
+    let held = machine.held()?;
+    Ok(held.looked_at().memory_size())
 }
 
 /// Whether octets leave guest memory.

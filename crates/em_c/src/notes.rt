@@ -19,16 +19,11 @@ pub extern "C" fn em_tag(alloc: Global, machine: &mut EmMachine, tag: u64) -> u3
 
 /// What an event of the journal was, the newest at 0.
 #[unsafe(no_mangle)]
-pub extern "C" fn em_event(
-    alloc: Global,
-    machine: &mut EmMachine,
-    k: usize,
-    event: &mut EmNote,
-) -> u32
+pub extern "C" fn em_event(machine: &mut EmMachine, k: usize, event: &mut EmNote) -> u32
     ensures event { Shows (event_at k machine.old.sealed.held) event.old result event.new }
     ensures same { machine.new.sealed.held ≡ machine.old.sealed.held }
 {
-    tell(event_at(alloc, machine, k), event)
+    tell(event_at(machine, k), event)
 }
 
 /// Sets the tag.
@@ -43,14 +38,12 @@ fn set_tag(alloc: Global, machine: &mut EmMachine, tag: u64) -> Result<(), Refus
 }
 
 /// What an event was.
-fn event_at(alloc: Global, machine: &mut EmMachine, k: usize) -> Result<EmNote, Refused>
+fn event_at(machine: &mut EmMachine, k: usize) -> Result<EmNote, Refused>
     ensures event { result ≡ event_at k machine.old.sealed.held }
     ensures same { machine.new.sealed.held ≡ machine.old.sealed.held }
 {
-    let held = machine.take(alloc)?;
-    let note = held.traced.note(k);
-    machine.put(held);
-    match note {
+    let held = machine.held()?;
+    match held.traced.note(k) {
         Some(note) => Ok(EmNote::of(note)),
         None => Err(Refused::NoEvent),
     }

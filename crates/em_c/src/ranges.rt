@@ -10,7 +10,6 @@ use crate::handle::EmMachine;
 use crate::refused::{DONE, Refused};
 use em_journal::Machine;
 use em_mem::{Needs, Range};
-use std::alloc::Global;
 
 /// A range of guest memory. One of 0 octets stands at 0.
 #[repr(C)]
@@ -25,7 +24,6 @@ pub struct EmRange {
 /// What the next step of a ring's engine reads of guest memory and what it writes there, by the octets as they are now.
 #[unsafe(no_mangle)]
 pub extern "C" fn em_ring_needs(
-    alloc: Global,
     machine: &mut EmMachine,
     side: u32,
     reads: &mut [EmRange; 2],
@@ -35,7 +33,7 @@ pub extern "C" fn em_ring_needs(
     ensures writes { Shows (writes_of (asked machine.old.sealed.held (needs_in side))) writes.old result writes.new }
     ensures same { machine.new.sealed.held ≡ machine.old.sealed.held }
 {
-    match needs_in(alloc, machine, side) {
+    match needs_in(machine, side) {
         Ok(needs) => {
             *reads = ranges_told(needs.reads);
             *writes = ranges_told(needs.writes);
@@ -47,17 +45,12 @@ pub extern "C" fn em_ring_needs(
 
 /// Which octets of guest memory an event of the journal wrote, the newest at 0.
 #[unsafe(no_mangle)]
-pub extern "C" fn em_written(
-    alloc: Global,
-    machine: &mut EmMachine,
-    k: usize,
-    written: &mut [EmRange; 2],
-) -> u32
+pub extern "C" fn em_written(machine: &mut EmMachine, k: usize, written: &mut [EmRange; 2]) -> u32
     ensures written { (outcome : Result (List Range) Refused) × HeldWroteAt machine.old.sealed.held k outcome
         × Shows (told_of outcome) written.old result written.new }
     ensures same { machine.new.sealed.held ≡ machine.old.sealed.held }
 {
-    match written_at(alloc, machine, k) {
+    match written_at(machine, k) {
         Ok(ranges) => {
             *written = ranges_told(ranges);
             DONE
@@ -67,14 +60,12 @@ pub extern "C" fn em_written(
 }
 
 /// What the next step of a ring's engine needs of the machine that is held.
-fn needs_in(alloc: Global, machine: &mut EmMachine, side: u32) -> Result<Needs, Refused>
+fn needs_in(machine: &mut EmMachine, side: u32) -> Result<Needs, Refused>
     ensures needs { result ≡ asked machine.old.sealed.held (needs_in side) }
     ensures same { machine.new.sealed.held ≡ machine.old.sealed.held }
 {
-    let held = machine.take(alloc)?;
-    let needs = needs_of(held.traced.machine(), side);
-    machine.put(held);
-    needs
+    let held = machine.held()?;
+    needs_of(held.looked_at(), side)
 }
 
 /// What the next step of a ring's engine needs.
@@ -89,14 +80,12 @@ fn needs_of(machine: &Machine, side: u32) -> Result<Needs, Refused>
 }
 
 /// What an event wrote of the machine that is held.
-fn written_at(alloc: Global, machine: &mut EmMachine, k: usize) -> Result<[Range; 2], Refused>
+fn written_at(machine: &mut EmMachine, k: usize) -> Result<[Range; 2], Refused>
     ensures written { HeldWroteAt machine.old.sealed.held k result }
     ensures same { machine.new.sealed.held ≡ machine.old.sealed.held }
 {
-    let held = machine.take(alloc)?;
-    let written = written_of(held.traced.machine(), k);
-    machine.put(held);
-    written
+    let held = machine.held()?;
+    written_of(held.looked_at(), k)
 }
 
 /// What an event wrote.

@@ -53,6 +53,7 @@ fn with_number(code: u32) -> Option<Refused>
         43 => Some(Refused::Recorded),
         44 => Some(Refused::File),
         45 => Some(Refused::Unrecorded),
+        46 => Some(Refused::Width),
         _ => None,
     }
 }
@@ -90,5 +91,6 @@ fn text_of(refused: Refused) -> &'static str
         Refused::Recorded => "Recorded: the run is kept already",
         Refused::File => "File: the file was not opened, or not written",
         Refused::Unrecorded => "Unrecorded: the run is not kept",
+        Refused::Width => "Width: registers are accessed by four octets",
     }
 }

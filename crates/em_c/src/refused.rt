@@ -7,8 +7,8 @@ use em_step::Refusal;
 /// The number that a call gives where nothing refused it.
 pub const DONE: u32 = 0;
 
-/// Why a call did nothing. Each reason has a number of its own. From 38 on they are those of bindings/c, which lies over
-/// the calls.
+/// Why a call did nothing. Each reason has a number of its own. From 38 to 45 they are those of bindings/c, which
+/// lies over the calls.
 #[derive(Clone, Copy, PartialEq, Eq, Debug)]
 pub enum Refused {
     /// No register lies at the offset.
@@ -67,6 +67,8 @@ pub enum Refused {
     File = 44,
     /// The run is not kept.
     Unrecorded = 45,
+    /// An access of a register that has not four octets.
+    Width = 46,
 }
 
 impl Refused {

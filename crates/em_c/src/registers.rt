@@ -37,27 +37,20 @@ pub extern "C" fn em_write(alloc: Global, machine: &mut EmMachine, offset: u32, 
 
 /// What a read of the register would give; nothing changes.
 #[unsafe(no_mangle)]
-pub extern "C" fn em_look(
-    alloc: Global,
-    machine: &mut EmMachine,
-    offset: u32,
-    value: &mut u32,
-) -> u32
+pub extern "C" fn em_look(machine: &mut EmMachine, offset: u32, value: &mut u32) -> u32
     ensures value { Shows (asked machine.old.sealed.held (value_at offset)) value.old result value.new }
     ensures same { machine.new.sealed.held ≡ machine.old.sealed.held }
 {
-    tell(value_at(alloc, machine, offset), value)
+    tell(value_at(machine, offset), value)
 }
 
 /// What a read of the register at an offset would give.
-fn value_at(alloc: Global, machine: &mut EmMachine, offset: u32) -> Result<u32, Refused>
+fn value_at(machine: &mut EmMachine, offset: u32) -> Result<u32, Refused>
     ensures value { result ≡ asked machine.old.sealed.held (value_at offset) }
     ensures same { machine.new.sealed.held ≡ machine.old.sealed.held }
 {
-    let held = machine.take(alloc)?;
-    let found = held.traced.machine().look(offset);
-    machine.put(held);
-    match found {
+    let held = machine.held()?;
+    match held.looked_at().look(offset) {
         Some(value) => Ok(value),
         None => Err(Refused::NoRegister),
     }

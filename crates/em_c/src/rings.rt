@@ -9,7 +9,6 @@ use crate::refused::{Refused, tell};
 use em_inspect::{Owner, Side, SidedRing, octets_at, owner_of};
 use em_journal::Machine;
 use em_regs::{DESCRIPTOR_OCTETS, Ring};
-use std::alloc::Global;
 
 /// A ring, as the registers set it up.
 #[repr(C)]
@@ -41,22 +40,16 @@ pub struct EmDescriptor {
 
 /// How the registers set a ring up: 1 is the receive ring, 2 the transmit ring.
 #[unsafe(no_mangle)]
-pub extern "C" fn em_ring(
-    alloc: Global,
-    machine: &mut EmMachine,
-    side: u32,
-    setup: &mut EmRingSetup,
-) -> u32
+pub extern "C" fn em_ring(machine: &mut EmMachine, side: u32, setup: &mut EmRingSetup) -> u32
     ensures setup { Shows (asked machine.old.sealed.held (ring_in side)) setup.old result setup.new }
     ensures same { machine.new.sealed.held ≡ machine.old.sealed.held }
 {
-    tell(ring_in(alloc, machine, side), setup)
+    tell(ring_in(machine, side), setup)
 }
 
 /// The descriptor at an index of a ring, and whose it is.
 #[unsafe(no_mangle)]
 pub extern "C" fn em_ring_descriptor(
-    alloc: Global,
     machine: &mut EmMachine,
     side: u32,
     index: u32,
@@ -66,37 +59,28 @@ pub extern "C" fn em_ring_descriptor(
         descriptor.new }
     ensures same { machine.new.sealed.held ≡ machine.old.sealed.held }
 {
-    tell(descriptor_in(alloc, machine, side, index), descriptor)
+    tell(descriptor_in(machine, side, index), descriptor)
 }
 
 /// How a ring of the machine that is held is set up.
-fn ring_in(alloc: Global, machine: &mut EmMachine, side: u32) -> Result<EmRingSetup, Refused>
+fn ring_in(machine: &mut EmMachine, side: u32) -> Result<EmRingSetup, Refused>
     ensures setup { result ≡ asked machine.old.sealed.held (ring_in side) }
     ensures same { machine.new.sealed.held ≡ machine.old.sealed.held }
 {
-    let held = machine.take(alloc)?;
-    let ring = sided(held.traced.machine(), side);
-    machine.put(held);
-    match ring {
+    let held = machine.held()?;
+    match sided(held.looked_at(), side) {
         Ok(ring) => Ok(ring_told(&ring)),
         Err(refused) => Err(refused),
     }
 }
 
 /// A descriptor of the machine that is held.
-fn descriptor_in(
-    alloc: Global,
-    machine: &mut EmMachine,
-    side: u32,
-    index: u32,
-) -> Result<EmDescriptor, Refused>
+fn descriptor_in(machine: &mut EmMachine, side: u32, index: u32) -> Result<EmDescriptor, Refused>
     ensures descriptor { result ≡ asked machine.old.sealed.held (descriptor_in side index) }
     ensures same { machine.new.sealed.held ≡ machine.old.sealed.held }
 {
-    let held = machine.take(alloc)?;
-    let found = descriptor_of(held.traced.machine(), side, index);
-    machine.put(held);
-    found
+    let held = machine.held()?;
+    descriptor_of(held.looked_at(), side, index)
 }
 
 /// The ring of a number.

@@ -25,6 +25,9 @@ impl Model for Sealed {
 }
 
 impl Sealed {
+    ghost use Rattle.std.specs.Borrow.{sem};
+    ghost use Rattle.em_c.specs.Lent.{LendsMachine};
+
     /// Nothing.
     pub fn empty(alloc: Global) -> Sealed
         ensures { result.held ≡ None }
@@ -44,6 +47,15 @@ impl Sealed {
             ptr: ptr as *mut u8,
             alloc,
         }
+    }
+
+    /// The machine, where there is one.
+    pub fn as_mut(&mut self) -> &mut Tagged
+        requires { IsSome self.old.held }
+        ensures* writes_back { sem 𝓛 (LendsMachine self.entry result) }
+        ensures value { self.old.held ≡ Some result.now }
+    {
+        unsafe { &mut *(self.ptr as *mut Tagged) }
     }
 
     /// The parts of its box, where there is one.

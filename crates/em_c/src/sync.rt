@@ -27,23 +27,21 @@ pub const MOST: usize = 16_384;
 /// Makes the caller's memory what guest memory is, whatever led there: events, or steps back. Octets that are the same
 /// already are not written.
 #[unsafe(no_mangle)]
-pub extern "C" fn em_sync_out(alloc: Global, machine: &mut EmMachine, ram: &mut [u8]) -> u32
+pub extern "C" fn em_sync_out(machine: &mut EmMachine, ram: &mut [u8]) -> u32
     ensures octets { Shows (asked machine.old.sealed.held (whole_memory (length ram.old))) ram.old result ram.new }
     ensures same { machine.new.sealed.held ≡ machine.old.sealed.held }
 {
-    number(sync_out(alloc, machine, ram))
+    number(sync_out(machine, ram))
 }
 
 /// Makes the caller's memory what guest memory is.
-fn sync_out(alloc: Global, machine: &mut EmMachine, ram: &mut [u8]) -> Result<(), Refused>
+fn sync_out(machine: &mut EmMachine, ram: &mut [u8]) -> Result<(), Refused>
     ensures outcome { number result ≡ number (asked machine.old.sealed.held (whole_memory (length ram.old))) }
     ensures octets { ram.new ≡ told ram.old (asked machine.old.sealed.held (whole_memory (length ram.old))) }
     ensures same { machine.new.sealed.held ≡ machine.old.sealed.held }
 {
-    let held = machine.take(alloc)?;
-    let outcome = copy_whole(held.traced.machine(), ram);
-    machine.put(held);
-    outcome
+    let held = machine.held()?;
+    copy_whole(held.looked_at(), ram)
 }
 
 /// Copies out what differs.

@@ -19,16 +19,11 @@ const FEW: usize = 64;
 
 /// Makes the caller's octets what guest memory is from an address on. Octets that are the same already are not written.
 #[unsafe(no_mangle)]
-pub extern "C" fn em_sync_out_range(
-    alloc: Global,
-    machine: &mut EmMachine,
-    addr: u64,
-    out: &mut [u8],
-) -> u32
+pub extern "C" fn em_sync_out_range(machine: &mut EmMachine, addr: u64, out: &mut [u8]) -> u32
     ensures octets { Shows (asked machine.old.sealed.held (octets_at addr (length out.old))) out.old result out.new }
     ensures same { machine.new.sealed.held ≡ machine.old.sealed.held }
 {
-    number(sync_out(alloc, machine, addr, out))
+    number(sync_out(machine, addr, out))
 }
 
 /// Makes guest memory what the caller's octets are from an address on, by one memory write from the first octet that
@@ -54,20 +49,13 @@ pub extern "C" fn em_sync_in_range(
 }
 
 /// Makes the caller's octets what guest memory is from an address on.
-fn sync_out(
-    alloc: Global,
-    machine: &mut EmMachine,
-    addr: u64,
-    out: &mut [u8],
-) -> Result<(), Refused>
+fn sync_out(machine: &mut EmMachine, addr: u64, out: &mut [u8]) -> Result<(), Refused>
     ensures outcome { number result ≡ number (asked machine.old.sealed.held (octets_at addr (length out.old))) }
     ensures octets { out.new ≡ told out.old (asked machine.old.sealed.held (octets_at addr (length out.old))) }
     ensures same { machine.new.sealed.held ≡ machine.old.sealed.held }
 {
-    let held = machine.take(alloc)?;
-    let outcome = copy_range(held.traced.machine(), addr, out);
-    machine.put(held);
-    outcome
+    let held = machine.held()?;
+    copy_range(held.looked_at(), addr, out)
 }
 
 /// Copies out what differs from an address on.

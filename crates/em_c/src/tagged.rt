@@ -1,22 +1,31 @@
-//! A machine with the tag of its next events.
+//! A machine with the tag of its next events, and how far its wire was handed over.
 ghost use Rattle.std.specs.Prelude.{◌≡◌, ◌<◌, IfOk, IfErr, OnOk, OnErr, length, min};
 ghost use Rattle.em_step.specs.Event.{plain};
 ghost use Rattle.em_step.specs.Step.{Refuses};
 ghost use Rattle.em_c.specs.Run.{Stops, is_idle};
-ghost use Rattle.em_c.specs.Tagged.{Performs, IsNoteOf, after_backs, present_of};
+ghost use Rattle.em_c.specs.Tagged.{Performs, IsNoteOf, after_backs, backs, present_of};
 
-use em_journal::Empty;
+use em_journal::{Empty, Machine};
 use em_step::{Answer, Event, Refusal};
 use em_trail::{Note, Traced};
 
-/// A machine with its trail, and the tag that its next events get.
+/// A machine with its trail, the tag that its next events get, and how many of the frames that it sent were handed over:
+/// the first ones.
 #[derive(Drop)]
 pub struct Tagged {
     pub traced: Traced,
     pub tag: u64,
+    pub handed: usize,
 }
 
 impl Tagged {
+    /// The machine, as a call has it that only looks: several threads may do so at once.
+    pub fn looked_at(&self) -> &Machine
+        ensures { result.now ≡ self.now.traced.view }
+    {
+        shared(self).traced.machine()
+    }
+
     /// Performs an event under the tag. A refused event changes nothing.
     #[inline(always)]
     pub fn perform(&mut self, event: Event<'_>) -> Result<Answer, Refusal>
@@ -42,10 +51,21 @@ impl Tagged {
         }
     }
 
-    /// Takes events back, the newest first, until `n` are done or none is left, and gives how many it took back.
+    /// Takes events back, the newest first, until `n` are done or none is left, and gives how many it took back. Of the
+    /// frames that were handed over those stay so that are on the wire still.
     pub fn back_by(&mut self, n: usize) -> usize
         ensures count { result ≡ min n (length self.old.traced.view.past) }
         ensures back { self.new ≡ after_backs n self.old }
+    {
+        let count = self.go_back(n);
+        self.handed = self.handed.min(self.traced.machine().wire_len());
+        count
+    }
+
+    /// Takes events back.
+    fn go_back(&mut self, n: usize) -> usize
+        ensures count { result ≡ min n (length self.old.traced.view.past) }
+        ensures back { self.new ≡ backs n self.old }
     {
         let count = n.min(self.traced.len());
         for done in 0..count {
@@ -74,6 +94,13 @@ impl Tagged {
         }
         (n, None)
     }
+}
+
+/// What several threads may have a `&` to.
+fn shared<T: Sync>(it: &T) -> &T
+    ensures { result.now ≡ it.now }
+{
+    it
 }
 
 /// Whether an engine had nothing to do.

@@ -82,10 +82,8 @@ fn ring_text_held(alloc: Global, machine: &mut EmMachine, side: u32) -> Result<V
     ensures err { IfErr result (λ refused. HeldText machine.old.sealed.held (ring_text_in side) (Err refused)) }
     ensures same { machine.new.sealed.held ≡ machine.old.sealed.held }
 {
-    let held = machine.take(alloc)?;
-    let text = ring_text_of(alloc, held.traced.machine(), side);
-    machine.put(held);
-    text
+    let held = machine.held()?;
+    ring_text_of(alloc, held.looked_at(), side)
 }
 
 /// A ring of a machine.
@@ -108,10 +106,8 @@ fn fifo_text_held(alloc: Global, machine: &mut EmMachine) -> Result<Vec<u8>, Ref
     ensures err { IfErr result (λ refused. HeldText machine.old.sealed.held fifo_text_in (Err refused)) }
     ensures same { machine.new.sealed.held ≡ machine.old.sealed.held }
 {
-    let held = machine.take(alloc)?;
-    let text = fifo_text_of(alloc, held.traced.machine());
-    machine.put(held);
-    text
+    let held = machine.held()?;
+    fifo_text_of(alloc, held.looked_at())
 }
 
 /// The FIFO of a machine.
@@ -132,10 +128,8 @@ fn effect_held(alloc: Global, machine: &mut EmMachine, k: usize) -> Result<Vec<u
     ensures err { IfErr result (λ refused. HeldEffect machine.old.sealed.held k (Err refused)) }
     ensures same { machine.new.sealed.held ≡ machine.old.sealed.held }
 {
-    let held = machine.take(alloc)?;
-    let text = effect_of(alloc, held.traced.machine(), k);
-    machine.put(held);
-    text
+    let held = machine.held()?;
+    effect_of(alloc, held.looked_at(), k)
 }
 
 /// What an event of a machine changed.

@@ -13,13 +13,11 @@ use em_journal::Machine;
 use em_regs::Reg;
 use em_trail::{Kind, Note};
 use em_warnings::{RULES, Warning, read_again, warnings_of};
-use std::alloc::Global;
 
 /// What a driver seems to get wrong by the newest event, and how many such rules there are: rules are asked of a write
 /// of a register, and of a read of ICR that gave 0. Behind them stand warnings of the number 0.
 #[unsafe(no_mangle)]
 pub extern "C" fn em_warnings(
-    alloc: Global,
     machine: &mut EmMachine,
     warnings: &mut [EmWarning; RULES],
     count: &mut usize,
@@ -30,7 +28,7 @@ pub extern "C" fn em_warnings(
         × Shows (the.count_in outcome) count.old result count.new }
     ensures same { machine.new.sealed.held ≡ machine.old.sealed.held }
 {
-    match warnings_held(alloc, machine) {
+    match warnings_held(machine) {
         Ok(told) => {
             let list = told.0;
             *warnings = list;
@@ -42,16 +40,12 @@ pub extern "C" fn em_warnings(
 }
 
 /// The warnings, of the machine that is held.
-fn warnings_held(
-    alloc: Global,
-    machine: &mut EmMachine,
-) -> Result<([EmWarning; RULES], usize), Refused>
+fn warnings_held(machine: &mut EmMachine) -> Result<([EmWarning; RULES], usize), Refused>
     ensures warnings { the.HeldWarnings machine.old.sealed.held result }
     ensures same { machine.new.sealed.held ≡ machine.old.sealed.held }
 {
-    let held = machine.take(alloc)?;
-    let found = found_in(&held);
-    machine.put(held);
+    let held = machine.held()?;
+    let found = found_in(held);
     list_of(&found)
 }
 

@@ -9,7 +9,6 @@ use crate::refused::{DONE, Refused};
 use em_journal::Machine;
 use em_regs::Reg;
 use em_watch::{Change, MemoryRange, Sight, Watch};
-use std::alloc::Global;
 
 /// How many octets are watched at most.
 pub const MOST_OCTETS: usize = 16;
@@ -44,7 +43,6 @@ pub struct EmChange {
 /// The newest change of what is watched, among the events of the journal.
 #[unsafe(no_mangle)]
 pub extern "C" fn em_last_change(
-    alloc: Global,
     machine: &mut EmMachine,
     watch: &EmWatch,
     change: &mut EmChange,
@@ -52,16 +50,15 @@ pub extern "C" fn em_last_change(
     ensures found { FindsChange machine.old.sealed.held watch.now change.old result change.new }
     ensures same { machine.new.sealed.held ≡ machine.old.sealed.held }
 {
-    let held = match machine.take(alloc) {
+    let held = match machine.held() {
         Ok(held) => held,
         Err(refused) => return refused.number(),
     };
-    let watched = watch_of(*watch, held.traced.machine());
+    let watched = watch_of(*watch, held.looked_at());
     let found = match watched {
-        Ok(watch) => em_watch::last_change(held.traced.machine(), watch),
+        Ok(watch) => em_watch::last_change(held.looked_at(), watch),
         Err(_) => None,
     };
-    machine.put(held);
     match (watched, found) {
         (Err(refused), _) => refused.number(),
         (Ok(_), None) => Refused::NoChange.number(),

@@ -14,14 +14,12 @@ use crate::refused::{Refused, tell};
 use em_explain::{Why, why_of};
 use em_journal::Machine;
 use em_step::{Answer, Event, Reason, Refusal};
-use std::alloc::Global;
 
 /// Why an event did nothing: a step that was idle, a frame that was dropped, an event that a call refused with the
 /// number `code`. The machine is as the event left it. What the note does not have, the octets of a frame or of a
 /// memory write, the caller gives.
 #[unsafe(no_mangle)]
 pub extern "C" fn em_why(
-    alloc: Global,
     machine: &mut EmMachine,
     event: &EmNote,
     code: u32,
@@ -33,12 +31,11 @@ pub extern "C" fn em_why(
         × Shows outcome reason.old result reason.new }
     ensures same { machine.new.sealed.held ≡ machine.old.sealed.held }
 {
-    tell(reason_held(alloc, machine, event, code, octets), reason)
+    tell(reason_held(machine, event, code, octets), reason)
 }
 
 /// The reason, of the machine that is held.
 fn reason_held(
-    alloc: Global,
     machine: &mut EmMachine,
     event: &EmNote,
     code: u32,
@@ -47,10 +44,8 @@ fn reason_held(
     ensures reason { the.HeldReason machine.old.sealed.held event.now code octets.now result }
     ensures same { machine.new.sealed.held ≡ machine.old.sealed.held }
 {
-    let held = machine.take(alloc)?;
-    let reason = reason_in(held.traced.machine(), event, code, octets);
-    machine.put(held);
-    reason
+    let held = machine.held()?;
+    reason_in(held.looked_at(), event, code, octets)
 }
 
 /// The reason, with its numbers and its text.

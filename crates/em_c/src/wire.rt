@@ -1,5 +1,5 @@
 //! The wire, the link, the engines and the interrupt line.
-ghost use Rattle.std.specs.Prelude.{◌≡◌};
+ghost use Rattle.std.specs.Prelude.{◌≡◌, ◌<◌, OnOk, length};
 ghost use Rattle.em_step.specs.Event.{plain, arrives, links, receives, transmits};
 ghost use Rattle.em_c.specs.Refused.{number, told, Shows};
 ghost use Rattle.em_c.specs.Calls.{Calls, CallsAndTells};
@@ -9,6 +9,7 @@ use crate::handle::EmMachine;
 use crate::note::EmNote;
 use crate::refused::{Refused, number, tell};
 use crate::room::lay;
+use em_journal::Machine;
 use em_step::Event;
 use std::alloc::Global;
 
@@ -52,27 +53,26 @@ pub extern "C" fn em_tx_step(alloc: Global, machine: &mut EmMachine, event: &mut
 
 /// The interrupt line: 1 where it is asserted, else 0.
 #[unsafe(no_mangle)]
-pub extern "C" fn em_line(alloc: Global, machine: &mut EmMachine, level: &mut u32) -> u32
+pub extern "C" fn em_line(machine: &mut EmMachine, level: &mut u32) -> u32
     ensures level { Shows (asked machine.old.sealed.held line) level.old result level.new }
     ensures same { machine.new.sealed.held ≡ machine.old.sealed.held }
 {
-    tell(line(alloc, machine), level)
+    tell(line(machine), level)
 }
 
 /// How many frames were sent.
 #[unsafe(no_mangle)]
-pub extern "C" fn em_wire_count(alloc: Global, machine: &mut EmMachine, count: &mut usize) -> u32
+pub extern "C" fn em_wire_count(machine: &mut EmMachine, count: &mut usize) -> u32
     ensures count { Shows (asked machine.old.sealed.held wire_count) count.old result count.new }
     ensures same { machine.new.sealed.held ≡ machine.old.sealed.held }
 {
-    tell(wire_count(alloc, machine), count)
+    tell(wire_count(machine), count)
 }
 
 /// Copies a frame out that was sent, the first one at 0, and tells how many octets it has: also where there is no room
 /// for them, and then nothing is copied.
 #[unsafe(no_mangle)]
 pub extern "C" fn em_wire_frame(
-    alloc: Global,
     machine: &mut EmMachine,
     index: usize,
     out: &mut [u8],
@@ -83,34 +83,30 @@ pub extern "C" fn em_wire_frame(
     ensures octets { octets.new ≡ told octets.old (length_of (asked machine.old.sealed.held (wire_frame index))) }
     ensures same { machine.new.sealed.held ≡ machine.old.sealed.held }
 {
-    number(copy_frame(alloc, machine, index, out, octets))
+    number(copy_frame(machine, index, out, octets))
 }
 
 /// The interrupt line.
-fn line(alloc: Global, machine: &mut EmMachine) -> Result<u32, Refused>
+fn line(machine: &mut EmMachine) -> Result<u32, Refused>
     ensures level { result ≡ asked machine.old.sealed.held line }
     ensures same { machine.new.sealed.held ≡ machine.old.sealed.held }
 {
-    let held = machine.take(alloc)?;
-    let asserted = held.traced.machine().line();
-    machine.put(held);
+    let held = machine.held()?;
+    let asserted = held.looked_at().line();
     Ok(if asserted { 1 } else { 0 })
 }
 
 /// How many frames were sent.
-fn wire_count(alloc: Global, machine: &mut EmMachine) -> Result<usize, Refused>
+fn wire_count(machine: &mut EmMachine) -> Result<usize, Refused>
     ensures count { result ≡ asked machine.old.sealed.held wire_count }
     ensures same { machine.new.sealed.held ≡ machine.old.sealed.held }
 {
-    let held = machine.take(alloc)?;
-    let count = held.traced.machine().wire_len();
-    machine.put(held);
-    Ok(count)
+    let held = machine.held()?;
+    Ok(held.looked_at().wire_len())
 }
 
 /// Copies a frame out that was sent.
 fn copy_frame(
-    alloc: Global,
     machine: &mut EmMachine,
     index: usize,
     out: &mut [u8],
@@ -121,11 +117,24 @@ fn copy_frame(
     ensures octets { octets.new ≡ told octets.old (length_of (asked machine.old.sealed.held (wire_frame index))) }
     ensures same { machine.new.sealed.held ≡ machine.old.sealed.held }
 {
-    let held = machine.take(alloc)?;
-    let outcome = match held.traced.machine().wire_frame(index) {
+    let held = machine.held()?;
+    lay_frame(held.looked_at(), index, out, octets)
+}
+
+/// Copies a frame out that a machine sent.
+pub fn lay_frame(
+    machine: &Machine,
+    index: usize,
+    out: &mut [u8],
+    octets: &mut usize,
+) -> Result<(), Refused>
+    ensures outcome { number result ≡ number (laid_into out.old (wire_frame index machine.now)) }
+    ensures frame { out.new ≡ told out.old (laid_into out.old (wire_frame index machine.now)) }
+    ensures octets { octets.new ≡ told octets.old (length_of (wire_frame index machine.now)) }
+    ensures below { OnOk result (index < length machine.now.present.wire) }
+{
+    match machine.wire_frame(index) {
         Some(frame) => lay(frame, out, octets),
         None => Err(Refused::NoFrame),
-    };
-    machine.put(held);
-    outcome
+    }
 }
