@@ -4,16 +4,18 @@ one of small frames.
 
     bench/captures.py [PROGRAM]
 
-PROGRAM is crates/em_captures/out/em_captures where none is named. It tells what each of five rounds took; the capture
-is in memory before the first.
+PROGRAM is what bench/speed makes, which bench/watch.py proves and builds where none is named. It tells what each of five
+rounds took; the capture is in memory before the first.
 """
 import random
 import struct
 import subprocess
 import sys
+import tempfile
 from pathlib import Path
 
-TOP = Path(__file__).resolve().parent.parent
+from watch import build
+
 OCTETS = 100_000_000
 # of eleven frames, as they come in traffic of all kinds
 SIZES = [60] * 6 + [590] * 3 + [1514] * 2
@@ -40,14 +42,18 @@ def blocks(sizes: list[int], r: random.Random) -> bytes:
     return bytes(file)
 
 
-def main() -> None:
-    program = sys.argv[1] if sys.argv[1:] else TOP / "crates" / "em_captures" / "out" / "em_captures"
+def measure(program: str) -> None:
     for what, make, sizes in (
         ("classic", classic, SIZES), ("pcapng", blocks, SIZES), ("classic, small frames", classic, [60])
     ):
         capture = make(sizes, random.Random(82540))
-        ran = subprocess.run([program, "speed"], input=capture, capture_output=True, check=True)
+        ran = subprocess.run([program, "captures"], input=capture, capture_output=True, check=True)
         print(f"{what}:\n{ran.stdout.decode()}", end="")
+
+
+def main() -> None:
+    with tempfile.TemporaryDirectory() as room:
+        measure(sys.argv[1] if sys.argv[1:] else build(Path(room)))
 
 
 if __name__ == "__main__":

@@ -1,7 +1,7 @@
 """Which branches of some crates the tests run, as tests/unreached asks for it.
 
 The crates' sources are copied, and marked by tests/marked_branches.py. One crate, without a proof (`rt try`), then
-runs the tests of tests/library that need no crate above, the worked rows, and what em_calls and em_refused run. A few
+runs the tests of tests/library that need no crate above, the worked rows, and the cases of tests/tried. A few
 lines of C, which are linked to it, note which branch was run.
 """
 import hashlib
@@ -15,23 +15,21 @@ from pathlib import Path
 
 from built import QUICK_RT
 from items import read_crate
-from library_crate import CALLING, FILES
+from library_crate import FILES, opened
 from marked_branches import MARKS, Branch, Marker
 from tally import CRATES, TOP, below
+from tried_crate import CASES, uses
+from unproved import UNUSED
 
 # The crates whose branches are looked at.
 LOOKED_AT = ("em_driver", "em_rx", "em_tx", "em_step", "em_journal")
-# What is run beside tests/library; tests there may name what these stand on, and what em_who stands on.
-RUN = ("em_calls", "em_refused")
 # What plays the worked rows, and where they lie.
 ROWS, WORKED = TOP / "tests" / "worked_rows.rtt", TOP / "tests" / "worked"
-NAMED = (*RUN, "em_who")
 OF_THE_KIT = "bitflags clap anyhow rand_core rand_pcg"
 NAME = "em_branches"
 SECONDS = 900
 # A test of a run's bounds, which takes long.
 LEFT_OUT = ("takes_so_many_octets",)
-UNUSED = shutil.ignore_patterns("out", "must-fail", "alone", "wrong", "data", "proofs")
 
 MARKING = """//! Tells which branches are run.
 #![tactic(auto)]
@@ -98,13 +96,13 @@ void em_branch_is_run(uint32_t number) {
 }
 """
 
-# What em_calls does, where nothing refuses memory.
-CALLS = """//! What the program em_calls does.
-use crate::refused_calls::{NAMES, case};
+# What the cases of tests/tried do, where nothing refuses memory.
+ALL_CASES = """//! The cases of tests/tried.
+use crate::cases::{NAMES, case};
 use std::test::Fail;
 
 #[test]
-fn cases(rt: HostRuntime) -> Result<(), Fail> {
+fn all_cases(rt: HostRuntime) -> Result<(), Fail> {
     for name in NAMES {
         case(rt.alloc(), name)?;
     }
@@ -113,20 +111,26 @@ fn cases(rt: HostRuntime) -> Result<(), Fail> {
 """
 
 
-def all_below(names: tuple, uses: dict) -> list[str]:
-    return list(dict.fromkeys(one for name in names for dep in uses[name] for one in (*all_below((dep,), uses), dep)))
+def with_all_below(names: list[str], known: dict[str, list[str]]) -> list[str]:
+    return list(dict.fromkeys(one for name in names for one in (*with_all_below(known[name], known), name)))
+
+
+def named() -> list[str]:
+    """The crates that tests here may name: what tests/tried stands on."""
+    known = below()
+    return with_all_below([name for name in uses() if name in known], known)
 
 
 def tests_of_libraries(stands_on: list[str]) -> list[Path]:
     """Those of tests/library that name no other crates, and no other tests that do."""
-    known, found = below(), [*CALLING]
+    known, found = below(), []
     for file in FILES:
         named = {word for word in known if f"use {word}::" in file.read_text()}
         if file.stem != "lib" and named <= set(stands_on):
             found.append(file)
     while lacking := [one for one in found if imported(one) - {other.stem for other in found}]:
         found = [one for one in found if one not in lacking]
-    return [one for one in found if one not in CALLING]
+    return found
 
 
 def imported(file: Path) -> set[str]:
@@ -135,8 +139,8 @@ def imported(file: Path) -> set[str]:
 
 def sums() -> dict[str, str]:
     """A sum of each crate that is looked at, and of each thing that is run for it."""
-    parts = {f"crates/{name}/src": sorted((CRATES / name / "src").glob("*.rt")) for name in LOOKED_AT + RUN}
-    parts |= {str(file.relative_to(TOP)): [file] for file in tests_of_libraries(all_below(NAMED, below()))}
+    parts = {f"crates/{name}/src": sorted((CRATES / name / "src").glob("*.rt")) for name in LOOKED_AT}
+    parts |= {str(file.relative_to(TOP)): [file] for file in [*CASES, *tests_of_libraries(named())]}
     parts[str(ROWS.relative_to(TOP))] = [ROWS]
     for row in sorted(WORKED.glob("*/script")):
         parts[str(row.parent.relative_to(TOP))] = sorted(row.parent.iterdir())
@@ -153,9 +157,10 @@ class Look:
     def __init__(self, room: Path) -> None:
         self.branches: list[Branch] = []
         self.noted = room / "run"  # by the lines of C
-        self.stands_on = all_below(NAMED, below())
+        self.stands_on = named()
         for name in self.stands_on:
             shutil.copytree(CRATES / name, room / "crates" / name, ignore=UNUSED)
+        opened(room / "crates")
         for name in LOOKED_AT:
             self.mark(room / "crates" / name)
         self.make_marks(room / "crates" / MARKS)
@@ -181,18 +186,12 @@ class Look:
 
     def files(self) -> dict[str, str]:
         """The modules of the crate of tests, by name, and their text."""
-        calls = CRATES / "em_calls" / "src"
-        found = {file.stem: file.read_text() for file in calls.glob("*.rt") if file.stem not in ("main", "refusals")}
-        found["refused_calls"] = (calls / "refusals.rt").read_text()
-        found["calls"] = CALLS
-        for file in (CRATES / "em_refused" / "src").glob("*.rt"):
-            if file.stem != "lib":
-                found[f"refused_{file.stem}"] = file.read_text()
-        return found
+        run = [*CASES, *tests_of_libraries(self.stands_on)]
+        return {file.stem: file.read_text() for file in run} | {"all_cases": ALL_CASES}
 
     def make_tests(self) -> None:
         """A library with every test that needs no crate above these."""
-        files = self.files() | {file.stem: file.read_text() for file in tests_of_libraries(self.stands_on)}
+        files = self.files()
         files["rows"] = self.rows()
         for name, text in files.items():
             files[name] = re.sub(f"#\\[test\\]\nfn ({'|'.join(LEFT_OUT)})\\(", r"fn \1(", text)

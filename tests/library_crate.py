@@ -2,14 +2,16 @@
 so they are no `.rt` files, each of which rt wants proved."""
 from pathlib import Path
 
-from tally import CRATES, TOP
+from tally import TOP
 
 LIBRARY = TOP / "tests" / "library"
 EXAMPLES = TOP / "examples"
 FILES = sorted(LIBRARY.glob("*.rtt"))
 NAME = "em_tests"
-# What the tests of the driver's calls stand on: files of the program em_calls.
-CALLING = [CRATES / "em_calls" / "src" / f"{name}.rt" for name in "digest driven plan same setup".split()]
+# What the tests of the driver's calls stand on, which tests/tried calls too.
+CALLING = [LIBRARY / f"{name}.rtt" for name in "digest driven plan same setup".split()]
+# What these tests need of a crate that none of its calls gives, by the crate's name and file.
+INSIDE = sorted(LIBRARY.glob("inside/*/*.rtt"))
 # What bench/watch.py measures, whose tests are in `speed`.
 MEASURED = [TOP / "bench" / "speed" / f"{name}.rtt" for name in ("kind", "performs", "words")]
 # The lines that the test `shown` plays, and in `stdout` what they must give.
@@ -47,11 +49,20 @@ def told_in(crate: Path) -> Path:
     return crate / "told"
 
 
-def copied(to: Path) -> Path:
-    """The crate's folder, made below another."""
-    crate = to / NAME
+def opened(crates: Path) -> list[tuple[Path, str]]:
+    """Puts what these tests need of a crate behind its file, in copies of the crates; the files, and their text then."""
+    made = []
+    for inner in INSIDE:
+        file = crates / inner.parent.name / "src" / f"{inner.stem}.rt"
+        made.append((file, f"{file.read_text()}\n{inner.read_text()}"))
+        file.write_text(made[-1][1])
+    return made
+
+
+def copied(crate: Path) -> Path:
+    """The crate's folder, with its files."""
     (crate / "src").mkdir(parents=True)
-    for file in (*FILES, *CALLING, *MEASURED):
+    for file in (*FILES, *MEASURED):
         (crate / "src" / f"{file.stem}.rt").write_text(file.read_text())
     (crate / "src" / "examples.rt").write_text(examples())
     (crate / "src" / "shown_lines.rt").write_text(shown_lines(told_in(crate)))

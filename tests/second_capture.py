@@ -142,7 +142,7 @@ def packet(order: str, block: bytes, kind: int, interfaces: list) -> tuple[int, 
 
 
 def told(file: bytes) -> str:
-    """What em_captures tells of a capture."""
+    """What must be told of a capture."""
     reader = Reader(file)
     lines = []
     for original, octets, time in reader.packets:

@@ -712,7 +712,7 @@ def changes_told(name: str, sights: list[str]) -> list[str]:
 
 
 def who(script: str, ranges: list[tuple[int, int]], **settings) -> str:
-    """What em_who must tell of a script, with these ranges: address, number of octets."""
+    """What must be told of the changes of a script, with these ranges: address, number of octets."""
     session = Session(**settings)
     for number, line in enumerate(script.split("\n"), 1):
         words = [word for word in re.split("[ \t\r]+", line) if word]

@@ -6,6 +6,8 @@ from pathlib import Path
 
 TOP = Path(__file__).resolve().parent.parent
 CRATES = TOP / "crates"
+# The program of tests/tried, which tests/tried_program makes.
+TRIED = TOP / "tests" / "tried" / "out" / "em_tried"
 # Where a crate's wrong bodies lie.
 FOLDERS = ("must-fail", "alone", "wrong")
 
@@ -31,6 +33,14 @@ def program(crate: str = "em_bench") -> str:
         sys.exit(f"{named} is not there: {built_by} builds it")
     # a part may run it from another folder
     return str(Path(named).resolve())
+
+
+def tried() -> str:
+    """The program that a part is told to run, or that of tests/tried."""
+    named = Path(sys.argv[1] if sys.argv[1:] else TRIED)
+    if not named.is_file():
+        sys.exit(f"{named} is not there: tests/tried_program makes it")
+    return str(named.resolve())
 
 
 def run(words: list, script: bytes | None = None, **how) -> subprocess.CompletedProcess:

@@ -115,6 +115,22 @@ def functions_with(crate: Path, edit: Path) -> list[Function]:
     return list(found)
 
 
+def changes_others(crate: Path, edit: Path) -> bool:
+    """Whether the edit can change what is said of other functions than those whose bodies it changes: by anything but words or
+    functions that it puts before a function's head, or before that of an `impl`."""
+    for file, old, new in changes_of(edit):
+        text = (crate / file).read_text()
+        if text.count(old) != 1:
+            return True
+        lines, line = text.split("\n"), text[: text.index(old)].count("\n") + 1
+        inside = [it for it in functions_of(file, text) if it.first <= line <= it.last]
+        is_in_a_body = bool(inside) and has_begun(lines[inside[-1].first - 1 : line])
+        is_a_head = bool(FUNCTION.match(lines[line - 1]) or IMPL.match(lines[line - 1])) and new.endswith(old)
+        if not is_in_a_body and not is_a_head:
+            return True
+    return False
+
+
 def in_rounds(crate: Path, edits: list[Path]) -> list[dict[Function, Path]]:
     """The edits that can be tried together, in rounds of one edit a function."""
     rounds: list[dict[Function, Path]] = []
@@ -127,10 +143,36 @@ def in_rounds(crate: Path, edits: list[Path]) -> list[dict[Function, Path]]:
     return rounds
 
 
-def says_of(function: Function, said: str) -> str:
+def home_of(crate: Path, function: Function) -> str:
+    """The module by which the prover names a function: that of its type, where it has one, and else its own. The root has none."""
+    file = function.file
+    for path in sorted((crate / "src").glob("**/*.rt")) if function.type else []:
+        if re.search(rf"^(?:pub(?:\(\w+\))? )?(?:struct|enum) {function.type}\b", path.read_text(), re.M):
+            file = str(path.relative_to(crate))
+    return file.removeprefix("src/").removesuffix(".rt").removesuffix("lib").removesuffix("main").strip("/")
+
+
+def with_their_functions(crate: Path, edits: list[Path]) -> list[list[tuple[Path, list[Function]]]]:
+    """The edits with the functions whose check decides of each, in rounds: in one no function has two edits, and none changes
+    what is said of another's."""
+    rounds: list[list[tuple[Path, list[Function]]]] = []
+    for edit in edits:
+        functions = functions_with(crate, edit)
+        if not functions:
+            continue
+        is_apart = not changes_others(crate, edit)
+        free = next((some for some in rounds if is_apart and not changes_others(crate, some[0][0])
+                     and not {*functions} & {it for _, others in some for it in others}), None)
+        if free is None:
+            rounds.append(free := [])
+        free.append((edit, functions))
+    return rounds
+
+
+def says_of(crate: Path, function: Function, said: str) -> str:
     """What a check says against a function, or nothing: by the lines of its body, and of its proofs."""
     notes = [text for file, line, text in NOTE.findall(said) if file == function.file and function.first <= int(line) <= function.last]
-    module = function.file.removeprefix("src/").removesuffix(".rt").removesuffix("lib").removesuffix("main").strip("/")
+    module = home_of(crate, function)
     below = f"proofs/{module}/" if module else "proofs/"
     for path, text in ERROR.findall(said):
         if not path.startswith(below):
@@ -142,16 +184,16 @@ def says_of(function: Function, said: str) -> str:
     return notes[0] if notes else ""
 
 
-def module_of(function: Function) -> str:
-    """The module in which a function lies, as it stands before a name."""
-    module = function.file.removeprefix("src/").removesuffix(".rt").replace("/", "::")
-    return "" if module in ("lib", "main") else f"{module}::"
+def name_of(crate: Path, function: Function) -> str:
+    """What stands before a function's name, and its type's, where the prover names it."""
+    return "::".join([crate.name, *home_of(crate, function).split("/"), ""]).replace("::::", "::")
 
 
-def is_not_proved(crate: str, function: Function, said: str) -> bool:
+def is_not_proved(crate: Path, function: Function, said: str) -> bool:
     """Whether a check says that the function itself is not proved."""
+    before = name_of(crate, function)
     for name, verdict in VERDICT.findall(said):
-        rest = name.removeprefix(f"{crate}::{module_of(function)}")
+        rest = name.removeprefix(before)
         *of, last = rest.split("::")
         if rest != name and last == function.name and (not function.type or any(it.startswith(function.type) for it in of)):
             if not PROVED.match(verdict):
@@ -163,39 +205,29 @@ def judge_together(prover: Prover, crate: Path, edits: list[Path], by_function: 
     """By edit what the prover says against it, of those that some checks together refuse: by checks of the whole crate, or of
     the functions alone that have these edits. `crate` is a folder to change, in a copy of the crates with their libraries."""
     found: dict[str, str] = {}
-    left = in_rounds(crate, edits)
+    if by_function:
+        left = with_their_functions(crate, edits)
+    else:
+        left = [[(edit, [function]) for function, edit in some.items()] for some in in_rounds(crate, edits)]
     while left:
         some = left.pop()
-        said = checked(prover, crate, list(some.values()), only(crate.name, list(some)) if by_function else [])
+        words = only(crate, [it for _, functions in some for it in functions]) if by_function else []
+        said = checked(prover, crate, [edit for edit, _ in some], words)
         if not VERDICT.search(said) and len(some) > 1:
             half = len(some) // 2
-            left += [dict([*some.items()][:half]), dict([*some.items()][half:])]
-        for function, edit in some.items():
-            why = says_of(function, said)
-            if why and is_not_proved(crate.name, function, said):
-                found[edit.name] = f"{REFUSED}: {why}"
-    if by_function:
-        found |= judge_each(prover, crate, [edit for edit in edits if not function_of(crate, edit)])
-    return found
-
-
-def judge_each(prover: Prover, crate: Path, edits: list[Path]) -> dict[str, str]:
-    """The same of edits that lie in several functions: each by a check of its own, which must refuse one of these."""
-    found: dict[str, str] = {}
-    for edit in edits:
-        if functions := functions_with(crate, edit):
-            said = checked(prover, crate, [edit], only(crate.name, functions))
-            refused = [says_of(it, said) for it in functions if is_not_proved(crate.name, it, said)]
+            left += [some[:half], some[half:]]
+        for edit, functions in some:
+            refused = [says_of(crate, it, said) for it in functions if is_not_proved(crate, it, said)]
             if why := next(filter(None, refused), ""):
                 found[edit.name] = f"{REFUSED}: {why}"
     return found
 
 
-def only(crate: str, functions: list[Function]) -> list[str]:
+def only(crate: Path, functions: list[Function]) -> list[str]:
     """The words by which a check looks at these functions and at no others."""
     found = []
     for it in functions:
-        found += ["--only", f"{crate}::{module_of(it)}{f'{it.type}::' if it.type else ''}{it.name}"]
+        found += ["--only", f"{name_of(crate, it)}{f'{it.type}::' if it.type else ''}{it.name}"]
     return found
 
 

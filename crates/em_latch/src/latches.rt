@@ -56,17 +56,6 @@ impl Latches {
         Latches { words: [0; WORDS] }
     }
 
-    /// Latches whose counters all hold a value, which takes too many events to reach.
-    #[cfg(test)]
-    pub(crate) fn with_counters(value: u32) -> Latches {
-        let mut latches = Latches {
-            words: [value; WORDS],
-        };
-        latches.words[usize::from(CAUSES)] = 0;
-        latches.words[usize::from(MASK)] = 0;
-        latches
-    }
-
     /// Whether the register is one of these: the condition of `look`, `read` and `write`.
     #[inline(always)]
     pub fn holds(&self, reg: Reg) -> bool
