@@ -1,8 +1,11 @@
-# em_debug --addr2line: names the program counters that lines of a script come from, by binutils' addr2line. The program
-# that is proved starts no other one, so the script ./em_debug does it, into which this is read.
+# --addr2line of em_debug and em_page: names the program counters that lines of a script come from, by binutils'
+# addr2line. The programs that are proved start no other one, so the scripts ./em_debug and ./em_page do it, into which
+# this is read. Such a script has set `top`, its name as `me`, the program that plays the script as `player`, and `stdin`
+# to yes where that takes a script from standard input whatever the other words are. Where it has a folder of its own in
+# `room`, which it removes at its end, the files that are made lie there.
 #
-#   bash addr2line.bash PATH NAME PROGRAM WORD ..    runs a program whose script lies at PATH; what it says of that on
-#                                                    standard error is said of NAME
+#   bash addr2line.bash PLAYER PATH NAME PROGRAM WORD ..   runs a program whose script lies at PATH; what PLAYER says of
+#                                                          that on standard error is said of NAME
 #
 # It takes bash, coreutils, awk and addr2line, and /proc.
 
@@ -62,14 +65,14 @@ END { if (ends) printf "\n" }
 '
 
 refuse() {
-  printf 'em_debug: %s\n' "$2" >&2
+  printf '%s: %s\n' "$me" "$2" >&2
   exit "$1"
 }
 
-# Sets `words` to the words without the option, and where one of those is the script, `path` and `name` to a file with
-# names in it and to that word: `through` then has what says so.
+# Sets `words` to the words without the option, and where one of those is the script, that word to a file with names in
+# it: `through` then has what says the script's own name of it.
 with_names() {
-  local script='' scripts=0 at=0 capture='' program='' is_read='' asks=''
+  local script='' scripts=0 at=0 capture='' program='' is_read=${stdin-} asks=''
   words=()
   take_words "$@"
   # (a word may have those letters within it)
@@ -77,11 +80,11 @@ with_names() {
   [ "$scripts" -gt 0 ] || refuse 2 "--addr2line wants a script"
   local base='' type=''
   take_program
-  # what em_debug refuses, it says best
+  # what the player refuses, it says best
   is_left || put_names
 }
 
-# Takes the words apart as em_debug does, up to one that asks for help or the version.
+# Takes the words apart as the players do, up to one that asks for help or the version.
 take_words() {
   local word
   while [ $# -gt 0 ]; do
@@ -99,7 +102,7 @@ take_words() {
     esac
     words+=("$word")
     case $word in
-    -x | --pcap | --memory | --budget | --mac)
+    -x | --pcap | --memory | --base | --budget | --mac)
       [ "$word" != --pcap ] || capture=${1-}
       [ $# = 0 ] || { words+=("$1") && shift; }
       ;;
@@ -134,7 +137,7 @@ take_program() {
   esac
 }
 
-# Whether the script is em_debug's alone: it is not there, or the words do not go with it.
+# Whether the script is the player's alone: it is not there, or the words do not go with it.
 is_left() {
   [ "$scripts" = 1 ] || return 0
   if [ "$script" = - ]; then
@@ -146,54 +149,54 @@ is_left() {
 
 # Writes the script with names into a file that has no name any more, so that it goes with the last process that has it.
 put_names() {
-  local room no_file="--addr2line: a temporary file cannot be written"
-  room=$(mktemp -d 2>/dev/null) || refuse 3 "$no_file"
-  trap 'rm -rf -- "$room"' EXIT
-  if [ "$script" = - ]; then cat; else cat <"$script"; fi >"$room/script" 2>/dev/null || refuse 3 "$no_file"
+  local desk no_file="--addr2line: a temporary file cannot be written"
+  desk=$(mktemp -d ${room:+-p "$room"} 2>/dev/null) || refuse 3 "$no_file"
+  [ "${room-}" ] || trap 'rm -rf -- "$desk"' EXIT
+  if [ "$script" = - ]; then cat; else cat <"$script"; fi >"$desk/script" 2>/dev/null || refuse 3 "$no_file"
   ask_names || refuse 3 "--addr2line $program: addr2line cannot read it"
-  if [ -s "$room/answers" ]; then
+  if [ -s "$desk/answers" ]; then
     name_counters || refuse 3 "$no_file"
   else
-    mv -- "$room/script" "$room/named"
+    mv -- "$desk/script" "$desk/named"
   fi
-  exec 9<"$room/named"
-  rm -rf -- "$room"
-  trap - EXIT
+  exec 9<"$desk/named"
+  rm -rf -- "$desk"
+  [ "${room-}" ] || trap - EXIT
   words[at]=/dev/fd/9
-  through+=("$BASH" "$top/addr2line.bash" /dev/fd/9 "$script")
+  through+=("$BASH" "$top/addr2line.bash" "$player" /dev/fd/9 "$script")
 }
 
 # Asks for all counters of the script at once: `keys` has those that were asked for, `answers` what was answered.
 ask_names() {
   local key number keys=() numbers=() least=$((1 << 63)) from=$((16#${base:-0}))
-  LC_ALL=C awk "$NAMER" part=script "$room/script" >"$room/counters" || refuse 3 "$no_file"
+  LC_ALL=C awk "$NAMER" part=script "$desk/script" >"$desk/counters" || refuse 3 "$no_file"
   while read -r key; do
     number=$((16#$key))
     # (numbers have a sign here, and counters none)
     [ $((number ^ least)) -lt $((from ^ least)) ] || { keys+=("$key") && numbers+=($((number - from))); }
-  done <"$room/counters"
-  : >"$room/answers"
-  : >"$room/keys"
+  done <"$desk/counters"
+  : >"$desk/answers"
+  : >"$desk/keys"
   [ ${#keys[@]} -gt 0 ] || return 0
-  printf '%s\n' "${keys[@]}" >"$room/keys"
-  printf '0x%x\n' "${numbers[@]}" >"$room/numbers"
-  addr2line -a -f -i -C -s -e "$program" ${type:+-j .text} <"$room/numbers" >"$room/answers" 2>/dev/null
+  printf '%s\n' "${keys[@]}" >"$desk/keys"
+  printf '0x%x\n' "${numbers[@]}" >"$desk/numbers"
+  addr2line -a -f -i -C -s -e "$program" ${type:+-j .text} <"$desk/numbers" >"$desk/answers" 2>/dev/null
 }
 
 name_counters() {
   local ends=0
-  [ "$(tail -c 1 -- "$room/script" | od -An -tx1)" != " 0a" ] || ends=1
-  LC_ALL=C awk -v ends="$ends" "$NAMER" part=keys "$room/keys" part=answers "$room/answers" part=named "$room/script" \
-    >"$room/named" 2>/dev/null
+  [ "$(tail -c 1 -- "$desk/script" | od -An -tx1)" != " 0a" ] || ends=1
+  LC_ALL=C awk -v ends="$ends" "$NAMER" part=keys "$desk/keys" part=answers "$desk/answers" part=named "$desk/script" \
+    >"$desk/named" 2>/dev/null
 }
 
 # Runs a program, and hands on what it says, with the name that the user gave in the place of its script's path.
 say_name() {
-  local path=$1 name=$2 line status
-  shift 2
+  local player=$1 path=$2 name=$3 line status
+  shift 3
   {
     "$@" 2>&1 >&3 3>&- | while IFS= read -r line || [ "$line" ]; do
-      [[ $line != "em_debug: $path: "* ]] || line="em_debug: $name: ${line#"em_debug: $path: "}"
+      [[ $line != "$player: $path: "* ]] || line="$player: $name: ${line#"$player: $path: "}"
       printf '%s\n' "$line" >&2
     done 3>&-
     status=${PIPESTATUS[0]}

@@ -34,7 +34,7 @@ newest_here noted (suc k) some = ap (λ b. cond b (suc k) (newest_line noted k))
 
 -- ---- lines, cut in two
 
-range-append : (a n m : ℕ) → range_with_len a (n + m) ≡ range_with_len a n ++ range_with_len (a + n) m
+pub range-append : (a n m : ℕ) → range_with_len a (n + m) ≡ range_with_len a n ++ range_with_len (a + n) m
 range-append a zero m = ap (range_with_len a) (zero-add m) ∙ ap (λ x. range_with_len x m) (sym (add-zero a))
 range-append a (suc n) m =
     let longer : suc n + m ≡ suc (n + m) = omega arith in

@@ -7,6 +7,7 @@ pub mod CameLaws
 pub mod DeeperLaws
 pub mod EffectLaws
 pub mod EventBefore
+pub mod ExcerptLaws
 pub mod ExpectingLaws
 pub mod FilesLaws
 pub mod HistoryLaws

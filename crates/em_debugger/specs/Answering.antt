@@ -19,6 +19,7 @@ use Rattle.em_debugger.specs.declared.debugger.Debugger.{Debugger}
 use Rattle.em_debugger.specs.Disk.{Deed}
 use Rattle.em_debugger.specs.Effect.{AnswersEffect, asked_event}
 use Rattle.em_debugger.specs.Engines.{engines_are, steps_of}
+use Rattle.em_debugger.specs.Excerpt.{excerpt_text}
 use Rattle.em_debugger.specs.Files.{Saves}
 use Rattle.em_debugger.specs.Offers.{ArrivesAll, ArrivesNext, Loads, SavesFrames}
 use Rattle.em_debugger.specs.History.{ShowsHistory}
@@ -38,6 +39,7 @@ warnings_are false = codes "warnings are off\n"
 -- what is shown of a debugger
 abbrev pub Shows : Debugger → Shown → List ℕ → Type 0
 Shows d (shown.Look reg) text = text ≡ register_text d.tape.session.machine.present reg
+Shows d (shown.List lines) text = text ≡ excerpt_text d lines
 Shows d (shown.History most) text = ShowsHistory d most text
 Shows d (shown.Effect event) text = AnswersEffect d (asked_event event d.tape) text
 Shows d (shown.Ring side) text = text ≡ ring_text d.tape.session.machine.present side

@@ -10,6 +10,7 @@ pub mod Departures
 pub mod Disk
 pub mod Effect
 pub mod Engines
+pub mod Excerpt
 pub mod Expected
 pub mod Files
 pub mod History

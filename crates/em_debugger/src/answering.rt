@@ -116,6 +116,7 @@ impl Debugger {
         let machine = self.tape.machine();
         match shown {
             Shown::Look(reg) => show_register(writer, machine, reg),
+            Shown::List(lines) => self.excerpt(writer, lines),
             Shown::History(most) => self.history(writer, most),
             Shown::Effect(event) => self.effect(writer, event),
             Shown::Ring(side) => show_ring(writer, machine, side),

@@ -342,7 +342,7 @@ fn most_of(typed: Option<u32>) -> usize
 }
 
 /// Writes that no line up to the place did something, where the newest is none.
-fn write_start<W: Write>(writer: &mut W, here: usize) -> Result<(), WriteFailed>
+pub(crate) fn write_start<W: Write>(writer: &mut W, here: usize) -> Result<(), WriteFailed>
     ensures writes { Writes (W.contents writer.old) (W.contents writer.new) result (start_text here) }
 {
     if here == 0 {
@@ -367,7 +367,7 @@ fn write_number_of_line<W: Write>(
 }
 
 /// What marks the line at the place.
-fn mark(line: usize, here: usize) -> &'static [u8]
+pub(crate) fn mark(line: usize, here: usize) -> &'static [u8]
     ensures { result.now ≡ mark_text here line }
 {
     if line == here { b"> " } else { b"  " }

@@ -15,6 +15,7 @@ mod departures;
 mod disk;
 mod effect;
 mod engines;
+mod excerpt;
 mod expected;
 mod files;
 mod history;

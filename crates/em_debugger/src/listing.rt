@@ -89,7 +89,10 @@ fn write_numbered<W: Write>(writer: &mut W, number: usize, line: &[u8]) -> Resul
 }
 
 /// Writes a number at the right of its columns, and two blanks.
-fn write_number_column<W: Write>(writer: &mut W, number: usize) -> Result<(), WriteFailed>
+pub(crate) fn write_number_column<W: Write>(
+    writer: &mut W,
+    number: usize,
+) -> Result<(), WriteFailed>
     ensures writes { Writes (W.contents writer.old) (W.contents writer.new) result (numbers_text number) }
 {
     let mut digits = Buffer::new();

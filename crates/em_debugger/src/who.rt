@@ -43,10 +43,7 @@ impl Debugger {
         ensures ok { OnOk result ((text : List ℕ) × Appends (W.contents writer.old) (W.contents writer.new) text
             × AnswersWho self.old self.new typed which text) }
     {
-        match watch_of(typed) {
-            Some(watch) => self.who_watched(writer, watch, which),
-            None => write_whole(writer, b"who: LEN is 1 to 16\n"),
-        }
+        self.who_watched(writer, watch_of(typed), which)
     }
 
     fn who_watched<W: Write>(

@@ -22,10 +22,6 @@ IsWatch typed.Link w = w ≡ watch.Link
 IsWatch typed.Frames w = w ≡ watch.Frames
 IsWatch typed.Sent w = w ≡ watch.Sent
 
--- nothing that is watched has such a length
-abbrev pub HasNoWatch : Typed → Type 0
-HasNoWatch t = (w : Watch) → IsWatch t w → ⊥
-
 -- the name of a watched thing: of octets their address
 abbrev pub watch_text : Watch → List ℕ
 watch_text (watch.Register reg) = name_of reg

@@ -39,6 +39,8 @@ row_of command.Load =
     (codes "load", codes "load FILE: puts the lines of a file behind the others, or offers the frames of a capture")
 row_of command.Save = (codes "save", codes "save FILE: writes the lines to a new file")
 row_of command.SaveOver = (codes "save!", codes "save! FILE: the same, over a file that is there")
+row_of command.List =
+    (codes "list", codes "list [LINE [LAST]]: shows lines of the script: around the place or LINE, or from LINE to LAST")
 row_of command.History = (codes "history", codes "history [N]: shows the newest N events")
 row_of command.Effect = (codes "effect", codes "effect [EVENT]: shows what an event changed")
 row_of command.Ring = (codes "ring", codes "ring rx|tx: shows the descriptors of a ring")
@@ -65,8 +67,8 @@ abbrev pub commands : List Command
 commands = command.Read ∷ command.Write ∷ command.Poke ∷ command.Peek ∷ command.Arrive ∷ command.Rx ∷ command.Tx ∷
     command.Link ∷ command.Init ∷ command.Send ∷ command.Recv ∷
     command.Stats ∷ command.Mac ∷ command.Turns ∷ command.Look ∷ command.Who ∷ command.Back ∷ command.Forward ∷
-    command.Goto ∷ command.Next ∷ command.Run ∷ command.Load ∷ command.Save ∷ command.SaveOver ∷ command.History ∷
-    command.Effect ∷ command.Ring ∷ command.Frame ∷ command.Memory ∷ command.Why ∷ command.Warnings ∷
+    command.Goto ∷ command.Next ∷ command.Run ∷ command.Load ∷ command.Save ∷ command.SaveOver ∷ command.List ∷
+    command.History ∷ command.Effect ∷ command.Ring ∷ command.Frame ∷ command.Memory ∷ command.Why ∷ command.Warnings ∷
     command.Auto ∷ command.Pcap ∷ command.PcapOver ∷ command.Help ∷ command.Quit ∷ []
 
 abbrev pub other_command : List ℕ → Option Command

@@ -16,6 +16,7 @@ use Rattle.em_prompt.specs.declared.number.Number.{Number}
 use Rattle.em_prompt.specs.declared.number.Number.TheVariants.{Peeked, Watched, Packets, Count, Line as LineNumber, Event, Index}
 use Rattle.em_prompt.specs.declared.says.Way.{Way}
 use Rattle.em_prompt.specs.declared.says.Way.TheVariants.{Back, Forward}
+use Rattle.em_prompt.specs.declared.typed.Lines.TheVariants.{Here, Around, Between}
 use Rattle.em_prompt.specs.declared.typed.Shown.TheVariants as shown
 use Rattle.em_prompt.specs.declared.typed.Until.TheVariants.{Refused, Dropped, Differs, Line, Changes}
 use Rattle.em_prompt.specs.declared.typed.Which.{Which}
@@ -31,7 +32,7 @@ use Rattle.em_prompt.specs.Told.{without_blanks}
 use Rattle.em_prompt.specs.Typed as typed
 use Rattle.em_prompt.specs.Typed.{Typed}
 use Rattle.em_prompt.specs.Value.{Offset, address_in, command_in, data_in, ethernet_in, frame_len_in, kept_number_in, known_in}
-use Rattle.em_prompt.specs.Value.{number_in, offset_in, shown_address_in, side_in, switch_in, value_in, watch_in, way_in}
+use Rattle.em_prompt.specs.Value.{last_line_in, number_in, offset_in, shown_address_in, side_in, switch_in, value_in, watch_in, way_in}
 use Rattle.em_prompt.specs.Value.{which_in, within}
 use Rattle.em_prompt.specs.Word.{hex_address_in}
 
@@ -227,6 +228,17 @@ file_in rest (word ∷ words) = Ok (without_blanks rest)
 abbrev pub file_of : (List ℕ → Typed) → List ℕ → Result Typed Fault
 file_of said rest = with (file_in rest (words_of rest)) (λ name. Ok (said name))
 
+-- LINE alone, or LINE LAST
+abbrev pub lines_from : ℕ → List (List ℕ) → Result Typed Fault
+lines_from line words =
+    one_or (typed.show (shown.List (Around line))) (last_line_in line) (λ last. typed.show (shown.List (Between line last)))
+    words
+
+-- list, list LINE, list LINE LAST
+abbrev pub list_of : List (List ℕ) → Result Typed Fault
+list_of [] = Ok (typed.show (shown.List Here))
+list_of (word ∷ words) = with (number_in LineNumber word) (λ line. lines_from line words)
+
 -- history, history N; effect, effect EVENT; frame, frame I
 abbrev pub history_of : List (List ℕ) → Result Typed Fault
 history_of words = with (number_if Count words) (λ most. alone (typed.show (shown.History most.0)) most.1)
@@ -288,6 +300,7 @@ says command.Save rest = file_of typed.save rest
 says command.SaveOver rest = file_of typed.save_over rest
 says command.Pcap rest = file_of typed.pcap rest
 says command.PcapOver rest = file_of typed.pcap_over rest
+says command.List rest = list_of (words_of rest)
 says command.History rest = history_of (words_of rest)
 says command.Effect rest = effect_of (words_of rest)
 says command.Ring rest = ring_of (words_of rest)

@@ -12,7 +12,7 @@ use Rattle.em_regs.specs.declared.reg.Reg.{Reg}
 use Rattle.em_regs.specs.Table.{offset_of, reg_at}
 use Rattle.em_prompt.specs.declared.command.Command.{Command}
 use Rattle.em_prompt.specs.declared.kind.Choice.TheVariants.{Way, Side as OfSides, More, Switch}
-use Rattle.em_prompt.specs.declared.kind.Kind.TheVariants.{Value, Address, Data, Ethernet, FrameLen, Number as OfNumber}
+use Rattle.em_prompt.specs.declared.kind.Kind.TheVariants.{Value, Address, Data, Ethernet, FrameLen, LastLine, Number as OfNumber}
 use Rattle.em_prompt.specs.declared.kind.Kind.TheVariants.{Choice}
 use Rattle.em_prompt.specs.declared.number.Number.{Number}
 use Rattle.em_prompt.specs.declared.typed.Side.{Side}
@@ -148,6 +148,10 @@ kept_number_in number word = kept_as word (number_in number word)
 abbrev pub frame_len_in : List ℕ → List ℕ → Result (List ℕ) Fault
 frame_len_in before word =
     kept_as word (or_fault (no FrameLen) (between (length (data_digits before) / 2) 32_768 (decimal_number word)))
+
+-- the last of several lines, of which this is the first
+abbrev pub last_line_in : ℕ → List ℕ → Result ℕ Fault
+last_line_in line word = or_fault (no LastLine) (between line 9_999_999 (decimal_number word))
 
 -- what is watched, in one word
 abbrev pub watch_in : List ℕ → Result Watch Fault

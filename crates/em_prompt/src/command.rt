@@ -36,6 +36,7 @@ pub enum Command {
     Load,
     Save,
     SaveOver,
+    List,
     History,
     Effect,
     Ring,
@@ -83,6 +84,8 @@ macro_rules! table {
             Load, "load", "load FILE: puts the lines of a file behind the others, or offers the frames of a capture";
             Save, "save", "save FILE: writes the lines to a new file";
             SaveOver, "save!", "save! FILE: the same, over a file that is there";
+            List, "list",
+                "list [LINE [LAST]]: shows lines of the script: around the place or LINE, or from LINE to LAST";
             History, "history", "history [N]: shows the newest N events";
             Effect, "effect", "effect [EVENT]: shows what an event changed";
             Ring, "ring", "ring rx|tx: shows the descriptors of a ring";

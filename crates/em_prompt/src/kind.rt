@@ -46,6 +46,8 @@ pub enum Kind {
     File,
     /// The name of a command.
     Name,
+    /// The last of several lines, by its number.
+    LastLine,
     /// A number in decimal digits.
     Number(Number),
     /// One of a few words.
@@ -68,6 +70,7 @@ impl Kind {
             Kind::Watch => "WATCH",
             Kind::File => "FILE",
             Kind::Name => "a command",
+            Kind::LastLine => "LAST",
             Kind::Number(Number::Peeked) | Kind::Number(Number::Watched) => "LEN",
             Kind::Number(Number::Packets) => "N",
             Kind::Number(Number::Count) => "a count",
@@ -93,6 +96,7 @@ impl Kind {
             Kind::Data => " is octets, of two hexadecimal digits each",
             Kind::Ethernet => " is 6 octets",
             Kind::FrameLen => " is at most 32768, and not below DATA's octets",
+            Kind::LastLine => " is at most 9999999, and not below LINE",
             Kind::Turn => " is rx, tx, ., arrive:DATA or arrive:DATA:LEN",
             Kind::Number(Number::Peeked) => " is 1 to 16384",
             Kind::Number(Number::Watched) => " is 1 to 16",

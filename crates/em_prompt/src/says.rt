@@ -7,8 +7,8 @@ ghost use Rattle.em_prompt.specs.Kept.{behind_text};
 ghost use Rattle.em_prompt.specs.Typed.{plain as plain_typed};
 ghost use Rattle.em_prompt.specs.Value.{file_so, read_with};
 ghost use Rattle.em_prompt.specs.Says.{plain, arrive_of, auto_of, bench, changes_of, effect_of, file_in, frame_line, frame_of};
-ghost use Rattle.em_prompt.specs.Says.{goto_of, help_of, history_of, line_or_changes, link_of, look_of, mac_of, memory_of, move_of, moves_by};
-ghost use Rattle.em_prompt.specs.Says.{moves_to, next_of, number_if, peek_of, plan_of, poke_of, read_of, recv_of, ring_of};
+ghost use Rattle.em_prompt.specs.Says.{goto_of, help_of, history_of, lines_from, line_or_changes, link_of, list_of, look_of, mac_of, memory_of};
+ghost use Rattle.em_prompt.specs.Says.{move_of, moves_by, moves_to, next_of, number_if, peek_of, plan_of, poke_of, read_of, recv_of, ring_of};
 ghost use Rattle.em_prompt.specs.Says.{run_of, says, send_of, until_of, warnings_of, watch_at, which_if, who_of, write_of};
 
 use crate::bench_line::BenchLine;
@@ -18,12 +18,13 @@ use crate::kept::KeptWords;
 use crate::kind::{Choice, Kind};
 use crate::number::Number;
 use crate::told::without_blanks;
-use crate::typed::{Shown, Typed, Until, Which};
+use crate::typed::{Lines, Shown, Typed, Until, Which};
 use crate::value::{
-    address_in, command_in, data_in, ethernet_in, frame_len_in, known_in, offset_in,
+    address_in, command_in, data_in, ethernet_in, frame_len_in, known_in, last_line_in, offset_in,
     shown_address_in, side_in, switch_in, value_in, watch_in, way_in, which_in,
 };
 use crate::watch::Watch;
+use crate::watched_len::WatchedLen;
 use crate::word::hex_address_in;
 use crate::words::{alone, next};
 use em_line::turns_form;
@@ -93,6 +94,7 @@ pub(crate) fn says<'a>(command: Command, words: Words<'a>) -> Result<Typed<'a>, 
         Command::SaveOver => Ok(Typed::SaveOver(file_in(words)?)),
         Command::Pcap => Ok(Typed::Pcap(file_in(words)?)),
         Command::PcapOver => Ok(Typed::PcapOver(file_in(words)?)),
+        Command::List => list_of(words),
         Command::History => history_of(words),
         Command::Effect => effect_of(words),
         Command::Ring => ring_of(words),
@@ -277,7 +279,7 @@ fn watch_at<'a>(word: &'a [u8], words: &mut Words<'a>) -> Result<Watch, Fault<'a
     let Some(address) = hex_address_in(word) else {
         return watch_in(word);
     };
-    let len = Number::Watched.of(next(words, Kind::Number(Number::Watched))?)?;
+    let len = WatchedLen::of(next(words, Kind::Number(Number::Watched))?)?;
     Ok(Watch::Octets(address, len))
 }
 
@@ -391,6 +393,32 @@ fn file_in<'a>(words: Words<'a>) -> Result<&'a [u8], Fault<'a>>
         Err(Fault::Missing(Kind::File))
     } else {
         Ok(without_blanks(words.0))
+    }
+}
+
+/// list, list LINE, list LINE LAST
+fn list_of<'a>(mut words: Words<'a>) -> Result<Typed<'a>, Fault<'a>>
+    ensures { plain result ≡ list_of (words_of words.entry.0.now) }
+{
+    match words.next() {
+        None => Ok(Typed::Show(Shown::List(Lines::Here))),
+        Some(word) => {
+            let line = Number::Line.of(word)?;
+            lines_from(line, words)
+        }
+    }
+}
+
+/// LINE alone, or LINE LAST
+fn lines_from<'a>(line: u32, mut words: Words<'a>) -> Result<Typed<'a>, Fault<'a>>
+    ensures { plain result ≡ lines_from line (words_of words.entry.0.now) }
+{
+    match words.next() {
+        None => Ok(Typed::Show(Shown::List(Lines::Around(line)))),
+        Some(word) => {
+            let last = last_line_in(line, word)?;
+            alone(Typed::Show(Shown::List(Lines::Between(line, last))), words)
+        }
     }
 }
 

@@ -37,10 +37,23 @@ pub enum Until {
     Changes(Watch),
 }
 
+/// Which lines of a script.
+#[derive(Clone, Copy, PartialEq, Eq, Debug)]
+pub enum Lines {
+    /// Those around the place.
+    Here,
+    /// Those around the line of this number.
+    Around(u32),
+    /// Those from one number to another.
+    Between(u32, u32),
+}
+
 /// What is shown, and changes nothing.
 #[derive(Clone, Copy, PartialEq, Eq, Debug)]
 pub enum Shown {
     Look(Reg),
+    /// Lines of the script.
+    List(Lines),
     History(Option<u32>),
     /// What an event changed: the newest one, or another.
     Effect(Option<u32>),

@@ -3,7 +3,7 @@ ghost use Rattle.std.specs.Prelude.{◌≡◌};
 ghost use Rattle.em_prompt.specs.Fault.{plain as plain_fault};
 ghost use Rattle.em_prompt.specs.Kept.{kept_text};
 ghost use Rattle.em_prompt.specs.Value.{read_so, kept_so, offset_so, address_in, command_in, data_fault, data_in};
-ghost use Rattle.em_prompt.specs.Value.{ethernet_in, frame_len_in, known_in, offset_in, shown_address_in, side_in, switch_in};
+ghost use Rattle.em_prompt.specs.Value.{ethernet_in, frame_len_in, known_in, last_line_in, offset_in, shown_address_in, side_in, switch_in};
 ghost use Rattle.em_prompt.specs.Value.{value_in, watch_in, way_in, which_in};
 ghost use Rattle.em_prompt.specs.Word.{data_digits};
 ghost use Rattle.std.specs.List.{list_all};
@@ -14,6 +14,7 @@ use crate::command::Command;
 use crate::fault::Fault;
 use crate::kept::Kept;
 use crate::kind::{Choice, Kind};
+use crate::number::Number;
 use crate::register::{known, named};
 use crate::typed::{Side, Which};
 use crate::watch::{Watch, watched};
@@ -161,6 +162,16 @@ pub(crate) fn frame_len_in<'a>(before: &[u8], word: &'a [u8]) -> Result<Kept<'a>
             Ok(Kept::Word(word))
         }
         _ => Err(Fault::No(Kind::FrameLen)),
+    }
+}
+
+/// The last of several lines, of which this is the first.
+pub(crate) fn last_line_in<'a>(line: u32, word: &'a [u8]) -> Result<u32, Fault<'a>>
+    ensures { read_so result ≡ last_line_in line word.now }
+{
+    match decimal_number(word) {
+        Some(last) if line <= last && last <= Number::Line.most() => Ok(last),
+        _ => Err(Fault::No(Kind::LastLine)),
     }
 }
 

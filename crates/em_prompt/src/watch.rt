@@ -3,6 +3,7 @@ ghost use Rattle.std.specs.Prelude.{◌≡◌};
 ghost use Rattle.em_prompt.specs.Watch.{watched};
 
 use crate::register::named;
+use crate::watched_len::WatchedLen;
 use em_regs::Reg;
 use em_text::is_name;
 
@@ -11,7 +12,7 @@ use em_text::is_name;
 pub enum Watch {
     Register(Reg),
     /// So many octets of guest memory, from an address on.
-    Octets(u64, u32),
+    Octets(u64, WatchedLen),
     /// The interrupt line.
     Line,
     /// The link.
