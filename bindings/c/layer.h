@@ -67,6 +67,11 @@ typedef struct kept {
   const char *name; /* where the next calls come from: a line of this file, */
   uint32_t line;
   uint64_t counter; /* or else this program counter, where it is not 0 */
+  uint64_t lines;   /* how many lines there are */
+  uint64_t *sent;   /* of each frame that was sent, the number of the line that sent it, */
+  size_t known;     /* so many, */
+  size_t room;      /* with room for so many */
+  bool unknown;     /* of some that is not known, since memory was refused */
   kept_text text;
 } kept;
 

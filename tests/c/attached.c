@@ -57,7 +57,8 @@ static bool is_busy(em_machine *m) {
   }
   em_free(m);
   return em_look(m, STATUS, &value) == EM_OK && value == 0x83 && em_peek(m, 0, octets, 1) == EM_OK
-    && em_memory_size(m, &size) == EM_OK && em_can_go_back(m, &n) == EM_OK && em_written(m, 0, ranges) == EM_OK;
+    && em_memory_size(m, &size) == EM_OK && em_can_go_back(m, &n) == EM_OK && em_written(m, 0, ranges) == EM_OK
+    && em_pcap_write(m, "/dev/null", NULL) == EM_OK;
 }
 
 static bool read_there(void *context, uint64_t address, uint8_t *out, size_t length) {

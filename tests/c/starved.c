@@ -1,6 +1,6 @@
 /* Each request for memory of each call is refused in turn, once alone and once with all after it: the call that was
    refused has left the machine as it was, and the same call with memory does what it should. All other calls ask for no
-   memory. The last line is `N passed, M failed`. */
+   memory; of captures captures.c tries it. The last line is `N passed, M failed`. */
 #include "harness.h"
 
 #include <stdlib.h>

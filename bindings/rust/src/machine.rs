@@ -616,6 +616,32 @@ impl Machine {
         Frames { machine: self, next: 0 }
     }
 
+    /// Writes the frames that were sent to a file as a capture, pcap, the first one first; one that is there is
+    /// replaced, whole or not at all. A frame's time is the number of the line that sent it, where the run is kept, and
+    /// else its own number, from 1 on, in microseconds. Where the file can't be written it is refused as
+    /// [`Refusal::File`], and `std::io::Error::last_os_error` says why.
+    #[cfg(feature = "std")]
+    pub fn write_pcap<P: AsRef<std::path::Path>>(&self, path: P) -> Result<(), Refusal> {
+        self.write_capture(path.as_ref(), core::ptr::null())
+    }
+
+    /// The same with the time of each frame, in nanoseconds since 1970 began.
+    ///
+    /// # Panics
+    ///
+    /// Where they are not as many as the frames.
+    #[cfg(feature = "std")]
+    pub fn write_pcap_at<P: AsRef<std::path::Path>>(&self, path: P, nanoseconds: &[u64]) -> Result<(), Refusal> {
+        assert_eq!(nanoseconds.len(), self.wire_count(), "each frame that was sent has a time");
+        self.write_capture(path.as_ref(), nanoseconds.as_ptr())
+    }
+
+    #[cfg(feature = "std")]
+    fn write_capture(&self, path: &std::path::Path, nanoseconds: *const u64) -> Result<(), Refusal> {
+        let path = crate::record::c_path(path).ok_or(Refusal::File)?;
+        told(unsafe { raw::em_pcap_write(self.handle.get(), path.as_ptr(), nanoseconds) }, ())
+    }
+
     /// Takes the newest `n` events back, or as many as the journal holds; gives how many. Where memory is attached that
     /// can refuse to be written, [`try_back`](Machine::try_back) tells of it.
     #[track_caller]

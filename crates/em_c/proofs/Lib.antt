@@ -6,3 +6,5 @@ pub mod DifferenceLaws
 pub mod SyncLaws
 pub mod WarningLaws
 pub mod DifferencesLaws
+pub mod FramesForm
+pub mod PcapLaws

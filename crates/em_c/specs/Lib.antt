@@ -32,3 +32,6 @@ pub mod Told
 pub mod Fields
 pub mod Differences
 pub mod Sized
+pub mod Pcap
+pub mod SealedFrames
+pub mod Sent
