@@ -8,6 +8,8 @@ from pathlib import Path
 from typing import NamedTuple
 
 TOP = Path(__file__).resolve().parent.parent
+# Of a machine, and of a capture.
+HANDLES = ("EmMachine", "EmPcap")
 
 
 class Refusal(NamedTuple):
@@ -144,18 +146,18 @@ def troubles(top: Path) -> list[tuple[str, int, str]]:
 
 
 def layouts(top: Path) -> list[Layout]:
-    """What is laid out as in C, but for the handle, whose inner is nobody's business, and the text of a kept run's lines,
-    which no caller sees."""
+    """What is laid out as in C, but for the handles, whose inner is nobody's business, and the text of a kept run's
+    lines, which no caller sees."""
     made, wanted = [], 0
     for file in sorted((top / "crates/em_c/src").glob("*.rt")):
         wanted += file.read_text().count("#[repr(C)]")
         pattern = r"((?:^///[^\n]*\n)*)#\[repr\(C\)\]\n(?:#\[[^\n]*\n)*pub struct (Em\w+) \{(.*?)\n\}"
         for docs, name, body in re.findall(pattern, file.read_text(), re.M | re.S):
             fields = re.findall(r"((?:\s*///[^\n]*\n)*)\s*pub (\w+): ([^,]+),", body)
-            if name != "EmMachine":
+            if name not in HANDLES:
                 made.append(Layout(name, [Field(it, kind, docs_of(said)) for said, it, kind in fields], docs_of(docs)))
-    # (the handle, its inner and that text are the three that callers see nothing of)
-    if len(made) != wanted - 3:
+    # (each handle with its inner, and that text, callers see nothing of)
+    if len(made) != wanted - 2 * len(HANDLES) - 1:
         raise SystemExit("some layout can't be read: its form has changed, and bindings/crate.py has to follow it")
     return made
 

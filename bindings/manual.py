@@ -18,7 +18,7 @@ CALL = re.compile(r"^(?:EM_CHECKED em_code |void |const char \*)(em_\w+)\(.*?\);
 DECLARED = re.compile(r"^(?!static|typedef)\w[\w *]*?\b(em_\w+)\(", re.M)
 TYPE = re.compile(r"^typedef (?:struct|enum) (em_\w+) \{.*?^\} \1;", re.M | re.S)
 # Types of which bunjelav.3 tells.
-COMMON = {"em_machine", "em_code"}
+COMMON = {"em_machine", "em_code", "em_pcap"}
 
 
 class Part(NamedTuple):

@@ -8,7 +8,7 @@
 Whole files are _tables.py and _refusals.py of bindings/python/bunjelav, tables.rs and raw.rs of bindings/rust/src, and
 texts.c and exports.map of bindings/c. In bunjelav.h only the numbers, the fields and the types are written: comments and
 the names of parameters stay as they are there. Of bunjelav.pc, Cargo.toml, pyproject.toml and page/page.html it is the
-version. What the C of bindings/c has of its own, eight calls and three layouts, is written for Rust and Python of what
+version. What the C of bindings/c has of its own, ten calls and four layouts, is written for Rust and Python of what
 stands below, and compared in bunjelav.h.
 """
 import os
@@ -33,6 +33,8 @@ OWN_CALLS = (
     "em_record_mapped(em_machine *machine, const char *path);",
     "em_recording_status(em_machine *machine, int *error);",
     "em_source(em_machine *machine, const char *file, uint32_t line);",
+    "em_pcap_write(const em_machine *machine, const char *path, const uint64_t *nanoseconds);",
+    "em_pcap_open(em_pcap *pcap, const char *path);",
 )
 # Of these the ones that give a text.
 OWN_TEXTS = (
@@ -46,6 +48,8 @@ RUST_OWN_CALLS = (
     "em_record_mapped(machine: *mut Handle, path: *const c_char) -> u32;",
     "em_recording_status(machine: *mut Handle, error: *mut c_int) -> u32;",
     "em_source(machine: *mut Handle, file: *const c_char, line: u32) -> u32;",
+    "em_pcap_write(machine: *const Handle, path: *const c_char, nanoseconds: *const u64) -> u32;",
+    "em_pcap_open(pcap: *mut Pcap, path: *const c_char) -> u32;",
     "em_strerror(code: u32) -> *const c_char;",
     "em_version() -> *const c_char;",
 )
@@ -56,6 +60,8 @@ PYTHON_OWN_CALLS = (
     '"em_record_mapped": [POINTER(Handle), c_char_p],',
     '"em_recording_status": [POINTER(Handle), POINTER(c_int)],',
     '"em_source": [POINTER(Handle), c_char_p, c_uint32],',
+    '"em_pcap_write": [POINTER(Handle), c_char_p, POINTER(c_uint64)],',
+    '"em_pcap_open": [POINTER(Pcap), c_char_p],',
     '"em_strerror": [c_uint32],',
     '"em_version": [],',
 )
@@ -70,6 +76,7 @@ C_OF_ATTACH = {
               "bool (*write)(void *context, uint64_t address, const uint8_t *octets, size_t length); "
               "const em_region *regions; size_t count;",
     "em_machine": "bool made; void *held; em_ram ram; uint32_t state;",
+    "em_pcap": "bool made; void *held;",
 }
 # Of fields of which the crate says nothing, since it says so of the layout: those of a register.
 SAID = {"offset": "Its offset.", "value": "What a read of it would give."}
@@ -328,6 +335,12 @@ pub(crate) struct Handle {
     pub held: *mut c_void,
     pub ram: Ram,
     pub state: u32,
+}
+
+#[repr(C)]
+pub(crate) struct Pcap {
+    pub made: bool,
+    pub held: *mut c_void,
 }""".split("\n")
 
 
@@ -437,7 +450,11 @@ class Ram(Structure):
 
 
 class Handle(Structure):
-    _fields_ = [("made", c_bool), ("held", c_void_p), ("ram", Ram), ("state", c_uint32)]""".split("\n")
+    _fields_ = [("made", c_bool), ("held", c_void_p), ("ram", Ram), ("state", c_uint32)]
+
+
+class Pcap(Structure):
+    _fields_ = [("made", c_bool), ("held", c_void_p)]""".split("\n")
 
 
 def python(made: Crate) -> str:
@@ -483,7 +500,8 @@ def python_refusals(made: Crate) -> str:
               "    # the refusal's number", "    number = 0",
               "    # of `run` how many steps, and of `sync_in` how many writes, went well before; they stay",
               "    # of `back` how many events were taken back", "    done = 0",
-              "    # of an event by which rule it was refused, as `Machine.why` says", "    why: object = None"]
+              "    # of an event by which rule it was refused, as `Machine.why` says", "    why: object = None",
+             "    # of what is wrong with a capture where in its file it is", "    offset = 0"]
     for it in made.refusals:
         lines += ["", "", f"class {it.name}(Refused):", f'    """{it.docs}"""', "", f"    number = {it.number}"]
     return "\n".join([*lines, ""])

@@ -8,7 +8,6 @@ class App {
   constructor(run) {
     this.run = run;
     this.state = run.state;
-    this.start = run.root.snapshot.registers;
     /** @type {number} the place in the run: a step */
     this.step = run.steps.length - 1;
     this.state.goTo(this.place);
@@ -35,10 +34,6 @@ class App {
   /** Whether the present step performed the event of its place, so that what it changed is lit. */
   get changes() {
     return this.run.steps[this.step].performs;
-  }
-
-  startValue(name) {
-    return this.start[INDEX_OF.get(name)];
   }
 
   /** Goes to a step, which is brought within the run. @param {number} line the line to light, if not the step's own */
@@ -197,7 +192,7 @@ function tellBroken(fault, run) {
 
 function begin() {
   readPalette();
-  const { run, fault } = readRecord(byId("record").textContent);
+  const { run, fault } = readRecord([...document.querySelectorAll("script.record")].map((part) => part.textContent));
   if (fault) tellBroken(fault, run);
   if (!run) return;
   const { base = 0, memory, budget, mac } = run.settings;

@@ -21,15 +21,9 @@ const MAPPED_LEAST = 65_536;
  * at a multiple of its size, a power of 2.
  * @returns {[number, number]}
  */
-function mappedRange(memory, steps) {
+function mappedRange(memory, touched) {
   if (memory.size <= MAPPED_WHOLE) return [memory.base, memory.end];
-  let [first, last] = [memory.end, memory.base];
-  for (const { place } of steps) {
-    for (const [address, before] of place.memory) {
-      first = Math.min(first, address);
-      last = Math.max(last, address + before.length / 2 - 1);
-    }
-  }
+  let [first, last] = [touched[0], touched[1] - 1];
   if (first > last) [first, last] = [memory.base, memory.base];
   let size = MAPPED_LEAST;
   while (Math.floor(first / size) !== Math.floor(last / size)) size *= 2;
@@ -53,7 +47,7 @@ class MemoryPanel {
   constructor(app) {
     this.app = app;
     ({ base: this.base, end: this.end } = app.state.memory);
-    [this.mapFrom, this.mapEnd] = mappedRange(app.state.memory, app.run.steps);
+    [this.mapFrom, this.mapEnd] = mappedRange(app.state.memory, app.run.touched);
     this.address = this.base;
     this.focus = this.base;
     this.map = byId("map");
@@ -122,14 +116,14 @@ class MemoryPanel {
   /** Shows what the newest event that changed memory did there. */
   showNewest() {
     let { place } = this.app;
-    while (place.before && !place.memory.length) place = place.before;
-    if (place.memory.length) this.show(place.memory[0][0]);
+    while (place.before && !place.writes) place = place.before;
+    if (place.writes) this.show(place.memory[0][0]);
   }
 
   /** Follows what the present step changed. */
   follow() {
     const { place, changes } = this.app;
-    if (!changes || !place.memory.length || !byId("follow").checked) return;
+    if (!changes || !place.writes || !byId("follow").checked) return;
     this.show(place.memory[0][0]);
   }
 

@@ -34,7 +34,7 @@ class Present {
     if (line && line.answer.length) parts.push(this.answer(now, line));
     if (line && line.differs) parts.push(make("p", { class: "note" }, `≠ ${visible(shortened(line.differs, 400))}`));
     if (line && line.source) parts.push(make("p", { class: "note" }, `@ ${visible(shortened(line.source, 400))}`));
-    if (now.performs && place.takenBack !== Infinity) {
+    if (now.performs && place.takenBack !== NEVER) {
       const by = run.steps[place.takenBack].line;
       parts.push(make("p", { class: "note" },
         `↶ line ${by} takes this event back${place.takenBack <= step ? "" : " later"}`));
@@ -83,17 +83,18 @@ class Present {
     const items = [];
     const item = (watch, name, before, after) => items.push(make("li", {}, askButton(watch, { class: "name" }, name),
       make("span", { class: "change" }, make("s", {}, before), " → ", make("b", {}, after))));
-    for (const [index, before, after] of place.registers) {
+    const { registers, interruptChange, linkChange, framesChange, gatheredChange, sent, memory } = place.change;
+    for (const [index, before, after] of registers) {
       item(`register ${REGISTERS[index][1]}`, REGISTERS[index][1], hex(before, 8), hex(after, 8));
     }
-    if (place.interruptChange) item("interrupt", "interrupt line",
-      ...place.interruptChange.map((on) => (on ? "1" : "0")));
-    if (place.linkChange) item("link", "link", ...place.linkChange.map((up) => (up ? "up" : "down")));
-    if (place.framesChange) item("frames", "frames in the FIFO", ...place.framesChange.map(String));
-    if (place.gatheredChange) item("gathered", "octets gathered", String(place.before.gathered.length / 2),
+    if (interruptChange) item("interrupt", "interrupt line",
+      ...interruptChange.map((on) => (on ? "1" : "0")));
+    if (linkChange) item("link", "link", ...linkChange.map((up) => (up ? "up" : "down")));
+    if (framesChange) item("frames", "frames in the FIFO", ...framesChange.map(String));
+    if (gatheredChange) item("gathered", "octets gathered", String(place.before.gathered.length / 2),
       String(place.gathered.length / 2));
-    if (place.sent !== null) item("sent", "frames sent", String(place.sending.count - 1), String(place.sending.count));
-    for (const [address, before] of place.memory) {
+    if (sent !== null) item("sent", "frames sent", String(place.sending.count - 1), String(place.sending.count));
+    for (const [address, before] of memory) {
       const count = before.length / 2;
       const after = digitsOf(state.memory.octets(address, count));
       item(`octets ${address} ${count}`, rangeText(address, count), shortened(before, 48), shortened(after, 48));

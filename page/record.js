@@ -24,20 +24,14 @@ class Broken extends Error {}
  * @property {boolean} performs whether it performed the event of its place
  * @property {number} back how many events it took back
  *
- * @typedef {Object} Line
- * @property {string[]} answer
- * @property {string|null} refused
- * @property {""|"refused"|"dropped"|"bad"|"differs"} mark
- * @property {string} differs how its answer differs from the one that it expects; empty where it does not
- * @property {string} source where it comes from; empty where it does not say so
- * @property {number} first the first of its steps, or the one at which it stands
- * @property {number} last
- *
  * @typedef {Object} Run
  * @property {{base: number|undefined, memory: number, budget: number, mac: string}} settings
  * @property {string[]} script
- * @property {Line[]} lines of the script, by number less 1; those that were not played are missing
+ * @property {PlayedLine[]} lines of the script, by number less 1; those that were not played are missing
  * @property {Step[]} steps
+ * @property {Numbers} icr ICR behind each step
+ * @property {Numbers} ims
+ * @property {[number, number]} touched the least part of memory that has each octet which an event changed
  * @property {Place} root
  * @property {State} state at the last place that was read
  * @property {boolean} ended
@@ -45,17 +39,28 @@ class Broken extends Error {}
 
 /**
  * Reads a record as far as it is whole.
- * @param {string} text
+ * @param {string[]} parts of its text
  * @returns {{run: Run|null, fault: string|null}} the run is null where not even its start can be read
  */
-function readRecord(text) {
+function readRecord(parts) {
+  const byLines = LineSource.of(parts);
+  const isShort = parts.reduce((sum, part) => sum + part.length, 0) <= MOST_AT_ONCE;
+  if (byLines) {
+    const read = readFrom(() => byLines);
+    if (!read.fault || !isShort) return read;
+  }
+  if (!isShort) return { run: null, fault: "it is not written line by line, and too long to be read so" };
+  return readFrom(() => new WholeSource(parts.join("")));
+}
+
+/** @param {() => Source} begin */
+function readFrom(begin) {
   let reader = null;
   try {
-    const { record, fault } = parsed(text);
-    reader = new Reader(record);
-    reader.lines(record.lines);
-    want(!fault, fault);
-    reader.end(record.end);
+    const source = begin();
+    reader = new Reader(source);
+    source.each((line, index) => reader.next(line, index));
+    reader.end(source.end());
     return { run: reader.run, fault: null };
   } catch (fault) {
     if (!(fault instanceof Broken)) throw fault;
@@ -67,58 +72,6 @@ function want(holds, words) {
   if (!holds) throw new Broken(words);
 }
 
-/** The record that a text is, or the front of one that was cut off, with what is wrong then. */
-function parsed(text) {
-  want(text.trim() !== "", "it is empty");
-  const whole = text.replace(/^\uFEFF/, "");
-  try {
-    return { record: isRecord(JSON.parse(whole)), fault: "" };
-  } catch (fault) {
-    if (fault instanceof Broken) throw fault;
-    const front = frontOf(whole);
-    want(front !== null, `it is cut off, or is not JSON (${shortened(visible(fault.message), 200)})`);
-    const line = front.lines.length ? `behind line ${front.lines[front.lines.length - 1].line}`
-      : "before its first line";
-    return { record: isRecord(front), fault: `it is cut off, or is not JSON, ${line} of its script` };
-  }
-}
-
-/** The front of a record that was cut off: up to the last whole line. Null where there is none. */
-function frontOf(text) {
-  const open = [];
-  let end = -1;
-  let inText = false;
-  for (let i = 0; i < text.length; i++) {
-    const mark = text[i];
-    if (inText) {
-      if (mark === "\\") i += 1;
-      else if (mark === '"') inText = false;
-    } else if (mark === '"') {
-      inText = true;
-    } else if (mark === "{" || mark === "[") {
-      open.push(mark);
-    } else if (mark === "}" || mark === "]") {
-      open.pop();
-      if (mark === "}" && open.join("") === "{[") end = i + 1;
-    }
-  }
-  try {
-    const front = JSON.parse(`${text.slice(0, end)}]}`);
-    return isObject(front) && Array.isArray(front.lines) ? front : null;
-  } catch {
-    return null;
-  }
-}
-
-function isRecord(record) {
-  want(isObject(record), "it is no JSON object");
-  want(record.format === FORMAT, `its format is not “${FORMAT}”`);
-  want(record.version === VERSION,
-    `its version is ${shortened(JSON.stringify(record.version) ?? "missing", 40)}, and this `
-    + `page reads version ${VERSION}`);
-  return record;
-}
-
 const isObject = (value) => typeof value === "object" && value !== null && !Array.isArray(value);
 const isNumber = (value, most) => Number.isInteger(value) && value >= 0 && value <= most;
 const isWord = (value) => isNumber(value, 0xFFFFFFFF);
@@ -126,10 +79,35 @@ const isDigits = (value) => typeof value === "string" && value.length % 2 === 0 
 const isTexts = (value) => Array.isArray(value) && value.every((text) => typeof text === "string");
 const isPair = (value, type) => Array.isArray(value) && value.length === 2 && value.every((one) => typeof one === type);
 
+/** A line that was played. What it answered is read again where it is shown. */
+class PlayedLine {
+  /** @param {Source} from @param {number} index where its record is @param {string} source where it comes from */
+  constructor(from, index, mark, source, first) {
+    this.from = from;
+    this.index = index;
+    /** @type {""|"refused"|"dropped"|"bad"|"differs"} */
+    this.mark = mark;
+    this.source = source;
+    /** The first of its steps, or the one at which it stands; and the last. */
+    this.first = first;
+    this.last = first;
+  }
+
+  get answer() {
+    return this.from.line(this.index).answer;
+  }
+
+  /** How its answer differs from the one that it expects; empty where it does not. */
+  get differs() {
+    return this.from.line(this.index).differs ?? "";
+  }
+}
+
 /** Reads the parts of a record, in their order; `run` is what was read so far. */
 class Reader {
-  constructor(record) {
-    const { settings, script, start } = record;
+  /** @param {Source} source */
+  constructor(source) {
+    const { settings, script, start } = source.record;
     want(isObject(settings) && isNumber(settings.memory, MOST_MEMORY) && settings.memory >= PAGE_OCTETS
       && settings.memory % PAGE_OCTETS === 0, "its size of memory is none that an adapter can have");
     const { base = 0 } = settings;
@@ -137,31 +115,32 @@ class Reader {
       "no adapter can have its memory where it lies");
     want(isTexts(script), "its script is no list of texts");
     const registers = startRegisters(start);
-    /** @type {Place} */
-    const root = {
-      number: 0, depth: 0, before: null, step: 0, line: 0, takenBack: Infinity, registers: [], memory: [], framesChange: null,
-      gatheredChange: null, sent: null, linkChange: null, interruptChange: null, frames: 0, gathered: "", link: false,
-      interrupt: false, arrival: null, sending: null, snapshot: null, text: "", access: 0,
-    };
+    this.source = source;
+    this.changes = new Changes(source);
+    const root = new Place(this.changes, null, 0);
     /** How many events the lines so far performed, those taken back since among them. */
     this.performed = 0;
+    /** The line that was read last, and where its record is. */
+    this.number = 0;
+    this.index = 0;
+    /** Each text of a source once. */
+    this.texts = new Map();
     /** @type {Run} */
     this.run = {
       settings, script, lines: [], root, state: new State(root, registers, new Memory(base, settings.memory)),
-      ended: false,
-      steps: [{ kind: "start", mark: "", line: 0, place: root, performs: false, back: 0 }],
+      ended: false, icr: new Numbers(Uint32Array), ims: new Numbers(Uint32Array), touched: [Infinity, -Infinity],
+      steps: [],
     };
+    this.add({ kind: "start", mark: "", line: 0, performs: false, back: 0 });
   }
 
-  lines(lines) {
-    want(Array.isArray(lines), "it has no list of lines");
-    let number = 0;
-    for (const line of lines) {
-      want(isObject(line) && isNumber(line.line, this.run.script.length) && line.line > number,
-        `what follows line ${number} is not a later line of its script`);
-      number = line.line;
-      this.line(line, `line ${number}`);
-    }
+  /** Reads the record of the next line. */
+  next(line, index) {
+    want(isObject(line) && isNumber(line.line, this.run.script.length) && line.line > this.number,
+      `what follows line ${this.number} is not a later line of its script`);
+    this.number = line.line;
+    this.index = index;
+    this.line(line, `line ${this.number}`);
   }
 
   end(end) {
@@ -186,10 +165,8 @@ class Reader {
     for (const field of ["expected", "differs", "source"]) {
       want(line[field] === undefined || typeof line[field] === "string", `“${field}” of ${name} is no text`);
     }
-    const played = {
-      answer: line.answer, refused: line.refused ?? null, differs: line.differs ?? "", source: line.source ?? "",
-      mark: markOf(line), first: run.steps.length, last: 0,
-    };
+    const played = new PlayedLine(this.source, this.index, markOf(line), this.textOf(line.source ?? ""),
+      run.steps.length);
     if (line.back !== undefined) this.back(line, name);
     line.events.forEach((event, index) => {
       want(isObject(event), `an event of ${name} is no object`);
@@ -203,6 +180,12 @@ class Reader {
     played.last = run.steps.length - 1;
     played.first = Math.min(played.first, played.last);
     run.lines[line.line - 1] = played;
+  }
+
+  /** A text, which is kept once. @private */
+  textOf(text) {
+    if (!this.texts.has(text)) this.texts.set(text, text);
+    return this.texts.get(text);
   }
 
   /** @private */
@@ -224,32 +207,55 @@ class Reader {
     this.performed += 1;
     want(event.event === this.performed, `${name} has another number`);
     wasOf(event, name);
-    /** @type {Place} */
-    const place = {
-      number: this.performed, depth: before.depth + 1, before, step: run.steps.length, line: line.line, takenBack: Infinity,
-      registers: this.registers(event, name), memory: this.memory(event, name),
-      framesChange: this.frames(event, name), gatheredChange: this.gathered(event, name), sent: sentOf(event, name),
-      linkChange: this.flag(event, "link", name), interruptChange: this.flag(event, "interrupt", name),
-      frames: before.frames, gathered: before.gathered, link: before.link, interrupt: before.interrupt, arrival: before.arrival,
-      sending: before.sending, snapshot: null, text: event.text, access,
-    };
-    if (place.framesChange) place.frames = place.framesChange[1];
-    if (place.gatheredChange) {
-      const [kept, , after] = place.gatheredChange;
-      place.gathered = place.gathered.slice(0, 2 * kept) + after;
-    }
-    if (place.linkChange) place.link = place.linkChange[1];
-    if (place.interruptChange) place.interrupt = place.interruptChange[1];
-    if (place.frames > before.frames) place.arrival = { place, octets: storedOf(event, name), before: before.arrival };
-    if (place.sent !== null) {
-      place.sending = { place, octets: place.sent, count: (before.sending?.count ?? 0) + 1, before: before.sending };
-    }
-    run.state.forward(place);
+    const change = this.change(event, name);
+    const place = this.placeOf(before, change);
+    Object.assign(place, { step: run.steps.length, line: line.line, record: this.index, access });
+    this.changes.add(change);
+    this.widen(change);
+    run.state.forward(place, change);
     this.agrees(place, name);
-    if (place.depth % SNAPSHOT_EVERY === 0) run.state.keep();
+    if (run.state.isDue(place)) run.state.keep();
     const isLast = access === line.events.length;
     const mark = event.answer === "dropped" ? "dropped" : isLast && line.refused !== undefined ? "refused" : isLast && line.differs ? "differs" : "";
     this.add({ kind: event.kind, mark, line: line.line, performs: true, back: 0 });
+  }
+
+  /** What an event changed, of which each part must find what it says was there. @private @returns {Change} */
+  change(event, name) {
+    this.registers(event, name);
+    this.memory(event, name);
+    this.frames(event, name);
+    this.gathered(event, name);
+    for (const field of ["stored", "sent"]) {
+      want(event[field] === undefined || isDigits(event[field]), `${name} has a ${field} frame that can’t be read`);
+    }
+    this.flag(event, "link", name);
+    this.flag(event, "interrupt", name);
+    return changeOf(event);
+  }
+
+  /** The place behind an event. @private @param {Place} before @param {Change} change */
+  placeOf(before, change) {
+    const place = new Place(this.changes, before, this.performed);
+    if (change.framesChange) place.frames = change.framesChange[1];
+    if (change.gatheredChange) {
+      const [kept, , after] = change.gatheredChange;
+      place.gathered = place.gathered.slice(0, 2 * kept) + after;
+    }
+    if (change.linkChange) place.link = change.linkChange[1];
+    if (change.interruptChange) place.interrupt = change.interruptChange[1];
+    if (place.frames > before.frames) place.arrival = new Frame(place, "stored", before.arrival);
+    if (change.sent !== null) place.sending = new Frame(place, "sent", before.sending);
+    return place;
+  }
+
+  /** @private @param {Change} change */
+  widen({ memory }) {
+    if (!memory.length) return;
+    const [[first], [last, octets]] = [memory[0], memory[memory.length - 1]];
+    const { touched } = this.run;
+    touched[0] = Math.min(touched[0], first);
+    touched[1] = Math.max(touched[1], last + octets.length / 2);
   }
 
   /** The link and the interrupt line stand in registers too. @private */
@@ -263,7 +269,10 @@ class Reader {
 
   /** @private */
   add(step) {
-    this.run.steps.push({ ...step, place: this.run.state.place });
+    const { steps, state, icr, ims } = this.run;
+    steps.push({ ...step, place: state.place });
+    icr.push(state.at("ICR"));
+    ims.push(state.at("IMS"));
   }
 
   /** @private */
@@ -271,7 +280,7 @@ class Reader {
     const changed = event.registers ?? [];
     want(Array.isArray(changed), `${name} has no list of registers`);
     let last = -1;
-    return changed.map((change) => {
+    for (const change of changed) {
       want(Array.isArray(change) && change.length === 3 && isWord(change[1]) && isWord(change[2]),
         `${name} has a register that can’t be read`);
       const index = INDEX_OF.get(change[0]);
@@ -282,8 +291,7 @@ class Reader {
         `${name} says that ${change[0]} was ${hex(change[1], 8)} before it, and it was `
         + hex(this.run.state.registers[index], 8));
       last = index;
-      return [index, change[1], change[2]];
-    });
+    }
   }
 
   /** @private */
@@ -292,32 +300,30 @@ class Reader {
     want(Array.isArray(changed), `${name} has no list of octets`);
     const { memory } = this.run.state;
     let end = 0;
-    return changed.map((change) => {
+    for (const change of changed) {
       want(Array.isArray(change) && change.length === 3 && isNumber(change[0], MOST_MEMORY) && isDigits(change[1])
         && isDigits(change[2]) && change[1].length === change[2].length, `${name} has octets that can’t be read`);
-      const [address, before, after] = change;
+      const [address, before] = change;
       want(address >= end, `${name} does not have its octets in their order`);
       end = address + before.length / 2;
       want(address >= memory.base && end <= memory.end, `${name} has octets outside memory`);
       want(memory.holds(address, before), `${name} says what octets stood at ${addressText(address)} before it, and `
         + "others did");
-      return [address, before, after];
-    });
+    }
   }
 
   /** @private */
   frames(event, name) {
-    if (event.frames === undefined) return null;
+    if (event.frames === undefined) return;
     const { frames } = this.run.state.place;
     want(isPair(event.frames, "number") && isNumber(event.frames[1], frames + 1),
       `${name} has a number of frames that can’t be`);
     want(event.frames[0] === frames, `${name} says that ${event.frames[0]} frames waited before it, and ${frames} did`);
-    return event.frames;
   }
 
   /** @private */
   gathered(event, name) {
-    if (event.gathered === undefined) return null;
+    if (event.gathered === undefined) return;
     const { gathered } = this.run.state.place;
     want(Array.isArray(event.gathered) && event.gathered.length === 3, `${name} has gathered octets that can’t be read`);
     const [kept, before, after] = event.gathered;
@@ -325,15 +331,13 @@ class Reader {
       `${name} has gathered octets that can’t be read`);
     want(gathered.slice(2 * kept) === before.toUpperCase(), `${name} says what octets were gathered before it, and `
       + "others were");
-    return [kept, before.toUpperCase(), after.toUpperCase()];
   }
 
   /** @private */
   flag(event, field, name) {
-    if (event[field] === undefined) return null;
+    if (event[field] === undefined) return;
     want(isPair(event[field], "boolean"), `${name} has a change of the ${field} that can’t be read`);
     want(event[field][0] === this.run.state.place[field], `${name} says that the ${field} was another before it`);
-    return event[field];
   }
 }
 
@@ -348,18 +352,6 @@ function startRegisters(start) {
   const missing = REGISTERS.find(([, name]) => !Object.hasOwn(start.registers, name));
   want(!missing, `it does not say how ${missing?.[1]} was at the start`);
   return values;
-}
-
-function sentOf(event, name) {
-  if (event.sent === undefined) return null;
-  want(isDigits(event.sent), `${name} has a sent frame that can’t be read`);
-  return event.sent;
-}
-
-function storedOf(event, name) {
-  if (event.stored === undefined) return null;
-  want(isDigits(event.stored), `${name} has a stored frame that can’t be read`);
-  return event.stored;
 }
 
 /** How a line came out. */

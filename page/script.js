@@ -1,6 +1,8 @@
 // The script beside its answers, with the present line lit. Only the lines that can be seen are in the page.
 
 const LINE_HEIGHT = 22;
+/** How tall the room of all lines is at most, in points: browsers lay out no more than some 17 or 33 million. */
+const MOST_ROOM = 16_000_000;
 const SPARE_LINES = 10;
 const LEAST_DIGITS = 4;
 const MOST_LETTERS = 300;
@@ -12,7 +14,9 @@ class ScriptPanel {
     this.app = app;
     this.element = byId("script");
     this.room = byId("script-room");
-    this.room.style.setProperty("height", `${LINE_HEIGHT * app.run.script.length}px`);
+    this.total = LINE_HEIGHT * app.run.script.length;
+    this.tall = Math.min(this.total, MOST_ROOM);
+    this.room.style.setProperty("height", `${this.tall}px`);
     const digits = String(app.run.script.length).length;
     this.room.style.setProperty("--digits", String(Math.max(LEAST_DIGITS, digits)));
     // a column of sources, where any line has one
@@ -20,11 +24,11 @@ class ScriptPanel {
     const longest = app.sources.list.reduce((most, { text }) => Math.max(most, text.length), 0);
     this.room.style.setProperty("--letters", String(Math.min(COLUMN_LETTERS, longest)));
     this.made = new Map();
-    // where it is scrolled to and how tall it is: to ask for it at each step would lay the page out again
+    // where it is scrolled to, among all lines, and how tall it is: to ask at each step would lay the page out again
     this.top = 0;
     this.height = this.element.clientHeight;
     this.element.addEventListener("scroll", () => {
-      this.top = this.element.scrollTop;
+      this.top = this.element.scrollTop / this.share();
       this.fill();
     });
     this.element.addEventListener("click", (event) => {
@@ -36,6 +40,11 @@ class ScriptPanel {
       this.height = this.element.clientHeight;
       this.fill();
     }).observe(this.element);
+  }
+
+  /** What a point of all lines is in the room, where these are taller. @private */
+  share() {
+    return this.tall < this.total ? (this.tall - this.height) / (this.total - this.height) : 1;
   }
 
   /** Goes to the state behind a line. A comment's is that of the line before it. */
@@ -59,11 +68,10 @@ class ScriptPanel {
     const { line } = this.app;
     const top = (line - 1) * LINE_HEIGHT;
     if (line > 0 && (top < this.top + LINE_HEIGHT || top > this.top + this.height - 3 * LINE_HEIGHT)) {
-      const most = LINE_HEIGHT * this.app.run.script.length - this.height;
-      const wanted = Math.round(Math.max(0, Math.min(most, top - this.height / 2)));
+      const wanted = Math.round(Math.max(0, Math.min(this.total - this.height, top - this.height / 2)));
       if (wanted !== this.top) {
         this.top = wanted;
-        this.element.scrollTop = wanted;
+        this.element.scrollTop = wanted * this.share();
       }
     }
     this.fill();
@@ -81,17 +89,19 @@ class ScriptPanel {
         this.made.delete(number);
       }
     }
+    const shift = Math.round(this.top * (this.share() - 1));
     for (let number = first; number <= last; number++) {
-      if (this.made.has(number)) continue;
-      const made = { option: this.option(number), key: "" };
+      if (this.made.get(number)?.shift === shift) continue;
+      this.made.get(number)?.option.remove();
+      const made = { option: this.option(number, shift), key: "", shift };
       this.made.set(number, made);
       this.room.append(made.option);
       this.paintLine(number, made);
     }
   }
 
-  /** @private */
-  option(number) {
+  /** @private @param {number} shift how much higher a line stands in the room than among all lines */
+  option(number, shift) {
     const text = visible(shortened(this.app.run.script[number - 1], MOST_LETTERS));
     const line = this.app.run.lines[number - 1];
     const answer = line && line.answer.length
@@ -106,7 +116,7 @@ class ScriptPanel {
     }, make("span", { class: "number" }, String(number)),
     ...(this.columns ? [make("span", { class: "source" }, source)] : []), make("span", { class: "text" }, text),
     make("span", { class: `answer${sign ? ` mark-${mark}` : ""}` }, sign + answer));
-    option.style.setProperty("top", `${(number - 1) * LINE_HEIGHT}px`);
+    option.style.setProperty("top", `${(number - 1) * LINE_HEIGHT + shift}px`);
     // (on paper they lie one below the other, in this order)
     option.style.setProperty("order", String(number));
     return option;

@@ -5,37 +5,10 @@ const PAGE_OCTETS = 4_096;
 const ZEROS = new Uint8Array(PAGE_OCTETS);
 /** Every so many events a snapshot is kept, from which a far place is reached. */
 const SNAPSHOT_EVERY = 256;
-
-/**
- * An event that was performed, and so the state behind it. The root, number 0, is the state at the start.
- * @typedef {Object} Place
- * @property {number} number of the event among all that were performed
- * @property {number} depth how many events stand there
- * @property {Place|null} before the event before it
- * @property {number} step the step of the run that performed it
- * @property {number} line
- * @property {number} takenBack the step that took it back; Infinity where it stands at the end
- * @property {[number, number, number][]} registers index, before, after
- * @property {[number, string, string][]} memory address, octets before and after
- * @property {number[]|null} framesChange
- * @property {[number, string, string]|null} gatheredChange how many of the gathered octets stayed; those behind them
- *   before and after
- * @property {string|null} sent the octets of the frame that was sent
- * @property {boolean[]|null} linkChange
- * @property {boolean[]|null} interruptChange
- * @property {number} frames in the FIFO behind it
- * @property {string} gathered octets for the next frame to be sent
- * @property {boolean} link
- * @property {boolean} interrupt
- * @property {Arrival|null} arrival the newest frame that came into the FIFO up to here
- * @property {Sending|null} sending the newest frame that was sent up to here
- * @property {Object|null} snapshot
- * @property {string} text what the event was, in words
- * @property {number} access which of its line's events it was, from 1
- *
- * @typedef {{place: Place, octets: string|null, before: Arrival|null}} Arrival
- * @typedef {{place: Place, octets: string, count: number, before: Sending|null}} Sending
- */
+/** So many octets snapshots may take: then each second one goes, and they come half as often. */
+const MOST_SNAPSHOTS = 2 ** 28;
+/** About how many octets the place of a page takes in a snapshot. */
+const PAGE_PLACE = 40;
 
 /** Guest memory in pages, those that were written. Snapshots share pages, which are copied when written. */
 class Memory {
@@ -123,6 +96,10 @@ class State {
     this.place = root;
     this.registers = registers;
     this.memory = memory;
+    this.every = SNAPSHOT_EVERY;
+    /** The places that have snapshots, and about how many octets those take. @type {Place[]} */
+    this.kept = [];
+    this.octets = 0;
     this.keep();
   }
 
@@ -131,20 +108,40 @@ class State {
     return this.registers[INDEX_OF.get(name)];
   }
 
-  /** Keeps a snapshot at this place. */
-  keep() {
-    this.place.snapshot = { registers: this.registers.slice(), pages: this.memory.share() };
+  /** Whether a snapshot is to be kept at a place. */
+  isDue(place) {
+    return place.depth % this.every === 0;
   }
 
-  /** @param {Place} place one whose event before is this place */
-  forward(place) {
-    for (const [index, , after] of place.registers) this.registers[index] = after;
-    for (const [address, , after] of place.memory) this.memory.write(address, after);
+  /** Keeps a snapshot at this place. */
+  keep() {
+    const { memory, registers, place } = this;
+    this.octets += PAGE_OCTETS * memory.own.size + PAGE_PLACE * memory.pages.size + registers.byteLength;
+    place.snapshot = { registers: registers.slice(), pages: memory.share() };
+    this.kept.push(place);
+    while (this.octets > MOST_SNAPSHOTS && this.kept.length > 2) this.thin();
+  }
+
+  /** Drops each second snapshot. @private */
+  thin() {
+    this.every *= 2;
+    const before = this.kept.length;
+    this.kept = this.kept.filter((place) => {
+      if (!this.isDue(place)) place.snapshot = null;
+      return place.snapshot !== null;
+    });
+    this.octets *= this.kept.length / before;
+  }
+
+  /** @param {Place} place one whose event before is this place @param {Change} change of that event */
+  forward(place, change = place.change) {
+    for (const [index, , after] of change.registers) this.registers[index] = after;
+    for (const [address, , after] of change.memory) this.memory.write(address, after);
     this.place = place;
   }
 
   backward() {
-    const { registers, memory, before } = this.place;
+    const { before, change: { registers, memory } } = this.place;
     for (let i = registers.length - 1; i >= 0; i--) this.registers[registers[i][0]] = registers[i][1];
     for (let i = memory.length - 1; i >= 0; i--) this.memory.write(memory[i][0], memory[i][1]);
     this.place = before;
@@ -154,7 +151,7 @@ class State {
   goTo(target) {
     const common = lastCommon(this.place, target);
     const far = this.place.depth - common.depth + target.depth - common.depth;
-    if (far > 2 * SNAPSHOT_EVERY) {
+    if (far > 2 * this.every) {
       this.restoreBefore(target);
     } else {
       while (this.place !== common) this.backward();
@@ -188,7 +185,7 @@ function wayTo(from, target) {
   return way.reverse();
 }
 
-/** The frames in the FIFO at a place, the first one first. @returns {Arrival[]} */
+/** The frames in the FIFO at a place, the first one first. @returns {Frame[]} */
 function waiting(place) {
   const frames = [];
   for (let arrival = place.arrival; arrival && frames.length < place.frames; arrival = arrival.before) {
@@ -197,7 +194,7 @@ function waiting(place) {
   return frames.reverse();
 }
 
-/** The newest frames that were sent, the newest first. @returns {Sending[]} */
+/** The newest frames that were sent, the newest first. @returns {Frame[]} */
 function sentFrames(place, most) {
   const frames = [];
   for (let sending = place.sending; sending && frames.length < most; sending = sending.before) frames.push(sending);

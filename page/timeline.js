@@ -14,6 +14,8 @@ const LANE = 20;
 const MARK_ROOM = 12;
 const OVERVIEW_HEIGHT = 30;
 const ARC_ROOM = 18;
+/** Where more steps than these stand in a column of the picture of the whole run, the column is drawn once for them. */
+const STEPS_OF_A_COLUMN = 4;
 /** How many reverse steps next to each other have lines of their own. */
 const TRACKS = 3;
 
@@ -53,6 +55,52 @@ function sized(canvas, height, width = widthOf(canvas)) {
   context.setTransform(ratio, 0, 0, ratio, 0, 0);
   context.clearRect(0, 0, width, height);
   return { context, width };
+}
+
+/** Whether a step lies on a branch that was taken back. @param {Step} step */
+function isOnBranch({ kind, place, performs }) {
+  return performs ? place.takenBack !== NEVER : kind === "back";
+}
+
+/** Draws each step of a run. The marks come last, so that none is hidden where steps stand close together. */
+function paintTicks(context, steps, apart) {
+  const wide = Math.max(1, apart - (apart > 3 ? 1 : 0));
+  steps.forEach((step, index) => {
+    context.fillStyle = palette[`kind-${step.kind}`];
+    context.fillRect(index * apart, isOnBranch(step) ? 19 : 8, wide, 9);
+  });
+  steps.forEach(({ mark }, index) => {
+    if (!mark) return;
+    context.fillStyle = palette[mark === "dropped" ? "warn" : "bad"];
+    context.fillRect(index * apart, 1, Math.max(2, wide), 5);
+  });
+}
+
+/** Draws a long run: in each column each kind by its share of the steps there, from the top down, and the worst mark. */
+function paintColumns(context, steps, width) {
+  const kinds = Object.keys(KINDS);
+  const columns = Array.from({ length: Math.ceil(width) }, () => ({ lanes: [new Map(), new Map()], mark: "" }));
+  steps.forEach((step, index) => {
+    const column = columns[Math.floor((index * width) / steps.length)];
+    const lane = column.lanes[isOnBranch(step) ? 1 : 0];
+    lane.set(step.kind, (lane.get(step.kind) ?? 0) + 1);
+    if (step.mark && (column.mark === "" || column.mark === "dropped")) column.mark = step.mark;
+  });
+  columns.forEach(({ lanes, mark }, x) => {
+    lanes.forEach((lane, branch) => {
+      const all = [...lane.values()].reduce((sum, count) => sum + count, 0);
+      let y = branch ? 19 : 8;
+      for (const kind of kinds.filter((one) => lane.has(one))) {
+        const tall = (9 * lane.get(kind)) / all;
+        context.fillStyle = palette[`kind-${kind}`];
+        context.fillRect(x, y, 1, tall);
+        y += tall;
+      }
+    });
+    if (!mark) return;
+    context.fillStyle = palette[mark === "dropped" ? "warn" : "bad"];
+    context.fillRect(x, 1, 2, 5);
+  });
 }
 
 class Timeline {
@@ -172,18 +220,8 @@ class Timeline {
     this.pictureKey = key;
     this.picture = new OffscreenCanvas(1, 1);
     const { context } = sized(this.picture, OVERVIEW_HEIGHT, width);
-    const wide = Math.max(1, apart - (apart > 3 ? 1 : 0));
-    // the marks last, so that none is hidden where steps stand close together
-    run.steps.forEach(({ kind, place, performs }, index) => {
-      const isBranch = performs ? place.takenBack !== Infinity : kind === "back";
-      context.fillStyle = palette[`kind-${kind}`];
-      context.fillRect(index * apart, isBranch ? 19 : 8, wide, 9);
-    });
-    run.steps.forEach(({ mark }, index) => {
-      if (!mark) return;
-      context.fillStyle = palette[mark === "dropped" ? "warn" : "bad"];
-      context.fillRect(index * apart, 1, Math.max(2, wide), 5);
-    });
+    if (apart * STEPS_OF_A_COLUMN < 1) paintColumns(context, run.steps, width);
+    else paintTicks(context, run.steps, apart);
     return this.picture;
   }
 
@@ -212,9 +250,8 @@ class Timeline {
   paintStep(context, index, x) {
     const { run, step: present } = this.app;
     const { cell } = this.view;
-    const { kind, performs, place } = run.steps[index];
-    const isBranch = performs ? place.takenBack !== Infinity : kind === "back";
-    const y = MARK_ROOM + (isBranch ? LANE : 0);
+    const { kind } = run.steps[index];
+    const y = MARK_ROOM + (isOnBranch(run.steps[index]) ? LANE : 0);
     const gap = cell >= 8 ? 1 : 0.5;
     context.globalAlpha = index <= present ? 1 : 0.45;
     context.fillStyle = palette[`kind-${kind}`];
@@ -231,7 +268,7 @@ class Timeline {
   paintWay(context, from, to, track) {
     const { first, cell } = this.view;
     const target = this.app.run.steps[to];
-    const isBranch = target.performs && target.place.takenBack !== Infinity;
+    const isBranch = target.performs && isOnBranch(target);
     const [start, end] = [from, to].map((index) => (index - first + 0.5) * cell);
     const tip = MARK_ROOM + LANE * (isBranch ? 2 : 1);
     const low = MARK_ROOM + 2 * LANE + 5 + (track * (ARC_ROOM - 8)) / (TRACKS - 1);

@@ -23,7 +23,8 @@ class Wave {
     this.timeline = timeline;
     this.gather();
     const { icr, ims } = this;
-    const seen = [...icr, ...ims].reduce((bits, word) => bits | word, 0);
+    let seen = 0;
+    for (let step = 0; step < icr.length; step++) seen |= icr[step] | ims[step];
     this.causes = FIELDS.ICR.filter(([, high]) => (seen >>> high) & 1).map(([name, high]) => [name, high]);
     this.rows = [
       { words: "interrupt", watch: "interrupt", at: (step) => this.line[step] },
@@ -39,25 +40,13 @@ class Wave {
 
   /** What each signal is behind each step. @private */
   gather() {
-    const { steps, root } = this.app.run;
-    const [icrIndex, imsIndex] = [INDEX_OF.get("ICR"), INDEX_OF.get("IMS")];
-    const values = new Map([[root, [this.app.startValue("ICR"), this.app.startValue("IMS")]]]);
-    this.icr = new Uint32Array(steps.length);
-    this.ims = new Uint32Array(steps.length);
+    const { steps, icr, ims } = this.app.run;
+    this.icr = icr.values.subarray(0, steps.length);
+    this.ims = ims.values.subarray(0, steps.length);
     this.line = new Uint8Array(steps.length);
     this.link = new Uint8Array(steps.length);
     this.frames = new Uint32Array(steps.length);
     steps.forEach(({ place }, index) => {
-      let pair = values.get(place);
-      if (!pair) {
-        pair = values.get(place.before).slice();
-        for (const [register, , after] of place.registers) {
-          if (register === icrIndex) pair[0] = after;
-          if (register === imsIndex) pair[1] = after;
-        }
-        values.set(place, pair);
-      }
-      [this.icr[index], this.ims[index]] = pair;
       this.line[index] = place.interrupt ? 1 : 0;
       this.link[index] = place.link ? 1 : 0;
       this.frames[index] = place.frames;

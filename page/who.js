@@ -46,16 +46,20 @@ function watchText(watch) {
 
 /** Whether the event of a place changed what is watched. @param {Place} place @param {Watch} watch */
 function changed(place, watch) {
+  const { before, changes, number } = place;
+  if (before === null) return false;
   switch (watch.kind) {
     case "register":
-      return place.registers.some(([index, before, after]) =>
-        index === watch.index && ((before ^ after) & watch.mask) !== 0);
-    case "octets": return place.memory.some((piece) => changedWithin(piece, watch.address, watch.count));
-    case "link": return place.linkChange !== null && place.linkChange[0] !== place.linkChange[1];
-    case "interrupt": return place.interruptChange !== null && place.interruptChange[0] !== place.interruptChange[1];
-    case "frames": return place.framesChange !== null && place.framesChange[0] !== place.framesChange[1];
-    case "gathered": return place.gatheredChange !== null;
-    default: return place.sent !== null;
+      return changes.hasRegister(number, watch.index) && (watch.mask === 0xFFFFFFFF
+        || place.registers.some(([index, old, now]) => index === watch.index && ((old ^ now) & watch.mask) !== 0));
+    case "octets":
+      return changes.mayTouch(number, watch.address, watch.count)
+        && place.memory.some((piece) => changedWithin(piece, watch.address, watch.count));
+    case "link": return place.link !== before.link;
+    case "interrupt": return place.interrupt !== before.interrupt;
+    case "frames": return place.frames !== before.frames;
+    case "gathered": return place.gathered !== before.gathered;
+    default: return place.sending !== before.sending;
   }
 }
 

@@ -95,8 +95,8 @@ REFUSED_PAGES = (
      "em_record: --memory 65536 --base 7: guest memory begins at a multiple of 4096, has a multiple of 4096 octets, and "
      "ends at 10000000000 at most"),
 )
-# the record of a page, and its title
-RECORD = re.compile(rb'<script id="record" type="application/json">(.*?)</script>', re.S)
+# the elements with the record of a page, and its title
+RECORD = re.compile(rb'<script class="record" type="application/json">(.*?)</script>', re.S)
 TITLE = re.compile(rb"<title>(.*?)</title>", re.S)
 
 
@@ -240,8 +240,8 @@ def pages(tally: Tally, room: Room) -> None:
     ):
         ran = room.run(*words, typed=typed, by="em_page")
         ended(tally, room, " ".join(words), ran, 1, None, f"em_record: {name}: ".encode() + said)
-        record, title = RECORD.search(ran.stdout), TITLE.search(ran.stdout)
-        told = [line["source"] for line in json.loads(record[1])["lines"] if "source" in line] if record else []
+        record, title = b"".join(RECORD.findall(ran.stdout)), TITLE.search(ran.stdout)
+        told = [line["source"] for line in json.loads(record)["lines"] if "source" in line] if record else []
         # (the number that stands behind another word is no counter)
         wanted[3] = run_of.decode().splitlines()[6].partition("@ ")[2]
         faults = [] if told == wanted else [f"its sources are {told}, and not {wanted}"]

@@ -9,6 +9,8 @@ from random_lines import driven, over_rings
 from tally import CRATES, TOP, run
 
 BUDGET = 16_777_216
+# in which the record of the longest run is made, and the page of it, beside much other work
+SECONDS = 600
 EXAMPLES = sorted((TOP / "examples").glob("*.em")) + sorted((TOP / "examples" / "broken").glob("*.em"))
 
 
@@ -22,7 +24,7 @@ def record_of(script: bytes, budget: int = BUDGET) -> bytes:
     """The record of a script: by the program that the command line names, or else by tests/recorded.py."""
     if not sys.argv[1:]:
         return recorded.recording(script, budget=budget)
-    ran = run([Path(sys.argv[1]).resolve(), "--budget", budget], script)
+    ran = run([Path(sys.argv[1]).resolve(), "--budget", budget], script, timeout=SECONDS)
     if not ran.stdout:
         sys.exit(f"{sys.argv[1]} made no record: {ran.stderr.decode(errors='replace')}")
     return ran.stdout
@@ -30,7 +32,7 @@ def record_of(script: bytes, budget: int = BUDGET) -> bytes:
 
 def page_of(record: bytes) -> bytes:
     ran = subprocess.run([TOP / "em_page", "--record", "-"], input=record, stdout=subprocess.PIPE, check=True,
-        timeout=60)
+        timeout=SECONDS)
     return ran.stdout
 
 

@@ -6,9 +6,12 @@ import recorded
 from page_tools import BUDGET, TOP, page_of, record_of
 from page_names import text as names_text
 from page_names import of_code, of_docs
+from page_states import ASK, GO, LOOK, by_bench
 from tally import Tally
 
 MANY_ROUNDS, OPEN_SECONDS, STEP_MILLISECONDS, TRIES = 2000, 1.0, 16.0, 6
+# of a long run: what objects of the page may take for an event, and so many lines em_bench reads at most
+EVENTS_OF_A_ROUND, OBJECT_OCTETS, MOST_OF_BENCH, PLACES = 5, 600, 100_000, [0x1000, 0x2000]
 LEAST_CONTRAST = 4.5
 AT = "const { step, event } = document.getElementById('run').dataset; return [Number(step), Number(event)]"
 FOCUS = """
@@ -257,7 +260,7 @@ def many_events(rounds: int) -> str:
     ring = [f"poke {0x1000 + 16 * i:X} {(0x2000 + 0x800 * i).to_bytes(16, 'little').hex()}" for i in range(8)]
     lines = ["w 02800 1000", "w 02808 80", "w 00100 8002", "w 000D0 80", "link up", *ring, "w 02818 7"]
     for i in range(rounds):
-        lines += [f"arrive FFFFFFFFFFFF02AABBCCDDEE0800{i:04X} {60 + i % 1400}", "rx", "r C0", ring[i % 8],
+        lines += [f"arrive FFFFFFFFFFFF02AABBCCDDEE0800{i % 65536:04X} {60 + i % 1400}", "rx", "r C0", ring[i % 8],
             f"w 02818 {i % 8:X}"]
     return "".join(f"{line}\n" for line in lines)
 
@@ -289,6 +292,37 @@ def timing(tally: Tally, browser, room: Path) -> None:
     tally.check("a step is painted", [] if min(step) <= STEP_MILLISECONDS else [f"it takes {min(step):.1f} ms"])
     print(f"10,000 events open in {min(opening):.2f} s, and a step takes {min(step):.1f} ms up to its layout, "
           f"{min(painted):.1f} with its painting")
+
+
+def long_run(tally: Tally, browser, room: Path, events: int) -> None:
+    """A run of so many events opens; near and far steps of it show what em_bench shows there, of those whose lines it
+    takes; and who changed what is found over the whole of it."""
+    script = many_events(events // EVENTS_OF_A_ROUND)
+    lines, page = script.splitlines(), room / "long.html"
+    page.write_bytes(page_of(record_of(script.encode())))
+    browser.command("Performance.enable", timeDomain="threadTicks")
+    browser.open(page)
+    opened, heap = spent(browser, "TaskDuration"), spent(browser, "JSHeapUsedSize")
+    print(f"{len(lines):,} events: a page of {page.stat().st_size / 1e6:.0f} MB opens in {opened:.1f} s, and its objects "
+          f"take {heap / 1e6:.0f} MB")
+    each = heap / len(lines)
+    tally.check("a long run takes no more memory", [] if each <= OBJECT_OCTETS else [f"{each:.0f} octets an event"])
+    tally.check("a long run opens", [] if browser.run(AT) == [len(lines)] * 2 else [f"it is at {browser.run(AT)}"])
+    # (each line performs an event)
+    most = min(len(lines), MOST_OF_BENCH)
+    for step in (0, 1, most // 7, most // 7 + 1, most, most // 2, most // 2 - 300, 300):
+        bench, shown = by_bench(lines, step, 0, PLACES), browser.run(LOOK, step, PLACES)
+        there = {name: value for name, value in shown["registers"].items() if int(value, 16)}
+        is_so = [shown["event"], shown["line"], shown["interrupt"]] == [str(step), str(step), bench["interrupt"]]
+        is_so = is_so and there == {name: value for name, value in bench["registers"].items() if int(value, 16)}
+        is_so = is_so and [octets for _, octets in shown["octets"]] == bench["octets"]
+        tally.check(f"a long run, step {step}", [] if is_so else [f"it shows {shown}, and not {bench}"])
+    for watch, line in (("register RDT", len(lines)), ("bits RCTL 2", 3), ("link", 5), ("register CTRL", None)):
+        browser.run(GO, len(lines))
+        asked = browser.run(ASK, watch)
+        wanted = "none" if line is None else str(line)
+        tally.check(f"a long run, {watch}", [] if asked and asked["event"] == wanted else [f"it says {asked}"])
+    tally.check("a long run, the console", browser.told())
 
 
 def check_use(tally: Tally, browser, room: Path) -> None:

@@ -7,16 +7,19 @@ manual and from this project's profile.
 import copy
 import re
 
+from second_parts import Phy, Pins
+
 PAGE = 4096
 LEAST, MOST = 14, 20_000
 MOST_WATCHED = 16
 ROOM = 49_152
 GREATEST = 0xFFFFFFFF
 CTRL, STATUS, EERD, VET = 0x0, 0x8, 0x14, 0x38
+EECD, MDIC = 0x10, 0x20
 ICR, ICS, IMS, IMC = 0xC0, 0xC8, 0xD0, 0xD8
 RCTL, TCTL, TIPG = 0x100, 0x400, 0x410
 RECEIVE, TRANSMIT = 0x2800, 0x3800  # the rings: base low, base high +4, length +8, head +10h, tail +18h
-TXDW, TXQE, LSC, RXDMT0, RXO, RXT0 = 1, 2, 4, 0x10, 0x40, 0x80
+TXDW, TXQE, LSC, RXDMT0, RXO, RXT0, MDAC = 1, 2, 4, 0x10, 0x40, 0x80, 0x200
 MPC, RNBC, RUC, ROC = 0x4010, 0x40A0, 0x40A4, 0x40AC
 GPRC, BPRC, MPRC, GPTC, GORC, GOTC, MPTC, BPTC = 0x4074, 0x4078, 0x407C, 0x4080, 0x4088, 0x4090, 0x40F0, 0x40F4
 # every register that is no array, by its offset and its name in the manual
@@ -39,6 +42,15 @@ MASKS = {VET: 0xFFFF} | {ring + at: mask for ring in (RECEIVE, TRANSMIT)
                          for at, mask in ((0, 0xFFFFFFF0), (8, 0xFFF80), (0x10, 0xFFFF), (0x18, 0xFFFF))}
 MASKS |= {0x5404 + 8 * i: 0x8003FFFF for i in range(16)}
 PLAIN = REGISTERS - COUNTERS - PAIRS - {STATUS, EERD, ICR, ICS, IMS, IMC, *MASKS}
+# the registers that the second profile has besides, and what a write of each keeps that only stores
+NAMES_BESIDES = {
+    EECD: "EECD", MDIC: "MDIC", 0x178: "TXCW", 0x458: "AIT", 0x2160: "FCRTL", 0x2168: "FCRTH", 0x5800: "WUC",
+    0x5808: "WUFC", 0x5820: "MANC", 0x5B50: "SWSM",
+}
+MASKS_BESIDES = {
+    0x178: 0xC000FFFF, 0x458: 0xFFFF, 0x2160: 0x8000FFF8, 0x2168: 0xFFF8, 0x5800: GREATEST, 0x5808: GREATEST,
+    0x5820: GREATEST, 0x5B50: GREATEST,
+}
 # where the driver that a script starts keeps its rings and buffers
 RX_RING, TX_RING, RX_BUFFERS, TX_BUFFERS, DESCRIPTORS, BUFFER = 0, 0x80, 0x1000, 0x5000, 8, 2048
 IN_ORDER = sorted(REGISTERS)
@@ -56,8 +68,10 @@ class Refused(Exception):
 class State:
     """All that the table speaks of; every part is replaced and never changed in its place."""
 
-    def __init__(self, size: int, mac: bytes) -> None:
+    def __init__(self, size: int, mac: bytes, is_second: bool = False) -> None:
         self.link, self.wire = False, ()
+        self.besides = {*NAMES_BESIDES} if is_second else set()
+        self.pins, self.phy = Pins(), Phy()
         self.pages = (bytes(PAGE),) * (size // PAGE)
         words = [mac[0] | mac[1] << 8, mac[2] | mac[3] << 8, mac[4] | mac[5] << 8] + [0] * 60
         self.words = (*words, (0xBABA - sum(words)) % 65536)
@@ -99,6 +113,10 @@ class State:
     def look(self, offset: int) -> int:
         if offset == STATUS:
             return 0x83 if self.link else 0x81
+        if offset == EECD:
+            return self.pins.read(self.words)
+        if offset == MDIC:
+            return self.phy.mdic
         if offset in (ICS, IMC):
             return 0
         if offset in (GORC, GOTC):
@@ -109,7 +127,7 @@ class State:
 
 
 def read(s: State, offset: int) -> int:
-    if offset not in REGISTERS:
+    if offset not in REGISTERS | s.besides:
         raise Refused("NoRegister")
     value = s.look(offset)
     if offset == ICR or offset in COUNTERS:
@@ -121,7 +139,7 @@ def read(s: State, offset: int) -> int:
 
 def write(s: State, offset: int, value: int) -> bool:
     """Performs the write; whether it was a reset."""
-    if offset not in REGISTERS:
+    if offset not in REGISTERS | s.besides:
         raise Refused("NoRegister")
     if offset == CTRL and value >> 26 & 1:
         s.reset()
@@ -138,8 +156,16 @@ def write(s: State, offset: int, value: int) -> bool:
         s.put(IMS, s.at(IMS) | value & 0x1FFFF)
     elif offset == IMC:
         s.put(IMS, s.at(IMS) & ~value)
+    elif offset == EECD:
+        s.pins = s.pins.write(value)
+    elif offset == MDIC:
+        s.phy = s.phy.write(s.link, value)
+        if value >> 29 & 1:
+            s.raises(MDAC)
     elif offset in MASKS:
         s.put(offset, value & MASKS[offset])
+    elif offset in MASKS_BESIDES:
+        s.put(offset, value & MASKS_BESIDES[offset])
     elif offset in PLAIN:
         s.put(offset, value)
     return False

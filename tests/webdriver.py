@@ -62,7 +62,7 @@ class Browser:
 
     def call(self, method: str, path: str, what=None):
         """A call of the protocol: its value."""
-        connection = http.client.HTTPConnection("127.0.0.1", self.port, timeout=90)
+        connection = http.client.HTTPConnection("127.0.0.1", self.port, timeout=300)
         path = path if self.session is None else f"/session/{self.session}{path}"
         body = None if method in ("GET", "DELETE") else json.dumps(what or {})
         connection.request(method, path, body, {"Content-Type": "application/json"})

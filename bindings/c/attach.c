@@ -321,3 +321,5 @@ em_code em_write_sized(em_machine *machine, uint32_t offset, uint32_t octets, ui
 em_code em_wire_next(em_machine *machine, uint8_t *out, size_t room, size_t *length) {
   return UNLESS_CALLING(proved_wire_next(machine, out, room, length));
 }
+
+em_code em_let_go(em_machine *machine, size_t *count) { return UNLESS_CALLING(proved_let_go(machine, count)); }

@@ -136,9 +136,19 @@ typedef enum em_code {
   EM_NO_RAM = 41,      /* what is to be attached has neither both functions nor a region */
   EM_BEGUN = 42,       /* the machine has performed an event: a run is kept from its first one on */
   EM_RECORDED = 43,    /* the run is kept already */
-  EM_FILE = 44,        /* the file was not opened, or not written */
+  EM_FILE = 44,        /* the file was not opened, not read, or not written */
   EM_UNRECORDED = 45,  /* the run is not kept */
   EM_WIDTH = 46,       /* an access of a register that has not four octets */
+  EM_NOT_OPEN = 47,    /* the handle holds no capture */
+  EM_OPEN_ALREADY = 48, /* the handle holds a capture already */
+  EM_CAPTURE_END = 49, /* no frame of the capture is left, and it ends there */
+  EM_CAPTURE_MAGIC = 50, /* the capture, or a section of it, begins with no number that is known */
+  EM_CAPTURE_VERSION = 51, /* the capture, or a section of it, has a version that is not known */
+  EM_CAPTURE_CUT = 52, /* the capture ends within a header, a record or a block */
+  EM_CAPTURE_BLOCK = 53, /* a block of the capture has a wrong length */
+  EM_CAPTURE_LINK = 54, /* the capture has another link type than Ethernet */
+  EM_CAPTURE_LENGTH = 55, /* a packet has more octets than the snap length or its block allows */
+  EM_CAPTURE_INTERFACE = 56, /* a packet is of an interface that its section has not described */
   EM_CODE_WIDE = 0x7FFFFFFF /* none: it gives the type 32 bits, in which numbers of later versions have room */
 } em_code;
 
@@ -400,6 +410,82 @@ EM_CHECKED em_code em_wire_frame(const em_machine *machine, size_t index, uint8_
    frame. */
 EM_CHECKED em_code em_wire_next(em_machine *machine, uint8_t *out, size_t room, size_t *length);
 
+/* Lets go of the octets of the frames that were sent before all that em_back can reach, and tells how many frames these
+   are: the first ones. A machine keeps every octet that it sent otherwise. They are counted as before, and the others keep
+   their places, but em_wire_frame gives them a length of 0, and em_wire_next does not hand them over any more: take them
+   first. The memory is used again for frames that are sent later. It is no event, and em_back does not bring the octets
+   back. The cost is a look into each event that can be taken back, and that of moving the octets that stay. */
+EM_CHECKED em_code em_let_go(em_machine *machine, size_t *count);
+
+/* ---- captures
+
+   The frames that a machine sent as a file for Wireshark, and the frames of a file into a machine:
+
+       em_pcap pcap = EM_NO_PCAP;
+       must(em_pcap_open(&pcap, "frames.pcap"));
+       while ((code = em_pcap_next(&pcap, octets, sizeof octets, &length, &frame)) == EM_OK) {
+         must(em_arrive(&m, octets, length, &event));
+         must(em_run_rx(&m, SIZE_MAX, &steps));
+       }
+       if (code != EM_CAPTURE_END) puts(em_strerror(code));    the capture has a fault
+       em_pcap_close(&pcap);
+       must(em_pcap_write(&m, "sent.pcap", NULL));
+
+   A frame of less than 60 octets (`frame.original` and `length`) was captured before it was padded, as no wire has
+   it: a caller pads it to 60 with zeros, as em_debug does, or em_arrive drops it as too short. */
+
+/* Writes the frames that were sent, the first one first, to a file at a path: a classic pcap whose times have
+   nanoseconds. `nanoseconds` has the time of each since 1970, as many as em_wire_count tells. With NULL a frame has
+   the number of the line that sent it in microseconds, where the run is kept (as the command pcap of em_debug gives
+   them of that file), and else its own number, from 1 on. A file is written as PATH.new and then renamed, in the place
+   of one that is there: it is whole, or nothing is changed; what is no file, such as a pipe, is written to. Refused as
+   EM_NOT_MADE, as EM_FILE, where errno says why (EEXIST where there is a PATH.new), or as EM_MEMORY, also where malloc
+   gave none for a time while the run was kept. It takes 130 KB of memory while it writes. It is no event. */
+EM_CHECKED em_code em_pcap_write(const em_machine *machine, const char *path, const uint64_t *nanoseconds);
+
+/* A handle of a capture: it holds the frames that were not handed over, or none. Its fields are the library's own.
+   What is said above of a machine's handle holds of it, and a capture and a machine share nothing. */
+typedef struct em_pcap {
+  bool made;
+  void *held;
+} em_pcap;
+
+/* What it is before em_pcap_open and after em_pcap_close: `em_pcap capture = EM_NO_PCAP;`. */
+#define EM_NO_PCAP \
+  { false, NULL }
+
+/* A frame of a capture, beside its octets. */
+typedef struct em_pcap_frame {
+  uint64_t nanoseconds; /* when it was captured, since 1970 began; 0 where the capture does not say it */
+  uint32_t original;    /* how many octets the frame had: more than were captured, where it was cut */
+  uint32_t timed;       /* 1 where the capture says when it was captured; else 0 */
+} em_pcap_frame;
+
+/* Opens the capture in the file at a path, a pcap or a pcapng of either order of octets: reads it whole, and closes
+   the file. Refused as EM_OPEN_ALREADY where the handle holds one, as EM_FILE, where errno says why, or as EM_MEMORY.
+   What is wrong within the file comes with its frames. It takes the file's size of memory, and that of its frames and
+   64 octets for each of them, of which each is given back as it is handed over. */
+EM_CHECKED em_code em_pcap_open(em_pcap *pcap, const char *path);
+
+/* The same of the octets of a file, which are copied. */
+EM_CHECKED em_code em_pcap_of(em_pcap *pcap, const uint8_t *octets, size_t length);
+
+/* Hands the next frame over, each once, in the order of the capture: what was captured of it goes to the head of
+   `out`, and `length` tells how many octets that are. Where `room` is too small it is refused as EM_ROOM, `length`
+   tells how much is needed, and the frame is the next one still. Refused as EM_NOT_OPEN; behind the last frame as
+   EM_CAPTURE_END, or as what is wrong with the capture there: EM_CAPTURE_MAGIC, EM_CAPTURE_VERSION, EM_CAPTURE_CUT,
+   EM_CAPTURE_BLOCK, EM_CAPTURE_LINK, EM_CAPTURE_LENGTH or EM_CAPTURE_INTERFACE, each time it is asked. The cost is
+   that of copying the frame. */
+EM_CHECKED em_code em_pcap_next(em_pcap *pcap, uint8_t *out, size_t room, size_t *length, em_pcap_frame *frame);
+
+/* Where in the file the fault of the capture is: the offset of the header, the record or the block that has it. It may
+   be asked at any time. Refused as EM_NOT_OPEN, or as EM_CAPTURE_END where it has none. Constant. */
+EM_CHECKED em_code em_pcap_fault(em_pcap *pcap, size_t *offset);
+
+/* Closes the capture that the handle holds, if it holds one; then it holds none, and may be opened again. The cost is
+   that of the frames that were not handed over. */
+void em_pcap_close(em_pcap *pcap);
+
 /* ---- back */
 
 /* Takes the newest n events back, or as many as the journal holds, and tells how many: the machine is as it was before
@@ -618,6 +704,12 @@ typedef struct em_fifo_state {
 
 /* How many frames wait in the FIFO, what the first of them is, and how many octets are gathered. Constant. */
 EM_CHECKED em_code em_fifo(const em_machine *machine, em_fifo_state *fifo);
+
+/* How many octets have room in the FIFO now: 49,152 less those of the frames that wait, each of which counts whole until its
+   last octet is in guest memory. A frame that is accepted is stored where no more of it are stored than that, and else it is
+   EM_MISSED. All of a frame's octets are stored, but for the 4 of a VLAN tag that CTRL.VME has taken out: so a frame of
+   `octets` octets finds room, whatever it is. A virtual machine that asks before it delivers loses none. Constant. */
+EM_CHECKED em_code em_fifo_room(const em_machine *machine, size_t *octets);
 
 /* Copies the first frame that waits to the head of `out`, and tells its length, 0 where none waits. Where `room` is too
    small it is refused as EM_ROOM, and `length` tells how much is needed: 20,000 octets at most. */

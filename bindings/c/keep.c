@@ -9,6 +9,7 @@
 #include <errno.h>
 #include <fcntl.h>
 #include <stdlib.h>
+#include <string.h>
 #include <unistd.h>
 
 /* the register by which software reads the EEPROM, and how many words that has */
@@ -45,11 +46,43 @@ static void fail(kept *run, int error) {
   run->fault = error;
 }
 
+/* How many lines the text has. */
+static uint64_t lines_of(const kept_text *text) {
+  uint64_t count = 0;
+  const uint8_t *at = text->octets, *const end = at + text->used;
+  for (; (at = memchr(at, '\n', (size_t)(end - at))) != NULL; at++) count++;
+  return count;
+}
+
 void put_lines(kept *run) {
   if (run->file < 0) return;
   /* (no line is longer than the room) */
   int error = run->text.used == 0 ? EOVERFLOW : run->is_mapped ? map_lines(run) : write_lines(run);
   if (error != 0) fail(run, error);
+  run->lines += lines_of(&run->text);
+}
+
+/* ---- which line sent a frame */
+
+/* Whether there is room for one more. */
+static bool has_room(kept *run) {
+  if (run->known < run->room) return true;
+  const size_t room = run->room != 0 ? 2 * run->room : 64;
+  uint64_t *sent = realloc(run->sent, room * sizeof *sent);
+  if (sent == NULL) return false;
+  run->sent = sent;
+  run->room = room;
+  return true;
+}
+
+void keep_sent(const em_machine *machine, kept *run) {
+  size_t count = 0;
+  ignore(em_wire_count(machine, &count));
+  if (run->known >= count) run->known = count, run->unknown = false;
+  while (run->known < count && !run->unknown) {
+    if (has_room(run)) run->sent[run->known++] = run->lines;
+    else run->unknown = true;
+  }
 }
 
 /* ---- the head */
@@ -113,6 +146,10 @@ static em_code record(em_machine *machine, const char *path, bool is_mapped) {
   run->is_mapped = is_mapped;
   run->name = NULL;
   run->line = 0;
+  run->lines = 0;
+  run->sent = NULL;
+  run->known = run->room = 0;
+  run->unknown = false;
   em_code why = begin(machine, run, path);
   if (why != EM_OK) {
     const int error = run->fault;
@@ -135,6 +172,7 @@ void keep_no_more(em_machine *machine) {
   close_file(run);
   machine->ram = run->ram;
   machine->state &= ~(uint32_t)KEPT;
+  free(run->sent);
   free(run);
 }
 

@@ -7,6 +7,9 @@
 /* Puts the text at the file's end. Where that fails the file is closed: nothing is put there any more. */
 void put_lines(kept *run);
 
+/* Keeps which line sent the frames that the newest call sent, and forgets those that it took back. */
+void keep_sent(const em_machine *machine, kept *run);
+
 /* ---- by a mapping (keep_map.c): each gives 0, or the number of the host's error */
 
 /* Opens the file, which no other run is kept in by a mapping. */
@@ -31,5 +34,10 @@ em_code kept_set_link(em_machine *machine, bool up, PLACE, kept_text *text);
 em_code kept_rx_step(em_machine *machine, PLACE, kept_text *text);
 em_code kept_tx_step(em_machine *machine, PLACE, kept_text *text);
 em_code kept_back(em_machine *machine, size_t n, PLACE, kept_text *text, size_t *done);
+
+/* ---- and of a capture the header, and the record of a frame that was sent */
+
+void capture_head(kept_text *text);
+em_code capture_record(const em_machine *machine, size_t index, uint64_t nanoseconds, kept_text *text);
 
 #endif

@@ -56,7 +56,9 @@ em_code keep_rx_step(em_machine *machine, em_note *event) {
 
 em_code keep_tx_step(em_machine *machine, em_note *event) {
   kept *run = kept_of(machine);
-  return told(machine, put(run, kept_tx_step(machine, OF(run), &run->text)), event);
+  em_code code = put(run, kept_tx_step(machine, OF(run), &run->text));
+  keep_sent(machine, run);
+  return told(machine, code, event);
 }
 
 /* ---- several */
@@ -64,7 +66,9 @@ em_code keep_tx_step(em_machine *machine, em_note *event) {
 em_code keep_back(em_machine *machine, size_t n, size_t *done) {
   kept *run = kept_of(machine);
   if (n == 0) return proved_back(machine, n, done);
-  return put(run, kept_back(machine, n, OF(run), &run->text, done));
+  em_code code = put(run, kept_back(machine, n, OF(run), &run->text, done));
+  keep_sent(machine, run);
+  return code;
 }
 
 /* As em_sync_in_range does it: one memory write from the first octet that differs to the last, or none. */

@@ -32,6 +32,7 @@ PROVED(run_tx);
 PROVED(back);
 PROVED(tag);
 PROVED(wire_next);
+PROVED(let_go);
 
 /* What a handle's state has: whether memory is attached, or a function of it is being called (one of these two at most);
    whether the run is kept, in which case the handle has a `kept` in the place of what is attached; whether events were taken
@@ -67,6 +68,11 @@ typedef struct kept {
   const char *name; /* where the next calls come from: a line of this file, */
   uint32_t line;
   uint64_t counter; /* or else this program counter, where it is not 0 */
+  uint64_t lines;   /* how many lines there are */
+  uint64_t *sent;   /* of each frame that was sent, the number of the line that sent it, */
+  size_t known;     /* so many, */
+  size_t room;      /* with room for so many */
+  bool unknown;     /* of some that is not known, since memory was refused */
   kept_text text;
 } kept;
 

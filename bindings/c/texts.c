@@ -37,6 +37,16 @@ const char *em_strerror(em_code code) {
     case EM_FILE: return "File: the file was not opened, or not written";
     case EM_UNRECORDED: return "Unrecorded: the run is not kept";
     case EM_WIDTH: return "Width: registers are accessed by four octets";
+    case EM_NOT_OPEN: return "NotOpen: the handle holds no capture";
+    case EM_OPEN_ALREADY: return "OpenAlready: the handle holds a capture already";
+    case EM_CAPTURE_END: return "CaptureEnd: no frame of the capture is left";
+    case EM_CAPTURE_MAGIC: return "CaptureMagic: the capture's magic number is not known";
+    case EM_CAPTURE_VERSION: return "CaptureVersion: the capture's version is not known";
+    case EM_CAPTURE_CUT: return "CaptureCut: the capture is cut short";
+    case EM_CAPTURE_BLOCK: return "CaptureBlock: a block of the capture has a wrong length";
+    case EM_CAPTURE_LINK: return "CaptureLink: the capture's link type is not Ethernet";
+    case EM_CAPTURE_LENGTH: return "CaptureLength: a captured length is too large";
+    case EM_CAPTURE_INTERFACE: return "CaptureInterface: a packet's interface is not described";
     default: return "Unknown: no refusal has the number";
   }
 }

@@ -50,14 +50,15 @@ static bool is_busy(em_machine *m) {
     em_sync_in_range(m, 0, octets, 1, &n), em_arrive(m, ram, 60, &note), em_set_link(m, false), em_rx_step(m, &note),
     em_tx_step(m, &note), em_run_rx(m, 1, &n), em_run_tx(m, 1, &n), em_back(m, 1, &n), em_tag(m, 5),
     em_read_sized(m, STATUS, 4, &size), em_write_sized(m, IMS, 4, 1), em_wire_next(m, octets, sizeof octets, &n),
-    em_attach(m, &none), em_detach(m)
+    em_let_go(m, &n), em_attach(m, &none), em_detach(m)
   };
   for (size_t i = 0; i < sizeof refused / sizeof *refused; i++) {
     if (refused[i] != EM_BUSY) return false;
   }
   em_free(m);
   return em_look(m, STATUS, &value) == EM_OK && value == 0x83 && em_peek(m, 0, octets, 1) == EM_OK
-    && em_memory_size(m, &size) == EM_OK && em_can_go_back(m, &n) == EM_OK && em_written(m, 0, ranges) == EM_OK;
+    && em_memory_size(m, &size) == EM_OK && em_can_go_back(m, &n) == EM_OK && em_written(m, 0, ranges) == EM_OK
+    && em_pcap_write(m, "/dev/null", NULL) == EM_OK;
 }
 
 static bool read_there(void *context, uint64_t address, uint8_t *out, size_t length) {

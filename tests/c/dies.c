@@ -47,13 +47,14 @@ static void die(int way) {
 }
 
 /* What stands in the file: how many lines of calls, and whether each has the form of one. No octet is zero; behind a
-   mapping's last line stands blanks, and what was cut. */
+   mapping's last line stand blanks, and what was cut, or nothing where its newline is the last octet before the file
+   grows. */
 static size_t lines(bool *are_whole) {
   FILE *file = fopen(path, "r");
   size_t length = file ? fread(text, 1, TEXT - 1, file) : 0, count = 0;
   if (file) fclose(file);
   text[length] = 0;
-  *are_whole = strlen(text) == length && (!is_mapped || length == 0 || text[length - 1] == ' ');
+  *are_whole = strlen(text) == length && (!is_mapped || length == 0 || strchr(" \n", text[length - 1]) != NULL);
   for (char *at = text, *end; (end = strchr(at, '\n')) != NULL; at = end + 1) {
     *end = 0;
     if (*at == '#') continue;

@@ -54,7 +54,11 @@ void *__wrap_malloc(size_t octets) {
   return block;
 }
 
-void *__wrap_realloc(void *block, size_t octets) { return refuses() ? NULL : __real_realloc(block, octets); }
+void *__wrap_realloc(void *block, size_t octets) {
+  void *made = refuses() ? NULL : __real_realloc(block, octets);
+  blocks += block == NULL && made != NULL;
+  return made;
+}
 
 void __wrap_free(void *block) {
   blocks -= block != NULL;

@@ -250,6 +250,116 @@ static void keeps_steps(void) {
   em_free(&m);
 }
 
+/* ---- the capture of a run: each frame has the line that sent it, as em_debug counts them */
+
+/* the times of the frames, in microseconds, of frames of 60 octets */
+static bool has_times(const char *capture, size_t count, const uint64_t *lines) {
+  static uint8_t octets[4096];
+  int file = open(capture, O_RDONLY);
+  ssize_t length = file < 0 ? -1 : read(file, octets, sizeof octets);
+  if (file >= 0) close(file);
+  bool same = length == (ssize_t)(24 + 76 * count);
+  for (size_t i = 0; i < count && same; i++) {
+    const uint8_t *at = octets + 24 + 76 * i;
+    same = !(at[0] | at[1] | at[2] | at[3]) && (at[4] | at[5] << 8 | (uint64_t)at[6] << 16) == lines[i] * 1000;
+  }
+  return same;
+}
+
+static void keeps_lines_of_frames(void) {
+  em_machine m = kept("sent.em");
+  char to[PATH];
+  em_note note;
+  size_t done, lines = 0;
+  int fault;
+  snprintf(to, sizeof to, "%s/sent.pcap", folder);
+  OK(em_set_link(&m, true));
+  OK(em_poke(&m, BUFFER, ram, 60));
+  for (unsigned i = 0; i < DESCRIPTORS; i++) put_descriptor(&m, TX_RING + 16 * i, BUFFER, 60, EOP);
+  OK(em_write(&m, TDBAL, TX_RING));
+  OK(em_write(&m, TDLEN, 128));
+  OK(em_write(&m, TCTL, TCTL_EN));
+  OK(em_write(&m, TDT, 7));
+  for (size_t length = in_file(), i = 0; i < length; i++) lines += there[i] == '\n';
+  CHECK(lines == 1 + 2 + DESCRIPTORS + 4);
+  OK(em_tx_step(&m, &note));                                    /* line 16 */
+  OK(em_run_tx(&m, 2, &done));                                  /* lines 17 and 18 */
+  OK(em_write(&m, IMS, 1));                                     /* line 19 */
+  OK(em_pcap_write(&m, to, NULL));
+  CHECK(has_times(to, 3, (const uint64_t[]){16, 17, 18}));
+  OK(em_back(&m, 3, &done));                                    /* line 20: the last two are off the wire */
+  OK(em_pcap_write(&m, to, NULL));
+  CHECK(has_times(to, 1, (const uint64_t[]){16}));
+  OK(em_run_tx(&m, SIZE_MAX, &done));                           /* lines 21 to 26, and one that is idle */
+  OK(em_pcap_write(&m, to, NULL));
+  CHECK(done == 6 && has_times(to, 7, (const uint64_t[]){16, 21, 22, 23, 24, 25, 26}));
+  OK(em_back(&m, 2, &done));
+  OK(em_set_link(&m, false));
+  OK(em_run_tx(&m, 1, &done));
+  OK(em_pcap_write(&m, to, NULL));
+  /* em_debug writes the same of this file, as tests/c_library has it; and what the caller says goes before */
+  snprintf(to, sizeof to, "%s/said.pcap", folder);
+  OK(em_pcap_write(&m, to, (const uint64_t[]){1000, 2000, 3000, 4000, 5000, 6000, 7000}));
+  CHECK(has_times(to, 7, (const uint64_t[]){1, 2, 3, 4, 5, 6, 7}));
+  OK(em_recording_status(&m, &fault));
+  em_free(&m);
+}
+
+/* a machine with a frame to send */
+static em_machine ready(const char *name) {
+  em_machine m = kept(name);
+  OK(em_poke(&m, BUFFER, ram, 60));
+  OK(em_set_link(&m, true));
+  put_descriptor(&m, TX_RING, BUFFER, 60, EOP);
+  OK(em_write(&m, TDBAL, TX_RING));
+  OK(em_write(&m, TDLEN, 128));
+  OK(em_write(&m, TCTL, TCTL_EN));
+  OK(em_write(&m, TDT, 1));
+  return m;
+}
+
+/* Where memory is refused for which line it was, or the run is kept no more. */
+static void knows_no_lines(void) {
+  em_machine m = ready("unknown.em");
+  char to[PATH];
+  em_note note;
+  em_code code = EM_MEMORY;
+  size_t done;
+  int fault;
+  snprintf(to, sizeof to, "%s/unknown.pcap", folder);
+  unlink(to);
+  once = false;
+  for (long n = 0; n < 100; n++) { /* as many requests as the machine makes are granted, and no more */
+    granted = n;
+    code = em_tx_step(&m, &note);
+    granted = -1;
+    if (code != EM_MEMORY) break;
+    em_free(&m);
+    m = ready("unknown.em");
+  }
+  CHECK(code == EM_OK && note.kind == EM_SENT);
+  REFUSED(em_pcap_write(&m, to, NULL), EM_MEMORY);
+  CHECK(access(to, F_OK) != 0);
+  OK(em_pcap_write(&m, to, (const uint64_t[]){7000}));
+  CHECK(has_times(to, 1, (const uint64_t[]){7}));
+  /* it is taken back, and sent once more */
+  OK(em_back(&m, 1, &done));
+  OK(em_tx_step(&m, &note));
+  OK(em_pcap_write(&m, to, NULL));
+  CHECK(has_times(to, 1, (const uint64_t[]){11}));
+  em_free(&m);
+  if (is_mapped) return;
+  m = kept("unknown.em");
+  error = EIO, whole = 0;
+  OK(em_set_link(&m, true));
+  whole = -1;
+  OK(em_pcap_write(&m, to, NULL));
+  REFUSED(em_recording_status(&m, &fault), EM_FILE);
+  OK(em_pcap_write(&m, to, NULL));
+  CHECK(has_times(to, 0, NULL));
+  em_free(&m);
+}
+
 /* ---- attached memory */
 
 static bool writes_there = true;
@@ -544,6 +654,9 @@ static void calls_at_random(unsigned rounds) {
   CHECK(count[0] == count[1] && count[0] > 0);
   same_machines(&m, &n);
   CHECK(all > 0);
+  char to[PATH];
+  snprintf(to, sizeof to, "%s/random.pcap", folder);
+  OK(em_pcap_write(&m, to, NULL));
   em_free(&m), em_free(&n);
 }
 
@@ -556,6 +669,8 @@ int main(int words, char **word) {
   keeps_places();
   keeps_octets();
   keeps_steps();
+  keeps_lines_of_frames();
+  knows_no_lines();
   keeps_what_is_brought();
   keeps_the_eeprom();
   keeps_memory_at_a_base();

@@ -124,6 +124,8 @@ static void look_at_frames(const em_machine *machine, struct looker *looker) {
   CHECK(looker, length == LENGTH && !memcmp(frame, FRAME, LENGTH));
   OK(em_fifo(machine, &fifo));
   CHECK(looker, fifo.frames == 1 && fifo.octets == LENGTH && fifo.gathered == 20);
+  OK(em_fifo_room(machine, &count));
+  CHECK(looker, count == 49152 - LENGTH);
   OK(em_fifo_frame(machine, frame, sizeof frame, &length));
   CHECK(looker, length == LENGTH && !memcmp(frame, FRAME, LENGTH));
   OK(em_gathered(machine, frame, sizeof frame, &length));

@@ -1,6 +1,6 @@
 /* Each request for memory of each call is refused in turn, once alone and once with all after it: the call that was
    refused has left the machine as it was, and the same call with memory does what it should. All other calls ask for no
-   memory. The last line is `N passed, M failed`. */
+   memory; of captures captures.c tries it. The last line is `N passed, M failed`. */
 #include "harness.h"
 
 #include <stdlib.h>
@@ -353,6 +353,7 @@ static void asks_for_none(void) {
   OK(em_warnings(&machine, warnings, &count));
   REFUSED(em_ring_entry(&machine, EM_RX_RING, ring.count, &entry), EM_NO_DESCRIPTOR);
   OK(em_fifo(&machine, &fifo));
+  OK(em_fifo_room(&machine, &count));
   OK(em_fifo_frame(&machine, all->memory, MEMORY, &count));
   OK(em_gathered(&machine, all->memory, MEMORY, &count));
   OK(em_field(RCTL, 0, &field));
@@ -365,6 +366,7 @@ static void asks_for_none(void) {
   OK(em_wire_count(&machine, &count));
   OK(em_wire_frame(&machine, 0, all->frames[0], 2048, &count));
   OK(em_wire_next(&machine, all->frames[0], 2048, &count));
+  OK(em_let_go(&machine, &count));
   OK(em_read_sized(&machine, ICR, 4, &size));
   OK(em_write_sized(&machine, IMS, 4, LSC));
   OK(em_tag(&machine, 5));

@@ -152,7 +152,9 @@ class MemoryAndFrames(unittest.TestCase):
 
     def test_receiving(self):
         m = receiving()
+        self.assertEqual(m.fifo_room(), 49152)
         self.assertTrue(m.arrive(FRAME).is_stored)
+        self.assertEqual(m.fifo_room(), 49152 - 60)
         self.assertEqual((m.last_change("frames")[:2], m.last_change("sent")), ((1, 0), None))
         self.assertRaises(bunjelav.Length, m.arrive, b"short")
         self.assertEqual(m.rx_step(), ("wrote", RING, 0, 0, 0, BUFFER, 60))
@@ -171,6 +173,7 @@ class MemoryAndFrames(unittest.TestCase):
         self.assertEqual(m.tx_step(), ("sent", 0x2000, 60, 0, 0, BUFFER, 60))
         self.assertEqual(m.wire, [FRAME])
         self.assertEqual((list(m.wire_next()), list(m.wire_next())), ([FRAME], []))
+        self.assertEqual((m.let_go(), m.wire), (0, [FRAME]))
         self.assertEqual((m.last_change("sent")[:2], m.last_change("frames")), ((1, 0), None))
         m.TDT = 2
         self.assertRaises(bunjelav.Extended, m.tx_step)
@@ -310,7 +313,7 @@ class Numbers(unittest.TestCase):
 class Names(unittest.TestCase):
     def test_refusals_have_their_names(self):
         """Each of the library's refusals is an exception of the module, whatever else the module has."""
-        self.assertEqual(len(_tables.REFUSALS), 29)
+        self.assertEqual(len(_tables.REFUSALS), 39)
         for name, number in _tables.REFUSALS.items():
             refusal = getattr(bunjelav, name)
             self.assertTrue(issubclass(refusal, bunjelav.Refused) and issubclass(refusal, Exception), name)

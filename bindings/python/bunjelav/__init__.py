@@ -14,6 +14,7 @@
     m.warn(print)                  # what the driver gets wrong is printed as it happens
     m.attach(ram)                  # the adapter works on a bytearray, an mmap, or what else has octets
     m.record_to("core.em")         # from the first event on each is kept, with your line: em_debug core.em
+    m.pcap_write("sent.pcap")      # the frames that were sent, for Wireshark; frames_of reads a capture
 
 A register is named as in the manual, in either case of its letters, or by its offset. A call that the model refuses
 raises the exception of the refusal's name, as NoRegister or Range; it has changed nothing.
@@ -34,6 +35,7 @@ from pathlib import Path  # noqa: F401  (for an example)
 from typing import Any, Callable, Dict, Iterable, Iterator, List, NamedTuple, NoReturn, Optional, Union, overload
 
 from . import _refusals, _tables
+from ._captures import CapturedFrame, frames_of, must_of_file
 from ._explain import Difference, DriverWarning, Explained, Fifo, Reason, line_of, numbers_of, trouble_of
 from ._native import (
     DONE, SIZE_T, U32, U64, Register, bits_of, library, must, name_of, number_of, octets_of, offset_of, refused,
@@ -44,7 +46,7 @@ from ._refusals import NoName, Refused
 
 __all__ = [
     "Machine", "GuestMemory", "Event", "Change", "Needs", "RxDescriptor", "TxDescriptor", "Reason", "DriverWarning",
-    "Difference", "Fifo", "name_of", "offset_of", "bits_of", "words_of",
+    "Difference", "Fifo", "CapturedFrame", "frames_of", "name_of", "offset_of", "bits_of", "words_of",
 ]
 __all__ += _refusals.__all__
 __version__ = _tables.VERSION
@@ -337,11 +339,7 @@ class Machine(Explained):
         w 000000D0 00000004 = ok @ ...:1
         """
         record = library.em_record_mapped if mapped else library.em_record_to
-        number = record(self._at, os.fsencode(path))
-        if number == _tables.REFUSALS["File"]:
-            error = ctypes.get_errno()
-            raise refused(number) from OSError(error, os.strerror(error), os.fsdecode(path))
-        must(number)
+        must_of_file(record(self._at, os.fsencode(path)), os.fsdecode(path))
         super().__setattr__("_places", {} if places else None)
 
     def recording(self) -> bool:
@@ -651,6 +649,39 @@ class Machine(Explained):
                 return
             must(number)
             yield room.raw[: length.value]
+
+    def let_go(self) -> int:
+        """Lets go of the octets of the frames that were sent before all that `back` can reach, and gives how many frames
+        these are: the first ones. They are empty in `wire` from then on, and `wire_next` gives them no more.
+
+        >>> Machine().let_go()
+        0
+        """
+        return self._told(library.em_let_go, SIZE_T())
+
+    def pcap_write(
+        self, path: Union[str, bytes, "os.PathLike[str]"], nanoseconds: Optional[Iterable[int]] = None
+    ) -> None:
+        """Writes the frames that were sent to a file as a capture, pcap, the first one first; one that is there is
+        replaced, whole or not at all. `nanoseconds` are their times since 1970, one for each. Without them a frame's
+        time is the number of the line that sent it, where the run is kept, and else its own number, from 1 on, in
+        microseconds. Where the file can't be written, File is raised from the OSError.
+
+        >>> import tempfile
+        >>> path = Path(tempfile.mkdtemp()) / "sent.pcap"
+        >>> m = Machine()
+        >>> m.pcap_write(path)
+        >>> list(frames_of(path))
+        []
+        """
+        times = None
+        if nanoseconds is not None:
+            given = [number_of(it, 64, "a time") for it in nanoseconds]
+            count = self._told(library.em_wire_count, SIZE_T())
+            if len(given) != count:
+                raise ValueError(f"{count} frames were sent, and {len(given)} times are given")
+            times = (U64 * max(count, 1))(*given)
+        must_of_file(library.em_pcap_write(self._at, os.fsencode(path), times), os.fsdecode(path))
 
     # ---- back, and who did it
 

@@ -13,6 +13,8 @@ from ._refusals import Refused
 Register = Union[str, int]
 
 DONE = 0
+# the calls that give nothing
+NOTHING = ("em_free", "em_pcap_close")
 SIZE_T, U32, U64 = ctypes.c_size_t, ctypes.c_uint32, ctypes.c_uint64
 
 
@@ -34,7 +36,7 @@ def opened(path: Path) -> ctypes.CDLL:
         call = getattr(made, name, None)
         if call is None:
             raise ImportError(f"{path} has no {name}: it is older than this package, which is {_tables.VERSION}")
-        call.argtypes, call.restype = types, _tables.TEXTS.get(name, None if name == "em_free" else U32)
+        call.argtypes, call.restype = types, _tables.TEXTS.get(name, None if name in NOTHING else U32)
     version = made.em_version().decode()
     if version != _tables.VERSION:
         raise ImportError(f"{path} is of version {version}, and this package of {_tables.VERSION}")

@@ -6,6 +6,8 @@ __all__ = [
     "Refused", "NoRegister", "Range", "Length", "DmaRange", "Extended", "TooLong", "Memory", "Budget", "NotMade",
     "MadeAlready", "Size", "NoFrame", "Room", "NoEvent", "NoChange", "NoWatch", "NoName", "NoRefusal", "NoRing",
     "NoDescriptor", "Busy", "Unread", "Unwritten", "NoRam", "Begun", "Recorded", "File", "Unrecorded", "Width",
+    "NotOpen", "OpenAlready", "CaptureEnd", "CaptureMagic", "CaptureVersion", "CaptureCut", "CaptureBlock",
+    "CaptureLink", "CaptureLength", "CaptureInterface",
 ]
 
 
@@ -19,6 +21,8 @@ class Refused(Exception):
     done = 0
     # of an event by which rule it was refused, as `Machine.why` says
     why: object = None
+    # of what is wrong with a capture where in its file it is
+    offset = 0
 
 
 class NoRegister(Refused):
@@ -193,3 +197,63 @@ class Width(Refused):
     """An access of a register that has not four octets."""
 
     number = 46
+
+
+class NotOpen(Refused):
+    """The handle holds no capture."""
+
+    number = 47
+
+
+class OpenAlready(Refused):
+    """The handle holds a capture already."""
+
+    number = 48
+
+
+class CaptureEnd(Refused):
+    """Each frame of the capture was handed over, and it ends there."""
+
+    number = 49
+
+
+class CaptureMagic(Refused):
+    """The capture's file, or a section of it, begins with no number that is known."""
+
+    number = 50
+
+
+class CaptureVersion(Refused):
+    """The capture, or a section of it, has a version that is not known."""
+
+    number = 51
+
+
+class CaptureCut(Refused):
+    """The capture is cut within a header, a record or a block."""
+
+    number = 52
+
+
+class CaptureBlock(Refused):
+    """A block of the capture has a wrong length."""
+
+    number = 53
+
+
+class CaptureLink(Refused):
+    """The capture has another link type than Ethernet."""
+
+    number = 54
+
+
+class CaptureLength(Refused):
+    """A packet of the capture has more octets than its snap length or its block allows."""
+
+    number = 55
+
+
+class CaptureInterface(Refused):
+    """A packet of the capture is of an interface that its section has not described."""
+
+    number = 56

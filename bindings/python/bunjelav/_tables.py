@@ -41,6 +41,16 @@ REFUSALS = {
     "File": 44,
     "Unrecorded": 45,
     "Width": 46,
+    "NotOpen": 47,
+    "OpenAlready": 48,
+    "CaptureEnd": 49,
+    "CaptureMagic": 50,
+    "CaptureVersion": 51,
+    "CaptureCut": 52,
+    "CaptureBlock": 53,
+    "CaptureLink": 54,
+    "CaptureLength": 55,
+    "CaptureInterface": 56,
 }
 
 # by number, what each kind of event is called
@@ -161,10 +171,22 @@ class Handle(Structure):
     _fields_ = [("made", c_bool), ("held", c_void_p), ("ram", Ram), ("state", c_uint32)]
 
 
+class Pcap(Structure):
+    _fields_ = [("made", c_bool), ("held", c_void_p)]
+
+
 class Register(Structure):
     _fields_ = [
         ("offset", c_uint32),
         ("value", c_uint32),
+    ]
+
+
+class PcapFrame(Structure):
+    _fields_ = [
+        ("nanoseconds", c_uint64),
+        ("original", c_uint32),
+        ("timed", c_uint32),
     ]
 
 
@@ -312,8 +334,10 @@ CALLS = {
     "em_field": [c_uint32, c_size_t, POINTER(Field)],
     "em_value_text": [c_uint32, c_uint32, c_void_p, c_size_t, POINTER(c_size_t)],
     "em_fifo": [POINTER(Handle), POINTER(Fifo)],
+    "em_fifo_room": [POINTER(Handle), POINTER(c_size_t)],
     "em_fifo_frame": [POINTER(Handle), c_void_p, c_size_t, POINTER(c_size_t)],
     "em_gathered": [POINTER(Handle), c_void_p, c_size_t, POINTER(c_size_t)],
+    "em_let_go": [POINTER(Handle), POINTER(c_size_t)],
     "em_make": [POINTER(Handle), c_uint64, c_uint64, c_void_p],
     "em_make_with_eeprom": [POINTER(Handle), c_uint64, c_uint64, POINTER(c_uint16)],
     "em_make_at": [POINTER(Handle), c_uint64, c_uint64, c_uint64, c_void_p],
@@ -328,6 +352,10 @@ CALLS = {
     "em_wire_next": [POINTER(Handle), c_void_p, c_size_t, POINTER(c_size_t)],
     "em_tag": [POINTER(Handle), c_uint64],
     "em_event": [POINTER(Handle), c_size_t, POINTER(Note)],
+    "em_pcap_of": [POINTER(Pcap), c_void_p, c_size_t],
+    "em_pcap_next": [POINTER(Pcap), c_void_p, c_size_t, POINTER(c_size_t), POINTER(PcapFrame)],
+    "em_pcap_fault": [POINTER(Pcap), POINTER(c_size_t)],
+    "em_pcap_close": [POINTER(Pcap)],
     "em_ring_needs": [POINTER(Handle), c_uint32, POINTER(Range), POINTER(Range)],
     "em_written": [POINTER(Handle), c_size_t, POINTER(Range)],
     "em_refusal": [c_uint32, c_void_p, c_size_t, POINTER(c_size_t)],
@@ -363,6 +391,8 @@ CALLS = {
     "em_record_mapped": [POINTER(Handle), c_char_p],
     "em_recording_status": [POINTER(Handle), POINTER(c_int)],
     "em_source": [POINTER(Handle), c_char_p, c_uint32],
+    "em_pcap_write": [POINTER(Handle), c_char_p, POINTER(c_uint64)],
+    "em_pcap_open": [POINTER(Pcap), c_char_p],
     "em_strerror": [c_uint32],
     "em_version": [],
 }

@@ -34,6 +34,7 @@
 #[cfg(feature = "std")]
 extern crate std;
 
+mod capture;
 mod event;
 mod explain;
 mod machine;
@@ -45,6 +46,9 @@ mod refusal;
 mod ring;
 mod tables;
 
+#[cfg(feature = "std")]
+pub use capture::CapturedFrame;
+pub use capture::{Capture, Captured};
 #[cfg(feature = "std")]
 pub use event::words_of;
 pub use event::{fields_of, offset_of, Change, Difference, Event, Field, Fields, Name, Watch};

@@ -295,6 +295,13 @@ impl Machine {
         fifo
     }
 
+    /// How many octets have room in the FIFO now: a frame of no more finds room, whatever it is.
+    pub fn fifo_room(&self) -> usize {
+        let mut octets = 0;
+        unsafe { raw::em_fifo_room(self.handle.get(), &mut octets) };
+        octets
+    }
+
     /// Copies the first frame that waits in the FIFO to the head of `out`, and gives how many octets it has: 0 where
     /// none waits.
     pub fn waiting_frame(&self, out: &mut [u8]) -> Result<usize, Refusal> {
@@ -611,9 +618,44 @@ impl Machine {
         Sent { machine: self }
     }
 
+    /// Lets go of the octets of the frames that were sent before all that [`back`](Machine::back) can reach, and gives how
+    /// many frames these are: the first ones. They are counted as before, have no octet from then on, and are not handed
+    /// over any more.
+    pub fn let_go(&mut self) -> usize {
+        let mut count = 0;
+        unsafe { raw::em_let_go(self.handle.get(), &mut count) };
+        count
+    }
+
     /// The frames that were sent, the first one first.
     pub fn frames(&self) -> Frames<'_> {
         Frames { machine: self, next: 0 }
+    }
+
+    /// Writes the frames that were sent to a file as a capture, pcap, the first one first; one that is there is
+    /// replaced, whole or not at all. A frame's time is the number of the line that sent it, where the run is kept, and
+    /// else its own number, from 1 on, in microseconds. Where the file can't be written it is refused as
+    /// [`Refusal::File`], and `std::io::Error::last_os_error` says why.
+    #[cfg(feature = "std")]
+    pub fn write_pcap<P: AsRef<std::path::Path>>(&self, path: P) -> Result<(), Refusal> {
+        self.write_capture(path.as_ref(), core::ptr::null())
+    }
+
+    /// The same with the time of each frame, in nanoseconds since 1970 began.
+    ///
+    /// # Panics
+    ///
+    /// Where they are not as many as the frames.
+    #[cfg(feature = "std")]
+    pub fn write_pcap_at<P: AsRef<std::path::Path>>(&self, path: P, nanoseconds: &[u64]) -> Result<(), Refusal> {
+        assert_eq!(nanoseconds.len(), self.wire_count(), "each frame that was sent has a time");
+        self.write_capture(path.as_ref(), nanoseconds.as_ptr())
+    }
+
+    #[cfg(feature = "std")]
+    fn write_capture(&self, path: &std::path::Path, nanoseconds: *const u64) -> Result<(), Refusal> {
+        let path = crate::record::c_path(path).ok_or(Refusal::File)?;
+        told(unsafe { raw::em_pcap_write(self.handle.get(), path.as_ptr(), nanoseconds) }, ())
     }
 
     /// Takes the newest `n` events back, or as many as the journal holds; gives how many. Where memory is attached that

@@ -46,6 +46,12 @@ pub(crate) struct Handle {
     pub state: u32,
 }
 
+#[repr(C)]
+pub(crate) struct Pcap {
+    pub made: bool,
+    pub held: *mut c_void,
+}
+
 /// A register, and what a read of it would give.
 #[repr(C)]
 #[derive(Clone, Copy, PartialEq, Eq, Hash, Debug, Default)]
@@ -54,6 +60,15 @@ pub struct Register {
     pub offset: u32,
     /// What a read of it would give.
     pub value: u32,
+}
+
+/// A frame of a capture, beside its octets.
+#[repr(C)]
+#[derive(Clone, Copy, Default)]
+pub(crate) struct PcapFrame {
+    pub nanoseconds: u64,
+    pub original: u32,
+    pub timed: u32,
 }
 
 /// What an event changed of one thing: what was seen before the event, and behind it.
@@ -288,8 +303,10 @@ extern "C" {
     pub(crate) fn em_field(offset: u32, k: usize, field: *mut Field) -> u32;
     pub(crate) fn em_value_text(offset: u32, value: u32, out: *mut u8, room: usize, octets: *mut usize) -> u32;
     pub(crate) fn em_fifo(machine: *const Handle, fifo: *mut Fifo) -> u32;
+    pub(crate) fn em_fifo_room(machine: *const Handle, octets: *mut usize) -> u32;
     pub(crate) fn em_fifo_frame(machine: *const Handle, out: *mut u8, room: usize, octets: *mut usize) -> u32;
     pub(crate) fn em_gathered(machine: *const Handle, out: *mut u8, room: usize, octets: *mut usize) -> u32;
+    pub(crate) fn em_let_go(machine: *mut Handle, count: *mut usize) -> u32;
     pub(crate) fn em_make(machine: *mut Handle, memory: u64, budget: u64, mac: *const u8) -> u32;
     pub(crate) fn em_make_with_eeprom(machine: *mut Handle, memory: u64, budget: u64, words: *const u16) -> u32;
     pub(crate) fn em_make_at(machine: *mut Handle, base: u64, memory: u64, budget: u64, mac: *const u8) -> u32;
@@ -310,6 +327,16 @@ extern "C" {
     pub(crate) fn em_wire_next(machine: *mut Handle, out: *mut u8, room: usize, octets: *mut usize) -> u32;
     pub(crate) fn em_tag(machine: *mut Handle, tag: u64) -> u32;
     pub(crate) fn em_event(machine: *const Handle, k: usize, event: *mut Note) -> u32;
+    pub(crate) fn em_pcap_of(pcap: *mut Pcap, octets: *const u8, length: usize) -> u32;
+    pub(crate) fn em_pcap_next(
+        pcap: *mut Pcap,
+        out: *mut u8,
+        room: usize,
+        octets: *mut usize,
+        frame: *mut PcapFrame,
+    ) -> u32;
+    pub(crate) fn em_pcap_fault(pcap: *mut Pcap, offset: *mut usize) -> u32;
+    pub(crate) fn em_pcap_close(pcap: *mut Pcap);
     pub(crate) fn em_ring_needs(machine: *const Handle, side: u32, reads: *mut Range, writes: *mut Range) -> u32;
     pub(crate) fn em_written(machine: *const Handle, k: usize, written: *mut Range) -> u32;
     pub(crate) fn em_refusal(code: u32, out: *mut u8, room: usize, octets: *mut usize) -> u32;
@@ -364,6 +391,8 @@ extern "C" {
     pub(crate) fn em_record_mapped(machine: *mut Handle, path: *const c_char) -> u32;
     pub(crate) fn em_recording_status(machine: *mut Handle, error: *mut c_int) -> u32;
     pub(crate) fn em_source(machine: *mut Handle, file: *const c_char, line: u32) -> u32;
+    pub(crate) fn em_pcap_write(machine: *const Handle, path: *const c_char, nanoseconds: *const u64) -> u32;
+    pub(crate) fn em_pcap_open(pcap: *mut Pcap, path: *const c_char) -> u32;
     pub(crate) fn em_strerror(code: u32) -> *const c_char;
     pub(crate) fn em_version() -> *const c_char;
 }

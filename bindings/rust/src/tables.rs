@@ -86,12 +86,32 @@ pub enum Refusal {
     Unrecorded,
     /// An access of a register that has not four octets.
     Width,
+    /// The handle holds no capture.
+    NotOpen,
+    /// The handle holds a capture already.
+    OpenAlready,
+    /// Each frame of the capture was handed over, and it ends there.
+    CaptureEnd,
+    /// The capture's file, or a section of it, begins with no number that is known.
+    CaptureMagic,
+    /// The capture, or a section of it, has a version that is not known.
+    CaptureVersion,
+    /// The capture is cut within a header, a record or a block.
+    CaptureCut,
+    /// A block of the capture has a wrong length.
+    CaptureBlock,
+    /// The capture has another link type than Ethernet.
+    CaptureLink,
+    /// A packet of the capture has more octets than its snap length or its block allows.
+    CaptureLength,
+    /// A packet of the capture is of an interface that its section has not described.
+    CaptureInterface,
     /// Another number, which this binding does not know.
     Other(u32),
 }
 
 /// Each refusal with its number.
-pub(crate) const REFUSALS: [(Refusal, u32); 29] = [
+pub(crate) const REFUSALS: [(Refusal, u32); 39] = [
     (Refusal::NoRegister, 1),
     (Refusal::Range, 2),
     (Refusal::Length, 3),
@@ -121,6 +141,16 @@ pub(crate) const REFUSALS: [(Refusal, u32); 29] = [
     (Refusal::File, 44),
     (Refusal::Unrecorded, 45),
     (Refusal::Width, 46),
+    (Refusal::NotOpen, 47),
+    (Refusal::OpenAlready, 48),
+    (Refusal::CaptureEnd, 49),
+    (Refusal::CaptureMagic, 50),
+    (Refusal::CaptureVersion, 51),
+    (Refusal::CaptureCut, 52),
+    (Refusal::CaptureBlock, 53),
+    (Refusal::CaptureLink, 54),
+    (Refusal::CaptureLength, 55),
+    (Refusal::CaptureInterface, 56),
 ];
 
 /// By which rule an event did nothing.

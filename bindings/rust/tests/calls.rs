@@ -1,6 +1,6 @@
 //! Each call of the binding once, and each refusal: what they give was worked out from the manual's tables.
 use bunjelav::{offset_of, Asked, Kind, Machine, Name, Octets, Ram, Refusal, Region, Register, Ring, Rule, Stopped};
-use bunjelav::{Trouble, Warned, Watch};
+use bunjelav::{Capture, Captured, CapturedFrame, Trouble, Warned, Watch};
 use bunjelav::{MOST_SENT, REGISTERS};
 use std::sync::{Arc, Mutex};
 
@@ -213,6 +213,7 @@ fn sends() {
     assert_eq!(m.wire_next_into(&mut out[..59]), Err(Refusal::Room));
     assert!(m.wire_next().map(|it| it.to_vec()).eq([frame().to_vec()]));
     assert_eq!((m.wire_next_into(&mut out), m.wire_next().count()), (Ok(None), 0));
+    assert_eq!((m.let_go(), m.wire_frame(0, &mut out)), (0, Ok(60)));
     // taken back, and sent once more: a new frame
     assert_eq!((m.back(1), m.wire_next().count()), (1, 0));
     assert_eq!(m.run_tx(9), Ok(1));
@@ -306,6 +307,7 @@ fn goes_to_another_thread() {
 #[test]
 fn is_looked_at_by_several_threads_at_once() {
     let mut m = receiving();
+    assert_eq!(m.fifo_room(), 49_152);
     m.arrive(&frame()).unwrap();
     for tail in [4, 5] {
         m.write(RDT, tail).unwrap();
@@ -313,7 +315,7 @@ fn is_looked_at_by_several_threads_at_once() {
             for _ in 0..4 {
                 scope.spawn(|| {
                     for _ in 0..500 {
-                        assert_eq!((m.look(RDT), m.fifo().frames, m.line()), (Ok(tail), 1, false));
+                        assert_eq!((m.look(RDT), m.fifo_room(), m.line()), (Ok(tail), 49_092, false));
                         assert_eq!((m.event(0).unwrap().value, m.warnings().unwrap().count()), (tail, 0));
                     }
                 });
@@ -555,6 +557,89 @@ fn tells_where_a_run_is_not_kept() {
     m.write(IMS, 8).unwrap();
     assert_eq!(m.record_to(&path), Err(Refusal::Begun));
     std::fs::remove_file(&path).unwrap();
+}
+
+/// A machine that sent two frames.
+fn sent() -> Machine {
+    let mut m = made();
+    m.set_link(true).unwrap();
+    m.poke(BUFFER, &frame()).unwrap();
+    for i in 0..2 {
+        m.poke(0x2000 + 16 * i, &descriptor(60, 1)).unwrap();
+    }
+    for (offset, value) in [(0x3800, 0x2000), (0x3808, 128), (0x0400, 2), (0x3818, 2)] {
+        m.write(offset, value).unwrap();
+    }
+    assert_eq!(m.run_tx(9), Ok(2));
+    m
+}
+
+#[test]
+fn writes_captures_and_reads_them() {
+    let path = std::env::temp_dir().join(format!("bunjelav-calls-{}.pcap", std::process::id()));
+    let m = sent();
+    m.write_pcap(&path).unwrap();
+    let captured = |nanoseconds| CapturedFrame { octets: frame().to_vec(), original: 60, nanoseconds: Some(nanoseconds) };
+    let mut frames = Capture::open(&path).unwrap();
+    assert!(frames.by_ref().eq([Ok(captured(1_000)), Ok(captured(2_000))]));
+    assert_eq!((frames.next(), frames.fault()), (None, None));
+    m.write_pcap_at(&path, &[7, u64::MAX]).unwrap();
+    assert!(Capture::open(&path).unwrap().eq([Ok(captured(7)), Ok(captured(4_294_967_295_999_999_999))]));
+    // one by one, and where there is no room
+    let octets = std::fs::read(&path).unwrap();
+    let mut capture = Capture::of(&octets).unwrap();
+    let mut out = [0; 60];
+    assert_eq!(capture.next_into(&mut out[..59]), Err(Refusal::Room));
+    assert_eq!(capture.next_into(&mut out), Ok(Some(Captured { length: 60, original: 60, nanoseconds: Some(7) })));
+    assert_eq!(out, frame());
+    assert!(capture.next_into(&mut out).unwrap().is_some());
+    assert_eq!((capture.next_into(&mut out), capture.next_into(&mut out)), (Ok(None), Ok(None)));
+    // into a machine
+    let mut to = receiving();
+    for frame in Capture::of(&octets).unwrap() {
+        assert_eq!(to.arrive(&frame.unwrap().arriving()).unwrap().kind, Kind::Stored);
+    }
+    // a frame that was not padded, and one that is long
+    let mut short = octets[..24].to_vec();
+    short.extend([0; 8]);
+    short.extend([14, 0, 0, 0, 14, 0, 0, 0]);
+    short.extend([9; 14]);
+    short[16..20].fill(0);
+    short.extend([0; 8]);
+    short.extend(4_000_u32.to_le_bytes());
+    short.extend(5_000_u32.to_le_bytes());
+    short.extend([8; 4_000]);
+    let frames: Vec<CapturedFrame> = Capture::of(&short).unwrap().map(|it| it.unwrap()).collect();
+    assert_eq!((frames[0].octets.len(), frames[0].arriving().len(), frames[0].arriving()[14]), (14, 60, 0));
+    assert_eq!((frames[1].octets.len(), frames[1].original, frames[1].arriving().len()), (4_000, 5_000, 4_000));
+    std::fs::remove_file(&path).unwrap();
+}
+
+#[test]
+fn tells_what_is_wrong_with_captures() {
+    let path = std::env::temp_dir().join(format!("bunjelav-faults-{}.pcap", std::process::id()));
+    let m = sent();
+    m.write_pcap(&path).unwrap();
+    let octets = std::fs::read(&path).unwrap();
+    let mut capture = Capture::of(&octets[..octets.len() - 1]).unwrap();
+    assert_eq!(capture.fault(), Some(24 + 76));
+    assert!(capture.next().unwrap().is_ok());
+    let mut out = [0; 60];
+    assert_eq!(capture.next_into(&mut out), Err(Refusal::CaptureCut));
+    assert_eq!((capture.next(), capture.next()), (Some(Err(Refusal::CaptureCut)), None));
+    assert_eq!(Capture::of(b"none").unwrap().next(), Some(Err(Refusal::CaptureMagic)));
+    std::fs::remove_file(&path).unwrap();
+    assert_eq!(Capture::open(&path).err(), Some(Refusal::File));
+    assert_eq!(std::io::Error::last_os_error().kind(), std::io::ErrorKind::NotFound);
+    assert_eq!(Capture::open("\0").err(), Some(Refusal::File));
+    assert_eq!(m.write_pcap(path.join("none")), Err(Refusal::File));
+    assert_eq!(std::io::Error::last_os_error().kind(), std::io::ErrorKind::NotFound);
+}
+
+#[test]
+#[should_panic(expected = "each frame that was sent has a time")]
+fn wants_a_time_for_each_frame() {
+    let _ = sent().write_pcap_at("none.pcap", &[1]);
 }
 
 #[test]

@@ -7,6 +7,7 @@ pub mod Calls
 pub mod Making
 pub mod Looks
 pub mod Next
+pub mod LetGo
 pub mod Notes
 pub mod Names
 pub mod Run
@@ -32,3 +33,6 @@ pub mod Told
 pub mod Fields
 pub mod Differences
 pub mod Sized
+pub mod Pcap
+pub mod SealedFrames
+pub mod Sent

@@ -6,6 +6,8 @@ use Rattle.em_c.specs.declared.refused.Refused.TheVariants.{Memory, Budget, NoMa
 use Rattle.em_c.specs.declared.refused.Refused.TheVariants.{NoEvent, NoChange, NoWatch, NoName, NoRefusal, NoRing, NoDescriptor}
 use Rattle.em_c.specs.declared.refused.Refused.TheVariants.{Busy, Unread, Unwritten, NoRam, Begun, Recorded, File, Unrecorded}
 use Rattle.em_c.specs.declared.refused.Refused.TheVariants.{Width}
+use Rattle.em_c.specs.declared.refused.Refused.TheVariants.{NoCapture, HasCapture, CaptureEnd, CaptureMagic, CaptureVersion}
+use Rattle.em_c.specs.declared.refused.Refused.TheVariants.{CaptureCut, CaptureBlock, CaptureLink, CaptureLength, CaptureInterface}
 
 -- its name, and a sentence
 abbrev pub text_of : Refused → List ℕ
@@ -38,6 +40,16 @@ text_of Recorded = codes "Recorded: the run is kept already"
 text_of File = codes "File: the file was not opened, or not written"
 text_of Unrecorded = codes "Unrecorded: the run is not kept"
 text_of Width = codes "Width: registers are accessed by four octets"
+text_of NoCapture = codes "NotOpen: the handle holds no capture"
+text_of HasCapture = codes "OpenAlready: the handle holds a capture already"
+text_of CaptureEnd = codes "CaptureEnd: no frame of the capture is left"
+text_of CaptureMagic = codes "CaptureMagic: the capture's magic number is not known"
+text_of CaptureVersion = codes "CaptureVersion: the capture's version is not known"
+text_of CaptureCut = codes "CaptureCut: the capture is cut short"
+text_of CaptureBlock = codes "CaptureBlock: a block of the capture has a wrong length"
+text_of CaptureLink = codes "CaptureLink: the capture's link type is not Ethernet"
+text_of CaptureLength = codes "CaptureLength: a captured length is too large"
+text_of CaptureInterface = codes "CaptureInterface: a packet's interface is not described"
 
 abbrev pub with_number : ℕ → Option Refused
 with_number code =
@@ -70,6 +82,16 @@ with_number code =
     else if code == 44 then Some File
     else if code == 45 then Some Unrecorded
     else if code == 46 then Some Width
+    else if code == 47 then Some NoCapture
+    else if code == 48 then Some HasCapture
+    else if code == 49 then Some CaptureEnd
+    else if code == 50 then Some CaptureMagic
+    else if code == 51 then Some CaptureVersion
+    else if code == 52 then Some CaptureCut
+    else if code == 53 then Some CaptureBlock
+    else if code == 54 then Some CaptureLink
+    else if code == 55 then Some CaptureLength
+    else if code == 56 then Some CaptureInterface
     else None
 
 abbrev pub text_or_none : Option Refused → Result (List ℕ) Refused

@@ -7,6 +7,8 @@ use Rattle.em_c.specs.declared.refused.Refused.TheVariants.{NoRegister, Range, L
 use Rattle.em_c.specs.declared.refused.Refused.TheVariants.{Memory, Budget, NoMachine, HasMachine, Size, NoFrame, Room}
 use Rattle.em_c.specs.declared.refused.Refused.TheVariants.{NoEvent, NoChange, NoWatch, NoName, NoRefusal, NoRing, NoDescriptor}
 use Rattle.em_c.specs.declared.refused.Refused.TheVariants.{Busy, Unread, Unwritten, NoRam, Begun, Recorded, File, Unrecorded, Width}
+use Rattle.em_c.specs.declared.refused.Refused.TheVariants.{NoCapture, HasCapture, CaptureEnd, CaptureMagic, CaptureVersion}
+use Rattle.em_c.specs.declared.refused.Refused.TheVariants.{CaptureCut, CaptureBlock, CaptureLink, CaptureLength, CaptureInterface}
 
 -- what refuses an event has the model's number; the others have numbers that no other refusal of the model has
 abbrev pub number_of : Refused → ℕ
@@ -39,6 +41,16 @@ number_of Recorded = 43
 number_of File = 44
 number_of Unrecorded = 45
 number_of Width = 46
+number_of NoCapture = 47
+number_of HasCapture = 48
+number_of CaptureEnd = 49
+number_of CaptureMagic = 50
+number_of CaptureVersion = 51
+number_of CaptureCut = 52
+number_of CaptureBlock = 53
+number_of CaptureLink = 54
+number_of CaptureLength = 55
+number_of CaptureInterface = 56
 
 abbrev pub of_event : Refusal → Refused
 of_event event.NoRegister = NoRegister

@@ -7,6 +7,7 @@
 
 mod all_registers;
 mod back;
+mod captured;
 mod difference;
 mod differences;
 mod entry;
@@ -14,6 +15,7 @@ mod fields;
 mod fifo;
 mod handle;
 mod kept;
+mod let_go;
 mod line;
 mod making;
 mod memory;
@@ -22,6 +24,7 @@ mod next;
 mod note;
 mod notes;
 mod parts;
+mod pcap;
 mod ranges;
 mod reason;
 mod refusal_text;
@@ -32,6 +35,8 @@ mod room;
 mod rule;
 mod run;
 mod sealed;
+mod sealed_frames;
+mod sent;
 mod sized;
 mod sync;
 mod sync_range;
@@ -44,3 +49,43 @@ mod warnings;
 mod watch;
 mod why;
 mod wire;
+
+pub use all_registers::{EmRegister, em_registers};
+pub use back::{em_back, em_can_go_back};
+pub use captured::EmPcapFrame;
+pub use differences::{EmDifference, em_differences};
+pub use entry::{EmEntry, em_ring_entry};
+pub use fields::{EmField, em_field, em_value_text};
+pub use fifo::{EmFifo, em_fifo, em_fifo_frame, em_fifo_room, em_gathered};
+pub use handle::EmMachine;
+pub use kept::{
+    kept_arrive, kept_back, kept_head, kept_poke, kept_read, kept_rx_step, kept_set_link,
+    kept_tx_step, kept_write,
+};
+pub use let_go::em_let_go;
+pub use making::{em_free, em_make, em_make_at, em_make_at_with_eeprom, em_make_with_eeprom};
+pub use memory::{em_memory_base, em_memory_size, em_peek, em_poke};
+pub use names::{em_find, em_name};
+pub use next::em_wire_next;
+pub use note::EmNote;
+pub use notes::{em_event, em_tag};
+pub use pcap::{EmPcap, em_pcap_close, em_pcap_fault, em_pcap_next, em_pcap_of};
+pub use ranges::{EmRange, em_ring_needs, em_written};
+pub use reason::EmReason;
+pub use refusal_text::em_refusal;
+pub use registers::{em_look, em_read, em_write};
+pub use rings::{EmDescriptor, EmRingSetup, em_ring, em_ring_descriptor};
+pub use run::{em_run_rx, em_run_tx};
+pub use sent::{capture_head, capture_record};
+pub use sized::{em_read_sized, em_write_sized};
+pub use sync::{em_sync_in, em_sync_out};
+pub use sync_range::{em_sync_in_range, em_sync_out_range};
+pub use text::Text;
+pub use texts::{em_effect, em_fifo_text, em_ring_text};
+pub use warning::EmWarning;
+pub use warnings::em_warnings;
+pub use watch::{EmChange, EmWatch, em_last_change};
+pub use why::em_why;
+pub use wire::{
+    em_arrive, em_line, em_rx_step, em_set_link, em_tx_step, em_wire_count, em_wire_frame,
+};

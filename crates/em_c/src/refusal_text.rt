@@ -54,6 +54,16 @@ fn with_number(code: u32) -> Option<Refused>
         44 => Some(Refused::File),
         45 => Some(Refused::Unrecorded),
         46 => Some(Refused::Width),
+        47 => Some(Refused::NoCapture),
+        48 => Some(Refused::HasCapture),
+        49 => Some(Refused::CaptureEnd),
+        50 => Some(Refused::CaptureMagic),
+        51 => Some(Refused::CaptureVersion),
+        52 => Some(Refused::CaptureCut),
+        53 => Some(Refused::CaptureBlock),
+        54 => Some(Refused::CaptureLink),
+        55 => Some(Refused::CaptureLength),
+        56 => Some(Refused::CaptureInterface),
         _ => None,
     }
 }
@@ -92,5 +102,15 @@ fn text_of(refused: Refused) -> &'static str
         Refused::File => "File: the file was not opened, or not written",
         Refused::Unrecorded => "Unrecorded: the run is not kept",
         Refused::Width => "Width: registers are accessed by four octets",
+        Refused::NoCapture => "NotOpen: the handle holds no capture",
+        Refused::HasCapture => "OpenAlready: the handle holds a capture already",
+        Refused::CaptureEnd => "CaptureEnd: no frame of the capture is left",
+        Refused::CaptureMagic => "CaptureMagic: the capture's magic number is not known",
+        Refused::CaptureVersion => "CaptureVersion: the capture's version is not known",
+        Refused::CaptureCut => "CaptureCut: the capture is cut short",
+        Refused::CaptureBlock => "CaptureBlock: a block of the capture has a wrong length",
+        Refused::CaptureLink => "CaptureLink: the capture's link type is not Ethernet",
+        Refused::CaptureLength => "CaptureLength: a captured length is too large",
+        Refused::CaptureInterface => "CaptureInterface: a packet's interface is not described",
     }
 }

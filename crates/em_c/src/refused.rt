@@ -69,6 +69,26 @@ pub enum Refused {
     Unrecorded = 45,
     /// An access of a register that has not four octets.
     Width = 46,
+    /// The handle holds no capture.
+    NoCapture = 47,
+    /// The handle holds a capture already.
+    HasCapture = 48,
+    /// Each frame of the capture was handed over, and it ends there.
+    CaptureEnd = 49,
+    /// The capture's file, or a section of it, begins with no number that is known.
+    CaptureMagic = 50,
+    /// The capture, or a section of it, has a version that is not known.
+    CaptureVersion = 51,
+    /// The capture is cut within a header, a record or a block.
+    CaptureCut = 52,
+    /// A block of the capture has a wrong length.
+    CaptureBlock = 53,
+    /// The capture has another link type than Ethernet.
+    CaptureLink = 54,
+    /// A packet of the capture has more octets than its snap length or its block allows.
+    CaptureLength = 55,
+    /// A packet of the capture is of an interface that its section has not described.
+    CaptureInterface = 56,
 }
 
 impl Refused {

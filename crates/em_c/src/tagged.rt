@@ -2,6 +2,8 @@
 ghost use Rattle.std.specs.Prelude.{◌≡◌, ◌<◌, IfOk, IfErr, OnOk, OnErr, length, min};
 ghost use Rattle.em_step.specs.Event.{plain};
 ghost use Rattle.em_step.specs.Step.{Refuses};
+ghost use Rattle.em_journal.specs.View.{sent_before};
+ghost use Rattle.em_c.specs.LetGo.{after_let_go};
 ghost use Rattle.em_c.specs.Run.{Stops, is_idle};
 ghost use Rattle.em_c.specs.Tagged.{Performs, IsNoteOf, after_backs, backs, present_of};
 
@@ -59,6 +61,17 @@ impl Tagged {
     {
         let count = self.go_back(n);
         self.handed = self.handed.min(self.traced.machine().wire_len());
+        count
+    }
+
+    /// Lets go of the octets of the frames that were sent and that no step back takes off the wire, and gives how many these
+    /// are: they count as handed over.
+    pub fn let_frames_go(&mut self) -> usize
+        ensures count { result ≡ sent_before self.old.traced.view }
+        ensures held { self.new ≡ after_let_go self.old }
+    {
+        let count = self.traced.let_frames_go();
+        self.handed = self.handed.max(count);
         count
     }
 

@@ -5,9 +5,9 @@ use Rattle.em_watch.specs.Change.{IsNextChange}
 use Rattle.em_watch.specs.declared.change.Change.{Change}
 use Rattle.em_watch.specs.declared.watch.Watch.{Watch}
 use Rattle.em_looks.specs.Numbers.{counted_text, number_text, short_text}
-use Rattle.em_looks.specs.Sights.{watch_text, IsWatch, HasNoWatch}
-use Rattle.em_prompt.specs.declared.typed.Until.{Until}
-use Rattle.em_prompt.specs.declared.typed.Until.TheVariants as until
+use Rattle.em_looks.specs.Sights.{watch_text, IsWatch}
+use Rattle.em_prompt.specs.Until as until
+use Rattle.em_prompt.specs.Until.{Until}
 use Rattle.em_debugger.specs.declared.debugger.Debugger.{Debugger}
 use Rattle.em_debugger.specs.declared.performing.Performed.{Performed}
 use Rattle.em_debugger.specs.declared.stops.Stop.{Stop}
@@ -133,18 +133,14 @@ pub record RunsUntil (s : Stop) (old new : Debugger) (text : List ℕ) : Type 0 
 
 -- what a typed line says where the run ends
 abbrev pub IsStop : Until → Stop → Type 0
-IsStop until.Refused s = s ≡ stop.Refused
-IsStop until.Dropped s = s ≡ stop.Dropped
-IsStop until.Differs s = s ≡ stop.Differs
-IsStop (until.Line line) s = s ≡ stop.Line line
-IsStop (until.Changes typed) s = (watch : Watch) × IsWatch typed watch × (s ≡ stop.Changes watch)
-
--- octets are to be watched that are none or too many
-abbrev pub HasNoStop : Until → Type 0
-HasNoStop (until.Changes typed) = HasNoWatch typed
-HasNoStop _ = ⊥
+IsStop until.refused s = s ≡ stop.Refused
+IsStop until.dropped s = s ≡ stop.Dropped
+IsStop until.differs s = s ≡ stop.Differs
+IsStop (until.line line) s = s ≡ stop.Line line
+IsStop (until.changes typed) s = (watch : Watch) × IsWatch typed watch × (s ≡ stop.Changes watch)
 
 -- by what was typed
-pub data AnswersRun (old new : Debugger) (until : Until) (text : List ℕ) : Type 0 where
-  no_stop : HasNoStop until → text ≡ codes "run: LEN is 1 to 16\n" → new ≡ old → AnswersRun old new until text
-  runs : (s : Stop) → IsStop until s → RunsUntil s old new text → AnswersRun old new until text
+pub record AnswersRun (old new : Debugger) (until : Until) (text : List ℕ) : Type 0 where
+  pub stop : Stop
+  pub stops : IsStop until stop
+  pub runs : RunsUntil stop old new text

@@ -5,11 +5,11 @@ use Rattle.std.specs.List.{flat_map}
 use Rattle.em_named.specs.Numbers.{end_of, line_of}
 use Rattle.em_tape.specs.Tape.{Tape, behind, event_at}
 use Rattle.em_watch.specs.declared.watch.Watch.{Watch}
-use Rattle.em_prompt.specs.declared.watch.Watch.{Watch as TypedWatch}
+use Rattle.em_prompt.specs.Watch.{Watch as TypedWatch}
 use Rattle.em_prompt.specs.declared.typed.Which.{Which}
 use Rattle.em_prompt.specs.declared.typed.Which.TheVariants.{Newest, Again, All}
 use Rattle.em_looks.specs.Numbers.{number_text, short_text}
-use Rattle.em_looks.specs.Sights.{watch_text, difference_text, IsWatch, HasNoWatch}
+use Rattle.em_looks.specs.Sights.{watch_text, difference_text, IsWatch}
 use Rattle.em_trail.specs.declared.note.Note.{Note}
 use Rattle.em_noted.specs.Note.{note_text}
 use Rattle.em_debugger.specs.declared.debugger.Debugger.{Debugger}
@@ -105,9 +105,6 @@ abbrev pub changes_text : Watch → ℕ → List ℕ
 changes_text watch count =
     if nat_lt 0 count then number_text (codes "changes: ") count (codes "\n") else unchanged_and watch (codes "\n")
 
-abbrev pub length_text : List ℕ
-length_text = codes "who: LEN is 1 to 16\n"
-
 -- ---- what is answered
 
 -- a search among the events that stand at the place, from so many steps back on
@@ -189,8 +186,8 @@ AnswersWatch Newest old new watch text = TellsNewest old new watch 0 text
 AnswersWatch Again old new watch text = TellsNewest old new watch (before_told old.tape old.asked) text
 AnswersWatch All old new watch text = TellsAll old watch text × (new ≡ old)
 
--- octets are to be watched that are none or too many; or it is answered who changed what is watched
-pub data AnswersWho (old new : Debugger) (typed : TypedWatch) (which : Which) (text : List ℕ) : Type 0 where
-  no_watch : HasNoWatch typed → text ≡ length_text → new ≡ old → AnswersWho old new typed which text
-  watched : (watch : Watch) → IsWatch typed watch → AnswersWatch which old new watch text
-      → AnswersWho old new typed which text
+-- it is answered who changed what is watched
+pub record AnswersWho (old new : Debugger) (typed : TypedWatch) (which : Which) (text : List ℕ) : Type 0 where
+  pub watch : Watch
+  pub watched : IsWatch typed watch
+  pub answers : AnswersWatch which old new watch text

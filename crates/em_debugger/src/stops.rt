@@ -1,8 +1,9 @@
 //! Running until something happens.
-ghost use Rattle.std.specs.Prelude.{◌≡◌, ◌↔◌, ℕ, List, false, IsTrue, IsNone, IfSome, OnOk};
+ghost use Rattle.std.specs.Prelude.{◌≡◌, ◌↔◌, ℕ, List, false, IsTrue, OnOk};
 ghost use Rattle.std.specs.Io.KnownBytes.{Appends};
 ghost use Rattle.em_text.specs.Writer.{Writes};
-ghost use Rattle.em_debugger.specs.Stops.{AnswersRun, ChangedSince, EndsSince, GoesOnSince, HasNoStop, IsStop, RanSo};
+ghost use Rattle.em_prompt.specs.Until.{plain as plain_until};
+ghost use Rattle.em_debugger.specs.Stops.{AnswersRun, ChangedSince, EndsSince, GoesOnSince, IsStop, RanSo};
 ghost use Rattle.em_debugger.specs.Stops.{RunsUntil, TellsRan, TellsStopped, before_text, is_before, missed_text};
 ghost use Rattle.em_debugger.specs.Stops.{played_text, unchanged_text};
 
@@ -61,12 +62,9 @@ impl Debugger {
         until: Until,
     ) -> Result<(), WriteFailed>
         ensures ok { OnOk result ((text : List ℕ) × Appends (W.contents writer.old) (W.contents writer.new) text
-            × AnswersRun self.old self.new until text) }
+            × AnswersRun self.old self.new (plain_until until) text) }
     {
-        match stop_of(until) {
-            Some(stop) => self.run_to(writer, stop),
-            None => write_whole(writer, b"run: LEN is 1 to 16\n"),
-        }
+        self.run_to(writer, stop_of(until))
     }
 
     fn run_to<W: Write>(&mut self, writer: &mut W, stop: Stop) -> Result<(), WriteFailed>
@@ -181,20 +179,16 @@ fn write_lines_played<W: Write>(writer: &mut W, lines: usize) -> Result<(), Writ
     write_counted(writer, b"played ", lines as u64, b" line\n", b" lines\n")
 }
 
-/// What a typed line says; none where octets are to be watched that are none or too many.
-fn stop_of(until: Until) -> Option<Stop>
-    ensures some { IfSome result (IsStop until) }
-    ensures none { IsNone result → HasNoStop until }
+/// What a typed line says.
+fn stop_of(until: Until) -> Stop
+    ensures { IsStop (plain_until until) result }
 {
     match until {
-        Until::Refused => Some(Stop::Refused),
-        Until::Dropped => Some(Stop::Dropped),
-        Until::Differs => Some(Stop::Differs),
-        Until::Line(line) => Some(Stop::Line(line as usize)),
-        Until::Changes(watch) => match watch_of(watch) {
-            Some(watch) => Some(Stop::Changes(watch)),
-            None => None,
-        },
+        Until::Refused => Stop::Refused,
+        Until::Dropped => Stop::Dropped,
+        Until::Differs => Stop::Differs,
+        Until::Line(line) => Stop::Line(line as usize),
+        Until::Changes(watch) => Stop::Changes(watch_of(watch)),
     }
 }
 

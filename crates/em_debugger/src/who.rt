@@ -2,6 +2,7 @@
 ghost use Rattle.std.specs.Prelude.{◌≡◌, ◌≤◌, ℕ, List, OnOk, Some, length};
 ghost use Rattle.std.specs.Io.KnownBytes.{Appends};
 ghost use Rattle.em_text.specs.Writer.{Writes};
+ghost use Rattle.em_prompt.specs.Watch.{plain as plain_watch};
 ghost use Rattle.em_tape.specs.Texts.{texts};
 ghost use Rattle.em_debugger.specs.Who.{AnswersWatch, AnswersWho, TellsNewest, TellsAll, TellsAgain, access_text, before};
 ghost use Rattle.em_debugger.specs.Who.{TellsNever, TellsSought, accessed_text, access_end, before_told, call_text, changes_text};
@@ -41,12 +42,9 @@ impl Debugger {
         which: Which,
     ) -> Result<(), WriteFailed>
         ensures ok { OnOk result ((text : List ℕ) × Appends (W.contents writer.old) (W.contents writer.new) text
-            × AnswersWho self.old self.new typed which text) }
+            × AnswersWho self.old self.new (plain_watch typed) which text) }
     {
-        match watch_of(typed) {
-            Some(watch) => self.who_watched(writer, watch, which),
-            None => write_whole(writer, b"who: LEN is 1 to 16\n"),
-        }
+        self.who_watched(writer, watch_of(typed), which)
     }
 
     fn who_watched<W: Write>(

@@ -176,6 +176,7 @@ impl MachineWords {
             )
         };
         Settings {
+            profile: said.profile,
             base,
             memory,
             budget: if self.has_budget {

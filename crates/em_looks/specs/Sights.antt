@@ -9,22 +9,18 @@ use Rattle.em_watch.specs.declared.watch.Watch.TheVariants as watch
 use Rattle.em_watch.specs.declared.watch.Sight.{Sight}
 use Rattle.em_watch.specs.declared.watch.Sight.TheVariants as sight
 use Rattle.em_watch.specs.declared.difference.Difference.{Difference}
-use Rattle.em_prompt.specs.declared.watch.Watch.{Watch as Typed}
-use Rattle.em_prompt.specs.declared.watch.Watch.TheVariants as typed
+use Rattle.em_prompt.specs.Watch as typed
+use Rattle.em_prompt.specs.Watch.{Watch as Typed}
 
 -- what a typed line says is watched: of octets the same range
 abbrev pub IsWatch : Typed → Watch → Type 0
-IsWatch (typed.Octets addr len) (watch.Octets range) = (range.addr ≡ addr) × (range.len ≡ len)
-IsWatch (typed.Octets addr len) _ = ⊥
-IsWatch (typed.Register reg) w = w ≡ watch.Register reg
-IsWatch typed.Line w = w ≡ watch.Line
-IsWatch typed.Link w = w ≡ watch.Link
-IsWatch typed.Frames w = w ≡ watch.Frames
-IsWatch typed.Sent w = w ≡ watch.Sent
-
--- nothing that is watched has such a length
-abbrev pub HasNoWatch : Typed → Type 0
-HasNoWatch t = (w : Watch) → IsWatch t w → ⊥
+IsWatch (typed.octets addr len) (watch.Octets range) = (range.addr ≡ addr) × (range.len ≡ len)
+IsWatch (typed.octets addr len) _ = ⊥
+IsWatch (typed.register reg) w = w ≡ watch.Register reg
+IsWatch typed.line w = w ≡ watch.Line
+IsWatch typed.link w = w ≡ watch.Link
+IsWatch typed.frames w = w ≡ watch.Frames
+IsWatch typed.sent w = w ≡ watch.Sent
 
 -- the name of a watched thing: of octets their address
 abbrev pub watch_text : Watch → List ℕ

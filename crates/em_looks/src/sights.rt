@@ -1,31 +1,40 @@
 //! What is watched, and what is seen of it, as text.
-ghost use Rattle.std.specs.Prelude.{IfSome, IsNone};
+ghost use Rattle.std.specs.Prelude.{◌≡◌};
 ghost use Rattle.em_text.specs.Writer.{Writes};
-ghost use Rattle.em_looks.specs.Sights.{IsWatch, HasNoWatch, watch_text, sight_text, value_text, octets_text};
+ghost use Rattle.em_looks.specs.Sights.{IsWatch, watch_text, sight_text, value_text, octets_text};
 ghost use Rattle.em_looks.specs.Sights.{difference_text};
+ghost use Rattle.em_prompt.specs.Watch.{plain as plain_watch};
 
 use crate::numbers::write_number;
 use em_inspect::write_address;
 use em_names::{write_bits, write_name};
+use em_prompt::WatchedLen;
 use em_text::{WriteFailed, write_octets, write_whole};
 use em_watch::{Difference, MOST_WATCHED, MemoryRange, Sight, Watch};
 use std::io::Write;
 
-/// What a typed line says is watched; none where its octets are none or too many.
-pub fn watch_of(typed: em_prompt::Watch) -> Option<Watch>
-    ensures some { IfSome result (IsWatch typed) }
-    ensures none { IsNone result → HasNoWatch typed }
+/// What a typed line says is watched.
+pub fn watch_of(typed: em_prompt::Watch) -> Watch
+    ensures { IsWatch (plain_watch typed) result }
 {
     match typed {
-        em_prompt::Watch::Register(reg) => Some(Watch::Register(reg)),
-        em_prompt::Watch::Octets(addr, len) => {
-            let range = MemoryRange::new(addr, len as usize)?;
-            Some(Watch::Octets(range))
-        }
-        em_prompt::Watch::Line => Some(Watch::Line),
-        em_prompt::Watch::Link => Some(Watch::Link),
-        em_prompt::Watch::Frames => Some(Watch::Frames),
-        em_prompt::Watch::Sent => Some(Watch::Sent),
+        em_prompt::Watch::Register(reg) => Watch::Register(reg),
+        em_prompt::Watch::Octets(addr, len) => Watch::Octets(range_of(addr, len)),
+        em_prompt::Watch::Line => Watch::Line,
+        em_prompt::Watch::Link => Watch::Link,
+        em_prompt::Watch::Frames => Watch::Frames,
+        em_prompt::Watch::Sent => Watch::Sent,
+    }
+}
+
+/// The range of so many octets from an address on.
+fn range_of(addr: u64, len: WatchedLen) -> MemoryRange
+    ensures addr { result.addr ≡ addr }
+    ensures len { result.len ≡ len.octets }
+{
+    match MemoryRange::new(addr, len.octets() as usize) {
+        Some(range) => range,
+        None => unreachable!(),
     }
 }
 

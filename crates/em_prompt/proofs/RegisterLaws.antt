@@ -1,16 +1,19 @@
 -- The register that a word names.
 use Rattle.std.proofs.Common.{◌≡◌, ◌≤◌, ℕ, ◌+◌, ◌-◌, ◌/◌, ◌<◌, Bool, true, false, cond, List, [], ◌∷◌, length, get_or, map, zero, suc}
-use Rattle.std.proofs.Common.{Option, Some, None, IfSome, find, refl, sym, ◌∙◌, subst, arith}
+use Rattle.std.proofs.Common.{◌&&◌, Option, Some, None, IfSome, find, refl, sym, ◌∙◌, subst, arith}
 use Rattle.std.specs.Option.{option_map}
 use Rattle.std.specs.List.{range_with_len}
 use Rattle.std.proofs.Common.{◌⊎◌, inl, inr}
-use Rattle.std.proofs.lemmas.Bool.{cases_lt}
+use Rattle.std.proofs.lemmas.Bool.{and_parts, cases_lt}
 use Rattle.std.specs.Char.{to_ascii_lowercase}
 use Rattle.std.proofs.lemmas.Slice.Eq.{bytes_eq-Decides}
 use Rattle.em_regs.specs.declared.reg.Reg.{Reg}
 use Rattle.em_regs.specs.declared.reg.Reg.TheVariants.{Ctrl, Mta, Ral, Rah, Vfta}
-use Rattle.em_regs.specs.Table.{IsReg, row_of, index_of, with_index, offset_of, registers, reg_in, reg_at, has_word_at}
-use Rattle.em_regs.proofs.TableLaws.{indexed, reg_at-offset_of}
+use Rattle.em_regs.specs.declared.profile.Profile.TheVariants.{Table}
+use Rattle.em_regs.specs.Table.{IsReg, IsRegOf, has_reg, has_word_at, index_of, offset_of, reg_in, reg_of_table}
+use Rattle.em_regs.specs.Table.{registers_of_table, row_of, with_index}
+use Rattle.em_regs.proofs.TableLaws.{indexed}
+use Rattle.em_regs.proofs.ProfileLaws.{reg_of-offset_of, table_is_list}
 use Rattle.em_names.specs.Names.{name_of, IsNamed, SameLetters}
 use Rattle.em_prompt.specs.Register.{same_letters, or_else, index_named, named_among, named}
 
@@ -88,28 +91,52 @@ none_in word (row ∷ rows) none o reg is h n = elim (truth (has_word_at (row_of
   | inr t ↦ none_in word rows (λ k lt. none (suc k) (omega arith)) o reg (rw t at is) h n
 ]
 
--- where the word names no register of any row, it names none
-pub names_none : (word : List ℕ) → ((k : ℕ) → k < length registers → NamesNone word (get_or registers k Ctrl))
-    → (reg : Reg) → IsReg reg → IsNamed word reg → ⊥
-unfolding reg_at
-names_none word none reg h n = none_in word registers none (offset_of reg) reg (reg_at-offset_of reg h) h n
+-- where the word names no register of any row of the first profile, it names none of that profile
+pub names_none : (word : List ℕ)
+    → ((k : ℕ) → k < length registers_of_table → NamesNone word (get_or registers_of_table k Ctrl))
+    → (reg : Reg) → IsRegOf Table reg → IsNamed word reg → ⊥
+unfolding reg_of_table
+names_none word none reg h n =
+    let found : reg_in registers_of_table (offset_of reg) ≡ Some reg
+    = sym (table_is_list (offset_of reg)) ∙ reg_of-offset_of Table reg h.0 h.1 in
+    none_in word registers_of_table none (offset_of reg) reg found h.0 n
 
 -- ---- the rows
 
--- the register that is found has the word as its name
-named_sound : (word : List ℕ) (rows : List Reg) (reg : Reg) → named_among word rows ≡ Some reg
-    → IsReg reg × IsNamed word reg
-named_sound word [] reg e = cc
-named_sound word (row ∷ rows) reg e = by_index (index_named word row) refl e (named_sound word rows reg) where
-  by_index : (o : Option ℕ) → index_named word row ≡ o
-      → or_else (option_map (with_index row) o) (named_among word rows) ≡ Some reg
-      → (named_among word rows ≡ Some reg → IsReg reg × IsNamed word reg) → IsReg reg × IsNamed word reg
-  by_index None o e more = more e
-  by_index (Some i) o e more =
-      let found = found_passes (λ k. same_letters word (name_of (with_index row k))) 0 (row_of row).words i o in
-      let same : with_index row i ≡ reg = cc in
-      subst (λ r. IsReg r × IsNamed word r) same
-      (is_reg-with_index row i (omega (arith, found.1)), same_true word (name_of (with_index row i)) found.0)
+-- the rows are of the first profile
+abbrev all_in : List Reg → Bool
+all_in [] = true
+all_in (row ∷ rows) = has_reg Table row && all_in rows
+
+-- so is every register of a row that is
+any_index : (row : Reg) (i : ℕ) → has_reg Table (with_index row i) ≡ has_reg Table row
+any_index (Mta _) i = refl
+any_index (Ral _) i = refl
+any_index (Rah _) i = refl
+any_index (Vfta _) i = refl
+any_index Ctrl i = refl
+any_index _ i = refl
+
+-- the register that is found is one of the first profile, and has the word as its name
+named_sound : (word : List ℕ) (rows : List Reg) (reg : Reg) → all_in rows ≡ true → named_among word rows ≡ Some reg
+    → IsRegOf Table reg × IsNamed word reg
+named_sound word [] reg all e = cc
+named_sound word (row ∷ rows) reg all e =
+    by_index (index_named word row) refl e (named_sound word rows reg parts.1) where
+      parts : (has_reg Table row ≡ true) × (all_in rows ≡ true)
+      parts = and_parts (has_reg Table row) (all_in rows) all
+
+      by_index : (o : Option ℕ) → index_named word row ≡ o
+          → or_else (option_map (with_index row) o) (named_among word rows) ≡ Some reg
+          → (named_among word rows ≡ Some reg → IsRegOf Table reg × IsNamed word reg) → IsRegOf Table reg × IsNamed word reg
+      by_index None o e more = more e
+      by_index (Some i) o e more =
+          let found = found_passes (λ k. same_letters word (name_of (with_index row k))) 0 (row_of row).words i o in
+          let same : with_index row i ≡ reg = cc in
+          subst (λ r. IsRegOf Table r × IsNamed word r) same (
+            (is_reg-with_index row i (omega (arith, found.1)), any_index row i ∙ parts.0),
+            same_true word (name_of (with_index row i)) found.0,
+          )
 
 -- where none is found, no row has one of this name
 named_none : (word : List ℕ) (rows : List Reg) → named_among word rows ≡ None → (k : ℕ) → k < length rows
@@ -128,15 +155,16 @@ named_none word (row ∷ rows) e k lt = by_index (index_named word row) refl e (
   by_index None o e more (suc j) lt = more e j (omega arith)
 
 -- what is read of a name is the register that it names
-pub named_is : (word : List ℕ) (result : Option Reg) → IfSome result (λ reg. IsReg reg × IsNamed word reg)
-    → ((reg : Reg) → IsReg reg → IsNamed word reg → result ≡ Some reg) → result ≡ named word
+pub named_is : (word : List ℕ) (result : Option Reg) → IfSome result (λ reg. IsRegOf Table reg × IsNamed word reg)
+    → ((reg : Reg) → IsRegOf Table reg → IsNamed word reg → result ≡ Some reg) → result ≡ named word
 unfolding named
-named_is word result some every = by_found (named_among word registers) refl where
-  no_other : (result : Option Reg) → IfSome result (λ reg. IsReg reg × IsNamed word reg)
-      → named_among word registers ≡ None → result ≡ None
+named_is word result some every = by_found (named_among word registers_of_table) refl where
+  no_other : (result : Option Reg) → IfSome result (λ reg. IsRegOf Table reg × IsNamed word reg)
+      → named_among word registers_of_table ≡ None → result ≡ None
   no_other None some e = refl
-  no_other (Some reg) some e = absurd (names_none word (named_none word registers e) reg some.0 some.1)
+  no_other (Some reg) some e = absurd (names_none word (named_none word registers_of_table e) reg some.0 some.1)
 
-  by_found : (found : Option Reg) → named_among word registers ≡ found → result ≡ named_among word registers
-  by_found (Some reg) e = let it = named_sound word registers reg e in every reg it.0 it.1 ∙ sym e
+  by_found : (found : Option Reg) → named_among word registers_of_table ≡ found
+      → result ≡ named_among word registers_of_table
+  by_found (Some reg) e = let it = named_sound word registers_of_table reg refl e in every reg it.0 it.1 ∙ sym e
   by_found None e = no_other result some e ∙ sym e

@@ -5,6 +5,7 @@ pub mod Number
 pub mod Kind
 pub mod Bits
 pub mod Watch
+pub mod Until
 pub mod Command
 pub mod Near
 pub mod Fault

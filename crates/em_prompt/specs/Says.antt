@@ -18,11 +18,8 @@ use Rattle.em_prompt.specs.declared.says.Way.{Way}
 use Rattle.em_prompt.specs.declared.says.Way.TheVariants.{Back, Forward}
 use Rattle.em_prompt.specs.declared.typed.Lines.TheVariants.{Here, Around, Between}
 use Rattle.em_prompt.specs.declared.typed.Shown.TheVariants as shown
-use Rattle.em_prompt.specs.declared.typed.Until.TheVariants.{Refused, Dropped, Differs, Line, Changes}
 use Rattle.em_prompt.specs.declared.typed.Which.{Which}
 use Rattle.em_prompt.specs.declared.typed.Which.TheVariants.{Newest}
-use Rattle.em_prompt.specs.declared.watch.Watch.{Watch}
-use Rattle.em_prompt.specs.declared.watch.Watch.TheVariants.{Octets}
 use Rattle.em_prompt.specs.declared.fault.Fault.{Fault as LentFault}
 use Rattle.em_prompt.specs.declared.typed.Typed.{Typed as LentTyped}
 use Rattle.em_prompt.specs.Fault as faults
@@ -31,9 +28,12 @@ use Rattle.em_prompt.specs.Kept.{spaced}
 use Rattle.em_prompt.specs.Told.{without_blanks}
 use Rattle.em_prompt.specs.Typed as typed
 use Rattle.em_prompt.specs.Typed.{Typed}
+use Rattle.em_prompt.specs.Until as until
 use Rattle.em_prompt.specs.Value.{Offset, address_in, command_in, data_in, ethernet_in, frame_len_in, kept_number_in, known_in}
 use Rattle.em_prompt.specs.Value.{last_line_in, number_in, offset_in, shown_address_in, side_in, switch_in, value_in, watch_in, way_in}
 use Rattle.em_prompt.specs.Value.{which_in, within}
+use Rattle.em_prompt.specs.Watch as watched
+use Rattle.em_prompt.specs.Watch.{Watch}
 use Rattle.em_prompt.specs.Word.{hex_address_in}
 
 -- what the code says, without where words lie in memory
@@ -148,7 +148,7 @@ look_of words = one Known known_in (λ reg. typed.show (shown.Look reg)) words
 -- WATCH, which begins with a word: ADDR LEN, or that word alone
 abbrev pub octets_at : ℕ → List (List ℕ) → Result (Watch × List (List ℕ)) Fault
 octets_at addr [] = Err (missing (Numbers Watched))
-octets_at addr (word ∷ words) = with (number_in Watched word) (λ len. Ok (Octets addr len, words))
+octets_at addr (word ∷ words) = with (number_in Watched word) (λ len. Ok (watched.octets addr len, words))
 
 abbrev pub watch_with : Option ℕ → List ℕ → List (List ℕ) → Result (Watch × List (List ℕ)) Fault
 watch_with None word words = with (watch_in word) (λ watch. Ok (watch, words))
@@ -196,23 +196,23 @@ next_of words = one_or (typed.next 1) (number_in Count) typed.next words
 abbrev pub ends_changes : Watch → List (List ℕ) → Result Typed Fault
 ends_changes watch [] = Err (missing (Choice Change))
 ends_changes watch (word ∷ words) =
-    if bytes_eq word (codes "changes") then alone (typed.run_until (Changes watch)) words else Err (no (Choice Change))
+    if bytes_eq word (codes "changes") then alone (typed.run_until (until.changes watch)) words else Err (no (Choice Change))
 
 abbrev pub changes_of : List ℕ → List (List ℕ) → Result Typed Fault
 changes_of word words = with (watch_at word words) (λ watch. ends_changes watch.0 watch.1)
 
 -- LINE, alone, or WATCH changes
 abbrev pub line_or_changes : Option ℕ → List ℕ → List (List ℕ) → Result Typed Fault
-line_or_changes (Some n) word [] = with (within LineNumber n) (λ n. Ok (typed.run_until (Line n)))
+line_or_changes (Some n) word [] = with (within LineNumber n) (λ n. Ok (typed.run_until (until.line n)))
 line_or_changes at word words = changes_of word words
 
 -- refused, dropped, differs, LINE, or WATCH changes
 abbrev pub until_of : List (List ℕ) → Result Typed Fault
 until_of [] = Err (missing Watches)
 until_of (word ∷ words) =
-    if bytes_eq word (codes "refused") then alone (typed.run_until Refused) words else
-    if bytes_eq word (codes "dropped") then alone (typed.run_until Dropped) words else
-    if bytes_eq word (codes "differs") then alone (typed.run_until Differs) words else
+    if bytes_eq word (codes "refused") then alone (typed.run_until until.refused) words else
+    if bytes_eq word (codes "dropped") then alone (typed.run_until until.dropped) words else
+    if bytes_eq word (codes "differs") then alone (typed.run_until until.differs) words else
     line_or_changes (decimal_number word) word words
 
 -- run, or run until ..

@@ -1,13 +1,15 @@
 -- What a line says.
 use Rattle.std.specs.Prelude.{ℕ, Bool, List}
-use Rattle.em_prompt.specs.declared.watch.Watch.{Watch}
 use Rattle.em_prompt.specs.declared.typed.Shown.{Shown}
-use Rattle.em_prompt.specs.declared.typed.Until.{Until}
 use Rattle.em_prompt.specs.declared.typed.Which.{Which}
 use Rattle.em_prompt.specs.declared.typed.Typed.{Typed as Lent}
 use Rattle.em_prompt.specs.declared.typed.Typed.TheVariants as lent
 use Rattle.em_prompt.specs.BenchLine as bench
 use Rattle.em_prompt.specs.BenchLine.{BenchLine}
+use Rattle.em_prompt.specs.Until as until
+use Rattle.em_prompt.specs.Until.{Until}
+use Rattle.em_prompt.specs.Watch as watch
+use Rattle.em_prompt.specs.Watch.{Watch}
 
 pub data Typed : Type 0 where
   -- a line without a word, or a comment
@@ -43,7 +45,7 @@ abbrev pub plain : Lent → Typed
 plain lent.Silent = silent
 plain (lent.Line l) = line (bench.plain l)
 plain (lent.Show shown) = show shown
-plain (lent.Who watch which) = who watch which
+plain (lent.Who w which) = who (watch.plain w) which
 plain lent.WhoAgain = who_again
 plain (lent.Back n) = back n
 plain (lent.BackTo n) = back_to n
@@ -52,7 +54,7 @@ plain (lent.ForwardTo n) = forward_to n
 plain (lent.Goto n) = goto n
 plain (lent.Next n) = next n
 plain lent.Run = run
-plain (lent.RunUntil until) = run_until until
+plain (lent.RunUntil u) = run_until (until.plain u)
 plain (lent.Load file) = load file.now
 plain (lent.Save file) = save file.now
 plain (lent.SaveOver file) = save_over file.now

@@ -8,8 +8,9 @@ use Rattle.std.specs.Str.{bytes_eq}
 use Rattle.em_text.specs.Numbers.{decimal_number, octets_of}
 use Rattle.em_text.specs.Writer.{value_digits}
 use Rattle.em_line.specs.Digits.{bare}
+use Rattle.em_regs.specs.declared.profile.Profile.TheVariants.{Table}
 use Rattle.em_regs.specs.declared.reg.Reg.{Reg}
-use Rattle.em_regs.specs.Table.{offset_of, reg_at}
+use Rattle.em_regs.specs.Table.{offset_of, reg_of}
 use Rattle.em_prompt.specs.declared.command.Command.{Command}
 use Rattle.em_prompt.specs.declared.kind.Choice.TheVariants.{Way, Side as OfSides, More, Switch}
 use Rattle.em_prompt.specs.declared.kind.Kind.TheVariants.{Value, Address, Data, Ethernet, FrameLen, LastLine, Number as OfNumber}
@@ -19,7 +20,8 @@ use Rattle.em_prompt.specs.declared.typed.Side.{Side}
 use Rattle.em_prompt.specs.declared.typed.Side.TheVariants.{Receive, Transmit}
 use Rattle.em_prompt.specs.declared.typed.Which.{Which}
 use Rattle.em_prompt.specs.declared.typed.Which.TheVariants.{Again, All}
-use Rattle.em_prompt.specs.declared.watch.Watch.{Watch}
+use Rattle.em_prompt.specs.declared.watch.Watch.{Watch as Coded}
+use Rattle.em_prompt.specs.declared.watched_len.WatchedLen.{WatchedLen}
 use Rattle.em_prompt.specs.declared.fault.Fault.{Fault as LentFault}
 use Rattle.em_prompt.specs.declared.kept.Kept.{Kept as LentKept}
 use Rattle.em_prompt.specs.declared.value.Offset.{Offset as LentOffset}
@@ -29,7 +31,8 @@ use Rattle.em_prompt.specs.Fault.{Fault, no, odd_digits, no_register, no_bit, no
 use Rattle.em_prompt.specs.Kept.{kept_text}
 use Rattle.em_prompt.specs.Number.{least, most}
 use Rattle.em_prompt.specs.Register.{known, named}
-use Rattle.em_prompt.specs.Watch.{watched}
+use Rattle.em_prompt.specs.Watch as watch
+use Rattle.em_prompt.specs.Watch.{Watch, watched}
 use Rattle.em_prompt.specs.Word.{data_digits, hex_address_in, hex_number_in}
 
 -- ---- what the code reads, without where words lie in memory
@@ -42,6 +45,19 @@ read_so (Err fault) = Err (plain fault)
 abbrev pub read_with : {T : Type 0} → Result T LentFault → List (List ℕ) → Result (T × List (List ℕ)) Fault
 read_with (Ok value) words = Ok (value, words)
 read_with (Err fault) words = Err (plain fault)
+
+-- of how many octets are watched, the number alone
+abbrev pub len_so : Result WatchedLen LentFault → Result ℕ Fault
+len_so (Ok len) = Ok len.octets
+len_so (Err fault) = Err (plain fault)
+
+abbrev pub watch_so : Result Coded LentFault → Result Watch Fault
+watch_so (Ok w) = Ok (watch.plain w)
+watch_so (Err fault) = Err (plain fault)
+
+abbrev pub watch_read_with : Result Coded LentFault → List (List ℕ) → Result (Watch × List (List ℕ)) Fault
+watch_read_with (Ok w) words = Ok (watch.plain w, words)
+watch_read_with (Err fault) words = Err (plain fault)
 
 abbrev pub kept_so : Result LentKept LentFault → Result (List ℕ) Fault
 kept_so (Ok kept) = Ok (kept_text kept)
@@ -79,7 +95,7 @@ is_some (Some value) = true
 -- a register by its name, or any offset
 abbrev pub offset_with : List ℕ → Option Reg → Option ℕ → Result Offset Fault
 offset_with word (Some reg) at = Ok (record { text = value_digits (offset_of reg); reg = Some reg })
-offset_with word None (Some at) = Ok (record { text = bare word; reg = reg_at at })
+offset_with word None (Some at) = Ok (record { text = bare word; reg = reg_of Table at })
 offset_with word None None = Err (no_register word)
 
 abbrev pub offset_in : List ℕ → Result Offset Fault

@@ -44,8 +44,6 @@ pub enum Kind {
     Watch,
     /// The name of a file.
     File,
-    /// The name of a command.
-    Name,
     /// The last of several lines, by its number.
     LastLine,
     /// A number in decimal digits.
@@ -69,7 +67,6 @@ impl Kind {
             Kind::Turn => "a turn",
             Kind::Watch => "WATCH",
             Kind::File => "FILE",
-            Kind::Name => "a command",
             Kind::LastLine => "LAST",
             Kind::Number(Number::Peeked) | Kind::Number(Number::Watched) => "LEN",
             Kind::Number(Number::Packets) => "N",

@@ -1,5 +1,5 @@
 //! Numbers that words write in decimal.
-ghost use Rattle.std.specs.Prelude.{◌≡◌};
+ghost use Rattle.std.specs.Prelude.{◌≡◌, ◌≤◌, IfOk};
 ghost use Rattle.em_prompt.specs.Number.{least, most};
 ghost use Rattle.em_prompt.specs.Value.{kept_number_in, kept_so, number_in, read_so, within};
 
@@ -53,7 +53,8 @@ impl Number {
 
     /// The number of this kind that a word writes.
     pub(crate) fn of(self, word: &[u8]) -> Result<u32, Fault<'_>>
-        ensures { read_so result ≡ number_in self word.now }
+        ensures number { read_so result ≡ number_in self word.now }
+        ensures within { IfOk result (λ number. (least self ≤ number) × (number ≤ most self)) }
     {
         match decimal_number(word) {
             Some(number) => self.within(number),
@@ -63,7 +64,8 @@ impl Number {
 
     /// This number, where it may be one of this kind.
     pub(crate) fn within<'a>(self, number: u32) -> Result<u32, Fault<'a>>
-        ensures { read_so result ≡ within self number }
+        ensures number { read_so result ≡ within self number }
+        ensures within { IfOk result (λ number. (least self ≤ number) × (number ≤ most self)) }
     {
         if self.least() <= number && number <= self.most() {
             Ok(number)

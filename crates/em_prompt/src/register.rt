@@ -6,7 +6,7 @@ use crate::word::hex_number_in;
 use em_names::parse;
 use em_regs::Reg;
 
-/// The register of the table that a word names, in either case.
+/// The register of the first profile that a word names, in either case.
 pub(crate) fn named(word: &[u8]) -> Option<Reg>
     ensures { result ≡ named word.now }
 {

@@ -5,7 +5,7 @@ ghost use Rattle.em_text.specs.Words.{words_of};
 ghost use Rattle.em_line.specs.Grammar.{turns_form};
 ghost use Rattle.em_prompt.specs.Kept.{behind_text};
 ghost use Rattle.em_prompt.specs.Typed.{plain as plain_typed};
-ghost use Rattle.em_prompt.specs.Value.{file_so, read_with};
+ghost use Rattle.em_prompt.specs.Value.{file_so, read_with, watch_read_with};
 ghost use Rattle.em_prompt.specs.Says.{plain, arrive_of, auto_of, bench, changes_of, effect_of, file_in, frame_line, frame_of};
 ghost use Rattle.em_prompt.specs.Says.{goto_of, help_of, history_of, lines_from, line_or_changes, link_of, list_of, look_of, mac_of, memory_of};
 ghost use Rattle.em_prompt.specs.Says.{move_of, moves_by, moves_to, next_of, number_if, peek_of, plan_of, poke_of, read_of, recv_of, ring_of};
@@ -24,6 +24,7 @@ use crate::value::{
     shown_address_in, side_in, switch_in, value_in, watch_in, way_in, which_in,
 };
 use crate::watch::Watch;
+use crate::watched_len::WatchedLen;
 use crate::word::hex_address_in;
 use crate::words::{alone, next};
 use em_line::turns_form;
@@ -273,12 +274,12 @@ fn who_of<'a>(mut words: Words<'a>) -> Result<Typed<'a>, Fault<'a>>
 
 /// WATCH, which begins with a word: ADDR LEN, or that word alone.
 fn watch_at<'a>(word: &'a [u8], words: &mut Words<'a>) -> Result<Watch, Fault<'a>>
-    ensures { read_with result (words_of words.new.0.now) ≡ watch_at word.now (words_of words.old.0.now) }
+    ensures { watch_read_with result (words_of words.new.0.now) ≡ watch_at word.now (words_of words.old.0.now) }
 {
     let Some(address) = hex_address_in(word) else {
         return watch_in(word);
     };
-    let len = Number::Watched.of(next(words, Kind::Number(Number::Watched))?)?;
+    let len = WatchedLen::of(next(words, Kind::Number(Number::Watched))?)?;
     Ok(Watch::Octets(address, len))
 }
 

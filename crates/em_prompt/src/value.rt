@@ -4,7 +4,7 @@ ghost use Rattle.em_prompt.specs.Fault.{plain as plain_fault};
 ghost use Rattle.em_prompt.specs.Kept.{kept_text};
 ghost use Rattle.em_prompt.specs.Value.{read_so, kept_so, offset_so, address_in, command_in, data_fault, data_in};
 ghost use Rattle.em_prompt.specs.Value.{ethernet_in, frame_len_in, known_in, last_line_in, offset_in, shown_address_in, side_in, switch_in};
-ghost use Rattle.em_prompt.specs.Value.{value_in, watch_in, way_in, which_in};
+ghost use Rattle.em_prompt.specs.Value.{value_in, watch_in, watch_so, way_in, which_in};
 ghost use Rattle.em_prompt.specs.Word.{data_digits};
 ghost use Rattle.std.specs.List.{list_all};
 ghost use Rattle.std.specs.Char.{is_ascii_hexdigit};
@@ -177,7 +177,7 @@ pub(crate) fn last_line_in<'a>(line: u32, word: &'a [u8]) -> Result<u32, Fault<'
 
 /// WATCH in one word.
 pub(crate) fn watch_in(word: &[u8]) -> Result<Watch, Fault<'_>>
-    ensures { read_so result ≡ watch_in word.now }
+    ensures { watch_so result ≡ watch_in word.now }
 {
     match watched(word) {
         Some(watch) => Ok(watch),

@@ -1,8 +1,10 @@
 //! What is watched, as words say it.
 ghost use Rattle.std.specs.Prelude.{◌≡◌};
-ghost use Rattle.em_prompt.specs.Watch.{watched};
+ghost use Rattle.std.specs.Option.{option_map};
+ghost use Rattle.em_prompt.specs.Watch.{plain, watched};
 
 use crate::register::named;
+use crate::watched_len::WatchedLen;
 use em_regs::Reg;
 use em_text::is_name;
 
@@ -11,7 +13,7 @@ use em_text::is_name;
 pub enum Watch {
     Register(Reg),
     /// So many octets of guest memory, from an address on.
-    Octets(u64, u32),
+    Octets(u64, WatchedLen),
     /// The interrupt line.
     Line,
     /// The link.
@@ -24,7 +26,7 @@ pub enum Watch {
 
 /// What one word says is watched.
 pub(crate) fn watched(word: &[u8]) -> Option<Watch>
-    ensures { result ≡ watched word.now }
+    ensures { option_map plain result ≡ watched word.now }
 {
     if is_name(word, b"line") {
         return Some(Watch::Line);

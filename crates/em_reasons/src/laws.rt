@@ -64,14 +64,15 @@ pub fn dropped_frames_stay_dropped()
 /// As long as what the test looked at stays as it is, the event is refused whenever it is asked for: a step of an engine
 /// where it is not idle. It is refused for the same reason where what the tests before it look at stays, too.
 ///
-/// What counts and is no look: guest memory lies where it lay, and of the octets that are gathered none has gone.
+/// What counts and is no look: the profile is the same, guest memory lies where it lay, and of the octets that are
+/// gathered none has gone.
 pub fn refused_events_stay_refused()
     ensures again { (s t : State) (e : Event) (reason : Refused) → refused.why s e ≡ Some reason →
-        SameLooks s t (refused_looks reason) → refused.bounds_of t ≡ refused.bounds_of s →
+        SameLooks s t (refused_looks reason) → t.profile ≡ s.profile → refused.bounds_of t ≡ refused.bounds_of s →
         length s.gathered ≤ length t.gathered → refused.IsBusy t e →
         (again : Refusal) × (step t e ≡ Err again) }
     ensures same { (s t : State) (e : Event) (reason : Refused) → refused.why s e ≡ Some reason →
-        SameLooks s t (refused_looks reason) → SameLooks s t (looks_before reason) →
+        SameLooks s t (refused_looks reason) → SameLooks s t (looks_before reason) → t.profile ≡ s.profile →
         refused.bounds_of t ≡ refused.bounds_of s → length t.gathered ≡ length s.gathered → refused.IsBusy t e →
         refused.why t e ≡ Some reason }
 {}

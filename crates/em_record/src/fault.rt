@@ -4,16 +4,11 @@ use em_script::BenchFault;
 use em_text::WriteFailed;
 use std::alloc::AllocError;
 
-/// How many events a record has at most.
-pub const MOST_EVENTS: u64 = 100_000;
-
 /// Why a record ends before its script does.
 #[derive(Clone, Copy, PartialEq, Eq, Debug)]
 pub enum RecordFault {
     /// The record could not be written, a line is too long, or memory was refused.
     Bench(BenchFault),
-    /// With this line's events there would be more than [`MOST_EVENTS`].
-    TooManyEvents(usize),
     /// This line performed more events than the journal then holds.
     JournalTooSmall(usize),
 }

@@ -2,7 +2,7 @@
 
 use crate::fault::RecordFault;
 use em_expect::{agrees_of, write_difference};
-use em_line::{Command, Line, Said};
+use em_line::{Command, Line, Said, parts_of};
 use em_prompt::scripted;
 use em_script::BenchFault;
 use em_step::Event;
@@ -50,6 +50,16 @@ fn kind_of_event(event: Event<'_>) -> &'static [u8] {
         Event::RxStep => b"rx",
         Event::TxStep => b"tx",
     }
+}
+
+/// Whether a line takes events back.
+pub fn takes_back(alloc: Global, text: &[u8]) -> Result<bool, RecordFault> {
+    let said = played(alloc, parts_of(text).said)?;
+    let line = Line::read(alloc, said.as_slice())?;
+    Ok(match line.says {
+        Said::Command(Command::Back | Command::BackBy(_)) => true,
+        _ => false,
+    })
 }
 
 /// How an answer differs from the one that is expected, in a line of text; no octet where it does not, or where none is

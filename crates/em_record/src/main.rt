@@ -6,11 +6,12 @@
 #![tactic(auto)]
 
 mod fault;
+mod held;
 mod help;
 mod line;
 mod recorder;
 
-use crate::fault::{MOST_EVENTS, RecordFault};
+use crate::fault::RecordFault;
 use crate::help::{HELP, VERSION};
 use crate::recorder::Recorder;
 use em_ending::Ending;
@@ -167,10 +168,24 @@ fn with_options<R: Files + Input + Print + Eprint + AllocGlobal>(
         return stopped(rt, BenchFault::Memory);
     };
     let settings = words.settings(options.settings(), head);
+    let script = match &script {
+        Ok(script) => Ok(script.as_slice()),
+        Err(refused) => Err(*refused),
+    };
+    with_settings(rt, name, settings, script)
+}
+
+/// Makes the machine, and records the run of a script, if there is one.
+fn with_settings<R: Print + Eprint + AllocGlobal>(
+    rt: &R,
+    name: &str,
+    settings: Settings,
+    script: Result<&[u8], InputRefused>,
+) -> u8 {
     match Recorder::new(rt.alloc(), settings) {
         Ok(mut recorder) => {
             let status = match script {
-                Ok(script) => with_recorder(rt, name, script.as_slice(), &mut recorder),
+                Ok(script) => with_recorder(rt, name, script, &mut recorder),
                 Err(refused) => without_script(rt, name, refused),
             };
             // The system takes its memory back when the program ends, all at once.
@@ -293,12 +308,6 @@ fn with_record<R: Eprint>(rt: &R, ran: Result<bool, RecordFault>) -> u8 {
         Ok(false) => WELL,
         Ok(true) => UNRECORDED,
         Err(RecordFault::Bench(fault)) => stopped(rt, fault),
-        Err(RecordFault::TooManyEvents(line)) => {
-            let _ = eprintln!(rt;
-                "em_record: line {line}: the run has more than {MOST_EVENTS} events"
-            );
-            UNRECORDED
-        }
         Err(RecordFault::JournalTooSmall(line)) => {
             let _ = eprintln!(rt;
                 "em_record: line {line}: it performed more events than the journal holds"

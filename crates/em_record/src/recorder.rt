@@ -1,19 +1,18 @@
 //! Playing a script, and writing its record as it goes.
 
-use crate::fault::{MOST_EVENTS, RecordFault};
-use crate::line::{difference, kind_of, played};
+use crate::fault::RecordFault;
+use crate::held::{BEFORE_EVENTS, BEHIND_EVENTS, Held, Told, has_stored, write_one};
+use crate::line::{difference, kind_of, played, takes_back};
 use em_journal::{Settings, SettingsRefusal};
 use em_line::{Line, Parts, parts_of};
 use em_named::Did;
 use em_recording::{
-    Recorded, newest_frame, record_of, write_event, write_number, write_settings, write_start,
-    write_string,
+    newest_frame, record_of, write_number, write_settings, write_start, write_string,
 };
 use em_script::{BenchFault, Outcome};
 use em_tape::Tape;
 use em_text::{WriteFailed, next_line, write_pieces, write_whole};
-use em_trail::Note;
-use em_watch::{Difference, Sight, what};
+use em_watch::what;
 use std::alloc::{AllocError, Global};
 use std::io::Write;
 
@@ -21,7 +20,10 @@ use std::io::Write;
 const FORMAT: &[u8] = b"{\"format\":\"bunjelav recording\",\"version\":2,\n";
 
 /// A line with more events than these is taken back and performed again.
-const FEW: u64 = 64;
+const FEW: usize = 64;
+
+/// So many events are taken back at most, so that all lines so far are performed again once for them.
+const MOST_HELD: usize = 8_192;
 
 /// A machine on which a script is to be played.
 #[derive(Drop)]
@@ -35,45 +37,9 @@ pub struct Recorder {
     events: u64,
     /// Whether a line was bad.
     is_bad: bool,
-}
-
-/// What is told of an event: what it was, what it changed, and the frame that it stored.
-#[derive(Drop)]
-struct Told {
-    note: Note,
-    recorded: Recorded,
-    stored: Option<Vec<u8>>,
-}
-
-/// Whether there are more frames in the FIFO than there were.
-fn has_stored(frames: Option<Difference>) -> bool {
-    match frames {
-        Some(
-            Difference {
-                before: Sight::Count(before),
-                after: Sight::Count(after),
-            },
-        ) => before < after,
-        _ => false,
-    }
-}
-
-/// Writes the record of an event behind `done` others of its line, of which the first has a number.
-fn write_one<W: Write>(
-    writer: &mut W,
-    first: u64,
-    done: usize,
-    one: &Told,
-) -> Result<(), WriteFailed> {
-    if done > 0 {
-        write_whole(writer, b",")?;
-    }
-    let number = first.saturating_add(done as u64);
-    let stored = match &one.stored {
-        Some(octets) => Some(octets.as_slice()),
-        None => None,
-    };
-    write_event(writer, number, one.note, &one.recorded, stored)
+    /// The newest lines, from one on whose events are told by steps back; and how many events they performed.
+    held: Vec<Held>,
+    held_events: usize,
 }
 
 /// Writes each line's text.
@@ -128,6 +94,8 @@ impl Recorder {
                 answer: Vec::new(alloc),
                 events: 0,
                 is_bad: false,
+                held: Vec::new(alloc),
+                held_events: 0,
             }),
             Err(refusal) => Err(refusal),
         }
@@ -148,31 +116,99 @@ impl Recorder {
     fn write_lines<W: Write>(&mut self, writer: &mut W, script: &[u8]) -> Result<(), RecordFault> {
         write_whole(writer, b"\"lines\":[")?;
         let mut rest = script;
-        let mut before: &[u8] = b"\n";
         while !rest.is_empty() {
             let (line, behind) = next_line(rest);
-            write_whole(writer, before)?;
             self.write_line(writer, line)?;
-            before = b",\n";
             rest = behind;
         }
+        self.write_all_held(writer)?;
         write_whole(writer, b"\n],\n")?;
         Ok(())
     }
 
-    /// Plays a line, and writes what it did.
+    /// Plays a line, and writes what it did, or holds that.
     fn write_line<W: Write>(&mut self, writer: &mut W, text: &[u8]) -> Result<(), RecordFault> {
+        if !self.held.is_empty() && takes_back(self.alloc, text)? {
+            self.write_all_held(writer)?;
+        }
+        let front = self.play(text)?;
+        let count = self.performed()?;
+        if self.held_events.saturating_add(count) > self.tape.machine().can_go_back() {
+            let before = self.tape.len().saturating_sub(1);
+            self.write_held(writer, before)?;
+        }
+        let number = self.events.saturating_add(1);
+        self.events = self.events.saturating_add(count as u64);
+        if self.held.is_empty() && self.is_told_at_once(count) {
+            write_whole(writer, front.as_slice())?;
+            return self.write_events(writer, number, count);
+        }
+        self.hold(front, number, count)?;
+        if self.holds_enough() {
+            self.write_all_held(writer)?;
+        }
+        Ok(())
+    }
+
+    /// Plays a line, and gives what stands in its record before its events.
+    fn play(&mut self, text: &[u8]) -> Result<Vec<u8>, RecordFault> {
         let parts = parts_of(text);
         let said = played(self.alloc, parts.said)?;
         let line = Line::read(self.alloc, said.as_slice())?;
-        self.tape.add(said.as_slice())?;
+        let outcome = self.perform(said.as_slice())?;
+        self.front(&parts, &line, outcome)
+    }
+
+    /// Plays what a line says, and keeps its answer.
+    fn perform(&mut self, said: &[u8]) -> Result<Outcome, RecordFault> {
+        self.tape.add(said)?;
         self.answer.clear();
-        let outcome = match self.tape.perform_next(&mut self.answer) {
-            Ok(outcome) => outcome.unwrap_or(Outcome::Silent),
+        match self.tape.perform_next(&mut self.answer) {
+            Ok(outcome) => Ok(outcome.unwrap_or(Outcome::Silent)),
             // A vector fails only where memory is refused.
-            Err(_) => return Err(RecordFault::Bench(BenchFault::Memory)),
-        };
+            Err(_) => Err(RecordFault::Bench(BenchFault::Memory)),
+        }
+    }
+
+    /// What stands in the record of the last line before its events.
+    fn front(
+        &mut self,
+        parts: &Parts<'_>,
+        line: &Line<'_>,
+        outcome: Outcome,
+    ) -> Result<Vec<u8>, RecordFault> {
+        let mut front = Vec::new(self.alloc);
+        match self.write_front(&mut front, parts, line, outcome) {
+            Ok(()) => Ok(front),
+            // A vector fails only where memory is refused.
+            Err(_) => Err(RecordFault::Bench(BenchFault::Memory)),
+        }
+    }
+
+    /// How many events the last line performed, which the journal has to hold.
+    fn performed(&self) -> Result<usize, RecordFault> {
+        match self.tape.performed_by(self.tape.len()) {
+            Some(Did::Performed(count)) => {
+                if count > self.tape.machine().can_go_back() as u64 {
+                    return Err(RecordFault::JournalTooSmall(self.tape.len()));
+                }
+                Ok(count as usize)
+            }
+            Some(Did::TookBack(_)) => Ok(0),
+            None => Err(RecordFault::Bench(BenchFault::Memory)),
+        }
+    }
+
+    /// Writes what stands in the record of the last line before its events.
+    fn write_front<W: Write>(
+        &mut self,
+        writer: &mut W,
+        parts: &Parts<'_>,
+        line: &Line<'_>,
+        outcome: Outcome,
+    ) -> Result<(), RecordFault> {
         let number = self.tape.len() as u64;
+        write_whole(writer, if number > 1 { b",\n" } else { b"\n" })?;
         write_number(writer, b"{\"line\":", number)?;
         if let Some(kind) = kind_of(&line.says) {
             write_pieces(writer, &[b",\"kind\":\"", kind, b"\""])?;
@@ -180,16 +216,11 @@ impl Recorder {
         write_whole(writer, b",\"answer\":")?;
         write_strings(writer, self.answer.as_slice())?;
         self.write_outcome(writer, outcome)?;
-        self.write_behind(writer, &parts, &line)?;
-        match self.tape.performed_by(self.tape.len()) {
-            Some(Did::Performed(count)) => self.write_events(writer, count)?,
-            Some(Did::TookBack(count)) => {
-                write_number(writer, b",\"back\":", u64::from(count))?;
-                self.write_events(writer, 0)?;
-            }
-            None => return Err(RecordFault::Bench(BenchFault::Memory)),
+        self.write_behind(writer, parts, line)?;
+        if let Some(Did::TookBack(count)) = self.tape.performed_by(self.tape.len()) {
+            write_number(writer, b",\"back\":", u64::from(count))?;
         }
-        write_whole(writer, b"}")?;
+        write_whole(writer, BEFORE_EVENTS)?;
         Ok(())
     }
 
@@ -228,25 +259,10 @@ impl Recorder {
         }
     }
 
-    /// Writes the events that the last line performed, so many.
-    fn write_events<W: Write>(&mut self, writer: &mut W, count: u64) -> Result<(), RecordFault> {
-        if count > MOST_EVENTS.saturating_sub(self.events) {
-            return Err(RecordFault::TooManyEvents(self.tape.len()));
-        }
-        if count > self.tape.machine().can_go_back() as u64 {
-            return Err(RecordFault::JournalTooSmall(self.tape.len()));
-        }
-        let number = self.events.saturating_add(1);
-        self.events = self.events.saturating_add(count);
-        write_whole(writer, b",\"events\":[")?;
-        let is_read_at_once = count <= 1 || (count <= FEW && !self.have_stored(count as usize));
-        if is_read_at_once {
-            self.write_few(writer, number, count as usize)?;
-        } else {
-            self.write_many(writer, number, count as usize)?;
-        }
-        write_whole(writer, b"]")?;
-        Ok(())
+    /// Whether so many events of the last line are told from where the machine is: what a record of the journal tells has
+    /// to be followed back over all newer ones, and a frame that was stored is read right behind its event.
+    fn is_told_at_once(&self, count: usize) -> bool {
+        count <= 1 || (count <= FEW && !self.have_stored(count))
     }
 
     /// Whether one of so many newest events stored a frame.
@@ -258,7 +274,7 @@ impl Recorder {
 
     /// Writes the newest events, of which the first has a number, from where the machine is. At most the only one stored
     /// a frame.
-    fn write_few<W: Write>(
+    fn write_events<W: Write>(
         &mut self,
         writer: &mut W,
         number: u64,
@@ -268,27 +284,71 @@ impl Recorder {
             let one = self.told(count - done)?;
             write_one(writer, number, done, &one)?;
         }
+        write_whole(writer, BEHIND_EVENTS)?;
         Ok(())
     }
 
-    /// Writes the newest events, which are taken back one by one: what a record of the journal tells has to be followed
-    /// back over all newer ones, and a frame that was stored is read right behind its event. The line is then performed
-    /// again.
-    fn write_many<W: Write>(
-        &mut self,
-        writer: &mut W,
-        number: u64,
-        count: usize,
-    ) -> Result<(), RecordFault> {
-        let mut all = Vec::new(self.alloc);
-        for _ in 0..count {
-            let one = self.told(1)?;
-            all.push(one).map_err(AllocError::from)?;
-            self.tape.back(1);
+    /// Holds the last line, with its events where they are told at once.
+    fn hold(&mut self, front: Vec<u8>, number: u64, count: usize) -> Result<(), RecordFault> {
+        let mut told = Vec::new(self.alloc);
+        if self.is_told_at_once(count) {
+            for back in 0..count {
+                let one = self.told(back.saturating_add(1))?;
+                told.push(one).map_err(AllocError::from)?;
+            }
         }
-        self.tape.to_line(self.tape.len())?;
-        for (done, one) in all.as_slice().iter().rev().enumerate() {
-            write_one(writer, number, done, one)?;
+        self.held
+            .push(Held::new(front, number, count, told))
+            .map_err(AllocError::from)?;
+        self.held_events = self.held_events.saturating_add(count);
+        Ok(())
+    }
+
+    /// Whether so many events are held that they are to be told now: before the journal drops one, in most cases.
+    fn holds_enough(&self) -> bool {
+        let most = self.tape.machine().can_go_back();
+        self.held_events >= MOST_HELD || self.held_events >= most / 2
+    }
+
+    /// Writes the lines that are held up to the last one that was played.
+    fn write_all_held<W: Write>(&mut self, writer: &mut W) -> Result<(), RecordFault> {
+        let last = self.tape.len();
+        self.write_held(writer, last)
+    }
+
+    /// Writes the lines that are held, of which this is the last one. Their events are taken back one by one, and told as
+    /// far as they were not; all lines are then performed again.
+    fn write_held<W: Write>(&mut self, writer: &mut W, line: usize) -> Result<(), RecordFault> {
+        if self.held.is_empty() {
+            return Ok(());
+        }
+        self.tape.to_line(line)?;
+        let mut all = Vec::new(self.alloc);
+        for _ in 0..self.held.len() {
+            if let Some(mut one) = self.held.pop() {
+                self.tell_back(&mut one)?;
+                all.push(one).map_err(AllocError::from)?;
+            }
+        }
+        self.held_events = 0;
+        let last = self.tape.len();
+        self.tape.to_line(last)?;
+        for one in all.as_slice().iter().rev() {
+            one.write(writer)?;
+        }
+        Ok(())
+    }
+
+    /// Takes the events of a line back, behind which the machine is, and tells those that were not told.
+    fn tell_back(&mut self, line: &mut Held) -> Result<(), RecordFault> {
+        if line.is_told() {
+            self.tape.back(line.count);
+            return Ok(());
+        }
+        for _ in 0..line.count {
+            let one = self.told(1)?;
+            line.tell(one)?;
+            self.tape.back(1);
         }
         Ok(())
     }

@@ -2,7 +2,7 @@
 use Rattle.std.specs.Prelude.{ℕ, ◌*◌, List, [], ◌++◌, codes, Option, Some, None}
 use Rattle.std.specs.List.{flat_map, range_with_len}
 use Rattle.em_names.specs.Names.{name_of}
-use Rattle.em_regs.specs.Table.{reg_at}
+use Rattle.em_regs.specs.Table.{reg_of}
 use Rattle.em_regs.specs.declared.reg.Reg.{Reg}
 use Rattle.em_regs.specs.declared.reg.Reg.TheVariants as named
 use Rattle.em_step.specs.State.{State}
@@ -28,7 +28,7 @@ other_text s None = []
 other_text s (Some reg) = named_text (codes ",\"") reg (gives s reg)
 
 abbrev pub word_text : State → ℕ → List ℕ
-word_text s word = other_text s (reg_at (4 * word))
+word_text s word = other_text s (reg_of s.profile (4 * word))
 
 -- n words from one of them on
 unfoldable pub words_text : State → ℕ → ℕ → List ℕ
@@ -38,4 +38,4 @@ words_text s word n = flat_map (word_text s) (range_with_len word n)
 abbrev pub start_text : State → List ℕ
 start_text s =
     named_text (codes "\"start\":{\"registers\":{\"") named.Ctrl (gives s named.Ctrl)
-    ++ (words_text s 1 0x15FF ++ codes "}},\n")
+    ++ (words_text s 1 0x17FF ++ codes "}},\n")

@@ -41,12 +41,12 @@ pub fn write_start<W: Write>(writer: &mut W, machine: &Machine) -> Result<(), Wr
 
 /// Writes the register of a word behind others, if one lies there.
 fn write_word<W: Write>(writer: &mut W, machine: &Machine, word: u32) -> Result<(), WriteFailed>
-    requires { word < 0x1600 }
+    requires { word < 0x1800 }
     ensures writes { Writes (W.contents writer.old) (W.contents writer.new) result
         (word_text machine.now.present word) }
 {
     let offset = WORD * word;
-    match Reg::of_offset(offset) {
+    match Reg::of_offset_in(machine.profile(), offset) {
         Some(reg) => write_value(writer, b",\"", reg, machine.look(offset).unwrap_or(0)),
         None => Ok(()),
     }

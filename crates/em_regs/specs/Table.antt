@@ -17,18 +17,27 @@ use Rattle.std.specs.Prelude.{
   nat_le,
   nat_lt,
   if◌then◌else◌,
+  ◌++◌,
+  IsTrue,
 }
 use Rattle.std.specs.Prelude.{List, [], ◌∷◌, Option, Some, None, codes}
 use Rattle.em_regs.specs.declared.reg.Reg.{Reg}
 use Rattle.em_regs.specs.declared.reg.Reg.TheVariants as named
 use Rattle.em_regs.specs.declared.table.Row.{Row}
+use Rattle.em_regs.specs.declared.profile.Profile.{Profile}
+use Rattle.em_regs.specs.declared.profile.Profile.TheVariants.{Table, Adapter}
 use Rattle.em_regs.specs.declared.table.Kind.{Kind}
 use Rattle.em_regs.specs.declared.table.Kind.TheVariants.{Stored, Control, EepromRead, Status, Interrupt, Counter}
+use Rattle.em_regs.specs.declared.table.Kind.TheVariants.{EepromPins, PhyCommand}
 
 -- an array: n words that lie some octets apart, which store the bits of a mask
 abbrev pub array : ℕ → ℕ → ℕ → ℕ → ℕ → Row
 array offset n spacing mask place =
-    record { offset = offset; words = n; spacing = spacing; kind = Stored; mask = mask; place = place }
+    record { since = Table; offset = offset; words = n; spacing = spacing; kind = Stored; mask = mask; place = place }
+
+-- a row that the second profile has, and the first has not
+abbrev pub later : Row → Row
+later row = record row { since = Adapter }
 
 -- one such word
 abbrev pub word : ℕ → ℕ → ℕ → Row
@@ -38,7 +47,7 @@ word offset mask place = array offset 1 4 mask place
 abbrev pub acting : Kind → ℕ → ℕ → ℕ → Row
 acting kind offset mask place = record (word offset mask place) { kind = kind }
 
--- a register that keeps nothing of what is written
+-- a register of which the register file keeps nothing
 abbrev pub other : ℕ → Kind → ℕ → Row
 other offset kind place = acting kind offset 0xFFFF_FFFF place
 
@@ -118,6 +127,16 @@ named_row_of (named.Mta _) = called (codes "MTA") (array 0x05200 128 4 0xFFFF_FF
 named_row_of (named.Ral _) = called (codes "RAL") (array 0x05400 16 8 0xFFFF_FFFF 159)
 named_row_of (named.Rah _) = called (codes "RAH") (array 0x05404 16 8 0x8003_FFFF 175)
 named_row_of (named.Vfta _) = called (codes "VFTA") (array 0x05600 128 4 0xFFFF_FFFF 191)
+named_row_of named.Eecd = called (codes "EECD") (later (other 0x00010 EepromPins 0))
+named_row_of named.Mdic = called (codes "MDIC") (later (other 0x00020 PhyCommand 0))
+named_row_of named.Txcw = called (codes "TXCW") (later (word 0x00178 0xC000_FFFF 319))
+named_row_of named.Ait = called (codes "AIT") (later (word 0x00458 0x0000_FFFF 320))
+named_row_of named.Fcrtl = called (codes "FCRTL") (later (word 0x02160 0x8000_FFF8 321))
+named_row_of named.Fcrth = called (codes "FCRTH") (later (word 0x02168 0x0000_FFF8 322))
+named_row_of named.Wuc = called (codes "WUC") (later (word 0x05800 0xFFFF_FFFF 323))
+named_row_of named.Wufc = called (codes "WUFC") (later (word 0x05808 0xFFFF_FFFF 324))
+named_row_of named.Manc = called (codes "MANC") (later (word 0x05820 0xFFFF_FFFF 325))
+named_row_of named.Swsm = called (codes "SWSM") (later (word 0x05B50 0xFFFF_FFFF 326))
 
 abbrev pub row_of : Reg → Row
 row_of reg = (named_row_of reg).row
@@ -164,7 +183,7 @@ is_stored_kind Control = true
 is_stored_kind EepromRead = true
 is_stored_kind kind = false
 
--- a register that keeps what software writes: every one but STATUS, the interrupt registers and the counters
+-- a register that keeps what software writes: every one but STATUS, the interrupt registers, the counters, EECD and MDIC
 abbrev pub is_stored : Reg → Bool
 is_stored reg = is_stored_kind (row_of reg).kind
 
@@ -175,9 +194,9 @@ is_counter_kind kind = false
 abbrev pub is_counter : Reg → Bool
 is_counter reg = is_counter_kind (row_of reg).kind
 
--- the first register of each row, those of a kind in the order of their places
-abbrev pub registers : List Reg
-registers = named.Ctrl ∷ named.Status ∷ named.Eerd ∷ named.CtrlExt ∷ named.Fcal ∷ named.Fcah ∷ named.Fct ∷ named.Vet ∷
+-- the first register of each row of the first profile, those of a kind in the order of their places
+abbrev pub registers_of_table : List Reg
+registers_of_table = named.Ctrl ∷ named.Status ∷ named.Eerd ∷ named.CtrlExt ∷ named.Fcal ∷ named.Fcah ∷ named.Fct ∷ named.Vet ∷
     named.Icr ∷ named.Itr ∷ named.Ics ∷ named.Ims ∷ named.Imc ∷ named.Rctl ∷ named.Fcttv ∷ named.Tctl ∷ named.Tipg ∷
     named.Ledctl ∷ named.Pba ∷ named.Rdbal ∷ named.Rdbah ∷ named.Rdlen ∷ named.Rdh ∷ named.Rdt ∷ named.Rdtr ∷
     named.Rxdctl ∷ named.Radv ∷ named.Tdbal ∷ named.Tdbah ∷ named.Tdlen ∷ named.Tdh ∷ named.Tdt ∷ named.Tidv ∷
@@ -186,6 +205,15 @@ registers = named.Ctrl ∷ named.Status ∷ named.Eerd ∷ named.CtrlExt ∷ nam
     named.Gotch ∷ named.Rnbc ∷ named.Ruc ∷ named.Roc ∷ named.Ptc64 ∷ named.Ptc127 ∷ named.Ptc255 ∷ named.Ptc511 ∷
     named.Ptc1023 ∷ named.Ptc1522 ∷ named.Mptc ∷ named.Bptc ∷ named.Rxcsum ∷ named.Mta 0 ∷ named.Ral 0 ∷ named.Rah 0 ∷
     named.Vfta 0 ∷ []
+
+-- those of the rows that the second profile has besides
+abbrev pub registers_besides : List Reg
+registers_besides = named.Eecd ∷ named.Mdic ∷ named.Txcw ∷ named.Ait ∷ named.Fcrtl ∷ named.Fcrth ∷ named.Wuc ∷ named.Wufc ∷
+    named.Manc ∷ named.Swsm ∷ []
+
+-- those of all rows
+abbrev pub registers : List Reg
+registers = registers_of_table ++ registers_besides
 
 -- a word of the row lies at the offset
 abbrev pub has_word_at : Row → ℕ → Bool
@@ -198,9 +226,34 @@ reg_in [] o = None
 reg_in (r ∷ rs) o =
     if has_word_at (row_of r) o then Some (with_index r ((o - (row_of r).offset) / (row_of r).spacing)) else reg_in rs o
 
--- the register at an offset
+-- the register of any row at an offset
 unfoldable pub reg_at : ℕ → Option Reg
 reg_at o = reg_in registers o
+
+-- rows that the first profile has are in each, and those that the second has besides in the second alone
+abbrev pub is_in : Profile → Profile → Bool
+is_in Table profile = true
+is_in Adapter Adapter = true
+is_in Adapter Table = false
+
+abbrev pub has_reg : Profile → Reg → Bool
+has_reg profile reg = is_in (row_of reg).since profile
+
+-- a register of a profile
+abbrev pub IsRegOf : Profile → Reg → Type 0
+IsRegOf profile reg = IsReg reg × IsTrue (has_reg profile reg)
+
+-- the register of a profile at an offset
+abbrev pub kept_by : Profile → Option Reg → Option Reg
+kept_by profile None = None
+kept_by profile (Some reg) = if has_reg profile reg then Some reg else None
+
+abbrev pub reg_of : Profile → ℕ → Option Reg
+reg_of profile o = kept_by profile (reg_at o)
+
+-- the register of the first profile's rows at an offset
+unfoldable pub reg_of_table : ℕ → Option Reg
+reg_of_table o = reg_in registers_of_table o
 
 -- no register lies from an offset on below another
 abbrev pub NoneFrom : ℕ → ℕ → Type 0

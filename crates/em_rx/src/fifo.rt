@@ -7,7 +7,7 @@ ghost use Rattle.em_mem.specs.OldOctets.{Keeps, Saves};
 ghost use Rattle.em_rx.specs.Frame.{stored_frame};
 ghost use Rattle.em_rx.specs.StoredFrame.{LiesSo};
 ghost use Rattle.em_rx.specs.Fifo.{after_arrival, after_delivery, empty, first, fresh, HasRoom, IsFirst, IsLast};
-ghost use Rattle.em_rx.specs.Fifo.{IsSound, last, next, rest, shows};
+ghost use Rattle.em_rx.specs.Fifo.{IsSound, last, next, octets_in, rest, shows};
 ghost use Rattle.em_rx.specs.Records.{IsWhole, frame_patch, record_of, saved_of, step_patch};
 ghost use Rattle.em_rx.specs.RxUndo.{Frame};
 ghost use Rattle.em_rx.specs.Undo.{Fits, FitsFrame, FitsStep, IsMove, Reverses, ReversesStep, delivered, moved_back};
@@ -96,6 +96,13 @@ impl Fifo {
         ensures { IsTrue result ↔ HasRoom (shows self.now) len }
     {
         len <= (OCTETS - self.places.used) as usize
+    }
+
+    /// How many stored octets have room.
+    pub fn room(&self) -> usize
+        ensures { octets_in (shows self.now) + result ≡ 49_152 }
+    {
+        (OCTETS - self.places.used) as usize
     }
 
     /// Stores a frame, which comes last: a tagged one without its octets 12 to 15. What it overwrites is

@@ -24,6 +24,9 @@ cells_same c d same = record {
   wire = ap (λ (x : Cells). x.wire) same;
   eeprom = ap (λ (x : Cells). x.eeprom) same;
   link = ap (λ (x : Cells). x.link) same;
+  profile = ap (λ (x : Cells). x.profile) same;
+  pins = ap (λ (x : Cells). x.pins) same;
+  phy = ap (λ (x : Cells). x.phy) same;
 }
 
 -- what is refused for this, and changes nothing

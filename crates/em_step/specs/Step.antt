@@ -1,8 +1,8 @@
 -- One event: the refusal whose cause comes first, or the answer and the next state.
-use Rattle.std.specs.Prelude.{◌≡◌, ◌⊎◌, ℕ, ◌+◌, ◌==◌, ◌||◌, nat_lt, Bool, true, false, not, IsTrue, if◌then◌else◌}
+use Rattle.std.specs.Prelude.{◌≡◌, ◌⊎◌, ℕ, ◌==◌, ◌||◌, nat_lt, Bool, true, false, not, IsTrue, if◌then◌else◌}
 use Rattle.std.specs.Prelude.{List, length, Option, Some, None, Result, Ok, Err}
 use Rattle.em_mem.specs.Memory.{leaves, put}
-use Rattle.em_regs.specs.Table.{reg_at}
+use Rattle.em_regs.specs.Table.{reg_at, reg_of}
 use Rattle.em_regs.specs.declared.reg.Reg.{Reg}
 use Rattle.em_step.specs.Event.{Event, reads, writes, pokes, arrives, links, receives, transmits}
 use Rattle.em_step.specs.State.{State}
@@ -32,8 +32,8 @@ arrive s f = if nat_lt (length f) 14 || nat_lt 20_000 (length f) then Err Length
 
 -- the answer and the next state, or why there is none
 abbrev pub step : State → Event → Result (Answer × State) Refusal
-step s (reads o) = at_register (reg_at o) (λ reg. (Value (gives s reg), after_read s reg))
-step s (writes o v) = at_register (reg_at o) (λ reg. (Done, after_write s reg v))
+step s (reads o) = at_register (reg_of s.profile o) (λ reg. (Value (gives s reg), after_read s reg))
+step s (writes o v) = at_register (reg_of s.profile o) (λ reg. (Done, after_write s reg v))
 step s (pokes a octets) = poke s a octets
 step s (arrives f) = arrive s f
 step s (links up) = Ok (Done, after_link s up)

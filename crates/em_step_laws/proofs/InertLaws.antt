@@ -14,9 +14,10 @@ use Rattle.em_regs.specs.RegFile as registers
 use Rattle.em_regs.specs.RegFile.{at}
 use Rattle.em_regs.specs.Setup.{has, rx_setup, tx_setup, value_of}
 use Rattle.em_regs.specs.Storage.{Registers}
-use Rattle.em_regs.specs.Table.{mask_of, offset_of, reg_at, row_of}
+use Rattle.em_regs.specs.Table.{mask_of, offset_of, reg_of, row_of}
 use Rattle.em_regs.specs.declared.table.Kind.{Kind}
 use Rattle.em_regs.specs.declared.table.Kind.TheVariants.{Stored as StoredKind, Control, EepromRead, Status, Interrupt, Counter}
+use Rattle.em_regs.specs.declared.table.Kind.TheVariants.{EepromPins, PhyCommand}
 use Rattle.em_regs.proofs.Entries.{at-insert}
 use Rattle.em_latch.specs.Latches as latches
 use Rattle.em_eeprom.specs.Eeprom.{mac_of, word_at}
@@ -238,6 +239,8 @@ write_by s n reg v EepromRead h = eerd_alike s n v (access.has v 0x1) h
 write_by s n reg v Status h = alike_state s n Done h
 write_by s n reg v Interrupt h = (refl, (n, refl, h))
 write_by s n reg v Counter h = (refl, (n, refl, h))
+write_by s n reg v EepromPins h = (refl, (n, refl, h))
+write_by s n reg v PhyCommand h = (refl, (n, refl, h))
 
 write_alike : (s : State) (n : Registers) (reg : Reg) (v : ℕ) → AgreeInRules s.registers n
     → Alike (Ok (Done, after_write s reg v)) (Ok (Done, after_write (with_registers s n) reg v))
@@ -386,7 +389,7 @@ transmit_alike s n h =
 pub alike : (s : State) (n : Registers) (e : Event) → AgreeInRules s.registers n → IsNoRead e
     → Alike (step s e) (step (record s { registers = n }) e)
 alike s n (reads o) h noread = absurd noread
-alike s n (writes o v) h noread = written_by s n v (reg_at o) h
+alike s n (writes o v) h noread = written_by s n v (reg_of s.profile o) h
 alike s n (pokes a d) h noread =
     poked_by s n a d (memory.leaves s.base s.memory a (length d)) (length d == 0 || nat_lt 16_384 (length d)) h
 alike s n (arrives f) h noread = sized_by s n f (nat_lt (length f) 14 || nat_lt 20_000 (length f)) h

@@ -9,7 +9,7 @@ use Rattle.em_regs.specs.declared.reg.Reg.{Reg}
 use Rattle.em_regs.specs.declared.reg.Reg.TheVariants.{Eerd, Rdh, Rdlen, Tdh}
 use Rattle.em_regs.specs.declared.table.Kind.{Kind}
 use Rattle.em_regs.specs.declared.table.Kind.TheVariants.{Stored as StoredKind, Control, EepromRead}
-use Rattle.em_regs.specs.Table.{offset_of, reg_at, row_of}
+use Rattle.em_regs.specs.Table.{offset_of, reg_of, row_of}
 use Rattle.em_regs.specs.RegFile as registers
 use Rattle.em_regs.specs.RegFile.{put, put_eerd, eerd_value}
 use Rattle.em_regs.specs.Setup.{rx_setup, value_of}
@@ -32,7 +32,7 @@ use Rattle.em_tx.specs.declared.refusal.TxRefusal.{TxRefusal}
 use Rattle.em_step.specs.Access.{after_eeprom_read, after_link, after_read, after_store, after_write, after_write_by}
 use Rattle.em_step.specs.Access.{differ, eerd_address, gives, has, is_reset_by, reset}
 use Rattle.em_step.specs.Arrival.{after_accept, after_miss, arrival, is_enabled, judged, judgement, lacks_room}
-use Rattle.em_step.specs.Cells.{fresh, shows}
+use Rattle.em_step.specs.Cells.{fresh_as, shows}
 use Rattle.em_step.specs.Engines.{after_rx_answer, after_tx_answer, received, rx_stepped, transmitted}
 use Rattle.em_step.specs.Engines.{tx_stepped, with_outcome, with_shown}
 use Rattle.em_step.specs.Event.{Event, reads, writes, pokes, arrives, links, receives, transmits}
@@ -158,9 +158,9 @@ tx_keeps s (Err refusal) r few is = cc
 
 event_keeps : (s : State) (e : Event) (r : Answer × State) → KeepsLength s.registers → step s e ≡ Ok r → Keeps r
 event_keeps s (reads o) r few is =
-    access_keeps (reg_at o) (λ reg. (Value (gives s reg), after_read s reg)) r (λ reg. read_keeps s reg few) is
+    access_keeps (reg_of s.profile o) (λ reg. (Value (gives s reg), after_read s reg)) r (λ reg. read_keeps s reg few) is
 event_keeps s (writes o v) r few is =
-    access_keeps (reg_at o) (λ reg. (Done, after_write s reg v)) r
+    access_keeps (reg_of s.profile o) (λ reg. (Done, after_write s reg v)) r
     (λ reg. write_keeps (row_of reg).kind s reg v few) is
 event_keeps s (pokes a d) r few is =
     poke_keeps (leaves s.base s.memory a (length d)) (length d == 0 || nat_lt 16_384 (length d)) _ r few is
@@ -185,5 +185,5 @@ performed_keeps (e ∷ events) s t few is =
 pub few_reached : (s : State) → IsReached s → (rx_setup s.registers).count ≤ 65_536
 few_reached s is =
     let few : KeepsLength s.registers
-    = performed_keeps is.events (shows (fresh is.base is.size is.eeprom)) s (reset_keeps (mac_of is.eeprom)) is.performed in
+    = performed_keeps is.events (shows (fresh_as is.profile is.base is.size is.eeprom)) s (reset_keeps (mac_of is.eeprom)) is.performed in
     omega (arith, few)

@@ -11,7 +11,8 @@ use Rattle.em_step.specs.declared.event.Answer.{Answer}
 use Rattle.em_step.specs.declared.refusal.Refusal.{Refusal}
 
 -- Two register files agree in all that has a rule. Not among it are EERD, CTRL_EXT, FCAL, FCAH, FCT, ITR, FCTTV, TIPG,
--- LEDCTL, PBA, RDTR, RXDCTL, RADV, TIDV, TXDCTL, TADV and RXCSUM, and all other bits of CTRL, RCTL and TCTL.
+-- LEDCTL, PBA, RDTR, RXDCTL, RADV, TIDV, TXDCTL, TADV and RXCSUM, all other bits of CTRL, RCTL and TCTL, and TXCW, AIT,
+-- FCRTL, FCRTH, WUC, WUFC, MANC and SWSM.
 pub record AgreeInRules (m n : Registers) : Type 0 where
   -- CTRL
   pub vme : vme n ≡ vme m

@@ -180,7 +180,7 @@ impl Done {
         let octets = self.octets;
         write!(
             out,
-            "the script has {octets} octets, and em_bench and em_debug play {MOST_SCRIPT}"
+            "the script has {octets} octets, and em_bench plays {MOST_SCRIPT}"
         )?;
         if self.other_octets > 0 {
             write!(out, "; --skip-others leaves {} out", self.other_octets)?;

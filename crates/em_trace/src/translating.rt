@@ -91,32 +91,9 @@ pub fn translate<E: Eprint + AllocGlobal, R: BufRead, W: Write>(
     reader: &mut R,
     out: &mut W,
 ) -> Result<Done> {
-    let mut log = wanted.log();
     let mut script = Script::new(rt.alloc(), wanted, frames)?;
     script.done.other_frames = script.frames.pass_over(wanted.lines.from);
-    let mut line = Vec::new(rt.alloc());
-    for number in 1..u64::MAX {
-        if !read_line(reader, &mut line).context("the log cannot be read")? {
-            break;
-        }
-        let text = line.as_slice();
-        let entry = log.read(text);
-        if !script.done.passes(number) {
-            continue;
-        }
-        script.arrive(number, out)?;
-        match entry {
-            Entry::Fault => {
-                let _ = eprintln!(rt; "line {number} cannot be read");
-            }
-            Entry::Nothing if looks_like_access(text) => script.tell_unlike(rt, number, text)?,
-            _ => {}
-        }
-        let moment = moment_of(log.form(), text);
-        script.take(number, moment, text, entry)?;
-        script.pass(out)?;
-    }
-    script.end(out)?;
+    script.take_lines(rt, wanted.log(), reader, out)?;
     let room = script.rings.room();
     script.done.want(room);
     Ok(script.done)
@@ -139,6 +116,67 @@ impl<'a> Script<'a> {
             poll: None,
             rings: Rings::NONE,
         })
+    }
+
+    /// Writes the script of all lines that the reader has.
+    fn take_lines<E: Eprint + AllocGlobal, R: BufRead, W: Write>(
+        &mut self,
+        rt: &E,
+        log: Log<'_>,
+        reader: &mut R,
+        out: &mut W,
+    ) -> Result<()> {
+        let mut log = log;
+        let mut line = Vec::new(rt.alloc());
+        for number in 1..u64::MAX {
+            if !self.take_line(rt, &mut log, number, reader, &mut line, out)? {
+                break;
+            }
+        }
+        self.end(out)
+    }
+
+    /// Reads the next line, if there is one, and writes what becomes of it.
+    fn take_line<E: Eprint + AllocGlobal, R: BufRead, W: Write>(
+        &mut self,
+        rt: &E,
+        log: &mut Log<'_>,
+        number: u64,
+        reader: &mut R,
+        line: &mut Vec<u8>,
+        out: &mut W,
+    ) -> Result<bool> {
+        if !read_line(reader, line).context("the log cannot be read")? {
+            return Ok(false);
+        }
+        let text = line.as_slice();
+        let entry = log.read(text);
+        if self.done.passes(number) {
+            self.arrive(number, out)?;
+            self.tell(rt, number, text, entry)?;
+            let moment = moment_of(log.form(), text);
+            self.take(number, moment, text, entry)?;
+            self.pass(out)?;
+        }
+        Ok(true)
+    }
+
+    /// Says on standard error what is wrong with a line, if something is.
+    fn tell<E: Eprint + AllocGlobal>(
+        &mut self,
+        rt: &E,
+        number: u64,
+        text: &[u8],
+        entry: Entry,
+    ) -> Result<()> {
+        match entry {
+            Entry::Fault => {
+                let _ = eprintln!(rt; "line {number} cannot be read");
+                Ok(())
+            }
+            Entry::Nothing if looks_like_access(text) => self.tell_unlike(rt, number, text),
+            _ => Ok(()),
+        }
     }
 
     /// Counts a line that looks like an access and has no form, and tells the first of them.

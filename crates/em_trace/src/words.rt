@@ -30,6 +30,12 @@ For example, `em_trace qemu.log > driver.em && em_debug driver.em`.
 The status is 0, or 1 where a line could not be read or none is an access of the adapter, 2 where the command line was
 bad, 3 where the run stopped.";
 
+/// What `--form` takes.
+const FORMS: &[&str] = &["qemu", "mmiotrace", "plain"];
+
+/// What `--link` takes.
+const LINKS: &[&str] = &["up", "down"];
+
 /// Why words that the parser took are refused.
 #[derive(Clone, Copy, PartialEq, Eq, Debug)]
 pub enum WordsRefused {
@@ -85,24 +91,28 @@ fn command<'a>(alloc: Global) -> Result<Command<'a>, AllocError> {
 
 /// Adds what is read of the log.
 fn with_log<'a>(alloc: Global, command: Command<'a>) -> Result<Command<'a>, AllocError> {
-    let form = "What the log looks like; without it, its first access says so";
-    let form = option(alloc, "form", "FORM", form).value_parser([
-        "qemu",
-        "mmiotrace",
-        "plain",
-    ].as_slice());
     let from =
         "The first line of the log that is translated; those before it only say where the registers lie";
     let to = "The last line of the log that is translated";
-    let region = "What QEMU calls the adapter's registers";
-    let region = option(alloc, "region", "NAME", region).default_value("e1000-mmio");
     let base = "The address of the first register, hexadecimal; without it, the log says so";
     command
-        .arg(form)?
+        .arg(form(alloc))?
         .arg(option(alloc, "from", "LINE", from))?
         .arg(option(alloc, "to", "LINE", to))?
-        .arg(region)?
+        .arg(region(alloc))?
         .arg(option(alloc, "base", "ADDR", base))
+}
+
+/// `--form FORM`
+fn form<'a>(alloc: Global) -> Arg<'a> {
+    let help = "What the log looks like; without it, its first access says so";
+    option(alloc, "form", "FORM", help).value_parser(FORMS)
+}
+
+/// `--region NAME`
+fn region<'a>(alloc: Global) -> Arg<'a> {
+    let help = "What QEMU calls the adapter's registers";
+    option(alloc, "region", "NAME", help).default_value("e1000-mmio")
 }
 
 /// Adds where frames come from.
@@ -111,46 +121,58 @@ fn with_frames<'a>(alloc: Global, command: Command<'a>) -> Result<Command<'a>, A
         "A capture, pcap or pcapng: its frames arrive by its times and the log's, but for the adapter's own";
     let mac =
         "The adapter's address, by which its own frames are known; without it, the log says so";
-    let at = "The line of the log before which all frames arrive";
-    let at = option(alloc, "at", "LINE", at).value_parser(value_parser!(u64));
     command
         .arg(option(alloc, "frames", "PCAP", frames))?
         .arg(option(alloc, "mac", "MAC", mac))?
-        .arg(at)
+        .arg(at(alloc))
+}
+
+/// `--at LINE`
+fn at<'a>(alloc: Global) -> Arg<'a> {
+    let help = "The line of the log before which all frames arrive";
+    option(alloc, "at", "LINE", help).value_parser(value_parser!(u64))
 }
 
 /// Adds what is written, and the log.
 fn with_script<'a>(alloc: Global, command: Command<'a>) -> Result<Command<'a>, AllocError> {
-    let link = "Whether the link is up where the log begins";
-    let link = option(alloc, "link", "WAY", link)
-        .value_parser(["up", "down"].as_slice())
-        .default_value("up");
     let skip =
         "Leave accesses of something else than the adapter's registers out, where they are comments otherwise";
-    let skip = Arg::new(alloc, "skip-others")
-        .long("skip-others")
-        .action(ArgAction::SetTrue)
-        .help(skip);
     let memory =
         "How much guest memory the script is to have, with K, M or G; without it, what the log's rings want";
     let base = "The address of its first octet, hexadecimal; without it 0";
     let keep =
         "Write a line for each read of a poll; without it, one line stands for reads that give the same";
-    let keep = Arg::new(alloc, "keep-polls")
-        .long("keep-polls")
-        .action(ArgAction::SetTrue)
-        .help(keep);
-    let log = Arg::new(alloc, "log")
-        .value_name("LOG")
-        .required(true)
-        .help("The log, or - for standard input");
     command
-        .arg(link)?
+        .arg(link(alloc))?
         .arg(option(alloc, "memory", "SIZE", memory))?
         .arg(option(alloc, "memory-base", "ADDR", base))?
-        .arg(skip)?
-        .arg(keep)?
-        .arg(log)
+        .arg(flag(alloc, "skip-others", skip))?
+        .arg(flag(alloc, "keep-polls", keep))?
+        .arg(log(alloc))
+}
+
+/// `--link WAY`
+fn link<'a>(alloc: Global) -> Arg<'a> {
+    let help = "Whether the link is up where the log begins";
+    option(alloc, "link", "WAY", help)
+        .value_parser(LINKS)
+        .default_value("up")
+}
+
+/// The log.
+fn log<'a>(alloc: Global) -> Arg<'a> {
+    Arg::new(alloc, "log")
+        .value_name("LOG")
+        .required(true)
+        .help("The log, or - for standard input")
+}
+
+/// `--name`
+fn flag<'a>(alloc: Global, name: &'a str, help: &'a str) -> Arg<'a> {
+    Arg::new(alloc, name)
+        .long(name)
+        .action(ArgAction::SetTrue)
+        .help(help)
 }
 
 /// `--name VALUE`

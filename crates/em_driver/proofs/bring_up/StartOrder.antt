@@ -4,7 +4,7 @@ use Rattle.std.proofs.Common.{arith, append-nil, inl, inr, Option, Some, None, O
 use Rattle.std.specs.Prelude.{bit_and}
 use Rattle.em_regs.specs.Table.{offset_of}
 use Rattle.em_regs.specs.declared.reg.Reg.TheVariants.{Ctrl, Imc, Rctl, Tctl}
-use Rattle.em_regs.proofs.TableLaws.{reg_at-offset_of}
+use Rattle.em_regs.proofs.ProfileLaws.{reg_of-offset_of}
 use Rattle.em_step.specs.Access.{reset as reset_of}
 use Rattle.em_step.specs.Event.{writes}
 use Rattle.em_step.specs.State.{State}
@@ -48,15 +48,15 @@ there_closed l base end =
 masked : (base end : ℕ) (s t : State) (stored : List (List ℕ)) → IsThere base end s stored
     → step s (writes (offset_of Imc) 0xFFFF_FFFF) ≡ Ok (Done, t) → IsThere base end t stored
 masked base end s t stored h is =
-    let at = written_so s t (offset_of Imc) Imc 0xFFFF_FFFF (reg_at-offset_of Imc (omega arith)) is in
+    let at = written_so s t (offset_of Imc) Imc 0xFFFF_FFFF (λ p. reg_of-offset_of p Imc (omega arith) refl) is in
     (ap (λ x. x.base) at ∙ h.0, ap (λ x. length x.memory) at ∙ h.1)
 
 is_off : (s : State) → IsOff (reset_of s)
 is_off s = record {
-  rctl = zero_after_reset s Rctl (omega arith) (λ e. cc) (λ e. cc) (λ e. cc);
-  tctl = zero_after_reset s Tctl (omega arith) (λ e. cc) (λ e. cc) (λ e. cc);
+  rctl = zero_after_reset s Rctl (omega arith) (λ e. cc) (λ e. cc) (λ e. cc) (λ e. cc) (λ e. cc);
+  tctl = zero_after_reset s Tctl (omega arith) (λ e. cc) (λ e. cc) (λ e. cc) (λ e. cc) (λ e. cc);
   untagged = ap (λ v. bit_and v 0x4000_0000 == 0x4000_0000)
-      (zero_after_reset s Ctrl (omega arith) (λ e. cc) (λ e. cc) (λ e. cc));
+      (zero_after_reset s Ctrl (omega arith) (λ e. cc) (λ e. cc) (λ e. cc) (λ e. cc) (λ e. cc));
   fifo = refl;
   gathered = refl;
 }
@@ -66,7 +66,7 @@ made_by_reset : (l : Layout) (base end : ℕ) (s t : State) (stored : List (List
     → IsThere base end s stored → step s (writes (offset_of Ctrl) 0x0400_0000) ≡ Ok (Done, t) → IsMaking l t.wire [] 0 t []
 made_by_reset l base end s t stored good h is =
     subst (λ x. IsMaking l x.wire [] 0 x [])
-    (sym (written_so s t (offset_of Ctrl) Ctrl 0x0400_0000 (reg_at-offset_of Ctrl (omega arith)) is))
+    (sym (written_so s t (offset_of Ctrl) Ctrl 0x0400_0000 (λ p. reg_of-offset_of p Ctrl (omega arith) refl) is))
     (record {
       off = is_off s;
       good = good_same l h.0 h.1 good;

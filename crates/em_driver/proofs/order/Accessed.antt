@@ -8,7 +8,8 @@ use Rattle.em_mem.specs.Memory.{LiesIn, leaves, put}
 use Rattle.em_mem.proofs.NeedsLaws.{stays_in}
 use Rattle.em_regs.specs.declared.reg.Reg.{Reg}
 use Rattle.em_regs.specs.RegFile as registers
-use Rattle.em_regs.specs.Table.{reg_at}
+use Rattle.em_regs.specs.declared.profile.Profile.{Profile}
+use Rattle.em_regs.specs.Table.{reg_of}
 use Rattle.em_latch.specs.Latches as latches
 use Rattle.em_latch.specs.Latches.{is_latched}
 use Rattle.em_step.specs.Access.{after_read, after_write, gives}
@@ -24,14 +25,14 @@ pub ok_is : (x y : Answer × State) → ◌≡◌ {A = Result (Answer × State) 
 ok_is x y h = cc
 
 -- the state after a write of a register
-pub written_so : (s t : State) (o : ℕ) (reg : Reg) (v : ℕ) → reg_at o ≡ Some reg → step s (writes o v) ≡ Ok (Done, t)
+pub written_so : (s t : State) (o : ℕ) (reg : Reg) (v : ℕ) → ((p : Profile) → reg_of p o ≡ Some reg) → step s (writes o v) ≡ Ok (Done, t)
     → t ≡ after_write s reg v
 written_so s t o reg v there h =
     let access : Reg → Answer × State = λ r. (Done, after_write s r v) in
-    sym (ap (λ x. x.1) (ok_is (access reg) (Done, t) (sym (ap (λ r. at_register r access) there) ∙ h)))
+    sym (ap (λ x. x.1) (ok_is (access reg) (Done, t) (sym (ap (λ r. at_register r access) (there s.profile)) ∙ h)))
 
 -- the state after a write of a register that stores it
-pub written : (s t : State) (o : ℕ) (reg : Reg) (v : ℕ) → reg_at o ≡ Some reg → is_latched reg ≡ false
+pub written : (s t : State) (o : ℕ) (reg : Reg) (v : ℕ) → ((p : Profile) → reg_of p o ≡ Some reg) → is_latched reg ≡ false
     → ((x : State) → after_write x reg v ≡
     (if is_latched reg then x else record x { registers = registers.put x.registers reg v }))
     → step s (writes o v) ≡ Ok (Done, t) → t ≡ record s { registers = registers.put s.registers reg v }
@@ -61,15 +62,15 @@ read_by s t (Some reg) a h =
     (keeps_by s reg (is_latched reg))
 
 pub read_keeps : (s t : State) (o : ℕ) (a : Answer) → step s (reads o) ≡ Ok (a, t) → ReadKeeps s t
-read_keeps s t o a h = read_by s t (reg_at o) a h
+read_keeps s t o a h = read_by s t (reg_of s.profile o) a h
 
 -- what is read is what the register holds
-pub read_gives : (s t : State) (o value : ℕ) (reg : Reg) → reg_at o ≡ Some reg
+pub read_gives : (s t : State) (o value : ℕ) (reg : Reg) → ((p : Profile) → reg_of p o ≡ Some reg)
     → step s (reads o) ≡ Ok (Value value, t) → value ≡ gives s reg
 read_gives s t o value reg there h =
     let access : Reg → Answer × State = λ r. (Value (gives s r), after_read s r) in
     let is : (Value (gives s reg), after_read s reg) ≡ (Value value, t)
-    = ok_is _ _ (sym (ap (λ r. at_register r access) there) ∙ h) in
+    = ok_is _ _ (sym (ap (λ r. at_register r access) (there s.profile)) ∙ h) in
     same_value _ _ (ap (λ x. x.0) is)
   where
     same_value : (a b : ℕ) → Value a ≡ Value b → b ≡ a

@@ -12,15 +12,17 @@ use Rattle.em_regs.specs.declared.reg.Reg.{Reg}
 use Rattle.em_regs.specs.declared.reg.Reg.TheVariants.{Ctrl, Eerd}
 use Rattle.em_regs.specs.declared.table.Kind.{Kind}
 use Rattle.em_regs.specs.declared.table.Kind.TheVariants.{Stored, Control, EepromRead, Status, Interrupt, Counter}
+use Rattle.em_regs.specs.declared.table.Kind.TheVariants.{EepromPins, PhyCommand}
 use Rattle.em_regs.specs.RegFile as registers
 use Rattle.em_regs.specs.Storage.{Registers}
-use Rattle.em_regs.specs.Table.{IsReg, mask_of, offset_of, reg_at, row_of}
+use Rattle.em_regs.specs.declared.profile.Profile.{Profile}
+use Rattle.em_regs.specs.Table.{IsReg, has_reg, kept_by, mask_of, offset_of, reg_at, reg_of, row_of}
 use Rattle.em_regs.specs.Table as table
 use Rattle.em_regs.proofs.TableLaws.{reg_in_lies}
 use Rattle.em_latch.specs.Latches as latches
 use Rattle.em_eeprom.specs.Eeprom.{word_at}
 use Rattle.em_step.specs.Access.{after_eeprom_read, after_latch_write, after_link, after_store, after_write}
-use Rattle.em_step.specs.Access.{after_write_by, differ, eerd_address, has}
+use Rattle.em_step.specs.Access.{after_phy_command, after_pins_write, after_write_by, differ, eerd_address, has}
 use Rattle.em_step.specs.Event.{Event, reads, writes, pokes, arrives, links, receives, transmits}
 use Rattle.em_step.specs.State.{State}
 use Rattle.em_step.specs.Step.{at_register, step}
@@ -122,14 +124,29 @@ write_by l s reg v Status other out = elsewhere_same l s s refl refl refl refl r
 write_by l s reg v Interrupt other out =
     elsewhere_same l s (after_latch_write s reg v) refl refl refl refl refl refl
 write_by l s reg v Counter other out = elsewhere_same l s (after_latch_write s reg v) refl refl refl refl refl refl
+write_by l s reg v EepromPins other out = elsewhere_same l s (after_pins_write s v) refl refl refl refl refl refl
+write_by l s reg v PhyCommand other out = elsewhere_same l s (after_phy_command s v) refl refl refl refl refl refl
 
 write_elsewhere : (l : Layout) (s : State) (reg : Reg) (v : ℕ) → IsNoDriverRegister (offset_of reg)
     → IsElsewhere l s (after_write s reg v)
 write_elsewhere l s reg v out = write_by l s reg v (row_of reg).kind (no_control reg out.ctrl) out
 
-lies : (o : ℕ) → IfSome (reg_at o) (λ reg. IsReg reg × (offset_of reg ≡ o))
+lies_at : (o : ℕ) → IfSome (reg_at o) (λ reg. IsReg reg × (offset_of reg ≡ o))
 unfolding reg_at
-lies o = reg_in_lies table.registers o
+lies_at o = reg_in_lies table.registers o
+
+lies_if : (b : Bool) (o : ℕ) (reg : Reg) → IsReg reg × (offset_of reg ≡ o)
+    → IfSome (if b then Some reg else None) (λ r. IsReg r × (offset_of r ≡ o))
+lies_if true o reg lies = lies
+lies_if false o reg lies = tt
+
+lies_kept : (p : Profile) (o : ℕ) (found : Option Reg) → IfSome found (λ reg. IsReg reg × (offset_of reg ≡ o))
+    → IfSome (kept_by p found) (λ reg. IsReg reg × (offset_of reg ≡ o))
+lies_kept p o None lies = tt
+lies_kept p o (Some reg) lies = lies_if (has_reg p reg) o reg lies
+
+lies : (p : Profile) (o : ℕ) → IfSome (reg_of p o) (λ reg. IsReg reg × (offset_of reg ≡ o))
+lies p o = lies_kept p o (reg_at o) (lies_at o)
 
 written_by : (l : Layout) (s : State) (o v : ℕ) (there : Option Reg) (r : Answer × State)
     → IfSome there (λ reg. IsReg reg × (offset_of reg ≡ o)) → IsNoDriverRegister o
@@ -182,7 +199,7 @@ pub others_elsewhere : (l : Layout) (s : State) (e : Event) (r : Answer × State
 others_elsewhere l s (reads o) r plain out is =
     let k = read_keeps s r.1 o r.0 is in
     elsewhere_same l s r.1 k.registers k.base k.memory k.fifo k.gathered k.wire
-others_elsewhere l s (writes o v) r plain out is = written_by l s o v (reg_at o) r (lies o) out is
+others_elsewhere l s (writes o v) r plain out is = written_by l s o v (reg_of s.profile o) r (lies s.profile o) out is
 others_elsewhere l s (pokes a d) r plain out is =
     poked_by l s a d (leaves s.base s.memory a (length d)) (length d == 0 || nat_lt 16_384 (length d)) r out
     refl is

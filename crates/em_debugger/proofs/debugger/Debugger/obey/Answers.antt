@@ -1,5 +1,7 @@
 use Rattle.std.proofs.Common.{false, refl, true}
 use Rattle.em_prompt.specs.BenchLine.{plain as plain_line}
+use Rattle.em_prompt.specs.Until.{plain as plain_until}
+use Rattle.em_prompt.specs.Watch.{plain as plain_watch}
 use Rattle.em_prompt.specs.Typed.{arrive_all, arrive_next, line, next, run_until, who, who_again}
 use Rattle.em_prompt.specs.Typed.{pcap, pcap_over, save, save_over}
 use Rattle.em_debugger.specs.Answering.{Obeys}
@@ -17,10 +19,10 @@ pub returns-in-Next : goal.returns-in-Next
 returns-in-Next g c = record { ok = rw c.in-Next.is (alone (Did g.D.Disk.passes c.args.disk.now c.args.disk.now) c.args.self.now c.next.new.self (next c.in-Next.count) _ _ c.next.result refl (λ t h. h) c.next.ensures.ok) }
 
 pub returns-in-RunUntil : goal.returns-in-RunUntil
-returns-in-RunUntil g c = record { ok = rw c.in-RunUntil.is (alone (Did g.D.Disk.passes c.args.disk.now c.args.disk.now) c.args.self.now c.run_until.new.self (run_until c.in-RunUntil.until) _ _ c.run_until.result refl (λ t h. h) c.run_until.ensures.ok) }
+returns-in-RunUntil g c = record { ok = rw c.in-RunUntil.is (alone (Did g.D.Disk.passes c.args.disk.now c.args.disk.now) c.args.self.now c.run_until.new.self (run_until (plain_until c.in-RunUntil.until)) _ _ c.run_until.result refl (λ t h. h) c.run_until.ensures.ok) }
 
 pub returns-in-Who : goal.returns-in-Who
-returns-in-Who g c = record { ok = rw c.in-Who.is (alone (Did g.D.Disk.passes c.args.disk.now c.args.disk.now) c.args.self.now c.who.new.self (who c.in-Who.watch c.in-Who.which) _ _ c.who.result refl (λ t h. h) c.who.ensures.ok) }
+returns-in-Who g c = record { ok = rw c.in-Who.is (alone (Did g.D.Disk.passes c.args.disk.now c.args.disk.now) c.args.self.now c.who.new.self (who (plain_watch c.in-Who.watch) c.in-Who.which) _ _ c.who.result refl (λ t h. h) c.who.ensures.ok) }
 
 pub returns-in-WhoAgain : goal.returns-in-WhoAgain
 returns-in-WhoAgain g c = record { ok = rw c.in-WhoAgain.is (alone (Did g.D.Disk.passes c.args.disk.now c.args.disk.now) c.args.self.now c.who_again.new.self (who_again) _ _ c.who_again.result refl (λ t h. h) c.who_again.ensures.ok) }
