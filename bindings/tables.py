@@ -108,7 +108,8 @@ def passed(parameter: Field, call: Call) -> list[tuple[str, str, str, str]]:
     octets or elements of an array, and name."""
     name, kind = parameter.name, parameter.kind
     if kind == "&mut EmMachine":
-        return [("in" if call.looks else "out", "EmMachine", "", name)]
+        # (of two handles the other one is written)
+        return [("in" if call.looks and name == "machine" else "out", "EmMachine", "", name)]
     array = re.fullmatch(r"&(mut )?\[(\w+); (\w+)\]", kind)
     if array:
         count = {"EEPROM_WORDS": "64", "RULES": "6"}.get(array[3], array[3])

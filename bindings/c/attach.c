@@ -223,6 +223,14 @@ em_code em_detach(em_machine *machine) {
   return EM_OK;
 }
 
+/* A copy is where the machine is, and has nothing of the caller's: neither memory that is attached nor a kept run. */
+em_code em_copy(const em_machine *machine, em_machine *copy) {
+  if (copy->state & CALLING) return EM_BUSY;
+  em_code why = proved_copy(machine, copy);
+  if (why == EM_OK) copy->state = machine->state & ~(uint32_t)(ATTACHED | CALLING | KEPT);
+  return why;
+}
+
 void em_free(em_machine *machine) {
   if (machine->state & CALLING) return;
   keep_no_more(machine);

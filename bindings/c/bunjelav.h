@@ -210,6 +210,17 @@ EM_CHECKED em_code em_make_at(em_machine *machine, uint64_t base, uint64_t memor
 EM_CHECKED em_code em_make_at_with_eeprom(em_machine *machine, uint64_t base, uint64_t memory, uint64_t budget,
                                           const uint16_t words[64]);
 
+/* Makes a machine that is equal to the one that `machine` holds, in the handle `copy`, which holds none: in all that calls
+   tell of it; in its journal, so that it goes back as far and to the same states, with the same notes; in the tag of the
+   next events, and in how far em_wire_next has come. From then on neither knows what becomes of the other: the copy can
+   go back and be looked at while the first one goes on.
+   The copy's guest memory is its own, with the octets that em_peek tells of the machine. Memory that is attached to
+   `machine` is not attached to the copy, and where the run of `machine` is kept, that of the copy is not.
+   Refused as EM_MADE_ALREADY, EM_NOT_MADE or EM_MEMORY, the first that holds, and nothing is left of a copy then; and as
+   EM_BUSY within a function of memory that is attached to what `copy` holds. Cost: the copy takes as much memory as the
+   machine has, and the time to copy it: the journal's octets, records and notes, and the pages that were written. */
+EM_CHECKED em_code em_copy(const em_machine *machine, em_machine *copy);
+
 /* Frees the machine that the handle holds, if it holds one; then it holds none, and may be made again. Cost: the
    journal's records, and the pages that were written. */
 void em_free(em_machine *m);

@@ -15,6 +15,7 @@ PROVED(make);
 PROVED(make_with_eeprom);
 PROVED(make_at);
 PROVED(make_at_with_eeprom);
+PROVED(copy);
 PROVED(free);
 PROVED(read);
 PROVED(write);

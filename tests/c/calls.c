@@ -797,6 +797,96 @@ static void has_its_layouts(void) {
   CHECK(sizeof(em_fifo_state) == 32 && sizeof(em_field_row) == 24 && sizeof(em_difference) == 72);
 }
 
+/* ---- a machine like another one */
+
+/* Both tell the same, and so they do behind each step back, up to the first event. */
+static void go_back_alike(em_machine *one, em_machine *other) {
+  static uint8_t octets[2][MEMORY];
+  em_note notes[2];
+  size_t counts[2], done;
+  do {
+    OK(em_can_go_back(one, &counts[0]));
+    OK(em_can_go_back(other, &counts[1]));
+    CHECK(counts[0] == counts[1]);
+    OK(em_peek(one, 0, octets[0], MEMORY));
+    OK(em_peek(other, 0, octets[1], MEMORY));
+    CHECK(memcmp(octets[0], octets[1], MEMORY) == 0);
+    for (uint32_t offset = 0; offset < 0x5900; offset += 4) {
+      uint32_t values[2] = {7, 7};
+      MUST(em_look(one, offset, &values[0]) == em_look(other, offset, &values[1]) && values[0] == values[1]);
+    }
+    OK(em_wire_count(one, &done));
+    OK(em_wire_count(other, &counts[1]));
+    CHECK(done == counts[1]);
+    if (counts[0] == 0) return;
+    OK(em_event(one, 0, &notes[0]));
+    OK(em_event(other, 0, &notes[1]));
+    CHECK(notes[0].tag == notes[1].tag && notes[0].at == notes[1].at && notes[0].kind == notes[1].kind);
+    OK(em_back(one, 1, &done));
+    OK(em_back(other, 1, &done));
+  } while (done == 1);
+  CHECK(done == 1);
+}
+
+static void copies(void) {
+  em_machine machine = EM_NO_MACHINE, copy = EM_NO_MACHINE, third = EM_NO_MACHINE;
+  static uint8_t frame[1500], out[2048];
+  em_note event;
+  size_t n;
+  REFUSED(em_copy(&machine, &copy), EM_NOT_MADE);
+  REFUSED(em_copy(&machine, &machine), EM_NOT_MADE);
+  CHECK(!machine.made && !copy.made);
+  machine = made();
+  REFUSED(em_copy(&machine, &machine), EM_MADE_ALREADY);
+  set_receiving(&machine);
+  OK(em_tag(&machine, 5));
+  for (int i = 0; i < 3; i++) OK(em_arrive(&machine, frame, 700, &event));
+  OK(em_rx_step(&machine, &event));
+  /* a packet is sent and handed over; the octets of another one are gathered */
+  OK(em_poke(&machine, BUFFER, frame, 1500));
+  put_descriptor(&machine, TX_RING, BUFFER, 500, EOP | RS);
+  put_descriptor(&machine, TX_RING + 16, BUFFER, 500, 0);
+  put_descriptor(&machine, TX_RING + 32, BUFFER, 300, EOP | RS);
+  OK(em_write(&machine, TDBAL, TX_RING));
+  OK(em_write(&machine, TDLEN, 16 * DESCRIPTORS));
+  OK(em_write(&machine, TCTL, TCTL_EN));
+  OK(em_write(&machine, TDT, 3));
+  OK(em_tx_step(&machine, &event));
+  OK(em_wire_next(&machine, out, sizeof out, &n));
+  CHECK(n == 500);
+  OK(em_tx_step(&machine, &event));
+  OK(em_copy(&machine, &copy));
+  REFUSED(em_copy(&machine, &copy), EM_MADE_ALREADY);
+  OK(em_copy(&copy, &third));
+  CHECK(machine.made && copy.made && third.made);
+  /* the first one goes on alone, */
+  OK(em_tx_step(&machine, &event));
+  OK(em_rx_step(&machine, &event));
+  OK(em_poke(&machine, BUFFER, MAC, 6));
+  OK(em_wire_count(&copy, &n));
+  CHECK(n == 1);
+  OK(em_peek(&copy, BUFFER, out, 6));
+  CHECK(memcmp(out, frame, 6) == 0);
+  /* and the copy does the same later, under the same tag, and hands over what the first one has not */
+  OK(em_tx_step(&copy, &event));
+  CHECK(event.kind == EM_SENT && event.tag == 5 && event.length == 800);
+  OK(em_rx_step(&copy, &event));
+  OK(em_poke(&copy, BUFFER, MAC, 6));
+  OK(em_wire_next(&copy, out, sizeof out, &n));
+  CHECK(n == 800);
+  go_back_alike(&machine, &copy);
+  /* it goes back by itself, and outlives the others */
+  OK(em_can_go_back(&machine, &n));
+  CHECK(n == 0);
+  em_free(&machine);
+  em_free(&copy);
+  CHECK(!machine.made && !copy.made);
+  OK(em_back(&third, SIZE_MAX, &n));
+  CHECK(n > 20 && read_of(&third, TDT) == 0);
+  em_free(&third);
+  CHECK(blocks == 0);
+}
+
 static void has_many_machines(void) {
   em_machine machines[3] = {EM_NO_MACHINE, EM_NO_MACHINE, EM_NO_MACHINE};
   for (int i = 0; i < 3; i++) OK(em_make(&machines[i], 4096, 65536, MAC));
@@ -832,5 +922,6 @@ int main(void) {
   tells_texts();
   has_its_layouts();
   has_many_machines();
+  copies();
   return tell_counts();
 }

@@ -475,6 +475,32 @@ static void keeps_memory_at_a_base(void) {
   em_free(&m);
 }
 
+/* A run is kept of the machine alone, and of no copy. */
+static void keeps_no_copy(void) {
+  em_machine m = kept("copy.em"), copy = EM_NO_MACHINE;
+  size_t done;
+  int fault;
+  OK(em_write(&m, IMS, 1)), want("w 000000D0 00000001 = ok\n");
+  OK(em_copy(&m, &copy));
+  REFUSED(em_recording_status(&copy, &fault), EM_UNRECORDED);
+  OK(em_write(&copy, IMS, 2));
+  OK(em_back(&copy, 1, &done));
+  REFUSED(record(&copy, path), EM_BEGUN);
+  OK(em_write(&m, IMS, 4)), want("w 000000D0 00000004 = ok\n");
+  em_free(&copy);
+  OK(em_write(&m, IMS, 8)), want("w 000000D0 00000008 = ok\n");
+  CHECK(is_there());
+  em_free(&m);
+  /* that of a copy can be kept from its first event on */
+  m = made();
+  OK(em_copy(&m, &copy));
+  named("copied.em");
+  OK(record(&copy, path)), OK(em_write(&copy, IMS, 1)), want(HEAD "w 000000D0 00000001 = ok\n");
+  CHECK(is_there());
+  em_free(&copy);
+  em_free(&m);
+}
+
 static void refuses_calls(void) {
   em_machine m = EM_NO_MACHINE;
   size_t done;
@@ -674,6 +700,7 @@ int main(int words, char **word) {
   keeps_what_is_brought();
   keeps_the_eeprom();
   keeps_memory_at_a_base();
+  keeps_no_copy();
   refuses_calls();
   keeps_want_of_memory();
   if (!is_mapped) goes_on(ENOSPC, 10), goes_on(0, 25), goes_on(EINTR, 1), goes_on(EIO, 100), tears();

@@ -225,6 +225,40 @@ static void is_not_made(void) {
   }
 }
 
+/* of a copy for which memory is refused nothing is left; the machine stays, and may be copied again */
+static void is_not_copied(void) {
+  for (int mode = 0; mode < 2; mode++) {
+    em_machine machine = made(), copy = EM_NO_MACHINE;
+    uint32_t code = EM_MEMORY;
+    long n = 0, held = 0;
+    with_frames(&machine);
+    with_packets(&machine);
+    OK(em_tx_step(&machine, &event));
+    OK(em_write(&machine, CTRL, RST)); /* (what it puts aside takes memory of its own) */
+    with_frames(&machine);
+    struct seen *before = see(&machine);
+    once = mode == 1;
+    held = blocks;
+    for (; n < 200 && code == EM_MEMORY; n++) {
+      granted = n;
+      code = em_copy(&machine, &copy);
+      granted = -1;
+      CHECK(code == EM_OK || (code == EM_MEMORY && !copy.made && blocks == held));
+    }
+    CHECK(code == EM_OK && n > 12 && is_as(&machine, before) && is_as(&copy, before));
+    go_on(&machine);
+    CHECK(is_as(&copy, before));
+    free(before);
+    before = see(&machine);
+    go_on(&copy);
+    CHECK(is_as(&copy, before));
+    free(before);
+    em_free(&machine);
+    em_free(&copy);
+    CHECK(blocks == 0);
+  }
+}
+
 /* an octet of 1 TiB for which memory is refused is not written, whichever of its tables and pages is wanting */
 static void is_not_written_far(void) {
   const uint64_t at = (UINT64_C(1) << 40) - 1;
@@ -391,6 +425,7 @@ int main(void) {
   memcpy(tagged + 12, (uint8_t[]){0x81, 0x00, 0x01, 0x23}, 4);
   memset(ram, 9, sizeof ram);
   is_not_made();
+  is_not_copied();
   is_not_written_far();
   is_refused_memory();
   tells_no_text();

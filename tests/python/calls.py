@@ -40,12 +40,46 @@ class Making(unittest.TestCase):
         self.assertRaises(ValueError, Machine, mac=b"12345")
         self.assertRaises(ValueError, Machine, eeprom=[1])
 
-    def test_freed_and_not_copied(self):
+    def test_freed(self):
         with Machine() as m:
-            self.assertRaises(TypeError, copy.copy, m)
-            self.assertRaises(TypeError, copy.deepcopy, m)
+            pass
         self.assertRaises(bunjelav.NotMade, m.read, "ICR")
+        self.assertRaises(bunjelav.NotMade, m.copy)
         self.assertEqual(repr(m), "<Machine, freed>")
+
+
+class Copies(unittest.TestCase):
+    def test_a_copy_goes_back_by_itself(self):
+        m = receiving()
+        m.tag(5)
+        m.arrive(FRAME)
+        m.rx_step()
+        for made in m.copy(), copy.copy(m), copy.deepcopy(m):
+            self.assertEqual((made.registers(), made.reach), (m.registers(), m.reach))
+            self.assertEqual((made.memory[:], list(made.events())), (m.memory[:], list(m.events())))
+            made.IMS = 1
+            self.assertEqual((made.event().tag, made["IMS"], m["IMS"]), (5, 1, 0))
+            self.assertEqual(made.back(2), 2)
+            self.assertEqual((made["RDH"], made.memory[BUFFER], made.fifo().frames), (0, 0, 1))
+            self.assertEqual((m["RDH"], m.memory[BUFFER], m.fifo().frames), (1, 0xFF, 0))
+        m.close()
+        self.assertEqual(made.rx_step().kind, "wrote")
+
+    def test_what_is_the_callers_is_not_copied(self):
+        ram, warned = bytearray(65536), []
+        m = Machine()
+        m.attach(ram)
+        m.warn(warned.append)
+        made = m.copy()
+        made.memory[0:4] = b"abcd"
+        m.memory[4:8] = b"efgh"
+        self.assertEqual((bytes(ram[:8]), made.memory[4:8]), (b"\0\0\0\0efgh", bytes(4)))
+        made.RDLEN, made.RDT = 128, 8
+        self.assertEqual(warned, [])
+        self.assertFalse(made.recording)
+        made.attach(ram)
+        made.memory[0:4] = b"abcd"
+        self.assertEqual(bytes(ram[:8]), b"abcdefgh")
 
 
 class Registers(unittest.TestCase):

@@ -9,6 +9,7 @@
     m["ICR"]                       # a look at it, which changes nothing
     m.memory[0x1000:0x1004] = b"abcd"
     m.back()                       # takes the newest event back
+    m.copy()                       # a machine like it, for looking into the past while this one stays
     m.last_change("ICR")           # who changed it last?
     m.why()                        # why was the newest step idle, the frame dropped, the call refused?
     m.warn(print)                  # what the driver gets wrong is printed as it happens
@@ -265,14 +266,7 @@ class Machine(Explained):
         eeprom: Optional[List[int]] = None,
         base: Optional[int] = None,
     ) -> None:
-        set_own = super().__setattr__
-        set_own("_handle", _tables.Handle())
-        set_own("_at", ctypes.byref(self._handle))
-        set_own("_ram", None)
-        set_own("_places", None)
-        set_own("_undone", None)
-        set_own("_warns", None)
-        set_own("memory", GuestMemory(self))
+        self._hold_none()
         sizes = [number_of(memory, 64, "a size", "Size"), number_of(budget, 64, "a budget", "Budget")]
         by_mac, by_eeprom = library.em_make, library.em_make_with_eeprom
         if base is not None:
@@ -288,6 +282,27 @@ class Machine(Explained):
         if len(address) != 6:
             raise ValueError("an Ethernet address has 6 octets")
         must(by_mac(self._at, *sizes, address))
+
+    def _hold_none(self) -> None:
+        set_own = super().__setattr__
+        set_own("_handle", _tables.Handle())
+        set_own("_at", ctypes.byref(self._handle))
+        set_own("_ram", None)
+        set_own("_places", None)
+        set_own("_undone", None)
+        set_own("_warns", None)
+        set_own("memory", GuestMemory(self))
+
+    def copy(self) -> Machine:
+        """A machine that is equal to this one: in all that it shows, and in its journal, so that it goes back as far and
+        to the same states. From then on neither knows what becomes of the other: the copy can go back while this one
+        goes on. What is attached to this one is not attached to the copy, which has octets of its own; its run is not
+        kept, and its warnings go nowhere. `copy.copy` and `copy.deepcopy` give the same."""
+        made = self.__class__.__new__(self.__class__)
+        made._hold_none()
+        must(library.em_copy(self._at, made._at))
+        object.__setattr__(made, "_undone", self._undone)
+        return made
 
     def close(self) -> None:
         """Frees the machine; each later call raises NotMade."""
@@ -306,10 +321,10 @@ class Machine(Explained):
         self.close()
 
     def __copy__(self) -> Machine:
-        raise TypeError("a machine can't be copied")
+        return self.copy()
 
     def __deepcopy__(self, memo: Dict[int, object]) -> Machine:
-        raise TypeError("a machine can't be copied")
+        return self.copy()
 
     def __reduce__(self) -> NoReturn:
         raise TypeError("a machine can't be pickled")

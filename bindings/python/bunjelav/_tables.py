@@ -329,6 +329,7 @@ CALLS = {
     "em_registers": [POINTER(Handle), POINTER(Register), c_size_t, POINTER(c_size_t)],
     "em_back": [POINTER(Handle), c_size_t, POINTER(c_size_t)],
     "em_can_go_back": [POINTER(Handle), POINTER(c_size_t)],
+    "em_copy": [POINTER(Handle), POINTER(Handle)],
     "em_differences": [POINTER(Handle), c_size_t, POINTER(Difference), c_size_t, POINTER(c_size_t)],
     "em_ring_entry": [POINTER(Handle), c_uint32, c_uint32, POINTER(Entry)],
     "em_field": [c_uint32, c_size_t, POINTER(Field)],

@@ -97,6 +97,30 @@ impl Machine {
         told(number, machine)
     }
 
+    /// A machine that is equal to this one: in all that it shows, and in its journal, so that it goes back as far and
+    /// to the same states. From then on neither knows what becomes of the other: the copy can go back while this one
+    /// goes on. Memory that is attached to this one is not attached to the copy, which has octets of its own, and where
+    /// this one's run is kept, the copy's is not. Refused as [`Refusal::Memory`].
+    ///
+    /// ```
+    /// # use bunjelav::{offset_of, Machine, Refusal};
+    /// # fn main() -> Result<(), Refusal> {
+    /// let mut m = Machine::new(65_536, 1 << 20, [0x52, 0x54, 0x00, 0x12, 0x34, 0x56])?;
+    /// m.write(offset_of("IMS")?, 4)?;
+    /// let mut before = m.try_clone()?;
+    /// before.back(1);
+    /// m.write(offset_of("IMS")?, 1)?;
+    /// assert_eq!((before.look(offset_of("IMS")?)?, m.look(offset_of("IMS")?)?), (0, 5));
+    /// # Ok(())
+    /// # }
+    /// ```
+    pub fn try_clone(&self) -> Result<Machine, Refusal> {
+        let copy = Machine::none();
+        // SAFETY: a look at this machine, and the other handle holds none.
+        let number = unsafe { raw::em_copy(self.handle.get(), copy.handle.get()) };
+        told(number, copy)
+    }
+
     fn none() -> Machine {
         let handle = raw::Handle { made: false, held: core::ptr::null_mut(), ram: raw::Ram::none(), state: 0 };
         Machine {

@@ -292,6 +292,7 @@ extern "C" {
     pub(crate) fn em_registers(machine: *const Handle, out: *mut Register, room: usize, count: *mut usize) -> u32;
     pub(crate) fn em_back(machine: *mut Handle, n: usize, done: *mut usize) -> u32;
     pub(crate) fn em_can_go_back(machine: *const Handle, count: *mut usize) -> u32;
+    pub(crate) fn em_copy(machine: *const Handle, copy: *mut Handle) -> u32;
     pub(crate) fn em_differences(
         machine: *const Handle,
         k: usize,

@@ -53,6 +53,40 @@ fn makes() {
 }
 
 #[test]
+fn copies() {
+    let mut m = receiving();
+    m.tag(5);
+    m.arrive(&frame()).unwrap();
+    m.rx_step().unwrap();
+    let mut copy = m.try_clone().unwrap();
+    let mut second = copy.try_clone().unwrap();
+    assert_eq!((copy.can_go_back(), copy.look(RDH)), (m.can_go_back(), Ok(1)));
+    copy.write(IMS, 1).unwrap();
+    assert_eq!((copy.event(0).unwrap().tag, copy.look(IMS), m.look(IMS)), (5, Ok(1), Ok(0)));
+    assert_eq!(copy.back(2), 2);
+    assert_eq!((copy.look(RDH), copy.fifo().frames), (Ok(0), 1));
+    assert_eq!((m.look(RDH), m.fifo().frames), (Ok(1), 0));
+    drop((m, copy));
+    assert!(second.back(usize::MAX) > 10);
+    assert_eq!(second.look(RDT), Ok(0));
+}
+
+#[test]
+fn copies_nothing_that_is_attached() {
+    let mut ram = vec![0; 65_536];
+    let mut m = receiving_over(&mut ram);
+    let octets = ram.as_mut_ptr();
+    // SAFETY: the vector outlives the machine, and nobody uses it while a call lasts.
+    unsafe { m.attach_regions(&[Region { base: 0, size: 65_536, octets }]).unwrap() };
+    m.rx_step().unwrap();
+    let mut copy = m.try_clone().unwrap();
+    m.detach();
+    copy.poke(0x4000, b"other").unwrap();
+    assert_eq!(copy.back(2), 2);
+    assert_eq!((&ram[0x4000..0x403C], copy.fifo().frames, m.fifo().frames), (&frame()[..], 1, 0));
+}
+
+#[test]
 fn reads_and_writes() {
     let mut m = made();
     assert_eq!(m.read(4), Err(Refusal::NoRegister));

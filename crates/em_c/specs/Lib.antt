@@ -36,3 +36,4 @@ pub mod Sized
 pub mod Pcap
 pub mod SealedFrames
 pub mod Sent
+pub mod Copies

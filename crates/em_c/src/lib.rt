@@ -8,6 +8,7 @@
 mod all_registers;
 mod back;
 mod captured;
+mod copies;
 mod difference;
 mod differences;
 mod entry;
@@ -53,6 +54,7 @@ mod wire;
 pub use all_registers::{EmRegister, em_registers};
 pub use back::{em_back, em_can_go_back};
 pub use captured::EmPcapFrame;
+pub use copies::em_copy;
 pub use differences::{EmDifference, em_differences};
 pub use entry::{EmEntry, em_ring_entry};
 pub use fields::{EmField, em_field, em_value_text};

@@ -10,6 +10,7 @@ ghost use Rattle.em_c.specs.Tagged.{Performs, IsNoteOf, after_backs, backs, pres
 use em_journal::{Empty, Machine};
 use em_step::{Answer, Event, Refusal};
 use em_trail::{Note, Traced};
+use std::alloc::AllocError;
 
 /// A machine with its trail, the tag that its next events get, and how many of the frames that it sent were handed over:
 /// the first ones.
@@ -26,6 +27,19 @@ impl Tagged {
         ensures { result.now ≡ self.now.traced.view }
     {
         shared(self).traced.machine()
+    }
+
+    /// The same machine once more, in memory of its own, with the tag, and with as many frames handed over. It only
+    /// looks, so several threads may do so at once.
+    pub fn copy(&self) -> Result<Tagged, AllocError>
+        ensures { IfOk result (λ copy. copy ≡ self.now) }
+    {
+        let it = shared(self);
+        Ok(Tagged {
+            traced: it.traced.copy()?,
+            tag: it.tag,
+            handed: it.handed,
+        })
     }
 
     /// Performs an event under the tag. A refused event changes nothing.

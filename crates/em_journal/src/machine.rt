@@ -40,7 +40,7 @@ use circular_buffer::HeapCircularBuffer;
 use em_regs::{Kind, Profile, Reg};
 use em_rx::StoredFrame;
 use em_step::{Adapter, Answer, Event, LEAST_COST, Past, Refusal};
-use std::alloc::Global;
+use std::alloc::{AllocError, Global};
 use std::marker::Model;
 
 /// The least budget of a journal, in octets of cost: the dearest event, so that the newest one
@@ -115,6 +115,20 @@ impl Machine {
             adapter,
             records,
             budget,
+        })
+    }
+
+    /// The same machine once more, in memory of its own: it shows the same, and goes back as far, to the same states.
+    /// From then on neither knows what becomes of the other.
+    pub fn copy(&self) -> Result<Machine, AllocError>
+        ensures { IfOk result (λ copy. copy ≡ self.now) }
+    {
+        let adapter = self.adapter.copy()?;
+        let copies = self.records.copy()?;
+        Ok(Machine {
+            adapter,
+            records: copies,
+            budget: self.budget,
         })
     }
 

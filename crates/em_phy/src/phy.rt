@@ -85,6 +85,17 @@ impl Model for PhyUndo {
 }
 
 impl PhyUndo {
+    /// The same once more.
+    pub fn copy(&self) -> PhyUndo
+        ensures { result ≡ self.now }
+    {
+        PhyUndo {
+            mdic: self.mdic,
+            reg: self.reg,
+            old: self.old,
+        }
+    }
+
     /// What MDIC was.
     pub fn mdic(&self) -> u32
         ensures { result ≡ self.now.mdic }
@@ -111,6 +122,16 @@ impl Phy {
         words[17] = 0xA800;
         words[20] = 0x0D60;
         Phy { mdic: 0, words }
+    }
+
+    /// The same PHY once more.
+    pub fn copy(&self) -> Phy
+        ensures { result ≡ self.now }
+    {
+        Phy {
+            mdic: self.mdic,
+            words: self.words,
+        }
     }
 
     /// MDIC as it is read.

@@ -53,6 +53,16 @@ impl Model for RegUndo {
 }
 
 impl RegUndo {
+    /// The same once more.
+    pub fn copy(&self) -> RegUndo
+        ensures { result ≡ self.now }
+    {
+        RegUndo {
+            place: self.place,
+            old: self.old,
+        }
+    }
+
     /// What the register held.
     #[inline(always)]
     pub fn old(&self) -> u32
@@ -87,6 +97,13 @@ impl RegFile {
         };
         file.set_address(mac);
         file
+    }
+
+    /// The same registers once more.
+    pub fn copy(&self) -> RegFile
+        ensures { result ≡ self.now }
+    {
+        RegFile { words: self.words }
     }
 
     /// Resets the registers where they lie.

@@ -20,7 +20,7 @@ use crate::ring::{back, put_both, save_part};
 use crate::{MOST_HELD, OldFrame, OldPiece, RxRefusal, RxUndo, StoredFrame};
 use em_mem::ring::{pieces, put_octets, wrap};
 use em_mem::{GuestMemory, OldOctets, Saved};
-use std::alloc::Global;
+use std::alloc::{AllocError, Global};
 use std::marker::Model;
 
 /// How many octets the packet buffer has: the 48 KB that PBA gives to receiving after a reset (manual,
@@ -76,6 +76,20 @@ impl Fifo {
             octets,
             entries,
             places,
+        })
+    }
+
+    /// The same FIFO once more: each octet of the buffer, and each entry.
+    pub fn copy(&self) -> Result<Fifo, AllocError>
+        ensures { IfOk result (λ copy. copy ≡ self.now) }
+    {
+        let octets = Vec::from_slice(self.alloc, self.octets.as_slice())?;
+        let entries = Vec::from_slice(self.alloc, self.entries.as_slice())?;
+        Ok(Fifo {
+            alloc: self.alloc,
+            octets,
+            entries,
+            places: self.places,
         })
     }
 

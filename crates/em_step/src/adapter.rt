@@ -161,6 +161,33 @@ impl Adapter {
         })
     }
 
+    /// The same adapter once more, over a guest memory of its own.
+    pub fn copy(&self) -> Result<Adapter, AllocError>
+        ensures { IfOk result (λ copy. copy ≡ self.now) }
+    {
+        let memory = self.memory.copy()?;
+        let registers = Box::new(self.alloc, self.registers.copy())?;
+        let fifo = self.fifo.copy()?;
+        let gather = self.gather.copy()?;
+        let wire = self.wire.copy()?;
+        let spare_resets = Spares::new(self.alloc)?;
+        Ok(Adapter {
+            alloc: self.alloc,
+            memory,
+            registers,
+            latches: self.latches.copy(),
+            fifo,
+            gather,
+            wire,
+            eeprom: self.eeprom,
+            link: self.link,
+            profile: self.profile,
+            pins: self.pins,
+            phy: self.phy.copy(),
+            spare_resets,
+        })
+    }
+
     /// Which profile it is of.
     #[inline(always)]
     pub fn profile(&self) -> Profile

@@ -13,7 +13,7 @@ use circular_buffer::HeapCircularBuffer;
 use em_journal::{Empty, Machine};
 use em_regs::{Profile, Reg};
 use em_step::{Answer, Event, Refusal};
-use std::alloc::Global;
+use std::alloc::{AllocError, Global};
 use std::marker::Model;
 
 /// A machine, and a note of each event that it can take back.
@@ -55,6 +55,15 @@ impl Traced {
             Ok(notes) => Ok(Traced { machine, notes }),
             Err(_) => Err((machine, Refusal::Memory)),
         }
+    }
+
+    /// The same machine once more, with its trail, in memory of its own.
+    pub fn copy(&self) -> Result<Traced, AllocError>
+        ensures { IfOk result (λ copy. copy ≡ self.now) }
+    {
+        let machine = self.machine.copy()?;
+        let notes = copy_notes(&self.notes)?;
+        Ok(Traced { machine, notes })
     }
 
     /// Performs an event, and notes it with a tag of the caller's.
@@ -193,4 +202,15 @@ impl Traced {
     {
         self.len() == 0
     }
+}
+
+/// The same notes in a ring of their own, with as many places.
+fn copy_notes(notes: &HeapCircularBuffer<Note>) -> Result<HeapCircularBuffer<Note>, AllocError>
+    ensures { IfOk result (λ copy. copy ≡ notes.now) }
+{
+    let mut copy = HeapCircularBuffer::with_capacity(*notes.allocator(), notes.capacity())?;
+    let (front, back) = notes.as_slices();
+    copy.fill_from_slice(front);
+    copy.fill_from_slice(back);
+    Ok(copy)
 }

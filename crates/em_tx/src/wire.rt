@@ -1,5 +1,5 @@
 //! The frames that were sent.
-ghost use Rattle.std.specs.Prelude.{◌≡◌, ◌++◌, ◌∷◌, ◌-◌, ◌<◌, ◌≤◌, [], ℕ, OnOk, length, map, slice_get, slice_index};
+ghost use Rattle.std.specs.Prelude.{◌≡◌, ◌++◌, ◌∷◌, ◌-◌, ◌<◌, ◌≤◌, [], ℕ, IfOk, OnOk, length, map, slice_get, slice_index};
 ghost use Rattle.std.specs.Prelude.{drop, slice_index_or};
 ghost use Rattle.em_tx.specs.Undo.{front_of, last_of};
 ghost use Rattle.em_tx.specs.Wire.{AreLaid, HasRoom, let_go, plain};
@@ -42,6 +42,14 @@ impl Wire {
         Wire {
             frames: Frames { octets, ends },
         }
+    }
+
+    /// The same frames once more, in memory of their own.
+    pub fn copy(&self) -> Result<Wire, AllocError>
+        ensures { IfOk result (λ copy. copy ≡ self.now) }
+    {
+        let frames = self.frames.copy()?;
+        Ok(Wire { frames })
     }
 
     /// How many frames were sent.
@@ -89,6 +97,16 @@ impl Wire {
 }
 
 impl Frames {
+    /// The same octets and ends, in memory of their own.
+    fn copy(&self) -> Result<Frames, AllocError>
+        ensures octets { IfOk result (λ copy. copy.octets.items ≡ self.now.octets.items) }
+        ensures ends { IfOk result (λ copy. copy.ends.items ≡ self.now.ends.items) }
+    {
+        let octets = Vec::from_slice(*self.octets.allocator(), self.octets.as_slice())?;
+        let ends = Vec::from_slice(*self.ends.allocator(), self.ends.as_slice())?;
+        Ok(Frames { octets, ends })
+    }
+
     /// Where a frame begins: at the end of the one before it.
     fn start(&self, index: usize) -> usize
         requires { index ≤ length self.now.ends.items }
