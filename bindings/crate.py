@@ -52,6 +52,7 @@ class Crate(NamedTuple):
     kinds: list
     watches: list
     rings: list
+    profiles: list
     rules: list
     warnings: list
     troubles: list
@@ -116,6 +117,12 @@ def rings(top: Path) -> list[tuple[str, int]]:
     return [(name, number(n)) for n, name in rows]
 
 
+def profiles(top: Path) -> list[tuple[str, int, str]]:
+    """Each profile, and what is said of it."""
+    rows = found(r"(\d+) => Some\(Profile::(\w+)\)", text_of(top, "em_c/src/profile.rt"), "the profiles")
+    return sentences([(name, n) for n, name in rows], documented(text_of(top, "em_regs/src/profile.rt"), "Profile"))
+
+
 def sentences(names: list, docs: dict) -> list[tuple[str, int, str]]:
     """Each name with its number, and what is said of it, without its full stop."""
     return [(name, number(n), re.sub(r"^`[a-z-]+`: |\.$", "", docs[name])) for name, n in names]
@@ -176,8 +183,8 @@ def calls(top: Path) -> list[Call]:
 
 
 def registers(top: Path) -> int:
-    """How many registers the table has: one a row, or as many as the row's array."""
-    rows = found(r"^named_row_of \(?named\.\w+[^=]*= called \(codes \"\w+\"\) \((\w+) \w+ (\d*)",
+    """How many registers there are in either profile: one a row, or as many as the row's array."""
+    rows = found(r"^named_row_of \(?named\.\w+[^=]*= called \(codes \"\w+\"\) \((?:(?:later|narrowed) \()?(\w+) \w+ (\d*)",
                  text_of(top, "em_regs/specs/Table.antt"), "the registers")
     return sum(number(count) if form == "array" else 1 for form, count in rows)
 
@@ -193,6 +200,7 @@ def read(top: Path = TOP) -> Crate:
         kinds=kinds(top),
         watches=watches(top),
         rings=rings(top),
+        profiles=profiles(top),
         rules=rules(top),
         warnings=warnings(top),
         troubles=troubles(top),

@@ -108,7 +108,8 @@ def passed(parameter: Field, call: Call) -> list[tuple[str, str, str, str]]:
     octets or elements of an array, and name."""
     name, kind = parameter.name, parameter.kind
     if kind == "&mut EmMachine":
-        return [("in" if call.looks else "out", "EmMachine", "", name)]
+        # (of two handles the other one is written)
+        return [("in" if call.looks and name == "machine" else "out", "EmMachine", "", name)]
     array = re.fullmatch(r"&(mut )?\[(\w+); (\w+)\]", kind)
     if array:
         count = {"EEPROM_WORDS": "64", "RULES": "6"}.get(array[3], array[3])
@@ -228,6 +229,8 @@ def header(text: str, made: Crate) -> str:
                                ("em_trouble", "EM_TROUBLE", made.troubles)):
         named = [(f"{prefix}_{refusal_constant(name)}", n, said) for name, n, said in rows]
         text = with_entries(text, enum, named)
+    profiles = [(f"EM_PROFILE_{name.upper()}", n, said) for name, n, said in made.profiles]
+    text = with_entries(text, "em_profiles", profiles)
     text = with_entries(text, "em_rings", [(f"EM_{name.upper()}_RING", n, f"the {name} ring") for name, n in made.rings])
     for layout in made.layouts:
         text = with_layout(text, layout, made)
@@ -381,6 +384,8 @@ def rust_tables(made: Crate) -> str:
         lines += ["", f"pub(crate) const WATCH_{words.upper()}: u32 = {n};"]
     for name, n in made.rings:
         lines += ["", f"pub(crate) const RING_{name.upper()}: u32 = {n};"]
+    for name, n, _ in made.profiles:
+        lines += ["", f"pub(crate) const PROFILE_{name.upper()}: u32 = {n};"]
     lines += rust_enum("Refusal", commented("Why a call did nothing."), [(it.name, it.docs) for it in made.refusals],
                        "Another number, which this binding does not know.")
     lines += ["", "/// Each refusal with its number.",
@@ -470,6 +475,8 @@ def python(made: Crate) -> str:
     lines += [f'    "{words}": {n},' for words, n in made.watches]
     lines += ["}", "", "# by name, the number of each ring", "RINGS = {"]
     lines += [f'    "{name}": {n},' for name, n in made.rings]
+    lines += ["}", "", "# by name, the number of each profile", "PROFILES = {"]
+    lines += [f'    "{name.lower()}": {n},' for name, n, _ in made.profiles]
     for name, said, rows in (("RULES", "rule by which an event does nothing", made.rules),
                              ("WARNINGS", "rule by which an access has a warning", made.warnings),
                              ("TROUBLES", "thing that can be wrong with a descriptor", made.troubles)):

@@ -13,8 +13,8 @@ struct debugger {
   char memory[24], mac[16];
 };
 
-/* Makes the words for this program and this address of the adapter. They stay where they are. */
-void debugger_make(struct debugger *debugger, const char *program, const uint8_t mac[6]);
+/* Makes the words for this program, and this profile and address of the adapter. They stay where they are. */
+void debugger_make(struct debugger *debugger, const char *program, uint32_t profile, const uint8_t mac[6]);
 
 /* The words that play this run, or where that is NULL those that play none. */
 char **debugger_words(struct debugger *debugger, const char *run);

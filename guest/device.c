@@ -23,7 +23,8 @@ enum {
   MOST_GIVEN = 262144 /* octets that are looked at before one write of a tail; a step brings in the rest */
 };
 
-bool device_make(struct device *device, const uint8_t mac[6], struct run *run, frame_sent *on_sent, void *whose) {
+bool device_make(struct device *device, uint32_t profile, const uint8_t mac[6], struct run *run, frame_sent *on_sent,
+                 void *whose) {
   *device = (struct device){
       .machine = EM_NO_MACHINE,
       .run = run,
@@ -32,9 +33,9 @@ bool device_make(struct device *device, const uint8_t mac[6], struct run *run, f
       .on_sent = on_sent,
       .whose = whose,
   };
-  if (em_make_at(&device->machine, 0, MODEL_MEMORY, LEAST_BUDGET, mac) != EM_OK) return false;
+  if (em_make_as(&device->machine, profile, 0, MODEL_MEMORY, LEAST_BUDGET, mac) != EM_OK) return false;
   if (!ram_attach(&device->ram, &device->machine)) return false;
-  run_head(run, MODEL_MEMORY, MOST_BUDGET, mac);
+  run_head(run, profile, MODEL_MEMORY, MOST_BUDGET, mac);
   if (em_set_link(&device->machine, true) == EM_OK) run_link(run, true);
   run_flush(run);
   return true;

@@ -53,7 +53,8 @@ struct device {
 };
 
 /* Makes the adapter with this address and its link up, and begins the run. False where there is no memory for it. */
-bool device_make(struct device *device, const uint8_t mac[6], struct run *run, frame_sent *on_sent, void *whose);
+bool device_make(struct device *device, uint32_t profile, const uint8_t mac[6], struct run *run, frame_sent *on_sent,
+                 void *whose);
 
 void device_free(struct device *device);
 

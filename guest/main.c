@@ -59,7 +59,8 @@ static bool prepare_stops(struct guest *guest, const struct options *options, co
   guest->hold.run = options->run;
   guest->hold.symbols = options->symbols;
   hold_make(&guest->hold);
-  debugger_make(&guest->hold.debugger, options->debugger ? options->debugger : debugger, options->mac);
+  debugger_make(&guest->hold.debugger, options->debugger ? options->debugger : debugger, options->profile,
+                options->mac);
   guest->session.before_answer = loop_look;
   guest->session.whose = guest;
   guest->session.device.on_access = loop_accessed;
@@ -72,7 +73,7 @@ static bool open_files(struct guest *guest, const struct options *options) {
   if (options->pcap_in && !capture_open(&guest->capture_in, options->pcap_in)) return false;
   if (options->pcap_out && !(guest->capture_out = capture_create(options->pcap_out, options->over))) return false;
   if (!open_wire(&guest->wire, options)) return false;
-  if (device_make(&guest->session.device, options->mac, &guest->run, loop_sent, guest)) return true;
+  if (device_make(&guest->session.device, options->profile, options->mac, &guest->run, loop_sent, guest)) return true;
   say("there is no memory for the adapter");
   return false;
 }

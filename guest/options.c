@@ -43,6 +43,8 @@ static const char help[] =
     "                           it may stand eight times\n"
     "      --debugger <PROGRAM> The em_debug that is asked [default: that of this repository]\n"
     "      --mac <HEX12>        The adapter's Ethernet address [default: 525400123456]\n"
+    "      --profile <PROFILE>  Its registers: table, or adapter, which has what operating systems need [default: "
+    "table]\n"
     "      --slot <N>           Where it lies on the PCI bus, from 1 to 31 [default: 3]\n"
     "      --irq <PATH:N>       An input of an interrupt controller of QEMU's; it may stand four times\n"
     "      --print              Print the words that QEMU would be started with, and end\n"
@@ -53,6 +55,11 @@ static const char help[] =
     "\n"
     "The status is QEMU's, or 1 where it died or sent what is no message, 2 where the command line was bad, 3 where\n"
     "something could not be opened or started.\n";
+
+static bool parse_profile(const char *text, uint32_t *profile) {
+  *profile = strcmp(text, "adapter") == 0 ? EM_PROFILE_ADAPTER : EM_PROFILE_TABLE;
+  return *profile == EM_PROFILE_ADAPTER || strcmp(text, "table") == 0;
+}
 
 static bool parse_mac(const char *text, uint8_t mac[6]) {
   size_t digits = 0;
@@ -84,7 +91,7 @@ static const char **text_of(struct options *options, const char *word) {
       {"--run", &options->run},           {"--name", &options->name},       {"--listen", &options->listen},
       {"--qtest", &options->qtest},       {"--net", &options->net},         {"--pcap-in", &options->pcap_in},
       {"--pcap-out", &options->pcap_out}, {"--symbols", &options->symbols}, {"--mac", &options->mac_text},
-      {"--slot", &options->slot_text},    {"--tap", &options->tap},         {"--peer", &options->peer},
+      {"--slot", &options->slot_text},    {"--profile", &options->profile_text},    {"--tap", &options->tap},         {"--peer", &options->peer},
       {"--debugger", &options->debugger},
   };
   for (size_t i = 0; i < sizeof texts / sizeof *texts; i++)
@@ -135,6 +142,8 @@ static enum parsed take_numbers(struct options *options) {
     return say("--mac: an Ethernet address is 12 hexadecimal digits, in which colons may stand"), REFUSED;
   if (options->slot_text && !parse_slot(options->slot_text, &options->slot))
     return say("--slot: 1 to 31 is wanted"), REFUSED;
+  if (options->profile_text && !parse_profile(options->profile_text, &options->profile))
+    return say("--profile: table or adapter is wanted"), REFUSED;
   return PARSED;
 }
 

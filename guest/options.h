@@ -11,10 +11,11 @@
 
 struct options {
   const char *run, *name, *listen, *qtest, *net, *tap, *peer, *pcap_in, *pcap_out, *symbols, *debugger;
-  const char *mac_text, *slot_text;
+  const char *mac_text, *slot_text, *profile_text;
   bool over, prints, has_counter;
   uint8_t mac[6];
   uint32_t slot; /* of the PCI bus */
+  uint32_t profile; /* of enum em_profiles */
   struct input inputs[MOST_INPUTS];
   size_t input_count;
   struct stop_at stops[MOST_STOPS];

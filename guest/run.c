@@ -85,9 +85,10 @@ static void end_line(struct run *run) {
   if (run->have >= FULL) run_flush(run);
 }
 
-void run_head(struct run *run, uint64_t memory, uint64_t budget, const uint8_t mac[6]) {
+void run_head(struct run *run, uint32_t profile, uint64_t memory, uint64_t budget, const uint8_t mac[6]) {
   if (run->file < 0) return;
-  put_text(run, "# em_debug --memory %" PRIu64 "G --budget %" PRIu64 " --mac ", memory >> 30, budget);
+  put_text(run, "# em_debug --memory %" PRIu64 "G --budget %" PRIu64, memory >> 30, budget);
+  put_text(run, "%s --mac ", profile == EM_PROFILE_ADAPTER ? " --profile adapter" : "");
   put_octets(run, mac, 6);
   end_line(run);
 }

@@ -36,7 +36,7 @@ void run_flush(struct run *run);
 void run_close(struct run *run);
 
 /* The first line: what the adapter is made of, as the library's kept runs have it. `memory` is whole gibibytes. */
-void run_head(struct run *run, uint64_t memory, uint64_t budget, const uint8_t mac[6]);
+void run_head(struct run *run, uint32_t profile, uint64_t memory, uint64_t budget, const uint8_t mac[6]);
 
 /* One line each: an event with the answer that it had, which a debugger then expects. `refusal` is the library's number
    of it. A write also has a remark, or NULL. */

@@ -74,12 +74,13 @@ function morph(old, fresh) {
 }
 
 /**
- * A button that asks who changed something. What it asks about stands in `data-watch`; main.js listens for its click.
+ * A button that asks who changed something. What it asks about stands in `data-watch`; main.js listens for its click. It
+ * stands in a group, in which the arrows lead to it.
  * @param {string} watch
  * @param {Object<string, string|number|boolean|null>} attributes
  */
 function askButton(watch, attributes, ...children) {
-  return make("button", { type: "button", "data-watch": watch, ...attributes }, ...children);
+  return make("button", { type: "button", "data-watch": watch, tabindex: -1, ...attributes }, ...children);
 }
 
 /**

@@ -1,11 +1,10 @@
 // Frames that wait in the FIFO, and those that were sent.
 
 const MOST_FRAMES = 8;
+/** So many rows of frames are kept, those that are not shown now too: with what was opened in them. */
+const MOST_ROWS = 1_024;
 const LEAST_FRAME = 14;
-const MOST_LENGTH_FIELD = 1500;
 const VLAN_TYPE = 0x8100;
-const TYPES = new Map([[0x0800, "IPv4"], [0x0806, "ARP"], [0x86DD, "IPv6"], [0x8100, "VLAN"], [0x88CC, "LLDP"],
-  [0x88A8, "S-VLAN"]]);
 
 /** An Ethernet address. @param {Uint8Array} octets six of them */
 function macText(octets) {
@@ -54,10 +53,28 @@ function isNarrow() {
   return matchMedia("(max-width: 560px)").matches;
 }
 
+/** What is opened where it is wanted: its parts are made then. */
+function details(words, parts) {
+  const element = make("details", {}, make("summary", { tabindex: -1 }, words));
+  element.addEventListener("toggle", () => element.append(...parts()), { once: true });
+  return element;
+}
+
+/** A protocol of a frame: which octets it has, and its fields. @param {Layer} layer */
+function layerElement({ name, at, end, fields, trouble }) {
+  const range = end > at ? `octets ${at} to ${end - 1}` : "no octets";
+  const sign = make("span", { "aria-hidden": "true" }, "⚠\uFE0E ");
+  const wrong = trouble ? [make("p", { class: "trouble" }, sign, trouble)] : [];
+  return make("section", { class: "layer", "data-layer": name },
+    make("h4", {}, name, make("span", { class: "quiet" }, ` ${range}`)), ...wrong,
+    make("dl", {}, ...fields.map(([field, text]) => make("div", {}, make("dt", {}, field), make("dd", {}, text)))));
+}
+
 class Frames {
   constructor(app) {
     this.app = app;
-    this.items = new WeakMap();
+    /** Rows of frames that were shown, by list and number. */
+    this.items = new Map();
   }
 
   paint() {
@@ -84,10 +101,12 @@ class Frames {
 
   /** @private */
   list(element, frames, more) {
-    const isNew = (frame) => this.app.changes && frame.place === this.app.place;
+    const isNew = (frame) => this.app.changes && frame.place.number === this.app.number;
+    if (this.items.size > MOST_ROWS) this.items.clear();
     const items = frames.map((frame) => {
-      if (!this.items.has(frame)) this.items.set(frame, this.item(frame));
-      const item = this.items.get(frame);
+      const key = `${frame.list.field} ${frame.number}`;
+      if (!this.items.has(key)) this.items.set(key, this.item(frame));
+      const item = this.items.get(key);
       setAttribute(item, "data-changed", isNew(frame) ? "" : null);
       return item;
     });
@@ -99,7 +118,7 @@ class Frames {
 
   /** @private */
   item(frame) {
-    const source = make("button", { type: "button", class: "from", "data-step": frame.place.step },
+    const source = make("button", { type: "button", class: "from", tabindex: -1, "data-step": frame.place.step },
       `event ${frame.place.number}, line ${frame.place.line}`);
     if (frame.octets === null) {
       return make("li", { class: "frame" }, make("p", {}, "a frame whose octets are not in the record "), source);
@@ -107,12 +126,10 @@ class Frames {
     const octets = octetsOf(frame.octets);
     const parts = frameParts(octets).map(([name, text]) =>
       make("span", { class: `part part-${name || "size"}` }, name ? make("i", {}, `${name} `) : "", text));
-    const body = make("pre", {});
-    const details = make("details", {}, make("summary", {}, "octets"), body);
-    details.addEventListener("toggle", () => {
-      body.textContent = octetLines(octets, isNarrow() ? 8 : 12);
-    }, { once: true });
-    return make("li", { class: "frame", "data-octets": frame.octets.toUpperCase() }, make("p", {}, ...parts), source,
-      details);
+    const layers = layersOf(octets), summary = frameSummary(layers);
+    return make("li", { class: "frame", "data-octets": frame.octets.toUpperCase() }, make("p", {}, ...parts),
+      ...(summary ? [make("p", { class: "part-summary" }, summary)] : []), source,
+      details("opened", () => layers.map(layerElement)),
+      details("octets", () => [make("pre", {}, octetLines(octets, isNarrow() ? 8 : 12))]));
   }
 }

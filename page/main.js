@@ -10,54 +10,92 @@ class App {
     this.state = run.state;
     /** @type {number} the place in the run: a step */
     this.step = run.steps.length - 1;
-    this.state.goTo(this.place);
-    this.line = run.steps[this.step].line;
-    /** @type {{text: string, watch: Watch, place: Place|null}|null} what was asked last, and the event that was told */
+    this.state.goTo(this.number);
+    this.line = run.steps.lines.at(this.step);
+    /**
+     * What was asked last, the event that was told, and the step at which it was.
+     * @type {{text: string, watch: Watch, number: number|null, step: number}|null}
+     */
     this.asked = null;
     this.origin = 0;
     this.trail = [];
+    this.address = new Address(this);
+    this.search = new Search(this);
     this.rings = [new RingPanel(this, "rx"), new RingPanel(this, "tx")];
     this.timeline = new Timeline(this);
     this.memory = new MemoryPanel(this);
     this.sources = new Sources(this);
-    this.panels = [new ScriptPanel(this), this.timeline, new Wave(this, this.timeline), ...this.rings,
+    this.lanes = new Lanes(this);
+    this.wave = new Wave(this, this.timeline);
+    this.panels = [new ScriptPanel(this), this.timeline, this.wave, ...this.rings,
       new Present(this), this.sources,
-      new Registers(this), this.memory, new Frames(this)];
+      new Registers(this), this.memory, new Frames(this), this.search, new Saved(this), this.lanes, new Stops()];
     this.signals();
     this.listen();
   }
 
+  /** The number of the newest event that stands here. */
+  get number() {
+    return this.run.steps.places.at(this.step);
+  }
+
   get place() {
-    return this.run.steps[this.step].place;
+    return this.run.places.at(this.number);
   }
 
   /** Whether the present step performed the event of its place, so that what it changed is lit. */
   get changes() {
-    return this.run.steps[this.step].performs;
+    return this.run.steps.performs.at(this.step) === 1;
   }
 
   /** Goes to a step, which is brought within the run. @param {number} line the line to light, if not the step's own */
   goTo(step, playing = false, line = 0) {
     if (!playing) this.timeline.play(false);
     this.step = Math.max(0, Math.min(this.run.steps.length - 1, step));
-    this.line = line || this.run.steps[this.step].line;
-    this.state.goTo(this.place);
+    this.line = line || this.run.steps.lines.at(this.step);
+    this.state.goTo(this.number);
     this.memory.follow();
     this.paint();
   }
 
+  /** Goes to a place that is not the next one: the browser's back leads to the one that is left. */
+  jump(step, line = 0) {
+    this.address.leave();
+    this.goTo(step, false, line);
+  }
+
+  /** Shows what a link says. @param {Link} link */
+  show({ step, line, watch, find }) {
+    this.asked = null;
+    this.forget();
+    this.search.set(find);
+    this.goTo(step, false, line);
+    if (watch) this.ask(watch);
+  }
+
   /** Asks who changed something last; of the event that was told last, who did before. @param {string} text */
   ask(text) {
-    const watch = watchOf(text);
-    const isAgain = this.asked !== null && this.asked.text === text && this.asked.place === this.place;
+    const watch = watchOf(text), { places } = this.run;
+    const isAgain = this.asked !== null && this.asked.text === text && this.asked.number === this.number;
     if (!isAgain) this.origin = this.step;
-    const found = lastChange(isAgain ? this.place.before : this.place, watch);
-    this.asked = { text, watch, place: found ?? (isAgain ? this.place : null) };
+    this.address.leave();
+    const found = lastChange(places, isAgain ? places.before.at(this.number) : this.number, watch);
+    this.asked = { text, watch, number: found ? found.number : isAgain ? this.number : null,
+      step: found ? found.step : this.step };
     byId("who-help").hidden = true;
     if (found) this.goTo(found.step);
     if (watch.kind === "octets") this.memory.show(watch.address);
     this.answer(watch, found, isAgain);
     this.paint();
+  }
+
+  /** Shows no answer. @private */
+  forget() {
+    const element = byId("who");
+    for (const name of ["asked", "event", "line", "before", "after"]) setAttribute(element, `data-${name}`, null);
+    element.replaceChildren();
+    setText(byId("told"), "");
+    byId("who-help").hidden = false;
   }
 
   /** @private */
@@ -91,17 +129,16 @@ class App {
   /** Keeps the answers before the last one, the newest first. @private */
   tell(name, by, step) {
     byId("trail").replaceChildren(...this.trail.map((told) =>
-      make("li", {}, make("button", { type: "button", "data-step": told.step }, told.text))));
+      make("li", {}, make("button", { type: "button", tabindex: -1, "data-step": told.step }, told.text))));
     this.trail.unshift({ step, text: `${name} · ${by}` });
     this.trail.length = Math.min(this.trail.length, MOST_TRAIL);
   }
 
   /** What a step is, in words. */
   stepText(step = this.step) {
-    const { kind, mark, line, place, performs } = this.run.steps[step];
-    return [performs ? place.text : KINDS[kind][1], performs ? `event ${place.number}` : "", line ? `line ${line}` : "", mark ? MARKS[mark][1]
-      : ""]
-      .filter(Boolean).join(", ");
+    const { kind, mark, line, place, performs } = this.run.steps.at(step);
+    const event = performs ? [place.text, `event ${place.number}`] : [KINDS[kind][1]];
+    return [...event, ...(line ? [`line ${line}`] : []), ...(mark ? [MARKS[mark][1]] : [])].join(", ");
   }
 
   paint() {
@@ -110,12 +147,13 @@ class App {
     this.paintSignals();
     const main = byId("run");
     for (const [name, value] of Object.entries({
-      step, event: place.number, line: run.steps[step].line, link: place.link ? "up" : "down",
+      step, event: place.number, line: run.steps.lines.at(step), link: place.link ? "up" : "down",
       interrupt: place.interrupt ? 1 : 0, frames: place.frames, sent: place.sending?.count ?? 0,
     })) setAttribute(main, `data-${name}`, value);
     const back = byId("return");
     back.hidden = this.asked === null || this.origin === step;
     setText(back, `return to step ${this.origin}`);
+    this.address.follow();
   }
 
   /** @private */
@@ -136,7 +174,8 @@ class App {
       sent: String(place.sending?.count ?? 0) };
     for (const { watch, words, value, button } of this.signalButtons) {
       setText(value, values[watch]);
-      setAttribute(button, "data-changed", this.changes && changed(place, watchOf(watch)) ? "" : null);
+      const isChanged = this.changes && changed(this.run.places, this.number, watchOf(watch));
+      setAttribute(button, "data-changed", isChanged ? "" : null);
       setAttribute(button, "aria-label", `${words} ${values[watch]}: who changed it last?`);
     }
   }
@@ -148,10 +187,10 @@ class App {
       if (!button) return;
       if (button.dataset.watch) this.ask(button.dataset.watch);
       else if (button.dataset.show) this.memory.showAt(Number(button.dataset.show));
-      else this.goTo(Number(button.dataset.step));
+      else this.jump(Number(button.dataset.step));
     });
     document.addEventListener("keydown", (event) => this.keyed(event));
-    byId("return").addEventListener("click", () => this.goTo(this.origin));
+    byId("return").addEventListener("click", () => this.jump(this.origin));
     matchMedia("(prefers-color-scheme: dark)").addEventListener("change", () => {
       readPalette();
       this.paint();
@@ -169,10 +208,14 @@ class App {
     if (event.defaultPrevented || event.ctrlKey || event.altKey || event.metaKey || target.closest("select")
       || (target.matches("input") && !["range", "checkbox"].includes(target.type))) return;
     const go = {
-      ArrowLeft: () => this.goTo(this.step - 1), ArrowRight: () => this.goTo(this.step + 1),
+      ArrowLeft: () => (event.shiftKey ? this.timeline.move(-MOVED_PART) : this.goTo(this.step - 1)),
+      ArrowRight: () => (event.shiftKey ? this.timeline.move(MOVED_PART) : this.goTo(this.step + 1)),
+      "+": () => this.timeline.zoom(ZOOM_FACTOR), "-": () => this.timeline.zoom(1 / ZOOM_FACTOR),
+      0: () => this.timeline.zoom(0),
       PageUp: () => this.goTo(this.step - PAGE_STEPS), PageDown: () => this.goTo(this.step + PAGE_STEPS),
-      Home: () => this.goTo(0), End: () => this.goTo(Infinity),
-      Escape: () => this.asked !== null && this.goTo(this.origin),
+      Home: () => this.jump(0), End: () => this.jump(Infinity),
+      Escape: () => this.asked !== null && this.jump(this.origin),
+      n: () => this.search.go(1), p: () => this.search.go(-1), "/": () => this.search.focus(),
       " ": target.closest("button, summary, input, [role=gridcell]") ? undefined : () =>
         this.timeline.play(!this.timeline.timer),
     }[event.key];
@@ -190,26 +233,52 @@ function tellBroken(fault, run) {
   element.replaceChildren(make("b", {}, "⚠\uFE0E This record is broken: "), `${fault}.${rest}`);
 }
 
-function begin() {
-  readPalette();
-  const { run, fault } = readRecord([...document.querySelectorAll("script.record")].map((part) => part.textContent));
+/** Shows what was read of a record. @param {{run: Run|null, fault: string|null}} read */
+function show({ run, fault }) {
+  setHidden(byId("reading"), true);
   if (fault) tellBroken(fault, run);
   if (!run) return;
-  const { base = 0, memory, budget, mac } = run.settings;
-  const events = run.steps.filter((step) => step.performs).length;
+  const { base = 0, memory, budget, mac, profile } = run.settings;
   setText(byId("settings"), [
-    `${counted(run.script.length, "line")}, ${counted(events, "event")}`, `${counted(memory, "octet")} of memory${base ? ` from ${addressText(base)} on` : ""}`,
+    `${counted(run.script.length, "line")}, ${counted(run.steps.performed, "event")}`,
+    `${counted(memory, "octet")} of memory${base ? ` from ${addressText(base)} on` : ""}`,
     ...(typeof mac === "string" && isDigits(mac) && mac.length === 12 ? [`address ${macText(octetsOf(mac))}`] : []),
+    ...(profile === "adapter" ? ["an adapter of the second profile"] : []),
     ...(isNumber(budget, Infinity) ? [`a journal of ${counted(budget, "octet")}`] : []),
   ].join(" · "));
   byId("run").hidden = false;
   const app = new App(run);
   app.memory.showNewest();
-  app.paint();
+  app.address.arrive();
 }
 
-try {
-  begin();
-} catch (fault) {
-  tellBroken(`this page can’t show it (${fault instanceof Error ? fault.message : fault})`, null);
+/** Unpacks a long record, and shows it. @param {string} letters */
+async function showPacked(letters) {
+  const told = byId("reading"), packed = new PackedReading();
+  setHidden(told, false);
+  try {
+    await unpack(letters, (part) => packed.take(part),
+      (share) => setText(told, `Reading the run: ${Math.floor(100 * share)} %`));
+  } catch (fault) {
+    setHidden(told, true);
+    tellBroken(`it was packed, and can’t be unpacked (${fault instanceof Error ? fault.message : fault})`, null);
+    return;
+  }
+  guarded(() => show(packed.end()));
 }
+
+/** Does something, and says what failed. */
+function guarded(work) {
+  try {
+    work();
+  } catch (fault) {
+    tellBroken(`this page can’t show it (${fault instanceof Error ? fault.message : fault})`, null);
+  }
+}
+
+guarded(() => {
+  readPalette();
+  const elements = [...document.querySelectorAll("script.record")];
+  if (elements[0].type === PACKED_TYPE) showPacked(elements[0].textContent);
+  else show(readRecord(elements.map((part) => part.textContent)));
+});

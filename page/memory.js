@@ -115,16 +115,17 @@ class MemoryPanel {
 
   /** Shows what the newest event that changed memory did there. */
   showNewest() {
-    let { place } = this.app;
-    while (place.before && !place.writes) place = place.before;
-    if (place.writes) this.show(place.memory[0][0]);
+    const { places } = this.app.run;
+    let { number } = this.app;
+    while (number && !places.at(number).writes) number = places.before.at(number);
+    if (number) this.show(places.from.at(number));
   }
 
   /** Follows what the present step changed. */
   follow() {
     const { place, changes } = this.app;
     if (!changes || !place.writes || !byId("follow").checked) return;
-    this.show(place.memory[0][0]);
+    this.show(place.all.from.at(place.number));
   }
 
   paint() {
@@ -267,8 +268,8 @@ class MemoryPanel {
     if (key === this.regionsKey) return;
     this.regionsKey = key;
     become(byId("regions"), [...order.slice(0, most).map(({ kind, words, at, size }) =>
-      make("button", { type: "button", class: `region map-${kind}`, "data-show": at }, make("span", {}, words),
-        ` ${addressText(at)}–${addressText(at + BigInt(size) - 1n)}`)),
+      make("button", { type: "button", class: `region map-${kind}`, "data-show": at, tabindex: -1 },
+        make("span", {}, words), ` ${addressText(at)}–${addressText(at + BigInt(size) - 1n)}`)),
     ...(order.length > most ? [make("span", { class: "quiet" }, `and ${order.length - most} more`)] : [])]);
   }
 

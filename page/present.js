@@ -20,8 +20,8 @@ class Present {
   paint() {
     const { app } = this;
     const { step, run, place } = app;
-    const now = run.steps[step];
-    const line = run.lines[now.line - 1];
+    const now = run.steps.at(step);
+    const line = run.lines.at(now.line);
     const head = [make("strong", {}, KINDS[now.kind][1])];
     if (now.performs) head.push(` · event ${place.number}`);
     if (now.line) head.push(` · line ${now.line}`);
@@ -31,11 +31,11 @@ class Present {
       KINDS[now.kind][0]), " ", ...head)];
     if (now.performs) parts.push(make("p", { class: "code", id: "was" }, visible(shortened(place.text, 400))));
     if (now.line) parts.push(make("p", { class: "code" }, visible(shortened(run.script[now.line - 1], 400))));
-    if (line && line.answer.length) parts.push(this.answer(now, line));
+    if (line && line.answer.length) parts.push(this.answer(line));
     if (line && line.differs) parts.push(make("p", { class: "note" }, `≠ ${visible(shortened(line.differs, 400))}`));
     if (line && line.source) parts.push(make("p", { class: "note" }, `@ ${visible(shortened(line.source, 400))}`));
     if (now.performs && place.takenBack !== NEVER) {
-      const by = run.steps[place.takenBack].line;
+      const by = run.steps.lines.at(place.takenBack);
       parts.push(make("p", { class: "note" },
         `↶ line ${by} takes this event back${place.takenBack <= step ? "" : " later"}`));
     }
@@ -50,16 +50,17 @@ class Present {
   /** The events of a line that performed several, such as a driver's call, each to go to. @private */
   events(line, count) {
     const { run, step } = this.app;
-    const made = make("details", { id: "events" }, make("summary", {}, `the ${counted(count, "event")} of this line`));
+    const made = make("details", { id: "events" },
+      make("summary", { tabindex: -1 }, `the ${counted(count, "event")} of this line`));
     made.open = this.isOpen;
     if (!this.isOpen) return made;
     const first = Math.max(line.first, Math.min(step - MOST_LISTED / 2, line.last + 1 - MOST_LISTED));
     const last = Math.min(line.last, first + MOST_LISTED - 1);
     const items = [];
     for (let at = first; at <= last; at++) {
-      const { place, mark } = run.steps[at];
+      const { place, mark } = run.steps.at(at);
       items.push(make("li", { value: place.access }, make("button", {
-        type: "button", "data-step": at, "aria-current": at === step ? "step" : null,
+        type: "button", tabindex: -1, "data-step": at, "aria-current": at === step ? "step" : null,
       }, `${mark ? `${MARKS[mark][0]} ` : ""}${visible(shortened(place.text, 120))}`)));
     }
     made.append(make("ol", { class: "events" }, ...items));
@@ -67,8 +68,8 @@ class Present {
   }
 
   /** @private */
-  answer(now, line) {
-    const isLast = this.app.run.steps.indexOf(now, line.first) === line.last;
+  answer(line) {
+    const isLast = this.app.step === line.last;
     const text = line.answer.slice(0, 12).map((part) => visible(shortened(part, 400))).join("\n")
       + (line.answer.length > 12 ? `\n… ${line.answer.length} lines` : "");
     const sign = line.mark && isLast ? `${MARKS[line.mark][0]} ` : "";

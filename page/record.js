@@ -7,7 +7,10 @@ const MOST_MEMORY = 2 ** 40;
 /** The bit of STATUS that says that the link is up. */
 const LINK_UP = 1;
 /** What an event can be. */
-const EVENT_KINDS = new Set(["read", "write", "poke", "arrive", "rx", "tx", "link"]);
+const EVENT_KINDS = new Set(EVENT_KIND_LIST);
+const MOST_WORD = 0xFFFFFFFF;
+/** Of so many texts of events it is kept that they were found right. */
+const MOST_SAID = 65_536;
 /** What a line can be. A plan is drawn as a look is, since it does nothing by itself. */
 const LINE_KINDS = new Set([...EVENT_KINDS, "look", "plan", "back", "driver"]);
 
@@ -15,24 +18,14 @@ const LINE_KINDS = new Set([...EVENT_KINDS, "look", "plan", "back", "driver"]);
 class Broken extends Error {}
 
 /**
- * A step of the run: an event, a reverse step, or a line that did nothing.
- * @typedef {Object} Step
- * @property {"start"|"read"|"write"|"poke"|"arrive"|"rx"|"tx"|"link"|"driver"|"look"|"back"} kind
- * @property {""|"refused"|"dropped"|"bad"|"differs"} mark
- * @property {number} line its number from 1; 0 for the start
- * @property {Place} place behind it
- * @property {boolean} performs whether it performed the event of its place
- * @property {number} back how many events it took back
- *
  * @typedef {Object} Run
- * @property {{base: number|undefined, memory: number, budget: number, mac: string}} settings
+ * @property {{base: number|undefined, memory: number, budget: number, mac: string, profile: string|undefined}} settings
  * @property {string[]} script
- * @property {PlayedLine[]} lines of the script, by number less 1; those that were not played are missing
- * @property {Step[]} steps
- * @property {Numbers} icr ICR behind each step
- * @property {Numbers} ims
+ * @property {Lines} lines
+ * @property {Steps} steps
+ * @property {Places} places
+ * @property {Uint32Array} registers as they were at the start
  * @property {[number, number]} touched the least part of memory that has each octet which an event changed
- * @property {Place} root
  * @property {State} state at the last place that was read
  * @property {boolean} ended
  */
@@ -55,53 +48,97 @@ function readRecord(parts) {
 
 /** @param {() => Source} begin */
 function readFrom(begin) {
-  let reader = null;
-  try {
+  const reading = new Reading();
+  reading.try(() => {
     const source = begin();
-    reader = new Reader(source);
-    source.each((line, index) => reader.next(line, index));
-    reader.end(source.end());
-    return { run: reader.run, fault: null };
-  } catch (fault) {
-    if (!(fault instanceof Broken)) throw fault;
-    return { run: reader && reader.run, fault: fault.message };
+    reading.begin(source);
+    source.each(reading.take);
+  });
+  return reading.end();
+}
+
+/** A record that is being read. What is wrong with it ends that. */
+class Reading {
+  constructor() {
+    this.source = null;
+    this.reader = null;
+    /** @type {string|null} */
+    this.fault = null;
+    this.take = (line, index) => this.reader.next(line, index);
+  }
+
+  /** Does a part of it, where nothing was wrong before. */
+  try(work) {
+    if (this.fault !== null) return;
+    try {
+      work();
+    } catch (fault) {
+      if (!(fault instanceof Broken)) throw fault;
+      this.fault = fault.message;
+    }
+  }
+
+  begin(source) {
+    this.source = source;
+    this.reader = new Reader(source);
+  }
+
+  /** @returns {{run: Run|null, fault: string|null}} */
+  end() {
+    this.try(() => this.reader.end(this.source.end()));
+    return { run: this.reader && this.reader.run, fault: this.fault };
+  }
+}
+
+/** A packed record that is read as it comes. */
+class PackedReading {
+  constructor() {
+    this.reading = new Reading();
+    this.texts = [];
+  }
+
+  /** @param {Part} part */
+  take(part) {
+    this.texts.push(part.text);
+    const { reading } = this;
+    if (reading.source) {
+      reading.try(() => reading.source.eachOf(part, reading.take));
+      return;
+    }
+    // (parts are whole lines)
+    if (!`\n${part.text}`.includes(LINES_BEGIN)) return;
+    const source = LineSource.of([this.texts.join("")]);
+    if (!source) return;
+    reading.try(() => {
+      reading.begin(source);
+      for (const one of source.waiting) source.eachOf(one, reading.take);
+    });
+  }
+
+  /** @returns {{run: Run|null, fault: string|null}} */
+  end() {
+    const { reading, texts } = this;
+    reading.try(() => want(reading.source?.isBehind, reading.source?.cut() ?? ""));
+    const read = reading.end();
+    return read.fault === null ? read : readRecord(texts);
   }
 }
 
 function want(holds, words) {
-  if (!holds) throw new Broken(words);
+  if (!holds) fail(words);
+}
+
+/** Says what is wrong. Of each event much is asked, so its words are made only where one is wrong. */
+function fail(words) {
+  throw new Broken(words);
 }
 
 const isObject = (value) => typeof value === "object" && value !== null && !Array.isArray(value);
 const isNumber = (value, most) => Number.isInteger(value) && value >= 0 && value <= most;
-const isWord = (value) => isNumber(value, 0xFFFFFFFF);
+const isWord = (value) => isNumber(value, MOST_WORD);
 const isDigits = (value) => typeof value === "string" && value.length % 2 === 0 && /^[0-9A-Fa-f]*$/.test(value);
 const isTexts = (value) => Array.isArray(value) && value.every((text) => typeof text === "string");
 const isPair = (value, type) => Array.isArray(value) && value.length === 2 && value.every((one) => typeof one === type);
-
-/** A line that was played. What it answered is read again where it is shown. */
-class PlayedLine {
-  /** @param {Source} from @param {number} index where its record is @param {string} source where it comes from */
-  constructor(from, index, mark, source, first) {
-    this.from = from;
-    this.index = index;
-    /** @type {""|"refused"|"dropped"|"bad"|"differs"} */
-    this.mark = mark;
-    this.source = source;
-    /** The first of its steps, or the one at which it stands; and the last. */
-    this.first = first;
-    this.last = first;
-  }
-
-  get answer() {
-    return this.from.line(this.index).answer;
-  }
-
-  /** How its answer differs from the one that it expects; empty where it does not. */
-  get differs() {
-    return this.from.line(this.index).differs ?? "";
-  }
-}
 
 /** Reads the parts of a record, in their order; `run` is what was read so far. */
 class Reader {
@@ -114,30 +151,32 @@ class Reader {
     want(isNumber(base, MOST_MEMORY - settings.memory) && base % PAGE_OCTETS === 0,
       "no adapter can have its memory where it lies");
     want(isTexts(script), "its script is no list of texts");
-    const registers = startRegisters(start);
-    this.source = source;
-    this.changes = new Changes(source);
-    const root = new Place(this.changes, null, 0);
+    const { profile } = settings;
+    want(profile === undefined || profile === "adapter", "its adapter is of a profile that this page does not know");
+    const registers = startRegisters(start, profile);
+    const steps = new Steps(), lines = new Lines(source, script.length);
+    const places = new Places(source, steps, lines);
+    steps.events = places;
     /** How many events the lines so far performed, those taken back since among them. */
     this.performed = 0;
     /** The line that was read last, and where its record is. */
     this.number = 0;
     this.index = 0;
-    /** Each text of a source once. */
-    this.texts = new Map();
     /** @type {Run} */
     this.run = {
-      settings, script, lines: [], root, state: new State(root, registers, new Memory(base, settings.memory)),
-      ended: false, icr: new Numbers(Uint32Array), ims: new Numbers(Uint32Array), touched: [Infinity, -Infinity],
-      steps: [],
+      settings, script, lines, steps, places, touched: [Infinity, -Infinity], ended: false,
+      registers: registers.slice(), state: new State(places, registers, new Memory(base, settings.memory)),
     };
-    this.add({ kind: "start", mark: "", line: 0, performs: false, back: 0 });
+    /** By text of an event, one that was found to say the same in its fields. @type {Given[]} */
+    this.said = [];
+    this.add("start", "", 0, false);
   }
 
   /** Reads the record of the next line. */
   next(line, index) {
-    want(isObject(line) && isNumber(line.line, this.run.script.length) && line.line > this.number,
-      `what follows line ${this.number} is not a later line of its script`);
+    if (!isObject(line) || !isNumber(line.line, this.run.script.length) || line.line <= this.number) {
+      fail(`what follows line ${this.number} is not a later line of its script`);
+    }
     this.number = line.line;
     this.index = index;
     this.line(line, `line ${this.number}`);
@@ -147,209 +186,189 @@ class Reader {
     want(end !== undefined, "it was cut off: it has no end");
     const { state, lines } = this.run;
     want(isObject(end) && isNumber(end.events, Infinity) && isNumber(end.lines, Infinity), "its end can’t be read");
-    want(end.events === state.place.depth,
-      `its end says ${counted(end.events, "event")}, and ${state.place.depth} stand there`);
-    const played = lines.reduce((count) => count + 1, 0);
-    want(end.lines === played, `its end says ${counted(end.lines, "line")}, and ${played} are there`);
+    const stand = state.place.depth;
+    want(end.events === stand, `its end says ${counted(end.events, "event")}, and ${stand} stand there`);
+    want(end.lines === lines.count, `its end says ${counted(end.lines, "line")}, and ${lines.count} are there`);
     this.run.ended = true;
   }
 
   /** @private */
   line(line, name) {
-    const { run } = this;
-    want(isTexts(line.answer), `the answer of ${name} is no list of texts`);
-    want(line.refused === undefined || typeof line.refused === "string", `the refusal of ${name} is no text`);
-    want(Array.isArray(line.events), `${name} has no list of events`);
-    const { kind } = line;
-    want(kind === undefined || LINE_KINDS.has(kind), `${name} is of no kind that there is`);
-    for (const field of ["expected", "differs", "source"]) {
-      want(line[field] === undefined || typeof line[field] === "string", `“${field}” of ${name} is no text`);
-    }
-    const played = new PlayedLine(this.source, this.index, markOf(line), this.textOf(line.source ?? ""),
-      run.steps.length);
+    const { steps, lines } = this.run;
+    checkLine(line, name);
+    const first = steps.length, mark = markOf(line), { kind } = line;
+    lines.begin(line.line, this.index);
     if (line.back !== undefined) this.back(line, name);
-    line.events.forEach((event, index) => {
-      want(isObject(event), `an event of ${name} is no object`);
-      this.event(event, line, index + 1, `event ${this.performed + 1}, of ${name},`);
-    });
-    const has_step = run.steps.length > played.first;
-    if (!has_step && (kind !== undefined || line.bad)) {
-      this.add({ kind: kind === undefined || kind === "plan" ? "look" : kind, mark: markOf(line), line: line.line,
-        performs: false, back: 0 });
+    for (let index = 0; index < line.events.length; index++) {
+      if (!isObject(line.events[index])) fail(`an event of ${name} is no object`);
+      this.event(line.events[index], line, index + 1);
     }
-    played.last = run.steps.length - 1;
-    played.first = Math.min(played.first, played.last);
-    run.lines[line.line - 1] = played;
-  }
-
-  /** A text, which is kept once. @private */
-  textOf(text) {
-    if (!this.texts.has(text)) this.texts.set(text, text);
-    return this.texts.get(text);
+    if (steps.length === first && (kind !== undefined || line.bad)) {
+      this.add(kind === undefined || kind === "plan" ? "look" : kind, mark, line.line, false);
+    }
+    const last = steps.length - 1;
+    lines.add(line, mark, Math.min(first, last), last);
   }
 
   /** @private */
   back(line, name) {
-    const { state } = this.run;
+    const { state, steps, places } = this.run;
     want(isNumber(line.back, state.place.depth), `${name} takes back more events than stand there`);
-    const step = this.run.steps.length;
     for (let i = 0; i < line.back; i++) {
-      state.place.takenBack = step;
+      places.takenBack.set(state.number, steps.length);
       state.backward();
     }
-    this.add({ kind: "back", mark: markOf(line), line: line.line, performs: false, back: line.back });
+    if (line.back > 0) steps.backs.set(steps.length, line.back);
+    this.add("back", markOf(line), line.line, false);
   }
 
   /** @private */
-  event(event, line, access, name) {
-    const { run } = this;
-    const before = run.state.place;
+  event(event, line, access) {
+    const { places, state } = this.run;
     this.performed += 1;
-    want(event.event === this.performed, `${name} has another number`);
-    wasOf(event, name);
-    const change = this.change(event, name);
-    const place = this.placeOf(before, change);
-    Object.assign(place, { step: run.steps.length, line: line.line, record: this.index, access });
-    this.changes.add(change);
-    this.widen(change);
-    run.state.forward(place, change);
-    this.agrees(place, name);
-    if (run.state.isDue(place)) run.state.keep();
+    if (event.event !== this.performed) this.fail(line, "has another number");
+    const form = line.isGiven ? "" : formFault(event);
+    if (form) this.fail(line, form);
+    const given = line.isGiven ? event : givenOf(event);
+    const text = places.texts.numberOf(given.text);
+    const fault = this.wordsFault(given, text) || this.changeFault(given);
+    if (fault) this.fail(line, fault);
+    const number = places.add(state.number, given, text, access);
+    this.widen(number);
+    state.forward(number, given);
+    this.agrees(line);
+    if (state.isDue(number)) state.keep();
     const isLast = access === line.events.length;
-    const mark = event.answer === "dropped" ? "dropped" : isLast && line.refused !== undefined ? "refused" : isLast && line.differs ? "differs" : "";
-    this.add({ kind: event.kind, mark, line: line.line, performs: true, back: 0 });
+    const mark = given.answer === "dropped" ? "dropped" : isLast && line.refused !== undefined ? "refused"
+      : isLast && line.differs ? "differs" : "";
+    this.add(given.kind, mark, line.line, true);
+    if (this.said[text] === given) given.settle();
   }
 
-  /** What an event changed, of which each part must find what it says was there. @private @returns {Change} */
-  change(event, name) {
-    this.registers(event, name);
-    this.memory(event, name);
-    this.frames(event, name);
-    this.gathered(event, name);
-    for (const field of ["stored", "sent"]) {
-      want(event[field] === undefined || isDigits(event[field]), `${name} has a ${field} frame that can’t be read`);
-    }
-    this.flag(event, "link", name);
-    this.flag(event, "interrupt", name);
-    return changeOf(event);
+  /** Says what is wrong with the newest event. @private */
+  fail(line, words) {
+    fail(`event ${this.performed}, of line ${line.line}, ${words}`);
   }
 
-  /** The place behind an event. @private @param {Place} before @param {Change} change */
-  placeOf(before, change) {
-    const place = new Place(this.changes, before, this.performed);
-    if (change.framesChange) place.frames = change.framesChange[1];
-    if (change.gatheredChange) {
-      const [kept, , after] = change.gatheredChange;
-      place.gathered = place.gathered.slice(0, 2 * kept) + after;
-    }
-    if (change.linkChange) place.link = change.linkChange[1];
-    if (change.interruptChange) place.interrupt = change.interruptChange[1];
-    if (place.frames > before.frames) place.arrival = new Frame(place, "stored", before.arrival);
-    if (change.sent !== null) place.sending = new Frame(place, "sent", before.sending);
-    return place;
+  /**
+   * What is wrong with what a record says that an event was: it says the same in words.
+   * @private
+   * @param {Given} given
+   * @param {number} text of it
+   */
+  wordsFault(given, text) {
+    if (this.said[text]?.isLike(given)) return "";
+    const words = wordsOf(given), isSame = isAccess(given) ? given.text.startsWith(words) : given.text === words;
+    if (isSame && text < MOST_SAID) this.said[text] = given;
+    return isSame ? "" : "says in words that it was another than its fields say";
   }
 
-  /** @private @param {Change} change */
-  widen({ memory }) {
-    if (!memory.length) return;
-    const [[first], [last, octets]] = [memory[0], memory[memory.length - 1]];
-    const { touched } = this.run;
-    touched[0] = Math.min(touched[0], first);
-    touched[1] = Math.max(touched[1], last + octets.length / 2);
+  /** What is wrong with what an event says that it changed: each part must find what it says was there. @private */
+  changeFault(given) {
+    return this.registersFault(given) || this.memoryFault(given) || this.framesFault(given) || this.gatheredFault(given)
+      || this.flagFault(given.link, "link") || this.flagFault(given.interrupt, "interrupt");
+  }
+
+  /** @private */
+  widen(number) {
+    const { touched, places } = this.run;
+    touched[0] = Math.min(touched[0], places.from.at(number));
+    touched[1] = Math.max(touched[1], places.to.at(number));
   }
 
   /** The link and the interrupt line stand in registers too. @private */
-  agrees(place, name) {
-    const { state } = this.run;
-    want(((state.at("STATUS") >>> LINK_UP) & 1) === Number(place.link),
-      `${name} leaves a link that STATUS contradicts`);
-    want(((state.at("ICR") & state.at("IMS")) !== 0) === place.interrupt,
-      `${name} leaves an interrupt line that ICR and IMS contradict`);
+  agrees(line) {
+    const { state, places } = this.run, signals = places.signals.at(state.number);
+    if (((state.at("STATUS") >>> LINK_UP) & 1) !== (signals & LINK ? 1 : 0)) {
+      this.fail(line, "leaves a link that STATUS contradicts");
+    }
+    if (((state.at("ICR") & state.at("IMS")) !== 0) !== ((signals & INTERRUPT) !== 0)) {
+      this.fail(line, "leaves an interrupt line that ICR and IMS contradict");
+    }
   }
 
   /** @private */
-  add(step) {
-    const { steps, state, icr, ims } = this.run;
-    steps.push({ ...step, place: state.place });
-    icr.push(state.at("ICR"));
-    ims.push(state.at("IMS"));
+  add(kind, mark, line, performs) {
+    this.run.steps.add(kind, mark, line, performs, this.run.state);
   }
 
-  /** @private */
-  registers(event, name) {
-    const changed = event.registers ?? [];
-    want(Array.isArray(changed), `${name} has no list of registers`);
+  /** @private @param {Given} given */
+  registersFault({ registers: changed }) {
+    const { registers } = this.run.state;
     let last = -1;
-    for (const change of changed) {
-      want(Array.isArray(change) && change.length === 3 && isWord(change[1]) && isWord(change[2]),
-        `${name} has a register that can’t be read`);
-      const index = INDEX_OF.get(change[0]);
-      want(index !== undefined,
-        `${name} names a register ${shortened(JSON.stringify(change[0]), 40)}, which there is not`);
-      want(index > last, `${name} does not have its registers in their order`);
-      want(this.run.state.registers[index] === change[1],
-        `${name} says that ${change[0]} was ${hex(change[1], 8)} before it, and it was `
-        + hex(this.run.state.registers[index], 8));
+    for (let i = 0; i < changed.length; i += 3) {
+      const index = changed[i];
+      if (index <= last) return "does not have its registers in their order";
+      if (registers[index] !== changed[i + 1]) {
+        return `says that ${REGISTERS[index][1]} was ${hex(changed[i + 1], 8)} before it, and it was `
+          + hex(registers[index], 8);
+      }
       last = index;
     }
+    return "";
   }
 
-  /** @private */
-  memory(event, name) {
-    const changed = event.memory ?? [];
-    want(Array.isArray(changed), `${name} has no list of octets`);
+  /** @private @param {Given} given */
+  memoryFault({ pieces, from }) {
     const { memory } = this.run.state;
     let end = 0;
-    for (const change of changed) {
-      want(Array.isArray(change) && change.length === 3 && isNumber(change[0], MOST_MEMORY) && isDigits(change[1])
-        && isDigits(change[2]) && change[1].length === change[2].length, `${name} has octets that can’t be read`);
-      const [address, before] = change;
-      want(address >= end, `${name} does not have its octets in their order`);
-      end = address + before.length / 2;
-      want(address >= memory.base && end <= memory.end, `${name} has octets outside memory`);
-      want(memory.holds(address, before), `${name} says what octets stood at ${addressText(address)} before it, and `
-        + "others did");
+    for (let i = 0; i < pieces.length; i += 4) {
+      const address = pieces[i];
+      if (address < end) return "does not have its octets in their order";
+      end = address + pieces[i + 1];
+      if (address < memory.base || end > memory.end) return "has octets outside memory";
+      if (!memory.holds(address, pieces[i + 1], from, pieces[i + 2])) {
+        return `says what octets stood at ${addressText(address)} before it, and others did`;
+      }
     }
+    return "";
+  }
+
+  /** @private @param {Given} given */
+  framesFault({ frames: change }) {
+    if (change === null) return "";
+    const { number, places } = this.run.state, frames = places.frames.at(number);
+    if (!isNumber(change[1], frames + 1)) return "has a number of frames that can’t be";
+    return change[0] === frames ? "" : `says that ${change[0]} frames waited before it, and ${frames} did`;
+  }
+
+  /** @private @param {Given} given */
+  gatheredFault({ gathered: change }) {
+    if (change === null) return "";
+    const { gathered } = this.run.state.place, [kept, before] = change;
+    if (kept > gathered.length / 2) return "has gathered octets that can’t be read";
+    return gathered.slice(2 * kept) === before ? "" : "says what octets were gathered before it, and others were";
   }
 
   /** @private */
-  frames(event, name) {
-    if (event.frames === undefined) return;
-    const { frames } = this.run.state.place;
-    want(isPair(event.frames, "number") && isNumber(event.frames[1], frames + 1),
-      `${name} has a number of frames that can’t be`);
-    want(event.frames[0] === frames, `${name} says that ${event.frames[0]} frames waited before it, and ${frames} did`);
-  }
-
-  /** @private */
-  gathered(event, name) {
-    if (event.gathered === undefined) return;
-    const { gathered } = this.run.state.place;
-    want(Array.isArray(event.gathered) && event.gathered.length === 3, `${name} has gathered octets that can’t be read`);
-    const [kept, before, after] = event.gathered;
-    want(isNumber(kept, gathered.length / 2) && isDigits(before) && isDigits(after),
-      `${name} has gathered octets that can’t be read`);
-    want(gathered.slice(2 * kept) === before.toUpperCase(), `${name} says what octets were gathered before it, and `
-      + "others were");
-  }
-
-  /** @private */
-  flag(event, field, name) {
-    if (event[field] === undefined) return;
-    want(isPair(event[field], "boolean"), `${name} has a change of the ${field} that can’t be read`);
-    want(event[field][0] === this.run.state.place[field], `${name} says that the ${field} was another before it`);
+  flagFault(change, field) {
+    return change === null || change[0] === this.run.state.place[field] ? ""
+      : `says that the ${field} was another before it`;
   }
 }
 
-function startRegisters(start) {
+/** Whether a line's record has the format's parts. */
+function checkLine(line, name) {
+  if (line.kind !== undefined && !LINE_KINDS.has(line.kind)) fail(`${name} is of no kind that there is`);
+  // (what was read without JSON has the right form)
+  if (line.isGiven) return;
+  if (!isTexts(line.answer)) fail(`the answer of ${name} is no list of texts`);
+  if (line.refused !== undefined && typeof line.refused !== "string") fail(`the refusal of ${name} is no text`);
+  if (!Array.isArray(line.events)) fail(`${name} has no list of events`);
+  for (const field of ["expected", "differs", "source"]) {
+    if (line[field] !== undefined && typeof line[field] !== "string") fail(`“${field}” of ${name} is no text`);
+  }
+}
+
+function startRegisters(start, profile) {
   want(isObject(start) && isObject(start.registers), "it does not say how the registers were at the start");
   const values = new Uint32Array(REGISTERS.length);
   for (const [name, value] of Object.entries(start.registers)) {
-    want(INDEX_OF.has(name), `it names a register ${shortened(JSON.stringify(name), 40)}, which there is not`);
+    want(INDEX_OF.has(name) && isOfProfile(name, profile), `it names a register ${shortened(JSON.stringify(name), 40)}, which there is not`);
     want(isWord(value), `its ${name} at the start is no value of a register`);
     values[INDEX_OF.get(name)] = value;
   }
-  const missing = REGISTERS.find(([, name]) => !Object.hasOwn(start.registers, name));
+  const missing = REGISTERS.find(([, name]) => isOfProfile(name, profile) && !Object.hasOwn(start.registers, name));
   want(!missing, `it does not say how ${missing?.[1]} was at the start`);
   return values;
 }
@@ -362,35 +381,16 @@ function markOf(line) {
   return line.differs ? "differs" : "";
 }
 
-/** Whether what a record says that an event was has the format's fields, and says the same in words. */
-function wasOf(event, name) {
-  want(EVENT_KINDS.has(event.kind), `${name} is of no kind that there is`);
-  want(typeof event.text === "string", `${name} has no text`);
-  const words = wordsOf(event);
-  want(words !== null, `${name} does not say what it was`);
-  const isSame = isAccess(event) ? event.text.startsWith(words) : event.text === words;
-  want(isSame, `${name} says in words that it was another than its fields say`);
-}
-
 const isAccess = (event) => event.kind === "read" || event.kind === "write";
 
-/** What an event was, in words; of an access without its bits. Null where its fields can't be read. */
-function wordsOf(event) {
-  if (isAccess(event)) {
-    const index = INDEX_OF.get(event.register);
-    return index !== undefined && REGISTERS[index][0] === event.offset && isWord(event.value)
-      ? `${event.kind} ${event.register} ${hex(event.value, 8)}` : null;
-  }
-  switch (event.kind) {
-    case "poke":
-      return isNumber(event.address, MOST_MEMORY) && isWord(event.length)
-        ? `poke ${addressText(event.address)} length ${event.length}` : null;
-    case "link":
-      return typeof event.up === "boolean" ? `link ${event.up ? "up" : "down"}` : null;
-    case "arrive":
-      return isWord(event.length)
-        ? `arrive length ${event.length}: ${[event.answer, event.reason ?? []].flat().join(" ")}` : null;
-    default:
-      return `${event.kind}: ${[event.answer, event.descriptor ?? [], event.length ?? []].flat().join(" ")}`;
+/** What an event was, in words; of an access without its bits. @param {Given} given */
+function wordsOf(given) {
+  const { kind, register, value, address, length, up, answer, reason, descriptor } = given;
+  if (isAccess(given)) return `${kind} ${REGISTERS[register][1]} ${hex(value, 8)}`;
+  switch (kind) {
+    case "poke": return `poke ${addressText(address)} length ${length}`;
+    case "link": return `link ${up ? "up" : "down"}`;
+    case "arrive": return `arrive length ${length}: ${[answer, reason ?? []].flat().join(" ")}`;
+    default: return `${kind}: ${[answer, descriptor ?? [], length ?? []].flat().join(" ")}`;
   }
 }

@@ -29,10 +29,11 @@ function groupOf(offset) {
 class Registers {
   constructor(app) {
     this.app = app;
-    this.rows = REGISTERS.map(([offset, name], index) => this.row(offset, name, index));
+    const { profile } = app.run.settings;
+    this.rows = REGISTERS.flatMap(([offset, name], index) => isOfProfile(name, profile) ? [this.row(offset, name, index)] : []);
     this.groups = GROUPS.map(([title], group) => {
       const rows = this.rows.filter((row) => groupOf(row.offset) === group);
-      const element = make("div", { class: "group", role: "group", "aria-label": title },
+      const element = make("div", { class: "group", role: "group", "data-stops": true, "aria-label": title },
         make("h3", {}, title), ...rows.map((row) => row.element));
       return { element, rows };
     });

@@ -1,6 +1,6 @@
 // The script beside its answers, with the present line lit. Only the lines that can be seen are in the page.
 
-const LINE_HEIGHT = 22;
+const LINE_HEIGHT = 24;
 /** How tall the room of all lines is at most, in points: browsers lay out no more than some 17 or 33 million. */
 const MOST_ROOM = 16_000_000;
 const SPARE_LINES = 10;
@@ -33,7 +33,9 @@ class ScriptPanel {
     });
     this.element.addEventListener("click", (event) => {
       const line = event.target.closest("[data-line]");
-      if (line) this.choose(Number(line.dataset.line));
+      if (!line) return;
+      this.app.address.leave();
+      this.choose(Number(line.dataset.line));
     });
     this.element.addEventListener("keydown", (event) => this.keyed(event));
     new ResizeObserver(() => {
@@ -49,9 +51,8 @@ class ScriptPanel {
 
   /** Goes to the state behind a line. A comment's is that of the line before it. */
   choose(number) {
-    const line = this.app.run.lines[number - 1];
-    if (line) this.app.goTo(line.last, false, number);
-    else this.app.goTo(Infinity, false, number);
+    const line = this.app.run.lines.at(number);
+    this.app.goTo(line ? line.last : Infinity, false, number);
   }
 
   /** @private */
@@ -103,7 +104,7 @@ class ScriptPanel {
   /** @private @param {number} shift how much higher a line stands in the room than among all lines */
   option(number, shift) {
     const text = visible(shortened(this.app.run.script[number - 1], MOST_LETTERS));
-    const line = this.app.run.lines[number - 1];
+    const line = this.app.run.lines.at(number);
     const answer = line && line.answer.length
       ? visible(shortened(line.answer[0], 60)) + (line.answer.length > 1 ? ` … ${line.answer.length} lines` : "") : "";
     const mark = line ? line.mark : "";
@@ -125,11 +126,10 @@ class ScriptPanel {
   /** @private */
   paintLine(number, made) {
     const { run, step, line: present } = this.app;
-    const line = run.lines[number - 1];
+    const line = run.lines.at(number);
     const ahead = line ? line.first > step : number > present;
-    const place = line ? run.steps[line.last].place : null;
-    const isGone = line && run.steps[line.last].performs && run.steps[line.last].line === number
-      && place.takenBack <= step;
+    const last = line && run.steps.at(line.last);
+    const isGone = last && last.performs && last.line === number && last.place.takenBack <= step;
     const { option } = made;
     const key = `${number === present} ${ahead} ${isGone}`;
     if (key === made.key) return;

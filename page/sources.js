@@ -1,7 +1,7 @@
 // Where lines come from: each source with its events, to go from one to the next. Only the rows that can be seen are in
 // the page.
 
-const SOURCE_HEIGHT = 22;
+const SOURCE_HEIGHT = 24;
 /** So many rows are seen at once. */
 const MOST_SOURCES = 10;
 /** How wide a letter is, in points, and how many letters the numbers beside a source take. */
@@ -16,30 +16,34 @@ const LEAST_LETTERS = 12;
  * @property {string} file what stands before the number of its line
  * @property {number} line 0 where none can be read
  * @property {number} events how many events its lines performed
- * @property {number[]} steps of these events; where there are none, of its lines
+ * @property {Uint32Array} steps of these events; where there are none, of its lines
  */
 
 /** The sources of a run, by file and line. @param {Run} run @returns {Source[]} */
-function sourcesOf(run) {
-  const found = new Map();
-  run.lines.forEach(({ source, first, last }, index) => {
-    if (!source) return;
-    if (!found.has(source)) found.set(source, { events: [], others: [] });
-    const { events, others } = found.get(source);
-    const own = range(first, last).filter((step) => run.steps[step].line === index + 1);
-    for (const step of own) (run.steps[step].performs ? events : others).push(step);
-    if (!own.length) others.push(last);
-  });
-  return [...found].map(([text, { events, others }]) => (
-    { text, ...placeOf(text), events: events.length, steps: events.length ? events : others })).sort(inOrder);
+function sourcesOf({ lines, steps }) {
+  const found = lines.texts.list.map((text) => (
+    { text, events: new Numbers(Uint32Array), others: new Numbers(Uint32Array) }));
+  for (let number = 1; number <= lines.sources.length; number++) {
+    if (!lines.sources[number - 1]) continue;
+    const { events, others } = found[lines.sources[number - 1]], { first, last } = lines.at(number);
+    let own = 0;
+    for (let step = first; step <= last; step++) {
+      if (steps.lines.at(step) !== number) continue;
+      (steps.performs.at(step) ? events : others).push(step);
+      own += 1;
+    }
+    if (!own) others.push(last);
+  }
+  return found.slice(1).map(({ text, events, others }) => {
+    const { values, length } = events.length ? events : others;
+    return { text, ...placeOf(text), events: events.length, steps: values.slice(0, length) };
+  }).sort(inOrder);
 }
 
-/** The numbers from one to another. */
-function range(first, last) {
-  return Array.from({ length: last - first + 1 }, (_, index) => first + index);
-}
-
-/** The file and the line that a source names, behind a function where there is one: `driver.c:57`, `give(), driver.c:57`. */
+/**
+ * The file and the line that a source names, behind a function where there is one: `driver.c:57`, `give(),
+ * driver.c:57`.
+ */
 function placeOf(text) {
   const [, file, line] = /^(?:before )?(?:.*\), )?(.*):(\d+)(?: .*)?$/su.exec(text) ?? ["", text, "0"];
   return { file, line: Number(line) };
@@ -102,7 +106,7 @@ class Sources {
   choose(index) {
     const { text, steps } = this.list[index];
     const at = (steps.indexOf(this.app.step) + 1) % steps.length;
-    this.app.goTo(steps[at]);
+    this.app.jump(steps[at]);
     this.activate(index);
     const [name, step] = [endOf(text, MOST_LETTERS), shortened(this.app.stepText(), MOST_LETTERS)];
     setText(byId("source-said"), visible(`${name}: ${at + 1} of ${steps.length}, ${step}`));
@@ -134,7 +138,7 @@ class Sources {
   paint() {
     if (!this.list.length) return;
     const { run, step } = this.app;
-    const present = this.indexes.get(run.lines[run.steps[step].line - 1]?.source) ?? -1;
+    const present = this.indexes.get(run.lines.at(run.steps.lines.at(step))?.source) ?? -1;
     const isOther = present !== this.present;
     this.present = present;
     if (isOther && present >= 0) this.activate(present);

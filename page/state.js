@@ -44,25 +44,31 @@ class Memory {
     return octets;
   }
 
-  /** Writes octets, which lie within memory. @param {string} digits */
-  write(address, digits) {
-    for (let at = address, i = 0; i < digits.length; ) {
-      const index = Math.floor(at / PAGE_OCTETS);
-      const page = this.writable(index);
-      const from = at % PAGE_OCTETS;
-      const end = Math.min(PAGE_OCTETS, from + (digits.length - i) / 2);
-      for (let j = from; j < end; j++, i += 2) {
-        page[j] = (DIGIT_OF[digits.charCodeAt(i)] << 4) | DIGIT_OF[digits.charCodeAt(i + 1)];
+  /**
+   * Writes octets, which lie within memory; their digits stand among letters, from a place on.
+   * @param {Uint8Array} letters
+   */
+  write(address, count, letters, from) {
+    for (let at = address, i = from, left = count; left > 0; ) {
+      const page = this.writable(Math.floor(at / PAGE_OCTETS)), first = at % PAGE_OCTETS;
+      const end = Math.min(PAGE_OCTETS, first + left);
+      for (let j = first; j < end; j++, i += 2) {
+        page[j] = (NIBBLES[letters[i]] << 4) | NIBBLES[letters[i + 1]];
       }
-      at += end - from;
+      at += end - first;
+      left -= end - first;
     }
   }
 
-  /** Whether these octets stand there. @param {string} digits */
-  holds(address, digits) {
-    for (let i = 0; i < digits.length; i += 2) {
-      const octet = (DIGIT_OF[digits.charCodeAt(i)] << 4) | DIGIT_OF[digits.charCodeAt(i + 1)];
-      if (this.octet(address + i / 2) !== octet) return false;
+  /** Whether these octets stand there, whose digits stand among letters. @param {Uint8Array} letters */
+  holds(address, count, letters, from) {
+    for (let at = address, i = from, left = count; left > 0; ) {
+      const page = this.page(at), first = at % PAGE_OCTETS, end = Math.min(PAGE_OCTETS, first + left);
+      for (let j = first; j < end; j++, i += 2) {
+        if (page[j] !== ((NIBBLES[letters[i]] << 4) | NIBBLES[letters[i + 1]])) return false;
+      }
+      at += end - first;
+      left -= end - first;
     }
     return true;
   }
@@ -89,18 +95,27 @@ class Memory {
   }
 }
 
-/** Registers and memory at a place. What else a place has stands in the place itself. */
+/** Registers and memory at a place. What else a place has stands in the columns of places. */
 class State {
-  /** @param {Place} root @param {Uint32Array} registers @param {Memory} memory */
-  constructor(root, registers, memory) {
-    this.place = root;
+  /** @param {Places} places @param {Uint32Array} registers at the start @param {Memory} memory */
+  constructor(places, registers, memory) {
+    this.places = places;
+    /** Where it is: the number of the newest event that stands. */
+    this.number = 0;
     this.registers = registers;
     this.memory = memory;
     this.every = SNAPSHOT_EVERY;
-    /** The places that have snapshots, and about how many octets those take. @type {Place[]} */
-    this.kept = [];
+    /**
+     * The snapshots by the numbers of their places, in the order in which they were kept; about how many octets they
+     * take.
+     */
+    this.kept = new Map();
     this.octets = 0;
     this.keep();
+  }
+
+  get place() {
+    return this.places.at(this.number);
   }
 
   /** A register's value by its name, without an array's. */
@@ -109,79 +124,92 @@ class State {
   }
 
   /** Whether a snapshot is to be kept at a place. */
-  isDue(place) {
-    return place.depth % this.every === 0;
+  isDue(number) {
+    return this.places.depth.at(number) % this.every === 0;
   }
 
   /** Keeps a snapshot at this place. */
   keep() {
-    const { memory, registers, place } = this;
+    const { memory, registers } = this;
     this.octets += PAGE_OCTETS * memory.own.size + PAGE_PLACE * memory.pages.size + registers.byteLength;
-    place.snapshot = { registers: registers.slice(), pages: memory.share() };
-    this.kept.push(place);
-    while (this.octets > MOST_SNAPSHOTS && this.kept.length > 2) this.thin();
+    this.kept.set(this.number, { registers: registers.slice(), pages: memory.share() });
+    while (this.octets > MOST_SNAPSHOTS && this.kept.size > 2) this.thin();
   }
 
   /** Drops each second snapshot. @private */
   thin() {
     this.every *= 2;
-    const before = this.kept.length;
-    this.kept = this.kept.filter((place) => {
-      if (!this.isDue(place)) place.snapshot = null;
-      return place.snapshot !== null;
-    });
-    this.octets *= this.kept.length / before;
+    const before = this.kept.size;
+    for (const number of [...this.kept.keys()]) if (!this.isDue(number)) this.kept.delete(number);
+    this.octets *= this.kept.size / before;
   }
 
-  /** @param {Place} place one whose event before is this place @param {Change} change of that event */
-  forward(place, change = place.change) {
-    for (const [index, , after] of change.registers) this.registers[index] = after;
-    for (const [address, , after] of change.memory) this.memory.write(address, after);
-    this.place = place;
+  /**
+   * @param {number} number of an event whose event before is this place
+   * @param {Given|null} given what was read of it just now
+   */
+  forward(number, given = null) {
+    const { changesFrom, changed, now } = this.places, end = changesFrom.at(number + 1);
+    for (let at = changesFrom.at(number); at < end; at++) this.registers[changed.at(at)] = now.at(at);
+    if (given) this.writeGiven(given);
+    else for (const [address, , after] of this.places.memoryOf(number)) this.write(address, after);
+    this.number = number;
+  }
+
+  /** @private @param {Given} given */
+  writeGiven({ pieces, from }) {
+    for (let i = 0; i < pieces.length; i += 4) this.memory.write(pieces[i], pieces[i + 1], from, pieces[i + 3]);
+  }
+
+  /** @private @param {string} digits */
+  write(address, digits) {
+    this.memory.write(address, digits.length / 2, lettersOf(digits), 0);
   }
 
   backward() {
-    const { before, change: { registers, memory } } = this.place;
-    for (let i = registers.length - 1; i >= 0; i--) this.registers[registers[i][0]] = registers[i][1];
-    for (let i = memory.length - 1; i >= 0; i--) this.memory.write(memory[i][0], memory[i][1]);
-    this.place = before;
+    const { number } = this, { before, changesFrom, changed, old } = this.places;
+    const memory = this.places.memoryOf(number), first = changesFrom.at(number);
+    for (let at = changesFrom.at(number + 1) - 1; at >= first; at--) this.registers[changed.at(at)] = old.at(at);
+    for (const [address, octets] of memory) this.write(address, octets);
+    this.number = before.at(number);
   }
 
-  /** Goes to any place: step by step where it is near, and else from the snapshot before it. @param {Place} target */
+  /** Goes to any place: step by step where it is near, and else from the snapshot before it. @param {number} target */
   goTo(target) {
-    const common = lastCommon(this.place, target);
-    const far = this.place.depth - common.depth + target.depth - common.depth;
+    const { depth } = this.places, common = lastCommon(this.places, this.number, target);
+    const far = depth.at(this.number) + depth.at(target) - 2 * depth.at(common);
     if (far > 2 * this.every) {
       this.restoreBefore(target);
     } else {
-      while (this.place !== common) this.backward();
+      while (this.number !== common) this.backward();
     }
-    for (const place of wayTo(this.place, target)) this.forward(place);
+    for (const number of wayTo(this.places, this.number, target)) this.forward(number);
   }
 
   /** @private */
   restoreBefore(target) {
-    let place = target;
-    while (!place.snapshot) place = place.before;
-    this.registers.set(place.snapshot.registers);
-    this.memory.restore(place.snapshot.pages);
-    this.place = place;
+    let number = target;
+    while (!this.kept.has(number)) number = this.places.before.at(number);
+    const { registers, pages } = this.kept.get(number);
+    this.registers.set(registers);
+    this.memory.restore(pages);
+    this.number = number;
   }
 }
 
-/** The newest place that both come from. @returns {Place} */
-function lastCommon(one, other) {
+/** The newest place that both come from. @param {Places} places */
+function lastCommon({ before }, one, other) {
   while (one !== other) {
-    if (one.number >= other.number) one = one.before;
-    else other = other.before;
+    if (one >= other) one = before.at(one);
+    else other = before.at(other);
   }
   return one;
 }
 
-/** The places from behind one to a later one, in their order. @returns {Place[]} */
-function wayTo(from, target) {
+/** The places from behind one to a later one, in their order. @param {Places} places @returns {number[]} */
+function wayTo({ before }, from, target) {
   const way = [];
-  for (let place = target; place !== from; place = place.before) way.push(place);
+  for (let number = target; number !== from; number = before.at(number)) way.push(number);
   return way.reverse();
 }
 
@@ -197,12 +225,17 @@ function waiting(place) {
 /** The newest frames that were sent, the newest first. @returns {Frame[]} */
 function sentFrames(place, most) {
   const frames = [];
-  for (let sending = place.sending; sending && frames.length < most; sending = sending.before) frames.push(sending);
+  for (let { sending } = place; sending && frames.length < most; sending = sending.before) frames.push(sending);
   return frames;
 }
 
 /** By name, the index of a register in the table. */
 const INDEX_OF = new Map(REGISTERS.map(([, name], index) => [name, index]));
+
+/** Whether an adapter of a profile has the register of a name. */
+function isOfProfile(name, profile) {
+  return profile === "adapter" || !BESIDES.has(name);
+}
 
 /** The array that a register is of, or its name where it is of none. */
 function stemOf(name) {

@@ -15,6 +15,7 @@ const FIELDS_BEFORE = ["format", "version", "settings", "script", "start", "line
  * @property {Object} record
  * @property {(take: (line: Object, index: number) => void) => void} each
  * @property {(index: number) => Object} line
+ * @property {(index: number, field: string) => string|undefined} frame the digits of a frame of a line's only event
  * @property {() => Object|undefined} end
  */
 
@@ -37,6 +38,10 @@ class WholeSource {
     return this.record.lines[index];
   }
 
+  frame(index, field) {
+    return this.line(index).events[0][field];
+  }
+
   end() {
     return this.record.end;
   }
@@ -46,16 +51,22 @@ class WholeSource {
 class LineSource {
   /** @param {string[]} parts of the text, each whole lines @param {Object} record what stands before its lines */
   constructor(parts, record) {
-    this.parts = parts;
+    /** The parts that are read, and those that are still to be: their octets go when they were read. */
+    this.parts = [];
+    this.waiting = parts.map((text) => ({ text, octets: null }));
     this.record = record;
     /** By part, which line's record is the first there. @type {number[]} */
     this.firsts = [];
     /** By part, where each record begins and the last one ends. @type {Uint32Array[]} */
     this.starts = [];
-    this.tail = "";
+    /** How many records there were, whether the last one is behind, and what stands there. */
+    this.count = 0;
+    this.isBehind = false;
+    this.tail = [];
     /** The line of the script of the record that was read last. */
     this.behind = 0;
     this.newest = { index: -1, line: null };
+    this.reader = new LineReader();
   }
 
   /** The source of a text that is written line by line, as em_record writes it; null of another one. */
@@ -73,18 +84,26 @@ class LineSource {
   }
 
   each(take) {
-    let index = 0;
-    const ended = this.parts.some((part, at) => {
-      const starts = this.startsOf(part);
-      this.firsts.push(index);
-      this.starts.push(starts);
-      for (let i = 0; i + 1 < starts.length; i++, index++) take(this.read(part, starts[i], starts[i + 1]), index);
-      const end = starts[starts.length - 1];
-      if (end === part.length) return false;
-      this.tail = [part.slice(end + LINES_END.length), ...this.parts.slice(at + 1)].join("");
-      return true;
-    });
-    want(ended, this.cut());
+    for (const part of this.waiting) this.eachOf(part, take);
+    this.waiting = [];
+    want(this.isBehind, this.cut());
+  }
+
+  /** The lines of a further part. @param {Part} part */
+  eachOf({ text, octets = null }, take) {
+    this.parts.push(text);
+    if (this.isBehind) {
+      this.tail.push(text);
+      return;
+    }
+    const starts = this.startsOf(text), letters = octets ?? asciiOf(text);
+    this.firsts.push(this.count);
+    this.starts.push(starts);
+    for (let i = 0; i + 1 < starts.length; i++) take(this.given(letters, text, starts[i], starts[i + 1]), this.count++);
+    const end = starts[starts.length - 1];
+    if (end === text.length) return;
+    this.isBehind = true;
+    this.tail.push(text.slice(end + LINES_END.length));
   }
 
   /** Where the records of a part begin, and where the last one ends. @private */
@@ -100,11 +119,17 @@ class LineSource {
     return Uint32Array.from(starts);
   }
 
+  /** A line's record as it is read first: what is written as em_record does is read at once. @private */
+  given(octets, part, from, to) {
+    const read = octets && this.reader.read(octets, part, from, endOfLetters(octets, from, to));
+    const line = read ?? this.read(part, from, to);
+    this.behind = isObject(line) && Number.isInteger(line.line) ? line.line : this.behind;
+    return line;
+  }
+
   /** The record between two places of a part. @private */
   read(part, from, to) {
-    let end = to;
-    while (end > from && " \n\r".includes(part[end - 1])) end -= 1;
-    if (part[end - 1] === ",") end -= 1;
+    const end = endOfRecord(part, from, to);
     try {
       const line = JSON.parse(part.slice(from, end));
       this.behind = isObject(line) && Number.isInteger(line.line) ? line.line : this.behind;
@@ -128,16 +153,37 @@ class LineSource {
     return this.newest.line;
   }
 
+  /** The digits of a frame are found in the text, and the line is not read. */
+  frame(index, field) {
+    const at = partOf(this.firsts, index), part = this.parts[at], i = index - this.firsts[at];
+    const mark = `"${field}":"`, from = part.indexOf(mark, this.starts[at][i]) + mark.length;
+    if (from < mark.length || from >= this.starts[at][i + 1]) return this.line(index).events[0][field];
+    return part.slice(from, part.indexOf('"', from));
+  }
+
   end() {
     let behind;
     try {
-      behind = JSON.parse(`{${this.tail}`);
+      behind = JSON.parse(`{${this.tail.join("")}`);
     } catch {
       throw new Broken(this.cut());
     }
     want(!FIELDS_BEFORE.some((field) => Object.hasOwn(behind, field)), this.cut());
     return behind.end;
   }
+}
+
+/** The same of a record that is written as em_record does, by its octets: a comma and a newline may stand behind it. */
+function endOfLetters(octets, from, to) {
+  const end = octets[to - 1] === NEWLINE ? to - 1 : to;
+  return octets[end - 1] === COMMA ? end - 1 : end;
+}
+
+/** Where a record ends, without the comma and the blanks behind it. */
+function endOfRecord(part, from, to) {
+  let end = to;
+  while (end > from && " \n\r".includes(part[end - 1])) end -= 1;
+  return part[end - 1] === "," ? end - 1 : end;
 }
 
 /** In which part a record lies, by which is the first of each part. */

@@ -8,16 +8,14 @@ const KINDS = {
 };
 const MARKS = { refused: ["×", "refused"], dropped: ["▾", "dropped"], bad: ["!", "bad line"],
   differs: ["≠", "another answer than it expects"] };
-const CELLS = [3, 5, 8, 12, 18, 28];
-const WIDEST_CELL = 48;
 const LANE = 20;
 const MARK_ROOM = 12;
 const OVERVIEW_HEIGHT = 30;
 const ARC_ROOM = 18;
-/** Where more steps than these stand in a column of the picture of the whole run, the column is drawn once for them. */
-const STEPS_OF_A_COLUMN = 4;
 /** How many reverse steps next to each other have lines of their own. */
 const TRACKS = 3;
+/** How much of their colour steps keep that lie ahead. */
+const AHEAD = 0.45;
 
 /** The colours of the page's style, by name; read again when the scheme changes. */
 const palette = {};
@@ -57,102 +55,90 @@ function sized(canvas, height, width = widthOf(canvas)) {
   return { context, width };
 }
 
-/** Whether a step lies on a branch that was taken back. @param {Step} step */
-function isOnBranch({ kind, place, performs }) {
-  return performs ? place.takenBack !== NEVER : kind === "back";
-}
-
 /** Draws each step of a run. The marks come last, so that none is hidden where steps stand close together. */
 function paintTicks(context, steps, apart) {
   const wide = Math.max(1, apart - (apart > 3 ? 1 : 0));
-  steps.forEach((step, index) => {
-    context.fillStyle = palette[`kind-${step.kind}`];
-    context.fillRect(index * apart, isOnBranch(step) ? 19 : 8, wide, 9);
-  });
-  steps.forEach(({ mark }, index) => {
-    if (!mark) return;
-    context.fillStyle = palette[mark === "dropped" ? "warn" : "bad"];
-    context.fillRect(index * apart, 1, Math.max(2, wide), 5);
-  });
+  for (let index = 0; index < steps.length; index++) {
+    context.fillStyle = palette[`kind-${steps.kind(index)}`];
+    context.fillRect(index * apart, steps.isOnBranch(index) ? 17 : 7, wide, 9);
+  }
+  for (const shown of [...MARK_ORDER].reverse()) {
+    context.fillStyle = markColour(shown);
+    for (let index = 0; index < steps.length; index++) {
+      if (steps.mark(index) === shown) context.fillRect(index * apart, 1, Math.max(2, wide), 5);
+    }
+  }
 }
 
-/** Draws a long run: in each column each kind by its share of the steps there, from the top down, and the worst mark. */
-function paintColumns(context, steps, width) {
-  const kinds = Object.keys(KINDS);
-  const columns = Array.from({ length: Math.ceil(width) }, () => ({ lanes: [new Map(), new Map()], mark: "" }));
-  steps.forEach((step, index) => {
-    const column = columns[Math.floor((index * width) / steps.length)];
-    const lane = column.lanes[isOnBranch(step) ? 1 : 0];
-    lane.set(step.kind, (lane.get(step.kind) ?? 0) + 1);
-    if (step.mark && (column.mark === "" || column.mark === "dropped")) column.mark = step.mark;
-  });
-  columns.forEach(({ lanes, mark }, x) => {
-    lanes.forEach((lane, branch) => {
-      const all = [...lane.values()].reduce((sum, count) => sum + count, 0);
-      let y = branch ? 19 : 8;
-      for (const kind of kinds.filter((one) => lane.has(one))) {
-        const tall = (9 * lane.get(kind)) / all;
-        context.fillStyle = palette[`kind-${kind}`];
-        context.fillRect(x, y, 1, tall);
-        y += tall;
-      }
-    });
-    if (!mark) return;
-    context.fillStyle = palette[mark === "dropped" ? "warn" : "bad"];
-    context.fillRect(x, 1, 2, 5);
-  });
+/** Whether a column has a value. @param {Numbers} column */
+function has({ values, length }, value) {
+  const at = values.indexOf(value);
+  return at >= 0 && at < length;
 }
 
 class Timeline {
   constructor(app) {
     this.app = app;
-    this.zoom = 3;
-    /** the reverse steps that took something back */
-    this.backs = app.run.steps.flatMap((step, index) => (step.kind === "back" && step.back > 0 ? [index] : []));
-    this.hasBranches = app.run.steps.some((step) => step.kind === "back");
+    const { steps } = app.run;
+    this.view = new View(steps);
+    this.whole = new WholeRun(app.run);
+    /** the reverse steps that took something back, and the steps behind which they led */
+    this.backs = Uint32Array.from(steps.backs.keys());
+    this.targets = this.backs.map((index) => steps.events.step.at(steps.places.at(index)));
+    this.hasBranches = has(steps.kinds, KIND_NUMBER.get("back"));
     this.overview = byId("overview");
     this.analyser = byId("analyser");
     this.slider = byId("slider");
-    this.slider.max = String(app.run.steps.length - 1);
+    this.slider.max = String(steps.length - 1);
     this.slider.addEventListener("input", () => app.goTo(Number(this.slider.value)));
     for (const [id, go] of Object.entries({
-      "to-start": () => app.goTo(0), "one-back": () => app.goTo(app.step - 1), "one-on": () => app.goTo(app.step + 1),
-      "to-end": () => app.goTo(Infinity), play: () => this.play(!this.timer),
-      narrower: () => this.zoomBy(-1), wider: () => this.zoomBy(1),
+      "to-start": () => app.jump(0), "one-back": () => app.goTo(app.step - 1), "one-on": () => app.goTo(app.step + 1),
+      "to-end": () => app.jump(Infinity), play: () => this.play(!this.timer),
+      narrower: () => this.zoom(1 / ZOOM_FACTOR), wider: () => this.zoom(ZOOM_FACTOR), whole: () => this.zoom(0),
     })) byId(id).addEventListener("click", go);
-    this.follows(this.overview, (x, width) => Math.floor((x / width) * app.run.steps.length));
-    this.follows(this.analyser, (x) => this.view.first + Math.floor(x / this.view.cell));
+    this.pointer = new Pointer(this);
     this.legend();
-  }
-
-  /** A pointer on a canvas goes where it points, and on as it is drawn. @private */
-  follows(canvas, stepAt) {
-    const go = (event) => {
-      const box = canvas.getBoundingClientRect();
-      this.app.goTo(stepAt(event.clientX - box.left, box.width));
-    };
-    canvas.addEventListener("pointerdown", (event) => {
-      canvas.setPointerCapture(event.pointerId);
-      go(event);
-    });
-    canvas.addEventListener("pointermove", (event) => event.buttons === 1 && canvas === this.overview && go(event));
   }
 
   /** @private */
   legend() {
-    const there = new Set(this.app.run.steps.map((step) => step.kind));
-    const marks = new Set(this.app.run.steps.map((step) => step.mark));
+    const { kinds, marks } = this.app.run.steps;
     byId("kinds").replaceChildren(
-      ...Object.entries(KINDS).filter(([kind]) => there.has(kind) && kind !== "start").map(([kind, [letter, words]]) =>
-        make("li", {}, make("span", { class: `tick kind-${kind}` }, letter), words)),
-      ...Object.entries(MARKS).filter(([mark]) => marks.has(mark)).map(([mark, [sign, words]]) =>
-        make("li", {}, make("span", { class: `tick mark-${mark}` }, sign), words)),
+      ...Object.entries(KINDS).filter(([kind]) => has(kinds, KIND_NUMBER.get(kind)) && kind !== "start")
+        .map(([kind, [letter, words]]) => make("li", {}, make("span", { class: `tick kind-${kind}` }, letter), words)),
+      ...Object.entries(MARKS).filter(([mark]) => has(marks, MARK_KINDS.indexOf(mark))).map(([mark, [sign, words]]) =>
+        make("li", {}, make("span", { class: `tick mark-${mark}` }, sign), this.markButton(mark, words))),
       make("li", {}, make("span", { class: "masked", "aria-hidden": "true" }), "under a cause: IMS lets it through"));
   }
 
-  zoomBy(by) {
-    this.zoom = Math.max(0, Math.min(CELLS.length - 1, this.zoom + by));
-    this.app.paint();
+  /** How many steps came out so; they are sought by it. @private */
+  markButton(mark, words) {
+    const { values, length } = this.app.run.steps.marks, number = MARK_KINDS.indexOf(mark);
+    let count = 0;
+    for (let step = 0; step < length; step++) if (values[step] === number) count += 1;
+    return make("button", { type: "button", "data-find": `is:${mark}`, tabindex: -1, title: "Go to the next one" },
+      `${words} (${count.toLocaleString("en")})`);
+  }
+
+  /** Zooms by a factor about the present step, or to the whole run for 0. */
+  zoom(factor) {
+    this.view.zoom(factor, this.view.middle());
+    this.changed();
+  }
+
+  /** Moves the view by a part of its width. */
+  move(part) {
+    this.view.move(part * this.view.width);
+    this.changed();
+  }
+
+  /** Draws the view anew, once a frame. */
+  changed() {
+    this.frame ??= requestAnimationFrame(() => {
+      this.frame = undefined;
+      this.paint();
+      this.app.wave.paint();
+    });
   }
 
   play(on) {
@@ -174,22 +160,15 @@ class Timeline {
     this.timer = setTimeout(() => this.playOn(), 1000 / Number(byId("speed").value));
   }
 
-  /** Which steps the analyser shows: the first one, how many, and how wide each is. */
-  look(width) {
-    const { step, run } = this.app;
-    // a short run is spread over the whole width
-    const most = Math.max(CELLS[this.zoom], Math.min(WIDEST_CELL, width / run.steps.length));
-    const count = Math.max(1, Math.min(run.steps.length, Math.floor(width / most)));
-    const first = Math.max(0, Math.min(run.steps.length - count, step - Math.floor(count / 2)));
-    this.view = { first, count, cell: most };
-  }
-
   paint() {
     const { app } = this;
-    this.look(widthOf(this.analyser));
+    this.view.look(widthOf(this.analyser), app.step);
     this.slider.value = String(app.step);
     setAttribute(this.slider, "aria-valuetext", app.stepText());
     setText(byId("where"), `event ${app.place.number} · step ${app.step} of ${app.run.steps.length - 1}`);
+    const { first, count } = this.view;
+    setAttribute(this.analyser, "data-first", first.toFixed(3));
+    setAttribute(this.analyser, "data-count", count.toFixed(3));
     this.paintOverview();
   }
 
@@ -200,60 +179,116 @@ class Timeline {
 
   /** @private */
   paintOverview() {
-    const { run, step } = this.app;
-    const { context, width } = sized(this.overview, OVERVIEW_HEIGHT);
+    const { run, step } = this.app, isLong = this.whole.isLong(widthOf(this.overview));
+    const height = isLong ? this.whole.height() : OVERVIEW_HEIGHT;
+    const { context, width } = sized(this.overview, height);
     const apart = width / run.steps.length;
-    context.drawImage(this.wholeRun(width), 0, 0, width, OVERVIEW_HEIGHT);
+    context.drawImage(this.wholeRun(width, height), 0, 0, width, height);
     const { first, count } = this.view;
     context.strokeStyle = palette.dim;
-    context.strokeRect(first * apart + 0.5, 0.5, Math.max(2, count * apart - 1), OVERVIEW_HEIGHT - 1);
+    context.strokeRect(first * apart + 0.5, 0.5, Math.max(2, Math.min(width, count * apart) - 1), height - 1);
     context.fillStyle = palette.accent;
-    context.fillRect(Math.min(width - 2, (step + 0.5) * apart - 1), 0, 2, OVERVIEW_HEIGHT);
+    context.fillRect(Math.min(width - 2, (step + 0.5) * apart - 1), 0, 2, height);
   }
 
-  /** The whole run as a picture, which is drawn once for each width and scheme. @private */
-  wholeRun(width) {
-    const key = `${width} ${palette.version} ${window.devicePixelRatio}`;
+  /** The whole run as a picture, which is drawn once for each width, scheme and search. @private */
+  wholeRun(width, height) {
+    const { run, search } = this.app;
+    const key = `${width} ${palette.version} ${window.devicePixelRatio} ${search.version}`;
     if (this.pictureKey === key) return this.picture;
-    const { run } = this.app;
-    const apart = width / run.steps.length;
     this.pictureKey = key;
     this.picture = new OffscreenCanvas(1, 1);
-    const { context } = sized(this.picture, OVERVIEW_HEIGHT, width);
-    if (apart * STEPS_OF_A_COLUMN < 1) paintColumns(context, run.steps, width);
-    else paintTicks(context, run.steps, apart);
+    const { context } = sized(this.picture, height, width);
+    if (this.whole.isLong(width)) this.whole.paint(context, width);
+    else paintTicks(context, run.steps, width / run.steps.length);
+    context.fillStyle = palette.accent;
+    const apart = width / run.steps.length;
+    for (const x of foundColumns(search.hits.steps, apart)) {
+      context.fillRect(Math.min(x, width - 2), height - FOUND_ROW, Math.max(2, apart - 1), FOUND_ROW);
+    }
     return this.picture;
   }
 
   /** Draws the steps at the top of the analyser. */
   paintSteps(context) {
-    const { first, count, cell } = this.view;
+    const { view } = this;
+    if (view.cell < LEAST_CELL) {
+      this.paintColumns(context);
+    } else {
+      this.paintEach(context);
+      this.paintFound(context);
+    }
+    this.backs.forEach((index, order) => {
+      const to = this.targets[order];
+      const isSeen = (index - to) * view.cell >= LEAST_CELL && to < view.first + view.count && index >= view.first;
+      if (isSeen) this.paintWay(context, index, to, order % TRACKS);
+    });
+  }
+
+  /** Draws many steps by columns: each kind by its share, those that were taken back below. @private */
+  paintColumns(context) {
+    const columns = this.columns();
+    for (let column = 0; column < columns.count; column++) {
+      paintShares(context, columns.kinds, column, MARK_ROOM + 1, LANE - 2);
+      if (this.hasBranches) paintShares(context, columns.gone, column, MARK_ROOM + LANE + 1, LANE - 2);
+    }
+    paintMarks(context, columns, this.whole.marks, 0, MARK_ROOM / Math.max(3, this.whole.marks.length));
+  }
+
+  /** What lies ahead in columns is fainter. */
+  paintAhead(context) {
+    const { view, app: { step } } = this, from = Math.max(0, (step + 1 - view.first) * view.cell);
+    context.globalAlpha = 1 - AHEAD;
+    context.fillStyle = palette.panel;
+    context.fillRect(from, MARK_ROOM, Math.max(0, view.width - from), LANE * (this.hasBranches ? 2 : 1));
+    context.globalAlpha = 1;
+  }
+
+  /** The steps that are shown by columns, which are counted once for a view. @private */
+  columns() {
+    if (this.columnsKey !== this.view.key()) {
+      this.columnsKey = this.view.key();
+      this.counted = columnsOf(this.app.run.steps, this.view, this.view.width);
+    }
+    return this.counted;
+  }
+
+  /** @private */
+  paintEach(context) {
+    const { first, count, cell } = this.view, { steps } = this.app.run;
+    const from = Math.floor(first), end = Math.min(steps.length, Math.ceil(first + count));
     context.textAlign = "center";
     context.textBaseline = "middle";
     context.font = "bold 11px ui-monospace, monospace";
-    for (let index = first; index < first + count; index++) this.paintStep(context, index, (index - first) * cell);
+    for (let index = from; index < end; index++) this.paintStep(context, index, (index - first) * cell);
     context.font = "bold 13px ui-monospace, monospace";
-    for (let index = first; index < first + count; index++) {
-      const { mark } = this.app.run.steps[index];
+    for (let index = from; index < end; index++) {
+      const mark = steps.mark(index);
       if (!mark) continue;
-      context.fillStyle = palette[mark === "dropped" ? "warn" : "bad"];
-      context.fillText(MARKS[mark][0], (index - first + 0.5) * cell, MARK_ROOM / 2 + 1);
+      context.fillStyle = markColour(mark);
+      const x = (index - first) * cell;
+      if (cell >= 8) context.fillText(MARKS[mark][0], x + cell / 2, MARK_ROOM / 2 + 1);
+      else context.fillRect(x, 2, Math.max(2, cell - 1), MARK_ROOM - 4);
     }
-    if (!this.hasBranches) return;
-    this.backs.forEach((index, order) => {
-      const to = this.app.run.steps[index].place.step;
-      if (to < first + count && index >= first) this.paintWay(context, index, to, order % TRACKS);
-    });
+  }
+
+  /** Steps that were found have a line above them. @private */
+  paintFound(context) {
+    const { first, count, cell } = this.view, { steps } = this.app.search.hits;
+    context.fillStyle = palette.accent;
+    for (let at = firstFrom(steps, first - 1); at < steps.length && steps[at] < first + count; at++) {
+      context.fillRect((steps[at] - first) * cell, MARK_ROOM - 1, Math.max(1, cell - 1), 2);
+    }
   }
 
   /** @private */
   paintStep(context, index, x) {
     const { run, step: present } = this.app;
     const { cell } = this.view;
-    const { kind } = run.steps[index];
-    const y = MARK_ROOM + (isOnBranch(run.steps[index]) ? LANE : 0);
+    const kind = run.steps.kind(index);
+    const y = MARK_ROOM + (run.steps.isOnBranch(index) ? LANE : 0);
     const gap = cell >= 8 ? 1 : 0.5;
-    context.globalAlpha = index <= present ? 1 : 0.45;
+    context.globalAlpha = index <= present ? 1 : AHEAD;
     context.fillStyle = palette[`kind-${kind}`];
     if (kind === "look" || kind === "start") context.fillRect(x + cell / 2 - 1, y + 5, 2, LANE - 10);
     else context.fillRect(x + gap, y + 1, cell - 2 * gap, LANE - 2);
@@ -267,13 +302,13 @@ class Timeline {
   /** The way from a reverse step to the event behind which it led. @private */
   paintWay(context, from, to, track) {
     const { first, cell } = this.view;
-    const target = this.app.run.steps[to];
-    const isBranch = target.performs && isOnBranch(target);
+    const { steps } = this.app.run;
+    const isBranch = steps.performs.at(to) === 1 && steps.isOnBranch(to);
     const [start, end] = [from, to].map((index) => (index - first + 0.5) * cell);
     const tip = MARK_ROOM + LANE * (isBranch ? 2 : 1);
     const low = MARK_ROOM + 2 * LANE + 5 + (track * (ARC_ROOM - 8)) / (TRACKS - 1);
     const turn = Math.min(4, Math.abs(start - end) / 2);
-    context.globalAlpha = from <= this.app.step ? 1 : 0.45;
+    context.globalAlpha = from <= this.app.step ? 1 : AHEAD;
     context.strokeStyle = palette.back;
     context.fillStyle = palette.back;
     context.lineWidth = 1.4;
@@ -291,4 +326,32 @@ class Timeline {
     context.lineWidth = 1;
     context.globalAlpha = 1;
   }
+}
+
+/**
+ * The place of the first number that is not below another one, among numbers in their order.
+ * @param {Uint32Array} numbers
+ */
+function firstFrom(numbers, least) {
+  let [low, high] = [0, numbers.length];
+  while (low < high) {
+    const middle = (low + high) >> 1;
+    if (numbers[middle] < least) low = middle + 1;
+    else high = middle;
+  }
+  return low;
+}
+
+/**
+ * Where something was found, in points, each once.
+ * @param {Uint32Array} steps
+ * @param {number} apart points of a step
+ */
+function foundColumns(steps, apart) {
+  const columns = [];
+  for (const step of steps) {
+    const column = apart < 1 ? Math.floor(step * apart) : step * apart;
+    if (columns[columns.length - 1] !== column) columns.push(column);
+  }
+  return columns;
 }

@@ -44,22 +44,25 @@ function watchText(watch) {
   }
 }
 
-/** Whether the event of a place changed what is watched. @param {Place} place @param {Watch} watch */
-function changed(place, watch) {
-  const { before, changes, number } = place;
-  if (before === null) return false;
+/**
+ * Whether an event changed what is watched.
+ * @param {Places} places
+ * @param {number} number of the event
+ * @param {Watch} watch
+ */
+function changed(places, number, watch) {
+  if (number === 0) return false;
+  const isOther = (column, mask = ~0) => ((column.at(number) ^ column.at(places.before.at(number))) & mask) !== 0;
   switch (watch.kind) {
-    case "register":
-      return changes.hasRegister(number, watch.index) && (watch.mask === 0xFFFFFFFF
-        || place.registers.some(([index, old, now]) => index === watch.index && ((old ^ now) & watch.mask) !== 0));
+    case "register": return places.changedRegister(number, watch.index, watch.mask);
     case "octets":
-      return changes.mayTouch(number, watch.address, watch.count)
-        && place.memory.some((piece) => changedWithin(piece, watch.address, watch.count));
-    case "link": return place.link !== before.link;
-    case "interrupt": return place.interrupt !== before.interrupt;
-    case "frames": return place.frames !== before.frames;
-    case "gathered": return place.gathered !== before.gathered;
-    default: return place.sending !== before.sending;
+      return places.mayTouch(number, watch.address, watch.count)
+        && places.memoryOf(number).some((piece) => changedWithin(piece, watch.address, watch.count));
+    case "link": return isOther(places.signals, LINK);
+    case "interrupt": return isOther(places.signals, INTERRUPT);
+    case "frames": return isOther(places.frames);
+    case "gathered": return places.at(number).gathered !== places.at(number).before.gathered;
+    default: return isOther(places.sending);
   }
 }
 
@@ -72,10 +75,10 @@ function changedWithin([address, before, after], from, count) {
   return before.slice(low, high).toUpperCase() !== after.slice(low, high).toUpperCase();
 }
 
-/** The newest place, from this one on back, whose event changed what is watched. @returns {Place|null} */
-function lastChange(place, watch) {
-  for (let at = place; at && at.before; at = at.before) {
-    if (changed(at, watch)) return at;
+/** The newest place, from an event on back, whose event changed what is watched. @returns {Place|null} */
+function lastChange(places, number, watch) {
+  for (let at = number; at !== 0; at = places.before.at(at)) {
+    if (changed(places, at, watch)) return places.at(at);
   }
   return null;
 }
@@ -101,6 +104,7 @@ function sights(state, watch) {
     case "link": return [before, place].map(({ link }) => (link ? "up" : "down"));
     case "interrupt": return [before, place].map(({ interrupt }) => (interrupt ? "1" : "0"));
     case "frames": return [before, place].map(({ frames }) => String(frames));
+    case "gathered": return [before, place].map(({ gathered }) => String(gathered.length / 2));
     default: return [before, place].map(({ sending }) => String(sending?.count ?? 0));
   }
 }

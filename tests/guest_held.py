@@ -79,14 +79,14 @@ def reasons(tally: Tally, room: Path) -> None:
     wire = room / "reasons-wire"
     own = socket.socket(socket.AF_UNIX, socket.SOCK_DGRAM)
     own.bind(str(wire))
-    words = ["access 00010", "frame 4", "refused", "dropped 2", "access EERD", "tail-past-ring", "read-again"]
+    words = ["access 00024", "frame 4", "refused", "dropped 2", "access EERD", "tail-past-ring", "read-again"]
     stops = [word for what in words for word in ("--stop-at", *what.split())]
     guest = Guest(room, "reasons", *stops, "--debugger", debugger(), "--net", f"unix:{wire}.guest:{wire}",
                   stdin=subprocess.DEVNULL)
     qemu = guest.qemu()
     qemu.boot()
     qemu.write(0x14, 1)
-    qemu.read(0x10)
+    qemu.read(0x24)
     qemu.read(0x14, 8)
     qemu.write(0x6000, 1)
     for _ in range(3):
@@ -107,7 +107,7 @@ def reasons(tally: Tally, room: Path) -> None:
     lines = [int(number) for number in re.findall(r"held behind line (\d+) ", told)]
     refused = "an access or a step was refused"
     tally.check("what it is held at", differ({
-        "reasons": (why, ["EERD is accessed", "00010 is accessed", "EERD is accessed", refused,
+        "reasons": (why, ["EERD is accessed", "00024 is accessed", "EERD is accessed", refused,
                           "frame 2 of those that are dropped", "frame 4 of the wire", refused,
                           "warning tail-past-ring: RDT 200 is past the ring of 8, write an index below that", refused]),
         "lines grow": (lines, sorted(lines))}))

@@ -178,6 +178,26 @@ def accesses(tally: Tally, room: Path) -> None:
     counted_run(tally, "accesses, played again", guest.kept, 10)
 
 
+def accesses_of_the_second_profile(tally: Tally, room: Path) -> None:
+    guest = Guest(room, "second-profile", "--profile", "adapter")
+    qemu = guest.qemu()
+    qemu.boot()
+    seen = {"EECD": (qemu.read(0x10), 0x118)}
+    qemu.write(0x10, 0x42)
+    seen["EECD with REQ and CS"] = (qemu.read(0x10), 0x1CA)
+    qemu.write(0x20, 0x08220000)
+    seen["the PHY's word 2"] = (qemu.read(0x20), 0x18220141)
+    seen["no register"] = (qemu.read(0x180), 0)
+    tally.check("accesses of the second profile", differ(seen))
+    qemu.close()
+    ended(tally, "what is told of accesses of the second profile", guest, 0, r"6 accesses of registers, 0 refused")
+    lines = guest.kept.read_text().splitlines()
+    tally.check("what is kept of accesses of the second profile", differ({
+        "the head": (lines[0], "# em_debug --memory 1024G --budget 16777216 --profile adapter --mac 525400123456"),
+        "a write": ("w 00020 08220000" in lines, True), "a read": ("r 00020 = 18220141" in lines, True)}))
+    counted_run(tally, "accesses of the second profile, played again", guest.kept, 4)
+
+
 # ---- rings
 
 
@@ -728,7 +748,7 @@ def files(tally: Tally, room: Path) -> None:
         (["--listen", "x", "--run", "n.em", "--pcap-out", "n.em"], 2, "--pcap-out n.em: it is the file of --run too"),
         (["--run", "a", "--run", "b"], 2, "stands twice"), (["--pc", "--pc"], 2, "--pc stands twice"),
         (["--mac", "525400123456", "--mac", "525400123456"], 2, "stands twice"), (["--irq", "/a:1"] * 5, 2, "four times"), (["--mac", "5254001234"], 2, "12 hexadecimal digits"),
-        (["--slot", "32"], 2, "1 to 31"), (["--irq", "x"], 2, "PATH:NUMBER"), (["--net", "tap", "--", "q"], 2, "user, user,.. or unix"),
+        (["--slot", "32"], 2, "1 to 31"), (["--profile", "linux"], 2, "--profile: table or adapter is wanted"), (["--irq", "x"], 2, "PATH:NUMBER"), (["--net", "tap", "--", "q"], 2, "user, user,.. or unix"),
         (["--listen", "x", "--pc"], 2, "go with a QEMU behind --"), (["--name", "x"], 2, "--symbols is missing"),
         (["--listen", "x", "--net", "user"], 2, "the wire is unix"), (["--qtest", "x", "--", "q"], 2, "goes with --listen"),
         (["--print", "--", "q", "-m", "many"], 2, "its size can't be read"),
@@ -790,5 +810,5 @@ def named(tally: Tally, room: Path) -> None:
             "the run": (kept.read_text(), before)}))
 
 
-PARTS = (config, accesses, rings, standing_still, across, overlaid, received_across, many, waiting, again, by_qtest,
-         capture_in, rubbish, impatient, stubborn, halves, killed, files, printed, named)
+PARTS = (config, accesses, accesses_of_the_second_profile, rings, standing_still, across, overlaid, received_across, many, waiting,
+         again, by_qtest, capture_in, rubbish, impatient, stubborn, halves, killed, files, printed, named)

@@ -22,7 +22,7 @@ PROMPT = b"(em) "
 # what ./em_debug takes with this option; what chooses its program is another matter, which tests/wrapper tries
 TOOLS = ("bash", "env", "cat", "readlink", "mktemp", "rm", "mv", "od", "tail", "awk", "addr2line")
 # and what ./em_page takes besides
-PAGE_TOOLS = ("sed", "sha256sum", "base64", "head")
+PAGE_TOOLS = ("sed", "sha256sum", "base64", "head", "wc")
 HEADER = """\
 __attribute__((always_inline)) static inline uintptr_t put(void) { return caller(); }
 """

@@ -8,10 +8,10 @@ import subprocess
 import unicodedata
 from pathlib import Path
 
-from page_tools import EXAMPLES, Frame, page_of, record_of
+from page_tools import EXAMPLES, Frame, page_of, ready, record_of
 from tally import TOP, Tally
 
-CUTS, MUTATIONS = 200, 500
+CUTS, MUTATIONS, PACKED_LINES = 200, 500, 60_000
 MOST_LETTERS = 300
 # these two stand within words of some scripts; the others of their kind are marks of Arabic and Syriac numbers
 JOINERS = {0x200C, 0x200D, *range(0x600, 0x606), 0x6DD, 0x70F, 0x890, 0x891, 0x8E2}
@@ -206,6 +206,38 @@ def hostile_scripts(tally: Tally, browser, room: Path) -> None:
         else ["it is not"])
 
 
+def packed(tally: Tally, browser, room: Path) -> None:
+    """A long record is packed; where its letters are cut or others, or it is not written line by line, the page says what is
+    wrong, or shows it."""
+    script = "".join(f"poke {4096 + 64 * i % 32768:X} {i % 256:02X}{'A5' * 59}{i % 251:02X}\n"
+        for i in range(PACKED_LINES))
+    record = record_of(script.encode())
+    whole, page = page_of(record), room / "packed.html"
+    begin = whole.index(b'type="application/gzip">') + len(b'type="application/gzip">')
+    end = whole.index(b"</script>", begin)
+    tally.check("a long record is packed", [] if len(record) > 16_777_216 > len(whole)
+        else [f"the page has {len(whole)} octets"])
+    other = whole[: begin + 5000] + b"AAAA" + whole[begin + 5004 :]
+    named = [("whole", whole, False), ("cut", whole[: begin + (end - begin) // 2] + whole[end:], True),
+        ("without octets", whole[:begin] + whole[end:], True),
+             ("with other octets", other, True), ("cut record", page_of(record[: len(record) * 9 // 10]), True),
+             ("not line by line", page_of(json.dumps(json.loads(record)).encode()), False)]
+    for name, octets, must_be_broken in named:
+        page.write_bytes(octets)
+        browser.open(page)
+        ready(browser)
+        shown = browser.run(SHOWS)
+        faults = faults_of(shown, browser.told(), must_be_broken)
+        steps = {"whole": PACKED_LINES, "not line by line": PACKED_LINES}.get(name)
+        faults += [] if steps is None or shown["steps"] == steps else [f"it shows {shown['steps']} steps"]
+        tally.check(f"packed, {name}", faults)
+    (room / "pipe.json").write_bytes(record_of(b"link up\n"))
+    ran = subprocess.run(["bash", "-c", '"$0" --record <(cat "$1")', TOP / "em_page", room / "pipe.json"],
+        stdout=subprocess.PIPE,
+                         check=False)
+    tally.check("a record from a pipe", [] if b'"link up"' in ran.stdout else ["it is not in the page"])
+
+
 def played(tally: Tally, room: Path, record: Path, whole: bytes) -> None:
     """em_page with an em_record beside it, that writes this record or nothing, and ends with a status."""
     top = room / "top"
@@ -219,7 +251,8 @@ def played(tally: Tally, room: Path, record: Path, whole: bytes) -> None:
         ("by a link", room / "link", f'cat "{record}"', 0, whole), ("a bad line", top / "em_page",
             f'cat "{record}"; exit 1', 1, whole),
         ("no record", top / "em_page", "exit 3", 3, b""),
-        ("no record but a text", top / "em_page", "echo em_record 0.1.0", 0, b"em_record 0.1.0\n"), ("no em_record", top / "em_page", None, 69, b""),
+        ("no record but a text", top / "em_page", "echo em_record 0.1.0", 0, b"em_record 0.1.0\n"),
+        ("no em_record", top / "em_page", None, 69, b""),
     ):
         program = top / "em_record"
         program.unlink(missing_ok=True)
@@ -275,12 +308,13 @@ def command_line(tally: Tally, room: Path) -> None:
     record.write_bytes(record_of(EXAMPLES[0].read_bytes()))
     tools = room / "tools"
     tools.mkdir()
-    for tool in "bash sed cat head base64 sha256sum mktemp rm readlink".split():
+    for tool in "bash sed cat head wc base64 sha256sum mktemp rm readlink".split():
         (tools / tool).symlink_to(subprocess.run(["which", tool], stdout=subprocess.PIPE,
             check=True).stdout.decode().strip())
     whole = page_of(record.read_bytes())
     for name, words, env, status, out in (
-        ("bare", ["--record", record], {"PATH": str(tools)}, 0, titled(whole, b"record.json")), ("a file", ["--record", record], None, 0,
+        ("bare", ["--record", record], {"PATH": str(tools)}, 0, titled(whole, b"record.json")),
+        ("a file", ["--record", record], None, 0,
             titled(whole, b"record.json")),
         ("no file", ["--record", room / "none"], None, 3, b""), ("a folder", ["--record", room], None, 3, b""),
         ("no word behind it", ["--record"], None, 2, b""),

@@ -10,7 +10,7 @@ import json
 import re
 import sys
 
-from second_reading import IN_ORDER, IN_WORDS
+from second_reading import IN_ORDER, IN_WORDS, NAMES_BESIDES
 from tally import CRATES, TOP
 
 ARRAYED = re.compile(r"(MTA|VFTA)\[\d+\]|(RAL|RAH)\d+")
@@ -53,15 +53,17 @@ def registers() -> list[tuple[int, str]]:
 def text() -> str:
     lines = ["// The registers by offset, and the bits and fields of those that have them. Written by "
              "tests/page_names.py.", "",
-             "/** @type {[number, string][]} offset and name of each register */", "const REGISTERS = ["]
+             "/** @type {[number, string][]} offset and name of each register, of either profile */", "const REGISTERS = ["]
     line = " "
-    for offset, name in registers():
+    for offset, name in sorted([*registers(), *NAMES_BESIDES.items()]):
         item = f" [0x{offset:x}, {json.dumps(name)}],"
         if len(line) + len(item) > 118:
             lines.append(line)
             line = " "
         line += item
-    lines += [line, "];", "",
+    besides = ", ".join(json.dumps(name) for _, name in sorted(NAMES_BESIDES.items()))
+    lines += [line, "];", "", "/** The names of those that the second profile alone has. */",
+              f"const BESIDES = new Set([{besides}]);", "",
         "/** @type {Object<string, [string, number, number, string][]>} name, high bit, low bit, form; by name",
               " *  without index */", "const FIELDS = {"]
     for name, rows in of_code().items():

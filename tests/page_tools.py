@@ -11,6 +11,15 @@ from tally import CRATES, TOP, run
 BUDGET = 16_777_216
 # in which the record of the longest run is made, and the page of it, beside much other work
 SECONDS = 600
+# whether the page shows a run, or what is wrong, within a second
+READY = """
+const is = () => ['run', 'broken'].some((id) => !document.getElementById(id).hidden);
+return new Promise((done) => {
+  let left = 20;
+  const ask = () => (is() || left-- === 0 ? done(is()) : setTimeout(ask, 50));
+  ask();
+});
+"""
 EXAMPLES = sorted((TOP / "examples").glob("*.em")) + sorted((TOP / "examples" / "broken").glob("*.em"))
 
 
@@ -34,6 +43,14 @@ def page_of(record: bytes) -> bytes:
     ran = subprocess.run([TOP / "em_page", "--record", "-"], input=record, stdout=subprocess.PIPE, check=True,
         timeout=SECONDS)
     return ran.stdout
+
+
+def ready(browser) -> None:
+    """Waits until a page whose record is packed shows it, or says what is wrong."""
+    for _ in range(SECONDS):
+        if browser.run(READY):
+            return
+    sys.exit("a page shows nothing")
 
 
 class Frame:

@@ -1,9 +1,8 @@
 """A page by keyboard alone, with a screen reader's tree, at widths, in both schemes; and how long it takes."""
-import json
 from pathlib import Path
 
 import recorded
-from page_tools import BUDGET, TOP, page_of, record_of
+from page_tools import TOP, page_of, ready, record_of
 from page_names import text as names_text
 from page_names import of_code, of_docs
 from page_states import ASK, GO, LOOK, by_bench
@@ -13,11 +12,15 @@ MANY_ROUNDS, OPEN_SECONDS, STEP_MILLISECONDS, TRIES = 2000, 1.0, 16.0, 6
 # of a long run: what objects of the page may take for an event, and so many lines em_bench reads at most
 EVENTS_OF_A_ROUND, OBJECT_OCTETS, MOST_OF_BENCH, PLACES = 5, 600, 100_000, [0x1000, 0x2000]
 LEAST_CONTRAST = 4.5
+# in points, less what is lost where they are rounded
+LEAST_TARGET = 23.5
 AT = "const { step, event } = document.getElementById('run').dataset; return [Number(step), Number(event)]"
 FOCUS = """
 const one = document.activeElement, style = getComputedStyle(one);
+const controls = one.hasAttribute('data-stops') ? [...one.querySelectorAll('button, summary, a[href]')].filter((control) =>
+  control.offsetParent !== null && !control.disabled).length : 0;
 return { tag: one.tagName, id: one.id, watch: one.dataset.watch ?? '', role: one.getAttribute('role') ?? '',
-  outline: style.outlineStyle };
+  outline: style.outlineStyle, controls };
 """
 # texts that stand on a ground with too little contrast to it; a text's colour is mixed with what shows through it
 CONTRAST = """
@@ -62,6 +65,8 @@ for (const [ink, ground] of [['--adapter-ink', '--adapter'], ['--driver-ink', '-
 return [...new Set(faults)].slice(0, 12);
 """
 STEPS_TIMED = 40
+# so many times Tab is pressed at most to go through the page of an example
+MOST_STOPS = 45
 # (the numbers of its last lines have six digits)
 LONG_SCRIPT = b"#\n" * 99_980 + b"r 00008\n" * 60
 # each in a frame of its own
@@ -134,27 +139,51 @@ def opens_a_call(tally: Tally, browser, room: Path) -> None:
     tally.check("64 of a long call are listed", [] if listed == 64 else [f"{listed} are"])
 
 
+def within(browser, group: dict, faults: list[str]) -> list[dict]:
+    """The controls of a group, to which the arrow down leads one after another; none is left out, and each is seen."""
+    found = []
+    for _ in range(group["controls"]):
+        browser.press("ArrowDown")
+        found.append(browser.run(FOCUS))
+        if found[-1]["outline"] == "none":
+            faults.append(f"the focus can't be seen on {found[-1]}")
+    where = browser.run("""
+      const one = document.activeElement, group = one.closest('[data-stops]');
+      return group ? [...group.querySelectorAll('button, summary, a[href]')].filter((control) => control.offsetParent !== null
+        && !control.disabled).indexOf(one) : -1;""")
+    if group["controls"] and where != group["controls"] - 1:
+        faults.append(f"the arrow down leads to control {where} of {group}")
+    return found
+
+
+def asks_of_rdh(tally: Tally, browser, last: dict) -> None:
+    """Enter on RDH asks about it, and Esc leads back."""
+    browser.run("document.querySelector('[data-register=RDH] button').focus()")
+    browser.press("Enter")
+    told = browser.run("return document.getElementById('who').dataset.event")
+    tally.check("Enter on RDH", [] if told == "14" else [f"it tells event {told}, and not 14"])
+    browser.press("Escape")
+    at = browser.run(AT)
+    tally.check("Escape", [] if at[0] == 15 else [f"it leads to step {at[0]}, and not 15"])
+    last["asked"] = True
+
+
 def by_tab(tally: Tally, browser) -> None:
-    """Every control is reached by Tab, and can be seen to be; a register, an octet and a line are asked about by
-    keys."""
+    """Every control is reached by Tab and by the arrows within a group, and can be seen to be; a register, an octet and a
+    line are asked about by keys."""
     browser.run("document.activeElement.blur(); window.scrollTo(0, 0)")
-    seen, faults = [], []
-    for _ in range(400):
+    seen, faults, stops = [], [], 0
+    for _ in range(120):
         browser.press("Tab")
         focus = browser.run(FOCUS)
         if focus["tag"] == "BODY":
             break
-        seen.append(focus)
+        stops += 1
+        seen += [focus, *within(browser, focus, faults)]
         if focus["outline"] == "none":
             faults.append(f"the focus can't be seen on {focus}")
-        if focus["watch"] == "register RDH" and not any(one.get("asked") for one in seen):
-            focus["asked"] = True
-            browser.press("Enter")
-            told = browser.run("return document.getElementById('who').dataset.event")
-            tally.check("Enter on RDH", [] if told == "14" else [f"it tells event {told}, and not 14"])
-            browser.press("Escape")
-            at = browser.run(AT)
-            tally.check("Escape", [] if at[0] == 15 else [f"it leads to step {at[0]}, and not 15"])
+        if any(one["watch"] == "register RDH" for one in seen) and not any(one.get("asked") for one in seen):
+            asks_of_rdh(tally, browser, seen[-1])
         if focus["role"] == "listbox":
             browser.press("ArrowUp")
             line = browser.run("return document.querySelector('[role=option][aria-selected=true]').dataset.line")
@@ -166,6 +195,7 @@ def by_tab(tally: Tally, browser) -> None:
             from_, to = (int(word.split()[1]) for word in (focus["watch"], moved))
             tally.check("arrows among octets", [] if to == from_ + 17 else [f"they lead from {from_} to {to}"])
     tally.check("the focus is seen", sorted(set(faults)))
+    tally.check("stops of Tab", [] if stops < MOST_STOPS else [f"there are {stops}"])
     ids = {one["id"] for one in seen} | {one["role"] for one in seen} | {one["watch"] for one in seen}
     wanted = {"slider", "play", "to-start", "speed", "script", "address", "zeros", "gridcell", "register RCTL", "link",
               "interrupt", "bits RCTL 2"}
@@ -203,6 +233,27 @@ def widths(tally: Tally, browser, room: Path) -> None:
                   return document.documentElement.scrollWidth;
                 })))));""")
             tally.check(f"{example}, {width} points wide", [] if max(wide) <= width else [f"it takes {max(wide)}"])
+    browser.size(1280, 900)
+
+
+def phone(tally: Tally, browser, room: Path) -> None:
+    """On a phone whatever is chosen has 24 points each way."""
+    browser.size(400, 900)
+    for example in ("driver.em", "broken-ring.em", "broken/ring.em", "transmit.em"):
+        opened(browser, room, example)
+        for part in (0.5, 1):
+            small = browser.run("""
+              const slider = document.getElementById('slider');
+              slider.value = String(Math.floor(arguments[0] * Number(slider.max)));
+              slider.dispatchEvent(new Event('input'));
+              for (const one of document.querySelectorAll('details')) one.open = true;
+              return new Promise((done) => setTimeout(() => done([...document.querySelectorAll(
+                'button, summary, a[href], input, select, [role=gridcell], [role=option]')].filter((one) => one.offsetParent)
+                .map((one) => [`${one.tagName} ${one.id} ${one.className} ${one.textContent.slice(0, 20)}`,
+                  one.getBoundingClientRect().width, one.getBoundingClientRect().height])
+                .filter(([, wide, tall]) => wide < arguments[1] || tall < arguments[1])), 100))""", part, LEAST_TARGET)
+            tally.check(f"{example}, a finger at {part}",
+                [f"{name}: {wide:.0f} by {tall:.0f}" for name, wide, tall in small[:4]])
     browser.size(1280, 900)
 
 
@@ -302,7 +353,10 @@ def long_run(tally: Tally, browser, room: Path, events: int) -> None:
     page.write_bytes(page_of(record_of(script.encode())))
     browser.command("Performance.enable", timeDomain="threadTicks")
     browser.open(page)
-    opened, heap = spent(browser, "TaskDuration"), spent(browser, "JSHeapUsedSize")
+    ready(browser)
+    opened = spent(browser, "TaskDuration")
+    browser.command("HeapProfiler.collectGarbage")
+    heap = spent(browser, "JSHeapUsedSize")
     print(f"{len(lines):,} events: a page of {page.stat().st_size / 1e6:.0f} MB opens in {opened:.1f} s, and its objects "
           f"take {heap / 1e6:.0f} MB")
     each = heap / len(lines)
@@ -326,6 +380,6 @@ def long_run(tally: Tally, browser, room: Path, events: int) -> None:
 
 
 def check_use(tally: Tally, browser, room: Path) -> None:
-    for part in (keyboard, opens_a_call, labels, widths, paper, schemes):
+    for part in (keyboard, opens_a_call, labels, widths, phone, paper, schemes):
         part(tally, browser, room)
     tally.check("the console", browser.told())

@@ -1,7 +1,7 @@
 """What an event was, as a record has it, by a second reading: the fields of its kind in their order, and its text. Names and
 bits of registers are those of docs/names.md."""
 from page_names import of_docs, stem
-from second_reading import IN_WORDS
+from second_reading import IN_WORDS, NAMES_BESIDES
 
 # The fields of each kind of event, in their order.
 FIELDS = {
@@ -11,6 +11,8 @@ FIELDS = {
     "tx": ["kind", "answer", "descriptor", "at", "buffer", "octets", "length"],
 }
 BITS = of_docs()
+# of either profile
+NAMES = IN_WORDS | NAMES_BESIDES
 SPEEDS = (10, 100, 1000, 1000)
 BUFFERS = ((2048, 1024, 512, 256), (2048, 16384, 8192, 4096))
 
@@ -32,7 +34,7 @@ def field(name: str, high: int, low: int, value: int, register: str) -> str:
 
 def valued(offset: int, value: int) -> str:
     """A register with its value, its bits and its fields."""
-    name = IN_WORDS[offset]
+    name = NAMES[offset]
     rows = BITS.get(stem(name), [])
     named = sum((1 << high + 1) - (1 << low) for _, high, low in rows)
     rest = value & ~named if rows else 0
@@ -58,6 +60,6 @@ def spoken(was: dict) -> str:
 
 def noted(was: dict) -> dict:
     """What a record says of an event that was this."""
-    names = {"register": IN_WORDS[was["offset"]]} if "offset" in was else {}
+    names = {"register": NAMES[was["offset"]]} if "offset" in was else {}
     all_of_it = was | names
     return {name: all_of_it[name] for name in FIELDS[was["kind"]] if name in all_of_it} | {"text": spoken(was)}

@@ -6,6 +6,9 @@ manual and from this project's profile.
 """
 import copy
 import re
+from zlib import crc32
+
+from second_parts import Phy, Pins
 
 PAGE = 4096
 LEAST, MOST = 14, 20_000
@@ -13,10 +16,11 @@ MOST_WATCHED = 16
 ROOM = 49_152
 GREATEST = 0xFFFFFFFF
 CTRL, STATUS, EERD, VET = 0x0, 0x8, 0x14, 0x38
+EECD, MDIC = 0x10, 0x20
 ICR, ICS, IMS, IMC = 0xC0, 0xC8, 0xD0, 0xD8
 RCTL, TCTL, TIPG = 0x100, 0x400, 0x410
 RECEIVE, TRANSMIT = 0x2800, 0x3800  # the rings: base low, base high +4, length +8, head +10h, tail +18h
-TXDW, TXQE, LSC, RXDMT0, RXO, RXT0 = 1, 2, 4, 0x10, 0x40, 0x80
+TXDW, TXQE, LSC, RXDMT0, RXO, RXT0, MDAC = 1, 2, 4, 0x10, 0x40, 0x80, 0x200
 MPC, RNBC, RUC, ROC = 0x4010, 0x40A0, 0x40A4, 0x40AC
 GPRC, BPRC, MPRC, GPTC, GORC, GOTC, MPTC, BPTC = 0x4074, 0x4078, 0x407C, 0x4080, 0x4088, 0x4090, 0x40F0, 0x40F4
 # every register that is no array, by its offset and its name in the manual
@@ -39,6 +43,19 @@ MASKS = {VET: 0xFFFF} | {ring + at: mask for ring in (RECEIVE, TRANSMIT)
                          for at, mask in ((0, 0xFFFFFFF0), (8, 0xFFF80), (0x10, 0xFFFF), (0x18, 0xFFFF))}
 MASKS |= {0x5404 + 8 * i: 0x8003FFFF for i in range(16)}
 PLAIN = REGISTERS - COUNTERS - PAIRS - {STATUS, EERD, ICR, ICS, IMS, IMC, *MASKS}
+# the registers that the second profile has besides, and what a write of each keeps that only stores
+NAMES_BESIDES = {
+    EECD: "EECD", MDIC: "MDIC", 0x178: "TXCW", 0x458: "AIT", 0x2160: "FCRTL", 0x2168: "FCRTH", 0x5800: "WUC",
+    0x5808: "WUFC", 0x5820: "MANC", 0x5B50: "SWSM",
+}
+MASKS_BESIDES = {
+    0x178: 0xC000FFFF, 0x458: 0xFFFF, 0x2160: 0x8000FFF8, 0x2168: 0xFFF8, 0x5800: GREATEST, 0x5808: GREATEST,
+    0x5820: GREATEST, 0x5B50: GREATEST,
+}
+# FCAH, FCT, ITR, FCTTV, RDTR, RADV, TIDV and TADV, of which the second profile keeps 16 bits
+NARROW = {0x2C, 0x30, 0xC4, 0x170, 0x2820, 0x282C, 0x3820, 0x382C}
+# where no register lies below this, the second profile reads 0, and a write does nothing
+REACH = 0x20000
 # where the driver that a script starts keeps its rings and buffers
 RX_RING, TX_RING, RX_BUFFERS, TX_BUFFERS, DESCRIPTORS, BUFFER = 0, 0x80, 0x1000, 0x5000, 8, 2048
 IN_ORDER = sorted(REGISTERS)
@@ -56,8 +73,11 @@ class Refused(Exception):
 class State:
     """All that the table speaks of; every part is replaced and never changed in its place."""
 
-    def __init__(self, size: int, mac: bytes) -> None:
+    def __init__(self, size: int, mac: bytes, is_second: bool = False) -> None:
         self.link, self.wire = False, ()
+        self.is_second = is_second
+        self.besides = {*NAMES_BESIDES} if is_second else set()
+        self.pins, self.phy = Pins(), Phy()
         self.pages = (bytes(PAGE),) * (size // PAGE)
         words = [mac[0] | mac[1] << 8, mac[2] | mac[3] << 8, mac[4] | mac[5] << 8] + [0] * 60
         self.words = (*words, (0xBABA - sum(words)) % 65536)
@@ -99,6 +119,10 @@ class State:
     def look(self, offset: int) -> int:
         if offset == STATUS:
             return 0x83 if self.link else 0x81
+        if offset == EECD:
+            return self.pins.read(self.words)
+        if offset == MDIC:
+            return self.phy.mdic
         if offset in (ICS, IMC):
             return 0
         if offset in (GORC, GOTC):
@@ -108,9 +132,18 @@ class State:
         return self.at(offset)
 
 
-def read(s: State, offset: int) -> int:
-    if offset not in REGISTERS:
+def is_lost(s: State, offset: int) -> bool:
+    """Whether an access does nothing, since no register lies there; it is refused where the profile does not answer."""
+    if offset in REGISTERS | s.besides:
+        return False
+    if not s.is_second or offset >= REACH or offset % 4:
         raise Refused("NoRegister")
+    return True
+
+
+def read(s: State, offset: int) -> int:
+    if is_lost(s, offset):
+        return 0
     value = s.look(offset)
     if offset == ICR or offset in COUNTERS:
         s.put(offset, 0)
@@ -121,8 +154,8 @@ def read(s: State, offset: int) -> int:
 
 def write(s: State, offset: int, value: int) -> bool:
     """Performs the write; whether it was a reset."""
-    if offset not in REGISTERS:
-        raise Refused("NoRegister")
+    if is_lost(s, offset):
+        return False
     if offset == CTRL and value >> 26 & 1:
         s.reset()
         return True
@@ -138,8 +171,18 @@ def write(s: State, offset: int, value: int) -> bool:
         s.put(IMS, s.at(IMS) | value & 0x1FFFF)
     elif offset == IMC:
         s.put(IMS, s.at(IMS) & ~value)
+    elif offset == EECD:
+        s.pins = s.pins.write(value)
+    elif offset == MDIC:
+        s.phy = s.phy.write(s.link, value)
+        if value >> 29 & 1:
+            s.raises(MDAC)
     elif offset in MASKS:
         s.put(offset, value & MASKS[offset])
+    elif offset in MASKS_BESIDES:
+        s.put(offset, value & MASKS_BESIDES[offset])
+    elif s.is_second and offset in NARROW:
+        s.put(offset, value & 0xFFFF)
     elif offset in PLAIN:
         s.put(offset, value)
     return False
@@ -176,6 +219,11 @@ def passes_vlan(s: State, frame: bytes) -> bool:
     return bool(s.at(0x5600 + 4 * (identifier // 32)) >> identifier % 32 & 1)
 
 
+def check_sequence(s: State, frame: bytes) -> bytes:
+    """The frame check sequence, where it is stored behind a frame: in the second profile, with SECRC clear."""
+    return crc32(frame).to_bytes(4, "little") if s.is_second and not s.at(RCTL) >> 26 & 1 else b""
+
+
 def arrive(s: State, frame: bytes) -> tuple[str, int]:
     """The answer, and how many octets were stored."""
     if not LEAST <= len(frame) <= MOST:
@@ -199,6 +247,7 @@ def arrive(s: State, frame: bytes) -> tuple[str, int]:
     if s.at(CTRL) >> 30 & 1 and has_vlan_type(s, frame):
         stored, tag = frame[:12] + frame[16:], int.from_bytes(frame[14:16], "big")
     is_empty_ring = s.at(RECEIVE + 0x10) == s.at(RECEIVE + 0x18)
+    stored += check_sequence(s, frame)
     if sum(len(octets) for octets, _ in s.fifo) + len(stored) > ROOM:
         s.count(MPC)
         s.raises(RXO)
@@ -336,7 +385,8 @@ class Session:
 
     def __init__(self, refused: tuple[int, int] = (0, 0), **settings) -> None:
         settings = OPTIONS | settings
-        self.now, self.budget = State(settings["memory"], bytes.fromhex(settings["mac"])), settings["budget"]
+        is_second = settings.get("profile") == "adapter"
+        self.now, self.budget = State(settings["memory"], bytes.fromhex(settings["mac"]), is_second), settings["budget"]
         self.past, self.held, self.performed = [], 0, 0
         # what the event that was performed last was
         self.was = {}
@@ -498,7 +548,7 @@ class Session:
         if name == "line":
             return ["1" if s.at(ICR) & s.at(IMS) else "0"]
         if name == "regs":
-            return [f"{offset:05X} {value:08X}" for offset in IN_ORDER if (value := s.look(offset))]
+            return [f"{offset:05X} {value:08X}" for offset in sorted(REGISTERS | s.besides) if (value := s.look(offset))]
         return [f"wire {len(s.wire)}"] + [frame.hex().upper() for frame in s.wire]
 
     def taken_back(self, args: list[str]) -> list[str] | None:
@@ -649,6 +699,12 @@ def newest_arrival(s: State) -> bytes:
     """The newest frame in the FIFO as it came from the wire: with the tag that was taken out of it."""
     octets, tag = s.fifo[-1]
     return octets if tag is None else octets[:12] + (s.at(VET) << 16 | tag).to_bytes(4, "big") + octets[12:]
+
+
+def kept_of(before: State, data: str, length: str = "") -> bytes:
+    """What newest_arrival tells of such a frame that arrived in this state and was stored."""
+    frame = lengthened(data, length)
+    return frame + check_sequence(before, frame)
 
 
 def lengthened(data: str, length: str = "") -> bytes | None:

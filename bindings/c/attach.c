@@ -223,6 +223,14 @@ em_code em_detach(em_machine *machine) {
   return EM_OK;
 }
 
+/* A copy is where the machine is, and has nothing of the caller's: neither memory that is attached nor a kept run. */
+em_code em_copy(const em_machine *machine, em_machine *copy) {
+  if (copy->state & CALLING) return EM_BUSY;
+  em_code why = proved_copy(machine, copy);
+  if (why == EM_OK) copy->state = machine->state & ~(uint32_t)(ATTACHED | CALLING | KEPT);
+  return why;
+}
+
 void em_free(em_machine *machine) {
   if (machine->state & CALLING) return;
   keep_no_more(machine);
@@ -285,6 +293,16 @@ em_code em_make_at_with_eeprom(em_machine *machine, uint64_t base, uint64_t memo
   return UNLESS_CALLING(begun(machine, budget, proved_make_at_with_eeprom(machine, base, memory, budget, words)));
 }
 
+em_code em_make_as(em_machine *machine, uint32_t profile, uint64_t base, uint64_t memory, uint64_t budget,
+                   const uint8_t mac[6]) {
+  return UNLESS_CALLING(begun(machine, budget, proved_make_as(machine, profile, base, memory, budget, mac)));
+}
+
+em_code em_make_as_with_eeprom(em_machine *machine, uint32_t profile, uint64_t base, uint64_t memory, uint64_t budget,
+                               const uint16_t words[64]) {
+  return UNLESS_CALLING(begun(machine, budget, proved_make_as_with_eeprom(machine, profile, base, memory, budget, words)));
+}
+
 /* what touches no memory of the caller's */
 #define PASSED(call, parameters, ...) \
   em_code em_##call parameters { return UNLESS_CALLING(BY_KEEPING(machine, call, __VA_ARGS__)); }
@@ -321,3 +339,5 @@ em_code em_write_sized(em_machine *machine, uint32_t offset, uint32_t octets, ui
 em_code em_wire_next(em_machine *machine, uint8_t *out, size_t room, size_t *length) {
   return UNLESS_CALLING(proved_wire_next(machine, out, room, length));
 }
+
+em_code em_let_go(em_machine *machine, size_t *count) { return UNLESS_CALLING(proved_let_go(machine, count)); }

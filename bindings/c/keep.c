@@ -105,12 +105,14 @@ static em_code read_word(em_machine *machine, uint32_t address, uint16_t *word, 
 
 static em_code put_head(em_machine *machine, kept *run) {
   uint16_t words[WORDS];
+  uint32_t profile = 0;
   uint64_t base = 0, size = 0;
-  em_code why = em_memory_base(machine, &base);
+  em_code why = em_profile(machine, &profile);
+  if (why == EM_OK) why = em_memory_base(machine, &base);
   if (why == EM_OK) why = em_memory_size(machine, &size);
   for (uint32_t i = 0; i < WORDS && why == EM_OK; i++) why = read_word(machine, i, &words[i], &run->counter);
   if (why != EM_OK) return why;
-  kept_head(base, size, machine->state >> BUDGET, words, &run->text);
+  kept_head(profile, base, size, machine->state >> BUDGET, words, &run->text);
   put_lines(run);
   return run->file < 0 ? EM_FILE : EM_OK;
 }

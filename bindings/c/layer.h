@@ -15,6 +15,9 @@ PROVED(make);
 PROVED(make_with_eeprom);
 PROVED(make_at);
 PROVED(make_at_with_eeprom);
+PROVED(make_as);
+PROVED(make_as_with_eeprom);
+PROVED(copy);
 PROVED(free);
 PROVED(read);
 PROVED(write);
@@ -32,6 +35,7 @@ PROVED(run_tx);
 PROVED(back);
 PROVED(tag);
 PROVED(wire_next);
+PROVED(let_go);
 
 /* What a handle's state has: whether memory is attached, or a function of it is being called (one of these two at most);
    whether the run is kept, in which case the handle has a `kept` in the place of what is attached; whether events were taken

@@ -47,6 +47,7 @@ const char *em_strerror(em_code code) {
     case EM_CAPTURE_LINK: return "CaptureLink: the capture's link type is not Ethernet";
     case EM_CAPTURE_LENGTH: return "CaptureLength: a captured length is too large";
     case EM_CAPTURE_INTERFACE: return "CaptureInterface: a packet's interface is not described";
+    case EM_NO_PROFILE: return "NoProfile: the profiles are 0, the table, and 1, the adapter";
     default: return "Unknown: no refusal has the number";
   }
 }

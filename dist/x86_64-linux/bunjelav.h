@@ -149,6 +149,7 @@ typedef enum em_code {
   EM_CAPTURE_LINK = 54, /* the capture has another link type than Ethernet */
   EM_CAPTURE_LENGTH = 55, /* a packet has more octets than the snap length or its block allows */
   EM_CAPTURE_INTERFACE = 56, /* a packet is of an interface that its section has not described */
+  EM_NO_PROFILE = 57, /* there is no profile of the number: they are of enum em_profiles */
   EM_CODE_WIDE = 0x7FFFFFFF /* none: it gives the type 32 bits, in which numbers of later versions have room */
 } em_code;
 
@@ -210,6 +211,34 @@ EM_CHECKED em_code em_make_at(em_machine *machine, uint64_t base, uint64_t memor
 EM_CHECKED em_code em_make_at_with_eeprom(em_machine *machine, uint64_t base, uint64_t memory, uint64_t budget,
                                           const uint16_t words[64]);
 
+/* Which registers an adapter has, and what their accesses do (docs/device.md). A machine keeps the profile that it is made
+   of. The numbers stay as they are. */
+typedef enum em_profiles {
+  EM_PROFILE_TABLE = 0,  /* what a polled driver in user space needs */
+  EM_PROFILE_ADAPTER = 1 /* what the drivers of operating systems need besides: EECD, MDIC and others */
+} em_profiles;
+
+/* The same two as em_make_at of a profile of enum em_profiles; em_make and the others make a machine of EM_PROFILE_TABLE.
+   Refused as EM_MADE_ALREADY, EM_NO_PROFILE, EM_SIZE, EM_BUDGET or EM_MEMORY, the first that holds. */
+EM_CHECKED em_code em_make_as(em_machine *machine, uint32_t profile, uint64_t base, uint64_t memory, uint64_t budget,
+                              const uint8_t mac[6]);
+EM_CHECKED em_code em_make_as_with_eeprom(em_machine *machine, uint32_t profile, uint64_t base, uint64_t memory,
+                                          uint64_t budget, const uint16_t words[64]);
+
+/* The number of the profile that the machine is of. Constant. */
+EM_CHECKED em_code em_profile(const em_machine *machine, uint32_t *profile);
+
+/* Makes a machine that is equal to the one that `machine` holds, in the handle `copy`, which holds none: in all that calls
+   tell of it; in its journal, so that it goes back as far and to the same states, with the same notes; in the tag of the
+   next events, and in how far em_wire_next has come. From then on neither knows what becomes of the other: the copy can
+   go back and be looked at while the first one goes on.
+   The copy's guest memory is its own, with the octets that em_peek tells of the machine. Memory that is attached to
+   `machine` is not attached to the copy, and where the run of `machine` is kept, that of the copy is not.
+   Refused as EM_MADE_ALREADY, EM_NOT_MADE or EM_MEMORY, the first that holds, and nothing is left of a copy then; and as
+   EM_BUSY within a function of memory that is attached to what `copy` holds. Cost: the copy takes as much memory as the
+   machine has, and the time to copy it: the journal's octets, records and notes, and the pages that were written. */
+EM_CHECKED em_code em_copy(const em_machine *machine, em_machine *copy);
+
 /* Frees the machine that the handle holds, if it holds one; then it holds none, and may be made again. Cost: the
    journal's records, and the pages that were written. */
 void em_free(em_machine *m);
@@ -239,7 +268,7 @@ typedef struct em_register {
 
 /* All registers that are not zero, by offset: at most EM_REGISTERS of them. Where `room` is too small it is refused as
    EM_ROOM, and `count` tells how much is needed. It is no event. The cost is that of some thousand looks. */
-#define EM_REGISTERS 350
+#define EM_REGISTERS 360
 EM_CHECKED em_code em_registers(const em_machine *machine, em_register *out, size_t room, size_t *count);
 
 /* ---- rings; constant */
@@ -409,6 +438,13 @@ EM_CHECKED em_code em_wire_frame(const em_machine *machine, size_t index, uint8_
    new one, and is handed over too. It is no event, and nothing that em_back takes back. The cost is that of copying the
    frame. */
 EM_CHECKED em_code em_wire_next(em_machine *machine, uint8_t *out, size_t room, size_t *length);
+
+/* Lets go of the octets of the frames that were sent before all that em_back can reach, and tells how many frames these
+   are: the first ones. A machine keeps every octet that it sent otherwise. They are counted as before, and the others keep
+   their places, but em_wire_frame gives them a length of 0, and em_wire_next does not hand them over any more: take them
+   first. The memory is used again for frames that are sent later. It is no event, and em_back does not bring the octets
+   back. The cost is a look into each event that can be taken back, and that of moving the octets that stay. */
+EM_CHECKED em_code em_let_go(em_machine *machine, size_t *count);
 
 /* ---- captures
 
@@ -698,6 +734,12 @@ typedef struct em_fifo_state {
 /* How many frames wait in the FIFO, what the first of them is, and how many octets are gathered. Constant. */
 EM_CHECKED em_code em_fifo(const em_machine *machine, em_fifo_state *fifo);
 
+/* How many octets have room in the FIFO now: 49,152 less those of the frames that wait, each of which counts whole until its
+   last octet is in guest memory. A frame that is accepted is stored where no more of it are stored than that, and else it is
+   EM_MISSED. All of a frame's octets are stored, but for the 4 of a VLAN tag that CTRL.VME has taken out: so a frame of
+   `octets` octets finds room, whatever it is. A virtual machine that asks before it delivers loses none. Constant. */
+EM_CHECKED em_code em_fifo_room(const em_machine *machine, size_t *octets);
+
 /* Copies the first frame that waits to the head of `out`, and tells its length, 0 where none waits. Where `room` is too
    small it is refused as EM_ROOM, and `length` tells how much is needed: 20,000 octets at most. */
 EM_CHECKED em_code em_fifo_frame(const em_machine *machine, uint8_t *out, size_t room, size_t *length);
@@ -781,7 +823,7 @@ static inline em_machine *em_from(em_machine *machine, const char *file, uint32_
 #define EM_RUN_TX(machine, n, done) em_run_tx(EM_HERE(machine), (n), (done))
 #define EM_BACK(machine, n, done) em_back(EM_HERE(machine), (n), (done))
 
-/* ---- names; no machine is needed */
+/* ---- names, of the registers of either profile; no machine is needed */
 
 /* The manual's name of the register at an offset, with a zero octet behind it: MTA[5], RAL0. None has more than 9
    letters; `length` tells how many, without the zero. Where `room` is too small for both it is refused as EM_ROOM, and

@@ -46,16 +46,21 @@ static bool is_busy(em_machine *m) {
   uint32_t refused[] = {
     em_make(m, MEMORY, BUDGET, MAC), em_make_with_eeprom(m, MEMORY, BUDGET, words), em_read(m, STATUS, &value),
     em_make_at(m, 4096, MEMORY, BUDGET, MAC), em_make_at_with_eeprom(m, 4096, MEMORY, BUDGET, words),
+    em_make_as(m, EM_PROFILE_ADAPTER, 0, MEMORY, BUDGET, MAC),
+    em_make_as_with_eeprom(m, EM_PROFILE_ADAPTER, 0, MEMORY, BUDGET, words),
     em_write(m, IMS, 1), em_poke(m, 0, octets, 1), em_sync_in(m, ram, MEMORY, &n),
     em_sync_in_range(m, 0, octets, 1, &n), em_arrive(m, ram, 60, &note), em_set_link(m, false), em_rx_step(m, &note),
     em_tx_step(m, &note), em_run_rx(m, 1, &n), em_run_tx(m, 1, &n), em_back(m, 1, &n), em_tag(m, 5),
     em_read_sized(m, STATUS, 4, &size), em_write_sized(m, IMS, 4, 1), em_wire_next(m, octets, sizeof octets, &n),
-    em_attach(m, &none), em_detach(m)
+    em_let_go(m, &n), em_attach(m, &none), em_detach(m), em_copy(m, m)
   };
   for (size_t i = 0; i < sizeof refused / sizeof *refused; i++) {
     if (refused[i] != EM_BUSY) return false;
   }
   em_free(m);
+  em_machine copy = EM_NO_MACHINE;
+  if (em_copy(m, &copy) != EM_OK || em_look(&copy, STATUS, &value) != EM_OK) return false;
+  em_free(&copy);
   return em_look(m, STATUS, &value) == EM_OK && value == 0x83 && em_peek(m, 0, octets, 1) == EM_OK
     && em_memory_size(m, &size) == EM_OK && em_can_go_back(m, &n) == EM_OK && em_written(m, 0, ranges) == EM_OK
     && em_pcap_write(m, "/dev/null", NULL) == EM_OK;
@@ -284,6 +289,33 @@ static void refuses_calls_back(void) {
   OK(em_read(&machine, STATUS, &event.value));
   em_free(&machine);
   CHECK(!machine.made && machine.state == 0);
+}
+
+/* A copy has octets of its own, those that the machine has. */
+static void copies_no_memory(void) {
+  em_machine machine = attached(&by_calls), copy = EM_NO_MACHINE;
+  uint8_t octets[6];
+  em_note event;
+  size_t done, asked;
+  receive_one(&machine, 60);
+  OK(em_rx_step(&machine, &event));
+  OK(em_copy(&machine, &copy));
+  asked = there.asked;
+  OK(em_poke(&copy, 0x3000, MAC, 6));
+  OK(em_back(&copy, 2, &done));
+  CHECK(done == 2 && there.asked == asked && ram[0x3000] != MAC[0]);
+  /* the step that was taken back wrote to a buffer; the caller's memory has still what it wrote */
+  OK(em_peek(&copy, BUFFER, octets, 6));
+  CHECK(octets[0] != 0xFF && ram[BUFFER] == 0xFF);
+  OK(em_back(&copy, SIZE_MAX, &done));
+  OK(em_back(&machine, 1, &done));
+  CHECK(there.asked > asked && ram[BUFFER] != 0xFF);
+  /* memory of its own can be attached to it */
+  OK(em_attach(&copy, &by_regions));
+  OK(em_poke(&copy, 0x3000, MAC, 6));
+  CHECK(ram[0x3000] == MAC[0]);
+  em_free(&copy);
+  em_free(&machine);
 }
 
 static void refuses_what_is_no_memory(void) {
@@ -618,6 +650,7 @@ int main(void) {
   refuses_each_range();
   keeps_the_steps_before();
   refuses_calls_back();
+  copies_no_memory();
   refuses_what_is_no_memory();
   pokes();
   goes_back();

@@ -67,6 +67,51 @@ static void makes_at_a_base(void) {
   CHECK(blocks == 0);
 }
 
+/* a machine of each profile, its registers, and what comes first of two refusals */
+static void makes_of_a_profile(void) {
+  enum { EECD = 0x10, MDIC = 0x20 };
+  em_machine machine = EM_NO_MACHINE;
+  uint16_t words[64] = {0x5452, 0x1200, 0x5634};
+  uint32_t profile = 7, value = 7;
+  uint64_t base = 7;
+  size_t count = 0;
+  static em_register all[EM_REGISTERS];
+  REFUSED(em_make_as(&machine, 2, 4095, 4096, 5, MAC), EM_NO_PROFILE);
+  REFUSED(em_make_as(&machine, UINT32_MAX, 0, 4096, BUDGET, MAC), EM_NO_PROFILE);
+  REFUSED(em_make_as_with_eeprom(&machine, 2, 0, 4096, BUDGET, words), EM_NO_PROFILE);
+  REFUSED(em_make_as(&machine, EM_PROFILE_ADAPTER, 4095, 4096, 5, MAC), EM_SIZE);
+  REFUSED(em_make_as(&machine, EM_PROFILE_ADAPTER, 4096, 4096, 5, MAC), EM_BUDGET);
+  REFUSED(em_profile(&machine, &profile), EM_NOT_MADE);
+  CHECK(!machine.made && profile == 7);
+  OK(em_make_as(&machine, EM_PROFILE_ADAPTER, 4096, 8192, BUDGET, MAC));
+  REFUSED(em_make_as(&machine, 2, 0, 4096, BUDGET, MAC), EM_MADE_ALREADY);
+  REFUSED(em_make_as_with_eeprom(&machine, EM_PROFILE_TABLE, 0, 4096, BUDGET, words), EM_MADE_ALREADY);
+  OK(em_profile(&machine, &profile));
+  OK(em_memory_base(&machine, &base));
+  CHECK(profile == EM_PROFILE_ADAPTER && base == 4096 && read_of(&machine, RAL0) == 0x12005452);
+  OK(em_write(&machine, MDIC, 0x08220000)); /* the PHY's word 2 is read */
+  OK(em_write(&machine, EECD, 0x42));       /* REQ and CS */
+  OK(em_look(&machine, MDIC, &value));
+  CHECK(value == 0x18220141 && read_of(&machine, EECD) == 0x1CA);
+  OK(em_registers(&machine, all, EM_REGISTERS, &count));
+  CHECK(count > 3 && all[0].offset == STATUS && all[1].offset == EECD && all[1].value == 0x1CA);
+  OK(em_back(&machine, 2, &count));
+  CHECK(count == 2 && read_of(&machine, EECD) == 0x118);
+  em_free(&machine);
+  OK(em_make_as_with_eeprom(&machine, EM_PROFILE_TABLE, 0, UINT64_C(1) << 40, BUDGET, words));
+  OK(em_profile(&machine, &profile));
+  CHECK(profile == EM_PROFILE_TABLE && read_of(&machine, RAL0) == 0x12005452);
+  REFUSED(em_read(&machine, EECD, &value), EM_NO_REGISTER);
+  REFUSED(em_write(&machine, MDIC, 0), EM_NO_REGISTER);
+  em_free(&machine);
+  OK(em_make(&machine, MEMORY, BUDGET, MAC));
+  profile = 7;
+  OK(em_profile(&machine, &profile));
+  CHECK(profile == EM_PROFILE_TABLE);
+  em_free(&machine);
+  CHECK(blocks == 0);
+}
+
 /* each call of a handle that holds no machine */
 static void refuses_an_empty_handle(void) {
   em_machine machine = EM_NO_MACHINE;
@@ -101,6 +146,7 @@ static void refuses_an_empty_handle(void) {
   REFUSED(em_wire_count(&machine, &count), EM_NOT_MADE);
   REFUSED(em_wire_frame(&machine, 0, octets, 14, &count), EM_NOT_MADE);
   REFUSED(em_wire_next(&machine, octets, 14, &count), EM_NOT_MADE);
+  REFUSED(em_let_go(&machine, &count), EM_NOT_MADE);
   REFUSED(em_back(&machine, 1, &count), EM_NOT_MADE);
   REFUSED(em_can_go_back(&machine, &count), EM_NOT_MADE);
   REFUSED(em_run_rx(&machine, 1, &count), EM_NOT_MADE);
@@ -581,6 +627,52 @@ static void hands_frames_over(void) {
   em_free(&machine);
 }
 
+/* as many frames were let go */
+static bool lets_go(em_machine *machine, size_t count) {
+  size_t told = 7;
+  return em_let_go(machine, &told) == EM_OK && told == count;
+}
+
+static bool is_frame(em_machine *machine, size_t index, size_t length, uint8_t octet) {
+  uint8_t out[100] = {0};
+  size_t told = 7;
+  return em_wire_frame(machine, index, out, sizeof out, &told) == EM_OK && told == length && out[0] == octet;
+}
+
+/* frames that no step back reaches keep their places, and no octet */
+static void lets_frames_go(void) {
+  em_machine machine = EM_NO_MACHINE;
+  size_t count, done;
+  OK(em_make(&machine, MEMORY, 65536, MAC)); /* so the journal has 2048 events of the least cost */
+  OK(em_write(&machine, TDBAL, TX_RING));
+  OK(em_write(&machine, TDLEN, 16 * DESCRIPTORS));
+  OK(em_write(&machine, TCTL, TCTL_EN));
+  CHECK(lets_go(&machine, 0));
+  send_packet(&machine, 0, 60, 1);
+  send_packet(&machine, 1, 61, 2);
+  CHECK(lets_go(&machine, 0) && is_frame(&machine, 0, 60, 1) && is_frame(&machine, 1, 61, 2));
+  CHECK(is_next(&machine, 60, 1));
+  for (int i = 0; i < 2048; i++) (void)read_of(&machine, STATUS);
+  size_t before = reach(&machine);
+  CHECK(before == 2048 && lets_go(&machine, 2) && reach(&machine) == before);
+  OK(em_wire_count(&machine, &count));
+  CHECK(count == 2 && is_frame(&machine, 0, 0, 0) && is_frame(&machine, 1, 0, 0) && is_none_next(&machine));
+  /* a frame that is sent then is the third, and one that steps back reach stays */
+  send_packet(&machine, 2, 62, 3);
+  CHECK(lets_go(&machine, 2) && is_frame(&machine, 1, 0, 0) && is_frame(&machine, 2, 62, 3));
+  CHECK(is_next(&machine, 62, 3) && is_none_next(&machine));
+  OK(em_back(&machine, 1, &done));
+  OK(em_wire_count(&machine, &count));
+  CHECK(done == 1 && count == 2 && lets_go(&machine, 2));
+  OK(em_run_tx(&machine, 9, &done));
+  CHECK(done == 1 && is_frame(&machine, 2, 62, 3) && is_next(&machine, 62, 3));
+  OK(em_back(&machine, SIZE_MAX, &done));
+  CHECK(reach(&machine) == 0 && is_frame(&machine, 0, 0, 0));
+  OK(em_wire_count(&machine, &count));
+  CHECK(count == 2 && lets_go(&machine, 2) && is_none_next(&machine));
+  em_free(&machine);
+}
+
 static void goes_back(void) {
   em_machine machine = made();
   size_t done = 7;
@@ -720,7 +812,7 @@ static void names_registers_and_refusals(void) {
   REFUSED(em_refusal(7, room, sizeof room, &length), EM_NO_REFUSAL);
   for (uint32_t code = 0, known = 0; code < 1000; code++) {
     known += em_refusal(code, room, sizeof room, &length) == EM_OK;
-    if (code == 999) CHECK(known == 39); /* as many as enum em_code has, without EM_OK */
+    if (code == 999) CHECK(known == 40); /* as many as enum em_code has, without EM_OK */
   }
 }
 
@@ -750,6 +842,96 @@ static void has_its_layouts(void) {
   CHECK(sizeof(em_fifo_state) == 32 && sizeof(em_field_row) == 24 && sizeof(em_difference) == 72);
 }
 
+/* ---- a machine like another one */
+
+/* Both tell the same, and so they do behind each step back, up to the first event. */
+static void go_back_alike(em_machine *one, em_machine *other) {
+  static uint8_t octets[2][MEMORY];
+  em_note notes[2];
+  size_t counts[2], done;
+  do {
+    OK(em_can_go_back(one, &counts[0]));
+    OK(em_can_go_back(other, &counts[1]));
+    CHECK(counts[0] == counts[1]);
+    OK(em_peek(one, 0, octets[0], MEMORY));
+    OK(em_peek(other, 0, octets[1], MEMORY));
+    CHECK(memcmp(octets[0], octets[1], MEMORY) == 0);
+    for (uint32_t offset = 0; offset < 0x5900; offset += 4) {
+      uint32_t values[2] = {7, 7};
+      MUST(em_look(one, offset, &values[0]) == em_look(other, offset, &values[1]) && values[0] == values[1]);
+    }
+    OK(em_wire_count(one, &done));
+    OK(em_wire_count(other, &counts[1]));
+    CHECK(done == counts[1]);
+    if (counts[0] == 0) return;
+    OK(em_event(one, 0, &notes[0]));
+    OK(em_event(other, 0, &notes[1]));
+    CHECK(notes[0].tag == notes[1].tag && notes[0].at == notes[1].at && notes[0].kind == notes[1].kind);
+    OK(em_back(one, 1, &done));
+    OK(em_back(other, 1, &done));
+  } while (done == 1);
+  CHECK(done == 1);
+}
+
+static void copies(void) {
+  em_machine machine = EM_NO_MACHINE, copy = EM_NO_MACHINE, third = EM_NO_MACHINE;
+  static uint8_t frame[1500], out[2048];
+  em_note event;
+  size_t n;
+  REFUSED(em_copy(&machine, &copy), EM_NOT_MADE);
+  REFUSED(em_copy(&machine, &machine), EM_NOT_MADE);
+  CHECK(!machine.made && !copy.made);
+  machine = made();
+  REFUSED(em_copy(&machine, &machine), EM_MADE_ALREADY);
+  set_receiving(&machine);
+  OK(em_tag(&machine, 5));
+  for (int i = 0; i < 3; i++) OK(em_arrive(&machine, frame, 700, &event));
+  OK(em_rx_step(&machine, &event));
+  /* a packet is sent and handed over; the octets of another one are gathered */
+  OK(em_poke(&machine, BUFFER, frame, 1500));
+  put_descriptor(&machine, TX_RING, BUFFER, 500, EOP | RS);
+  put_descriptor(&machine, TX_RING + 16, BUFFER, 500, 0);
+  put_descriptor(&machine, TX_RING + 32, BUFFER, 300, EOP | RS);
+  OK(em_write(&machine, TDBAL, TX_RING));
+  OK(em_write(&machine, TDLEN, 16 * DESCRIPTORS));
+  OK(em_write(&machine, TCTL, TCTL_EN));
+  OK(em_write(&machine, TDT, 3));
+  OK(em_tx_step(&machine, &event));
+  OK(em_wire_next(&machine, out, sizeof out, &n));
+  CHECK(n == 500);
+  OK(em_tx_step(&machine, &event));
+  OK(em_copy(&machine, &copy));
+  REFUSED(em_copy(&machine, &copy), EM_MADE_ALREADY);
+  OK(em_copy(&copy, &third));
+  CHECK(machine.made && copy.made && third.made);
+  /* the first one goes on alone, */
+  OK(em_tx_step(&machine, &event));
+  OK(em_rx_step(&machine, &event));
+  OK(em_poke(&machine, BUFFER, MAC, 6));
+  OK(em_wire_count(&copy, &n));
+  CHECK(n == 1);
+  OK(em_peek(&copy, BUFFER, out, 6));
+  CHECK(memcmp(out, frame, 6) == 0);
+  /* and the copy does the same later, under the same tag, and hands over what the first one has not */
+  OK(em_tx_step(&copy, &event));
+  CHECK(event.kind == EM_SENT && event.tag == 5 && event.length == 800);
+  OK(em_rx_step(&copy, &event));
+  OK(em_poke(&copy, BUFFER, MAC, 6));
+  OK(em_wire_next(&copy, out, sizeof out, &n));
+  CHECK(n == 800);
+  go_back_alike(&machine, &copy);
+  /* it goes back by itself, and outlives the others */
+  OK(em_can_go_back(&machine, &n));
+  CHECK(n == 0);
+  em_free(&machine);
+  em_free(&copy);
+  CHECK(!machine.made && !copy.made);
+  OK(em_back(&third, SIZE_MAX, &n));
+  CHECK(n > 20 && read_of(&third, TDT) == 0);
+  em_free(&third);
+  CHECK(blocks == 0);
+}
+
 static void has_many_machines(void) {
   em_machine machines[3] = {EM_NO_MACHINE, EM_NO_MACHINE, EM_NO_MACHINE};
   for (int i = 0; i < 3; i++) OK(em_make(&machines[i], 4096, 65536, MAC));
@@ -764,6 +946,7 @@ static void has_many_machines(void) {
 int main(void) {
   makes_and_frees();
   makes_at_a_base();
+  makes_of_a_profile();
   refuses_an_empty_handle();
   reads_and_writes_registers();
   accesses_words_alone();
@@ -777,6 +960,7 @@ int main(void) {
   receives();
   sends();
   hands_frames_over();
+  lets_frames_go();
   goes_back();
   runs_the_engines();
   tells_who_did_it();
@@ -784,5 +968,6 @@ int main(void) {
   tells_texts();
   has_its_layouts();
   has_many_machines();
+  copies();
   return tell_counts();
 }

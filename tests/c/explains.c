@@ -564,6 +564,43 @@ static void refuses_an_empty_handle(void) {
   CHECK(is_filled(octets, 7, 4) && n == 7);
 }
 
+/* what has room: 49,152 octets are 32 frames of 1,518, and 576 octets */
+static void tells_what_has_room(void) {
+  em_machine machine = made();
+  uint8_t frame[1518];
+  size_t room = 7, steps;
+  em_note event;
+  fill(frame, sizeof frame);
+  set_receiving(&machine);
+  OK(em_fifo_room(&machine, &room));
+  CHECK(room == 49152);
+  for (size_t i = 1; i <= 32; i++) {
+    OK(em_arrive(&machine, frame, 1518, &event));
+    OK(em_fifo_room(&machine, &room));
+    CHECK(event.kind == EM_STORED && room == 49152 - i * 1518);
+  }
+  CHECK(room == 576);
+  OK(em_arrive(&machine, frame, 577, &event));
+  CHECK(event.kind == EM_MISSED);
+  memcpy(frame + 12, (uint8_t[]){0x81, 0x00, 0x01, 0x23}, 4);
+  OK(em_write(&machine, VET, 0x8100));
+  OK(em_write(&machine, CTRL, CTRL_VME)); /* the tag is taken out: 576 octets are stored */
+  OK(em_arrive(&machine, frame, 580, &event));
+  OK(em_fifo_room(&machine, &room));
+  CHECK(event.kind == EM_STORED && room == 0);
+  OK(em_arrive(&machine, frame, 64, &event));
+  CHECK(event.kind == EM_MISSED);
+  OK(em_rx_step(&machine, &event)); /* the first frame goes, whole: its buffer has 2,048 octets */
+  OK(em_fifo_room(&machine, &room));
+  CHECK(event.kind == EM_WROTE && room == 1518);
+  OK(em_back(&machine, 1, &steps));
+  OK(em_fifo_room(&machine, &room));
+  CHECK(room == 0);
+  em_free(&machine);
+  REFUSED(em_fifo_room(&machine, &room), EM_NOT_MADE);
+  CHECK(room == 0);
+}
+
 int main(void) {
   explains_idle_steps();
   explains_drops();
@@ -578,5 +615,6 @@ int main(void) {
   tells_of_the_fifo();
   names_bits_and_fields();
   refuses_an_empty_handle();
+  tells_what_has_room();
   return tell_counts();
 }

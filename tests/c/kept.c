@@ -475,6 +475,46 @@ static void keeps_memory_at_a_base(void) {
   em_free(&m);
 }
 
+static void keeps_the_profile(void) {
+  em_machine m = EM_NO_MACHINE;
+  uint32_t value;
+  named("profile.em");
+  OK(em_make_as(&m, EM_PROFILE_ADAPTER, 0, 8192, 65536, MAC));
+  OK(record(&m, path));
+  want("# em_debug --memory 8192 --budget 65536 --profile adapter --mac 525400123456\n");
+  OK(em_source(&m, "", 1));
+  OK(em_write(&m, 0x20, 0x08220000)), want("w 00000020 08220000 = ok\n");
+  OK(em_read(&m, 0x20, &value)), want("r 00000020 = 18220141\n");
+  CHECK(is_there());
+  em_free(&m);
+}
+
+/* A run is kept of the machine alone, and of no copy. */
+static void keeps_no_copy(void) {
+  em_machine m = kept("copy.em"), copy = EM_NO_MACHINE;
+  size_t done;
+  int fault;
+  OK(em_write(&m, IMS, 1)), want("w 000000D0 00000001 = ok\n");
+  OK(em_copy(&m, &copy));
+  REFUSED(em_recording_status(&copy, &fault), EM_UNRECORDED);
+  OK(em_write(&copy, IMS, 2));
+  OK(em_back(&copy, 1, &done));
+  REFUSED(record(&copy, path), EM_BEGUN);
+  OK(em_write(&m, IMS, 4)), want("w 000000D0 00000004 = ok\n");
+  em_free(&copy);
+  OK(em_write(&m, IMS, 8)), want("w 000000D0 00000008 = ok\n");
+  CHECK(is_there());
+  em_free(&m);
+  /* that of a copy can be kept from its first event on */
+  m = made();
+  OK(em_copy(&m, &copy));
+  named("copied.em");
+  OK(record(&copy, path)), OK(em_write(&copy, IMS, 1)), want(HEAD "w 000000D0 00000001 = ok\n");
+  CHECK(is_there());
+  em_free(&copy);
+  em_free(&m);
+}
+
 static void refuses_calls(void) {
   em_machine m = EM_NO_MACHINE;
   size_t done;
@@ -674,6 +714,8 @@ int main(int words, char **word) {
   keeps_what_is_brought();
   keeps_the_eeprom();
   keeps_memory_at_a_base();
+  keeps_the_profile();
+  keeps_no_copy();
   refuses_calls();
   keeps_want_of_memory();
   if (!is_mapped) goes_on(ENOSPC, 10), goes_on(0, 25), goes_on(EINTR, 1), goes_on(EIO, 100), tears();

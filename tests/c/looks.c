@@ -124,6 +124,8 @@ static void look_at_frames(const em_machine *machine, struct looker *looker) {
   CHECK(looker, length == LENGTH && !memcmp(frame, FRAME, LENGTH));
   OK(em_fifo(machine, &fifo));
   CHECK(looker, fifo.frames == 1 && fifo.octets == LENGTH && fifo.gathered == 20);
+  OK(em_fifo_room(machine, &count));
+  CHECK(looker, count == 49152 - LENGTH);
   OK(em_fifo_frame(machine, frame, sizeof frame, &length));
   CHECK(looker, length == LENGTH && !memcmp(frame, FRAME, LENGTH));
   OK(em_gathered(machine, frame, sizeof frame, &length));
@@ -162,11 +164,25 @@ static void look_at_events(const em_machine *machine, struct looker *looker) {
   CHECK(looker, length > 0 && text[length] == 0);
 }
 
+/* a copy, which goes back to where no frame waits */
+static void look_at_a_copy(const em_machine *machine, struct looker *looker) {
+  const size_t k = looker->tail == 7 ? 1 : 2;
+  em_machine copy = EM_NO_MACHINE;
+  em_fifo_state fifo;
+  size_t done = 0;
+  OK(em_copy(machine, &copy));
+  OK(em_back(&copy, k, &done));
+  OK(em_fifo(&copy, &fifo));
+  CHECK(looker, done == k && fifo.frames == 0);
+  em_free(&copy);
+}
+
 static void *looks(void *given) {
   struct looker *looker = given;
   for (unsigned round = 0; round < rounds; round++) {
     look_at_registers(looker->machine, looker);
     if (round % 16 == 0) look_at_memory(looker->machine, looker);
+    if (round % 16 == 0) look_at_a_copy(looker->machine, looker);
     look_at_rings(looker->machine, looker);
     look_at_frames(looker->machine, looker);
     look_at_events(looker->machine, looker);

@@ -194,7 +194,7 @@ static void is_refused_memory(void) {
   }
 }
 
-/* each of the four calls, twice */
+/* each of the six calls, twice */
 static uint32_t make_by(int mode, em_machine *machine) {
   static const uint16_t words[64] = {0};
   const uint64_t at = UINT64_C(1) << 39;
@@ -202,13 +202,15 @@ static uint32_t make_by(int mode, em_machine *machine) {
     case 0: return em_make(machine, MEMORY, BUDGET, MAC);
     case 1: return em_make_with_eeprom(machine, MEMORY, BUDGET, words);
     case 2: return em_make_at(machine, at, at, BUDGET, MAC);
-    default: return em_make_at_with_eeprom(machine, 0, 2 * at, BUDGET, words);
+    case 3: return em_make_at_with_eeprom(machine, 0, 2 * at, BUDGET, words);
+    case 4: return em_make_as(machine, EM_PROFILE_ADAPTER, at, at, BUDGET, MAC);
+    default: return em_make_as_with_eeprom(machine, EM_PROFILE_ADAPTER, 0, 2 * at, BUDGET, words);
   }
 }
 
 /* a handle for which memory is refused holds no machine, and may be made again */
 static void is_not_made(void) {
-  for (int mode = 0; mode < 8; mode++) {
+  for (int mode = 0; mode < 12; mode++) {
     uint32_t code = EM_MEMORY;
     long n = 0;
     em_machine machine = EM_NO_MACHINE;
@@ -221,6 +223,40 @@ static void is_not_made(void) {
     }
     CHECK(code == EM_OK && machine.made && n > 3);
     em_free(&machine);
+    CHECK(blocks == 0);
+  }
+}
+
+/* of a copy for which memory is refused nothing is left; the machine stays, and may be copied again */
+static void is_not_copied(void) {
+  for (int mode = 0; mode < 2; mode++) {
+    em_machine machine = made(), copy = EM_NO_MACHINE;
+    uint32_t code = EM_MEMORY;
+    long n = 0, held = 0;
+    with_frames(&machine);
+    with_packets(&machine);
+    OK(em_tx_step(&machine, &event));
+    OK(em_write(&machine, CTRL, RST)); /* (what it puts aside takes memory of its own) */
+    with_frames(&machine);
+    struct seen *before = see(&machine);
+    once = mode == 1;
+    held = blocks;
+    for (; n < 200 && code == EM_MEMORY; n++) {
+      granted = n;
+      code = em_copy(&machine, &copy);
+      granted = -1;
+      CHECK(code == EM_OK || (code == EM_MEMORY && !copy.made && blocks == held));
+    }
+    CHECK(code == EM_OK && n > 12 && is_as(&machine, before) && is_as(&copy, before));
+    go_on(&machine);
+    CHECK(is_as(&copy, before));
+    free(before);
+    before = see(&machine);
+    go_on(&copy);
+    CHECK(is_as(&copy, before));
+    free(before);
+    em_free(&machine);
+    em_free(&copy);
     CHECK(blocks == 0);
   }
 }
@@ -340,6 +376,7 @@ static void asks_for_none(void) {
   OK(em_ring(&machine, EM_RX_RING, &ring));
   REFUSED(em_ring_descriptor(&machine, EM_RX_RING, ring.count, &descriptor), EM_NO_DESCRIPTOR);
   OK(em_memory_base(&machine, &size));
+  OK(em_profile(&machine, &value));
   OK(em_peek(&machine, 0, all->memory, MEMORY));
   OK(em_sync_out(&machine, all->memory, MEMORY));
   OK(em_sync_in(&machine, all->memory, MEMORY, &count));
@@ -353,6 +390,7 @@ static void asks_for_none(void) {
   OK(em_warnings(&machine, warnings, &count));
   REFUSED(em_ring_entry(&machine, EM_RX_RING, ring.count, &entry), EM_NO_DESCRIPTOR);
   OK(em_fifo(&machine, &fifo));
+  OK(em_fifo_room(&machine, &count));
   OK(em_fifo_frame(&machine, all->memory, MEMORY, &count));
   OK(em_gathered(&machine, all->memory, MEMORY, &count));
   OK(em_field(RCTL, 0, &field));
@@ -365,6 +403,7 @@ static void asks_for_none(void) {
   OK(em_wire_count(&machine, &count));
   OK(em_wire_frame(&machine, 0, all->frames[0], 2048, &count));
   OK(em_wire_next(&machine, all->frames[0], 2048, &count));
+  OK(em_let_go(&machine, &count));
   OK(em_read_sized(&machine, ICR, 4, &size));
   OK(em_write_sized(&machine, IMS, 4, LSC));
   OK(em_tag(&machine, 5));
@@ -389,6 +428,7 @@ int main(void) {
   memcpy(tagged + 12, (uint8_t[]){0x81, 0x00, 0x01, 0x23}, 4);
   memset(ram, 9, sizeof ram);
   is_not_made();
+  is_not_copied();
   is_not_written_far();
   is_refused_memory();
   tells_no_text();

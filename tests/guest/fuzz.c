@@ -210,7 +210,7 @@ static void make_adapter(void) {
   interrupt_make(&session.interrupt);
   counter_make(&session.counter);
   config_reset(&session.config);
-  if (!device_make(&session.device, mac, &run, NULL, NULL)) die("no memory");
+  if (!device_make(&session.device, EM_PROFILE_TABLE, mac, &run, NULL, NULL)) die("no memory");
   session.bar.io_address = 0;
   settle();
 }

@@ -40,12 +40,46 @@ class Making(unittest.TestCase):
         self.assertRaises(ValueError, Machine, mac=b"12345")
         self.assertRaises(ValueError, Machine, eeprom=[1])
 
-    def test_freed_and_not_copied(self):
+    def test_freed(self):
         with Machine() as m:
-            self.assertRaises(TypeError, copy.copy, m)
-            self.assertRaises(TypeError, copy.deepcopy, m)
+            pass
         self.assertRaises(bunjelav.NotMade, m.read, "ICR")
+        self.assertRaises(bunjelav.NotMade, m.copy)
         self.assertEqual(repr(m), "<Machine, freed>")
+
+
+class Copies(unittest.TestCase):
+    def test_a_copy_goes_back_by_itself(self):
+        m = receiving()
+        m.tag(5)
+        m.arrive(FRAME)
+        m.rx_step()
+        for made in m.copy(), copy.copy(m), copy.deepcopy(m):
+            self.assertEqual((made.registers(), made.reach), (m.registers(), m.reach))
+            self.assertEqual((made.memory[:], list(made.events())), (m.memory[:], list(m.events())))
+            made.IMS = 1
+            self.assertEqual((made.event().tag, made["IMS"], m["IMS"]), (5, 1, 0))
+            self.assertEqual(made.back(2), 2)
+            self.assertEqual((made["RDH"], made.memory[BUFFER], made.fifo().frames), (0, 0, 1))
+            self.assertEqual((m["RDH"], m.memory[BUFFER], m.fifo().frames), (1, 0xFF, 0))
+        m.close()
+        self.assertEqual(made.rx_step().kind, "wrote")
+
+    def test_what_is_the_callers_is_not_copied(self):
+        ram, warned = bytearray(65536), []
+        m = Machine()
+        m.attach(ram)
+        m.warn(warned.append)
+        made = m.copy()
+        made.memory[0:4] = b"abcd"
+        m.memory[4:8] = b"efgh"
+        self.assertEqual((bytes(ram[:8]), made.memory[4:8]), (b"\0\0\0\0efgh", bytes(4)))
+        made.RDLEN, made.RDT = 128, 8
+        self.assertEqual(warned, [])
+        self.assertFalse(made.recording())
+        made.attach(ram)
+        made.memory[0:4] = b"abcd"
+        self.assertEqual(bytes(ram[:8]), b"abcdefgh")
 
 
 class Registers(unittest.TestCase):
@@ -119,6 +153,10 @@ class MemoryAndFrames(unittest.TestCase):
         self.assertRaises(bunjelav.Range, m.poke, base - 1, b"12")
         self.assertRaises(IndexError, m.memory.__getitem__, base - 1)
         self.assertRaises(IndexError, m.memory.__getitem__, base + 8192)
+        self.assertEqual(m.last_change(slice(base + 4094, base + 4099)).before, bytes(5))
+        self.assertEqual(m.last_change(slice(-4098, -4093)).back, 1)
+        self.assertRaises(bunjelav.Range, m.last_change, slice(base - 1, base))
+        self.assertRaises(bunjelav.Range, m.last_change, slice(4094, 4099))
         ram = bytearray(8192)
         m.sync_out(ram)
         self.assertEqual(bytes(ram), m.memory[:])
@@ -126,6 +164,20 @@ class MemoryAndFrames(unittest.TestCase):
         self.assertEqual(Machine(memory=4096, base=4096, eeprom=[0] * 64).memory.base, 4096)
         for size, at in ((4096, 1), (0, 0), (4096, 2**40), (2**40, 4096)):
             self.assertRaises(bunjelav.Size, Machine, memory=size, base=at)
+
+    def test_profile(self):
+        m = Machine(profile="adapter")
+        self.assertEqual((m.profile, m.read("EECD"), m.EECD, m.memory.base), ("adapter", 0x118, 0x118, 0))
+        m.MDIC = 0x08220000  # the PHY's word 2 is read
+        self.assertEqual(m.look("MDIC"), 0x18220141)
+        self.assertEqual(bunjelav.name_of(0x20), "MDIC")
+        m = Machine(profile="adapter", base=4096, memory=8192, eeprom=[0x5452] + [0] * 63)
+        self.assertEqual((m.memory.base, m.RAL0, m.profile), (4096, 0x5452, "adapter"))
+        self.assertEqual((Machine().profile, Machine(profile="table", base=0).profile), ("table", "table"))
+        self.assertRaises(bunjelav.NoRegister, Machine().read, "EECD")
+        self.assertRaises(bunjelav.NoProfile, Machine, profile="linux")
+        self.assertRaises(bunjelav.NoProfile, Machine, profile="linux", memory=5)
+        self.assertRaises(bunjelav.Size, Machine, profile="adapter", memory=5)
 
     def test_copied_out(self):
         m, ram = Machine(), bytearray(65536)
@@ -152,7 +204,9 @@ class MemoryAndFrames(unittest.TestCase):
 
     def test_receiving(self):
         m = receiving()
+        self.assertEqual(m.fifo_room(), 49152)
         self.assertTrue(m.arrive(FRAME).is_stored)
+        self.assertEqual(m.fifo_room(), 49152 - 60)
         self.assertEqual((m.last_change("frames")[:2], m.last_change("sent")), ((1, 0), None))
         self.assertRaises(bunjelav.Length, m.arrive, b"short")
         self.assertEqual(m.rx_step(), ("wrote", RING, 0, 0, 0, BUFFER, 60))
@@ -171,6 +225,7 @@ class MemoryAndFrames(unittest.TestCase):
         self.assertEqual(m.tx_step(), ("sent", 0x2000, 60, 0, 0, BUFFER, 60))
         self.assertEqual(m.wire, [FRAME])
         self.assertEqual((list(m.wire_next()), list(m.wire_next())), ([FRAME], []))
+        self.assertEqual((m.let_go(), m.wire), (0, [FRAME]))
         self.assertEqual((m.last_change("sent")[:2], m.last_change("frames")), ((1, 0), None))
         m.TDT = 2
         self.assertRaises(bunjelav.Extended, m.tx_step)
@@ -310,7 +365,7 @@ class Numbers(unittest.TestCase):
 class Names(unittest.TestCase):
     def test_refusals_have_their_names(self):
         """Each of the library's refusals is an exception of the module, whatever else the module has."""
-        self.assertEqual(len(_tables.REFUSALS), 39)
+        self.assertEqual(len(_tables.REFUSALS), 40)
         for name, number in _tables.REFUSALS.items():
             refusal = getattr(bunjelav, name)
             self.assertTrue(issubclass(refusal, bunjelav.Refused) and issubclass(refusal, Exception), name)
@@ -584,6 +639,18 @@ class Kept(unittest.TestCase):
         m.tag(0x1234)
         m.IMS = 1
         self.assertEqual(self.kept(), ["w 000000D0 00000001 = ok", "w 000000D0 00000001 = ok @ 0x0000000000001234"])
+
+    def test_another_source(self):
+        m = Machine()
+        m.record_to(self.path)
+        m.source("driver.c", 57)
+        m.IMS = 1
+        m.source("", 0)
+        m.IMS = 1
+        at = line() - 1
+        wanted = ["w 000000D0 00000001 = ok @ driver.c:57", f"w 000000D0 00000001 = ok @ calls.py:{at}"]
+        self.assertEqual(self.kept(), wanted)
+        self.assertRaises(ValueError, m.source, "driver.c", -1)
 
     def test_by_a_mapping(self):
         m = Machine()

@@ -9,6 +9,7 @@
     m["ICR"]                       # a look at it, which changes nothing
     m.memory[0x1000:0x1004] = b"abcd"
     m.back()                       # takes the newest event back
+    m.copy()                       # a machine like it, for looking into the past while this one stays
     m.last_change("ICR")           # who changed it last?
     m.why()                        # why was the newest step idle, the frame dropped, the call refused?
     m.warn(print)                  # what the driver gets wrong is printed as it happens
@@ -246,13 +247,15 @@ class Machine(Explained):
     memory: octets of guest memory, a multiple of 4,096. budget: what the journal's records may cost together; each
     costs at least 32. mac: the Ethernet address in the EEPROM. eeprom: its 64 words, in place of an address. base: the
     address of memory's first octet, a multiple of 4,096. Without one memory begins at 0 and has at most 16 MiB; with
-    one it ends at 2^40 at most.
+    one it ends at 2^40 at most. profile: "table", what a polled driver in user space needs, or "adapter", what the
+    drivers of operating systems need besides; of the latter memory ends at 2^40 at most without a base, too.
     """
 
     _handle: _tables.Handle
     _at: Any
     _ram: Union[None, _Functions, _Region]
     _places: Optional[Dict[str, bytes]]
+    _source: bytes
     _undone: Optional[Reason]
     _warns: Optional[Callable[[DriverWarning], object]]
     memory: GuestMemory
@@ -264,20 +267,19 @@ class Machine(Explained):
         mac: bytes = bytes.fromhex("525400123456"),
         eeprom: Optional[List[int]] = None,
         base: Optional[int] = None,
+        profile: str = "table",
     ) -> None:
-        set_own = super().__setattr__
-        set_own("_handle", _tables.Handle())
-        set_own("_at", ctypes.byref(self._handle))
-        set_own("_ram", None)
-        set_own("_places", None)
-        set_own("_undone", None)
-        set_own("_warns", None)
-        set_own("memory", GuestMemory(self))
+        self._hold_none()
         sizes = [number_of(memory, 64, "a size", "Size"), number_of(budget, 64, "a budget", "Budget")]
         by_mac, by_eeprom = library.em_make, library.em_make_with_eeprom
-        if base is not None:
-            sizes.insert(0, number_of(base, 64, "a base", "Size"))
+        if profile not in _tables.PROFILES:
+            raise refused(_tables.REFUSALS["NoProfile"])
+        if base is not None or profile != "table":
+            sizes.insert(0, number_of(base or 0, 64, "a base", "Size"))
             by_mac, by_eeprom = library.em_make_at, library.em_make_at_with_eeprom
+        if profile != "table":
+            sizes.insert(0, _tables.PROFILES[profile])
+            by_mac, by_eeprom = library.em_make_as, library.em_make_as_with_eeprom
         if eeprom is not None:
             words = [number_of(word, 16, "a word of the EEPROM") for word in eeprom]
             if len(words) != 64:
@@ -288,6 +290,28 @@ class Machine(Explained):
         if len(address) != 6:
             raise ValueError("an Ethernet address has 6 octets")
         must(by_mac(self._at, *sizes, address))
+
+    def _hold_none(self) -> None:
+        set_own = super().__setattr__
+        set_own("_handle", _tables.Handle())
+        set_own("_at", ctypes.byref(self._handle))
+        set_own("_ram", None)
+        set_own("_places", None)
+        set_own("_source", b"")
+        set_own("_undone", None)
+        set_own("_warns", None)
+        set_own("memory", GuestMemory(self))
+
+    def copy(self) -> Machine:
+        """A machine that is equal to this one: in all that it shows, and in its journal, so that it goes back as far and
+        to the same states. From then on neither knows what becomes of the other: the copy can go back while this one
+        goes on. What is attached to this one is not attached to the copy, which has octets of its own; its run is not
+        kept, and its warnings go nowhere. `copy.copy` and `copy.deepcopy` give the same."""
+        made = self.__class__.__new__(self.__class__)
+        made._hold_none()
+        must(library.em_copy(self._at, made._at))
+        object.__setattr__(made, "_undone", self._undone)
+        return made
 
     def close(self) -> None:
         """Frees the machine; each later call raises NotMade."""
@@ -306,10 +330,10 @@ class Machine(Explained):
         self.close()
 
     def __copy__(self) -> Machine:
-        raise TypeError("a machine can't be copied")
+        return self.copy()
 
     def __deepcopy__(self, memo: Dict[int, object]) -> Machine:
-        raise TypeError("a machine can't be copied")
+        return self.copy()
 
     def __reduce__(self) -> NoReturn:
         raise TypeError("a machine can't be pickled")
@@ -318,6 +342,12 @@ class Machine(Explained):
         """What a call tells behind its other words."""
         must(call(self._at, *words, ctypes.byref(room)))
         return int(room.value)
+
+    @property
+    def profile(self) -> str:
+        """Which profile it is of: "table" or "adapter"."""
+        number = self._told(library.em_profile, U32())
+        return next(name for name, one in _tables.PROFILES.items() if one == number)
 
     # ---- a run that is kept
 
@@ -355,9 +385,26 @@ class Machine(Explained):
         must(number)
         return True
 
+    def source(self, file: Union[str, bytes, "os.PathLike[str]"], line: int) -> None:
+        """The calls from now on come from a line of this file: that of a driver, say, which is a process of its own. It
+        stands in the lines of a run that is kept. With an empty name they come from where they are made again.
+
+        >>> import tempfile
+        >>> path = Path(tempfile.mkdtemp()) / "core.em"
+        >>> m = Machine()
+        >>> m.record_to(path)
+        >>> m.source("driver.c", 57)
+        >>> m.IMS = 4
+        >>> print(path.read_text().splitlines()[1])
+        w 000000D0 00000004 = ok @ driver.c:57
+        """
+        place = number_of(line, 32, "a line")
+        super().__setattr__("_source", os.fsencode(file))  # (the library keeps no copy)
+        must(library.em_source(self._at, self._source, place))
+
     def _here(self) -> None:
         """Tells the library which line the next call comes from: that of the newest frame outside of this file."""
-        if self._places is None:
+        if self._places is None or self._source:
             return
         frame = sys._getframe(1)
         while frame.f_globals is _OWN and frame.f_back is not None:
@@ -650,6 +697,15 @@ class Machine(Explained):
             must(number)
             yield room.raw[: length.value]
 
+    def let_go(self) -> int:
+        """Lets go of the octets of the frames that were sent before all that `back` can reach, and gives how many frames
+        these are: the first ones. They are empty in `wire` from then on, and `wire_next` gives them no more.
+
+        >>> Machine().let_go()
+        0
+        """
+        return self._told(library.em_let_go, SIZE_T())
+
     def pcap_write(
         self, path: Union[str, bytes, "os.PathLike[str]"], nanoseconds: Optional[Iterable[int]] = None
     ) -> None:
@@ -728,12 +784,12 @@ class Machine(Explained):
 
     def _watched(self, where: slice) -> range:
         """The octets of a slice, of which none may lie outside memory: who asks for them means each of them."""
-        size = len(self.memory)
+        base, past = self.memory.base, self.memory.base + len(self.memory)
         if where.step not in (None, 1):
             raise ValueError("octets of memory are watched one beside another")
-        ends = 0 if where.start is None else where.start, size if where.stop is None else where.stop
-        start, stop = (end + size if end < 0 else end for end in map(operator.index, ends))
-        if not (0 <= start <= size and 0 <= stop <= size):
+        ends = base if where.start is None else where.start, past if where.stop is None else where.stop
+        start, stop = (end + past if end < 0 else end for end in map(operator.index, ends))
+        if not (base <= start <= past and base <= stop <= past):
             raise refused(_tables.REFUSALS["Range"])
         return range(start, stop)
 

@@ -162,6 +162,12 @@ class Explained:
         tag = told.tag if told.tagged else None
         return Fifo(told.frames, first.raw[: told.octets], tag, gathered.raw[: told.gathered])
 
+    def fifo_room(self) -> int:
+        """How many octets have room in the FIFO now: a frame of no more finds room, whatever it is."""
+        octets = SIZE_T()
+        must(library.em_fifo_room(self._at, ctypes.byref(octets)))
+        return octets.value
+
     def fifo_text(self) -> str:
         """How many frames wait in the FIFO, and the first of them, as text."""
         return long_text(library.em_fifo_text, self._at)

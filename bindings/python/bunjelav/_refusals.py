@@ -7,7 +7,7 @@ __all__ = [
     "MadeAlready", "Size", "NoFrame", "Room", "NoEvent", "NoChange", "NoWatch", "NoName", "NoRefusal", "NoRing",
     "NoDescriptor", "Busy", "Unread", "Unwritten", "NoRam", "Begun", "Recorded", "File", "Unrecorded", "Width",
     "NotOpen", "OpenAlready", "CaptureEnd", "CaptureMagic", "CaptureVersion", "CaptureCut", "CaptureBlock",
-    "CaptureLink", "CaptureLength", "CaptureInterface",
+    "CaptureLink", "CaptureLength", "CaptureInterface", "NoProfile",
 ]
 
 
@@ -257,3 +257,9 @@ class CaptureInterface(Refused):
     """A packet of the capture is of an interface that its section has not described."""
 
     number = 56
+
+
+class NoProfile(Refused):
+    """There is no profile of the number."""
+
+    number = 57

@@ -6,7 +6,7 @@ from ctypes import CFUNCTYPE, POINTER, Structure, c_bool, c_char_p, c_int, c_siz
 from ctypes import c_uint64, c_void_p
 
 VERSION = "0.1.0"
-REGISTERS = 350
+REGISTERS = 360
 MOST_SENT = 16384
 MOST_WATCHED = 16
 
@@ -51,6 +51,7 @@ REFUSALS = {
     "CaptureLink": 54,
     "CaptureLength": 55,
     "CaptureInterface": 56,
+    "NoProfile": 57,
 }
 
 # by number, what each kind of event is called
@@ -88,6 +89,12 @@ WATCHES = {
 RINGS = {
     "rx": 1,
     "tx": 2,
+}
+
+# by name, the number of each profile
+PROFILES = {
+    "table": 0,
+    "adapter": 1,
 }
 
 # by number, what each rule by which an event does nothing is called
@@ -329,17 +336,22 @@ CALLS = {
     "em_registers": [POINTER(Handle), POINTER(Register), c_size_t, POINTER(c_size_t)],
     "em_back": [POINTER(Handle), c_size_t, POINTER(c_size_t)],
     "em_can_go_back": [POINTER(Handle), POINTER(c_size_t)],
+    "em_copy": [POINTER(Handle), POINTER(Handle)],
     "em_differences": [POINTER(Handle), c_size_t, POINTER(Difference), c_size_t, POINTER(c_size_t)],
     "em_ring_entry": [POINTER(Handle), c_uint32, c_uint32, POINTER(Entry)],
     "em_field": [c_uint32, c_size_t, POINTER(Field)],
     "em_value_text": [c_uint32, c_uint32, c_void_p, c_size_t, POINTER(c_size_t)],
     "em_fifo": [POINTER(Handle), POINTER(Fifo)],
+    "em_fifo_room": [POINTER(Handle), POINTER(c_size_t)],
     "em_fifo_frame": [POINTER(Handle), c_void_p, c_size_t, POINTER(c_size_t)],
     "em_gathered": [POINTER(Handle), c_void_p, c_size_t, POINTER(c_size_t)],
+    "em_let_go": [POINTER(Handle), POINTER(c_size_t)],
     "em_make": [POINTER(Handle), c_uint64, c_uint64, c_void_p],
     "em_make_with_eeprom": [POINTER(Handle), c_uint64, c_uint64, POINTER(c_uint16)],
     "em_make_at": [POINTER(Handle), c_uint64, c_uint64, c_uint64, c_void_p],
     "em_make_at_with_eeprom": [POINTER(Handle), c_uint64, c_uint64, c_uint64, POINTER(c_uint16)],
+    "em_make_as": [POINTER(Handle), c_uint32, c_uint64, c_uint64, c_uint64, c_void_p],
+    "em_make_as_with_eeprom": [POINTER(Handle), c_uint32, c_uint64, c_uint64, c_uint64, POINTER(c_uint16)],
     "em_free": [POINTER(Handle)],
     "em_poke": [POINTER(Handle), c_uint64, c_void_p, c_size_t],
     "em_peek": [POINTER(Handle), c_uint64, c_void_p, c_size_t],
@@ -354,6 +366,7 @@ CALLS = {
     "em_pcap_next": [POINTER(Pcap), c_void_p, c_size_t, POINTER(c_size_t), POINTER(PcapFrame)],
     "em_pcap_fault": [POINTER(Pcap), POINTER(c_size_t)],
     "em_pcap_close": [POINTER(Pcap)],
+    "em_profile": [POINTER(Handle), POINTER(c_uint32)],
     "em_ring_needs": [POINTER(Handle), c_uint32, POINTER(Range), POINTER(Range)],
     "em_written": [POINTER(Handle), c_size_t, POINTER(Range)],
     "em_refusal": [c_uint32, c_void_p, c_size_t, POINTER(c_size_t)],

@@ -38,6 +38,7 @@ mod capture;
 mod event;
 mod explain;
 mod machine;
+mod profile;
 mod ram;
 mod raw;
 #[cfg(feature = "std")]
@@ -54,6 +55,7 @@ pub use event::words_of;
 pub use event::{fields_of, offset_of, Change, Difference, Event, Field, Fields, Name, Watch};
 pub use explain::{Asked, Entry, Reason, Warning, Warnings};
 pub use machine::{Events, Frame, Frames, Machine, Sent};
+pub use profile::Profile;
 pub use ram::{Octets, Over, Ram};
 pub use raw::{Fifo, Range, Region, Register, RingSetup};
 pub use refusal::Stopped;

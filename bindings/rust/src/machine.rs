@@ -4,7 +4,7 @@ use crate::raw;
 use crate::raw::{Fifo, Range, Register, RingSetup};
 #[cfg(feature = "std")]
 use crate::Difference;
-use crate::{Asked, Change, Descriptor, Entry, Event, Kind, Needs, Reason, Refusal, Ring, Stopped};
+use crate::{Asked, Change, Descriptor, Entry, Event, Kind, Needs, Profile, Reason, Refusal, Ring, Stopped};
 use crate::{Warnings, Watch, MOST_SENT};
 use core::cell::UnsafeCell;
 use core::panic::Location;
@@ -95,6 +95,54 @@ impl Machine {
         let number =
             unsafe { raw::em_make_at_with_eeprom(machine.handle.get(), base, memory, budget, words.as_ptr()) };
         told(number, machine)
+    }
+
+    /// The same as [`Machine::at`] of a profile: the others make a machine of [`Profile::Table`].
+    pub fn of(profile: Profile, base: u64, memory: u64, budget: u64, mac: [u8; 6]) -> Result<Machine, Refusal> {
+        let machine = Machine::none();
+        let (handle, profile) = (machine.handle.get(), profile.number());
+        // SAFETY: the handle holds no machine, and the address has 6 octets.
+        let number = unsafe { raw::em_make_as(handle, profile, base, memory, budget, mac.as_ptr()) };
+        told(number, machine)
+    }
+
+    /// The same with the words of the EEPROM.
+    pub fn of_with_eeprom(
+        profile: Profile,
+        base: u64,
+        memory: u64,
+        budget: u64,
+        words: &[u16; 64],
+    ) -> Result<Machine, Refusal> {
+        let machine = Machine::none();
+        let (handle, profile) = (machine.handle.get(), profile.number());
+        // SAFETY: the handle holds no machine, and there are 64 words.
+        let number = unsafe { raw::em_make_as_with_eeprom(handle, profile, base, memory, budget, words.as_ptr()) };
+        told(number, machine)
+    }
+
+    /// A machine that is equal to this one: in all that it shows, and in its journal, so that it goes back as far and
+    /// to the same states. From then on neither knows what becomes of the other: the copy can go back while this one
+    /// goes on. Memory that is attached to this one is not attached to the copy, which has octets of its own, and where
+    /// this one's run is kept, the copy's is not. Refused as [`Refusal::Memory`].
+    ///
+    /// ```
+    /// # use bunjelav::{offset_of, Machine, Refusal};
+    /// # fn main() -> Result<(), Refusal> {
+    /// let mut m = Machine::new(65_536, 1 << 20, [0x52, 0x54, 0x00, 0x12, 0x34, 0x56])?;
+    /// m.write(offset_of("IMS")?, 4)?;
+    /// let mut before = m.try_clone()?;
+    /// before.back(1);
+    /// m.write(offset_of("IMS")?, 1)?;
+    /// assert_eq!((before.look(offset_of("IMS")?)?, m.look(offset_of("IMS")?)?), (0, 5));
+    /// # Ok(())
+    /// # }
+    /// ```
+    pub fn try_clone(&self) -> Result<Machine, Refusal> {
+        let copy = Machine::none();
+        // SAFETY: a look at this machine, and the other handle holds none.
+        let number = unsafe { raw::em_copy(self.handle.get(), copy.handle.get()) };
+        told(number, copy)
     }
 
     fn none() -> Machine {
@@ -293,6 +341,13 @@ impl Machine {
         let mut fifo = Fifo::default();
         unsafe { raw::em_fifo(self.handle.get(), &mut fifo) };
         fifo
+    }
+
+    /// How many octets have room in the FIFO now: a frame of no more finds room, whatever it is.
+    pub fn fifo_room(&self) -> usize {
+        let mut octets = 0;
+        unsafe { raw::em_fifo_room(self.handle.get(), &mut octets) };
+        octets
     }
 
     /// Copies the first frame that waits in the FIFO to the head of `out`, and gives how many octets it has: 0 where
@@ -502,6 +557,13 @@ impl Machine {
         told(unsafe { raw::em_peek(self.handle.get(), address, out.as_mut_ptr(), out.len()) }, ())
     }
 
+    /// The profile that it is of.
+    pub fn profile(&self) -> Profile {
+        let mut profile = 0;
+        unsafe { raw::em_profile(self.handle.get(), &mut profile) };
+        Profile::of(profile)
+    }
+
     /// The address of guest memory's first octet.
     pub fn memory_base(&self) -> u64 {
         let mut base = 0;
@@ -609,6 +671,15 @@ impl Machine {
     /// asks.
     pub fn wire_next(&mut self) -> Sent<'_> {
         Sent { machine: self }
+    }
+
+    /// Lets go of the octets of the frames that were sent before all that [`back`](Machine::back) can reach, and gives how
+    /// many frames these are: the first ones. They are counted as before, have no octet from then on, and are not handed
+    /// over any more.
+    pub fn let_go(&mut self) -> usize {
+        let mut count = 0;
+        unsafe { raw::em_let_go(self.handle.get(), &mut count) };
+        count
     }
 
     /// The frames that were sent, the first one first.

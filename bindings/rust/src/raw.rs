@@ -292,6 +292,7 @@ extern "C" {
     pub(crate) fn em_registers(machine: *const Handle, out: *mut Register, room: usize, count: *mut usize) -> u32;
     pub(crate) fn em_back(machine: *mut Handle, n: usize, done: *mut usize) -> u32;
     pub(crate) fn em_can_go_back(machine: *const Handle, count: *mut usize) -> u32;
+    pub(crate) fn em_copy(machine: *const Handle, copy: *mut Handle) -> u32;
     pub(crate) fn em_differences(
         machine: *const Handle,
         k: usize,
@@ -303,13 +304,31 @@ extern "C" {
     pub(crate) fn em_field(offset: u32, k: usize, field: *mut Field) -> u32;
     pub(crate) fn em_value_text(offset: u32, value: u32, out: *mut u8, room: usize, octets: *mut usize) -> u32;
     pub(crate) fn em_fifo(machine: *const Handle, fifo: *mut Fifo) -> u32;
+    pub(crate) fn em_fifo_room(machine: *const Handle, octets: *mut usize) -> u32;
     pub(crate) fn em_fifo_frame(machine: *const Handle, out: *mut u8, room: usize, octets: *mut usize) -> u32;
     pub(crate) fn em_gathered(machine: *const Handle, out: *mut u8, room: usize, octets: *mut usize) -> u32;
+    pub(crate) fn em_let_go(machine: *mut Handle, count: *mut usize) -> u32;
     pub(crate) fn em_make(machine: *mut Handle, memory: u64, budget: u64, mac: *const u8) -> u32;
     pub(crate) fn em_make_with_eeprom(machine: *mut Handle, memory: u64, budget: u64, words: *const u16) -> u32;
     pub(crate) fn em_make_at(machine: *mut Handle, base: u64, memory: u64, budget: u64, mac: *const u8) -> u32;
     pub(crate) fn em_make_at_with_eeprom(
         machine: *mut Handle,
+        base: u64,
+        memory: u64,
+        budget: u64,
+        words: *const u16,
+    ) -> u32;
+    pub(crate) fn em_make_as(
+        machine: *mut Handle,
+        profile: u32,
+        base: u64,
+        memory: u64,
+        budget: u64,
+        mac: *const u8,
+    ) -> u32;
+    pub(crate) fn em_make_as_with_eeprom(
+        machine: *mut Handle,
+        profile: u32,
         base: u64,
         memory: u64,
         budget: u64,
@@ -335,6 +354,7 @@ extern "C" {
     ) -> u32;
     pub(crate) fn em_pcap_fault(pcap: *mut Pcap, offset: *mut usize) -> u32;
     pub(crate) fn em_pcap_close(pcap: *mut Pcap);
+    pub(crate) fn em_profile(machine: *const Handle, profile: *mut u32) -> u32;
     pub(crate) fn em_ring_needs(machine: *const Handle, side: u32, reads: *mut Range, writes: *mut Range) -> u32;
     pub(crate) fn em_written(machine: *const Handle, k: usize, written: *mut Range) -> u32;
     pub(crate) fn em_refusal(code: u32, out: *mut u8, room: usize, octets: *mut usize) -> u32;

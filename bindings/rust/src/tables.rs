@@ -3,7 +3,7 @@
 //! Written by bindings/tables.py, of the crate em_c: change it there, and run that.
 
 /// How many registers there are.
-pub const REGISTERS: usize = 350;
+pub const REGISTERS: usize = 360;
 
 /// Room in which each frame that a machine sends fits.
 pub const MOST_SENT: usize = 16_384;
@@ -23,6 +23,10 @@ pub(crate) const WATCH_SENT: u32 = 6;
 pub(crate) const RING_RX: u32 = 1;
 
 pub(crate) const RING_TX: u32 = 2;
+
+pub(crate) const PROFILE_TABLE: u32 = 0;
+
+pub(crate) const PROFILE_ADAPTER: u32 = 1;
 
 /// Why a call did nothing.
 #[derive(Clone, Copy, PartialEq, Eq, Hash, Debug)]
@@ -106,12 +110,14 @@ pub enum Refusal {
     CaptureLength,
     /// A packet of the capture is of an interface that its section has not described.
     CaptureInterface,
+    /// There is no profile of the number.
+    NoProfile,
     /// Another number, which this binding does not know.
     Other(u32),
 }
 
 /// Each refusal with its number.
-pub(crate) const REFUSALS: [(Refusal, u32); 39] = [
+pub(crate) const REFUSALS: [(Refusal, u32); 40] = [
     (Refusal::NoRegister, 1),
     (Refusal::Range, 2),
     (Refusal::Length, 3),
@@ -151,6 +157,7 @@ pub(crate) const REFUSALS: [(Refusal, u32); 39] = [
     (Refusal::CaptureLink, 54),
     (Refusal::CaptureLength, 55),
     (Refusal::CaptureInterface, 56),
+    (Refusal::NoProfile, 57),
 ];
 
 /// By which rule an event did nothing.

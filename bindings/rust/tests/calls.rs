@@ -1,7 +1,7 @@
 //! Each call of the binding once, and each refusal: what they give was worked out from the manual's tables.
 use bunjelav::{offset_of, Asked, Kind, Machine, Name, Octets, Ram, Refusal, Region, Register, Ring, Rule, Stopped};
 use bunjelav::{Capture, Captured, CapturedFrame, Trouble, Warned, Watch};
-use bunjelav::{MOST_SENT, REGISTERS};
+use bunjelav::{Profile, MOST_SENT, REGISTERS};
 use std::sync::{Arc, Mutex};
 
 const MAC: [u8; 6] = [0x52, 0x54, 0x00, 0x12, 0x34, 0x56];
@@ -50,6 +50,40 @@ fn makes() {
     words[0] = 0x1234;
     let m = Machine::with_eeprom(4_096, 65_536, &words).unwrap();
     assert_eq!((m.look(0x5400), m.memory_size()), (Ok(0x1234), 4_096));
+}
+
+#[test]
+fn copies() {
+    let mut m = receiving();
+    m.tag(5);
+    m.arrive(&frame()).unwrap();
+    m.rx_step().unwrap();
+    let mut copy = m.try_clone().unwrap();
+    let mut second = copy.try_clone().unwrap();
+    assert_eq!((copy.can_go_back(), copy.look(RDH)), (m.can_go_back(), Ok(1)));
+    copy.write(IMS, 1).unwrap();
+    assert_eq!((copy.event(0).unwrap().tag, copy.look(IMS), m.look(IMS)), (5, Ok(1), Ok(0)));
+    assert_eq!(copy.back(2), 2);
+    assert_eq!((copy.look(RDH), copy.fifo().frames), (Ok(0), 1));
+    assert_eq!((m.look(RDH), m.fifo().frames), (Ok(1), 0));
+    drop((m, copy));
+    assert!(second.back(usize::MAX) > 10);
+    assert_eq!(second.look(RDT), Ok(0));
+}
+
+#[test]
+fn copies_nothing_that_is_attached() {
+    let mut ram = vec![0; 65_536];
+    let mut m = receiving_over(&mut ram);
+    let octets = ram.as_mut_ptr();
+    // SAFETY: the vector outlives the machine, and nobody uses it while a call lasts.
+    unsafe { m.attach_regions(&[Region { base: 0, size: 65_536, octets }]).unwrap() };
+    m.rx_step().unwrap();
+    let mut copy = m.try_clone().unwrap();
+    m.detach();
+    copy.poke(0x4000, b"other").unwrap();
+    assert_eq!(copy.back(2), 2);
+    assert_eq!((&ram[0x4000..0x403C], copy.fifo().frames, m.fifo().frames), (&frame()[..], 1, 0));
 }
 
 #[test]
@@ -117,6 +151,26 @@ fn has_memory_at_a_base() {
     }
     let most = Machine::at_with_eeprom(0, 1 << 40, 1 << 20, &[0; 64]).unwrap();
     assert_eq!(most.memory_size(), 1 << 40);
+}
+
+#[test]
+fn is_of_a_profile() {
+    const EECD: u32 = 0x10;
+    const MDIC: u32 = 0x20;
+    let mut m = Machine::of(Profile::Adapter, 0x1000, 8_192, 1 << 20, MAC).unwrap();
+    assert_eq!((m.profile(), m.memory_base(), m.read(EECD)), (Profile::Adapter, 0x1000, Ok(0x118)));
+    // word 2 of PHY 1
+    m.write(MDIC, 0x0822_0000).unwrap();
+    assert_eq!(m.look(MDIC), Ok(0x1822_0141));
+    let mut first = Machine::of(Profile::Table, 0, 4_096, 1 << 20, MAC).unwrap();
+    assert_eq!((first.profile(), first.read(EECD)), (Profile::Table, Err(Refusal::NoRegister)));
+    assert_eq!((made().profile(), Profile::default()), (Profile::Table, Profile::Table));
+    assert_eq!(Machine::of(Profile::Adapter, 1, 4_096, 1 << 20, MAC).err(), Some(Refusal::Size));
+    let mut words = [0; 64];
+    words[0] = 0x5452;
+    let mut m = Machine::of_with_eeprom(Profile::Adapter, 0, 4_096, 1 << 20, &words).unwrap();
+    assert_eq!((m.read(0x5400), m.profile()), (Ok(0x5452), Profile::Adapter));
+    assert_eq!((offset_of("eecd"), Name::of(MDIC).unwrap().to_string()), (Ok(EECD), "MDIC".into()));
 }
 
 #[test]
@@ -213,6 +267,7 @@ fn sends() {
     assert_eq!(m.wire_next_into(&mut out[..59]), Err(Refusal::Room));
     assert!(m.wire_next().map(|it| it.to_vec()).eq([frame().to_vec()]));
     assert_eq!((m.wire_next_into(&mut out), m.wire_next().count()), (Ok(None), 0));
+    assert_eq!((m.let_go(), m.wire_frame(0, &mut out)), (0, Ok(60)));
     // taken back, and sent once more: a new frame
     assert_eq!((m.back(1), m.wire_next().count()), (1, 0));
     assert_eq!(m.run_tx(9), Ok(1));
@@ -258,7 +313,7 @@ fn names() {
     assert_eq!(Kind::Other(99).to_string(), "unknown kind 99");
     assert_eq!(bunjelav::version(), env!("CARGO_PKG_VERSION"));
     assert_eq!((Kind::Undersize.to_string(), Kind::LinkUp.to_string()), ("dropped: undersize".into(), "link up".into()));
-    assert_eq!((REGISTERS, MOST_SENT), (350, 16_384));
+    assert_eq!((REGISTERS, MOST_SENT), (360, 16_384));
 }
 
 #[test]
@@ -306,6 +361,7 @@ fn goes_to_another_thread() {
 #[test]
 fn is_looked_at_by_several_threads_at_once() {
     let mut m = receiving();
+    assert_eq!(m.fifo_room(), 49_152);
     m.arrive(&frame()).unwrap();
     for tail in [4, 5] {
         m.write(RDT, tail).unwrap();
@@ -313,7 +369,7 @@ fn is_looked_at_by_several_threads_at_once() {
             for _ in 0..4 {
                 scope.spawn(|| {
                     for _ in 0..500 {
-                        assert_eq!((m.look(RDT), m.fifo().frames, m.line()), (Ok(tail), 1, false));
+                        assert_eq!((m.look(RDT), m.fifo_room(), m.line()), (Ok(tail), 49_092, false));
                         assert_eq!((m.event(0).unwrap().value, m.warnings().unwrap().count()), (tail, 0));
                     }
                 });

@@ -6,5 +6,6 @@ pub mod DifferenceLaws
 pub mod SyncLaws
 pub mod WarningLaws
 pub mod DifferencesLaws
+pub mod RoomLaws
 pub mod FramesForm
 pub mod PcapLaws

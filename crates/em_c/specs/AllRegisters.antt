@@ -26,9 +26,9 @@ unfoldable pub registers_below : ℕ → View → List EmRegister
 registers_below zero v = []
 registers_below (suc k) v = registers_below k v ++ shown (4 * k) (value_at (4 * k) v)
 
--- all of them lie below 05800h
+-- all of them lie below 06000h
 abbrev pub registers_of : View → Result (List EmRegister) Refused
-registers_of v = Ok (registers_below 0x1600 v)
+registers_of v = Ok (registers_below 0x1800 v)
 
 abbrev pub count_of : Result (List EmRegister) Refused → Result ℕ Refused
 count_of (Ok registers) = Ok (length registers)

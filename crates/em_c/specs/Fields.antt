@@ -1,9 +1,10 @@
--- The bits and fields of the registers, and a register's value in words.
+-- The bits and fields of the registers, of either profile, and a register's value in words.
 use Rattle.std.specs.Prelude.{◌≡◌, ℕ, ◌++◌, nat_lt, if◌then◌else◌, List, [], length, drop, replicate, Option, Some}
 use Rattle.std.specs.Prelude.{None, Result, Err}
 use Rattle.std.specs.List.{slice_get}
 use Rattle.em_regs.specs.declared.reg.Reg.{Reg}
-use Rattle.em_regs.specs.Table.{reg_at}
+use Rattle.em_regs.specs.declared.profile.Profile.TheVariants.{Adapter}
+use Rattle.em_regs.specs.Table.{reg_of}
 use Rattle.em_names.specs.Bits.{Row, register_text, table_of}
 use Rattle.em_c.specs.declared.fields.EmField.{EmField}
 use Rattle.em_c.specs.declared.refused.Refused.{Refused}
@@ -29,7 +30,7 @@ TellsField (Some reg) k outcome = IsTold outcome (field_told (slice_get (table_o
 
 -- of the register at an offset
 abbrev pub FieldAt : ℕ → ℕ → Result EmField Refused → Type 0
-FieldAt offset k outcome = TellsField (reg_at offset) k outcome
+FieldAt offset k outcome = TellsField (reg_of Adapter offset) k outcome
 
 -- ---- the register's name, a value, and what the value's bits and fields are called
 
@@ -38,4 +39,4 @@ TellsValue None value outcome = outcome ≡ Err NoRegister
 TellsValue (Some reg) value outcome = IsTold outcome (register_text reg value)
 
 abbrev pub ValueAt : ℕ → ℕ → Result (List ℕ) Refused → Type 0
-ValueAt offset value outcome = TellsValue (reg_at offset) value outcome
+ValueAt offset value outcome = TellsValue (reg_of Adapter offset) value outcome

@@ -1,10 +1,12 @@
 -- Calls that also tell what they do, as the lines that are kept of it.
 use Rattle.std.specs.Prelude.{◌≡◌, ℕ, ◌==◌, if◌then◌else◌, List, [], length, min, Option, Some, None, Result, Ok, Err}
+use Rattle.em_regs.specs.declared.profile.Profile.{Profile}
 use Rattle.em_step.specs.Event.{Event}
 use Rattle.em_step.specs.Step.{Refuses}
 use Rattle.em_step.specs.declared.event.Answer.{Answer}
 use Rattle.em_step.specs.declared.refusal.Refusal.{Refusal}
 use Rattle.em_kept.specs.Source.{Source, unknown, line, counter}
+use Rattle.em_kept.specs.Head.{head_text}
 use Rattle.em_kept.specs.Kept.{back_text, event_text, refused_text}
 use Rattle.em_c.specs.declared.refused.Refused.TheVariants.{NoMachine}
 use Rattle.em_c.specs.declared.tagged.Tagged.{Tagged}
@@ -17,6 +19,13 @@ use Rattle.em_c.specs.Text.{Says, said}
 abbrev pub source_of : List ℕ → ℕ → ℕ → Source
 source_of [] number at = if at == 0 then unknown else counter at
 source_of file number at = line file number
+
+-- ---- what a run begins with
+
+-- of no profile nothing
+abbrev pub head_of : Option Profile → ℕ → ℕ → ℕ → List ℕ → List ℕ
+head_of None base memory budget words = []
+head_of (Some profile) base memory budget words = head_text profile base memory budget words
 
 -- ---- an event
 

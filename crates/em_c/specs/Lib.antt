@@ -4,9 +4,11 @@ pub mod Note
 pub mod Sealed
 pub mod Lent
 pub mod Calls
+pub mod Profile
 pub mod Making
 pub mod Looks
 pub mod Next
+pub mod LetGo
 pub mod Notes
 pub mod Names
 pub mod Run
@@ -35,3 +37,4 @@ pub mod Sized
 pub mod Pcap
 pub mod SealedFrames
 pub mod Sent
+pub mod Copies

@@ -2,7 +2,7 @@
 use Rattle.std.specs.Prelude.{ℕ, ◌-◌, ◌++◌, ◌==◌, nat_lt, List, length, drop, Option, Some, None, Result, Ok, Err}
 use Rattle.std.specs.Prelude.{if◌then◌else◌, slice_get, slice_set}
 use Rattle.em_mem.specs.Memory.{leaves, part}
-use Rattle.em_regs.specs.Table.{reg_at}
+use Rattle.em_regs.specs.Table.{reg_of}
 use Rattle.em_regs.specs.declared.reg.Reg.{Reg}
 use Rattle.em_latch.specs.Latches.{causes, mask}
 use Rattle.em_step.specs.Access.{gives}
@@ -25,7 +25,7 @@ value_in s (Some reg) = Ok (gives s reg)
 
 -- of the register at an offset
 abbrev pub value_at : ℕ → View → Result ℕ Refused
-value_at offset v = value_in v.present (reg_at offset)
+value_at offset v = value_in v.present (reg_of v.present.profile offset)
 
 -- n octets of guest memory from an address on
 abbrev pub octets_at : ℕ → ℕ → View → Result (List ℕ) Refused

@@ -1,38 +1,48 @@
 -- What machines are made of, and when none is made.
 use Rattle.std.specs.Prelude.{◌≡◌, ℕ, List, Option, Some, None}
 use Rattle.em_mem.specs.Memory.{IsMemoryRange, IsMemorySize}
-use Rattle.em_step.specs.Cells.{fresh, shows}
+use Rattle.em_regs.specs.declared.profile.Profile.{Profile}
+use Rattle.em_regs.specs.declared.profile.Profile.TheVariants.{Table}
+use Rattle.em_step.specs.Cells.{fresh_as, shows}
 use Rattle.em_journal.specs.Budget.{IsBudget}
 use Rattle.em_journal.specs.View.{opening}
 use Rattle.em_trail.specs.Trail.{starting}
 use Rattle.em_c.specs.declared.making.Place.{Place}
-use Rattle.em_c.specs.declared.making.Place.TheVariants.{First, From}
+use Rattle.em_c.specs.declared.making.Place.TheVariants.{First, From, As}
 use Rattle.em_c.specs.declared.refused.Refused.{Refused}
-use Rattle.em_c.specs.declared.refused.Refused.TheVariants.{Size, Budget, Memory, HasMachine}
+use Rattle.em_c.specs.declared.refused.Refused.TheVariants.{Size, Budget, Memory, HasMachine, NoProfile}
 use Rattle.em_c.specs.declared.tagged.Tagged.{Tagged}
 use Rattle.em_c.specs.Refused.{number_of}
 
--- ---- where memory lies
+-- ---- the profile, and where memory lies
+
+abbrev pub profile_of : Place → Profile
+profile_of (First size) = Table
+profile_of (From base size) = Table
+profile_of (As profile base size) = profile
 
 abbrev pub base_of : Place → ℕ
 base_of (First size) = 0
 base_of (From base size) = base
+base_of (As profile base size) = base
 
 abbrev pub octets_of : Place → ℕ
 octets_of (First size) = size
 octets_of (From base size) = size
+octets_of (As profile base size) = size
 
 abbrev pub CanLie : Place → Type 0
 CanLie (First size) = IsMemorySize size
 CanLie (From base size) = IsMemoryRange base size
+CanLie (As profile base size) = IsMemoryRange base size
 
 -- ---- a machine
 
--- after a reset, over a memory of zeros and these words in the EEPROM, with the link down, nothing to take back,
+-- of its profile, after a reset, over a memory of zeros and these words in the EEPROM, with the link down, nothing to take back,
 -- the tag 0, and no frame handed over
 abbrev pub new_machine : Place → ℕ → List ℕ → Tagged
 new_machine place budget words = record {
-  traced = starting (opening budget (shows (fresh (base_of place) (octets_of place) words)));
+  traced = starting (opening budget (shows (fresh_as (profile_of place) (base_of place) (octets_of place) words)));
   tag = 0;
   handed = 0;
 }
@@ -56,3 +66,10 @@ IsMade place budget words code None =
 abbrev pub Makes : Option Tagged → Place → ℕ → List ℕ → ℕ → Option Tagged → Type 0
 Makes (Some t) place budget words code after = (code ≡ number_of HasMachine) × (after ≡ Some t)
 Makes None place budget words code after = IsMade place budget words code after
+
+-- the same of a profile; where no profile has the number, that is named, unless the handle holds a machine
+abbrev pub MakesAs : Option Tagged → Option Profile → ℕ → ℕ → ℕ → List ℕ → ℕ → Option Tagged → Type 0
+MakesAs held (Some profile) base memory budget words code after =
+    Makes held (As profile base memory) budget words code after
+MakesAs (Some t) None base memory budget words code after = (code ≡ number_of HasMachine) × (after ≡ Some t)
+MakesAs None None base memory budget words code after = (code ≡ number_of NoProfile) × (after ≡ None)

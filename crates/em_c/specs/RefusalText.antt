@@ -8,6 +8,7 @@ use Rattle.em_c.specs.declared.refused.Refused.TheVariants.{Busy, Unread, Unwrit
 use Rattle.em_c.specs.declared.refused.Refused.TheVariants.{Width}
 use Rattle.em_c.specs.declared.refused.Refused.TheVariants.{NoCapture, HasCapture, CaptureEnd, CaptureMagic, CaptureVersion}
 use Rattle.em_c.specs.declared.refused.Refused.TheVariants.{CaptureCut, CaptureBlock, CaptureLink, CaptureLength, CaptureInterface}
+use Rattle.em_c.specs.declared.refused.Refused.TheVariants.{NoProfile}
 
 -- its name, and a sentence
 abbrev pub text_of : Refused → List ℕ
@@ -50,6 +51,7 @@ text_of CaptureBlock = codes "CaptureBlock: a block of the capture has a wrong l
 text_of CaptureLink = codes "CaptureLink: the capture's link type is not Ethernet"
 text_of CaptureLength = codes "CaptureLength: a captured length is too large"
 text_of CaptureInterface = codes "CaptureInterface: a packet's interface is not described"
+text_of NoProfile = codes "NoProfile: the profiles are 0, the table, and 1, the adapter"
 
 abbrev pub with_number : ℕ → Option Refused
 with_number code =
@@ -92,6 +94,7 @@ with_number code =
     else if code == 54 then Some CaptureLink
     else if code == 55 then Some CaptureLength
     else if code == 56 then Some CaptureInterface
+    else if code == 57 then Some NoProfile
     else None
 
 abbrev pub text_or_none : Option Refused → Result (List ℕ) Refused

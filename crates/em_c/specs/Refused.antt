@@ -9,6 +9,7 @@ use Rattle.em_c.specs.declared.refused.Refused.TheVariants.{NoEvent, NoChange, N
 use Rattle.em_c.specs.declared.refused.Refused.TheVariants.{Busy, Unread, Unwritten, NoRam, Begun, Recorded, File, Unrecorded, Width}
 use Rattle.em_c.specs.declared.refused.Refused.TheVariants.{NoCapture, HasCapture, CaptureEnd, CaptureMagic, CaptureVersion}
 use Rattle.em_c.specs.declared.refused.Refused.TheVariants.{CaptureCut, CaptureBlock, CaptureLink, CaptureLength, CaptureInterface}
+use Rattle.em_c.specs.declared.refused.Refused.TheVariants.{NoProfile}
 
 -- what refuses an event has the model's number; the others have numbers that no other refusal of the model has
 abbrev pub number_of : Refused → ℕ
@@ -51,6 +52,7 @@ number_of CaptureBlock = 53
 number_of CaptureLink = 54
 number_of CaptureLength = 55
 number_of CaptureInterface = 56
+number_of NoProfile = 57
 
 abbrev pub of_event : Refusal → Refused
 of_event event.NoRegister = NoRegister

@@ -1,7 +1,8 @@
 -- The warnings of the newest event, as C sees them.
 use Rattle.std.specs.Prelude.{◌≡◌, ℕ, ◌+◌, ◌^◌, ◌==◌, nat_lt, if◌then◌else◌, List, [], ◌∷◌, replicate}
 use Rattle.std.specs.Prelude.{Option, Some, None, Result, Ok, Err, slice_get, slice_set}
-use Rattle.em_regs.specs.Table.{offset_of, reg_at}
+use Rattle.em_regs.specs.declared.profile.Profile.TheVariants.{Adapter}
+use Rattle.em_regs.specs.Table.{offset_of, reg_of as register_of}
 use Rattle.em_regs.specs.declared.reg.Reg.{Reg}
 use Rattle.em_regs.specs.declared.reg.Reg.TheVariants as reg
 use Rattle.em_journal.specs.View.{View}
@@ -33,7 +34,7 @@ read_0 v _ = alone None
 
 -- the register at an offset of 32 bits
 abbrev pub reg_of : ℕ → Option Reg
-reg_of at = if nat_lt at (2 ^ 32) then reg_at at else None
+reg_of at = if nat_lt at (2 ^ 32) then register_of Adapter at else None
 
 abbrev pub found_as : View → Kind → ℕ → ℕ → List (Option Warning)
 found_as v kind.Write at value = written v (reg_of at) value

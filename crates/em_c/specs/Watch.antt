@@ -1,7 +1,7 @@
 -- What C watches, and the change that it is told.
 use Rattle.std.specs.Prelude.{◌≡◌, ◌⊎◌, ℕ, ◌<◌, ◌≤◌, IsTrue, List, replicate, if◌then◌else◌, Option, Some, None}
 use Rattle.em_mem.specs.Memory.{LiesIn, leaves}
-use Rattle.em_regs.specs.Table.{reg_at}
+use Rattle.em_regs.specs.Table.{reg_of}
 use Rattle.em_step.specs.State.{State}
 use Rattle.em_journal.specs.View.{View}
 use Rattle.em_watch.specs.Change.{IsNextChange, NeverDiffers}
@@ -19,7 +19,7 @@ use Rattle.em_c.specs.Refused.{number_of}
 
 -- of a machine in this state: octets lie in its guest memory
 abbrev pub IsWatch : EmWatch → State → Watch → Type 0
-IsWatch w s (watch.Register reg) = (w.kind ≡ 1) × (reg_at w.offset ≡ Some reg)
+IsWatch w s (watch.Register reg) = (w.kind ≡ 1) × (reg_of s.profile w.offset ≡ Some reg)
 IsWatch w s (watch.Octets range) =
     (w.kind ≡ 2) × (range.addr ≡ w.address) × (range.len ≡ w.octets) × LiesIn s.base s.memory w.address w.octets
 IsWatch w s watch.Line = w.kind ≡ 3
@@ -29,7 +29,7 @@ IsWatch w s watch.Sent = w.kind ≡ 6
 
 -- an offset without a register, no octet or more than 16, octets that leave guest memory, or a kind that there is not
 abbrev pub IsNoWatch : EmWatch → State → Refused → Type 0
-IsNoWatch w s NoRegister = (w.kind ≡ 1) × (reg_at w.offset ≡ None)
+IsNoWatch w s NoRegister = (w.kind ≡ 1) × (reg_of s.profile w.offset ≡ None)
 IsNoWatch w s Length = (w.kind ≡ 2) × ((w.octets ≡ 0) ⊎ (16 < w.octets))
 IsNoWatch w s Range =
     (w.kind ≡ 2) × (0 < w.octets) × (w.octets ≤ 16) × IsTrue (leaves s.base s.memory w.address w.octets)

@@ -8,8 +8,8 @@ use crate::handle::EmMachine;
 use crate::refused::{Refused, number};
 use em_journal::Machine;
 
-/// How many words the registers lie in: they lie below 05800h.
-const WORDS: u32 = 0x1600;
+/// How many words the registers lie in: they lie below 06000h.
+const WORDS: u32 = 0x1800;
 
 /// How many octets a register has.
 const WORD: u32 = 4;

@@ -1,4 +1,4 @@
-//! The bits and fields of the registers.
+//! The bits and fields of the registers, of either profile: no machine is asked.
 ghost use Rattle.std.specs.Prelude.{◌≡◌, ℕ, List, Result, Ok, Err, Some, IfOk, IfErr};
 ghost use Rattle.std.specs.List.{slice_get};
 ghost use Rattle.em_names.specs.Bits.{register_text, row_of_field, table_of};
@@ -12,7 +12,7 @@ use crate::refused::{Refused, number, tell};
 use crate::room::lay_text;
 use arrayvec::ArrayVec;
 use em_names::{Field, fields, write_register};
-use em_regs::Reg;
+use em_regs::{Profile, Reg};
 
 /// How many octets a name has in a struct, with the zeros behind it: more than any bit's or field's.
 const NAME: usize = 16;
@@ -63,7 +63,7 @@ pub extern "C" fn em_value_text(offset: u32, value: u32, out: &mut [u8], octets:
 fn field_at(offset: u32, k: usize) -> Result<EmField, Refused>
     ensures { the.FieldAt offset k result }
 {
-    match Reg::of_offset(offset) {
+    match Reg::of_offset_in(Profile::Adapter, offset) {
         Some(reg) => field_of(reg, k),
         None => Err(Refused::NoRegister),
     }
@@ -115,7 +115,7 @@ fn value_at(offset: u32, value: u32) -> Result<ArrayVec<u8, LINE>, Refused>
     ensures ok { IfOk result (λ text. the.ValueAt offset value (Ok text.items)) }
     ensures err { IfErr result (λ refused. the.ValueAt offset value (Err refused)) }
 {
-    let Some(reg) = Reg::of_offset(offset) else {
+    let Some(reg) = Reg::of_offset_in(Profile::Adapter, offset) else {
         return Err(Refused::NoRegister);
     };
     value_of(reg, value)

@@ -1,5 +1,5 @@
 //! The frames that wait in the FIFO, and the octets that are gathered for the next frame to be sent.
-ghost use Rattle.std.specs.Prelude.{◌≡◌, ◌++◌, Ok, length};
+ghost use Rattle.std.specs.Prelude.{◌≡◌, ◌++◌, None, Ok, IfOk, IfErr, length};
 ghost use Rattle.em_c.specs.Refused.{Shows, number, told};
 ghost use Rattle.em_c.specs.Looks.{asked, laid_into, length_of};
 ghost use Rattle.em_c.specs.Fifo as the;
@@ -35,6 +35,17 @@ pub extern "C" fn em_fifo(machine: &mut EmMachine, fifo: &mut EmFifo) -> u32
     tell(fifo_held(machine), fifo)
 }
 
+/// How many octets have room in the FIFO now: a frame of which no more are stored finds room, and any other is missed.
+#[unsafe(no_mangle)]
+pub extern "C" fn em_fifo_room(machine: &mut EmMachine, octets: &mut usize) -> u32
+    ensures room { Shows (asked machine.old.sealed.held the.room_in) octets.old result octets.new }
+    // as an arrival would find it
+    ensures exact { the.IsRoomOf machine.old.sealed.held octets.new }
+    ensures same { machine.new.sealed.held ≡ machine.old.sealed.held }
+{
+    tell(room_held(machine), octets)
+}
+
 /// Copies the first frame out that waits in the FIFO, and tells how many octets it has: also where there is no room for
 /// them, and then nothing is copied. Where none waits it has none.
 #[unsafe(no_mangle)]
@@ -64,6 +75,25 @@ fn fifo_held(machine: &mut EmMachine) -> Result<EmFifo, Refused>
 {
     let held = machine.held()?;
     Ok(fifo_told(held.looked_at()))
+}
+
+/// The room in the FIFO of the machine that is held.
+fn room_held(machine: &mut EmMachine) -> Result<usize, Refused>
+    ensures room { result ≡ asked machine.old.sealed.held the.room_in }
+    ensures exact { IfOk result (the.IsRoomOf machine.old.sealed.held) }
+    ensures none { IfErr result (λ refused. machine.old.sealed.held ≡ None) }
+    ensures same { machine.new.sealed.held ≡ machine.old.sealed.held }
+{
+    let held = machine.held()?;
+    Ok(room_of(held.looked_at()))
+}
+
+/// The room in the FIFO of a machine.
+fn room_of(machine: &Machine) -> usize
+    ensures room { result ≡ the.octets_free machine.now.present }
+    ensures exact { the.IsRoomIn machine.now.present result }
+{
+    machine.room()
 }
 
 /// The FIFO of a machine.

@@ -4,38 +4,43 @@ ghost use Rattle.em_step.specs.Event as events;
 ghost use Rattle.em_step.specs.Event.{reads, writes, pokes, arrives, links, receives, transmits};
 ghost use Rattle.em_kept.specs.Source as sources;
 ghost use Rattle.em_kept.specs.Head.{head_text};
+ghost use Rattle.em_c.specs.Profile.{profile_of};
 ghost use Rattle.em_kept.specs.Kept.{event_text, refused_text};
 ghost use Rattle.em_c.specs.Refused.{Shows};
 ghost use Rattle.em_c.specs.Calls.{steps_back, held_back};
 ghost use Rattle.em_c.specs.Text.{Says};
-ghost use Rattle.em_c.specs.Kept.{Keeps, KeepsHeld, back_of, source_of};
+ghost use Rattle.em_c.specs.Kept.{Keeps, KeepsHeld, back_of, head_of, source_of};
 
 use crate::back::back;
 use crate::handle::EmMachine;
+use crate::profile::profile_of;
 use crate::refused::{DONE, Refused, tell};
 use crate::tagged::Tagged;
 use crate::text::Text;
 use em_eeprom::Eeprom;
 use em_kept::Source;
+use em_regs::Profile;
 use em_step::{Answer, Event, Refusal};
 use std::alloc::Global;
 
 /// How many words the EEPROM has.
 const EEPROM_WORDS: usize = 64;
 
-/// What a run begins with: where guest memory begins and of how many octets it is, the journal's budget, and the EEPROM's
-/// words.
+/// What a run begins with: the number of the profile, where guest memory begins and of how many octets it is, the journal's
+/// budget, and the EEPROM's words. Of a number that no profile has nothing is told.
 #[unsafe(no_mangle)]
 pub extern "C" fn kept_head(
+    profile: u32,
     base: u64,
     memory: u64,
     budget: u64,
     words: &[u16; EEPROM_WORDS],
     text: &mut Text,
 )
-    ensures { Says text.new (head_text base memory budget words.now) }
+    ensures { Says text.new (head_of (profile_of profile) base memory budget words.now) }
 {
-    tell_head(text, base, memory, budget, &Eeprom::of_words(*words));
+    let eeprom = Eeprom::of_words(*words);
+    tell_head_of(text, profile_of(profile), base, memory, budget, &eeprom);
 }
 
 /// Software reads a register.
@@ -229,12 +234,36 @@ fn keep_held(machine: &mut Tagged, event: Event<'_>, source: Source<'_>, text: &
     }
 }
 
+/// What a run begins with, of a profile, if there is one.
+fn tell_head_of(
+    text: &mut Text,
+    profile: Option<Profile>,
+    base: u64,
+    memory: u64,
+    budget: u64,
+    eeprom: &Eeprom,
+)
+    ensures { Says text.new (head_of profile base memory budget eeprom.now) }
+{
+    match profile {
+        Some(profile) => tell_head(text, profile, base, memory, budget, eeprom),
+        None => text.clear(),
+    }
+}
+
 /// What a run begins with; nothing where there is no room for all of it.
-fn tell_head(text: &mut Text, base: u64, memory: u64, budget: u64, eeprom: &Eeprom)
-    ensures { Says text.new (head_text base memory budget eeprom.now) }
+fn tell_head(
+    text: &mut Text,
+    profile: Profile,
+    base: u64,
+    memory: u64,
+    budget: u64,
+    eeprom: &Eeprom,
+)
+    ensures { Says text.new (head_text profile base memory budget eeprom.now) }
 {
     text.clear();
-    if em_kept::write_head(text, base, memory, budget, eeprom).is_err() {
+    if em_kept::write_head(text, profile, base, memory, budget, eeprom).is_err() {
         text.clear();
     }
 }

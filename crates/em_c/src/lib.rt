@@ -8,6 +8,7 @@
 mod all_registers;
 mod back;
 mod captured;
+mod copies;
 mod difference;
 mod differences;
 mod entry;
@@ -15,6 +16,7 @@ mod fields;
 mod fifo;
 mod handle;
 mod kept;
+mod let_go;
 mod line;
 mod making;
 mod memory;
@@ -24,6 +26,7 @@ mod note;
 mod notes;
 mod parts;
 mod pcap;
+mod profile;
 mod ranges;
 mod reason;
 mod refusal_text;
@@ -52,22 +55,28 @@ mod wire;
 pub use all_registers::{EmRegister, em_registers};
 pub use back::{em_back, em_can_go_back};
 pub use captured::EmPcapFrame;
+pub use copies::em_copy;
 pub use differences::{EmDifference, em_differences};
 pub use entry::{EmEntry, em_ring_entry};
 pub use fields::{EmField, em_field, em_value_text};
-pub use fifo::{EmFifo, em_fifo, em_fifo_frame, em_gathered};
+pub use fifo::{EmFifo, em_fifo, em_fifo_frame, em_fifo_room, em_gathered};
 pub use handle::EmMachine;
 pub use kept::{
     kept_arrive, kept_back, kept_head, kept_poke, kept_read, kept_rx_step, kept_set_link,
     kept_tx_step, kept_write,
 };
-pub use making::{em_free, em_make, em_make_at, em_make_at_with_eeprom, em_make_with_eeprom};
+pub use let_go::em_let_go;
+pub use making::{
+    em_free, em_make, em_make_as, em_make_as_with_eeprom, em_make_at, em_make_at_with_eeprom,
+    em_make_with_eeprom,
+};
 pub use memory::{em_memory_base, em_memory_size, em_peek, em_poke};
 pub use names::{em_find, em_name};
 pub use next::em_wire_next;
 pub use note::EmNote;
 pub use notes::{em_event, em_tag};
 pub use pcap::{EmPcap, em_pcap_close, em_pcap_fault, em_pcap_next, em_pcap_of};
+pub use profile::em_profile;
 pub use ranges::{EmRange, em_ring_needs, em_written};
 pub use reason::EmReason;
 pub use refusal_text::em_refusal;

@@ -1,16 +1,19 @@
 //! Machines are made, and freed.
 ghost use Rattle.std.specs.Prelude.{◌≡◌, ◌↔◌, None, IfOk, IfErr, OnOk};
 ghost use Rattle.em_eeprom.specs.Eeprom.{words_of_mac};
-ghost use Rattle.em_step.specs.Cells.{fresh};
+ghost use Rattle.em_step.specs.Cells.{fresh_as};
 ghost use Rattle.em_journal.specs.Budget.{IsBudget};
-ghost use Rattle.em_c.specs.Making.{base_of, new_machine, octets_of, CanLie, IsRefusedAs, Makes};
+ghost use Rattle.em_c.specs.Profile as numbered;
+ghost use Rattle.em_c.specs.Making.{base_of, new_machine, octets_of, profile_of, CanLie, IsRefusedAs, Makes, MakesAs};
 
 use crate::handle::EmMachine;
+use crate::profile::profile_of;
 use crate::refused::{DONE, Refused};
 use crate::tagged::Tagged;
 use em_eeprom::Eeprom;
 use em_journal::{JournalRefusal, LEAST_BUDGET, MOST_BUDGET, Machine};
 use em_mem::MemRefusal;
+use em_regs::Profile;
 use em_step::Adapter;
 use em_trail::Traced;
 use std::alloc::Global;
@@ -18,13 +21,15 @@ use std::alloc::Global;
 /// How many words the EEPROM has.
 const EEPROM_WORDS: usize = 64;
 
-/// Where guest memory is to lie.
+/// Where guest memory is to lie, and of which profile the machine is: the first, where none is named.
 #[derive(Clone, Copy, Debug)]
 pub enum Place {
     /// So many octets from address 0 on: 16 MiB at most.
     First(u64),
     /// From an address on, so many octets.
     From(u64, u64),
+    /// Of this profile, from an address on, so many octets.
+    As(Profile, u64, u64),
 }
 
 /// Makes a machine with this Ethernet address in its EEPROM.
@@ -93,12 +98,87 @@ pub extern "C" fn em_make_at_with_eeprom(
     make(alloc, machine, place, budget, Eeprom::of_words(*words))
 }
 
+/// Makes a machine of the profile of this number, whose guest memory begins at `base`, with this Ethernet address in its
+/// EEPROM.
+#[unsafe(no_mangle)]
+pub extern "C" fn em_make_as(
+    alloc: Global,
+    machine: &mut EmMachine,
+    profile: u32,
+    base: u64,
+    memory: u64,
+    budget: u64,
+    mac: &[u8; 6],
+) -> u32
+    ensures { MakesAs machine.old.sealed.held (numbered.profile_of profile) base memory budget (words_of_mac mac.now) result
+        machine.new.sealed.held }
+{
+    let eeprom = Eeprom::of_mac(*mac);
+    make_as(
+        alloc,
+        machine,
+        profile_of(profile),
+        base,
+        memory,
+        budget,
+        eeprom,
+    )
+}
+
+/// Makes a machine of the profile of this number, whose guest memory begins at `base`, with these words in its EEPROM.
+#[unsafe(no_mangle)]
+pub extern "C" fn em_make_as_with_eeprom(
+    alloc: Global,
+    machine: &mut EmMachine,
+    profile: u32,
+    base: u64,
+    memory: u64,
+    budget: u64,
+    words: &[u16; EEPROM_WORDS],
+) -> u32
+    ensures { MakesAs machine.old.sealed.held (numbered.profile_of profile) base memory budget words.now result
+        machine.new.sealed.held }
+{
+    let eeprom = Eeprom::of_words(*words);
+    make_as(
+        alloc,
+        machine,
+        profile_of(profile),
+        base,
+        memory,
+        budget,
+        eeprom,
+    )
+}
+
 /// Frees the machine that a handle holds, where it holds one.
 #[unsafe(no_mangle)]
 pub extern "C" fn em_free(alloc: Global, machine: &mut EmMachine)
     ensures { machine.new.sealed.held ≡ None }
 {
     drop(machine.take(alloc));
+}
+
+/// Makes a machine of a profile, where there is one of its number, in a handle that holds none.
+fn make_as(
+    alloc: Global,
+    machine: &mut EmMachine,
+    profile: Option<Profile>,
+    base: u64,
+    memory: u64,
+    budget: u64,
+    eeprom: Eeprom,
+) -> u32
+    ensures { MakesAs machine.old.sealed.held profile base memory budget eeprom result machine.new.sealed.held }
+{
+    match profile {
+        Some(profile) => {
+            let place = Place::As(profile, base, memory);
+            make(alloc, machine, place, budget, eeprom)
+        }
+        None if machine.made => Refused::HasMachine.number(),
+        None => Refused::NoProfile.number(),
+    }
 }
 
 /// Makes a machine in a handle that holds none.
@@ -151,7 +231,7 @@ fn made(alloc: Global, place: Place, budget: u64, eeprom: Eeprom) -> Result<Box<
 
 /// A new adapter.
 fn adapter_at(alloc: Global, place: Place, eeprom: Eeprom) -> Result<Adapter, MemRefusal>
-    ensures ok { IfOk result (λ adapter. adapter ≡ fresh (base_of place) (octets_of place) eeprom) }
+    ensures ok { IfOk result (λ adapter. adapter ≡ fresh_as (profile_of place) (base_of place) (octets_of place) eeprom) }
     ensures lies { OnOk result (CanLie place) }
     ensures memory { IfErr result (λ e. e ≡ MemRefusal.Memory → CanLie place) }
     ensures refused { IfErr result (λ e. (e ≡ MemRefusal.Size) ↔ (CanLie place → ⊥)) }
@@ -159,6 +239,7 @@ fn adapter_at(alloc: Global, place: Place, eeprom: Eeprom) -> Result<Adapter, Me
     match place {
         Place::First(size) => Adapter::new(alloc, size, eeprom),
         Place::From(base, size) => Adapter::at(alloc, base, size, eeprom),
+        Place::As(profile, base, size) => Adapter::at_as(alloc, profile, base, size, eeprom),
     }
 }
 

@@ -64,6 +64,7 @@ fn with_number(code: u32) -> Option<Refused>
         54 => Some(Refused::CaptureLink),
         55 => Some(Refused::CaptureLength),
         56 => Some(Refused::CaptureInterface),
+        57 => Some(Refused::NoProfile),
         _ => None,
     }
 }
@@ -112,5 +113,6 @@ fn text_of(refused: Refused) -> &'static str
         Refused::CaptureLink => "CaptureLink: the capture's link type is not Ethernet",
         Refused::CaptureLength => "CaptureLength: a captured length is too large",
         Refused::CaptureInterface => "CaptureInterface: a packet's interface is not described",
+        Refused::NoProfile => "NoProfile: the profiles are 0, the table, and 1, the adapter",
     }
 }

@@ -89,6 +89,8 @@ pub enum Refused {
     CaptureLength = 55,
     /// A packet of the capture is of an interface that its section has not described.
     CaptureInterface = 56,
+    /// There is no profile of the number.
+    NoProfile = 57,
 }
 
 impl Refused {

@@ -2,12 +2,15 @@
 ghost use Rattle.std.specs.Prelude.{◌≡◌, ◌<◌, IfOk, IfErr, OnOk, OnErr, length, min};
 ghost use Rattle.em_step.specs.Event.{plain};
 ghost use Rattle.em_step.specs.Step.{Refuses};
+ghost use Rattle.em_journal.specs.View.{sent_before};
+ghost use Rattle.em_c.specs.LetGo.{after_let_go};
 ghost use Rattle.em_c.specs.Run.{Stops, is_idle};
 ghost use Rattle.em_c.specs.Tagged.{Performs, IsNoteOf, after_backs, backs, present_of};
 
 use em_journal::{Empty, Machine};
 use em_step::{Answer, Event, Refusal};
 use em_trail::{Note, Traced};
+use std::alloc::AllocError;
 
 /// A machine with its trail, the tag that its next events get, and how many of the frames that it sent were handed over:
 /// the first ones.
@@ -24,6 +27,19 @@ impl Tagged {
         ensures { result.now ≡ self.now.traced.view }
     {
         shared(self).traced.machine()
+    }
+
+    /// The same machine once more, in memory of its own, with the tag, and with as many frames handed over. It only
+    /// looks, so several threads may do so at once.
+    pub fn copy(&self) -> Result<Tagged, AllocError>
+        ensures { IfOk result (λ copy. copy ≡ self.now) }
+    {
+        let it = shared(self);
+        Ok(Tagged {
+            traced: it.traced.copy()?,
+            tag: it.tag,
+            handed: it.handed,
+        })
     }
 
     /// Performs an event under the tag. A refused event changes nothing.
@@ -59,6 +75,17 @@ impl Tagged {
     {
         let count = self.go_back(n);
         self.handed = self.handed.min(self.traced.machine().wire_len());
+        count
+    }
+
+    /// Lets go of the octets of the frames that were sent and that no step back takes off the wire, and gives how many these
+    /// are: they count as handed over.
+    pub fn let_frames_go(&mut self) -> usize
+        ensures count { result ≡ sent_before self.old.traced.view }
+        ensures held { self.new ≡ after_let_go self.old }
+    {
+        let count = self.traced.let_frames_go();
+        self.handed = self.handed.max(count);
         count
     }
 

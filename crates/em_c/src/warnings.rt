@@ -10,7 +10,7 @@ use crate::refused::{DONE, Refused};
 use crate::tagged::Tagged;
 use crate::warning::{BLANK, EmWarning};
 use em_journal::Machine;
-use em_regs::Reg;
+use em_regs::{Profile, Reg};
 use em_trail::{Kind, Note};
 use em_warnings::{RULES, Warning, read_again, warnings_of};
 
@@ -81,7 +81,7 @@ fn reg_of(at: u64) -> Option<Reg>
     ensures { result ≡ the.reg_of at }
 {
     match u32::try_from(at) {
-        Ok(offset) => Reg::of_offset(offset),
+        Ok(offset) => Reg::of_offset_in(Profile::Adapter, offset),
         Err(_) => None,
     }
 }

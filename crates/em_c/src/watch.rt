@@ -75,7 +75,7 @@ fn watch_of(watch: EmWatch, machine: &Machine) -> Result<Watch, Refused>
     ensures err { IfErr result (IsNoWatch watch machine.now.present) }
 {
     match watch.kind {
-        1 => match Reg::of_offset(watch.offset) {
+        1 => match Reg::of_offset_in(machine.profile(), watch.offset) {
             Some(reg) => Ok(Watch::Register(reg)),
             None => Err(Refused::NoRegister),
         },

@@ -4,6 +4,7 @@ use crate::marks::Marks;
 use crate::words::Words;
 use anyhow::{Result, bail};
 use em_input::{InputRefused, MOST_INPUT, input_of, is_one_file, wrong_in};
+use em_regs::Profile;
 use em_text::next_line;
 use std::rt::Files;
 
@@ -28,7 +29,12 @@ pub fn read_script<R: Files + Input + AllocGlobal>(rt: &R, name: &str) -> Result
 }
 
 /// Says on standard error which lines of a script are bad, and why, and gives how many are.
-pub fn tell_bad_lines<R: Eprint + AllocGlobal>(rt: &R, name: &str, script: &[u8]) -> Result<u64> {
+pub fn tell_bad_lines<R: Eprint + AllocGlobal>(
+    rt: &R,
+    name: &str,
+    profile: Profile,
+    script: &[u8],
+) -> Result<u64> {
     let mut rest = script;
     let mut number = 0u64;
     let mut bad = 0u64;
@@ -36,7 +42,7 @@ pub fn tell_bad_lines<R: Eprint + AllocGlobal>(rt: &R, name: &str, script: &[u8]
         let (line, behind) = next_line(rest);
         number = number.saturating_add(1);
         if line.len() < MOST_INPUT {
-            if let Some(wrong) = wrong_in(rt.alloc(), line)? {
+            if let Some(wrong) = wrong_in(rt.alloc(), profile, line)? {
                 bad = bad.saturating_add(1);
                 let wrong = String::from_utf8_lossy(rt.alloc(), wrong.as_slice())?;
                 let _ = eprintln!(rt; "em_debug: {name}: line {number}: {wrong}");

@@ -30,7 +30,7 @@ use anyhow::{Result, bail};
 use em_console::{Answers, Console, LineConsole, prompt_for, serve};
 use em_debugger::{Added, Debugger, Disk, Score};
 use em_ending::Ending;
-use em_input::{BASES, BUDGETS, Head, MACS, SIZES, take_head};
+use em_input::{BASES, BUDGETS, Head, MACS, PROFILES, SIZES, take_head};
 use em_journal::{Settings, SettingsRefusal};
 use em_options::{Options, OptionsRefused, options};
 use em_script::BenchFault;
@@ -77,6 +77,7 @@ fn debug<R: Env + Files + Input + Print + Eprint + AllocGlobal>(rt: &R, prompt: 
             REFUSED
         }
         Err(WordsRefused::NoBase) => refused(rt, BASES),
+        Err(WordsRefused::NoProfile) => refused(rt, PROFILES),
     }
 }
 
@@ -304,7 +305,7 @@ fn with_session<R: Files + Input + Print + Eprint + AllocGlobal>(
         let added = served.debugger.add_lines(script.as_slice());
         // Where all were added and none is bad, they need not be looked at again.
         if !matches!(added, Ok(Added { are_read: true, .. })) {
-            bad = tell_bad_lines(rt, name, script.as_slice())?;
+            bad = tell_bad_lines(rt, name, served.debugger.profile(), script.as_slice())?;
         }
         drop(script);
         if words.batch || words.compare {
@@ -372,7 +373,7 @@ fn with_commands<R: Files + Print + Eprint + AllocGlobal, D: Disk + Drop>(
     let mut reader = BufReader::new(rt.alloc(), file)?;
     see_commands(path, &mut reader)?;
     let head = format!(in rt.alloc(); "em_debug: {path}")?;
-    served.marks = Some(Marks::new(rt.alloc(), head.into_bytes()));
+    served.marks = Some(Marks::new(rt.alloc(), served.debugger.profile(), head.into_bytes()));
     let ended = with_reader(
         rt,
         served,

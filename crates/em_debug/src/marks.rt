@@ -3,6 +3,7 @@
 use em_input::write_wrong_of;
 use em_line::parts_of;
 use em_prompt::{Typed, Wrong, prompted};
+use em_regs::Profile;
 use em_text::{WriteFailed, write_whole};
 use itoa::Buffer;
 use std::alloc::Global;
@@ -14,6 +15,8 @@ const MOST_TYPED: usize = 0xFFFF_FFFF;
 #[derive(Drop)]
 pub struct Marks {
     alloc: Global,
+    /// Of which registers are named.
+    profile: Profile,
     /// What each line of the text begins with: the names of the program and of the file.
     head: Vec<u8>,
     text: Vec<u8>,
@@ -25,9 +28,10 @@ pub struct Marks {
 
 impl Marks {
     /// Of a file of this name, before its first line.
-    pub fn new(alloc: Global, head: Vec<u8>) -> Marks {
+    pub fn new(alloc: Global, profile: Profile, head: Vec<u8>) -> Marks {
         Marks {
             alloc,
+            profile,
             head,
             text: Vec::new(alloc),
             lines: 0,
@@ -43,7 +47,7 @@ impl Marks {
     /// Notes the next line.
     pub fn note(&mut self, line: &[u8]) {
         self.lines = self.lines.saturating_add(1);
-        if let Some(wrong) = wrong_in(line) {
+        if let Some(wrong) = wrong_in(self.profile, line) {
             self.wrong = self.wrong.saturating_add(1);
             // where no memory is left for its text, it is counted alone
             let _ = self.write(wrong);
@@ -57,23 +61,23 @@ impl Marks {
         write_whole(text, b": line ")?;
         write_whole(text, digits.format(self.lines).as_bytes())?;
         write_whole(text, b": ")?;
-        write_wrong_of(self.alloc, text, wrong)?;
+        write_wrong_of(self.alloc, self.profile, text, wrong)?;
         write_whole(text, b"\n")
     }
 }
 
 /// What is wrong with a typed line, if anything is.
-fn wrong_in(line: &[u8]) -> Option<Wrong<'_>> {
+fn wrong_in(profile: Profile, line: &[u8]) -> Option<Wrong<'_>> {
     if line.len() >= MOST_TYPED {
         return None;
     }
     let parts = parts_of(line);
     if parts.expected.is_some() && parts.said.len() < MOST_TYPED {
-        if let Ok(Typed::Line(_)) = prompted(parts.said) {
+        if let Ok(Typed::Line(_)) = prompted(profile, parts.said) {
             return None;
         }
     }
-    match prompted(line) {
+    match prompted(profile, line) {
         Ok(_) => None,
         Err(wrong) => Some(wrong),
     }

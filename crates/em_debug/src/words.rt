@@ -51,6 +51,8 @@ pub enum WordsRefused {
     Twice(&'static str),
     /// No address stands behind `--base`.
     NoBase,
+    /// No profile stands behind `--profile`.
+    NoProfile,
 }
 
 impl From<AllocError> for WordsRefused {
@@ -64,6 +66,8 @@ impl From<WordRefused> for WordsRefused {
         match refused {
             WordRefused::Base => WordsRefused::NoBase,
             WordRefused::TwoBases => WordsRefused::Twice("--base"),
+            WordRefused::Profile => WordsRefused::NoProfile,
+            WordRefused::TwoProfiles => WordsRefused::Twice("--profile"),
             WordRefused::Memory => WordsRefused::Memory,
         }
     }
@@ -96,8 +100,10 @@ impl Words {
         match before {
             Before::Commands => Err(WordsRefused::NoFile("-x")),
             Before::Capture => Err(WordsRefused::NoFile("--pcap")),
-            _ if words.machine.lacks_base() => Err(WordsRefused::NoBase),
-            _ => Ok(words),
+            Before::Scripts | Before::Other => match words.machine.lacks() {
+                Some(refused) => Err(WordsRefused::from(refused)),
+                None => Ok(words),
+            },
         }
     }
 

@@ -9,7 +9,7 @@ use Rattle.em_debugger.specs.Files.{AddsLines, AddsSome, BeginsAdded, BeginsText
 
 pub begins_text : (step : Bool) (added : Result Added BenchFault) (old between new : Debugger) (script text : List ℕ)
     → OnOk added (AddsLines old between (lines_of script)) → OnErr added (AddsSome old between (lines_of script))
-    → IfOk added (λ a. a ≡ added_of (lines_of script)) → IfErr added IsUnadded → BeginsAdded step added between new text
+    → IfOk added (λ a. a ≡ added_of old.settings.profile (lines_of script)) → IfErr added IsUnadded → BeginsAdded step added between new text
     → BeginsText step old new script text
 begins_text true (Ok a) old between new script text all some are why h =
     loads (subst (λ d. AddsLines old d (lines_of script)) (sym h.0) all)

@@ -9,6 +9,7 @@ use Rattle.em_line.specs.Parts.{said_in}
 use Rattle.em_prompt.specs.BenchLine.{BenchLine}
 use Rattle.em_prompt.specs.Help.{line_of, help_text}
 use Rattle.em_prompt.specs.Prompt.{Wrong, prompted}
+use Rattle.em_regs.specs.declared.profile.Profile.{Profile}
 use Rattle.em_prompt.specs.Scripted.{bench_in}
 use Rattle.em_prompt.specs.Typed as typed
 use Rattle.em_prompt.specs.Typed.{Typed}
@@ -98,13 +99,13 @@ AnswersPrompted did old new (Err wrong) flow text =
     (flow ≡ Goes) × (did None × ((new ≡ old) × TellsWrong wrong text))
 
 -- the line of em_bench's, where one was typed; an expected answer, a source and a comment may stand behind it
-abbrev pub asking : List ℕ → Option BenchLine
-asking typed = bench_in (prompted (said_in typed))
+abbrev pub asking : Profile → List ℕ → Option BenchLine
+asking profile typed = bench_in (prompted profile (said_in typed))
 
 -- such a line is performed; what else is typed is obeyed, or it is said what is wrong with it
 abbrev pub AnswersAsked : (Option Deed → Type 0) → Debugger → Debugger → List ℕ → Option BenchLine → Flow → List ℕ
     → Type 0
-AnswersAsked did old new typed None flow text = AnswersPrompted did old new (prompted typed) flow text
+AnswersAsked did old new typed None flow text = AnswersPrompted did old new (prompted old.settings.profile typed) flow text
 AnswersAsked did old new typed (Some bench) flow text =
     (flow ≡ Goes) × (did None × AnswersTyped old new bench typed text)
 
@@ -113,4 +114,4 @@ pub data Answers (did : Option Deed → Type 0) (old new : Debugger) (typed : Li
     : Type 0 where
   too_long : 0xFFFF_FFFF ≤ length typed → flow ≡ Goes → did None → new ≡ old → text ≡ codes "the line is too long\n"
       → Answers did old new typed flow text
-  said : AnswersAsked did old new typed (asking typed) flow text → Answers did old new typed flow text
+  said : AnswersAsked did old new typed (asking old.settings.profile typed) flow text → Answers did old new typed flow text

@@ -4,6 +4,7 @@ use Rattle.em_frames.specs.Moment.{time_in}
 use Rattle.em_line.specs.Parts.{comment_in, said_in, source_in}
 use Rattle.em_looks.specs.Numbers.{number_text}
 use Rattle.em_prompt.specs.BenchLine.{BenchLine}
+use Rattle.em_regs.specs.declared.profile.Profile.{Profile}
 use Rattle.em_prompt.specs.Scripted.{scripted}
 use Rattle.em_tape.specs.Tape.{Tape}
 use Rattle.em_tape.specs.Texts.{texts}
@@ -30,9 +31,9 @@ abbrev pub marked_by : Option BenchLine → List ℕ → List ℕ
 marked_by None line = sourced_in line
 marked_by (Some bench) line = line
 
--- what is kept of a line that was given
-abbrev pub marked_in : List ℕ → List ℕ
-marked_in line = marked_by (scripted (said_in line)) line
+-- what is kept of a line that was given, in which registers are those of a profile
+abbrev pub marked_in : Profile → List ℕ → List ℕ
+marked_in profile line = marked_by (scripted profile (said_in line)) line
 
 -- ---- how it is told
 

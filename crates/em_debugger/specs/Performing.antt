@@ -162,7 +162,7 @@ pub record AddsLine (old new : Debugger) (line given : List ℕ) (dropped : ℕ)
   pub tape : new.tape ≡ record between.tape { lines = between.tape.lines ++ line ∷ [] }
   pub expects : Expects (length between.tape.lines + 1) (wanted_in given) (texts between.wanted.answers.items)
       (texts new.wanted.answers.items)
-  pub marks : KeepsText (length between.tape.lines + 1) (marked_in given) (texts between.marks.answers.items)
+  pub marks : KeepsText (length between.tape.lines + 1) (marked_in between.settings.profile given) (texts between.marks.answers.items)
       (texts new.marks.answers.items)
   pub rest : KeepsSome between new
 

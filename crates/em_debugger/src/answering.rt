@@ -14,11 +14,11 @@ use crate::disk::Disk;
 use em_console::Flow;
 use em_line::parts_of;
 use em_looks::{show_memory, show_register, show_ring, show_sent, show_waiting};
-use em_names::nearest;
+use em_names::nearest_in;
 use em_prompt::{
     BenchLine, Fault, Shown, Typed, Wrong, prompted, write_help, write_whole_help, write_wrong,
 };
-use em_regs::Reg;
+use em_regs::{Profile, Reg};
 use em_text::{WriteFailed, write_whole};
 use std::alloc::Global;
 use std::io::Write;
@@ -41,7 +41,7 @@ impl Debugger {
             write_whole(writer, b"the line is too long\n")?;
             return Ok(Flow::Goes);
         }
-        match asking(line) {
+        match asking(self.settings.profile, line) {
             Some(bench) => {
                 self.perform_typed(writer, bench, line)?;
                 Ok(Flow::Goes)
@@ -59,15 +59,15 @@ impl Debugger {
     ) -> Result<Flow, WriteFailed>
         requires { length line.now < 0xFFFF_FFFF }
         ensures ok { IfOk result (λ flow. (text : List ℕ) × Appends (W.contents writer.old) (W.contents writer.new) text
-            × AnswersPrompted (Did D.passes disk.old disk.new) self.old self.new (prompted line.now) flow text) }
+            × AnswersPrompted (Did D.passes disk.old disk.new) self.old self.new (prompted self.old.settings.profile line.now) flow text) }
     {
-        match prompted(line) {
+        match prompted(self.settings.profile, line) {
             Ok(typed) => {
                 self.obey(writer, disk, typed)?;
                 Ok(flow_of(typed))
             }
             Err(wrong) => {
-                tell_wrong(self.alloc, writer, wrong)?;
+                tell_wrong(self.alloc, self.settings.profile, writer, wrong)?;
                 Ok(Flow::Goes)
             }
         }
@@ -144,11 +144,11 @@ impl Debugger {
 }
 
 /// The line of em_bench's, where one was typed; an expected answer, a source and a comment may stand behind it.
-fn asking(line: &[u8]) -> Option<BenchLine<'_>>
+fn asking(profile: Profile, line: &[u8]) -> Option<BenchLine<'_>>
     requires { length line.now < 0xFFFF_FFFF }
-    ensures { option_map plain_line result ≡ asking line.now }
+    ensures { option_map plain_line result ≡ asking profile line.now }
 {
-    match prompted(parts_of(line).said) {
+    match prompted(profile, parts_of(line).said) {
         Ok(Typed::Line(bench)) => Some(bench),
         _ => None,
     }
@@ -165,18 +165,23 @@ fn flow_of(typed: Typed<'_>) -> Flow
 }
 
 /// Writes what is wrong with a line; where it names no register, the nearest too.
-fn tell_wrong<W: Write>(alloc: Global, writer: &mut W, wrong: Wrong<'_>) -> Result<(), WriteFailed>
+fn tell_wrong<W: Write>(
+    alloc: Global,
+    profile: Profile,
+    writer: &mut W,
+    wrong: Wrong<'_>,
+) -> Result<(), WriteFailed>
     ensures ok { OnOk result ((text : List ℕ) × Appends (W.contents writer.old) (W.contents writer.new) text
         × TellsWrong (plain_wrong wrong.entry) text) }
 {
-    write_wrong(writer, wrong, near_of(alloc, wrong))?;
+    write_wrong(writer, wrong, near_of(alloc, profile, wrong))?;
     write_whole(writer, b"\n")
 }
 
 /// The registers that may be meant, where a word should name one and does not.
-fn near_of(alloc: Global, wrong: Wrong<'_>) -> Option<[Reg; 3]> {
+fn near_of(alloc: Global, profile: Profile, wrong: Wrong<'_>) -> Option<[Reg; 3]> {
     match wrong {
-        Wrong::Behind(_, Fault::NoRegister(word)) => nearest(alloc, word).ok(),
+        Wrong::Behind(_, Fault::NoRegister(word)) => nearest_in(alloc, profile, word).ok(),
         _ => None,
     }
 }

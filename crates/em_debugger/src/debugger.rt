@@ -12,6 +12,7 @@ use crate::sending::Sent;
 use crate::told::Told;
 use crate::who::Asked;
 use em_journal::{Settings, SettingsRefusal};
+use em_regs::Profile;
 use em_tape::Tape;
 use em_warnings::Found;
 use std::alloc::Global;
@@ -75,5 +76,12 @@ impl Debugger {
             }),
             Err(refusal) => Err(refusal),
         }
+    }
+
+    /// Of which profile its machine is.
+    pub fn profile(&self) -> Profile
+        ensures { result ≡ self.now.settings.profile }
+    {
+        self.settings.profile
     }
 }

@@ -12,7 +12,8 @@ ghost use Rattle.em_debugger.specs.Told.{KeepsText, KeepsTexts, Stay};
 ghost use Rattle.em_debugger.specs.Files.{AddsLines, AddsSome, BeginsAdded, BeginsBehind, BeginsInstead, BeginsLines, BeginsText};
 ghost use Rattle.em_debugger.specs.Files.{IsUnadded, SomeAdded, added_of, played_in, reads};
 ghost use Rattle.em_debugger.specs.Offers.{Loads, LoadsAs, is_capture};
-ghost use Rattle.em_debugger.specs.Files.{Saves, loaded_text, saved_text, script_here};
+ghost use Rattle.em_debugger.specs.Deeper.{lines_here};
+ghost use Rattle.em_debugger.specs.Files.{Saves, has_head, head_text, loaded_text, saved_text, script_here, script_of};
 
 use crate::debugger::Debugger;
 use crate::disk::{Disk, DiskFault};
@@ -23,7 +24,8 @@ use crate::place::{line_here, text_of};
 use crate::told::Told;
 use em_line::{is_line, parts_of};
 use em_looks::write_counted;
-use em_prompt::scripted;
+use em_prompt::{is_plain, scripted};
+use em_regs::Profile;
 use em_script::BenchFault;
 use em_tape::Tape;
 use em_text::{WriteFailed, next_line, write_pieces, write_whole};
@@ -48,11 +50,12 @@ impl Debugger {
     pub fn add_lines(&mut self, text: &[u8]) -> Result<Added, BenchFault>
         ensures ok { OnOk result (AddsLines self.old self.new (lines_of text.now)) }
         ensures err { OnErr result (AddsSome self.old self.new (lines_of text.now)) }
-        ensures are { IfOk result (λ added. added ≡ added_of (lines_of text.now)) }
+        ensures are { IfOk result (λ added. added ≡ added_of self.old.settings.profile (lines_of text.now)) }
         ensures only { IfErr result IsUnadded }
     {
         add_all(
             self.alloc,
+            self.settings.profile,
             &mut self.tape,
             &mut self.wanted,
             &mut self.marks,
@@ -202,10 +205,19 @@ impl Debugger {
         }
     }
 
-    /// Writes the lines up to the place as a script.
+    /// Writes the lines up to the place as a script, behind a head where they want one.
     fn write_lines<W: Write>(&self, writer: &mut W) -> Result<(), WriteFailed>
         ensures ok { OnOk result (Appends (W.contents writer.old) (W.contents writer.new)
             (script_here self.now)) }
+    {
+        write_whole(writer, head_text(self.settings.profile, &self.tape))?;
+        self.write_all_lines(writer)
+    }
+
+    /// Writes the lines up to the place.
+    fn write_all_lines<W: Write>(&self, writer: &mut W) -> Result<(), WriteFailed>
+        ensures ok { OnOk result (Appends (W.contents writer.old) (W.contents writer.new)
+            (script_of (lines_here self.now.tape))) }
     {
         for before in 0..line_here(&self.tape) {
             self.write_script_line(writer, before + 1)?;
@@ -221,23 +233,42 @@ impl Debugger {
     }
 }
 
+/// What stands before the lines up to a tape's place: the profile, where it is not the first and they have no head.
+fn head_text(profile: Profile, tape: &Tape) -> &'static [u8]
+    ensures { result.now ≡ head_text profile tape.now }
+{
+    match profile {
+        Profile::Table => b"",
+        Profile::Adapter if has_head(tape) => b"",
+        Profile::Adapter => b"# em_debug --profile adapter\n",
+    }
+}
+
+/// Whether the first line up to a tape's place says what a machine is made of.
+fn has_head(tape: &Tape) -> bool
+    ensures { result ≡ has_head tape.now }
+{
+    line_here(tape) > 0 && text_of(tape, 1).starts_with(b"# em_debug ")
+}
+
 /// Puts the lines of a text behind the last line of a tape.
 fn add_all(
     alloc: Global,
+    profile: Profile,
     tape: &mut Tape,
     wanted: &mut Told,
     marks: &mut Told,
     text: &[u8],
 ) -> Result<Added, BenchFault>
     ensures ok { OnOk result (tape.new ≡ record tape.old {
-      lines = tape.old.lines ++ map played_in (lines_of text.now);
+      lines = tape.old.lines ++ map (played_in profile) (lines_of text.now);
     }) }
     ensures expect { OnOk result (AllExpect (length tape.old.lines + 1) (lines_of text.now)
         (texts wanted.old.answers.items) (texts wanted.new.answers.items)) }
-    ensures marks { OnOk result (KeepsTexts marked_in (length tape.old.lines + 1) (lines_of text.now)
+    ensures marks { OnOk result (KeepsTexts (marked_in profile) (length tape.old.lines + 1) (lines_of text.now)
         (texts marks.old.answers.items) (texts marks.new.answers.items)) }
-    ensures are { IfOk result (λ added. added ≡ added_of (lines_of text.now)) }
-    ensures err { OnErr result (SomeAdded tape.old tape.new (texts wanted.old.answers.items)
+    ensures are { IfOk result (λ added. added ≡ added_of profile (lines_of text.now)) }
+    ensures err { OnErr result (SomeAdded profile tape.old tape.new (texts wanted.old.answers.items)
         (texts wanted.new.answers.items) (texts marks.old.answers.items) (texts marks.new.answers.items)
         (lines_of text.now)) }
     ensures only { IfErr result IsUnadded }
@@ -247,7 +278,7 @@ fn add_all(
     let mut rest = text;
     while !rest.is_empty() {
         let (line, behind) = next_line(rest);
-        are_read &= add_line(alloc, tape, wanted, marks, line)?;
+        are_read &= add_line(alloc, profile, tape, wanted, marks, line)?;
         rest = behind;
     }
     Ok(Added {
@@ -261,17 +292,18 @@ fn add_all(
 /// what is played of it.
 fn add_line(
     alloc: Global,
+    profile: Profile,
     tape: &mut Tape,
     wanted: &mut Told,
     marks: &mut Told,
     line: &[u8],
 ) -> Result<bool, BenchFault>
-    ensures ok { OnOk result (tape.new ≡ record tape.old { lines = tape.old.lines ++ played_in line.now ∷ [] }) }
+    ensures ok { OnOk result (tape.new ≡ record tape.old { lines = tape.old.lines ++ played_in profile line.now ∷ [] }) }
     ensures expect { OnOk result (Expects (length tape.old.lines + 1) (wanted_in line.now)
         (texts wanted.old.answers.items) (texts wanted.new.answers.items)) }
-    ensures marked { OnOk result (KeepsText (length tape.old.lines + 1) (marked_in line.now)
+    ensures marked { OnOk result (KeepsText (length tape.old.lines + 1) (marked_in profile line.now)
         (texts marks.old.answers.items) (texts marks.new.answers.items)) }
-    ensures read { IfOk result (λ read. read ≡ reads (played_in line.now)) }
+    ensures read { IfOk result (λ read. read ≡ reads (played_in profile line.now)) }
     ensures err { OnErr result (tape.new ≡ tape.old) }
     ensures stay { OnErr result (Stay (texts wanted.old.answers.items) (texts wanted.new.answers.items)) }
     ensures still { OnErr result (Stay (texts marks.old.answers.items) (texts marks.new.answers.items)) }
@@ -280,7 +312,7 @@ fn add_line(
     let parts = parts_of(line);
     let answer = parts.expected.unwrap_or_default();
     // Most lines em_bench reads as they stand, and they are looked at once.
-    if is_line(parts.said) {
+    if is_plain(profile, parts.said) {
         add_beside(
             tape,
             wanted,
@@ -291,7 +323,7 @@ fn add_line(
         )?;
         return Ok(true);
     }
-    let Some(bench) = scripted(parts.said) else {
+    let Some(bench) = scripted(profile, parts.said) else {
         add_beside(
             tape,
             wanted,
@@ -300,7 +332,7 @@ fn add_line(
             answer,
             sourced(line, parts),
         )?;
-        return Ok(false);
+        return Ok(is_line(parts.said));
     };
     let mut text = Vec::new(alloc);
     if bench.write(&mut text).is_err() {
@@ -313,6 +345,7 @@ fn add_line(
 /// Puts what is played of a line that was given behind the last line of a tape, and keeps which answer it expects, and the
 /// line as it was given where it says more.
 pub(crate) fn add_given(
+    profile: Profile,
     tape: &mut Tape,
     wanted: &mut Told,
     marks: &mut Told,
@@ -322,7 +355,7 @@ pub(crate) fn add_given(
     ensures ok { OnOk result (tape.new ≡ record tape.old { lines = tape.old.lines ++ text.now ∷ [] }) }
     ensures expect { OnOk result (Expects (length tape.old.lines + 1) (wanted_in given.now)
         (texts wanted.old.answers.items) (texts wanted.new.answers.items)) }
-    ensures marked { OnOk result (KeepsText (length tape.old.lines + 1) (marked_in given.now)
+    ensures marked { OnOk result (KeepsText (length tape.old.lines + 1) (marked_in profile given.now)
         (texts marks.old.answers.items) (texts marks.new.answers.items)) }
     ensures err { OnErr result (tape.new ≡ tape.old) }
     ensures stay { OnErr result (Stay (texts wanted.old.answers.items) (texts wanted.new.answers.items)) }
@@ -331,7 +364,14 @@ pub(crate) fn add_given(
 {
     let parts = parts_of(given);
     let answer = parts.expected.unwrap_or_default();
-    add_beside(tape, wanted, marks, text, answer, marked(given, parts))
+    add_beside(
+        tape,
+        wanted,
+        marks,
+        text,
+        answer,
+        marked(profile, given, parts),
+    )
 }
 
 /// Puts a line behind the last line of a tape, and beside it which answer it expects, if it expects one, and what is kept of

@@ -14,17 +14,18 @@ use em_frames::time_in;
 use em_line::{Parts, parts_of};
 use em_looks::write_number;
 use em_prompt::scripted;
+use em_regs::Profile;
 use em_tape::Tape;
 use em_text::{WriteFailed, write_pieces, write_whole};
 use std::io::Write;
 
 /// What is kept of a line that was given: the line as it stands, if em_bench reads it in other words, or it says where it
 /// comes from or when it was performed; else no octet.
-pub(crate) fn marked<'a>(line: &'a [u8], parts: Parts<'a>) -> &'a [u8]
+pub(crate) fn marked<'a>(profile: Profile, line: &'a [u8], parts: Parts<'a>) -> &'a [u8]
     requires { AreParts line.now parts }
-    ensures { result.now ≡ marked_in line.now }
+    ensures { result.now ≡ marked_in profile line.now }
 {
-    match scripted(parts.said) {
+    match scripted(profile, parts.said) {
         Some(_) => line,
         None => sourced(line, parts),
     }

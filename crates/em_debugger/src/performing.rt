@@ -103,6 +103,7 @@ impl Debugger {
     {
         let dropped = self.cut()?;
         add_given(
+            self.settings.profile,
             &mut self.tape,
             &mut self.wanted,
             &mut self.marks,

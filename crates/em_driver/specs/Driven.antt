@@ -5,6 +5,7 @@ use Rattle.em_mem.specs.Memory.{part}
 use Rattle.em_regs.specs.Setup.{value_of, pair}
 use Rattle.em_regs.specs.declared.reg.Reg.TheVariants.{Rctl, Rdbal, Rdbah, Rdlen, Rdh, Rdt}
 use Rattle.em_regs.specs.declared.reg.Reg.TheVariants.{Tctl, Tdbal, Tdbah, Tdlen, Tdh, Tdt}
+use Rattle.em_regs.specs.declared.profile.Profile.TheVariants.{Table}
 use Rattle.em_filter.specs.Bits.{vme}
 use Rattle.em_step.specs.State.{State}
 use Rattle.em_step.specs.Whole.{IsPlain}
@@ -57,7 +58,8 @@ pub record IsUsualLength (n : ℕ) : Type 0 where
   pub most : n ≤ 1518
 
 -- The receive side as a driver keeps it, but for the status of the first descriptor at most: the ring and RCTL as
--- `start` wrote them, no VLAN tag taken out of frames, each descriptor with its own buffer, those that are filled
+-- `start` wrote them, frames stored as they came (the second profile stores their check sequences, and a tag is taken
+-- out with VME), each descriptor with its own buffer, those that are filled
 -- with their lengths and marked, and whole plain frames in the FIFO.
 pub record IsReceivingBut (l : Layout) (s : State) : Type 0 where
   pub rctl : value_of s.registers Rctl ≡ 0x0000_801A
@@ -66,6 +68,7 @@ pub record IsReceivingBut (l : Layout) (s : State) : Type 0 where
   pub head : rdh s < l.rx_count
   pub tail : rdt s < l.rx_count
   pub untagged : vme s.registers ≡ false
+  pub profile : s.profile ≡ Table
   pub addresses : (i : ℕ) → i < l.rx_count → little_number 8 (rx_at l s i) ≡ rx_buffer l i
   pub lengths : (i : ℕ) → i < l.rx_count → is_filled l s i ≡ true → IsUsualLength (length_of (rx_at l s i))
   pub marks : (i : ℕ) → i < l.rx_count → i ≢ first l s → IsMarked (is_filled l s i) (rx_at l s i)

@@ -1,12 +1,12 @@
 //! What a driver reaches of a machine.
 ghost use Rattle.std.specs.Prelude.{◌≡◌, length, true, IfErr, IfOk, OnErr, OnOk};
-ghost use Rattle.em_regs.specs.Table.{IsReg, offset_of};
+ghost use Rattle.em_regs.specs.Table.{IsRegOf, offset_of};
 ghost use Rattle.em_step.specs.Access.{is_reset};
 ghost use Rattle.em_step.specs.Event.{reads, writes, pokes};
 ghost use Rattle.em_step.specs.declared.event.Answer.TheVariants.{Value, Done};
 ghost use Rattle.em_driver.specs.World.{Accesses, IsRefused, Peeks, PeeksPast};
 
-use em_regs::Reg;
+use em_regs::{Profile, Reg};
 use em_step::Refusal;
 
 /// The registers and the memory of a machine, as a driver reaches them.
@@ -21,12 +21,12 @@ pub trait Bus {
 
     /// Reads a register; one event.
     fn read(&mut self, reg: Reg) -> u32
-        requires { IsReg reg }
+        requires { IsRegOf Profile.Table reg }
         ensures { Accesses (world self.old) (reads (offset_of reg)) (Value result) (world self.new) };
 
     /// Writes a register; one event. Refused only as Memory, and only for CTRL with RST.
     fn write(&mut self, reg: Reg, value: u32) -> Result<(), Refusal>
-        requires { IsReg reg }
+        requires { IsRegOf Profile.Table reg }
         ensures ok { OnOk result (Accesses (world self.old) (writes (offset_of reg) value) Done (world self.new)) }
         ensures err { IfErr result (λ refusal.
             IsRefused (world self.old) (writes (offset_of reg) value) refusal (world self.new)) }

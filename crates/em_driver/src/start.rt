@@ -1,5 +1,6 @@
 //! The start of the device.
 ghost use Rattle.std.specs.Prelude.{◌≡◌, Some, None, IfOk, IfErr, OnOk};
+ghost use Rattle.em_regs.specs.declared.profile.Profile.TheVariants.{Table};
 ghost use Rattle.em_driver.specs.Course.{Follows};
 ghost use Rattle.em_driver.specs.Driven.{IsGoodFor};
 ghost use Rattle.em_driver.specs.Start.{start as start_of, start_events};
@@ -16,8 +17,8 @@ use std::alloc::Global;
 impl<B: Bus> E1000<B> {
     /// Starts the device on a bus: resets it, reads its EEPROM, and makes its rings in guest memory
     /// by `layout`. Answers the driver and how many events it performed, 275 and one for each
-    /// descriptor. The device is then as its driver keeps it, nothing is queued, and the frames that
-    /// were stored since the reset wait.
+    /// descriptor. A device of the first profile is then as its driver keeps it, nothing is queued, and the
+    /// frames that were stored since the reset wait.
     ///
     /// Refused, with the bus and the events that it performed: Layout, before any event, where the
     /// layout is not good for the bus's memory; Memory where a growth was refused; Checksum where
@@ -29,7 +30,7 @@ impl<B: Bus> E1000<B> {
             (B.world started.0.bus)) }
         ensures counted { IfOk result (λ started. started.1 ≡ start_events layout) }
         ensures order { IfOk result (λ started. IsSpared layout (B.world bus).spared
-            → StartsInOrder layout (B.world bus) started.1 (B.world started.0.bus)) }
+            → (present (B.world bus)).profile ≡ Table → StartsInOrder layout (B.world bus) started.1 (B.world started.0.bus)) }
         ensures layout { IfOk result (λ started. started.0.layout ≡ layout) }
         ensures untouched { IfErr result (λ refused.
             (IsGoodFor (present (B.world bus)) layout → ⊥)

@@ -1,6 +1,6 @@
 //! The accesses of a start, which are counted.
 ghost use Rattle.std.specs.Prelude.{◌≡◌, ◌+◌, ◌<◌, false, OnOk, IfErr};
-ghost use Rattle.em_regs.specs.Table.{IsReg, offset_of};
+ghost use Rattle.em_regs.specs.Table.{IsRegOf, offset_of};
 ghost use Rattle.em_step.specs.Access.{is_reset};
 ghost use Rattle.em_step.specs.Event.{reads};
 ghost use Rattle.em_step.specs.declared.event.Answer.TheVariants.{Value};
@@ -12,7 +12,7 @@ use crate::bus::Bus;
 use crate::driver::E1000;
 use crate::outcome::{Cause, cause_of};
 use bitflags::Flags;
-use em_regs::{Ctrl, Reg};
+use em_regs::{Ctrl, Profile, Reg};
 
 /// A driver that is being started, with the events that it has performed so far.
 #[derive(Drop)]
@@ -24,7 +24,7 @@ pub(crate) struct Starting<B> {
 impl<B: Bus> Starting<B> {
     /// Reads a register.
     pub(crate) fn read(&mut self, reg: Reg) -> u32
-        requires register { IsReg reg }
+        requires register { IsRegOf Profile.Table reg }
         requires few { self.old.events < 0xFFFF_FFFF }
         ensures event { Accesses (B.world self.old.driver.bus) (reads (offset_of reg)) (Value result)
             (B.world self.new.driver.bus) }
@@ -38,7 +38,7 @@ impl<B: Bus> Starting<B> {
 
     /// Writes a register, but no reset.
     pub(crate) fn write(&mut self, reg: Reg, value: u32)
-        requires register { IsReg reg }
+        requires register { IsRegOf Profile.Table reg }
         requires stays { is_reset reg value ≡ false }
         requires few { self.old.events < 0xFFFF_FFFF }
         ensures performs { Performs (B.world self.old.driver.bus) (course.write reg value) 1

@@ -5,7 +5,8 @@ use Rattle.std.specs.Int.{w32, from_be_bytes}
 use Rattle.std.specs.List.{flat_map, range_with_len}
 use Rattle.std.specs.Result.{result_ok}
 use Rattle.hex.specs.Hex.{decode_sized}
-use Rattle.em_regs.specs.Table.{reg_at}
+use Rattle.em_regs.specs.declared.profile.Profile.TheVariants.{Adapter}
+use Rattle.em_regs.specs.Table.{reg_of}
 use Rattle.em_regs.specs.declared.reg.Reg.{Reg}
 use Rattle.em_step.specs.Event.{Event, reads}
 use Rattle.em_names.specs.Bits.{Row, four_digits, number_in, table_of}
@@ -17,7 +18,7 @@ use Rattle.em_expect.specs.Agreement.{eight_digits, first_line}
 
 -- the register that an event reads
 abbrev pub register_of : Option Event → Option Reg
-register_of (Some (reads offset)) = reg_at offset
+register_of (Some (reads offset)) = reg_of Adapter offset
 register_of _ = None
 
 -- ---- values

@@ -12,7 +12,7 @@ ghost use Rattle.em_expect.specs.Difference.{wanted_value};
 
 use crate::agreement::{DASH, DIGITS, eight_digits, first_line};
 use em_names::{Field, Form, fields, number_in, write_low};
-use em_regs::Reg;
+use em_regs::{Profile, Reg};
 use em_step::Event;
 use em_text::{WriteFailed, write_pieces, write_whole};
 use hex::FromHex;
@@ -77,7 +77,7 @@ pub fn register_of(event: Option<Event<'_>>) -> Option<Reg>
     ensures { result ≡ register_of (option_map plain event.entry) }
 {
     match event {
-        Some(Event::Read(offset)) => Reg::of_offset(offset),
+        Some(Event::Read(offset)) => Reg::of_offset_in(Profile::Adapter, offset),
         _ => None,
     }
 }

@@ -1,3 +1,4 @@
 pub mod Script
 pub mod Bad
 pub mod Sizes
+pub mod Profiles

@@ -1,12 +1,13 @@
 //! What a script says that its machine is made of, and how a run that was kept ends where its process died.
 ghost use Rattle.std.specs.Prelude.{◌≤◌, length};
 
-use crate::numbers::{address_of, number_of, size_of};
+use crate::numbers::{address_of, number_of, profile_of, size_of};
+use em_regs::Profile;
 use em_text::{Words, is_name, next_line, octets_into};
 use std::alloc::{AllocError, Global};
 
 /// How many options a head has at most.
-const OPTIONS: usize = 4;
+const OPTIONS: usize = 5;
 
 /// What a machine is made of, as far as the first line of a script says it by the words of em_debug's command line:
 /// `# em_debug --memory 128M --base 80000000`.
@@ -16,6 +17,7 @@ pub struct Head {
     pub base: Option<u64>,
     pub budget: Option<u64>,
     pub mac: Option<[u8; 6]>,
+    pub profile: Option<Profile>,
     /// Whether the next line gives the machine an EEPROM with words of its own.
     pub has_eeprom: bool,
 }
@@ -26,6 +28,7 @@ impl Head {
         base: None,
         budget: None,
         mac: None,
+        profile: None,
         has_eeprom: false,
     };
 
@@ -104,6 +107,12 @@ fn take_option(alloc: Global, head: &mut Head, words: &mut Words<'_>) -> Result<
         let mac = mac_of(alloc, value)?;
         let is_new = head.mac.is_none() && mac.is_some();
         head.mac = mac;
+        return Ok(is_new);
+    }
+    if is_name(name, b"--profile") {
+        let profile = profile_of(value);
+        let is_new = head.profile.is_none() && profile.is_some();
+        head.profile = profile;
         return Ok(is_new);
     }
     if is_name(name, b"--memory") {

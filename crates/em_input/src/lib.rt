@@ -12,6 +12,6 @@ mod words;
 pub use bad::{write_wrong_of, wrong_in};
 pub use files::{InputRefused, input_of, is_one_file};
 pub use head::{Head, take_head};
-pub use numbers::size_of;
+pub use numbers::{profile_of, size_of};
 pub use script::{InputFault, MOST_INPUT, is_compressed, read_input};
-pub use words::{BASES, BUDGETS, MACS, MachineWords, SIZES, WordRefused};
+pub use words::{BASES, BUDGETS, MACS, MachineWords, PROFILES, SIZES, WordRefused};

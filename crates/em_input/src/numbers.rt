@@ -1,8 +1,10 @@
 //! Numbers as the words of a command line have them, and the head of a script.
 ghost use Rattle.std.specs.Prelude.{◌≡◌, ◌<◌, ℕ, IfSome, IsSome, length};
+ghost use Rattle.em_input.specs.Profiles.{profile_of};
 ghost use Rattle.em_input.specs.Sizes.{IsNumber, IsSize, digits_in, last_of, unit_of};
 
-use em_text::Words;
+use em_regs::Profile;
+use em_text::{Words, is_name};
 
 /// How many octets K, M and G stand for.
 const KIB: u64 = 0x400;
@@ -73,4 +75,17 @@ pub fn address_of(word: &[u8]) -> Option<u64> {
     let mut words = Words(digits);
     let address = words.hex_address()?;
     if words.is_over() { Some(address) } else { None }
+}
+
+/// The profile that a word names.
+pub fn profile_of(word: &[u8]) -> Option<Profile>
+    ensures { result ≡ profile_of word.now }
+{
+    if is_name(word, b"table") {
+        return Some(Profile::Table);
+    }
+    if is_name(word, b"adapter") {
+        return Some(Profile::Adapter);
+    }
+    None
 }

@@ -1,8 +1,9 @@
 //! Words of a command line, as each program has them that takes more than em_bench's.
 
 use crate::head::Head;
-use crate::numbers::{address_of, size_of};
+use crate::numbers::{address_of, profile_of, size_of};
 use em_journal::Settings;
+use em_regs::Profile;
 use std::alloc::{AllocError, Global};
 
 /// What `--memory` and `--base` may have.
@@ -12,6 +13,9 @@ pub const SIZES: &str =
 
 /// What `--base` has to have.
 pub const BASES: &str = "--base wants 1 to 16 hexadecimal digits";
+
+/// What `--profile` has to have.
+pub const PROFILES: &str = "--profile wants table or adapter";
 
 /// What `--budget` may have.
 pub const BUDGETS: &str = "the journal's records may cost from 65536 to 16777216 octets together";
@@ -26,6 +30,8 @@ pub struct MachineWords {
     pub options: Vec<String>,
     /// Where memory begins, if a word says so.
     base: Option<u64>,
+    /// Which profile it is of, if a word says so.
+    profile: Option<Profile>,
     /// Whether a word says how much memory there is.
     has_size: bool,
     /// Whether one says how much the journal's records may cost.
@@ -44,6 +50,8 @@ enum Awaits {
     Size,
     /// `--base`, which an address follows.
     Base,
+    /// `--profile`, which a name follows.
+    Profile,
     /// `--budget`, which a number follows.
     Budget,
     /// `--` stood before: each word is a file.
@@ -58,6 +66,10 @@ pub enum WordRefused {
     Base,
     /// `--base` stands twice.
     TwoBases,
+    /// What stands behind `--profile` is no profile.
+    Profile,
+    /// `--profile` stands twice.
+    TwoProfiles,
     /// Memory was refused.
     Memory,
 }
@@ -74,6 +86,7 @@ impl MachineWords {
         MachineWords {
             options: Vec::new(alloc),
             base: None,
+            profile: None,
             has_size: false,
             has_budget: false,
             has_mac: false,
@@ -86,9 +99,13 @@ impl MachineWords {
         self.awaits != Awaits::Nothing && self.awaits != Awaits::Files
     }
 
-    /// Whether a value is missing that em_bench knows nothing of.
-    pub fn lacks_base(&self) -> bool {
-        self.awaits == Awaits::Base
+    /// Why the words are refused at their end, where a value is missing that em_bench knows nothing of.
+    pub fn lacks(&self) -> Option<WordRefused> {
+        match self.awaits {
+            Awaits::Base => Some(WordRefused::Base),
+            Awaits::Profile => Some(WordRefused::Profile),
+            _ => None,
+        }
     }
 
     /// Takes a word.
@@ -99,6 +116,7 @@ impl MachineWords {
             Awaits::Mac => self.put(without_colons(alloc, word.as_str())?)?,
             Awaits::Size => self.put(in_octets(alloc, word.as_str())?)?,
             Awaits::Base => self.set_base(word.as_str())?,
+            Awaits::Profile => self.set_profile(word.as_str())?,
             Awaits::Budget => self.put(word)?,
             Awaits::Files => {
                 self.awaits = Awaits::Files;
@@ -129,6 +147,10 @@ impl MachineWords {
                 self.awaits = Awaits::Base;
                 return Ok(());
             }
+            "--profile" => {
+                self.awaits = Awaits::Profile;
+                return Ok(());
+            }
             text => return self.take_other(alloc, text),
         }
         self.put(word)?;
@@ -139,6 +161,9 @@ impl MachineWords {
     fn take_other(&mut self, alloc: Global, text: &str) -> Result<(), WordRefused> {
         if let Some(base) = text.strip_prefix("--base=") {
             return self.set_base(base);
+        }
+        if let Some(profile) = text.strip_prefix("--profile=") {
+            return self.set_profile(profile);
         }
         if let Some(size) = text.strip_prefix("--memory=") {
             self.has_size = true;
@@ -164,8 +189,13 @@ impl MachineWords {
     /// Where a word says something of memory, the head says nothing of it.
     pub fn settings(&self, said: Settings, head: Option<Head>) -> Settings {
         let base = self.base.unwrap_or(0);
+        let profile = self.profile.unwrap_or(said.profile);
         let Some(head) = head else {
-            return Settings { base, ..said };
+            return Settings {
+                profile,
+                base,
+                ..said
+            };
         };
         let (base, memory) = if self.base.is_some() || self.has_size {
             (base, said.memory)
@@ -176,6 +206,7 @@ impl MachineWords {
             )
         };
         Settings {
+            profile: self.profile.or(head.profile).unwrap_or(said.profile),
             base,
             memory,
             budget: if self.has_budget {
@@ -189,6 +220,17 @@ impl MachineWords {
                 head.mac.unwrap_or(said.mac)
             },
         }
+    }
+
+    fn set_profile(&mut self, text: &str) -> Result<(), WordRefused> {
+        if self.profile.is_some() {
+            return Err(WordRefused::TwoProfiles);
+        }
+        self.profile = profile_of(text.as_bytes());
+        if self.profile.is_none() {
+            return Err(WordRefused::Profile);
+        }
+        Ok(())
     }
 
     fn set_base(&mut self, text: &str) -> Result<(), WordRefused> {

@@ -1,9 +1,7 @@
 -- A chain of records that is cut, or that grows.
 use Rattle.std.proofs.Common.{◌≡◌, ℕ, ◌≤◌, ◌<◌, zero, suc, List, [], ◌∷◌, length, take}
 use Rattle.std.proofs.Common.{refl, ap, ◌∙◌, sym, subst, arith}
-use Rattle.std.specs.Prelude.{Result, Ok, Err, IfErr, Some, Vec, drop, replicate, slice_get, sum, vec_capacity, ◌+◌, ◌-◌, ◌/◌}
-use Rattle.std.specs.Global.{Global}
-use Rattle.std.proofs.lemmas.List.{length-replicate}
+use Rattle.std.specs.Prelude.{Result, Ok, Err, IfErr, Some, drop, slice_get, sum, ◌+◌, ◌/◌}
 use Rattle.em_step.proofs.CostLaws.{cost_as}
 use Rattle.em_step.proofs.MadePages.{fits_after, undo_after, shows_after}
 use Rattle.em_step.specs.Cells.{Cells, shows, MorePages}

@@ -81,6 +81,8 @@ at_effect (effect.Arrival old place) x y same at = at ∙ same
 at_effect (effect.RxStep high word low end rest) x y same at = at ∙ same
 at_effect (effect.TxStep old head) x y same at = tt
 at_effect (effect.Link old) x y same at = tt
+at_effect (effect.Pins old told) x y same at = tt
+at_effect (effect.Phy old) x y same at = tt
 at_effect (effect.Reset old) x y same at = tt
 
 at_same : (rs : List Record) (x y : OldOctets) → x.top ≡ y.top → length x.octets ≡ length y.octets
@@ -371,6 +373,8 @@ at_place (effect.RxStep high word low end rest) n o less inside at =
     (sym (seen_given n o less inside) ∙ ap (λ (k : ℕ). seen_from k o) (sym at))
 at_place (effect.TxStep old head) n o less inside at = refl
 at_place (effect.Link old) n o less inside at = refl
+at_place (effect.Pins old told) n o less inside at = refl
+at_place (effect.Phy old) n o less inside at = refl
 at_place (effect.Reset old) n o less inside at = refl
 
 placed : (e : Effect) (n : ℕ) (o : OldOctets) → n < length o.octets → o.top < length o.octets
@@ -385,6 +389,8 @@ placed (effect.RxStep high word low end rest) n o less inside at =
     omega (arith, at, forward-inside (length o.octets) n o.top inside (omega (arith, less)))
 placed (effect.TxStep old head) n o less inside at = tt
 placed (effect.Link old) n o less inside at = tt
+placed (effect.Pins old told) n o less inside at = tt
+placed (effect.Phy old) n o less inside at = tt
 placed (effect.Reset old) n o less inside at = tt
 
 told_behind : (rs : List Record) (k : ℕ) (r : Record) (n : ℕ) (o : OldOctets) → n + held_by rs < length o.octets

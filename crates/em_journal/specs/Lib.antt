@@ -5,3 +5,4 @@ pub mod Refusal
 pub mod Settings
 pub mod View
 pub mod Record
+pub mod Copies

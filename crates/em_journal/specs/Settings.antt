@@ -2,16 +2,18 @@
 use Rattle.std.specs.Prelude.{◌≡◌, ℕ, List, [], ◌∷◌, codes}
 use Rattle.em_mem.specs.Memory.{IsMemoryRange}
 use Rattle.em_eeprom.specs.Eeprom.{words_of_mac}
-use Rattle.em_step.specs.Cells.{fresh, shows}
+use Rattle.em_regs.specs.declared.profile.Profile.TheVariants.{Table}
+use Rattle.em_step.specs.Cells.{fresh_as, shows}
 use Rattle.em_journal.specs.Budget.{IsBudget}
 use Rattle.em_journal.specs.View.{View, opening}
 use Rattle.em_journal.specs.declared.settings.Settings.{Settings}
 use Rattle.em_journal.specs.declared.settings.SettingsRefusal.{SettingsRefusal}
 use Rattle.em_journal.specs.declared.settings.SettingsRefusal.TheVariants.{Size, Budget, Memory}
 
--- where nobody says otherwise: 64 KiB of memory from address 0 on, 1 MiB for the journal, and an address that is administered locally
+-- where nobody says otherwise: the first profile, 64 KiB of memory from address 0 on, 1 MiB for the journal, and an address that is administered locally
 abbrev pub defaults : Settings
 defaults = record {
+  profile = Table;
   base = 0;
   memory = 65_536;
   budget = 1_048_576;
@@ -21,10 +23,10 @@ defaults = record {
 abbrev pub IsDefault : Settings → Type 0
 IsDefault settings = settings ≡ defaults
 
--- after a reset, over a memory of zeros from its base on, with the link down and nothing to take back
+-- of its profile, after a reset, over a memory of zeros from its base on, with the link down and nothing to take back
 abbrev pub new_machine : Settings → View
 new_machine settings =
-    opening settings.budget (shows (fresh settings.base settings.memory (words_of_mac settings.mac)))
+    opening settings.budget (shows (fresh_as settings.profile settings.base settings.memory (words_of_mac settings.mac)))
 
 -- memory can lie there, and a journal can be of this size
 abbrev pub AreAllowed : Settings → Type 0

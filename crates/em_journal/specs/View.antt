@@ -1,8 +1,8 @@
 -- What a machine shows: where it is, and what it can go back to.
-use Rattle.std.specs.Prelude.{◌≡◌, ℕ, ◌-◌, nat_le, if◌then◌else◌, zero, suc, List, [], ◌∷◌, length, take, drop, refl}
+use Rattle.std.specs.Prelude.{◌≡◌, ℕ, ◌-◌, nat_le, if◌then◌else◌, zero, suc, List, [], ◌∷◌, length, map, take, drop, refl}
 use Rattle.std.specs.Prelude.{Some, slice_get}
 use Rattle.std.specs.Coded.{Coded, code_by, coded×, coded_list, coded_ℕ}
-use Rattle.em_step.specs.State.{State, state_code}
+use Rattle.em_step.specs.State.{State, state_code, without_frames}
 
 -- the lists have the newest first, and each cost is that of the event that led away from the state beside it
 pub record View : Type 0 where
@@ -46,6 +46,21 @@ reach budget (c ∷ costs) = if nat_le c budget then suc (reach (budget - c) cos
 -- the costs without the oldest, which the budget does not hold
 abbrev pub costs_within : ℕ → List ℕ → List ℕ
 costs_within budget costs = take (reach budget costs) costs
+
+-- ---- frames whose octets are let go
+
+-- the oldest of a state and those before it
+abbrev pub oldest : State → List State → State
+oldest s [] = s
+oldest s (t ∷ older) = oldest t older
+
+-- how many frames were sent in the oldest state that steps back lead to
+abbrev pub sent_before : View → ℕ
+sent_before v = length (oldest v.present v.past).wire
+
+-- in each state the first k frames are without their octets
+abbrev pub view_without : ℕ → View → View
+view_without k v = record v { present = without_frames k v.present; past = map (without_frames k) v.past }
 
 -- ---- what events and steps back make of it
 

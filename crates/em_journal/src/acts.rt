@@ -1,13 +1,13 @@
 //! What performs events as a machine does, and takes them back.
 ghost use Rattle.std.specs.Prelude.{◌≡◌, IfOk, IfErr, OnOk, OnErr, length, min};
-ghost use Rattle.em_regs.specs.Table.{IsReg, offset_of};
+ghost use Rattle.em_regs.specs.Table.{IsRegOf, offset_of};
 ghost use Rattle.em_step.specs.Event.{plain, reads, writes};
 ghost use Rattle.em_journal.specs.History.{WasJournalled, Does, refuses, goes_back, is_empty};
 ghost use Rattle.em_journal.specs.View.{after_backs};
 
 use crate::machine::Machine;
 use crate::refusal::Empty;
-use em_regs::Reg;
+use em_regs::{Profile, Reg};
 use em_step::{Answer, Event, Refusal};
 
 /// A machine, or one that keeps more beside it.
@@ -23,15 +23,15 @@ pub trait Acts {
         ensures err { IfErr result (λ refusal.
             Does (shows self.old) (refuses (plain event.entry) refusal) (shows self.new)) };
 
-    /// Software reads a register: the event of a read at its offset.
+    /// Software reads a register that each profile has: the event of a read at its offset.
     fn read_register(&mut self, reg: Reg) -> u32
-        requires { IsReg reg }
+        requires { IsRegOf Profile.Table reg }
         ensures { WasJournalled (shows self.old) (reads (offset_of reg)) (Answer.Value result) (shows self.new) };
 
-    /// Software writes a register: the event of a write at its offset. Refused only as Memory, where it is
-    /// a reset.
+    /// Software writes a register that each profile has: the event of a write at its offset. Refused only as Memory,
+    /// where it is a reset.
     fn write_register(&mut self, reg: Reg, value: u32) -> Result<(), Refusal>
-        requires { IsReg reg }
+        requires { IsRegOf Profile.Table reg }
         ensures ok { OnOk result (WasJournalled (shows self.old) (writes (offset_of reg) value) Answer.Done
             (shows self.new)) }
         ensures err { IfErr result (λ refusal.

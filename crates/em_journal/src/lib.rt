@@ -2,6 +2,7 @@
 #![tactic(auto)]
 
 mod acts;
+mod copies;
 pub mod laws;
 mod machine;
 mod needs;

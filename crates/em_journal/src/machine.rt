@@ -2,11 +2,12 @@
 //!
 //! `perform` is the way in. Which function an event then runs through, here; in `Adapter`; and below:
 //!
-//! - an access at an offset: `read`, `write`, where `Reg::of_offset` finds the register, and by its kind
-//!   - one that stores: `read_stored`, `write_stored`; the same in `Adapter`; `RegFile::look`, `put`
+//! - an access at an offset: `read`, `write`, where `Reg::of_offset_in` finds the register, and by its kind
+//!   - one that stores: `read_stored`, `write_stored`; the same in `Adapter`; `RegFile::look`, `put_in`
 //!   - an interrupt register, a counter: `read_latched`, `write_latched`; the same; `Latches::read`, `write`
-//!   - STATUS, and a write of CTRL or EERD: `read_other`, `write_other`; `read_register`, `write_register`;
-//!     `status`, `write_control`, `write_eerd`
+//!   - STATUS, EECD and MDIC, and a write of CTRL or EERD: `read_other`, `write_other`; `read_register`,
+//!     `write_register`; `status`, `write_control`, `write_eerd`, `write_pins`, `command_phy`
+//!   - where it finds none: `access_none`; the same
 //! - a memory write: `poke`; `poke`; `GuestMemory::write_saving`
 //! - an arriving frame: `arrive`; `arrive`, `dispose`, `judge`, `admit`, `accept`; em_filter, `Fifo::store`
 //! - a change of the link: `set_link`; `set_link`; `Latches::raise`
@@ -16,14 +17,14 @@
 //! which `Records::make_ready` sees to. `Records::keep` puts the record first in the journal, and `back` gives it to
 //! `Adapter::put_back` with those octets: the words of the latches by `Latches::put_back`, and then its effect.
 ghost use Rattle.std.specs.Prelude.{◌≡◌, ◌+◌, ◌<◌, ◌≤◌, ◌↔◌, IfOk, IfErr, OnOk, OnErr, IsErrOf, IsTrue};
-ghost use Rattle.std.specs.Prelude.{◌/◌, IfSome, IsNone};
+ghost use Rattle.std.specs.Prelude.{◌/◌, ℕ, IfSome, IsNone, None};
 ghost use Rattle.std.specs.Prelude.{length, min, replicate, slice_get};
 ghost use Rattle.std.specs.Option.{option_map};
 ghost use Rattle.em_mem.specs.Memory.{LiesIn, leaves, part};
-ghost use Rattle.em_regs.specs.Table.{IsReg, offset_of, reg_at};
+ghost use Rattle.em_regs.specs.Table.{IsReg, IsRegOf, has_reg, offset_of, reg_of};
 ghost use Rattle.em_regs.specs.RegFile.{IsStored, OnlyStores};
 ghost use Rattle.em_latch.specs.Latches.{IsAsserted, IsLatched};
-ghost use Rattle.em_rx.specs.Fifo.{first, last};
+ghost use Rattle.em_rx.specs.Fifo.{first, last, octets_in};
 ghost use Rattle.em_rx.specs.StoredFrame.{LiesSo};
 ghost use Rattle.em_step.specs.Access.{gives};
 ghost use Rattle.em_step.specs.Cells.{shows};
@@ -32,15 +33,15 @@ ghost use Rattle.em_step.specs.Event.{plain, reads, writes, pokes, arrives, link
 ghost use Rattle.em_journal.specs.Budget.{IsBudget};
 ghost use Rattle.em_journal.specs.History.{refuses, goes_back, is_empty, Does, Run, WasJournalled};
 ghost use Rattle.em_journal.specs.Record.{IsRecordAt};
-ghost use Rattle.em_journal.specs.View.{HaveMemoryOf, opening, after_backs};
+ghost use Rattle.em_journal.specs.View.{HaveMemoryOf, after_backs, opening, sent_before, view_without};
 
 use crate::records::{Records, first_octets, most_records};
 use crate::refusal::{Empty, JournalRefusal};
 use circular_buffer::HeapCircularBuffer;
-use em_regs::{Kind, Reg};
+use em_regs::{Kind, Profile, Reg};
 use em_rx::StoredFrame;
 use em_step::{Adapter, Answer, Event, LEAST_COST, Past, Refusal};
-use std::alloc::Global;
+use std::alloc::{AllocError, Global};
 use std::marker::Model;
 
 /// The least budget of a journal, in octets of cost: the dearest event, so that the newest one
@@ -118,6 +119,20 @@ impl Machine {
         })
     }
 
+    /// The same machine once more, in memory of its own: it shows the same, and goes back as far, to the same states.
+    /// From then on neither knows what becomes of the other.
+    pub fn copy(&self) -> Result<Machine, AllocError>
+        ensures { IfOk result (λ copy. copy ≡ self.now) }
+    {
+        let adapter = self.adapter.copy()?;
+        let copies = self.records.copy()?;
+        Ok(Machine {
+            adapter,
+            records: copies,
+            budget: self.budget,
+        })
+    }
+
     /// Performs one event and journals it; the oldest records go that the budget no longer holds.
     ///
     /// A refused event is not journalled: the machine stays as it was, also in how far it can go
@@ -146,48 +161,87 @@ impl Machine {
 
     // An event of each kind has a function of its own, so that none pays for what another one needs.
 
-    /// Software reads the register at an offset.
+    /// Software reads at an offset: the register there, if there is one.
     #[inline(never)]
     fn read(&mut self, offset: u32) -> Result<u32, Refusal>
         ensures ok { IfOk result (λ value. WasJournalled self.old (reads offset) (Answer.Value value) self.new) }
         ensures err { IfErr result (λ refusal. Does self.old (refuses (reads offset) refusal) self.new) }
     {
-        match Reg::of_offset(offset) {
-            Some(reg) => Ok(self.read_register(reg)),
-            None => Err(Refusal::NoRegister),
+        match Reg::of_offset_in(self.profile(), offset) {
+            Some(reg) => Ok(self.read_found(reg)),
+            None => {
+                self.access_none(offset)?;
+                Ok(0)
+            }
         }
     }
 
-    /// Software writes a value to the register at an offset.
+    /// Software writes a value at an offset: to the register there, if there is one.
     #[inline(never)]
     fn write(&mut self, offset: u32, value: u32) -> Result<(), Refusal>
         ensures ok { OnOk result (WasJournalled self.old (writes offset value) Answer.Done self.new) }
         ensures err { IfErr result (λ refusal. Does self.old (refuses (writes offset value) refusal) self.new) }
     {
-        match Reg::of_offset(offset) {
-            Some(reg) => self.write_register(reg, value),
-            None => Err(Refusal::NoRegister),
+        match Reg::of_offset_in(self.profile(), offset) {
+            Some(reg) => self.write_found(reg, value),
+            None => self.access_none(offset),
         }
     }
 
-    /// Software reads a register: the event of a read at its offset.
+    /// Software reads or writes at an offset where no register lies.
+    #[inline(never)]
+    fn access_none(&mut self, offset: u32) -> Result<(), Refusal>
+        requires { reg_of self.old.present.profile offset ≡ None }
+        ensures read { OnOk result (WasJournalled self.old (reads offset) (Answer.Value 0) self.new) }
+        ensures write { OnOk result ((v : ℕ) → WasJournalled self.old (writes offset v) Answer.Done self.new) }
+        ensures unread { IfErr result (λ refusal. Does self.old (refuses (reads offset) refusal) self.new) }
+        ensures unwritten { IfErr result (λ refusal. (v : ℕ) →
+            Does self.old (refuses (writes offset v) refusal) self.new) }
+    {
+        let newest = self.adapter.access_none(offset)?;
+        self.records
+            .keep(&mut self.adapter, self.budget, LEAST_COST, newest);
+        Ok(())
+    }
+
+    /// Software reads a register that each profile has: the event of a read at its offset.
     #[inline(always)]
     pub fn read_register(&mut self, reg: Reg) -> u32
-        requires { IsReg reg }
+        requires { IsRegOf Profile.Table reg }
+        ensures { WasJournalled self.old (reads (offset_of reg)) (Answer.Value result) self.new }
+    {
+        self.read_found(reg)
+    }
+
+    /// Software writes a register that each profile has: the event of a write at its offset. Refused only as Memory,
+    /// where it is a reset.
+    #[inline(always)]
+    pub fn write_register(&mut self, reg: Reg, value: u32) -> Result<(), Refusal>
+        requires { IsRegOf Profile.Table reg }
+        ensures ok { OnOk result (WasJournalled self.old (writes (offset_of reg) value) Answer.Done self.new) }
+        ensures err { IfErr result (λ refusal.
+            Does self.old (refuses (writes (offset_of reg) value) refusal) self.new) }
+    {
+        self.write_found(reg, value)
+    }
+
+    /// Software reads a register that the machine's profile has.
+    #[inline(always)]
+    fn read_found(&mut self, reg: Reg) -> u32
+        requires { IsRegOf self.old.present.profile reg }
         ensures { WasJournalled self.old (reads (offset_of reg)) (Answer.Value result) self.new }
     {
         match reg.row().kind {
             Kind::Stored | Kind::Control | Kind::EepromRead => self.read_stored(reg),
             Kind::Interrupt | Kind::Counter => self.read_latched(reg),
-            Kind::Status => self.read_other(reg),
+            Kind::Status | Kind::EepromPins | Kind::PhyCommand => self.read_other(reg),
         }
     }
 
-    /// Software writes a register: the event of a write at its offset. Refused only as Memory, where it is
-    /// a reset.
+    /// Software writes a register that the machine's profile has.
     #[inline(always)]
-    pub fn write_register(&mut self, reg: Reg, value: u32) -> Result<(), Refusal>
-        requires { IsReg reg }
+    fn write_found(&mut self, reg: Reg, value: u32) -> Result<(), Refusal>
+        requires { IsRegOf self.old.present.profile reg }
         ensures ok { OnOk result (WasJournalled self.old (writes (offset_of reg) value) Answer.Done self.new) }
         ensures err { IfErr result (λ refusal.
             Does self.old (refuses (writes (offset_of reg) value) refusal) self.new) }
@@ -195,7 +249,8 @@ impl Machine {
         match reg.row().kind {
             Kind::Stored => self.write_stored(reg, value),
             Kind::Interrupt | Kind::Counter => self.write_latched(reg, value),
-            Kind::Control | Kind::EepromRead | Kind::Status => self.write_other(reg, value)?,
+            Kind::Control | Kind::EepromRead | Kind::Status | Kind::EepromPins | Kind::PhyCommand =>
+                self.write_other(reg, value)?,
         }
         Ok(())
     }
@@ -206,7 +261,8 @@ impl Machine {
 
     #[inline(always)]
     fn read_stored(&mut self, reg: Reg) -> u32
-        requires { IsStored reg }
+        requires stored { IsStored reg }
+        requires has { IsTrue (has_reg self.old.present.profile reg) }
         ensures { WasJournalled self.old (reads (offset_of reg)) (Answer.Value result) self.new }
     {
         let (value, newest) = self.adapter.read_stored(reg);
@@ -219,6 +275,7 @@ impl Machine {
     fn read_latched(&mut self, reg: Reg) -> u32
         requires reg { IsReg reg }
         requires latched { IsLatched reg }
+        requires has { IsTrue (has_reg self.old.present.profile reg) }
         ensures { WasJournalled self.old (reads (offset_of reg)) (Answer.Value result) self.new }
     {
         let (value, newest) = self.adapter.read_latched(reg);
@@ -229,7 +286,7 @@ impl Machine {
 
     #[inline(never)]
     fn read_other(&mut self, reg: Reg) -> u32
-        requires { IsReg reg }
+        requires { IsRegOf self.old.present.profile reg }
         ensures { WasJournalled self.old (reads (offset_of reg)) (Answer.Value result) self.new }
     {
         let (value, newest) = self.adapter.read_register(reg);
@@ -240,7 +297,8 @@ impl Machine {
 
     #[inline(always)]
     fn write_stored(&mut self, reg: Reg, value: u32)
-        requires { OnlyStores reg }
+        requires only { OnlyStores reg }
+        requires has { IsTrue (has_reg self.old.present.profile reg) }
         ensures { WasJournalled self.old (writes (offset_of reg) value) Answer.Done self.new }
     {
         let newest = self.adapter.write_stored(reg, value);
@@ -252,6 +310,7 @@ impl Machine {
     fn write_latched(&mut self, reg: Reg, value: u32)
         requires reg { IsReg reg }
         requires latched { IsLatched reg }
+        requires has { IsTrue (has_reg self.old.present.profile reg) }
         ensures { WasJournalled self.old (writes (offset_of reg) value) Answer.Done self.new }
     {
         let newest = self.adapter.write_latched(reg, value);
@@ -261,7 +320,7 @@ impl Machine {
 
     #[inline(never)]
     fn write_other(&mut self, reg: Reg, value: u32) -> Result<(), Refusal>
-        requires { IsReg reg }
+        requires { IsRegOf self.old.present.profile reg }
         ensures ok { OnOk result (WasJournalled self.old (writes (offset_of reg) value) Answer.Done self.new) }
         ensures err { IfErr result (λ refusal.
             Does self.old (refuses (writes (offset_of reg) value) refusal) self.new) }
@@ -401,10 +460,18 @@ impl Machine {
         Some(Past::new(found, &self.records.octets))
     }
 
+    /// Which profile it is of.
+    #[inline(always)]
+    pub fn profile(&self) -> Profile
+        ensures { result ≡ self.now.present.profile }
+    {
+        self.adapter.profile()
+    }
+
     /// What a read of the register at an offset (octets) would give, with nothing cleared; none
-    /// where no register lies there.
+    /// where its profile has no register there.
     pub fn look(&self, offset: u32) -> Option<u32>
-        ensures { result ≡ option_map (gives self.now.present) (reg_at offset) }
+        ensures { result ≡ option_map (gives self.now.present) (reg_of self.now.present.profile offset) }
     {
         self.adapter.look(offset)
     }
@@ -444,6 +511,13 @@ impl Machine {
         self.adapter.frames()
     }
 
+    /// How many stored octets have room in the FIFO.
+    pub fn room(&self) -> usize
+        ensures { octets_in self.now.present.fifo + result ≡ 49_152 }
+    {
+        self.adapter.room()
+    }
+
     /// The first frame of the FIFO, as it lies there; none where no frame waits.
     pub fn first_frame(&self) -> Option<StoredFrame<'_>>
         ensures none { IsNone result ↔ (length self.now.present.fifo.frames ≡ 0) }
@@ -465,6 +539,31 @@ impl Machine {
         ensures { result ≡ length self.now.present.wire }
     {
         self.adapter.wire_len()
+    }
+
+    /// How many frames were sent in the oldest state that steps back lead to. The cost is that of a look into each record.
+    pub fn sent_before(&self) -> usize
+        ensures { result ≡ sent_before self.now }
+    {
+        let mut sent = self.wire_len();
+        for k in 0..self.can_go_back() {
+            match self.record(k) {
+                Some(past) => sent = past.sent_before(sent),
+                None => unreachable!(),
+            }
+        }
+        sent
+    }
+
+    /// Lets go of the octets of frames that were sent and that no step back takes off the wire: these are empty from
+    /// then on, in each state that steps back lead to, and are still counted. Gives how many frames these are.
+    pub fn let_frames_go(&mut self) -> usize
+        ensures count { result ≡ sent_before self.old }
+        ensures view { self.new ≡ view_without result self.old }
+    {
+        let count = self.sent_before();
+        self.adapter.let_frames_go(count);
+        count
     }
 
     /// The octets of a frame that was sent, the first one at 0; none where so many were not sent.

@@ -7,6 +7,7 @@ use crate::machine::{Machine, is_budget};
 use crate::refusal::JournalRefusal;
 use em_eeprom::Eeprom;
 use em_mem::MemRefusal;
+use em_regs::Profile;
 use em_step::Adapter;
 use std::alloc::Global;
 use thiserror::Error;
@@ -14,6 +15,8 @@ use thiserror::Error;
 /// What a machine is made of; `Settings::default()` is what it is made of where nobody says otherwise.
 #[derive(Clone, Copy, PartialEq, Eq, Debug)]
 pub struct Settings {
+    /// Which profile it is of.
+    pub profile: Profile,
     /// The address of the first octet of the guest's memory: a multiple of 4,096.
     pub base: u64,
     /// How many octets that memory has: a multiple of 4,096, from 4,096 on. It ends at 2^40 at most.
@@ -24,8 +27,9 @@ pub struct Settings {
     pub mac: [u8; 6],
 }
 
-/// 64 KiB of memory from address 0 on, 1 MiB for the journal, and an address that is administered locally.
+/// The first profile, 64 KiB of memory from address 0 on, 1 MiB for the journal, and an address that is administered locally.
 const DEFAULTS: Settings = Settings {
+    profile: Profile::Table,
     base: 0,
     memory: 65_536,
     budget: 1_048_576,
@@ -77,7 +81,8 @@ impl Settings {
         ensures allowed { OnOk result (AreAllowed self.now) }
         ensures err { IfErr result (IsRefusedAs self.now) }
     {
-        let adapter = match Adapter::at(alloc, self.base, self.memory, Eeprom::of_mac(self.mac)) {
+        let eeprom = Eeprom::of_mac(self.mac);
+        let adapter = match Adapter::at_as(alloc, self.profile, self.base, self.memory, eeprom) {
             Ok(adapter) => adapter,
             Err(refusal) => return Err(self.without_adapter(refusal)),
         };

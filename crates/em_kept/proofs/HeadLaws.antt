@@ -7,9 +7,12 @@ use Rattle.std.specs.Int.{w16, w64, to_be_bytes}
 use Rattle.std.proofs.lemmas.List.Elements.{All-append}
 use Rattle.hex.specs.Hex.{IsBytes}
 use Rattle.em_eeprom.specs.Eeprom.{IsEeprom, mac_of, word_at}
+use Rattle.em_regs.specs.declared.profile.Profile.{Profile}
+use Rattle.em_regs.specs.declared.profile.Profile.TheVariants.{Table, Adapter}
 use Rattle.em_text.specs.Lines.{is_newline, lines_of}
 use Rattle.em_text.specs.Writer.{hex_text}
-use Rattle.em_kept.specs.Head.{base_text, head_lines, head_text, is_of_mac, marked_base_text, settings_line, settings_text}
+use Rattle.em_kept.specs.Head.{base_text, head_lines, head_text, is_of_mac, marked_base_text, profile_text}
+use Rattle.em_kept.specs.Head.{settings_line, settings_text}
 use Rattle.em_kept.specs.Head.{words_from, words_line, words_text, word_digits}
 use Rattle.em_kept.specs.Kept.{address_digits, text_of}
 use Rattle.em_kept.specs.ReadBack.{AreSilent, AreWhole}
@@ -43,25 +46,30 @@ base_whole_where false base =
 base_whole : (base : ℕ) → Whole (base_text base)
 base_whole base = base_whole_where (base == 0) base
 
+profile_whole : (profile : Profile) → Whole (profile_text profile)
+profile_whole Table = λ k d lt. absurd (omega arith)
+profile_whole Adapter = all_not is_newline (codes " --profile adapter") refl
+
 mac_whole : (words : List ℕ) → IsEeprom words → Whole (codes " --mac " ++ hex_text (mac_of words))
 mac_whole words is =
     let mac = hex_text (mac_of words) in
     join (codes " --mac ") mac (all_not is_newline (codes " --mac ") refl)
     (all_quiet _ mac no_newline (quiet_hex (mac_of words) (mac_bytes words is)))
 
-settings_whole : (base memory budget : ℕ) (words : List ℕ) → memory < 2 ^ 64 → budget < 2 ^ 64 → IsEeprom words
-    → Whole (settings_line base memory budget (mac_of words))
-settings_whole base memory budget words m b is =
+settings_whole : (profile : Profile) (base memory budget : ℕ) (words : List ℕ) → memory < 2 ^ 64 → budget < 2 ^ 64
+    → IsEeprom words → Whole (settings_line profile base memory budget (mac_of words))
+settings_whole profile base memory budget words m b is =
     let mac = codes " --mac " ++ hex_text (mac_of words) in
     join (codes "# em_debug --memory " ++ (decimal memory ++ (codes " --budget " ++ decimal budget)))
-    (base_text base ++ mac)
+    (base_text base ++ (profile_text profile ++ mac))
     (join (codes "# em_debug --memory ") (decimal memory ++ (codes " --budget " ++ decimal budget))
     (all_not is_newline (codes "# em_debug --memory ") refl)
     (join (decimal memory) (codes " --budget " ++ decimal budget)
     (all_quiet _ (decimal memory) no_newline (quiet_decimal memory m))
     (join (codes " --budget ") (decimal budget) (all_not is_newline (codes " --budget ") refl)
     (all_quiet _ (decimal budget) no_newline (quiet_decimal budget b)))))
-    (join (base_text base) mac (base_whole base) (mac_whole words is))
+    (join (base_text base) (profile_text profile ++ mac) (base_whole base)
+    (join (profile_text profile) mac (profile_whole profile) (mac_whole words is)))
 
 words_whole_from : (words : List ℕ) (at n : ℕ) → Whole (words_from words at n)
 unfolding words_from
@@ -82,10 +90,10 @@ silent_words : (other : Bool) (words : List ℕ) → AreSilent (if other then []
 silent_words true words = tt
 silent_words false words = (silent_line _ (words_whole words), tt)
 
-pub head_silent : (base memory budget : ℕ) (words : List ℕ) → memory < 2 ^ 64 → budget < 2 ^ 64 → IsEeprom words
-    → AreSilent (head_lines base memory budget words)
-head_silent base memory budget words m b is =
-    (silent_line _ (settings_whole base memory budget words m b is), silent_words (is_of_mac words) words)
+pub head_silent : (profile : Profile) (base memory budget : ℕ) (words : List ℕ) → memory < 2 ^ 64 → budget < 2 ^ 64
+    → IsEeprom words → AreSilent (head_lines profile base memory budget words)
+head_silent profile base memory budget words m b is =
+    (silent_line _ (settings_whole profile base memory budget words m b is), silent_words (is_of_mac words) words)
 
 words_made : (other : Bool) (words : List ℕ)
     → (if other then [] else codes "# eeprom " ++ (words_from words 0 64 ++ codes "\n"))
@@ -93,28 +101,31 @@ words_made : (other : Bool) (words : List ℕ)
 words_made true words = refl
 words_made false words = sym (append-nil (text_of (words_line words)))
 
-settings_made : (base memory budget : ℕ) (words : List ℕ)
-    → settings_text base memory budget (mac_of words) ≡ text_of (settings_line base memory budget (mac_of words))
-settings_made base memory budget words =
+settings_made : (profile : Profile) (base memory budget : ℕ) (words : List ℕ)
+    → settings_text profile base memory budget (mac_of words)
+    ≡ text_of (settings_line profile base memory budget (mac_of words))
+settings_made profile base memory budget words =
     let front = codes "# em_debug --memory " ++ (decimal memory ++ (codes " --budget " ++ decimal budget)) in
     let mac = codes " --mac " ++ hex_text (mac_of words) in
-    sym (append_assoc front (base_text base ++ mac) (codes "\n")
-    ∙ ap (λ l. front ++ l) (append_assoc (base_text base) mac (codes "\n")))
+    let behind = profile_text profile ++ mac in
+    sym (append_assoc front (base_text base ++ behind) (codes "\n")
+    ∙ ap (λ l. front ++ l) (append_assoc (base_text base) behind (codes "\n")
+    ∙ ap (λ l. base_text base ++ l) (append_assoc (profile_text profile) mac (codes "\n"))))
 
-pub head_made : (base memory budget : ℕ) (words : List ℕ)
-    → head_text base memory budget words ≡ flat_map text_of (head_lines base memory budget words)
-head_made base memory budget words =
-    ap (λ l. l ++ words_text words) (settings_made base memory budget words)
-    ∙ ap (λ l. text_of (settings_line base memory budget (mac_of words)) ++ l) (words_made (is_of_mac words) words)
+pub head_made : (profile : Profile) (base memory budget : ℕ) (words : List ℕ)
+    → head_text profile base memory budget words ≡ flat_map text_of (head_lines profile base memory budget words)
+head_made profile base memory budget words =
+    ap (λ l. l ++ words_text words) (settings_made profile base memory budget words)
+    ∙ ap (λ l. text_of (settings_line profile base memory budget (mac_of words)) ++ l) (words_made (is_of_mac words) words)
 
 pub silent_whole : (lines : List (List ℕ)) → AreSilent lines → AreWhole lines
 silent_whole [] h = tt
 silent_whole (line ∷ lines) h = (h.0.whole, silent_whole lines h.1)
 
-pub head_read : (base memory budget : ℕ) (words : List ℕ) → memory < 2 ^ 64 → budget < 2 ^ 64 → IsEeprom words
-    → AreSilent (lines_of (head_text base memory budget words))
-head_read base memory budget words m b is =
-    let silent = head_silent base memory budget words m b is in
+pub head_read : (profile : Profile) (base memory budget : ℕ) (words : List ℕ) → memory < 2 ^ 64 → budget < 2 ^ 64
+    → IsEeprom words → AreSilent (lines_of (head_text profile base memory budget words))
+head_read profile base memory budget words m b is =
+    let lines = head_lines profile base memory budget words in
+    let silent = head_silent profile base memory budget words m b is in
     subst AreSilent
-    (sym (ap lines_of (head_made base memory budget words)
-    ∙ text_lines (head_lines base memory budget words) (silent_whole (head_lines base memory budget words) silent))) silent
+    (sym (ap lines_of (head_made profile base memory budget words) ∙ text_lines lines (silent_whole lines silent))) silent

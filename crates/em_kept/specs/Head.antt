@@ -3,6 +3,8 @@ use Rattle.std.specs.Prelude.{ℕ, Bool, ◌==◌, if◌then◌else◌, List, []
 use Rattle.std.specs.Int.{w16, to_be_bytes}
 use Rattle.std.specs.List.{flat_map, list_all, range_with_len}
 use Rattle.em_eeprom.specs.Eeprom.{mac_of, word_at, words_of_mac}
+use Rattle.em_regs.specs.declared.profile.Profile.{Profile}
+use Rattle.em_regs.specs.declared.profile.Profile.TheVariants.{Table, Adapter}
 use Rattle.em_text.specs.Writer.{hex_line_text, hex_text}
 use Rattle.em_kept.specs.Kept.{address_digits, numbers_behind}
 
@@ -18,14 +20,23 @@ marked_base_text base = codes " --base " ++ address_digits base
 abbrev pub base_text : ℕ → List ℕ
 base_text base = if base == 0 then [] else marked_base_text base
 
-abbrev pub base_and_mac_text : ℕ → List ℕ → List ℕ
-base_and_mac_text base mac = base_text base ++ mac_text mac
+-- the profile, where it is not the first
+abbrev pub profile_text : Profile → List ℕ
+profile_text Table = []
+profile_text Adapter = codes " --profile adapter"
+
+abbrev pub profile_and_mac_text : Profile → List ℕ → List ℕ
+profile_and_mac_text profile mac = profile_text profile ++ mac_text mac
+
+-- what stands behind memory and budget
+abbrev pub behind_budget : Profile → ℕ → List ℕ → List ℕ
+behind_budget profile base mac = base_text base ++ profile_and_mac_text profile mac
 
 -- the words of a command line
-abbrev pub settings_text : ℕ → ℕ → ℕ → List ℕ → List ℕ
-settings_text base memory budget mac =
+abbrev pub settings_text : Profile → ℕ → ℕ → ℕ → List ℕ → List ℕ
+settings_text profile base memory budget mac =
     numbers_behind (codes "# em_debug --memory ") memory (codes " --budget ") budget
-    ++ base_and_mac_text base mac
+    ++ behind_budget profile base mac
 
 -- ---- the EEPROM
 
@@ -56,19 +67,20 @@ marked_words_text words = codes "# eeprom " ++ words_line_text words
 abbrev pub words_text : List ℕ → List ℕ
 words_text words = if is_of_mac words then [] else marked_words_text words
 
-abbrev pub head_text : ℕ → ℕ → ℕ → List ℕ → List ℕ
-head_text base memory budget words = settings_text base memory budget (mac_of words) ++ words_text words
+abbrev pub head_text : Profile → ℕ → ℕ → ℕ → List ℕ → List ℕ
+head_text profile base memory budget words =
+    settings_text profile base memory budget (mac_of words) ++ words_text words
 
 -- ---- line by line
 
-abbrev pub settings_line : ℕ → ℕ → ℕ → List ℕ → List ℕ
-settings_line base memory budget mac =
+abbrev pub settings_line : Profile → ℕ → ℕ → ℕ → List ℕ → List ℕ
+settings_line profile base memory budget mac =
     numbers_behind (codes "# em_debug --memory ") memory (codes " --budget ") budget
-    ++ (base_text base ++ (codes " --mac " ++ hex_text mac))
+    ++ (base_text base ++ (profile_text profile ++ (codes " --mac " ++ hex_text mac)))
 
 abbrev pub words_line : List ℕ → List ℕ
 words_line words = codes "# eeprom " ++ words_from words 0 64
 
-abbrev pub head_lines : ℕ → ℕ → ℕ → List ℕ → List (List ℕ)
-head_lines base memory budget words =
-    settings_line base memory budget (mac_of words) ∷ (if is_of_mac words then [] else words_line words ∷ [])
+abbrev pub head_lines : Profile → ℕ → ℕ → ℕ → List ℕ → List (List ℕ)
+head_lines profile base memory budget words =
+    settings_line profile base memory budget (mac_of words) ∷ (if is_of_mac words then [] else words_line words ∷ [])

@@ -2,13 +2,14 @@
 ghost use Rattle.std.specs.Prelude.{◌≡◌, ◌<◌, ◌++◌};
 ghost use Rattle.em_text.specs.Writer.{Writes, hex_text};
 ghost use Rattle.em_eeprom.specs.Eeprom.{word_at};
-ghost use Rattle.em_kept.specs.Head.{base_and_mac_text, base_text, head_text, is_of_mac, mac_text, marked_base_text};
-ghost use Rattle.em_kept.specs.Head.{marked_words_text, same_below, settings_text};
+ghost use Rattle.em_kept.specs.Head.{base_text, behind_budget, head_text, is_of_mac, mac_text, marked_base_text};
+ghost use Rattle.em_kept.specs.Head.{marked_words_text, profile_and_mac_text, profile_text, same_below, settings_text};
 ghost use Rattle.em_kept.specs.Head.{word_digits, words_from, words_line_text, words_text};
 
 use crate::answer::write_numbers;
 use crate::digits::{address_digits, word_digits};
 use em_eeprom::Eeprom;
+use em_regs::Profile;
 use em_text::{WriteFailed, write_octets_line, write_pieces, write_whole};
 use std::io::Write;
 
@@ -19,28 +20,30 @@ const WORDS: u8 = 64;
 /// where they are others than those that a command line gives it for this address.
 pub fn write_head<W: Write>(
     writer: &mut W,
+    profile: Profile,
     base: u64,
     memory: u64,
     budget: u64,
     eeprom: &Eeprom,
 ) -> Result<(), WriteFailed>
     ensures writes { Writes (W.contents writer.old) (W.contents writer.new) result
-        (head_text base memory budget eeprom.now) }
+        (head_text profile base memory budget eeprom.now) }
 {
-    write_settings(writer, base, memory, budget, eeprom.mac())?;
+    write_settings(writer, profile, base, memory, budget, eeprom.mac())?;
     write_words(writer, eeprom)
 }
 
 /// Writes the words of a command line.
 fn write_settings<W: Write>(
     writer: &mut W,
+    profile: Profile,
     base: u64,
     memory: u64,
     budget: u64,
     mac: [u8; 6],
 ) -> Result<(), WriteFailed>
     ensures writes { Writes (W.contents writer.old) (W.contents writer.new) result
-        (settings_text base memory budget mac) }
+        (settings_text profile base memory budget mac) }
 {
     write_numbers(
         writer,
@@ -49,15 +52,20 @@ fn write_settings<W: Write>(
         b" --budget ",
         budget,
     )?;
-    write_base_and_mac(writer, base, mac)
+    write_behind_budget(writer, profile, base, mac)
 }
 
-/// Writes where memory begins, the address, and the end of the line.
-fn write_base_and_mac<W: Write>(writer: &mut W, base: u64, mac: [u8; 6]) -> Result<(), WriteFailed>
-    ensures writes { Writes (W.contents writer.old) (W.contents writer.new) result (base_and_mac_text base mac) }
+/// Writes where memory begins, the profile, the address, and the end of the line.
+fn write_behind_budget<W: Write>(
+    writer: &mut W,
+    profile: Profile,
+    base: u64,
+    mac: [u8; 6],
+) -> Result<(), WriteFailed>
+    ensures writes { Writes (W.contents writer.old) (W.contents writer.new) result (behind_budget profile base mac) }
 {
     write_base(writer, base)?;
-    write_mac(writer, mac)
+    write_profile_and_mac(writer, profile, mac)
 }
 
 /// Writes where memory begins, where that is not at address 0.
@@ -75,6 +83,28 @@ fn write_marked_base<W: Write>(writer: &mut W, base: u64) -> Result<(), WriteFai
     ensures writes { Writes (W.contents writer.old) (W.contents writer.new) result (marked_base_text base) }
 {
     write_pieces(writer, &[b" --base ", &address_digits(base)])
+}
+
+/// Writes the profile, the address, and the end of the line.
+fn write_profile_and_mac<W: Write>(
+    writer: &mut W,
+    profile: Profile,
+    mac: [u8; 6],
+) -> Result<(), WriteFailed>
+    ensures writes { Writes (W.contents writer.old) (W.contents writer.new) result (profile_and_mac_text profile mac) }
+{
+    write_profile(writer, profile)?;
+    write_mac(writer, mac)
+}
+
+/// Writes the profile, where it is not the first.
+fn write_profile<W: Write>(writer: &mut W, profile: Profile) -> Result<(), WriteFailed>
+    ensures writes { Writes (W.contents writer.old) (W.contents writer.new) result (profile_text profile) }
+{
+    match profile {
+        Profile::Table => Ok(()),
+        Profile::Adapter => write_whole(writer, b" --profile adapter"),
+    }
 }
 
 /// Writes the address, and the end of the line.

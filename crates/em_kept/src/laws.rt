@@ -2,6 +2,7 @@
 ghost use Rattle.std.specs.Prelude.{◌≡◌, ◌<◌, ◌≤◌, ◌^◌, ℕ, true, false, List};
 ghost use Rattle.std.specs.List.{flat_map};
 ghost use Rattle.em_eeprom.specs.Eeprom.{IsEeprom};
+ghost use Rattle.em_regs.specs.declared.profile.Profile.{Profile};
 ghost use Rattle.em_step.specs.Event.{Event};
 ghost use Rattle.em_step.specs.declared.event.Answer.{Answer};
 ghost use Rattle.em_step.specs.declared.refusal.Refusal.{Refusal};
@@ -48,8 +49,8 @@ pub fn lines_stay_lines()
 
 /// What a kept run begins with does nothing when it is played.
 pub fn the_head_is_silent()
-    ensures { (base memory budget : ℕ) (words : List ℕ) → memory < 2 ^ 64 → budget < 2 ^ 64 → IsEeprom words
-        → AreSilent (lines_of (head_text base memory budget words)) }
+    ensures { (profile : Profile) (base memory budget : ℕ) (words : List ℕ) → memory < 2 ^ 64 → budget < 2 ^ 64
+        → IsEeprom words → AreSilent (lines_of (head_text profile base memory budget words)) }
 {}
 
 /// A name of at most 4,096 octets of which none is replaced is written as it is.

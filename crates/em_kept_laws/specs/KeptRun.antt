@@ -2,6 +2,7 @@
 use Rattle.std.specs.Prelude.{◌≡◌, ℕ, ◌≤◌, nat_lt, if◌then◌else◌, List, [], ◌∷◌, ◌++◌, map, replicate, codes}
 use Rattle.std.specs.Prelude.{Option, Some, None}
 use Rattle.std.specs.List.{flat_map}
+use Rattle.em_regs.specs.declared.profile.Profile.{Profile}
 use Rattle.em_step.specs.Event.{Event}
 use Rattle.em_step.specs.declared.event.Answer.{Answer}
 use Rattle.em_step.specs.declared.refusal.Refusal.{Refusal}
@@ -45,8 +46,8 @@ text_of (refused e refusal source) = refused_text e refusal source
 text_of (went_back asked taken source) = back_text asked taken source
 
 -- behind what `write_head` writes
-abbrev pub file_text : ℕ → ℕ → ℕ → List ℕ → List Kept → List ℕ
-file_text base memory budget words run = head_text base memory budget words ++ flat_map text_of run
+abbrev pub file_text : Profile → ℕ → ℕ → ℕ → List ℕ → List Kept → List ℕ
+file_text profile base memory budget words run = head_text profile base memory budget words ++ flat_map text_of run
 
 -- ---- what comes of the calls' own types
 

@@ -1,6 +1,7 @@
 -- What happened so far that a known difference rests on.
 use Rattle.std.specs.Prelude.{ℕ, ◌==◌, not, bit_and, if◌then◌else◌, Bool, true, false, Option, Some, None}
-use Rattle.em_regs.specs.Table.{reg_at}
+use Rattle.em_regs.specs.declared.profile.Profile.TheVariants.{Table}
+use Rattle.em_regs.specs.Table.{reg_of}
 use Rattle.em_regs.specs.declared.reg.Reg.{Reg}
 use Rattle.em_regs.specs.declared.reg.Reg.TheVariants as reg
 use Rattle.em_step.specs.Event.{Event, reads, writes, arrives}
@@ -66,8 +67,8 @@ written_at c None value = c
 written_at c (Some r) value = after_write c r value
 
 abbrev pub after_event : Causes → Event → Causes
-after_event c (reads offset) = read_at c (reg_at offset)
-after_event c (writes offset value) = written_at c (reg_at offset) value
+after_event c (reads offset) = read_at c (reg_of Table offset)
+after_event c (writes offset value) = written_at c (reg_of Table offset) value
 after_event c (arrives octets) = record c { arrived = true }
 after_event c _ = c
 

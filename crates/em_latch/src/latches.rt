@@ -56,6 +56,13 @@ impl Latches {
         Latches { words: [0; WORDS] }
     }
 
+    /// The same causes, mask and counters once more.
+    pub fn copy(&self) -> Latches
+        ensures { result ≡ self.now }
+    {
+        Latches { words: self.words }
+    }
+
     /// Whether the register is one of these: the condition of `look`, `read` and `write`.
     #[inline(always)]
     pub fn holds(&self, reg: Reg) -> bool

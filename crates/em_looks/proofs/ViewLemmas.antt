@@ -4,7 +4,7 @@ use Rattle.std.specs.Prelude.{codes, unwrap_or}
 use Rattle.std.specs.Option.{option_map}
 use Rattle.em_regs.specs.declared.reg.Reg.{Reg}
 use Rattle.em_regs.specs.Storage.{Registers}
-use Rattle.em_regs.specs.Table.{offset_of, reg_at}
+use Rattle.em_regs.specs.Table.{offset_of, reg_of}
 use Rattle.em_step.specs.Access.{gives}
 use Rattle.em_step.specs.State.{State}
 use Rattle.em_names.specs.Bits as names
@@ -15,11 +15,11 @@ use Rattle.em_looks.specs.Views.{look_at, register_text, ring_of, window_text}
 
 -- a register's value, by a look at its offset
 pub register_looked : (s : State) (reg : Reg) (offset value : ℕ) (look : Option ℕ) → offset ≡ offset_of reg
-    → look ≡ option_map (gives s) (reg_at offset) → value ≡ unwrap_or look 0
+    → look ≡ option_map (gives s) (reg_of s.profile offset) → value ≡ unwrap_or look 0
     → register_text s reg ≡ names.register_text reg value ++ codes "\n"
 register_looked s reg offset value look at looked is =
     let same : value ≡ look_at s reg
-    = is ∙ ap (λ (o : Option ℕ). unwrap_or o 0) (looked ∙ ap (λ (n : ℕ). option_map (gives s) (reg_at n)) at) in
+    = is ∙ ap (λ (o : Option ℕ). unwrap_or o 0) (looked ∙ ap (λ (n : ℕ). option_map (gives s) (reg_of s.profile n)) at) in
     ap (λ (v : ℕ). names.register_text reg v ++ codes "\n") (sym same)
 
 -- the window of a ring

@@ -5,7 +5,7 @@ use Rattle.em_mem.specs.Memory.{leaves, part}
 use Rattle.em_regs.specs.declared.reg.Reg.{Reg}
 use Rattle.em_regs.specs.Setup.{rx_setup, tx_setup}
 use Rattle.em_regs.specs.Storage.{Registers}
-use Rattle.em_regs.specs.Table.{offset_of, reg_at}
+use Rattle.em_regs.specs.Table.{offset_of, reg_of}
 use Rattle.em_step.specs.Access.{gives}
 use Rattle.em_step.specs.State.{State}
 use Rattle.em_step.specs.declared.refusal.Refusal.TheVariants.{Range}
@@ -20,7 +20,7 @@ use Rattle.em_prompt.specs.declared.typed.Side.TheVariants.{Receive, Transmit}
 
 -- what a look at a register's offset shows
 abbrev pub look_at : State → Reg → ℕ
-look_at s reg = unwrap_or (option_map (gives s) (reg_at (offset_of reg))) 0
+look_at s reg = unwrap_or (option_map (gives s) (reg_of s.profile (offset_of reg))) 0
 
 -- a line of a register with its bits
 abbrev pub register_text : State → Reg → List ℕ

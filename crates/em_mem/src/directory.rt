@@ -11,7 +11,7 @@ use std::alloc::{AllocError, Global};
 /// A directory, or none where it is not made: none of its tables is made then.
 pub(crate) type Directory = Option<Box<[Table; PARTS]>>;
 
-const NO_TABLE: Table = None;
+pub(crate) const NO_TABLE: Table = None;
 
 /// A directory of which no table is made.
 #[inline(never)]

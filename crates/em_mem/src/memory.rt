@@ -70,6 +70,19 @@ impl GuestMemory {
         Ok(GuestMemory { base, size, store })
     }
 
+    /// The same memory once more, in pages of its own, as many as are made here. This one stays, and neither knows of
+    /// what becomes of the other.
+    pub fn copy(&self) -> Result<GuestMemory, AllocError>
+        ensures { IfOk result (λ copy. copy ≡ self.now) }
+    {
+        let store = self.store.copy()?;
+        Ok(GuestMemory {
+            base: self.base,
+            size: self.size,
+            store,
+        })
+    }
+
     /// The address of the first octet.
     #[inline(always)]
     pub fn base(&self) -> u64

@@ -58,6 +58,19 @@ impl OldOctets {
         })
     }
 
+    /// The same octets at the same places, in a ring of its own.
+    pub fn copy(&self) -> Result<OldOctets, AllocError>
+        ensures { IfOk result (λ copy. copy ≡ self.now) }
+    {
+        let ring = Vec::from_slice(self.alloc, self.ring.as_slice())?;
+        let top = self.top;
+        Ok(OldOctets {
+            alloc: self.alloc,
+            ring,
+            top,
+        })
+    }
+
     /// Goes over to a longer ring, whose room lies behind this one's end. From the newest octets on, those that lie
     /// before that end stay as they are.
     pub fn move_to(&mut self, longer: Vec<u8>)

@@ -38,6 +38,16 @@ impl Place {
         }
     }
 
+    /// The same place.
+    pub fn copy(&self) -> Place
+        ensures { result ≡ self.now }
+    {
+        Place {
+            high: self.high,
+            low: self.low,
+        }
+    }
+
     /// The address, in octets.
     #[inline(always)]
     pub fn addr(&self) -> u64

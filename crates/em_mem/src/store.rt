@@ -4,6 +4,7 @@ ghost use Rattle.std.specs.Prelude.{◌≡◌, ◌+◌, ◌*◌, ◌≤◌, ◌<
 ghost use Rattle.em_mem.specs.Memory.{part, put};
 ghost use Rattle.em_mem.specs.Pages.{IsAt, IsUnmade, mark};
 
+use crate::copies::{copy_directories, copy_pages};
 use crate::directory::Directory;
 use crate::page::Page;
 use crate::{DIRECTORY_PAGES, PAGE_OCTETS, levels, page, table};
@@ -50,6 +51,27 @@ impl Store {
         let zeros = page::new_page(alloc)?;
         Ok(Store {
             alloc,
+            first,
+            directories,
+            zeros,
+        })
+    }
+
+    /// The same pages, in memory of their own. A page that is not made takes none.
+    pub(crate) fn copy(&self) -> Result<Store, AllocError>
+        ensures { IfOk result (λ copy. copy ≡ self.now) }
+    {
+        let mut first = table::no_pages(self.alloc, self.first.len())?;
+        copy_pages(self.alloc, first.as_mut_slice(), self.first.as_slice())?;
+        let mut directories = levels::no_directories(self.alloc, self.directories.len())?;
+        copy_directories(
+            self.alloc,
+            directories.as_mut_slice(),
+            self.directories.as_slice(),
+        )?;
+        let zeros = page::new_page(self.alloc)?;
+        Ok(Store {
+            alloc: self.alloc,
             first,
             directories,
             zeros,

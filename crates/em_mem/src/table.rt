@@ -11,7 +11,7 @@ use std::alloc::{AllocError, Global};
 /// A table, or none where it is not made: none of its pages is made then.
 pub(crate) type Table = Option<Box<[Page; PARTS]>>;
 
-const NO_PAGE: Page = None;
+pub(crate) const NO_PAGE: Page = None;
 
 /// Pages, of which none is made.
 pub(crate) fn no_pages(alloc: Global, count: usize) -> Result<Vec<Page>, AllocError>

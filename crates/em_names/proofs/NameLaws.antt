@@ -6,8 +6,10 @@ use Rattle.std.specs.Char.{to_ascii_lowercase}
 use Rattle.std.specs.Fmt.{digits}
 use Rattle.em_regs.specs.declared.reg.Reg.{Reg}
 use Rattle.em_regs.specs.declared.reg.Reg.TheVariants.{Ctrl, Mta, Ral, Rah, Vfta}
-use Rattle.em_regs.specs.Table.{IsReg, stem_of, offset_of, registers, reg_at}
-use Rattle.em_regs.proofs.TableLaws.{same_below, whole_word, reg_at-offset_of}
+use Rattle.em_regs.specs.declared.profile.Profile.{Profile}
+use Rattle.em_regs.specs.Table.{IsReg, IsRegOf, stem_of, offset_of, registers, reg_of}
+use Rattle.em_regs.proofs.TableLaws.{same_below, whole_word}
+use Rattle.em_regs.proofs.ProfileLaws.{reg_of-offset_of}
 use Rattle.em_names.specs.Names.{name_of, IsNamed}
 
 abbrev pub lowered : List ℕ → List ℕ
@@ -65,16 +67,16 @@ names_apart a b word ha hb na nb =
     let same : Some a ≡ Some b = ea ∙ sym eb in
     cc
 
--- the word names no register that lies below an offset
-abbrev pub NoneNamedBelow : List ℕ → ℕ → Type 0
-NoneNamedBelow word end = (reg : Reg) → IsReg reg → offset_of reg < end → IsNamed word reg → ⊥
+-- the word names no register of a profile that lies below an offset
+abbrev pub NoneNamedBelow : Profile → List ℕ → ℕ → Type 0
+NoneNamedBelow p word end = (reg : Reg) → IsRegOf p reg → offset_of reg < end → IsNamed word reg → ⊥
 
 -- nor one below the next word, where what lies at the offset is not named either
-pub none_named_next : (word : List ℕ) (o : ℕ) → NoneNamedBelow word o
-    → ((reg : Reg) → reg_at o ≡ Some reg → IsNamed word reg → ⊥) → o % 4 ≡ 0 → NoneNamedBelow word (o + 4)
-none_named_next word o none here whole reg h lt n = elim (cases_lt (offset_of reg) o) [
+pub none_named_next : (p : Profile) (word : List ℕ) (o : ℕ) → NoneNamedBelow p word o
+    → ((reg : Reg) → reg_of p o ≡ Some reg → IsNamed word reg → ⊥) → o % 4 ≡ 0 → NoneNamedBelow p word (o + 4)
+none_named_next p word o none here whole reg h lt n = elim (cases_lt (offset_of reg) o) [
   | inl before ↦ none reg h before n
   | inr from ↦
       let at : offset_of reg ≡ o = omega (arith, whole_word reg) in
-      here reg (ap reg_at (sym at) ∙ reg_at-offset_of reg h) n
+      here reg (ap (reg_of p) (sym at) ∙ reg_of-offset_of p reg h.0 h.1) n
 ]

@@ -9,6 +9,6 @@ mod show;
 
 pub use bits::fields;
 pub use field::{Field, Form};
-pub use names::{LONGEST, name, parse};
-pub use near::nearest;
+pub use names::{LONGEST, name, parse, parse_in};
+pub use near::{nearest, nearest_in};
 pub use show::{number_in, write_bits, write_field, write_low, write_name, write_register};

@@ -1,11 +1,11 @@
 //! The registers by the manual's names.
 ghost use Rattle.std.specs.Prelude.{◌≡◌, ◌↔◌, IsTrue, IfSome};
 ghost use Rattle.em_regs.specs.declared.reg.Reg.{Reg};
-ghost use Rattle.em_regs.specs.Table.{IsReg};
+ghost use Rattle.em_regs.specs.Table.{IsRegOf};
 ghost use Rattle.em_names.specs.Names.{begins_with_digit, name_of, IsNamed};
 
 use arrayvec::ArrayString;
-use em_regs::{Reg, SPACE};
+use em_regs::{Profile, Reg, SPACE};
 use itoa::Buffer;
 
 /// How many letters the longest name has: `VFTA[127]`.
@@ -34,19 +34,27 @@ pub fn name(reg: Reg) -> ArrayString<LONGEST>
     name
 }
 
-/// The register that a word names, in either case of its letters; none where it is no name.
+/// The register of the first profile that a word names, in either case of its letters; none where it is no name.
 pub fn parse(word: &[u8]) -> Option<Reg>
     // what is found has the word as its name
-    ensures some { IfSome result (λ reg. IsReg reg × IsNamed word.now reg) }
+    ensures some { IfSome result (λ reg. IsRegOf Profile.Table reg × IsNamed word.now reg) }
     // and each register is found by its name
-    ensures every { (reg : Reg) → IsReg reg → IsNamed word.now reg → result ≡ Some reg }
+    ensures every { (reg : Reg) → IsRegOf Profile.Table reg → IsNamed word.now reg → result ≡ Some reg }
+{
+    parse_in(Profile::Table, word)
+}
+
+/// The same, of a profile.
+pub fn parse_in(profile: Profile, word: &[u8]) -> Option<Reg>
+    ensures some { IfSome result (λ reg. IsRegOf profile reg × IsNamed word.now reg) }
+    ensures every { (reg : Reg) → IsRegOf profile reg → IsNamed word.now reg → result ≡ Some reg }
 {
     // (most words that name none are offsets)
     if begins_with_digit(word) {
         return None;
     }
     for index in 0..SPACE / WORD {
-        if let Some(reg) = Reg::of_offset(WORD * index) {
+        if let Some(reg) = Reg::of_offset_in(profile, WORD * index) {
             if is_named(word, reg) {
                 return Some(reg);
             }

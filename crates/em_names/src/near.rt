@@ -3,7 +3,7 @@ ghost use Rattle.std.specs.Prelude.{◌≡◌, IfOk};
 ghost use Rattle.em_names.specs.Near.{AreRegs, distance_of};
 
 use crate::names::{WORD, name};
-use em_regs::{Reg, SPACE};
+use em_regs::{Profile, Reg, SPACE};
 use std::alloc::{AllocError, Global};
 use strsim::generic_levenshtein;
 
@@ -25,10 +25,17 @@ const FAR: Near = Near {
     third: (usize::MAX, Reg::Ctrl),
 };
 
-/// The three registers whose names are nearest to a word, the nearest first: fewest letters are put in, left out or
-/// changed, in either case. Of names that are equally near the one at the lowest offset comes first. Only the
+/// The three registers of the first profile whose names are nearest to a word, the nearest first: fewest letters are put in,
+/// left out or changed, in either case. Of names that are equally near the one at the lowest offset comes first. Only the
 /// first 16 letters of the word count.
 pub fn nearest(alloc: Global, word: &[u8]) -> Result<[Reg; 3], AllocError>
+    ensures { IfOk result AreRegs }
+{
+    nearest_in(alloc, Profile::Table, word)
+}
+
+/// The same, of a profile.
+pub fn nearest_in(alloc: Global, profile: Profile, word: &[u8]) -> Result<[Reg; 3], AllocError>
     ensures { IfOk result AreRegs }
 {
     let mut letters = [0u8; LETTERS];
@@ -38,7 +45,7 @@ pub fn nearest(alloc: Global, word: &[u8]) -> Result<[Reg; 3], AllocError>
     }
     let mut near = FAR;
     for index in 0..SPACE / WORD {
-        if let Some(reg) = Reg::of_offset(WORD * index) {
+        if let Some(reg) = Reg::of_offset_in(profile, WORD * index) {
             let distance = distance(alloc, &letters[..count], reg)?;
             near = near.with(distance, reg);
         }

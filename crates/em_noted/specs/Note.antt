@@ -1,7 +1,8 @@
 -- What an event was, in words.
 use Rattle.std.specs.Prelude.{ℕ, List, ◌++◌, codes, decimal, Option, Some, None}
 use Rattle.em_text.specs.Writer.{value_digits}
-use Rattle.em_regs.specs.Table.{reg_at}
+use Rattle.em_regs.specs.declared.profile.Profile.TheVariants.{Adapter}
+use Rattle.em_regs.specs.Table.{reg_of}
 use Rattle.em_regs.specs.declared.reg.Reg.{Reg}
 use Rattle.em_names.specs.Bits.{register_text}
 use Rattle.em_inspect.specs.AddressText.{address_text}
@@ -22,8 +23,8 @@ arrival_text octets became = codes "arrive length " ++ (decimal octets ++ (codes
 
 -- an event of a kind, at a place, over so many octets, with a value
 abbrev pub text_of : Kind → ℕ → ℕ → ℕ → List ℕ
-text_of Read at octets value = codes "read " ++ access_text (reg_at at) at value
-text_of Write at octets value = codes "write " ++ access_text (reg_at at) at value
+text_of Read at octets value = codes "read " ++ access_text (reg_of Adapter at) at value
+text_of Write at octets value = codes "write " ++ access_text (reg_of Adapter at) at value
 text_of Poke at octets value = codes "poke " ++ (address_text at ++ (codes " length " ++ decimal octets))
 text_of Stored at octets value = arrival_text octets (codes "stored")
 text_of (Dropped reason) at octets value = arrival_text octets (codes "dropped " ++ reason_text reason)
@@ -38,10 +39,10 @@ text_of Sent at octets value = codes "tx: sent " ++ (decimal value ++ (codes " "
 abbrev pub note_text : Note → List ℕ
 note_text note = text_of note.kind note.at note.length note.value
 
--- the register that an access of this kind is of
+-- the register that an access of this kind is of, whatever its profile; none where no register lies there
 abbrev pub accessed : Kind → ℕ → Option Reg
-accessed Read at = reg_at at
-accessed Write at = reg_at at
+accessed Read at = reg_of Adapter at
+accessed Write at = reg_of Adapter at
 accessed _ at = None
 
 abbrev pub register_of : Note → Option Reg

@@ -1,13 +1,13 @@
 //! What a note says, in words.
 ghost use Rattle.std.specs.Prelude.{◌≡◌, ◌++◌};
 ghost use Rattle.em_text.specs.Writer.{Writes};
-ghost use Rattle.em_regs.specs.Table.{reg_at};
+ghost use Rattle.em_regs.specs.Table.{reg_of};
 ghost use Rattle.em_output.specs.Output.{reason_text};
 ghost use Rattle.em_noted.specs.Note.{access_text, arrival_text, note_text, register_of};
 
 use em_names::write_register;
 use em_pieces::{Piece, write_text};
-use em_regs::Reg;
+use em_regs::{Profile, Reg};
 use em_step::Reason;
 use em_text::{WriteFailed, write_whole};
 use em_trail::{Kind, Note};
@@ -77,7 +77,7 @@ fn write_access<W: Write>(
     value: u32,
 ) -> Result<(), WriteFailed>
     ensures writes { Writes (W.contents writer.old) (W.contents writer.new) result
-        (word.now ++ access_text (reg_at at) at value) }
+        (word.now ++ access_text (reg_of Profile.Adapter at) at value) }
 {
     write_whole(writer, word)?;
     match register_at(at) {
@@ -139,12 +139,12 @@ pub fn register_of(note: Note) -> Option<Reg>
     }
 }
 
-/// The register at an offset; none where there is none.
+/// The register at an offset, whatever its profile; none where there is none.
 fn register_at(offset: u64) -> Option<Reg>
-    ensures { result ≡ reg_at offset }
+    ensures { result ≡ reg_of Profile.Adapter offset }
 {
     if offset < OFFSETS {
-        Reg::of_offset(offset as u32)
+        Reg::of_offset_in(Profile::Adapter, offset as u32)
     } else {
         None
     }

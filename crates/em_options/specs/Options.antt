@@ -12,6 +12,7 @@ use Rattle.clap.specs.declared.builder.action.ArgAction.TheVariants.{Set}
 use Rattle.clap.specs.declared.builder.value_parser.ValueParser.{ValueParser}
 use Rattle.clap.specs.declared.builder.value_parser.ValueParser.TheVariants.{Unsigned}
 use Rattle.clap.specs.declared.parser.matches.ArgMatches.{ArgMatches}
+use Rattle.em_regs.specs.declared.profile.Profile.TheVariants.{Table}
 use Rattle.em_journal.specs.Settings.{defaults}
 use Rattle.em_journal.specs.declared.settings.Settings.{Settings}
 use Rattle.em_options.specs.declared.settings.Options.{Options}
@@ -118,6 +119,7 @@ IsRefusedFor words Mac = (fault_of em_bench words ≡ []) × IfSome (said (codes
 -- what a machine is made of
 abbrev pub settings_of : Options → Settings
 settings_of options = record {
+  profile = Table;
   base = 0;
   memory = options.memory;
   budget = options.budget;

@@ -8,6 +8,7 @@ ghost use Rattle.em_options.specs.Refused.{name_of, told_by_kind, told_error};
 use clap::Error as ParserError;
 use clap::error::ErrorKind;
 use em_journal::Settings;
+use em_regs::Profile;
 use thiserror::Error;
 
 /// What the words of a command line ask for. That the size and the budget are allowed is decided
@@ -25,11 +26,12 @@ pub struct Options<'a> {
 }
 
 impl Options<'_> {
-    /// What the machine is made of: its memory begins at address 0.
+    /// What the machine is made of: it is of the first profile, and its memory begins at address 0.
     pub fn settings(&self) -> Settings
         ensures { result ≡ settings_of self.now }
     {
         Settings {
+            profile: Profile::Table,
             base: 0,
             memory: self.memory,
             budget: self.budget,

@@ -30,7 +30,7 @@ fn write_register<W: Write>(
     machine: &Machine,
     offset: u32,
 ) -> Result<(), WriteFailed>
-    requires within { offset < 0x05800 }
+    requires within { offset < 0x06000 }
     requires whole { offset % 4 ≡ 0 }
     ensures writes { Writes (W.contents writer.old) (W.contents writer.new) result
         (word_text machine.now.present (offset / 4)) }

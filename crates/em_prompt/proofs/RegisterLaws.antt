@@ -1,18 +1,22 @@
 -- The register that a word names.
 use Rattle.std.proofs.Common.{◌≡◌, ◌≤◌, ℕ, ◌+◌, ◌-◌, ◌/◌, ◌<◌, Bool, true, false, cond, List, [], ◌∷◌, length, get_or, map, zero, suc}
-use Rattle.std.proofs.Common.{Option, Some, None, IfSome, find, refl, sym, ◌∙◌, subst, arith}
+use Rattle.std.proofs.Common.{◌&&◌, Option, Some, None, IfSome, find, refl, sym, ◌∙◌, subst, arith}
 use Rattle.std.specs.Option.{option_map}
 use Rattle.std.specs.List.{range_with_len}
 use Rattle.std.proofs.Common.{◌⊎◌, inl, inr}
-use Rattle.std.proofs.lemmas.Bool.{cases_lt}
+use Rattle.std.proofs.lemmas.Bool.{and_parts, cases_lt}
 use Rattle.std.specs.Char.{to_ascii_lowercase}
 use Rattle.std.proofs.lemmas.Slice.Eq.{bytes_eq-Decides}
 use Rattle.em_regs.specs.declared.reg.Reg.{Reg}
 use Rattle.em_regs.specs.declared.reg.Reg.TheVariants.{Ctrl, Mta, Ral, Rah, Vfta}
-use Rattle.em_regs.specs.Table.{IsReg, row_of, index_of, with_index, offset_of, registers, reg_in, reg_at, has_word_at}
+use Rattle.em_regs.specs.declared.profile.Profile.{Profile}
+use Rattle.em_regs.specs.declared.profile.Profile.TheVariants.{Table, Adapter}
+use Rattle.em_regs.specs.Table.{IsReg, IsRegOf, has_reg, has_word_at, index_of, offset_of, reg_at, reg_in, reg_of_table}
+use Rattle.em_regs.specs.Table.{row_of, with_index}
 use Rattle.em_regs.proofs.TableLaws.{indexed, reg_at-offset_of}
+use Rattle.em_regs.proofs.ProfileLaws.{reg_of-offset_of, table_is_list}
 use Rattle.em_names.specs.Names.{name_of, IsNamed, SameLetters}
-use Rattle.em_prompt.specs.Register.{same_letters, or_else, index_named, named_among, named}
+use Rattle.em_prompt.specs.Register.{same_letters, or_else, index_named, named_among, named, rows_of}
 
 -- ---- the test of letters
 
@@ -88,28 +92,59 @@ none_in word (row ∷ rows) none o reg is h n = elim (truth (has_word_at (row_of
   | inr t ↦ none_in word rows (λ k lt. none (suc k) (omega arith)) o reg (rw t at is) h n
 ]
 
--- where the word names no register of any row, it names none
-pub names_none : (word : List ℕ) → ((k : ℕ) → k < length registers → NamesNone word (get_or registers k Ctrl))
-    → (reg : Reg) → IsReg reg → IsNamed word reg → ⊥
-unfolding reg_at
-names_none word none reg h n = none_in word registers none (offset_of reg) reg (reg_at-offset_of reg h) h n
+-- a register of a profile is found among its rows
+found_there : (p : Profile) (reg : Reg) → IsRegOf p reg → reg_in (rows_of p) (offset_of reg) ≡ Some reg
+unfolding reg_at reg_of_table
+found_there Table reg h = sym (table_is_list (offset_of reg)) ∙ reg_of-offset_of Table reg h.0 h.1
+found_there Adapter reg h = reg_at-offset_of reg h.0
+
+-- where the word names no register of any row of a profile, it names none of that profile
+pub names_none : (p : Profile) (word : List ℕ)
+    → ((k : ℕ) → k < length (rows_of p) → NamesNone word (get_or (rows_of p) k Ctrl))
+    → (reg : Reg) → IsRegOf p reg → IsNamed word reg → ⊥
+names_none p word none reg h n = none_in word (rows_of p) none (offset_of reg) reg (found_there p reg h) h.0 n
 
 -- ---- the rows
 
--- the register that is found has the word as its name
-named_sound : (word : List ℕ) (rows : List Reg) (reg : Reg) → named_among word rows ≡ Some reg
-    → IsReg reg × IsNamed word reg
-named_sound word [] reg e = cc
-named_sound word (row ∷ rows) reg e = by_index (index_named word row) refl e (named_sound word rows reg) where
-  by_index : (o : Option ℕ) → index_named word row ≡ o
-      → or_else (option_map (with_index row) o) (named_among word rows) ≡ Some reg
-      → (named_among word rows ≡ Some reg → IsReg reg × IsNamed word reg) → IsReg reg × IsNamed word reg
-  by_index None o e more = more e
-  by_index (Some i) o e more =
-      let found = found_passes (λ k. same_letters word (name_of (with_index row k))) 0 (row_of row).words i o in
-      let same : with_index row i ≡ reg = cc in
-      subst (λ r. IsReg r × IsNamed word r) same
-      (is_reg-with_index row i (omega (arith, found.1)), same_true word (name_of (with_index row i)) found.0)
+-- the rows are of a profile
+abbrev all_in : Profile → List Reg → Bool
+all_in p [] = true
+all_in p (row ∷ rows) = has_reg p row && all_in p rows
+
+-- so are a profile's own
+all_its_own : (p : Profile) → all_in p (rows_of p) ≡ true
+all_its_own Table = refl
+all_its_own Adapter = refl
+
+-- so is every register of a row that is
+any_index : (p : Profile) (row : Reg) (i : ℕ) → has_reg p (with_index row i) ≡ has_reg p row
+any_index p (Mta _) i = refl
+any_index p (Ral _) i = refl
+any_index p (Rah _) i = refl
+any_index p (Vfta _) i = refl
+any_index p Ctrl i = refl
+any_index p _ i = refl
+
+-- the register that is found is one of the profile, and has the word as its name
+named_sound : (p : Profile) (word : List ℕ) (rows : List Reg) (reg : Reg) → all_in p rows ≡ true
+    → named_among word rows ≡ Some reg → IsRegOf p reg × IsNamed word reg
+named_sound p word [] reg all e = cc
+named_sound p word (row ∷ rows) reg all e =
+    by_index (index_named word row) refl e (named_sound p word rows reg parts.1) where
+      parts : (has_reg p row ≡ true) × (all_in p rows ≡ true)
+      parts = and_parts (has_reg p row) (all_in p rows) all
+
+      by_index : (o : Option ℕ) → index_named word row ≡ o
+          → or_else (option_map (with_index row) o) (named_among word rows) ≡ Some reg
+          → (named_among word rows ≡ Some reg → IsRegOf p reg × IsNamed word reg) → IsRegOf p reg × IsNamed word reg
+      by_index None o e more = more e
+      by_index (Some i) o e more =
+          let found = found_passes (λ k. same_letters word (name_of (with_index row k))) 0 (row_of row).words i o in
+          let same : with_index row i ≡ reg = cc in
+          subst (λ r. IsRegOf p r × IsNamed word r) same (
+            (is_reg-with_index row i (omega (arith, found.1)), any_index p row i ∙ parts.0),
+            same_true word (name_of (with_index row i)) found.0,
+          )
 
 -- where none is found, no row has one of this name
 named_none : (word : List ℕ) (rows : List Reg) → named_among word rows ≡ None → (k : ℕ) → k < length rows
@@ -128,15 +163,18 @@ named_none word (row ∷ rows) e k lt = by_index (index_named word row) refl e (
   by_index None o e more (suc j) lt = more e j (omega arith)
 
 -- what is read of a name is the register that it names
-pub named_is : (word : List ℕ) (result : Option Reg) → IfSome result (λ reg. IsReg reg × IsNamed word reg)
-    → ((reg : Reg) → IsReg reg → IsNamed word reg → result ≡ Some reg) → result ≡ named word
+pub named_is : (p : Profile) (word : List ℕ) (result : Option Reg)
+    → IfSome result (λ reg. IsRegOf p reg × IsNamed word reg)
+    → ((reg : Reg) → IsRegOf p reg → IsNamed word reg → result ≡ Some reg) → result ≡ named p word
 unfolding named
-named_is word result some every = by_found (named_among word registers) refl where
-  no_other : (result : Option Reg) → IfSome result (λ reg. IsReg reg × IsNamed word reg)
-      → named_among word registers ≡ None → result ≡ None
+named_is p word result some every = by_found (named_among word (rows_of p)) refl where
+  no_other : (result : Option Reg) → IfSome result (λ reg. IsRegOf p reg × IsNamed word reg)
+      → named_among word (rows_of p) ≡ None → result ≡ None
   no_other None some e = refl
-  no_other (Some reg) some e = absurd (names_none word (named_none word registers e) reg some.0 some.1)
+  no_other (Some reg) some e = absurd (names_none p word (named_none word (rows_of p) e) reg some.0 some.1)
 
-  by_found : (found : Option Reg) → named_among word registers ≡ found → result ≡ named_among word registers
-  by_found (Some reg) e = let it = named_sound word registers reg e in every reg it.0 it.1 ∙ sym e
+  by_found : (found : Option Reg) → named_among word (rows_of p) ≡ found
+      → result ≡ named_among word (rows_of p)
+  by_found (Some reg) e =
+      let it = named_sound p word (rows_of p) reg (all_its_own p) e in every reg it.0 it.1 ∙ sym e
   by_found None e = no_other result some e ∙ sym e

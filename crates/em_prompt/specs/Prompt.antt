@@ -1,5 +1,6 @@
 -- What a line says that somebody types, or what is wrong with it.
 use Rattle.std.specs.Prelude.{ℕ, List, [], ◌∷◌, Option, Some, None, Result, Ok, Err}
+use Rattle.em_regs.specs.declared.profile.Profile.{Profile}
 use Rattle.em_prompt.specs.declared.command.Command.{Command}
 use Rattle.em_prompt.specs.declared.wrong.Wrong.{Wrong as Lent}
 use Rattle.em_prompt.specs.declared.wrong.Wrong.TheVariants as lent
@@ -33,18 +34,18 @@ judged command (Ok said) = Ok said
 judged command (Err fault) = Err (behind command fault)
 
 -- a command with what stands behind its name
-abbrev pub command_line : Command → List ℕ → Result Typed Wrong
-command_line command rest = judged command (says command rest)
+abbrev pub command_line : Profile → Command → List ℕ → Result Typed Wrong
+command_line profile command rest = judged command (says profile command rest)
 
-abbrev pub found_line : List ℕ → Option Command → List ℕ → Result Typed Wrong
-found_line name None rest = Err (unknown name)
-found_line name (Some command) rest = command_line command rest
+abbrev pub found_line : Profile → List ℕ → Option Command → List ℕ → Result Typed Wrong
+found_line profile name None rest = Err (unknown name)
+found_line profile name (Some command) rest = command_line profile command rest
 
 -- a line with this first word, and what stands behind it
-abbrev pub named_line : List ℕ → List ℕ → Result Typed Wrong
-named_line [] rest = Ok silent
-named_line (octet ∷ octets) rest = found_line (octet ∷ octets) (command_of (octet ∷ octets)) rest
+abbrev pub named_line : Profile → List ℕ → List ℕ → Result Typed Wrong
+named_line profile [] rest = Ok silent
+named_line profile (octet ∷ octets) rest = found_line profile (octet ∷ octets) (command_of (octet ∷ octets)) rest
 
--- what a line says
-unfoldable pub prompted : List ℕ → Result Typed Wrong
-prompted line = named_line (first_word (told line)) (behind_first (told line))
+-- what a line says, in which registers are those of a profile
+unfoldable pub prompted : Profile → List ℕ → Result Typed Wrong
+prompted profile line = named_line profile (first_word (told line)) (behind_first (told line))

@@ -4,8 +4,10 @@ use Rattle.std.specs.List.{range_with_len}
 use Rattle.std.specs.Option.{option_map}
 use Rattle.std.specs.Char.{to_ascii_lowercase}
 use Rattle.std.specs.Str.{bytes_eq}
+use Rattle.em_regs.specs.declared.profile.Profile.{Profile}
+use Rattle.em_regs.specs.declared.profile.Profile.TheVariants.{Table, Adapter}
 use Rattle.em_regs.specs.declared.reg.Reg.{Reg}
-use Rattle.em_regs.specs.Table.{row_of, with_index, registers, reg_at, offset_of}
+use Rattle.em_regs.specs.Table.{row_of, with_index, registers, registers_of_table, reg_of}
 use Rattle.em_names.specs.Names.{name_of}
 use Rattle.em_prompt.specs.Word.{hex_number_in}
 
@@ -26,14 +28,15 @@ abbrev pub named_among : List ℕ → List Reg → Option Reg
 named_among word [] = None
 named_among word (row ∷ rows) = or_else (option_map (with_index row) (index_named word row)) (named_among word rows)
 
--- the register of the table that a word names, in either case
-unfoldable pub named : List ℕ → Option Reg
-named word = named_among word registers
+-- the rows that a profile has
+abbrev pub rows_of : Profile → List Reg
+rows_of Table = registers_of_table
+rows_of Adapter = registers
 
--- the register that a word names, or that lies at the offset that it writes
-abbrev pub known : List ℕ → Option Reg
-known word = or_else (named word) (option_and_then reg_at (hex_number_in word))
+-- the register of a profile that a word names, in either case
+unfoldable pub named : Profile → List ℕ → Option Reg
+named profile word = named_among word (rows_of profile)
 
--- the offset of the register that a word names, or the offset that it writes
-abbrev pub offset_in : List ℕ → Option ℕ
-offset_in word = or_else (option_map offset_of (named word)) (hex_number_in word)
+-- the register of a profile that a word names, or that lies at the offset that it writes
+abbrev pub known : Profile → List ℕ → Option Reg
+known profile word = or_else (named profile word) (option_and_then (reg_of profile) (hex_number_in word))

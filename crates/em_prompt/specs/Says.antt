@@ -14,6 +14,8 @@ use Rattle.em_prompt.specs.declared.kind.Kind.TheVariants.{Register, Known, Valu
 use Rattle.em_prompt.specs.declared.kind.Kind.TheVariants.{File, Number as Numbers, Choice}
 use Rattle.em_prompt.specs.declared.number.Number.{Number}
 use Rattle.em_prompt.specs.declared.number.Number.TheVariants.{Peeked, Watched, Packets, Count, Line as LineNumber, Event, Index}
+use Rattle.em_regs.specs.declared.profile.Profile.{Profile}
+use Rattle.em_regs.specs.declared.reg.Reg.{Reg}
 use Rattle.em_prompt.specs.declared.says.Way.{Way}
 use Rattle.em_prompt.specs.declared.says.Way.TheVariants.{Back, Forward}
 use Rattle.em_prompt.specs.declared.typed.Lines.TheVariants.{Here, Around, Between}
@@ -28,6 +30,7 @@ use Rattle.em_prompt.specs.Kept.{spaced}
 use Rattle.em_prompt.specs.Told.{without_blanks}
 use Rattle.em_prompt.specs.Typed as typed
 use Rattle.em_prompt.specs.Typed.{Typed}
+use Rattle.em_prompt.specs.Register.{named}
 use Rattle.em_prompt.specs.Until as until
 use Rattle.em_prompt.specs.Value.{Offset, address_in, command_in, data_in, ethernet_in, frame_len_in, kept_number_in, known_in}
 use Rattle.em_prompt.specs.Value.{last_line_in, number_in, offset_in, shown_address_in, side_in, switch_in, value_in, watch_in, way_in}
@@ -70,17 +73,17 @@ abbrev pub bench : Command → List ℕ → Typed
 bench command behind = typed.line (record { command = command; behind = behind })
 
 -- r OFF
-abbrev pub read_of : List (List ℕ) → Result Typed Fault
-read_of words = one Register offset_in (λ offset. bench command.Read (spaced offset.text)) words
+abbrev pub read_of : Profile → List (List ℕ) → Result Typed Fault
+read_of profile words = one Register (offset_in profile) (λ offset. bench command.Read (spaced offset.text)) words
 
 -- w OFF VAL
 abbrev pub value_of : Offset → List (List ℕ) → Result Typed Fault
 value_of offset words =
     one Value (value_in offset.reg) (λ value. bench command.Write (spaced offset.text ++ spaced value)) words
 
-abbrev pub write_of : List (List ℕ) → Result Typed Fault
-write_of [] = Err (missing Register)
-write_of (word ∷ words) = with (offset_in word) (λ offset. value_of offset words)
+abbrev pub write_of : Profile → List (List ℕ) → Result Typed Fault
+write_of profile [] = Err (missing Register)
+write_of profile (word ∷ words) = with (offset_in profile word) (λ offset. value_of offset words)
 
 -- poke ADDR DATA
 abbrev pub poke_of : List (List ℕ) → Result Typed Fault
@@ -142,20 +145,28 @@ number_if number [] = Ok (None, [])
 number_if number (word ∷ words) = with (number_in number word) (λ n. Ok (Some n, words))
 
 -- look NAME, look OFF
-abbrev pub look_of : List (List ℕ) → Result Typed Fault
-look_of words = one Known known_in (λ reg. typed.show (shown.Look reg)) words
+abbrev pub look_of : Profile → List (List ℕ) → Result Typed Fault
+look_of profile words = one Known (known_in profile) (λ reg. typed.show (shown.Look reg)) words
 
 -- WATCH, which begins with a word: ADDR LEN, or that word alone
 abbrev pub octets_at : ℕ → List (List ℕ) → Result (Watch × List (List ℕ)) Fault
 octets_at addr [] = Err (missing (Numbers Watched))
 octets_at addr (word ∷ words) = with (number_in Watched word) (λ len. Ok (watched.octets addr len, words))
 
-abbrev pub watch_with : Option ℕ → List ℕ → List (List ℕ) → Result (Watch × List (List ℕ)) Fault
-watch_with None word words = with (watch_in word) (λ watch. Ok (watch, words))
-watch_with (Some addr) word words = octets_at addr words
+-- a name is no address, where its letters are digits too
+abbrev pub address_if : Option Reg → Option ℕ → Option ℕ
+address_if (Some reg) at = None
+address_if None at = at
 
-abbrev pub watch_at : List ℕ → List (List ℕ) → Result (Watch × List (List ℕ)) Fault
-watch_at word words = watch_with (hex_address_in word) word words
+abbrev pub watched_address : Profile → List ℕ → Option ℕ
+watched_address profile word = address_if (named profile word) (hex_address_in word)
+
+abbrev pub watch_with : Profile → Option ℕ → List ℕ → List (List ℕ) → Result (Watch × List (List ℕ)) Fault
+watch_with profile None word words = with (watch_in profile word) (λ watch. Ok (watch, words))
+watch_with profile (Some addr) word words = octets_at addr words
+
+abbrev pub watch_at : Profile → List ℕ → List (List ℕ) → Result (Watch × List (List ℕ)) Fault
+watch_at profile word words = watch_with profile (watched_address profile word) word words
 
 -- again, all, or no word
 abbrev pub which_if : List (List ℕ) → Result (Which × List (List ℕ)) Fault
@@ -163,11 +174,11 @@ which_if [] = Ok (Newest, [])
 which_if (word ∷ words) = with (which_in word) (λ which. Ok (which, words))
 
 -- who again, who WATCH, who WATCH again, who WATCH all
-abbrev pub who_of : List (List ℕ) → Result Typed Fault
-who_of [] = Err (missing Watches)
-who_of (word ∷ words) =
+abbrev pub who_of : Profile → List (List ℕ) → Result Typed Fault
+who_of profile [] = Err (missing Watches)
+who_of profile (word ∷ words) =
     if bytes_eq word (codes "again") then alone typed.who_again words else
-    with (watch_at word words) (λ watch. with (which_if watch.1) (λ which. alone (typed.who watch.0 which.0) which.1))
+    with (watch_at profile word words) (λ watch. with (which_if watch.1) (λ which. alone (typed.who watch.0 which.0) which.1))
 
 -- back, back N, back to LINE; and forward so
 abbrev pub moves_by : Way → ℕ → Typed
@@ -198,27 +209,27 @@ ends_changes watch [] = Err (missing (Choice Change))
 ends_changes watch (word ∷ words) =
     if bytes_eq word (codes "changes") then alone (typed.run_until (until.changes watch)) words else Err (no (Choice Change))
 
-abbrev pub changes_of : List ℕ → List (List ℕ) → Result Typed Fault
-changes_of word words = with (watch_at word words) (λ watch. ends_changes watch.0 watch.1)
+abbrev pub changes_of : Profile → List ℕ → List (List ℕ) → Result Typed Fault
+changes_of profile word words = with (watch_at profile word words) (λ watch. ends_changes watch.0 watch.1)
 
 -- LINE, alone, or WATCH changes
-abbrev pub line_or_changes : Option ℕ → List ℕ → List (List ℕ) → Result Typed Fault
-line_or_changes (Some n) word [] = with (within LineNumber n) (λ n. Ok (typed.run_until (until.line n)))
-line_or_changes at word words = changes_of word words
+abbrev pub line_or_changes : Profile → Option ℕ → List ℕ → List (List ℕ) → Result Typed Fault
+line_or_changes profile (Some n) word [] = with (within LineNumber n) (λ n. Ok (typed.run_until (until.line n)))
+line_or_changes profile at word words = changes_of profile word words
 
 -- refused, dropped, differs, LINE, or WATCH changes
-abbrev pub until_of : List (List ℕ) → Result Typed Fault
-until_of [] = Err (missing Watches)
-until_of (word ∷ words) =
+abbrev pub until_of : Profile → List (List ℕ) → Result Typed Fault
+until_of profile [] = Err (missing Watches)
+until_of profile (word ∷ words) =
     if bytes_eq word (codes "refused") then alone (typed.run_until until.refused) words else
     if bytes_eq word (codes "dropped") then alone (typed.run_until until.dropped) words else
     if bytes_eq word (codes "differs") then alone (typed.run_until until.differs) words else
-    line_or_changes (decimal_number word) word words
+    line_or_changes profile (decimal_number word) word words
 
 -- run, or run until ..
-abbrev pub run_of : List (List ℕ) → Result Typed Fault
-run_of [] = Ok typed.run
-run_of (word ∷ words) = if bytes_eq word (codes "until") then until_of words else Err (no (Choice Untils))
+abbrev pub run_of : Profile → List (List ℕ) → Result Typed Fault
+run_of profile [] = Ok typed.run
+run_of profile (word ∷ words) = if bytes_eq word (codes "until") then until_of profile words else Err (no (Choice Untils))
 
 -- FILE: all that stands there, without the blanks around it
 abbrev pub file_in : List ℕ → List (List ℕ) → Result (List ℕ) Fault
@@ -270,44 +281,44 @@ auto_of words = one (Choice Switch) switch_in typed.auto words
 abbrev pub help_of : List (List ℕ) → Result Typed Fault
 help_of words = one_or (typed.show (shown.Help None)) command_in (λ command. typed.show (shown.Help (Some command))) words
 
--- ---- each command, with all that stands behind its name
+-- ---- each command, with all that stands behind its name, in which registers are those of a profile
 
-abbrev pub says : Command → List ℕ → Result Typed Fault
-says command.Read rest = read_of (words_of rest)
-says command.Write rest = write_of (words_of rest)
-says command.Poke rest = poke_of (words_of rest)
-says command.Peek rest = peek_of (words_of rest)
-says command.Arrive rest = arrive_of (words_of rest)
-says command.Link rest = link_of (words_of rest)
-says command.Send rest = send_of (words_of rest)
-says command.Recv rest = recv_of (words_of rest)
-says command.Mac rest = mac_of (words_of rest)
-says command.Turns rest = plan_of rest (words_of rest) (turns_form (words_of rest))
-says command.Rx rest = alone (bench command.Rx []) (words_of rest)
-says command.Tx rest = alone (bench command.Tx []) (words_of rest)
-says (command.Bench look) rest = alone (bench (command.Bench look) []) (words_of rest)
-says command.Init rest = alone (bench command.Init []) (words_of rest)
-says command.Stats rest = alone (bench command.Stats []) (words_of rest)
-says command.Look rest = look_of (words_of rest)
-says command.Who rest = who_of (words_of rest)
-says command.Back rest = move_of Back (words_of rest)
-says command.Forward rest = move_of Forward (words_of rest)
-says command.Goto rest = goto_of (words_of rest)
-says command.Next rest = next_of (words_of rest)
-says command.Run rest = run_of (words_of rest)
-says command.Load rest = file_of typed.load rest
-says command.Save rest = file_of typed.save rest
-says command.SaveOver rest = file_of typed.save_over rest
-says command.Pcap rest = file_of typed.pcap rest
-says command.PcapOver rest = file_of typed.pcap_over rest
-says command.List rest = list_of (words_of rest)
-says command.History rest = history_of (words_of rest)
-says command.Effect rest = effect_of (words_of rest)
-says command.Ring rest = ring_of (words_of rest)
-says command.Frame rest = frame_of (words_of rest)
-says command.Memory rest = memory_of (words_of rest)
-says command.Why rest = alone (typed.show shown.Why) (words_of rest)
-says command.Warnings rest = warnings_of (words_of rest)
-says command.Auto rest = auto_of (words_of rest)
-says command.Help rest = help_of (words_of rest)
-says command.Quit rest = alone typed.quit (words_of rest)
+abbrev pub says : Profile → Command → List ℕ → Result Typed Fault
+says profile command.Read rest = read_of profile (words_of rest)
+says profile command.Write rest = write_of profile (words_of rest)
+says profile command.Poke rest = poke_of (words_of rest)
+says profile command.Peek rest = peek_of (words_of rest)
+says profile command.Arrive rest = arrive_of (words_of rest)
+says profile command.Link rest = link_of (words_of rest)
+says profile command.Send rest = send_of (words_of rest)
+says profile command.Recv rest = recv_of (words_of rest)
+says profile command.Mac rest = mac_of (words_of rest)
+says profile command.Turns rest = plan_of rest (words_of rest) (turns_form (words_of rest))
+says profile command.Rx rest = alone (bench command.Rx []) (words_of rest)
+says profile command.Tx rest = alone (bench command.Tx []) (words_of rest)
+says profile (command.Bench look) rest = alone (bench (command.Bench look) []) (words_of rest)
+says profile command.Init rest = alone (bench command.Init []) (words_of rest)
+says profile command.Stats rest = alone (bench command.Stats []) (words_of rest)
+says profile command.Look rest = look_of profile (words_of rest)
+says profile command.Who rest = who_of profile (words_of rest)
+says profile command.Back rest = move_of Back (words_of rest)
+says profile command.Forward rest = move_of Forward (words_of rest)
+says profile command.Goto rest = goto_of (words_of rest)
+says profile command.Next rest = next_of (words_of rest)
+says profile command.Run rest = run_of profile (words_of rest)
+says profile command.Load rest = file_of typed.load rest
+says profile command.Save rest = file_of typed.save rest
+says profile command.SaveOver rest = file_of typed.save_over rest
+says profile command.Pcap rest = file_of typed.pcap rest
+says profile command.PcapOver rest = file_of typed.pcap_over rest
+says profile command.List rest = list_of (words_of rest)
+says profile command.History rest = history_of (words_of rest)
+says profile command.Effect rest = effect_of (words_of rest)
+says profile command.Ring rest = ring_of (words_of rest)
+says profile command.Frame rest = frame_of (words_of rest)
+says profile command.Memory rest = memory_of (words_of rest)
+says profile command.Why rest = alone (typed.show shown.Why) (words_of rest)
+says profile command.Warnings rest = warnings_of (words_of rest)
+says profile command.Auto rest = auto_of (words_of rest)
+says profile command.Help rest = help_of (words_of rest)
+says profile command.Quit rest = alone typed.quit (words_of rest)

@@ -8,8 +8,9 @@ use Rattle.std.specs.Str.{bytes_eq}
 use Rattle.em_text.specs.Numbers.{decimal_number, octets_of}
 use Rattle.em_text.specs.Writer.{value_digits}
 use Rattle.em_line.specs.Digits.{bare}
+use Rattle.em_regs.specs.declared.profile.Profile.{Profile}
 use Rattle.em_regs.specs.declared.reg.Reg.{Reg}
-use Rattle.em_regs.specs.Table.{offset_of, reg_at}
+use Rattle.em_regs.specs.Table.{offset_of, reg_of}
 use Rattle.em_prompt.specs.declared.command.Command.{Command}
 use Rattle.em_prompt.specs.declared.kind.Choice.TheVariants.{Way, Side as OfSides, More, Switch}
 use Rattle.em_prompt.specs.declared.kind.Kind.TheVariants.{Value, Address, Data, Ethernet, FrameLen, LastLine, Number as OfNumber}
@@ -91,14 +92,14 @@ abbrev pub is_some : {T : Type 0} → Option T → Bool
 is_some None = false
 is_some (Some value) = true
 
--- a register by its name, or any offset
-abbrev pub offset_with : List ℕ → Option Reg → Option ℕ → Result Offset Fault
-offset_with word (Some reg) at = Ok (record { text = value_digits (offset_of reg); reg = Some reg })
-offset_with word None (Some at) = Ok (record { text = bare word; reg = reg_at at })
-offset_with word None None = Err (no_register word)
+-- a register of a profile by its name, or any offset
+abbrev pub offset_with : Profile → List ℕ → Option Reg → Option ℕ → Result Offset Fault
+offset_with profile word (Some reg) at = Ok (record { text = value_digits (offset_of reg); reg = Some reg })
+offset_with profile word None (Some at) = Ok (record { text = bare word; reg = reg_of profile at })
+offset_with profile word None None = Err (no_register word)
 
-abbrev pub offset_in : List ℕ → Result Offset Fault
-offset_in word = offset_with word (named word) (hex_number_in word)
+abbrev pub offset_in : Profile → List ℕ → Result Offset Fault
+offset_in profile word = offset_with profile word (named profile word) (hex_number_in word)
 
 abbrev pub bits_value : Reg → Result ℕ (List ℕ) → Result (List ℕ) Fault
 bits_value reg (Ok value) = Ok (value_digits value)
@@ -113,9 +114,9 @@ named_value (Some reg) word = bits_value reg (bits_of reg word)
 abbrev pub value_in : Option Reg → List ℕ → Result (List ℕ) Fault
 value_in reg word = if is_some (hex_number_in word) then Ok (bare word) else named_value reg word
 
--- a register of the table, by its name or its offset
-abbrev pub known_in : List ℕ → Result Reg Fault
-known_in word = or_fault (no_register word) (known word)
+-- a register of a profile, by its name or its offset
+abbrev pub known_in : Profile → List ℕ → Result Reg Fault
+known_in profile word = or_fault (no_register word) (known profile word)
 
 -- an address, of what is shown, and as it is kept
 abbrev pub shown_address_in : List ℕ → Result ℕ Fault
@@ -169,8 +170,8 @@ abbrev pub last_line_in : ℕ → List ℕ → Result ℕ Fault
 last_line_in line word = or_fault (no LastLine) (between line 9_999_999 (decimal_number word))
 
 -- what is watched, in one word
-abbrev pub watch_in : List ℕ → Result Watch Fault
-watch_in word = or_fault (no_register word) (watched word)
+abbrev pub watch_in : Profile → List ℕ → Result Watch Fault
+watch_in profile word = or_fault (no_register word) (watched profile word)
 
 -- the name of a command
 abbrev pub command_in : List ℕ → Result Command Fault

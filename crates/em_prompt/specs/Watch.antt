@@ -2,6 +2,7 @@
 use Rattle.std.specs.Prelude.{ℕ, List, codes, if◌then◌else◌, Option, Some}
 use Rattle.std.specs.Option.{option_map}
 use Rattle.std.specs.Str.{bytes_eq}
+use Rattle.em_regs.specs.declared.profile.Profile.{Profile}
 use Rattle.em_regs.specs.declared.reg.Reg.{Reg}
 use Rattle.em_prompt.specs.declared.watch.Watch.{Watch as Coded}
 use Rattle.em_prompt.specs.declared.watch.Watch.TheVariants as coded
@@ -29,11 +30,11 @@ plain coded.Link = link
 plain coded.Frames = frames
 plain coded.Sent = sent
 
--- what one word says
-abbrev pub watched : List ℕ → Option Watch
-watched word =
+-- what one word says; a register of a profile by its name
+abbrev pub watched : Profile → List ℕ → Option Watch
+watched profile word =
     if bytes_eq word (codes "line") then Some line else
     if bytes_eq word (codes "link") then Some link else
     if bytes_eq word (codes "frames") then Some frames else
     if bytes_eq word (codes "sent") then Some sent else
-    option_map register (named word)
+    option_map register (named profile word)

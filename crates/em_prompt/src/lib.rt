@@ -33,7 +33,7 @@ pub use help::{write_help, write_whole_help};
 pub use kind::{Choice, Kind};
 pub use number::Number;
 pub use prompt::prompted;
-pub use script_line::scripted;
+pub use script_line::{is_plain, scripted};
 pub use typed::{Lines, Shown, Side, Typed, Until, Which};
 pub use watch::Watch;
 pub use watched_len::WatchedLen;

@@ -1,37 +1,27 @@
 //! The register that a word means.
 ghost use Rattle.std.specs.Prelude.{◌≡◌};
-ghost use Rattle.em_prompt.specs.Register.{named, known, offset_in};
+ghost use Rattle.em_prompt.specs.Register.{named, known};
 
 use crate::word::hex_number_in;
-use em_names::parse;
-use em_regs::Reg;
+use em_names::parse_in;
+use em_regs::{Profile, Reg};
 
-/// The register of the table that a word names, in either case.
-pub(crate) fn named(word: &[u8]) -> Option<Reg>
-    ensures { result ≡ named word.now }
+/// The register of a profile that a word names, in either case.
+pub(crate) fn named(profile: Profile, word: &[u8]) -> Option<Reg>
+    ensures { result ≡ named profile word.now }
 {
-    parse(word)
+    parse_in(profile, word)
 }
 
-/// The register that a word names, or that lies at the offset that it writes.
-pub(crate) fn known(word: &[u8]) -> Option<Reg>
-    ensures { result ≡ known word.now }
+/// The register of a profile that a word names, or that lies at the offset that it writes.
+pub(crate) fn known(profile: Profile, word: &[u8]) -> Option<Reg>
+    ensures { result ≡ known profile word.now }
 {
-    if let Some(reg) = named(word) {
+    if let Some(reg) = named(profile, word) {
         return Some(reg);
     }
     match hex_number_in(word) {
-        Some(offset) => Reg::of_offset(offset),
+        Some(offset) => Reg::of_offset_in(profile, offset),
         None => None,
-    }
-}
-
-/// The offset of the register that a word names, or the offset that it writes.
-pub(crate) fn offset_in(word: &[u8]) -> Option<u32>
-    ensures { result ≡ offset_in word.now }
-{
-    match named(word) {
-        Some(reg) => Some(reg.offset()),
-        None => hex_number_in(word),
     }
 }

@@ -9,7 +9,7 @@ ghost use Rattle.em_prompt.specs.Value.{file_so, read_with, watch_read_with};
 ghost use Rattle.em_prompt.specs.Says.{plain, arrive_of, auto_of, bench, changes_of, effect_of, file_in, frame_line, frame_of};
 ghost use Rattle.em_prompt.specs.Says.{goto_of, help_of, history_of, lines_from, line_or_changes, link_of, list_of, look_of, mac_of, memory_of};
 ghost use Rattle.em_prompt.specs.Says.{move_of, moves_by, moves_to, next_of, number_if, peek_of, plan_of, poke_of, read_of, recv_of, ring_of};
-ghost use Rattle.em_prompt.specs.Says.{run_of, says, send_of, until_of, warnings_of, watch_at, which_if, who_of, write_of};
+ghost use Rattle.em_prompt.specs.Says.{run_of, says, send_of, until_of, warnings_of, watch_at, watched_address, which_if, who_of, write_of};
 
 use crate::bench_line::BenchLine;
 use crate::command::Command;
@@ -17,6 +17,7 @@ use crate::fault::Fault;
 use crate::kept::KeptWords;
 use crate::kind::{Choice, Kind};
 use crate::number::Number;
+use crate::register::named;
 use crate::told::without_blanks;
 use crate::typed::{Lines, Shown, Typed, Until, Which};
 use crate::value::{
@@ -28,6 +29,7 @@ use crate::watched_len::WatchedLen;
 use crate::word::hex_address_in;
 use crate::words::{alone, next};
 use em_line::turns_form;
+use em_regs::Profile;
 use em_text::{Words, decimal_number, is_name};
 
 /// Which way a move goes.
@@ -63,15 +65,15 @@ impl Way {
     }
 }
 
-/// What a command says by the words behind its name.
+/// What a command says by the words behind its name; names of registers are those of a profile.
 #[rattlefmt::skip]
-pub(crate) fn says<'a>(command: Command, words: Words<'a>) -> Result<Typed<'a>, Fault<'a>>
+pub(crate) fn says<'a>(profile: Profile, command: Command, words: Words<'a>) -> Result<Typed<'a>, Fault<'a>>
     requires { length (words_of words.0.now) < 0x1_0000_0000 }
-    ensures { plain result ≡ says command words.entry.0.now }
+    ensures { plain result ≡ says profile command words.entry.0.now }
 {
     match command {
-        Command::Read => read_of(words),
-        Command::Write => write_of(words),
+        Command::Read => read_of(profile, words),
+        Command::Write => write_of(profile, words),
         Command::Poke => poke_of(words),
         Command::Peek => peek_of(words),
         Command::Arrive => arrive_of(words),
@@ -82,13 +84,13 @@ pub(crate) fn says<'a>(command: Command, words: Words<'a>) -> Result<Typed<'a>, 
         Command::Turns => plan_of(words),
         Command::Rx | Command::Tx | Command::Bench(_) | Command::Init | Command::Stats =>
             alone(bench(command, KeptWords::None), words),
-        Command::Look => look_of(words),
-        Command::Who => who_of(words),
+        Command::Look => look_of(profile, words),
+        Command::Who => who_of(profile, words),
         Command::Back => move_of(Way::Back, words),
         Command::Forward => move_of(Way::Forward, words),
         Command::Goto => goto_of(words),
         Command::Next => next_of(words),
-        Command::Run => run_of(words),
+        Command::Run => run_of(profile, words),
         Command::Load => Ok(Typed::Load(file_in(words)?)),
         Command::Save => Ok(Typed::Save(file_in(words)?)),
         Command::SaveOver => Ok(Typed::SaveOver(file_in(words)?)),
@@ -118,18 +120,18 @@ fn bench<'a>(command: Command, words: KeptWords<'a>) -> Typed<'a>
 // ---- em_bench's lines
 
 /// r OFF
-fn read_of<'a>(mut words: Words<'a>) -> Result<Typed<'a>, Fault<'a>>
-    ensures { plain result ≡ read_of (words_of words.entry.0.now) }
+fn read_of<'a>(profile: Profile, mut words: Words<'a>) -> Result<Typed<'a>, Fault<'a>>
+    ensures { plain result ≡ read_of profile (words_of words.entry.0.now) }
 {
-    let offset = offset_in(next(&mut words, Kind::Register)?)?;
+    let offset = offset_in(profile, next(&mut words, Kind::Register)?)?;
     alone(bench(Command::Read, KeptWords::One(offset.kept)), words)
 }
 
 /// w OFF VAL
-fn write_of<'a>(mut words: Words<'a>) -> Result<Typed<'a>, Fault<'a>>
-    ensures { plain result ≡ write_of (words_of words.entry.0.now) }
+fn write_of<'a>(profile: Profile, mut words: Words<'a>) -> Result<Typed<'a>, Fault<'a>>
+    ensures { plain result ≡ write_of profile (words_of words.entry.0.now) }
 {
-    let offset = offset_in(next(&mut words, Kind::Register)?)?;
+    let offset = offset_in(profile, next(&mut words, Kind::Register)?)?;
     let value = value_in(offset.reg, next(&mut words, Kind::Value)?)?;
     alone(
         bench(Command::Write, KeptWords::Two(offset.kept, value)),
@@ -252,35 +254,45 @@ fn number_if<'a>(words: &mut Words<'a>, number: Number) -> Result<Option<u32>, F
 }
 
 /// look NAME, look OFF
-fn look_of<'a>(mut words: Words<'a>) -> Result<Typed<'a>, Fault<'a>>
-    ensures { plain result ≡ look_of (words_of words.entry.0.now) }
+fn look_of<'a>(profile: Profile, mut words: Words<'a>) -> Result<Typed<'a>, Fault<'a>>
+    ensures { plain result ≡ look_of profile (words_of words.entry.0.now) }
 {
-    let reg = known_in(next(&mut words, Kind::Known)?)?;
+    let reg = known_in(profile, next(&mut words, Kind::Known)?)?;
     alone(Typed::Show(Shown::Look(reg)), words)
 }
 
 /// who again, who WATCH, who WATCH again, who WATCH all
-fn who_of<'a>(mut words: Words<'a>) -> Result<Typed<'a>, Fault<'a>>
-    ensures { plain result ≡ who_of (words_of words.entry.0.now) }
+fn who_of<'a>(profile: Profile, mut words: Words<'a>) -> Result<Typed<'a>, Fault<'a>>
+    ensures { plain result ≡ who_of profile (words_of words.entry.0.now) }
 {
     let word = next(&mut words, Kind::Watch)?;
     if is_name(word, b"again") {
         return alone(Typed::WhoAgain, words);
     }
-    let watch = watch_at(word, &mut words)?;
+    let watch = watch_at(profile, word, &mut words)?;
     let which = which_if(&mut words)?;
     alone(Typed::Who(watch, which), words)
 }
 
 /// WATCH, which begins with a word: ADDR LEN, or that word alone.
-fn watch_at<'a>(word: &'a [u8], words: &mut Words<'a>) -> Result<Watch, Fault<'a>>
-    ensures { watch_read_with result (words_of words.new.0.now) ≡ watch_at word.now (words_of words.old.0.now) }
+fn watch_at<'a>(profile: Profile, word: &'a [u8], words: &mut Words<'a>) -> Result<Watch, Fault<'a>>
+    ensures { watch_read_with result (words_of words.new.0.now) ≡ watch_at profile word.now (words_of words.old.0.now) }
 {
-    let Some(address) = hex_address_in(word) else {
-        return watch_in(word);
+    let Some(address) = watched_address(profile, word) else {
+        return watch_in(profile, word);
     };
     let len = WatchedLen::of(next(words, Kind::Number(Number::Watched))?)?;
     Ok(Watch::Octets(address, len))
+}
+
+/// The address that a word writes which begins WATCH; none where it names a register by letters that are digits too.
+fn watched_address(profile: Profile, word: &[u8]) -> Option<u64>
+    ensures { result ≡ watched_address profile word.now }
+{
+    match named(profile, word) {
+        Some(_) => None,
+        None => hex_address_in(word),
+    }
 }
 
 /// again, all, or no word
@@ -332,19 +344,19 @@ fn next_of<'a>(mut words: Words<'a>) -> Result<Typed<'a>, Fault<'a>>
 }
 
 /// run, or run until ..
-fn run_of<'a>(mut words: Words<'a>) -> Result<Typed<'a>, Fault<'a>>
-    ensures { plain result ≡ run_of (words_of words.entry.0.now) }
+fn run_of<'a>(profile: Profile, mut words: Words<'a>) -> Result<Typed<'a>, Fault<'a>>
+    ensures { plain result ≡ run_of profile (words_of words.entry.0.now) }
 {
     match words.next() {
         None => Ok(Typed::Run),
-        Some(word) if is_name(word, b"until") => until_of(words),
+        Some(word) if is_name(word, b"until") => until_of(profile, words),
         Some(_) => Err(Fault::No(Kind::Choice(Choice::Until))),
     }
 }
 
 /// refused, dropped, differs, LINE, or WATCH changes
-fn until_of<'a>(mut words: Words<'a>) -> Result<Typed<'a>, Fault<'a>>
-    ensures { plain result ≡ until_of (words_of words.entry.0.now) }
+fn until_of<'a>(profile: Profile, mut words: Words<'a>) -> Result<Typed<'a>, Fault<'a>>
+    ensures { plain result ≡ until_of profile (words_of words.entry.0.now) }
 {
     let word = next(&mut words, Kind::Watch)?;
     if is_name(word, b"refused") {
@@ -356,28 +368,36 @@ fn until_of<'a>(mut words: Words<'a>) -> Result<Typed<'a>, Fault<'a>>
     if is_name(word, b"differs") {
         return alone(Typed::RunUntil(Until::Differs), words);
     }
-    line_or_changes(word, words)
+    line_or_changes(profile, word, words)
 }
 
 /// LINE, alone, or WATCH changes
-fn line_or_changes<'a>(word: &'a [u8], words: Words<'a>) -> Result<Typed<'a>, Fault<'a>>
-    ensures { plain result ≡ line_or_changes (decimal_number word.now) word.now (words_of words.entry.0.now) }
+fn line_or_changes<'a>(
+    profile: Profile,
+    word: &'a [u8],
+    words: Words<'a>,
+) -> Result<Typed<'a>, Fault<'a>>
+    ensures { plain result ≡ line_or_changes profile (decimal_number word.now) word.now (words_of words.entry.0.now) }
 {
     let Some(line) = decimal_number(word) else {
-        return changes_of(word, words);
+        return changes_of(profile, word, words);
     };
     let mut others = words;
     match others.next() {
         None => Ok(Typed::RunUntil(Until::Line(Number::Line.within(line)?))),
-        Some(_) => changes_of(word, words),
+        Some(_) => changes_of(profile, word, words),
     }
 }
 
 /// WATCH changes, where WATCH begins with this word
-fn changes_of<'a>(word: &'a [u8], mut words: Words<'a>) -> Result<Typed<'a>, Fault<'a>>
-    ensures { plain result ≡ changes_of word.now (words_of words.entry.0.now) }
+fn changes_of<'a>(
+    profile: Profile,
+    word: &'a [u8],
+    mut words: Words<'a>,
+) -> Result<Typed<'a>, Fault<'a>>
+    ensures { plain result ≡ changes_of profile word.now (words_of words.entry.0.now) }
 {
-    let watch = watch_at(word, &mut words)?;
+    let watch = watch_at(profile, word, &mut words)?;
     let behind = next(&mut words, Kind::Choice(Choice::Changes))?;
     if !is_name(behind, b"changes") {
         return Err(Fault::No(Kind::Choice(Choice::Changes)));

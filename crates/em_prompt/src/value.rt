@@ -22,7 +22,7 @@ use crate::word::{
     ADDRESS_DIGITS, address_digits, data_len, hex_address_in, hex_number_in, is_address, is_data,
 };
 use em_line::bare;
-use em_regs::Reg;
+use em_regs::{Profile, Reg};
 use em_text::{decimal_number, is_name};
 
 /// The most octets that LEN asks for.
@@ -38,11 +38,11 @@ pub(crate) struct Offset<'a> {
     pub(crate) reg: Option<Reg>,
 }
 
-/// OFF: a register by its name, or any offset.
-pub(crate) fn offset_in(word: &[u8]) -> Result<Offset<'_>, Fault<'_>>
-    ensures { offset_so result ≡ offset_in word.now }
+/// OFF: a register of a profile by its name, or any offset.
+pub(crate) fn offset_in(profile: Profile, word: &[u8]) -> Result<Offset<'_>, Fault<'_>>
+    ensures { offset_so result ≡ offset_in profile word.now }
 {
-    if let Some(reg) = named(word) {
+    if let Some(reg) = named(profile, word) {
         return Ok(Offset {
             kept: Kept::Value(reg.offset()),
             reg: Some(reg),
@@ -51,7 +51,7 @@ pub(crate) fn offset_in(word: &[u8]) -> Result<Offset<'_>, Fault<'_>>
     match hex_number_in(word) {
         Some(offset) => Ok(Offset {
             kept: Kept::Word(bare(word)),
-            reg: Reg::of_offset(offset),
+            reg: Reg::of_offset_in(profile, offset),
         }),
         None => Err(Fault::NoRegister(word)),
     }
@@ -73,11 +73,11 @@ pub(crate) fn value_in<'a>(reg: Option<Reg>, word: &'a [u8]) -> Result<Kept<'a>,
     }
 }
 
-/// A register of the table, by its name or its offset.
-pub(crate) fn known_in(word: &[u8]) -> Result<Reg, Fault<'_>>
-    ensures { read_so result ≡ known_in word.now }
+/// A register of a profile, by its name or its offset.
+pub(crate) fn known_in(profile: Profile, word: &[u8]) -> Result<Reg, Fault<'_>>
+    ensures { read_so result ≡ known_in profile word.now }
 {
-    match known(word) {
+    match known(profile, word) {
         Some(reg) => Ok(reg),
         None => Err(Fault::NoRegister(word)),
     }
@@ -176,10 +176,10 @@ pub(crate) fn last_line_in<'a>(line: u32, word: &'a [u8]) -> Result<u32, Fault<'
 }
 
 /// WATCH in one word.
-pub(crate) fn watch_in(word: &[u8]) -> Result<Watch, Fault<'_>>
-    ensures { watch_so result ≡ watch_in word.now }
+pub(crate) fn watch_in(profile: Profile, word: &[u8]) -> Result<Watch, Fault<'_>>
+    ensures { watch_so result ≡ watch_in profile word.now }
 {
-    match watched(word) {
+    match watched(profile, word) {
         Some(watch) => Ok(watch),
         None => Err(Fault::NoRegister(word)),
     }

@@ -5,7 +5,7 @@ ghost use Rattle.em_prompt.specs.Watch.{plain, watched};
 
 use crate::register::named;
 use crate::watched_len::WatchedLen;
-use em_regs::Reg;
+use em_regs::{Profile, Reg};
 use em_text::is_name;
 
 /// What is watched.
@@ -24,9 +24,9 @@ pub enum Watch {
     Sent,
 }
 
-/// What one word says is watched.
-pub(crate) fn watched(word: &[u8]) -> Option<Watch>
-    ensures { option_map plain result ≡ watched word.now }
+/// What one word says is watched; a register of a profile by its name.
+pub(crate) fn watched(profile: Profile, word: &[u8]) -> Option<Watch>
+    ensures { option_map plain result ≡ watched profile word.now }
 {
     if is_name(word, b"line") {
         return Some(Watch::Line);
@@ -40,7 +40,7 @@ pub(crate) fn watched(word: &[u8]) -> Option<Watch>
     if is_name(word, b"sent") {
         return Some(Watch::Sent);
     }
-    match named(word) {
+    match named(profile, word) {
         Some(reg) => Some(Watch::Register(reg)),
         None => None,
     }

@@ -15,10 +15,10 @@ use Rattle.em_filter.specs.Filters.{longest, verdict}
 use Rattle.em_filter.specs.Bits.{vet, vme}
 use Rattle.em_filter.specs.Vlan.{passes_vlan, tag_of, tagged, type_of}
 use Rattle.em_regs.specs.Storage.{Registers}
-use Rattle.em_rx.specs.Frame.{len_of, stored_frame}
-use Rattle.em_step.specs.Arrival.{after_accept, after_miss, arrival, is_enabled, judgement, kept_frame, lacks_room}
+use Rattle.em_rx.specs.Frame.{len_of}
+use Rattle.em_step.specs.Arrival.{after_accept, after_miss, arrival, is_enabled, judgement, kept_frame}
+use Rattle.em_step.specs.Arrival.{lacks_room}
 use Rattle.em_step.specs.State.{State}
-use Rattle.em_step.proofs.ArrivalLaws.{stored_len}
 use Rattle.em_step.specs.declared.event.Answer.{Answer}
 use Rattle.em_step.specs.declared.event.Answer.TheVariants.{Stored, Dropped as Drops, Done, Value, Idle}
 use Rattle.em_step.specs.declared.event.Answer.TheVariants.{Wrote, Fetched, Sent}
@@ -177,13 +177,6 @@ tagged_long m f h =
     let long : nat_le 16 (length f) ≡ true = second (vme m) (nat_le 16 (length f)) (type_of f == vet m) h in
     grind (arith, nat_tests)
 
-pub kept_len : (s : State) (f : List ℕ) (b : Bool) → b ≡ tagged s.registers f → b ≡ true
-    → length f - 4 ≡ len_of (kept_frame s f)
-kept_len s f b is so =
-    let tagged_so : tagged s.registers f ≡ true = sym is ∙ so in
-    sym (ap (λ (t : Bool). len_of (stored_frame f t)) tagged_so
-    ∙ stored_len f true (tagged_long s.registers f tagged_so))
-
 -- ---- what the laws say
 -- the reason of an answer that says so
 abbrev reason_in : Answer → Option Reason
@@ -257,6 +250,7 @@ record LooksTheSame (s t : State) : Type 0 where
   registers : t.registers ≡ s.registers
   link : t.link ≡ s.link
   fifo : t.fifo ≡ s.fifo
+  profile : t.profile ≡ s.profile
 
 abbrev state_in : Answer × State → State
 state_in r = r.1
@@ -264,14 +258,14 @@ state_in r = r.1
 room_keeps : (s : State) (f : List ℕ) (kind : Kind) (r : Reason) (full : Bool)
     → answer_in (if full then (Drops reason.Missed, after_miss s) else (Stored, after_accept s f kind)) ≡ Drops r
     → LooksTheSame s (state_in (if full then (Drops reason.Missed, after_miss s) else (Stored, after_accept s f kind)))
-room_keeps s f kind r true h = record { registers = refl; link = refl; fifo = refl }
+room_keeps s f kind r true h = record { registers = refl; link = refl; fifo = refl; profile = refl }
 room_keeps s f kind r false h = cc
 
 verdict_keeps : (s : State) (f : List ℕ) (v : Verdict) (r : Reason) → answer_in (judgement s f v) ≡ Drops r
     → LooksTheSame s (state_in (judgement s f v))
-verdict_keeps s f Reject r h = record { registers = refl; link = refl; fifo = refl }
-verdict_keeps s f TooShort r h = record { registers = refl; link = refl; fifo = refl }
-verdict_keeps s f TooLong r h = record { registers = refl; link = refl; fifo = refl }
+verdict_keeps s f Reject r h = record { registers = refl; link = refl; fifo = refl; profile = refl }
+verdict_keeps s f TooShort r h = record { registers = refl; link = refl; fifo = refl; profile = refl }
+verdict_keeps s f TooLong r h = record { registers = refl; link = refl; fifo = refl; profile = refl }
 verdict_keeps s f (Accept kind) r h = room_keeps s f kind r (lacks_room s f) h
 
 state_keeps : (up on : Bool) (s : State) (a : Answer × State) (r : Reason)
@@ -279,8 +273,8 @@ state_keeps : (up on : Bool) (s : State) (a : Answer × State) (r : Reason)
     → answer_in (if not up then (Drops reason.Down, s) else if not on then (Drops reason.Disabled, s) else a) ≡ Drops r
     → LooksTheSame s
     (state_in (if not up then (Drops reason.Down, s) else if not on then (Drops reason.Disabled, s) else a))
-state_keeps false on s a r keeps h = record { registers = refl; link = refl; fifo = refl }
-state_keeps true false s a r keeps h = record { registers = refl; link = refl; fifo = refl }
+state_keeps false on s a r keeps h = record { registers = refl; link = refl; fifo = refl; profile = refl }
+state_keeps true false s a r keeps h = record { registers = refl; link = refl; fifo = refl; profile = refl }
 state_keeps true true s a r keeps h = keeps h
 
 drop_keeps : (s : State) (f : List ℕ) (r : Reason) → IsDropped s f r → LooksTheSame s (arrival s f).1
@@ -288,11 +282,21 @@ drop_keeps s f r = state_keeps s.link (is_enabled s) s _ r (verdict_keeps s f (v
 
 answer_same : (s t : State) (f : List ℕ) → LooksTheSame s t → answer_of t f ≡ answer_of s f
 answer_same s t f same = λ i.
-    answer_of (record s { registers = same.registers i; link = same.link i; fifo = same.fifo i }) f
+    answer_of (record s {
+      registers = same.registers i;
+      link = same.link i;
+      fifo = same.fifo i;
+      profile = same.profile i;
+    }) f
 
 why_same : (s t : State) (f : List ℕ) → LooksTheSame s t → why t f ≡ why s f
 why_same s t f same = λ i.
-    why (record s { registers = same.registers i; link = same.link i; fifo = same.fifo i }) f
+    why (record s {
+      registers = same.registers i;
+      link = same.link i;
+      fifo = same.fifo i;
+      profile = same.profile i;
+    }) f
 
 pub drops_again : (s : State) (f : List ℕ) (r : Reason) → IsDropped s f r → IsDropped (arrival s f).1 f r
 drops_again s f r h =

@@ -16,6 +16,7 @@ use Rattle.em_regs.specs.Setup.{bit, has, value_of}
 use Rattle.em_regs.specs.Storage.{Registers}
 use Rattle.em_rx.specs.Fifo.{Fifo, octets_in}
 use Rattle.em_rx.specs.Frame.{len_of, stored_frame}
+use Rattle.em_step.specs.Arrival.{keeps_sequence, kept_frame, with_sequence}
 use Rattle.em_step.specs.State.{State}
 use Rattle.em_step.specs.declared.event.Reason.{Reason}
 use Rattle.em_reasons.specs.Bits.{bit_of, word_of}
@@ -210,38 +211,40 @@ looks_of s t b x d h =
     (sym (ap (λ (p : Bool × Dropped). p.1) (row_is (b, x) (true, d) h)))
 
 lost_again : (s t : State) (f : List ℕ) (k : ℕ) (d : Dropped) → slice_get (drop_table s f) k ≡ Some (true, d)
-    → SameLooks s t (dropped_looks d) → is_some (why t f) ≡ true
-lost_again s t f zero d h same =
+    → SameLooks s t (dropped_looks d) → keeps_sequence t ≡ keeps_sequence s → is_some (why t f) ≡ true
+lost_again s t f zero d h same keeps =
     let looks = looks_of s t _ _ d h same in
     some_where (drop_table t f) 0 _ refl (ap not (link_same t.link s.link looks.0) ∙ holds_of _ _ d h)
-lost_again s t f (suc zero) d h same =
+lost_again s t f (suc zero) d h same keeps =
     let looks = looks_of s t _ _ d h same in
     some_where (drop_table t f) 1 _ refl (ap (λ (v : ℕ). not (v == 0x2)) looks.0 ∙ holds_of _ _ d h)
-lost_again s t f (suc (suc zero)) d h same =
+lost_again s t f (suc (suc zero)) d h same keeps =
     let looks = looks_of s t _ _ d h same in
     let kept : accepts t.registers (destination f) ≡ accepts s.registers (destination f)
     = subst (λ (a : ℕ). accepts t.registers a ≡ accepts s.registers a) (destination_to f)
     (accepts_same s t (to_of f) looks) in
     some_where (drop_table t f) 2 _ refl (ap not kept ∙ holds_of _ _ d h)
-lost_again s t f (suc (suc (suc zero))) d h same =
+lost_again s t f (suc (suc (suc zero))) d h same keeps =
     some_where (drop_table t f) 3 _ refl (holds_of _ _ d h)
-lost_again s t f (suc (suc (suc (suc zero)))) d h same =
+lost_again s t f (suc (suc (suc (suc zero)))) d h same keeps =
     let looks = looks_of s t _ _ d h same in
     some_where (drop_table t f) 4 _ refl
     (ap (λ (v : ℕ). nat_lt (if v == 2 ^ 5 then 16384 else 1522) (length f + 4)) looks.0 ∙ holds_of _ _ d h)
-lost_again s t f (suc (suc (suc (suc (suc zero))))) d h same =
+lost_again s t f (suc (suc (suc (suc (suc zero))))) d h same keeps =
     let looks = looks_of s t _ _ d h same in
     some_where (drop_table t f) 5 _ refl
     (ap not (passes_same s.registers t.registers f looks.0 looks.1.0
     (bits_by _ (2 ^ bit_of (tag_of f % 4096)) _ _ looks.1.1.0)) ∙ holds_of _ _ d h)
-lost_again s t f (suc (suc (suc (suc (suc (suc zero)))))) d h same =
+lost_again s t f (suc (suc (suc (suc (suc (suc zero)))))) d h same keeps =
     let looks = looks_of s t _ _ d h same in
+    let stored : Bool → Bool → ℕ = λ keeps tag. len_of (stored_frame (with_sequence keeps f) tag) in
     some_where (drop_table t f) 6 _ refl
-    (ap (λ (fifo : Fifo). nat_lt 49_152 (octets_in fifo + len_of (stored_frame f (tagged t.registers f)))) looks.0
-    ∙ ap (λ (b : Bool). nat_lt 49_152 (octets_in s.fifo + len_of (stored_frame f b)))
+    (ap (λ (fifo : Fifo). nat_lt 49_152 (octets_in fifo + len_of (kept_frame t f))) looks.0
+    ∙ ap (λ (b : Bool). nat_lt 49_152 (octets_in s.fifo + stored (keeps_sequence t) b))
     (tagged_same s.registers t.registers f looks.1.0 looks.1.1.0)
+    ∙ ap (λ (b : Bool). nat_lt 49_152 (octets_in s.fifo + stored b (tagged s.registers f))) keeps
     ∙ holds_of _ _ d h)
-lost_again s t f (suc (suc (suc (suc (suc (suc (suc k))))))) d h same = cc
+lost_again s t f (suc (suc (suc (suc (suc (suc (suc k))))))) d h same keeps = cc
 
 -- where there is a reason, the frame is dropped for it
 dropped_so : (t : State) (f : List ℕ) (o : Option Dropped) → why t f ≡ o → is_some o ≡ true
@@ -251,7 +254,7 @@ dropped_so t f (Some d) is some =
     (reason_of d, (drops_with_reason t f (reason_of d)).1 (ap (option_map reason_of) is))
 
 pub stays_lost : (s t : State) (f : List ℕ) (d : Dropped) → why s f ≡ Some d → SameLooks s t (dropped_looks d)
-    → (again : Reason) × IsDropped t f again
-stays_lost s t f d is same =
+    → keeps_sequence t ≡ keeps_sequence s → (again : Reason) × IsDropped t f again
+stays_lost s t f d is same keeps =
     let found = (gives_first Dropped (drop_table s f) d).0 is in
-    dropped_so t f (why t f) refl (lost_again s t f found.0 d found.1.holds same)
+    dropped_so t f (why t f) refl (lost_again s t f found.0 d found.1.holds same keeps)

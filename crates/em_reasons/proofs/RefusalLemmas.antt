@@ -2,13 +2,14 @@
 use Rattle.std.proofs.Common.{◌≡◌, ℕ, Bool, true, false, List, length, Option, Some, None, Result, Ok, Err, refl}
 use Rattle.std.proofs.Common.{sym, ap}
 use Rattle.std.proofs.Common.{◌∙◌}
-use Rattle.std.specs.Prelude.{[], ◌∷◌, ◌+◌, ◌*◌, ◌==◌, ◌&&◌, ◌||◌, ◌↔◌, nat_lt, is_none, option_map, if◌then◌else◌}
+use Rattle.std.specs.Prelude.{[], ◌∷◌, ◌+◌, ◌*◌, ◌==◌, ◌&&◌, ◌||◌, ◌↔◌, nat_lt, is_none, not, option_map}
+use Rattle.std.specs.Prelude.{if◌then◌else◌}
 use Rattle.em_mem.specs.Memory.{leaves, part}
 use Rattle.em_regs.specs.declared.reg.Reg.{Reg}
 use Rattle.em_regs.specs.declared.setup.RxSetup.{RxSetup}
 use Rattle.em_regs.specs.declared.setup.TxSetup.{TxSetup}
 use Rattle.em_regs.specs.Setup.{rx_setup, tx_setup}
-use Rattle.em_regs.specs.Table.{reg_at}
+use Rattle.em_regs.specs.Table.{answers_at, reg_of}
 use Rattle.em_rx.specs.Descriptor.{descriptor_of}
 use Rattle.em_rx.specs.Fifo.{Fifo, first}
 use Rattle.em_rx.specs.Receive as rx
@@ -48,10 +49,12 @@ abbrev pub said : List (Bool × Refused) → Option Refusal
 said table = option_map refusal_of (first_of table)
 
 -- ---- each event
-of_access : (o : ℕ) (reg : Option Reg) (access : Reg → Answer × State)
-    → said ((is_none reg, NoRegister o) ∷ []) ≡ refusal_in (at_register reg access)
-of_access o None access = refl
-of_access o (Some reg) access = refl
+of_access : (o : ℕ) (reg : Option Reg) (access : Reg → Answer × State) (answers : Bool) (r : Answer × State)
+    → said ((is_none reg && not answers, NoRegister o) ∷ [])
+    ≡ refusal_in (at_register reg access (if answers then Ok r else Err refusal.NoRegister))
+of_access o None access true r = refl
+of_access o None access false r = refl
+of_access o (Some reg) access answers r = refl
 
 of_write : (outside short : Bool) (a n : ℕ) (memory : Bounds) (r : Answer × State)
     → said ((outside, Range a n memory) ∷ (short, WriteLength n) ∷ [])
@@ -96,8 +99,8 @@ of_transmit s false false false false false r d x l b hd hx hl hb = refl
 
 pub refusal_said : (s : State) (e : Event) → option_map refusal_of (why s e) ≡ refusal_in (step s e)
 unfolding transmit tx_cause
-refusal_said s (reads o) = of_access o (reg_at o) _
-refusal_said s (writes o v) = of_access o (reg_at o) _
+refusal_said s (reads o) = of_access o (reg_of s.profile o) _ (answers_at s.profile o) _
+refusal_said s (writes o v) = of_access o (reg_of s.profile o) _ (answers_at s.profile o) _
 refusal_said s (pokes a octets) =
     of_write (leaves s.base s.memory a (length octets)) (length octets == 0 || nat_lt 16_384 (length octets))
     a (length octets) (bounds_of s) _
@@ -165,11 +168,12 @@ four_busy false false false false false d x l b r hx hl hb h = cc
 said_of : (s : State) (e : Event) (r : Refusal) → step s e ≡ Err r → option_map refusal_of (why s e) ≡ Some r
 said_of s e r h = (refused_with_reason s e r).0 h
 
-pub access_refused : (s : State) (e : Event) (o : ℕ) (r : Refusal) (d : Refused) → why s e ≡ first_of (access_table o)
+pub access_refused : (s : State) (e : Event) (o : ℕ) (r : Refusal) (d : Refused) → why s e ≡ first_of (access_table s.profile o)
     → d ≡ NoRegister o → step s e ≡ Err r → why s e ≡ Some d
 access_refused s e o r d table is h =
     table
-    ∙ one (is_none (reg_at o)) (NoRegister o) r (ap (option_map refusal_of) (sym table) ∙ said_of s e r h)
+    ∙ one (is_none (reg_of s.profile o) && not (answers_at s.profile o)) (NoRegister o) r
+    (ap (option_map refusal_of) (sym table) ∙ said_of s e r h)
     ∙ ap Some (sym is)
 
 pub write_refused : (s : State) (a : ℕ) (octets : List ℕ) (r : Refusal) (d : Refused)

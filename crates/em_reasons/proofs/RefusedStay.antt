@@ -7,6 +7,7 @@ use Rattle.std.proofs.lemmas.Bool.Decides.{nat_tests}
 use Rattle.std.proofs.lemmas.List.{get_or-drop, get_or-take}
 use Rattle.byteorder.specs.Endian.{little_from, little_number}
 use Rattle.em_mem.specs.Memory.{leaves, part}
+use Rattle.em_regs.specs.declared.profile.Profile.{Profile}
 use Rattle.em_regs.specs.declared.reg.Reg.TheVariants.{Rctl, Rdbal, Rdbah, Rdh, Tdbal, Tdbah, Tdh}
 use Rattle.em_regs.specs.declared.setup.RxSetup.{RxSetup}
 use Rattle.em_regs.specs.declared.setup.TxSetup.{TxSetup}
@@ -24,7 +25,8 @@ use Rattle.em_reasons.specs.declared.refused.Refused.{Refused}
 use Rattle.em_reasons.specs.declared.refused.Refused.TheVariants.{RxDescriptor, RxBuffer, TxDescriptor, TxBuffer}
 use Rattle.em_reasons.specs.declared.refused.Refused.TheVariants.{Extended, TooLong}
 use Rattle.em_reasons.specs.Looks.{looks_before, refused_looks, rx_place, tx_place}
-use Rattle.em_reasons.specs.Refused.{IsBusy, bounds_of, is_past, refusal_of, rx_table, tx_octets, tx_table, unless_idle, why, write_table}
+use Rattle.em_reasons.specs.Refused.{IsBusy, access_table, bounds_of, is_past, refusal_of, rx_table, tx_octets, tx_table}
+use Rattle.em_reasons.specs.Refused.{unless_idle, why, write_table}
 use Rattle.em_reasons.specs.SameLooks.{SameLooks}
 use Rattle.em_reasons.specs.Table.{first_of}
 use Rattle.em_reasons.proofs.BitLemmas.{bits_within, field_same, has_same}
@@ -418,16 +420,18 @@ stay_transmitting s t r is looks before size earlier runs =
 
 -- ---- each event, for the same reason
 pub stays_refused_so : (s t : State) (e : Event) (r : Refused) → why s e ≡ Some r → SameLooks s t (refused_looks r)
-    → SameLooks s t (looks_before r) → bounds_of t ≡ bounds_of s → length t.gathered ≡ length s.gathered
+    → SameLooks s t (looks_before r) → t.profile ≡ s.profile → bounds_of t ≡ bounds_of s → length t.gathered ≡ length s.gathered
     → IsBusy t e → why t e ≡ Some r
-stays_refused_so s t (reads o) r is looks before size earlier runs = is
-stays_refused_so s t (writes o v) r is looks before size earlier runs = is
-stays_refused_so s t (pokes a octets) r is looks before size earlier runs =
+stays_refused_so s t (reads o) r is looks before profile size earlier runs =
+    ap (λ (p : Profile). first_of (access_table p o)) profile ∙ is
+stays_refused_so s t (writes o v) r is looks before profile size earlier runs =
+    ap (λ (p : Profile). first_of (access_table p o)) profile ∙ is
+stays_refused_so s t (pokes a octets) r is looks before profile size earlier runs =
     ap (λ (v : Bounds). first_of (write_table v a (length octets))) size ∙ is
-stays_refused_so s t (arrives f) r is looks before size earlier runs = is
-stays_refused_so s t (links up) r is looks before size earlier runs = cc
-stays_refused_so s t receives r is looks before size earlier runs = stay_receiving s t r is looks size runs
-stays_refused_so s t transmits r is looks before size earlier runs =
+stays_refused_so s t (arrives f) r is looks before profile size earlier runs = is
+stays_refused_so s t (links up) r is looks before profile size earlier runs = cc
+stays_refused_so s t receives r is looks before profile size earlier runs = stay_receiving s t r is looks size runs
+stays_refused_so s t transmits r is looks before profile size earlier runs =
     stay_transmitting s t r is looks before size earlier runs
 
 -- ---- for whatever reason
@@ -482,18 +486,21 @@ refused_so t e (Some r) is some =
     (refusal_of r, (refused_with_reason t e (refusal_of r)).1 (ap (option_map refusal_of) is))
 
 keeps : (s t : State) (e : Event) (r : Refused) → why s e ≡ Some r → SameLooks s t (refused_looks r)
-    → bounds_of t ≡ bounds_of s → length s.gathered ≤ length t.gathered → IsBusy t e
+    → t.profile ≡ s.profile → bounds_of t ≡ bounds_of s → length s.gathered ≤ length t.gathered → IsBusy t e
     → is_some (why t e) ≡ true
-keeps s t (reads o) r is looks size earlier runs = ap is_some is
-keeps s t (writes o v) r is looks size earlier runs = ap is_some is
-keeps s t (pokes a octets) r is looks size earlier runs =
+keeps s t (reads o) r is looks profile size earlier runs =
+    ap is_some (ap (λ (p : Profile). first_of (access_table p o)) profile ∙ is)
+keeps s t (writes o v) r is looks profile size earlier runs =
+    ap is_some (ap (λ (p : Profile). first_of (access_table p o)) profile ∙ is)
+keeps s t (pokes a octets) r is looks profile size earlier runs =
     ap is_some (ap (λ (v : Bounds). first_of (write_table v a (length octets))) size ∙ is)
-keeps s t (arrives f) r is looks size earlier runs = ap is_some is
-keeps s t (links up) r is looks size earlier runs = cc
-keeps s t receives r is looks size earlier runs = ap is_some (stay_receiving s t r is looks size runs)
-keeps s t transmits r is looks size earlier runs = keep_transmitting s t r is looks size earlier runs
+keeps s t (arrives f) r is looks profile size earlier runs = ap is_some is
+keeps s t (links up) r is looks profile size earlier runs = cc
+keeps s t receives r is looks profile size earlier runs = ap is_some (stay_receiving s t r is looks size runs)
+keeps s t transmits r is looks profile size earlier runs = keep_transmitting s t r is looks size earlier runs
 
 pub stays_refused : (s t : State) (e : Event) (r : Refused) → why s e ≡ Some r → SameLooks s t (refused_looks r)
-    → bounds_of t ≡ bounds_of s → length s.gathered ≤ length t.gathered → IsBusy t e
+    → t.profile ≡ s.profile → bounds_of t ≡ bounds_of s → length s.gathered ≤ length t.gathered → IsBusy t e
     → (again : Refusal) × (step t e ≡ Err again)
-stays_refused s t e r is looks size earlier runs = refused_so t e (why t e) refl (keeps s t e r is looks size earlier runs)
+stays_refused s t e r is looks profile size earlier runs =
+    refused_so t e (why t e) refl (keeps s t e r is looks profile size earlier runs)

@@ -1,11 +1,13 @@
 -- Why an event was refused.
-use Rattle.std.specs.Prelude.{◌≡◌, ℕ, ◌+◌, ◌==◌, ◌&&◌, ◌||◌, nat_lt, is_none, Bool, List, [], ◌∷◌, length, Option, Some, None}
+use Rattle.std.specs.Prelude.{◌≡◌, ℕ, ◌+◌, ◌==◌, ◌&&◌, ◌||◌, nat_lt, is_none, not, Bool, List, [], ◌∷◌, length}
+use Rattle.std.specs.Prelude.{Option, Some, None}
 use Rattle.std.specs.Prelude.{if◌then◌else◌}
 use Rattle.em_mem.specs.Memory.{leaves, part}
 use Rattle.em_regs.specs.declared.setup.RxSetup.{RxSetup}
 use Rattle.em_regs.specs.declared.setup.TxSetup.{TxSetup}
 use Rattle.em_regs.specs.Setup.{rx_setup, tx_setup}
-use Rattle.em_regs.specs.Table.{reg_at}
+use Rattle.em_regs.specs.declared.profile.Profile.{Profile}
+use Rattle.em_regs.specs.Table.{answers_at, reg_of}
 use Rattle.em_rx.specs.Fifo.{Fifo, first}
 use Rattle.em_rx.specs.Receive as rx
 use Rattle.em_tx.specs.Descriptor.{address, dext, length_of}
@@ -44,9 +46,9 @@ memory_of (TxBuffer index at buffer octets memory) = Some memory
 memory_of _ = None
 
 -- ---- the tests
--- of an access: no register lies at the offset
-abbrev pub access_table : ℕ → List (Bool × Refused)
-access_table o = (is_none (reg_at o), NoRegister o) ∷ []
+-- of an access: the profile has no register at the offset, and does not answer there
+abbrev pub access_table : Profile → ℕ → List (Bool × Refused)
+access_table p o = (is_none (reg_of p o) && not (answers_at p o), NoRegister o) ∷ []
 
 -- of a memory write: the octets leave memory, and then they are none or more than 16,384
 abbrev pub write_table : Bounds → ℕ → ℕ → List (Bool × Refused)
@@ -94,8 +96,8 @@ unless_idle idle table = if idle then [] else table
 
 -- the tests that refuse an event
 abbrev pub refusal_table : State → Event → List (Bool × Refused)
-refusal_table s (reads o) = access_table o
-refusal_table s (writes o v) = access_table o
+refusal_table s (reads o) = access_table s.profile o
+refusal_table s (writes o v) = access_table s.profile o
 refusal_table s (pokes a octets) = write_table (bounds_of s) a (length octets)
 refusal_table s (arrives f) = frame_table (length f)
 refusal_table s (links up) = []

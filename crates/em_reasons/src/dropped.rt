@@ -1,10 +1,10 @@
 //! Why a frame was dropped.
-ghost use Rattle.std.specs.Prelude.{◌≡◌, Some};
+ghost use Rattle.std.specs.Prelude.{◌≡◌, Some, if◌then◌else◌};
 ghost use Rattle.em_rx.specs.Frame.{len_of};
-ghost use Rattle.em_step.specs.Arrival.{kept_frame};
+ghost use Rattle.em_step.specs.Arrival.{keeps_sequence, kept_frame};
 ghost use Rattle.em_reasons.specs.Dropped.{IsDropped, rejected, to_of, unfiltered, why};
 
-use crate::filters::{accepts, hash_of, identifier_of, longest, octet, tagged};
+use crate::filters::{accepts, hash_of, identifier_of, keeps_sequence, longest, octet, tagged};
 use em_address::{Kind, kind_of};
 use em_filter::CHECK_OCTETS;
 use em_journal::Machine;
@@ -101,14 +101,26 @@ fn destination(frame: &[u8]) -> [u8; 6]
     ]
 }
 
-/// How many octets a frame has as it is stored: a tagged one without its tag.
+/// How many octets a frame has as it is stored: a tagged one without its tag, and with its check sequence where that is
+/// kept.
 fn stored_octets(machine: &Machine, frame: &[u8]) -> u64
     ensures { result ≡ len_of (kept_frame machine.now.present frame.now) }
 {
-    let octets = frame.len() as u64;
+    let octets = frame.len() as u64 + check_octets(machine);
     if tagged(machine, frame) {
         octets - TAG_OCTETS
     } else {
         octets
+    }
+}
+
+/// How many octets of its check sequence are stored with a frame.
+fn check_octets(machine: &Machine) -> u64
+    ensures { result ≡ (if keeps_sequence machine.now.present then 4 else 0) }
+{
+    if keeps_sequence(machine) {
+        CHECK_OCTETS as u64
+    } else {
+        0
     }
 }

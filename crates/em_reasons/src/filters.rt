@@ -7,12 +7,13 @@ ghost use Rattle.em_filter.specs.Address.{passes_bam, passes_hash, passes_mpe, p
 ghost use Rattle.em_filter.specs.Bits.{mo};
 ghost use Rattle.em_filter.specs.Filters.{longest};
 ghost use Rattle.em_filter.specs.Vlan.{carries_tag, tag_of, tagged};
+ghost use Rattle.em_step.specs.Arrival.{keeps_sequence};
 
 use crate::registers::{has, value_of};
 use bitflags::Flags;
 use em_address::{Kind, kind_of};
 use em_journal::Machine;
-use em_regs::{Ctrl, Rah, Rctl, Reg};
+use em_regs::{Ctrl, Profile, Rah, Rctl, Reg};
 
 /// How many receive addresses there are.
 const ENTRIES: u8 = 16;
@@ -196,4 +197,11 @@ fn carries_tag(machine: &Machine, frame: &[u8]) -> bool
 {
     frame.len() >= TAGGED_OCTETS
         && u32::from(u16::from_be_bytes([frame[12], frame[13]])) == value_of(machine, Reg::Vet)
+}
+
+/// Whether frames are stored with their check sequences.
+pub(crate) fn keeps_sequence(machine: &Machine) -> bool
+    ensures { result ≡ keeps_sequence machine.now.present }
+{
+    matches!(machine.profile(), Profile::Adapter) && !has(machine, Reg::Rctl, Rctl::SECRC.bits())
 }

@@ -1,6 +1,6 @@
 //! What the definitions of reasons and the adapter's steps say together.
 ghost use Rattle.std.specs.Prelude.{◌≡◌, ◌≤◌, ◌↔◌, ℕ, List, Some, None, Err, length, option_map};
-ghost use Rattle.em_step.specs.Arrival.{arrival};
+ghost use Rattle.em_step.specs.Arrival.{arrival, keeps_sequence};
 ghost use Rattle.em_step.specs.Event.{Event, receives, transmits};
 ghost use Rattle.em_step.specs.State.{State};
 ghost use Rattle.em_step.specs.Step.{step};
@@ -55,23 +55,25 @@ pub fn idle_steps_stay_idle()
 {}
 
 /// As long as what the test looked at stays as it is, the frame is dropped whenever it arrives, though maybe for
-/// another reason.
+/// another reason. What counts and is no look: whether frames are stored with their check sequences.
 pub fn dropped_frames_stay_dropped()
     ensures { (s t : State) (f : List ℕ) (dropped : Dropped) → why s f ≡ Some dropped →
-        SameLooks s t (dropped_looks dropped) → (again : Reason) × IsDropped t f again }
+        SameLooks s t (dropped_looks dropped) → keeps_sequence t ≡ keeps_sequence s →
+        (again : Reason) × IsDropped t f again }
 {}
 
 /// As long as what the test looked at stays as it is, the event is refused whenever it is asked for: a step of an engine
 /// where it is not idle. It is refused for the same reason where what the tests before it look at stays, too.
 ///
-/// What counts and is no look: guest memory lies where it lay, and of the octets that are gathered none has gone.
+/// What counts and is no look: the profile is the same, guest memory lies where it lay, and of the octets that are
+/// gathered none has gone.
 pub fn refused_events_stay_refused()
     ensures again { (s t : State) (e : Event) (reason : Refused) → refused.why s e ≡ Some reason →
-        SameLooks s t (refused_looks reason) → refused.bounds_of t ≡ refused.bounds_of s →
+        SameLooks s t (refused_looks reason) → t.profile ≡ s.profile → refused.bounds_of t ≡ refused.bounds_of s →
         length s.gathered ≤ length t.gathered → refused.IsBusy t e →
         (again : Refusal) × (step t e ≡ Err again) }
     ensures same { (s t : State) (e : Event) (reason : Refused) → refused.why s e ≡ Some reason →
-        SameLooks s t (refused_looks reason) → SameLooks s t (looks_before reason) →
+        SameLooks s t (refused_looks reason) → SameLooks s t (looks_before reason) → t.profile ≡ s.profile →
         refused.bounds_of t ≡ refused.bounds_of s → length t.gathered ≡ length s.gathered → refused.IsBusy t e →
         refused.why t e ≡ Some reason }
 {}

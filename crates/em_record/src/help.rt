@@ -13,6 +13,7 @@ Arguments:
 Options:
       --memory <N>   Octets of guest memory, a multiple of 4096; K, M or G may stand behind N [default: 65536]
       --base <HEX>   The address of the first of them, a multiple of 4096 [default: 0]
+      --profile <P>  The adapter's registers: table, or adapter, which has what operating systems need [default: table]
       --budget <N>   Octets that the journal's records may cost together: from 65536 to 16777216 [default: 1048576]
       --mac <HEX12>  The adapter's Ethernet address, octet 0 first; colons may stand in it [default: 525400123456]
   -h, --help         Print help

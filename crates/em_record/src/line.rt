@@ -4,16 +4,17 @@ use crate::fault::RecordFault;
 use em_expect::{agrees_of, write_difference};
 use em_line::{Command, Line, Said, parts_of};
 use em_prompt::scripted;
+use em_regs::Profile;
 use em_script::BenchFault;
 use em_step::Event;
 use em_text::WriteFailed;
 use std::alloc::{AllocError, Global};
 
 /// What is played of a line that says this: names of registers and bits, `0x` and the like in the words that em_bench reads,
-/// as em_debug keeps them where they are typed; all else as it stands.
-pub fn played(alloc: Global, said: &[u8]) -> Result<Vec<u8>, RecordFault> {
+/// as em_debug keeps them where they are typed; all else as it stands. Registers are those of a profile.
+pub fn played(alloc: Global, profile: Profile, said: &[u8]) -> Result<Vec<u8>, RecordFault> {
     let mut text = Vec::new(alloc);
-    match scripted(said) {
+    match scripted(profile, said) {
         Some(line) => line.write(&mut text).map_err(without_memory)?,
         None => text.extend_from_slice(said).map_err(AllocError::from)?,
     }
@@ -53,8 +54,8 @@ fn kind_of_event(event: Event<'_>) -> &'static [u8] {
 }
 
 /// Whether a line takes events back.
-pub fn takes_back(alloc: Global, text: &[u8]) -> Result<bool, RecordFault> {
-    let said = played(alloc, parts_of(text).said)?;
+pub fn takes_back(alloc: Global, profile: Profile, text: &[u8]) -> Result<bool, RecordFault> {
+    let said = played(alloc, profile, parts_of(text).said)?;
     let line = Line::read(alloc, said.as_slice())?;
     Ok(match line.says {
         Said::Command(Command::Back | Command::BackBy(_)) => true,

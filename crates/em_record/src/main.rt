@@ -16,11 +16,12 @@ use crate::help::{HELP, VERSION};
 use crate::recorder::Recorder;
 use em_ending::Ending;
 use em_input::{
-    BASES, BUDGETS, Head, InputRefused, MACS, MOST_INPUT, MachineWords, SIZES, WordRefused,
-    input_of, is_one_file, take_head, wrong_in,
+    BASES, BUDGETS, Head, InputRefused, MACS, MOST_INPUT, MachineWords, PROFILES, SIZES,
+    WordRefused, input_of, is_one_file, take_head, wrong_in,
 };
 use em_journal::{Settings, SettingsRefusal};
 use em_options::{Options, OptionsRefused, options};
+use em_regs::Profile;
 use em_script::BenchFault;
 use em_text::next_line;
 use std::alloc::AllocError;
@@ -69,8 +70,8 @@ fn with_runtime<R: Env + Files + Input + Print + Eprint + AllocGlobal>(rt: &R) -
             return without_word(rt, refused);
         }
     }
-    if words.lacks_base() {
-        return without_word(rt, WordRefused::Base);
+    if let Some(refused) = words.lacks() {
+        return without_word(rt, refused);
     }
     with_words(rt, &words)
 }
@@ -80,6 +81,8 @@ fn without_word<R: Eprint>(rt: &R, refused: WordRefused) -> u8 {
     let _ = match refused {
         WordRefused::Base => eprintln!(rt; "em_record: {BASES}"),
         WordRefused::TwoBases => eprintln!(rt; "em_record: --base stands twice"),
+        WordRefused::Profile => eprintln!(rt; "em_record: {PROFILES}"),
+        WordRefused::TwoProfiles => eprintln!(rt; "em_record: --profile stands twice"),
         WordRefused::Memory => return stopped(rt, BenchFault::Memory),
     };
     REFUSED
@@ -237,7 +240,7 @@ fn with_recorder<R: Print + Eprint + AllocGlobal>(
     script: &[u8],
     recorder: &mut Recorder,
 ) -> u8 {
-    match tell_bad_lines(rt, name, script) {
+    match tell_bad_lines(rt, name, recorder.profile(), script) {
         Ok(()) => with_script(rt, recorder, script),
         Err(AllocError) => stopped(rt, BenchFault::Memory),
     }
@@ -266,6 +269,7 @@ fn without_script<R: Eprint>(rt: &R, name: &str, refused: InputRefused) -> u8 {
 fn tell_bad_lines<R: Eprint + AllocGlobal>(
     rt: &R,
     name: &str,
+    profile: Profile,
     script: &[u8],
 ) -> Result<(), AllocError> {
     let mut rest = script;
@@ -274,7 +278,7 @@ fn tell_bad_lines<R: Eprint + AllocGlobal>(
         let (line, behind) = next_line(rest);
         number = number.saturating_add(1);
         if line.len() < MOST_INPUT {
-            if let Some(wrong) = wrong_in(rt.alloc(), line)? {
+            if let Some(wrong) = wrong_in(rt.alloc(), profile, line)? {
                 let wrong = String::from_utf8_lossy(rt.alloc(), wrong.as_slice())?;
                 let _ = eprintln!(rt; "em_record: {name}: line {number}: {wrong}");
             }

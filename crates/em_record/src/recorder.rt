@@ -9,6 +9,7 @@ use em_named::Did;
 use em_recording::{
     newest_frame, record_of, write_number, write_settings, write_start, write_string,
 };
+use em_regs::Profile;
 use em_script::{BenchFault, Outcome};
 use em_tape::Tape;
 use em_text::{WriteFailed, next_line, write_pieces, write_whole};
@@ -101,6 +102,11 @@ impl Recorder {
         }
     }
 
+    /// Of which profile the machine is.
+    pub fn profile(&self) -> Profile {
+        self.settings.profile
+    }
+
     /// Plays a script, and writes the record of the run. Tells whether a line was bad.
     pub fn record<W: Write>(&mut self, writer: &mut W, script: &[u8]) -> Result<bool, RecordFault> {
         write_whole(writer, FORMAT)?;
@@ -128,7 +134,7 @@ impl Recorder {
 
     /// Plays a line, and writes what it did, or holds that.
     fn write_line<W: Write>(&mut self, writer: &mut W, text: &[u8]) -> Result<(), RecordFault> {
-        if !self.held.is_empty() && takes_back(self.alloc, text)? {
+        if !self.held.is_empty() && takes_back(self.alloc, self.settings.profile, text)? {
             self.write_all_held(writer)?;
         }
         let front = self.play(text)?;
@@ -153,7 +159,7 @@ impl Recorder {
     /// Plays a line, and gives what stands in its record before its events.
     fn play(&mut self, text: &[u8]) -> Result<Vec<u8>, RecordFault> {
         let parts = parts_of(text);
-        let said = played(self.alloc, parts.said)?;
+        let said = played(self.alloc, self.settings.profile, parts.said)?;
         let line = Line::read(self.alloc, said.as_slice())?;
         let outcome = self.perform(said.as_slice())?;
         self.front(&parts, &line, outcome)

@@ -26,9 +26,9 @@ pub record HasParts (v : View) (back : ℕ) (r : Recorded) : Type 0 where
   pub gathered : IsGatheredStep v back r.gathered
 
 pub is_record_of : (v : View) (back : ℕ) (r : Recorded) → HasParts v back r → IsRecordOf v back r
-is_record_of v back r parts before after was is =
-    let registers_on = registers_after v back before after was is r.registers.items in
-    let registers_off = registers_before v back before after was is r.registers.items in
+is_record_of v back r parts before after was is same =
+    let registers_on = registers_after v back before after was is same r.registers.items in
+    let registers_off = registers_before v back before after was is same r.registers.items in
     let octets_on = octets_after v back before after was is r.octets.items in
     let octets_off = octets_before v back before after was is r.octets.items in
     let wire = parts.sent before after was is in

@@ -4,13 +4,15 @@ use Rattle.std.proofs.Common.{refl, sym, ap, subst, arith}
 use Rattle.std.specs.Prelude.{slice_get}
 use Rattle.std.proofs.lemmas.List.{length-take}
 use Rattle.std.proofs.lemmas.Option.{slice_get_within}
+use Rattle.em_regs.specs.declared.profile.Profile.{Profile}
 use Rattle.em_step.specs.State.{State}
 use Rattle.em_step.specs.Cost.{cost}
-use Rattle.em_journal.specs.History.{Call, performs, refuses, goes_back, is_empty}
+use Rattle.em_step.proofs.ProfileLaws.{event_keeps}
+use Rattle.em_journal.specs.History.{Call, performs, refuses, goes_back, is_empty, Does, Leads, Run}
 use Rattle.em_journal.specs.View.{View, after_event, back_to, opening, reach, states}
 use Rattle.em_watch.proofs.TracedLaws.{some_is}
 use Rattle.em_recording.specs.Rebuild.{IsRecordOf, LeadsBetween, put_on, take_off}
-use Rattle.em_recording.specs.Run.{AreRecordsFrom, IsRecording, Records, RecordsAll, put_all_on, take_some_off}
+use Rattle.em_recording.specs.Run.{AreOfProfile, AreRecordsFrom, IsRecording, Records, RecordsAll, put_all_on, take_some_off}
 use Rattle.em_recording.specs.Shown.{Shown, shown_in}
 use Rattle.em_recording.specs.declared.recorded.Recorded.{Recorded}
 use Rattle.em_recording.proofs.WireLaws.{there_is}
@@ -52,9 +54,10 @@ at_start budget s =
 
 -- ---- an event that was performed
 module _ (first : Shown) (v : View) (records : List Recorded) (holds : Holds first v records) (s : State) (spent : ℕ)
-    (some : 0 < length (after_event v s spent).past) (r : Recorded) (is : IsRecordOf (after_event v s spent) 1 r) where
+    (same : s.profile ≡ v.present.profile) (some : 0 < length (after_event v s spent).past) (r : Recorded)
+    (is : IsRecordOf (after_event v s spent) 1 r) where
   leads : LeadsBetween r (shown_in v.present) (shown_in s)
-  leads = is v.present s (first_of (reach v.budget (spent ∷ v.costs)) v.present v.past some) refl
+  leads = is v.present s (first_of (reach v.budget (spent ∷ v.costs)) v.present v.past some) refl same
 
   performed_forward : (k : ℕ) (t : State) → slice_get (states (after_event v s spent)) k ≡ Some t
       → put_all_on (drop k (r ∷ records)) first ≡ shown_in t
@@ -101,7 +104,7 @@ call_holds first v w before after (performs e answer) told holds =
     let is_after : w ≡ after_event v w.present (cost v.present e) = told.0.1 in
     subst (λ (rs : List Recorded). Holds first w rs) (sym told.2.2)
     (subst (λ (x : View). Holds first x (told.2.0 ∷ before)) (sym is_after)
-    (performed first v before holds w.present (cost v.present e)
+    (performed first v before holds w.present (cost v.present e) (event_keeps v.present e (answer, w.present) told.0.0)
     (subst (λ (x : View). 0 < length x.past) is_after told.1) told.2.0
     (subst (λ (x : View). IsRecordOf x 1 told.2.0) is_after told.2.1)))
 call_holds first v w before after (refuses e refusal) told holds =
@@ -138,25 +141,61 @@ pub rebuilt_backward : (budget : ℕ) (s : State) (calls : List Call) (v : View)
     → take_some_off k records (shown_in v.present) ≡ shown_in t
 rebuilt_backward budget s calls v records told = (holds_of budget s calls v records told).backward
 
+-- ---- the profile
+opening_of : (budget : ℕ) (s : State) → AreOfProfile s.profile (opening budget s)
+opening_of budget s zero t there = sym (ap (λ x. x.profile) (some_is s t there))
+opening_of budget s (suc k) t there = absurd (cc)
+
+event_of : (p : Profile) (v : View) (s : State) (spent : ℕ) → s.profile ≡ v.present.profile → AreOfProfile p v
+    → AreOfProfile p (after_event v s spent)
+event_of p v s spent same of zero t there =
+    sym (ap (λ x. x.profile) (some_is s t there)) ∙ same ∙ of 0 v.present refl
+event_of p v s spent same of (suc k) t there =
+    of k t (in_front (reach v.budget (spent ∷ v.costs)) (states v) k t there)
+
+back_of : (p : Profile) (v : View) (past : List State) → past ≡ v.past → AreOfProfile p v
+    → AreOfProfile p (back_to past v)
+back_of p v [] e of = of
+back_of p v (s ∷ older) e of =
+    λ k t there. of (suc k) t (subst (λ (past : List State). slice_get past k ≡ Some t) e there)
+
+call_of : (p : Profile) (v w : View) (call : Call) → Does v call w → AreOfProfile p v → AreOfProfile p w
+call_of p v w (performs e answer) does of =
+    subst (AreOfProfile p) (sym does.1)
+    (event_of p v w.present (cost v.present e) (event_keeps v.present e (answer, w.present) does.0) of)
+call_of p v w (refuses e refusal) does of = subst (AreOfProfile p) (sym does.1) of
+call_of p v w goes_back does of = subst (AreOfProfile p) (sym does.1) (back_of p v v.past refl of)
+call_of p v w is_empty does of = subst (AreOfProfile p) (sym does.1) of
+
+calls_of : (p : Profile) (calls : List Call) (v w : View) → Run v calls w → AreOfProfile p v → AreOfProfile p w
+calls_of p [] v w run of = subst (AreOfProfile p) (sym run) of
+calls_of p (call ∷ calls) v w (m, does, run) of = calls_of p calls m w run (call_of p v m call does of)
+
+pub profile_stays : (budget : ℕ) (s : State) (calls : List Call) (v : View) → Leads budget s calls v
+    → AreOfProfile s.profile v
+profile_stays budget s calls v run = calls_of s.profile calls (opening budget s) v run (opening_of budget s)
+
 -- ---- the newest events of one journal
-newest_from : (v : View) (n : ℕ) (records : List Recorded) (first s : State) → AreRecordsFrom v n records
+newest_from : (v : View) (n : ℕ) (records : List Recorded) (first s : State) → AreOfProfile v.present.profile v
+    → AreRecordsFrom v n records
     → slice_get (states v) (n + length records) ≡ Some first → slice_get (states v) n ≡ Some s
     → put_all_on records (shown_in first) ≡ shown_in s
-newest_from v n [] first s are there here =
+newest_from v n [] first s of are there here =
     let same : n + 0 ≡ n = omega arith in
     ap shown_in (some_is first s (sym there ∙ ap (slice_get (states v)) same ∙ here))
-newest_from v n (r ∷ records) first s are there here =
+newest_from v n (r ∷ records) first s of are there here =
     let place : n + suc (length records) ≡ suc n + length records = omega arith in
     let oldest = sym (ap (slice_get (states v)) place) ∙ there in
     let within = slice_get_within (states v) (suc n + length records) first oldest in
     let before = there_is (states v) (suc n) (omega (arith, within)) in
     let last : suc n - 1 ≡ n = omega arith in
-    ap (put_on r) (newest_from v (suc n) records first before.0 are.1 oldest before.1)
-    ∙ (are.0 before.0 s before.1 (ap (slice_get (states v)) last ∙ here)).forward
+    ap (put_on r) (newest_from v (suc n) records first before.0 of are.1 oldest before.1)
+    ∙ (are.0 before.0 s before.1 (ap (slice_get (states v)) last ∙ here)
+    (of n s here ∙ sym (of (suc n) before.0 before.1))).forward
 
 pub newest_rebuilt : (v : View) (records : List Recorded) (first : State) → AreRecordsFrom v 0 records
-    → slice_get (states v) (length records) ≡ Some first
+    → slice_get (states v) (length records) ≡ Some first → AreOfProfile v.present.profile v
     → put_all_on records (shown_in first) ≡ shown_in v.present
-newest_rebuilt v records first are there =
+newest_rebuilt v records first are there of =
     let place : 0 + length records ≡ length records = omega arith in
-    newest_from v 0 records first v.present are (ap (slice_get (states v)) place ∙ there) refl
+    newest_from v 0 records first v.present of are (ap (slice_get (states v)) place ∙ there) refl

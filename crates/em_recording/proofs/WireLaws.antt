@@ -17,7 +17,7 @@ use Rattle.em_step.specs.Before.{TakesOffWire}
 use Rattle.em_step.specs.Cells.{Cells, shows}
 use Rattle.em_step.specs.State.{State}
 use Rattle.em_step.specs.Undo.{Undo, undo}
-use Rattle.em_step.specs.Undo.{Changed, Nothing, Register, Octets, Arrival, RxStep, TxStep, Link, Reset}
+use Rattle.em_step.specs.Undo.{Changed, Nothing, Register, Octets, Arrival, RxStep, TxStep, Link, Pins, Phy, Reset}
 use Rattle.em_step.specs.Undo.{tx_cells_of, undo_effect, undo_register, word}
 use Rattle.em_journal.specs.Record.{IsRecordAt}
 use Rattle.em_journal.specs.View.{View, states}
@@ -46,6 +46,8 @@ effect_stays c (RxStep head old) = inl refl
 effect_stays c (TxStep old head) =
     transmit_stays (tx_cells_of (undo_register c (word Tdh head))) (tx.Step old)
 effect_stays c (Link old) = inl refl
+effect_stays c (Pins old told) = inl refl
+effect_stays c (Phy old) = inl refl
 effect_stays c (Reset old) =
     transmit_stays
     (tx_cells_of (record c { registers = old.registers; latches = old.latches })) old.gathered

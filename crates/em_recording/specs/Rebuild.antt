@@ -43,7 +43,8 @@ pub record LeadsBetween (r : Recorded) (before after : Shown) : Type 0 where
   pub backward : take_off r after ≡ before
 
 -- it is of the event before which so many steps back lead: it leads from what the machine showed there to what it
--- showed after the event, and back
+-- showed after the event, and back; no event changes the profile
 abbrev pub IsRecordOf : View → ℕ → Recorded → Type 0
 IsRecordOf v back r = (before after : State) → slice_get (states v) back ≡ Some before
-    → slice_get (states v) (back - 1) ≡ Some after → LeadsBetween r (shown_in before) (shown_in after)
+    → slice_get (states v) (back - 1) ≡ Some after → after.profile ≡ before.profile
+    → LeadsBetween r (shown_in before) (shown_in after)

@@ -1,8 +1,9 @@
 -- The records of a run: of calls of a machine, one for each event that stands, the newest first.
-use Rattle.std.specs.Prelude.{◌≡◌, ℕ, ◌<◌, zero, suc, List, [], ◌∷◌, length, drop}
+use Rattle.std.specs.Prelude.{◌≡◌, ℕ, ◌<◌, zero, suc, List, [], ◌∷◌, length, drop, Some, slice_get}
+use Rattle.em_regs.specs.declared.profile.Profile.{Profile}
 use Rattle.em_step.specs.State.{State}
 use Rattle.em_journal.specs.History.{Call, performs, refuses, goes_back, is_empty, Does}
-use Rattle.em_journal.specs.View.{View, opening}
+use Rattle.em_journal.specs.View.{View, opening, states}
 use Rattle.em_recording.specs.Rebuild.{IsRecordOf, put_on, take_off}
 use Rattle.em_recording.specs.Shown.{Shown}
 use Rattle.em_recording.specs.declared.recorded.Recorded.{Recorded}
@@ -43,3 +44,7 @@ IsRecording budget s calls v records = RecordsAll (opening budget s) [] calls v 
 abbrev pub AreRecordsFrom : View → ℕ → List Recorded → Type 0
 AreRecordsFrom v n [] = Unit {0}
 AreRecordsFrom v n (r ∷ records) = IsRecordOf v (suc n) r × AreRecordsFrom v (suc n) records
+
+-- each state that steps back lead to is of the profile
+abbrev pub AreOfProfile : Profile → View → Type 0
+AreOfProfile profile v = (k : ℕ) (s : State) → slice_get (states v) k ≡ Some s → s.profile ≡ profile

@@ -1,7 +1,7 @@
 -- What a machine shows in one state.
 use Rattle.std.specs.Prelude.{ℕ, Bool, List, length, Option}
 use Rattle.std.specs.Option.{option_map}
-use Rattle.em_regs.specs.Table.{reg_at}
+use Rattle.em_regs.specs.Table.{reg_of}
 use Rattle.em_latch.specs.Latches.{causes, mask}
 use Rattle.em_step.specs.State.{State}
 use Rattle.em_step.specs.Access.{gives}
@@ -9,7 +9,7 @@ use Rattle.em_watch.specs.MemoryChange.{octet_in}
 use Rattle.em_watch.specs.Watching.{is_asserted}
 
 pub record Shown : Type 0 where
-  -- what a look gives at each offset, where a register lies there
+  -- what a look gives at each offset, where the machine's profile has a register there
   pub register : ℕ → Option ℕ
   -- the octet of guest memory at each address, where memory has it
   pub octet : ℕ → Option ℕ
@@ -26,7 +26,7 @@ pub record Shown : Type 0 where
 
 abbrev pub shown_in : State → Shown
 shown_in s = record {
-  register = λ o. option_map (gives s) (reg_at o);
+  register = λ o. option_map (gives s) (reg_of s.profile o);
   octet = λ a. octet_in s a;
   frames = length s.fifo.frames;
   wire = s.wire;

@@ -2,7 +2,9 @@
 use Rattle.std.specs.Prelude.{ℕ, ◌*◌, List, [], ◌++◌, codes, Option, Some, None}
 use Rattle.std.specs.List.{flat_map, range_with_len}
 use Rattle.em_names.specs.Names.{name_of}
-use Rattle.em_regs.specs.Table.{reg_at}
+use Rattle.em_regs.specs.Table.{reg_of}
+use Rattle.em_regs.specs.declared.profile.Profile.{Profile}
+use Rattle.em_regs.specs.declared.profile.Profile.TheVariants.{Table, Adapter}
 use Rattle.em_regs.specs.declared.reg.Reg.{Reg}
 use Rattle.em_regs.specs.declared.reg.Reg.TheVariants as named
 use Rattle.em_step.specs.State.{State}
@@ -10,13 +12,18 @@ use Rattle.em_step.specs.Access.{gives}
 use Rattle.em_journal.specs.declared.settings.Settings.{Settings}
 use Rattle.em_recording.specs.Text.{number_text, octets_text}
 
+-- behind the address: the profile, where it is not the first, and the end
+abbrev pub settings_end : Profile → List ℕ
+settings_end Table = codes "},\n"
+settings_end Adapter = codes ",\"profile\":\"adapter\"},\n"
+
 -- what a machine is made of
 abbrev pub settings_text : Settings → List ℕ
 settings_text made =
     number_text (codes "\"settings\":{\"base\":") made.base
     ++ (number_text (codes ",\"memory\":") made.memory
     ++ (number_text (codes ",\"budget\":") made.budget
-    ++ (octets_text (codes ",\"mac\":") made.mac ++ codes "},\n")))
+    ++ (octets_text (codes ",\"mac\":") made.mac ++ settings_end made.profile)))
 
 -- a value under a register's name, behind a text
 abbrev pub named_text : List ℕ → Reg → ℕ → List ℕ
@@ -28,7 +35,7 @@ other_text s None = []
 other_text s (Some reg) = named_text (codes ",\"") reg (gives s reg)
 
 abbrev pub word_text : State → ℕ → List ℕ
-word_text s word = other_text s (reg_at (4 * word))
+word_text s word = other_text s (reg_of s.profile (4 * word))
 
 -- n words from one of them on
 unfoldable pub words_text : State → ℕ → ℕ → List ℕ
@@ -38,4 +45,4 @@ words_text s word n = flat_map (word_text s) (range_with_len word n)
 abbrev pub start_text : State → List ℕ
 start_text s =
     named_text (codes "\"start\":{\"registers\":{\"") named.Ctrl (gives s named.Ctrl)
-    ++ (words_text s 1 0x15FF ++ codes "}},\n")
+    ++ (words_text s 1 0x17FF ++ codes "}},\n")

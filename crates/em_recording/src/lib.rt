@@ -20,7 +20,7 @@ mod was;
 
 pub use effects::record_of;
 pub use event_text::write_event;
-pub use laws::{newest_records_rebuild, records_rebuild};
+pub use laws::{a_profile_stays, newest_records_rebuild, records_rebuild};
 pub use numbers::write_number;
 pub use recorded::{GatheredStep, OctetStep, Recorded, RegisterStep, Step};
 pub use start::{write_settings, write_start};

@@ -1,12 +1,12 @@
 //! What a record begins with.
-ghost use Rattle.std.specs.Prelude.{◌<◌};
+ghost use Rattle.std.specs.Prelude.{◌≡◌, ◌<◌};
 ghost use Rattle.em_text.specs.Writer.{Writes};
-ghost use Rattle.em_recording.specs.StartText.{named_text, settings_text, start_text, word_text};
+ghost use Rattle.em_recording.specs.StartText.{named_text, settings_end, settings_text, start_text, word_text};
 
 use crate::numbers::{write_hex, write_number};
 use em_journal::{Machine, Settings};
 use em_names::write_name;
-use em_regs::{Reg, SPACE};
+use em_regs::{Profile, Reg, SPACE};
 use em_text::{WriteFailed, write_whole};
 use std::io::Write;
 
@@ -24,7 +24,17 @@ pub fn write_settings<W: Write>(writer: &mut W, settings: &Settings) -> Result<(
     write_number(writer, b",\"memory\":", settings.memory)?;
     write_number(writer, b",\"budget\":", settings.budget)?;
     write_hex(writer, b",\"mac\":", &settings.mac)?;
-    write_whole(writer, b"},\n")
+    write_whole(writer, settings_end(settings.profile))
+}
+
+/// What stands behind the address: the profile, where it is not the first, and the end.
+fn settings_end(profile: Profile) -> &'static [u8]
+    ensures { result.now ≡ settings_end profile }
+{
+    match profile {
+        Profile::Table => b"},\n",
+        Profile::Adapter => b",\"profile\":\"adapter\"},\n",
+    }
 }
 
 /// Writes each register's value as a look shows it, by offset.
@@ -41,12 +51,12 @@ pub fn write_start<W: Write>(writer: &mut W, machine: &Machine) -> Result<(), Wr
 
 /// Writes the register of a word behind others, if one lies there.
 fn write_word<W: Write>(writer: &mut W, machine: &Machine, word: u32) -> Result<(), WriteFailed>
-    requires { word < 0x1600 }
+    requires { word < 0x1800 }
     ensures writes { Writes (W.contents writer.old) (W.contents writer.new) result
         (word_text machine.now.present word) }
 {
     let offset = WORD * word;
-    match Reg::of_offset(offset) {
+    match Reg::of_offset_in(machine.profile(), offset) {
         Some(reg) => write_value(writer, b",\"", reg, machine.look(offset).unwrap_or(0)),
         None => Ok(()),
     }

@@ -133,10 +133,10 @@ all_below-at p (suc n) h i lt =
       | inr apart ↦ all_below-at p n parts.1 i (omega arith)
     ]
 
-pub page_is_there : (k : ℕ) → k < 352 → slice_index_or PAGE_AT k 0 < length PAGES
+pub page_is_there : (k : ℕ) → k < 384 → slice_index_or PAGE_AT k 0 < length PAGES
 page_is_there k h =
     let t : nat_lt (slice_index_or PAGE_AT k 0) (length PAGES) ≡ true = all_below-at
-    (λ i. nat_lt (slice_index_or PAGE_AT i 0) (length PAGES)) 352 refl k h in
+    (λ i. nat_lt (slice_index_or PAGE_AT i 0) (length PAGES)) 384 refl k h in
     grind (arith, nat_tests, t)
 
 -- the page at the k-th 64 octets has each of its registers at the word where it lies
@@ -153,8 +153,8 @@ page_lies k page = all_below (λ word. lies k word (slice_index_or page word Non
 abbrev pages_lie : ℕ → Bool
 pages_lie k = page_lies k (slice_index_or PAGES (slice_index_or PAGE_AT k 0) [])
 
-each_lies : (k : ℕ) → k < 352 → pages_lie k ≡ true
-each_lies = all_below-at pages_lie 352 refl
+each_lies : (k : ℕ) → k < 384 → pages_lie k ≡ true
+each_lies = all_below-at pages_lie 384 refl
 
 lies_there : (o : ℕ) (found : Option Reg) → o % 4 ≡ 0 → lies (o / 64) ((o / 4) % 16) found ≡ true
     → IfSome found (λ reg. IsReg reg × (offset_of reg ≡ o))
@@ -164,7 +164,7 @@ lies_there o (Some reg) whole t =
     let at : 64 * (o / 64) + 4 * ((o / 4) % 16) ≡ o = omega (arith, whole) in
     (grind (arith, nat_tests, parts.0), eqb-true _ _ parts.1 ∙ at)
 
-entry_lies : (o : ℕ) → o < 0x05800 → o % 4 ≡ 0 → IfSome (entry_of o) (λ reg. IsReg reg × (offset_of reg ≡ o))
+entry_lies : (o : ℕ) → o < 0x06000 → o % 4 ≡ 0 → IfSome (entry_of o) (λ reg. IsReg reg × (offset_of reg ≡ o))
 entry_lies o within whole =
     let k = o / 64 in
     let all : pages_lie k ≡ true = each_lies k (omega arith) in
@@ -183,21 +183,21 @@ entry_of-offset_of _ h = refl
 
 -- each row ends within the registers' space
 abbrev pub ends_within : Reg → Bool
-ends_within reg = nat_le ((row_of reg).offset + (row_of reg).spacing * (row_of reg).words) 0x05800
+ends_within reg = nat_le ((row_of reg).offset + (row_of reg).spacing * (row_of reg).words) 0x06000
 
 each_within : (reg : Reg) → ends_within reg ≡ true
 each_within Ctrl = refl
 each_within _ = refl
 
-below_end : (off s n i : ℕ) → (s ≡ 4) ⊎ (s ≡ 8) → off + s * n ≤ 0x05800 → i < n → off + s * i < 0x05800
+below_end : (off s n i : ℕ) → (s ≡ 4) ⊎ (s ≡ 8) → off + s * n ≤ 0x06000 → i < n → off + s * i < 0x06000
 below_end off s n i (inl e) le lt =
-    let P : ℕ → Type 0 = λ t. off + t * n ≤ 0x05800 → off + t * i < 0x05800 in
+    let P : ℕ → Type 0 = λ t. off + t * n ≤ 0x06000 → off + t * i < 0x06000 in
     subst P (sym e) (λ h. omega arith) le
 below_end off s n i (inr e) le lt =
-    let P : ℕ → Type 0 = λ t. off + t * n ≤ 0x05800 → off + t * i < 0x05800 in
+    let P : ℕ → Type 0 = λ t. off + t * n ≤ 0x06000 → off + t * i < 0x06000 in
     subst P (sym e) (λ h. omega arith) le
 
-pub below_space : (reg : Reg) → IsReg reg → offset_of reg < 0x05800
+pub below_space : (reg : Reg) → IsReg reg → offset_of reg < 0x06000
 below_space reg h =
     let row = row_of reg in
     below_end row.offset row.spacing row.words (index_of reg) (spaced reg) (leb-true _ _ (each_within reg)) h
@@ -223,7 +223,7 @@ given_at o None is there = none_found o (λ reg has lies.
 given_at o (Some reg) is there = found_there o reg there
 
 -- what the page gives is the register that lies there
-pub page_gives : (o page : ℕ) → page ≡ page_at o → o < 0x05800 → o % 4 ≡ 0
+pub page_gives : (o page : ℕ) → page ≡ page_at o → o < 0x06000 → o % 4 ≡ 0
     → entry_in page ((o / 4) % 16) ≡ reg_at o
 page_gives o page is within whole = ap (λ k. entry_in k ((o / 4) % 16)) is
     ∙ given_at o (entry_of o) refl (entry_lies o within whole)
@@ -281,7 +281,7 @@ none_given None none = refl
 none_given (Some reg) none = absurd (let f : true ≡ false = none in cc)
 
 -- a stretch with no register that ends behind their space has no end
-pub none_behind : {a end : ℕ} → NoneFrom a end → 0x05800 ≤ end → (o : ℕ) → a ≤ o → reg_at o ≡ None
+pub none_behind : {a end : ℕ} → NoneFrom a end → 0x06000 ≤ end → (o : ℕ) → a ≤ o → reg_at o ≡ None
 none_behind {end = end} before ends o from = elim (truth (nat_lt o end)) [
   | inl t ↦ before o from (grind (arith, nat_tests, t))
   | inr t ↦

@@ -25,7 +25,8 @@ use Rattle.std.specs.Int.{w16, w32, from_le_bytes}
 use Rattle.em_regs.specs.declared.reg.Reg.{Reg}
 use Rattle.em_regs.specs.declared.reg.Reg.TheVariants.{Eerd, Ral, Rah}
 use Rattle.em_regs.specs.declared.table.Kind.TheVariants.{Stored}
-use Rattle.em_regs.specs.Table.{IsReg, is_stored, row_of, offset_of, mask_of}
+use Rattle.em_regs.specs.Table.{IsReg, is_stored, row_of, offset_of, mask_in, mask_of}
+use Rattle.em_regs.specs.declared.profile.Profile.{Profile}
 use Rattle.em_regs.specs.Storage.{Registers, words_at, offsets}
 
 abbrev pub registers_code : Coded Registers
@@ -47,6 +48,10 @@ OnlyStores reg = IsReg reg × ((row_of reg).kind ≡ Stored)
 -- the registers after a write of v
 abbrev pub put : Registers → Reg → ℕ → Registers
 put m reg v = map.insert m (offset_of reg) (bit_and v (mask_of reg))
+
+-- and in a profile
+abbrev pub put_in : Profile → Registers → Reg → ℕ → Registers
+put_in p m reg v = map.insert m (offset_of reg) (bit_and v (mask_in p reg))
 
 -- what EERD holds after a read of the EEPROM was started: DONE (bit 4), the address and the word there
 abbrev pub eerd_value : ℕ → ℕ → ℕ

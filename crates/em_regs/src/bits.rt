@@ -121,7 +121,7 @@ impl Flags for Eerd {
 ///
 /// TXDW: a transmit descriptor was written back; TXQE: the transmit queue is empty; LSC: the link
 /// changed; RXDMT0: few receive descriptors are left; RXO: a frame was missed; RXT0: a frame was
-/// received.
+/// received; MDAC: a command in MDIC is done.
 #[derive(Clone, Copy, PartialEq, Eq, Debug)]
 pub struct Causes(u32);
 
@@ -133,6 +133,7 @@ bitflag_items! {
         const RXDMT0 = 0x0000_0010;
         const RXO = 0x0000_0040;
         const RXT0 = 0x0000_0080;
+        const MDAC = 0x0000_0200;
     }
 }
 
@@ -142,7 +143,8 @@ impl Flags for Causes {
     ghost exact = { ⊤ };
 
     ghost table = { (codes "TXDW", 0x0000_0001) ∷ (codes "TXQE", 0x0000_0002) ∷ (codes "LSC", 0x0000_0004) ∷
-        (codes "RXDMT0", 0x0000_0010) ∷ (codes "RXO", 0x0000_0040) ∷ (codes "RXT0", 0x0000_0080) ∷ [] };
+        (codes "RXDMT0", 0x0000_0010) ∷ (codes "RXO", 0x0000_0040) ∷ (codes "RXT0", 0x0000_0080) ∷
+        (codes "MDAC", 0x0000_0200) ∷ [] };
 
     ghost set_of = { λ causes. causes.0 };
 
@@ -177,6 +179,7 @@ bitflag_items! {
         const BSIZE = 0x0003_0000;
         const VFE = 0x0004_0000;
         const BSEX = 0x0200_0000;
+        const SECRC = 0x0400_0000;
     }
 }
 
@@ -188,7 +191,7 @@ impl Flags for Rctl {
     ghost table = { (codes "EN", 0x0000_0002) ∷ (codes "UPE", 0x0000_0008) ∷ (codes "MPE", 0x0000_0010) ∷
         (codes "LPE", 0x0000_0020) ∷ (codes "RDMTS", 0x0000_0300) ∷ (codes "MO", 0x0000_3000) ∷
         (codes "BAM", 0x0000_8000) ∷ (codes "BSIZE", 0x0003_0000) ∷ (codes "VFE", 0x0004_0000) ∷
-        (codes "BSEX", 0x0200_0000) ∷ [] };
+        (codes "BSEX", 0x0200_0000) ∷ (codes "SECRC", 0x0400_0000) ∷ [] };
 
     ghost set_of = { λ rctl. rctl.0 };
 

@@ -3,6 +3,7 @@
 
 mod bits;
 pub mod laws;
+mod profile;
 mod reg;
 mod reg_file;
 mod ring;
@@ -10,6 +11,7 @@ mod setup;
 mod table;
 
 pub use bits::{Causes, Ctrl, Eerd, Rah, Rctl, Status, Tctl};
+pub use profile::Profile;
 pub use reg::Reg;
 pub use reg_file::{RegFile, RegUndo};
 pub use ring::{DESCRIPTOR_OCTETS, Ring, following};

@@ -1,7 +1,8 @@
 //! The registers by name.
 ghost use Rattle.std.specs.Prelude.{◌≡◌, ◌≤◌, ◌<◌, ◌%◌, ℕ, Option, None, IfSome, IfNone, IsSome};
-ghost use Rattle.em_regs.specs.Table.{IsReg, index_of, offset_of, reg_at, NoneFrom};
+ghost use Rattle.em_regs.specs.Table.{IsReg, IsRegOf, reg_of, index_of, offset_of, reg_at, NoneFrom};
 
+use crate::profile::Profile;
 use crate::table::{PAGE, SPACE, WORD, is_bare, word_at};
 
 /// A register of the table, by the manual's name (manual, chapter on register descriptions).
@@ -142,14 +143,60 @@ pub enum Reg {
     Rah(u8),
     /// VFTA: VLAN filter table array, 128 words; read and write.
     Vfta(u8),
+    /// EECD: EEPROM/flash control and data; read and write.
+    Eecd,
+    /// MDIC: MDI control; read and write.
+    Mdic,
+    /// TXCW: transmit configuration word; read and write.
+    Txcw,
+    /// AIT: adaptive interframe spacing throttle; read and write.
+    Ait,
+    /// FCRTL: flow control receive threshold low; read and write.
+    Fcrtl,
+    /// FCRTH: flow control receive threshold high; read and write.
+    Fcrth,
+    /// WUC: wakeup control; read and write.
+    Wuc,
+    /// WUFC: wakeup filter control; read and write.
+    Wufc,
+    /// MANC: management control; read and write.
+    Manc,
+    /// SWSM: software semaphore, of later parts, which U-Boot asks for on this one too; read and write.
+    Swsm,
 }
 
 impl Reg {
-    /// The register at an offset, in octets from the first register; none where the table has none.
+    /// The register of the first profile at an offset, in octets from the first register; none where it has none there.
     #[inline(always)]
     pub fn of_offset(offset: u32) -> Option<Reg>
+        ensures table { result ≡ reg_of Profile.Table offset }
+        // Exactly the offsets of the profile's rows have a register, and it lies there.
+        ensures some { IfSome result (λ reg. IsRegOf Profile.Table reg × (offset_of reg ≡ offset)) }
+        ensures none { IfNone result ((reg : Reg) → IsRegOf Profile.Table reg → offset_of reg ≡ offset → ⊥) }
+    {
+        Reg::of_offset_in(Profile::Table, offset)
+    }
+
+    /// The register of a profile at an offset; none where it has none there.
+    #[inline(always)]
+    pub fn of_offset_in(profile: Profile, offset: u32) -> Option<Reg>
+        ensures table { result ≡ reg_of profile offset }
+        // Exactly the offsets of the profile's rows have a register, and it lies there.
+        ensures some { IfSome result (λ reg. IsRegOf profile reg × (offset_of reg ≡ offset)) }
+        ensures none { IfNone result ((reg : Reg) → IsRegOf profile reg → offset_of reg ≡ offset → ⊥) }
+    {
+        let reg = Reg::of_row(offset)?;
+        if reg.row().since.is_in(profile) {
+            Some(reg)
+        } else {
+            None
+        }
+    }
+
+    /// The register of any row at an offset; none where no row has one there.
+    #[inline(always)]
+    fn of_row(offset: u32) -> Option<Reg>
         ensures table { result ≡ reg_at offset }
-        // Exactly the offsets of the table have a register, and it lies there.
         ensures some { IfSome result (λ reg. IsReg reg × (offset_of reg ≡ offset)) }
         ensures none { IfNone result ((reg : Reg) → IsReg reg → offset_of reg ≡ offset → ⊥) }
     {
@@ -163,7 +210,7 @@ impl Reg {
     /// none where the table ends before. No register lies between the two.
     pub fn next_page_with_registers(offset: u32) -> Option<u32>
         requires { offset % 4 ≡ 0 }
-        ensures found { IfSome result (λ next. (offset ≤ next) × (next < 0x05800) × (next % 4 ≡ 0)) }
+        ensures found { IfSome result (λ next. (offset ≤ next) × (next < 0x06000) × (next % 4 ≡ 0)) }
         ensures first { IfSome result (NoneFrom offset) }
         ensures last { IfNone result ((o : ℕ) → offset ≤ o → reg_at o ≡ None) }
     {

@@ -3,9 +3,11 @@ ghost use Rattle.std.specs.Prelude.{◌≡◌, ◌↔◌, ◌<◌, IsTrue, get_o
 ghost use Rattle.std.specs.FinMap as map;
 ghost use Rattle.em_regs.specs.Table.{offset_of, row_of};
 ghost use Rattle.em_regs.specs.Storage.{Registers, offsets};
-ghost use Rattle.em_regs.specs.RegFile.{at, IsStored, put, put_eerd, reset, zeroed, Fits, old_at, undo, Reverses};
+ghost use Rattle.em_regs.specs.RegFile.{at, IsStored, put, put_in, put_eerd, reset, zeroed, Fits, old_at, undo};
+ghost use Rattle.em_regs.specs.RegFile.{Reverses};
 
 use crate::bits::{Eerd, Rah};
+use crate::profile::Profile;
 use crate::reg::Reg;
 use crate::table::{Row, STORED_WORDS};
 use bitflags::Flags;
@@ -53,6 +55,16 @@ impl Model for RegUndo {
 }
 
 impl RegUndo {
+    /// The same once more.
+    pub fn copy(&self) -> RegUndo
+        ensures { result ≡ self.now }
+    {
+        RegUndo {
+            place: self.place,
+            old: self.old,
+        }
+    }
+
     /// What the register held.
     #[inline(always)]
     pub fn old(&self) -> u32
@@ -87,6 +99,13 @@ impl RegFile {
         };
         file.set_address(mac);
         file
+    }
+
+    /// The same registers once more.
+    pub fn copy(&self) -> RegFile
+        ensures { result ≡ self.now }
+    {
+        RegFile { words: self.words }
     }
 
     /// Resets the registers where they lie.
@@ -135,6 +154,18 @@ impl RegFile {
     {
         let row = reg.row();
         self.swap(place_in(row, reg) as u16, value & row.mask)
+    }
+
+    /// Writes a register as software does in a profile, which may keep fewer bits of the value.
+    #[inline(always)]
+    pub fn put_in(&mut self, profile: Profile, reg: Reg, value: u32) -> RegUndo
+        requires { IsStored reg }
+        ensures state { self.new ≡ put_in profile self.old reg value }
+        ensures at { result.at ≡ offset_of reg }
+        ensures reverses { Reverses self.old self.new result }
+    {
+        let row = reg.row();
+        self.swap(place_in(row, reg) as u16, value & row.mask_in(profile))
     }
 
     /// Answers a write of EERD with START: the register then says DONE, the address and the word

@@ -1,8 +1,9 @@
 //! The table of the registers: where each lies, what an access does, and which word keeps it.
 ghost use Rattle.std.specs.Prelude.{◌≡◌, ◌<◌, ◌+◌, ◌*◌, ◌/◌, ◌%◌, IsTrue};
 ghost use Rattle.em_regs.specs.declared.reg.Reg.{Reg};
-ghost use Rattle.em_regs.specs.Table.{is_stored_kind, row_of, stem_of, reg_at, NoneFrom};
+ghost use Rattle.em_regs.specs.Table.{is_stored_kind, mask_by, row_of, stem_of, reg_at, NoneFrom};
 
+use crate::profile::Profile;
 use crate::reg::Reg;
 
 /// What the adapter does at an access.
@@ -20,6 +21,10 @@ pub enum Kind {
     Interrupt,
     /// A counter (manual, chapter on statistics registers).
     Counter,
+    /// EECD: the pins of the EEPROM.
+    EepromPins,
+    /// MDIC: a command to the PHY, and what comes of it.
+    PhyCommand,
 }
 
 impl Kind {
@@ -35,6 +40,8 @@ impl Kind {
 /// A row of the table: a register, or the registers of an array.
 #[derive(Clone, Copy, Debug)]
 pub struct Row {
+    /// The first profile that has the row; those behind it have it too.
+    pub since: Profile,
     /// Where the first of its words lies, in octets from the first register.
     pub offset: u32,
     /// How many words it has.
@@ -45,6 +52,8 @@ pub struct Row {
     pub kind: Kind,
     /// The bits of a written value that are stored.
     pub mask: u32,
+    /// Whether the second profile stores 16 of these bits alone.
+    pub narrow: bool,
     /// Which word keeps the first of them, the others behind it: a word of the register file, or of
     /// the counters. A new row takes the next free place of its kind.
     pub place: usize,
@@ -57,8 +66,21 @@ struct NamedRow {
     row: Row,
 }
 
+impl Row {
+    /// The bits of a written value that a profile stores.
+    #[inline(always)]
+    pub fn mask_in(&self, profile: Profile) -> u32
+        ensures { result ≡ mask_by self.now profile }
+    {
+        match (self.narrow, profile) {
+            (true, Profile::Adapter) => INDEX_BITS,
+            _ => self.mask,
+        }
+    }
+}
+
 /// The registers lie below this offset, each at a multiple of 4 octets.
-pub const SPACE: u32 = 0x05800;
+pub const SPACE: u32 = 0x06000;
 
 /// How many octets a word has.
 pub(crate) const WORD: u32 = 4;
@@ -67,7 +89,7 @@ pub(crate) const WORD: u32 = 4;
 pub(crate) const PAGE: u32 = 64;
 
 /// How many words the register file has: its next free place.
-pub const STORED_WORDS: usize = 319;
+pub const STORED_WORDS: usize = 327;
 
 /// How many counters there are: their next free place.
 pub const COUNTER_WORDS: usize = 26;
@@ -84,26 +106,48 @@ const BASE_BITS: u32 = 0xFFFF_FFF0;
 /// RDLEN and TDLEN: a ring's length in octets is a multiple of 128, below 1 MiB.
 const LENGTH_BITS: u32 = 0x000F_FF80;
 
-/// Heads, tails and VET have 16 bits.
+/// Heads, tails, VET and AIT have 16 bits, and so have timers and the fields of pause frames in the second profile.
 const INDEX_BITS: u32 = 0x0000_FFFF;
+
+/// TXCW: TxConfigWord, TxConfig and ANE.
+const CONFIG_BITS: u32 = 0xC000_FFFF;
+
+/// FCRTH: a threshold is a multiple of 8 octets below 64 KiB.
+const THRESHOLD_BITS: u32 = 0x0000_FFF8;
+
+/// FCRTL: such a threshold, and XONE.
+const XON_BITS: u32 = 0x8000_FFF8;
 
 /// RAH: two octets of the address, AS and AV.
 const RAH_BITS: u32 = 0x8003_FFFF;
 
-/// One register: name, offset, kind, mask, place. An array: name, offset; words, spacing, and then the same.
+/// One register: name, offset, kind, mask, place, and then `narrow`, or the first profile that has it, where that is not
+/// `Table`. An array: name, offset; words, spacing, and then kind, mask and place.
 macro_rules! row {
     ($name:literal, $offset:literal, $kind:ident, $mask:ident, $place:literal) => {
-        row!($name, $offset; 1, 4, $kind, $mask, $place)
+        row!($name, $offset; 1, 4, $kind, $mask, $place, Table, false)
+    };
+    ($name:literal, $offset:literal, $kind:ident, $mask:ident, $place:literal, narrow) => {
+        row!($name, $offset; 1, 4, $kind, $mask, $place, Table, true)
+    };
+    ($name:literal, $offset:literal, $kind:ident, $mask:ident, $place:literal, $since:ident) => {
+        row!($name, $offset; 1, 4, $kind, $mask, $place, $since, false)
     };
     ($name:literal, $offset:literal; $words:literal, $spacing:literal, $kind:ident, $mask:ident, $place:literal) => {
+        row!($name, $offset; $words, $spacing, $kind, $mask, $place, Table, false)
+    };
+    ($name:literal, $offset:literal; $words:literal, $spacing:literal, $kind:ident, $mask:ident, $place:literal,
+        $since:ident, $narrow:literal) => {
         &NamedRow {
             name: $name,
             row: Row {
+                since: Profile::$since,
                 offset: $offset,
                 words: $words,
                 spacing: $spacing,
                 kind: Kind::$kind,
                 mask: $mask,
+                narrow: $narrow,
                 place: $place,
             },
         }
@@ -139,16 +183,16 @@ impl Reg {
             Reg::Eerd =>     row!("EERD",     0x00014,          EepromRead, EERD_BITS,   1),
             Reg::CtrlExt =>  row!("CTRL_EXT", 0x00018,          Stored,     EVERY_BIT,   2),
             Reg::Fcal =>     row!("FCAL",     0x00028,          Stored,     EVERY_BIT,   3),
-            Reg::Fcah =>     row!("FCAH",     0x0002C,          Stored,     EVERY_BIT,   4),
-            Reg::Fct =>      row!("FCT",      0x00030,          Stored,     EVERY_BIT,   5),
+            Reg::Fcah =>     row!("FCAH",     0x0002C,          Stored,     EVERY_BIT,   4,   narrow),
+            Reg::Fct =>      row!("FCT",      0x00030,          Stored,     EVERY_BIT,   5,   narrow),
             Reg::Vet =>      row!("VET",      0x00038,          Stored,     INDEX_BITS,  6),
             Reg::Icr =>      row!("ICR",      0x000C0,          Interrupt,  EVERY_BIT,   0),
-            Reg::Itr =>      row!("ITR",      0x000C4,          Stored,     EVERY_BIT,   7),
+            Reg::Itr =>      row!("ITR",      0x000C4,          Stored,     EVERY_BIT,   7,   narrow),
             Reg::Ics =>      row!("ICS",      0x000C8,          Interrupt,  EVERY_BIT,   0),
             Reg::Ims =>      row!("IMS",      0x000D0,          Interrupt,  EVERY_BIT,   0),
             Reg::Imc =>      row!("IMC",      0x000D8,          Interrupt,  EVERY_BIT,   0),
             Reg::Rctl =>     row!("RCTL",     0x00100,          Stored,     EVERY_BIT,   8),
-            Reg::Fcttv =>    row!("FCTTV",    0x00170,          Stored,     EVERY_BIT,   9),
+            Reg::Fcttv =>    row!("FCTTV",    0x00170,          Stored,     EVERY_BIT,   9,   narrow),
             Reg::Tctl =>     row!("TCTL",     0x00400,          Stored,     EVERY_BIT,   10),
             Reg::Tipg =>     row!("TIPG",     0x00410,          Stored,     EVERY_BIT,   11),
             Reg::Ledctl =>   row!("LEDCTL",   0x00E00,          Stored,     EVERY_BIT,   12),
@@ -158,17 +202,17 @@ impl Reg {
             Reg::Rdlen =>    row!("RDLEN",    0x02808,          Stored,     LENGTH_BITS, 16),
             Reg::Rdh =>      row!("RDH",      0x02810,          Stored,     INDEX_BITS,  17),
             Reg::Rdt =>      row!("RDT",      0x02818,          Stored,     INDEX_BITS,  18),
-            Reg::Rdtr =>     row!("RDTR",     0x02820,          Stored,     EVERY_BIT,   19),
+            Reg::Rdtr =>     row!("RDTR",     0x02820,          Stored,     EVERY_BIT,   19,  narrow),
             Reg::Rxdctl =>   row!("RXDCTL",   0x02828,          Stored,     EVERY_BIT,   20),
-            Reg::Radv =>     row!("RADV",     0x0282C,          Stored,     EVERY_BIT,   21),
+            Reg::Radv =>     row!("RADV",     0x0282C,          Stored,     EVERY_BIT,   21,  narrow),
             Reg::Tdbal =>    row!("TDBAL",    0x03800,          Stored,     BASE_BITS,   22),
             Reg::Tdbah =>    row!("TDBAH",    0x03804,          Stored,     EVERY_BIT,   23),
             Reg::Tdlen =>    row!("TDLEN",    0x03808,          Stored,     LENGTH_BITS, 24),
             Reg::Tdh =>      row!("TDH",      0x03810,          Stored,     INDEX_BITS,  25),
             Reg::Tdt =>      row!("TDT",      0x03818,          Stored,     INDEX_BITS,  26),
-            Reg::Tidv =>     row!("TIDV",     0x03820,          Stored,     EVERY_BIT,   27),
+            Reg::Tidv =>     row!("TIDV",     0x03820,          Stored,     EVERY_BIT,   27,  narrow),
             Reg::Txdctl =>   row!("TXDCTL",   0x03828,          Stored,     EVERY_BIT,   28),
-            Reg::Tadv =>     row!("TADV",     0x0382C,          Stored,     EVERY_BIT,   29),
+            Reg::Tadv =>     row!("TADV",     0x0382C,          Stored,     EVERY_BIT,   29,  narrow),
             Reg::Mpc =>      row!("MPC",      0x04010,          Counter,    EVERY_BIT,   0),
             Reg::Prc64 =>    row!("PRC64",    0x0405C,          Counter,    EVERY_BIT,   1),
             Reg::Prc127 =>   row!("PRC127",   0x04060,          Counter,    EVERY_BIT,   2),
@@ -200,6 +244,16 @@ impl Reg {
             Reg::Ral(_) =>   row!("RAL",      0x05400; 16, 8,   Stored,     EVERY_BIT,   159),
             Reg::Rah(_) =>   row!("RAH",      0x05404; 16, 8,   Stored,     RAH_BITS,    175),
             Reg::Vfta(_) =>  row!("VFTA",     0x05600; 128, 4,  Stored,     EVERY_BIT,   191),
+            Reg::Eecd =>     row!("EECD",     0x00010,          EepromPins, EVERY_BIT,   0,   Adapter),
+            Reg::Mdic =>     row!("MDIC",     0x00020,          PhyCommand, EVERY_BIT,   0,   Adapter),
+            Reg::Txcw =>     row!("TXCW",     0x00178,          Stored,     CONFIG_BITS, 319, Adapter),
+            Reg::Ait =>      row!("AIT",      0x00458,          Stored,     INDEX_BITS,  320, Adapter),
+            Reg::Fcrtl =>    row!("FCRTL",    0x02160,          Stored,     XON_BITS,    321, Adapter),
+            Reg::Fcrth =>    row!("FCRTH",    0x02168,          Stored,     THRESHOLD_BITS, 322, Adapter),
+            Reg::Wuc =>      row!("WUC",      0x05800,          Stored,     EVERY_BIT,   323, Adapter),
+            Reg::Wufc =>     row!("WUFC",     0x05808,          Stored,     EVERY_BIT,   324, Adapter),
+            Reg::Manc =>     row!("MANC",     0x05820,          Stored,     EVERY_BIT,   325, Adapter),
+            Reg::Swsm =>     row!("SWSM",     0x05B50,          Stored,     EVERY_BIT,   326, Adapter),
         }
     }
 }
@@ -244,12 +298,12 @@ macro_rules! addresses {
 
 /// The pages that differ, each at the first place where it lies.
 #[rattlefmt::skip]
-static PAGES: [[Option<Reg>; 16]; 33] = [
+static PAGES: [[Option<Reg>; 16]; 37] = [
     page![- - - - - - - - - - - - - - - -], // BARE
-    page![Ctrl - Status - - Eerd CtrlExt - - - Fcal Fcah Fct - Vet -], // 0x00000
+    page![Ctrl - Status - Eecd Eerd CtrlExt - Mdic - Fcal Fcah Fct - Vet -], // 0x00000
     page![Icr Itr Ics - Ims - Imc - - - - - - - - -], // 0x000C0
     page![Rctl - - - - - - - - - - - - - - -], // 0x00100
-    page![- - - - - - - - - - - - Fcttv - - -], // 0x00140
+    page![- - - - - - - - - - - - Fcttv - Txcw -], // 0x00140
     page![Tctl - - - Tipg - - - - - - - - - - -], // 0x00400
     page![Ledctl - - - - - - - - - - - - - - -], // 0x00E00
     page![Pba - - - - - - - - - - - - - - -], // 0x01000
@@ -265,6 +319,10 @@ static PAGES: [[Option<Reg>; 16]; 33] = [
     addresses!(0), addresses!(8), // 0x05400
     words!(Vfta, 0), words!(Vfta, 16), words!(Vfta, 32), words!(Vfta, 48), // 0x05600
     words!(Vfta, 64), words!(Vfta, 80), words!(Vfta, 96), words!(Vfta, 112), // 0x05700
+    page![Wuc - Wufc - - - - - Manc - - - - - - -], // 0x05800
+    page![- - - - - - Ait - - - - - - - - -], // 0x00440
+    page![- - - - - - - - Fcrtl - Fcrth - - - - -], // 0x02140
+    page![- - - - Swsm - - - - - - - - - - -], // 0x05B40
 ];
 
 /// The page with no register.
@@ -272,16 +330,16 @@ const BARE: u8 = 0;
 
 /// Which page lies at each 64 octets.
 #[rattlefmt::skip]
-static PAGE_AT: [u8; 352] = [
+static PAGE_AT: [u8; 384] = [
     1, 0, 0, 2, 3, 4, 0, 0, 0, 0, 0, 0, 0, 0, 0, 0, // 0x00000
-    5, 0, 0, 0, 0, 0, 0, 0, 0, 0, 0, 0, 0, 0, 0, 0, // 0x00400
+    5, 34, 0, 0, 0, 0, 0, 0, 0, 0, 0, 0, 0, 0, 0, 0, // 0x00400
     0, 0, 0, 0, 0, 0, 0, 0, 0, 0, 0, 0, 0, 0, 0, 0, // 0x00800
     0, 0, 0, 0, 0, 0, 0, 0, 6, 0, 0, 0, 0, 0, 0, 0, // 0x00C00
     7, 0, 0, 0, 0, 0, 0, 0, 0, 0, 0, 0, 0, 0, 0, 0, // 0x01000
     0, 0, 0, 0, 0, 0, 0, 0, 0, 0, 0, 0, 0, 0, 0, 0, // 0x01400
     0, 0, 0, 0, 0, 0, 0, 0, 0, 0, 0, 0, 0, 0, 0, 0, // 0x01800
     0, 0, 0, 0, 0, 0, 0, 0, 0, 0, 0, 0, 0, 0, 0, 0, // 0x01C00
-    0, 0, 0, 0, 0, 0, 0, 0, 0, 0, 0, 0, 0, 0, 0, 0, // 0x02000
+    0, 0, 0, 0, 0, 35, 0, 0, 0, 0, 0, 0, 0, 0, 0, 0, // 0x02000
     0, 0, 0, 0, 0, 0, 0, 0, 0, 0, 0, 0, 0, 0, 0, 0, // 0x02400
     8, 0, 0, 0, 0, 0, 0, 0, 0, 0, 0, 0, 0, 0, 0, 0, // 0x02800
     0, 0, 0, 0, 0, 0, 0, 0, 0, 0, 0, 0, 0, 0, 0, 0, // 0x02C00
@@ -295,6 +353,8 @@ static PAGE_AT: [u8; 352] = [
     0, 0, 0, 0, 0, 0, 0, 0, 0, 0, 0, 0, 0, 0, 0, 0, // 0x04C00
     14, 0, 0, 0, 0, 0, 0, 0, 15, 16, 17, 18, 19, 20, 21, 22, // 0x05000
     23, 24, 0, 0, 0, 0, 0, 0, 25, 26, 27, 28, 29, 30, 31, 32, // 0x05400
+    33, 0, 0, 0, 0, 0, 0, 0, 0, 0, 0, 0, 0, 36, 0, 0, // 0x05800
+    0, 0, 0, 0, 0, 0, 0, 0, 0, 0, 0, 0, 0, 0, 0, 0, // 0x05C00
 ];
 
 /// The register at the offset, a multiple of 4 octets; none where none lies there.

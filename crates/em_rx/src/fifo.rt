@@ -7,7 +7,7 @@ ghost use Rattle.em_mem.specs.OldOctets.{Keeps, Saves};
 ghost use Rattle.em_rx.specs.Frame.{stored_frame};
 ghost use Rattle.em_rx.specs.StoredFrame.{LiesSo};
 ghost use Rattle.em_rx.specs.Fifo.{after_arrival, after_delivery, empty, first, fresh, HasRoom, IsFirst, IsLast};
-ghost use Rattle.em_rx.specs.Fifo.{IsSound, last, next, rest, shows};
+ghost use Rattle.em_rx.specs.Fifo.{IsSound, last, next, octets_in, rest, shows};
 ghost use Rattle.em_rx.specs.Records.{IsWhole, frame_patch, record_of, saved_of, step_patch};
 ghost use Rattle.em_rx.specs.RxUndo.{Frame};
 ghost use Rattle.em_rx.specs.Undo.{Fits, FitsFrame, FitsStep, IsMove, Reverses, ReversesStep, delivered, moved_back};
@@ -20,7 +20,7 @@ use crate::ring::{back, put_both, save_part};
 use crate::{MOST_HELD, OldFrame, OldPiece, RxRefusal, RxUndo, StoredFrame};
 use em_mem::ring::{pieces, put_octets, wrap};
 use em_mem::{GuestMemory, OldOctets, Saved};
-use std::alloc::Global;
+use std::alloc::{AllocError, Global};
 use std::marker::Model;
 
 /// How many octets the packet buffer has: the 48 KB that PBA gives to receiving after a reset (manual,
@@ -79,6 +79,20 @@ impl Fifo {
         })
     }
 
+    /// The same FIFO once more: each octet of the buffer, and each entry.
+    pub fn copy(&self) -> Result<Fifo, AllocError>
+        ensures { IfOk result (λ copy. copy ≡ self.now) }
+    {
+        let octets = Vec::from_slice(self.alloc, self.octets.as_slice())?;
+        let entries = Vec::from_slice(self.alloc, self.entries.as_slice())?;
+        Ok(Fifo {
+            alloc: self.alloc,
+            octets,
+            entries,
+            places: self.places,
+        })
+    }
+
     /// Where it takes memory.
     pub(crate) fn alloc(&self) -> Global {
         self.alloc
@@ -96,6 +110,13 @@ impl Fifo {
         ensures { IsTrue result ↔ HasRoom (shows self.now) len }
     {
         len <= (OCTETS - self.places.used) as usize
+    }
+
+    /// How many stored octets have room.
+    pub fn room(&self) -> usize
+        ensures { octets_in (shows self.now) + result ≡ 49_152 }
+    {
+        (OCTETS - self.places.used) as usize
     }
 
     /// Stores a frame, which comes last: a tagged one without its octets 12 to 15. What it overwrites is

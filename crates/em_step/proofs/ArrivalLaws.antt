@@ -1,6 +1,6 @@
 -- What is known of a frame that the filters accept, and of one as it is stored.
 use Rattle.std.proofs.Common.{◌≡◌, ℕ, ◌+◌, ◌-◌, ◌≤◌, Bool, true, false, List, length}
-use Rattle.std.proofs.Common.{arith, refl, length-append, length-drop}
+use Rattle.std.proofs.Common.{arith, refl, sym, ap, ◌∙◌, length-append, length-drop}
 use Rattle.std.specs.Prelude.{if◌then◌else◌, nat_lt, not}
 use Rattle.std.proofs.lemmas.List.{length-take}
 use Rattle.std.proofs.lemmas.Bool.{ltb-false}
@@ -12,7 +12,11 @@ use Rattle.em_filter.specs.Bits.{lpe}
 use Rattle.em_filter.specs.Filters.{longest, verdict}
 use Rattle.em_address.specs.Kind.{destination}
 use Rattle.em_filter.specs.Vlan.{passes_vlan}
+use Rattle.em_crc.specs.Crc.{crc32, sequence}
 use Rattle.em_rx.specs.Frame.{len_of, stored_frame}
+use Rattle.em_filter.specs.Vlan.{tagged}
+use Rattle.em_step.specs.Arrival.{keeps_sequence, kept_frame, with_sequence}
+use Rattle.em_step.specs.State.{State}
 
 -- an accepted frame is neither too short nor too long
 sizes : (acc short long vlan : Bool) (k kind : Kind) →
@@ -51,3 +55,32 @@ stored_len f true h = grind (arith, refl, length-append, length-take, length-dro
 pub stored_most : (f : List ℕ) (t : Bool) → len_of (stored_frame f t) ≤ length f
 stored_most f false = omega arith
 stored_most f true = grind (arith, refl, length-append, length-take, length-drop)
+
+-- a frame with its check sequence has four octets more
+pub sequence_len : (k : Bool) (f : List ℕ) → length (with_sequence k f) ≡ length f + (if k then 4 else 0)
+sequence_len false f = omega arith
+sequence_len true f = length-append f (sequence (crc32 f))
+
+-- so many octets are stored of a frame
+pub kept_len : (k t : Bool) (f : List ℕ) → (t ≡ true → 16 ≤ length f)
+    → len_of (stored_frame (with_sequence k f) t) ≡ length f + (if k then 4 else 0) - (if t then 4 else 0)
+kept_len k false f long = omega (arith, sequence_len k f)
+kept_len k true f long =
+    stored_len (with_sequence k f) true (omega (arith, long refl, sequence_len k f))
+    ∙ ap (λ (n : ℕ). n - 4) (sequence_len k f)
+
+-- the same of a frame that is stored, by what is known of it
+pub stored_by : (s : State) (f : List ℕ) (n : ℕ) (b : Bool) → (tagged s.registers f ≡ true → 16 ≤ length f)
+    → n ≡ (if keeps_sequence s then 4 else 0) → b ≡ tagged s.registers f
+    → length f + n - (if b then 4 else 0) ≡ len_of (kept_frame s f)
+stored_by s f n b long more is =
+    ap (λ (k : ℕ). length f + k - (if b then 4 else 0)) more
+    ∙ ap (λ (t : Bool). length f + (if keeps_sequence s then 4 else 0) - (if t then 4 else 0)) is
+    ∙ sym (kept_len (keeps_sequence s) (tagged s.registers f) f long)
+
+four_most : (k : Bool) → (if k then 4 else 0) ≤ 4
+four_most true = omega arith
+four_most false = omega arith
+
+pub kept_most : (k t : Bool) (f : List ℕ) → len_of (stored_frame (with_sequence k f) t) ≤ length f + 4
+kept_most k t f = omega (arith, stored_most (with_sequence k f) t, sequence_len k f, four_most k)

@@ -18,8 +18,8 @@ use Rattle.em_tx.proofs.CostLaws as tx_laws
 use Rattle.em_step.specs.Engines.{sending, transmitted, tx_stepped}
 use Rattle.em_filter.specs.Vlan.{tagged}
 use Rattle.em_step.specs.State.{State}
-use Rattle.em_step.specs.Arrival.{arrival, octets_stored}
-use Rattle.em_step.proofs.ArrivalLaws.{stored_most}
+use Rattle.em_step.specs.Arrival.{arrival, keeps_sequence, octets_stored}
+use Rattle.em_step.proofs.ArrivalLaws.{kept_most}
 use Rattle.em_step.specs.declared.refusal.Refusal.TheVariants.{Length}
 use Rattle.em_step.specs.Event.{Event, reads, writes, pokes, arrives, links, receives, transmits}
 use Rattle.em_step.specs.Step.{resets, step}
@@ -36,7 +36,8 @@ use Rattle.std.proofs.lemmas.List.{length-take-le}
 use Rattle.em_step.specs.Undo.{changed, held, held_by, undo_of}
 use Rattle.em_step.specs.declared.event.Answer.{Answer}
 use Rattle.em_step.specs.declared.event.Answer.TheVariants.{Stored}
-use Rattle.em_step.specs.Undo.{piece, Changed, Undo, Nothing, Register, Octets, Arrival, RxStep, TxStep, Link, Reset}
+use Rattle.em_step.specs.Undo.{piece, Changed, Undo, Nothing, Register, Octets, Arrival, RxStep, TxStep, Link, Pins, Phy}
+use Rattle.em_step.specs.Undo.{Reset}
 
 effect_least : (p : Changed) → least_cost ≤ cost_of_effect p
 effect_least Nothing = omega arith
@@ -46,6 +47,8 @@ effect_least (Arrival old) = omega arith
 effect_least (RxStep head old) = omega arith
 effect_least (TxStep old head) = omega arith
 effect_least (Link old) = omega arith
+effect_least (Pins old told) = omega arith
+effect_least (Phy old) = omega arith
 effect_least (Reset old) = omega arith
 
 pub cost_of_least : (r : Undo) → least_cost ≤ cost_of r
@@ -61,8 +64,9 @@ frame_most true many x r is = cc
 frame_most false true x r is = cc
 frame_most false false x r is = refl
 
-stored_octets : (s : State) (f : List ℕ) (a : Answer) → octets_stored s f a ≤ length f
-stored_octets s f Stored = stored_most f (tagged s.registers f)
+-- a frame is stored with four octets more at most
+stored_octets : (s : State) (f : List ℕ) (a : Answer) → octets_stored s f a ≤ length f + 4
+stored_octets s f Stored = kept_most (keeps_sequence s) (tagged s.registers f) f
 stored_octets s f a = omega arith
 
 -- a receive buffer has at most 16,384 octets
@@ -127,6 +131,8 @@ by_effect_least (effect.Arrival old place) = omega arith
 by_effect_least (effect.RxStep high word low end rest) = omega arith
 by_effect_least (effect.TxStep old head) = omega arith
 by_effect_least (effect.Link old) = omega arith
+by_effect_least (effect.Pins old told) = omega arith
+by_effect_least (effect.Phy old) = omega arith
 by_effect_least (effect.Reset old) = omega arith
 
 pub cost_by_least : (r : Record) → least_cost ≤ cost_by r
@@ -150,6 +156,8 @@ cost_as_effect (effect.RxStep high word low end rest) o room =
     )
 cost_as_effect (effect.TxStep old head) o room = refl
 cost_as_effect (effect.Link old) o room = refl
+cost_as_effect (effect.Pins old told) o room = refl
+cost_as_effect (effect.Phy old) o room = refl
 cost_as_effect (effect.Reset old) o room = refl
 
 pub cost_as : (r : Record) (o : OldOctets) → held r ≤ length o.octets → cost_of (undo_of r o) ≡ cost_by r

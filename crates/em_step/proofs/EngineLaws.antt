@@ -2,7 +2,7 @@
 use Rattle.std.proofs.Common.{◌≡◌, inl, inr, Bool, true, false, cond, IsTrue, List, length, ℕ, Option, Some, None}
 use Rattle.std.proofs.Common.{Result, Ok, Err}
 use Rattle.std.proofs.Common.{refl, sym, ap, ◌∙◌, arith, subst}
-use Rattle.std.specs.Prelude.{IsOk, not, nat_lt, ◌+◌, ◌≤◌, ◌==◌, if◌then◌else◌}
+use Rattle.std.specs.Prelude.{IsOk, not, ◌+◌, ◌≤◌, ◌==◌, if◌then◌else◌}
 use Rattle.em_mem.specs.Memory.{leaves, part}
 use Rattle.em_regs.specs.declared.reg.Reg.TheVariants.{Rdh}
 use Rattle.em_regs.specs.declared.setup.RxSetup.{RxSetup}
@@ -39,9 +39,10 @@ pub rx_wrote : (s t : State) {q : RxSetup} {a : RxAnswer} {index next causes : �
     → a ≡ rx_answer.Wrote index next causes
     → t.registers ≡ put s.registers Rdh next → t.latches ≡ after_raise s.latches causes
     → t.base ≡ s.base → t.gathered ≡ s.gathered → t.wire ≡ s.wire → t.eeprom ≡ s.eeprom → t.link ≡ s.link
+    → t.profile ≡ s.profile → t.pins ≡ s.pins → t.phy ≡ s.phy
     → rx_step s ≡ Ok (Wrote index, t)
 rx_wrote s t {q = q} {a = a} {index = index} {next = next} {causes = causes}
-    setup is answer registers latches base gathered wire eeprom link =
+    setup is answer registers latches base gathered wire eeprom link profile pins phy =
     let left : RxAnswer → Outcome = λ x. record { answer = x; memory = t.memory; fifo = t.fifo } in
     let by_setup : receive (rx_setup s.registers) s.base s.memory s.fifo ≡ Ok (left (rx_answer.Wrote index next causes))
     = ap (λ p. receive p s.base s.memory s.fifo) (sym setup) ∙ is ∙ ap (λ x. Ok (left x)) answer in
@@ -55,6 +56,9 @@ rx_wrote s t {q = q} {a = a} {index = index} {next = next} {causes = causes}
       wire = sym wire i;
       eeprom = sym eeprom i;
       link = sym link i;
+      profile = sym profile i;
+      pins = sym pins i;
+      phy = sym phy i;
     } in
     ap (rx_stepped s) by_setup ∙ ap (λ x. Ok (Wrote index, x)) same
 

@@ -1,10 +1,12 @@
 -- More made pages: what is shown stays, records go on fitting, and taking one back leaves more made pages again.
-use Rattle.std.proofs.Common.{◌≡◌, refl, ap, sym, subst}
+use Rattle.std.proofs.Common.{◌≡◌, ◌∙◌, refl, ap, sym, subst}
 use Rattle.em_mem.specs.Memory.{Patch}
 use Rattle.em_mem.proofs.MadePages as memory
 use Rattle.em_regs.specs.declared.reg.Reg.TheVariants.{Rdh, Tdh}
 use Rattle.em_regs.specs.RegFile as registers
 use Rattle.em_latch.specs.Latches as latches
+use Rattle.em_pins.specs.Pins as pins
+use Rattle.em_phy.specs.Phy as phy
 use Rattle.em_rx.specs.Fifo as rx
 use Rattle.em_rx.specs.Undo as rx_undo
 use Rattle.em_rx.specs.StepPatch.{StepPatch}
@@ -17,7 +19,8 @@ use Rattle.em_tx.proofs.MadePages as tx_laws
 use Rattle.em_step.specs.Cells.{Cells, shows, MorePages}
 use Rattle.em_step.specs.Undo.{Fits, EffectFits, tx_cells_of, undo, undo_octets, undo_effect, undo_piece}
 use Rattle.em_step.specs.Undo.{undo_register, undo_transmit, word}
-use Rattle.em_step.specs.Undo.{Changed, Undo, Nothing, Register, Octets, Arrival, RxStep, TxStep, Link, Reset}
+use Rattle.em_step.specs.Undo.{Changed, Undo, Nothing, Register, Octets, Arrival, RxStep, TxStep, Link, Pins, Phy}
+use Rattle.em_step.specs.Undo.{Reset}
 
 pub shows_after : (c d : Cells) → MorePages c d → shows d ≡ shows c
 shows_after c d more = λ i. record {
@@ -30,6 +33,9 @@ shows_after c d more = λ i. record {
   wire = more.wire i;
   eeprom = more.eeprom i;
   link = more.link i;
+  profile = more.profile i;
+  pins = more.pins i;
+  phy = more.phy i;
 }
 
 -- the FIFO with other cells
@@ -43,6 +49,9 @@ with_fifo c d f g more same = record {
   wire = more.wire;
   eeprom = more.eeprom;
   link = more.link;
+  profile = more.profile;
+  pins = more.pins;
+  phy = more.phy;
 }
 
 -- what a receive step replaced
@@ -62,6 +71,9 @@ piece_after c d p more = record {
   wire = more.wire;
   eeprom = more.eeprom;
   link = more.link;
+  profile = more.profile;
+  pins = more.pins;
+  phy = more.phy;
 }
 
 -- a register that is put back
@@ -76,6 +88,9 @@ register_after c d old more = record {
   wire = more.wire;
   eeprom = more.eeprom;
   link = more.link;
+  profile = more.profile;
+  pins = more.pins;
+  phy = more.phy;
 }
 
 register_fits_after : (c d : Cells) (old : registers.OldWord) → MorePages c d → registers.Fits c.registers old
@@ -98,6 +113,9 @@ transmit_after c d r more =
       wire = after.wire;
       eeprom = more.eeprom;
       link = more.link;
+      profile = more.profile;
+      pins = more.pins;
+      phy = more.phy;
     }
 
 effect_fits_after : (c d : Cells) (p : Changed) → MorePages c d → EffectFits c p → EffectFits d p
@@ -112,6 +130,8 @@ effect_fits_after c d (TxStep old head) more fits = (
   tx_laws.fits_after (tx_cells_of c) (tx_cells_of d) (tx_record.Step old) (sending_cells c d more) fits.1,
 )
 effect_fits_after c d (Link old) more fits = tt
+effect_fits_after c d (Pins old told) more fits = fits ∙ ap (λ words. pins.eecd words old) (sym more.eeprom)
+effect_fits_after c d (Phy old) more fits = tt
 effect_fits_after c d (Reset old) more fits = (
   tx_laws.fits_after (tx_cells_of c) (tx_cells_of d) old.gathered (sending_cells c d more) fits.0,
   subst (λ (f : rx.Cells). rx.IsSound (record f { places = old.places })) (sym more.fifo) fits.1,
@@ -134,6 +154,9 @@ octets_after c d old more = record {
   wire = more.wire;
   eeprom = more.eeprom;
   link = more.link;
+  profile = more.profile;
+  pins = more.pins;
+  phy = more.phy;
 }
 
 effect_after : (c d : Cells) (p : Changed) → MorePages c d → MorePages (undo_effect c p) (undo_effect d p)
@@ -157,6 +180,35 @@ effect_after c d (Link old) more = record {
   wire = more.wire;
   eeprom = more.eeprom;
   link = refl;
+  profile = more.profile;
+  pins = more.pins;
+  phy = more.phy;
+}
+effect_after c d (Pins old told) more = record {
+  registers = more.registers;
+  latches = more.latches;
+  fifo = more.fifo;
+  memory = more.memory;
+  gathered = more.gathered;
+  wire = more.wire;
+  eeprom = more.eeprom;
+  link = more.link;
+  profile = more.profile;
+  pins = refl;
+  phy = more.phy;
+}
+effect_after c d (Phy old) more = record {
+  registers = more.registers;
+  latches = more.latches;
+  fifo = more.fifo;
+  memory = more.memory;
+  gathered = more.gathered;
+  wire = more.wire;
+  eeprom = more.eeprom;
+  link = more.link;
+  profile = more.profile;
+  pins = more.pins;
+  phy = ap (λ p. phy.undone p old) more.phy;
 }
 effect_after c d (Reset old) more =
     with_fifo _ _ _ _ (transmit_after _ _ old.gathered record {
@@ -168,6 +220,9 @@ effect_after c d (Reset old) more =
       wire = more.wire;
       eeprom = more.eeprom;
       link = more.link;
+      profile = more.profile;
+      pins = more.pins;
+      phy = more.phy;
     }) (ap (λ (f : rx.Cells). record f { places = old.places }) more.fifo)
 
 pub undo_after : (c d : Cells) (r : Undo) → MorePages c d → MorePages (undo c r) (undo d r)
@@ -180,4 +235,7 @@ undo_after c d r more = effect_after _ _ r.effect record {
   wire = more.wire;
   eeprom = more.eeprom;
   link = more.link;
+  profile = more.profile;
+  pins = more.pins;
+  phy = more.phy;
 }

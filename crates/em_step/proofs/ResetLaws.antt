@@ -3,8 +3,9 @@ use Rattle.std.proofs.Common.{◌≡◌, ◌≢◌, ℕ, ◌+◌, false, List, [
 use Rattle.em_regs.specs.declared.reg.Reg.{Reg}
 use Rattle.em_regs.specs.declared.reg.Reg.TheVariants as named
 use Rattle.em_regs.specs.declared.reg.Reg.TheVariants.{Ics, Imc, Ral, Rah}
+use Rattle.em_regs.specs.declared.profile.Profile.{Profile}
 use Rattle.em_regs.specs.declared.table.Kind.{Kind}
-use Rattle.em_regs.specs.declared.table.Kind.TheVariants.{Status, Interrupt, Counter}
+use Rattle.em_regs.specs.declared.table.Kind.TheVariants.{Status, Interrupt, Counter, EepromPins, PhyCommand}
 use Rattle.em_regs.specs.Table.{IsReg, row_of, offset_of, reg_at}
 use Rattle.em_regs.specs.RegFile as registers
 use Rattle.em_regs.specs.RegFile.{zeroed, address_low, address_high}
@@ -22,7 +23,7 @@ use Rattle.em_step.specs.Cells as cells
 use Rattle.em_step.specs.Cells.{Cells, shows}
 use Rattle.em_step.specs.State.{State}
 use Rattle.em_step.specs.Access.{gives, gives_by, reset}
-use Rattle.em_step.proofs.Registers.{status_alone}
+use Rattle.em_step.proofs.Registers.{mdic_alone, pins_alone, status_alone}
 
 -- no latch holds anything
 fresh_at : (o : ℕ) → registers.at fresh o ≡ 0
@@ -40,12 +41,15 @@ apart p q is_p is_q other =
     λ same. let found : Some p ≡ Some q = sym (reg_at-offset_of p is_p) ∙ ap reg_at same ∙ reg_at-offset_of q is_q in
     other cc
 
-by_kind : (kind : Kind) (s : State) (reg : Reg) → kind ≢ Status → latches.gives s.latches reg ≡ 0
+by_kind : (kind : Kind) (s : State) (reg : Reg) → kind ≢ Status → kind ≢ EepromPins → kind ≢ PhyCommand
+    → latches.gives s.latches reg ≡ 0
     → registers.at s.registers (offset_of reg) ≡ 0 → gives_by kind s reg ≡ 0
-by_kind Status s reg other latched stored = absurd (other refl)
-by_kind Interrupt s reg other latched stored = latched
-by_kind Counter s reg other latched stored = latched
-by_kind kind s reg other latched stored = stored
+by_kind Status s reg other no_pins no_phy latched stored = absurd (other refl)
+by_kind EepromPins s reg other no_pins no_phy latched stored = absurd (no_pins refl)
+by_kind PhyCommand s reg other no_pins no_phy latched stored = absurd (no_phy refl)
+by_kind Interrupt s reg other no_pins no_phy latched stored = latched
+by_kind Counter s reg other no_pins no_phy latched stored = latched
+by_kind kind s reg other no_pins no_phy latched stored = stored
 
 -- nor does any other register of the file
 pub stored_zero : (mac : List ℕ) (o : ℕ) → o ≢ 0x05400 → o ≢ 0x05404 → registers.at (registers.reset mac) o ≡ 0
@@ -54,9 +58,10 @@ stored_zero mac o low high =
     at-insert_other _ _ _ o high ∙ at-insert_other _ _ _ o low ∙ at-zeros storage.offsets (length storage.offsets) o
 
 pub zero_after_reset :
-    (s : State) (reg : Reg) → IsReg reg → reg ≢ named.Status → reg ≢ Ral 0 → reg ≢ Rah 0 → gives (reset s) reg ≡ 0
-zero_after_reset s reg is other low high =
-    by_kind (row_of reg).kind (reset s) reg (status_alone reg other) (fresh_gives reg)
+    (s : State) (reg : Reg) → IsReg reg → reg ≢ named.Status → reg ≢ named.Eecd → reg ≢ named.Mdic → reg ≢ Ral 0 → reg ≢ Rah 0 → gives (reset s) reg ≡ 0
+zero_after_reset s reg is other no_pins no_phy low high =
+    by_kind (row_of reg).kind (reset s) reg (status_alone reg other) (pins_alone reg no_pins) (mdic_alone reg no_phy)
+    (fresh_gives reg)
     (stored_zero (mac_of s.eeprom) (offset_of reg) (apart reg (Ral 0) is (omega arith) low)
     (apart reg (Rah 0) is (omega arith) high))
 
@@ -71,10 +76,10 @@ fresh_fifo : rx.shows rx.fresh ≡ rx.empty
 unfolding rx.fresh
 fresh_fifo = refl
 
-pub new_is_reset : (base size : ℕ) (eeprom : List ℕ) →
-    shows (cells.fresh base size eeprom) ≡ reset (shows (cells.fresh base size eeprom))
-new_is_reset base size eeprom =
-    let c : Cells = cells.fresh base size eeprom in
+pub new_is_reset : (profile : Profile) (base size : ℕ) (eeprom : List ℕ) →
+    shows (cells.fresh_as profile base size eeprom) ≡ reset (shows (cells.fresh_as profile base size eeprom))
+new_is_reset profile base size eeprom =
+    let c : Cells = cells.fresh_as profile base size eeprom in
     λ i. record {
       registers = c.registers;
       latches = c.latches;
@@ -85,4 +90,7 @@ new_is_reset base size eeprom =
       wire = [];
       eeprom = eeprom;
       link = false;
+      profile = profile;
+      pins = c.pins;
+      phy = c.phy;
     }

@@ -14,7 +14,7 @@ if_all (Ok x) f p q made = f p x q made
 if_all (Err e) f p q made = tt
 
 -- the same cells have the same pages made
-cells_same : (c d : Cells) → d ≡ c → MorePages c d
+pub cells_same : (c d : Cells) → d ≡ c → MorePages c d
 cells_same c d same = record {
   registers = ap (λ (x : Cells). x.registers) same;
   latches = ap (λ (x : Cells). x.latches) same;
@@ -24,6 +24,9 @@ cells_same c d same = record {
   wire = ap (λ (x : Cells). x.wire) same;
   eeprom = ap (λ (x : Cells). x.eeprom) same;
   link = ap (λ (x : Cells). x.link) same;
+  profile = ap (λ (x : Cells). x.profile) same;
+  pins = ap (λ (x : Cells). x.pins) same;
+  phy = ap (λ (x : Cells). x.phy) same;
 }
 
 -- what is refused for this, and changes nothing

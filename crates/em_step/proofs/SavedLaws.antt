@@ -6,7 +6,7 @@ use Rattle.std.specs.Int.{w32, from_le_bytes, to_le_bytes}
 use Rattle.em_mem.specs.Memory.{part}
 use Rattle.em_mem.specs.OldOctets.{OldOctets, Keeps, Saves, given_up, saved}
 use Rattle.em_mem.proofs.OldOctetsLaws.{first-given_up, first-saved, length-saves, rest-saved, saves, saves_more}
-use Rattle.em_rx.specs.Records.{frame_patch, saved_of, step_patch}
+use Rattle.em_rx.specs.Records.{saved_of, step_patch}
 use Rattle.em_rx.specs.declared.undo.OldPiece.{OldPiece}
 use Rattle.em_step.specs.Cost.{cost_by, cost_by_effect}
 use Rattle.em_step.specs.Undo.{Octets, Arrival, RxStep, address, changed, held, held_by, piece, receiving, undo_of}
@@ -62,6 +62,8 @@ changed_same (effect.RxStep high word low end rest) x y fits held same =
     receiving_same (piece high word low end rest) x y fits held same
 changed_same (effect.TxStep old head) x y fits held same = refl
 changed_same (effect.Link old) x y fits held same = refl
+changed_same (effect.Pins old told) x y fits held same = refl
+changed_same (effect.Phy old) x y fits held same = refl
 changed_same (effect.Reset old) x y fits held same = refl
 
 pub undo_same : (r : Record) (x y : OldOctets) → held r ≤ length x.octets → held r ≤ length y.octets
@@ -78,6 +80,8 @@ held_cost (effect.Arrival old place) = omega arith
 held_cost (effect.RxStep high word low end rest) = omega arith
 held_cost (effect.TxStep old head) = omega arith
 held_cost (effect.Link old) = omega arith
+held_cost (effect.Pins old told) = omega arith
+held_cost (effect.Phy old) = omega arith
 held_cost (effect.Reset old) = omega arith
 
 pub held_less : (r : Record) → held r ≤ cost_by r

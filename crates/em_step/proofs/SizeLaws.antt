@@ -14,7 +14,8 @@ use Rattle.em_tx.specs.declared.undo.TxUndo.{TxUndo}
 use Rattle.em_tx.specs.declared.undo.TxUndo.TheVariants as tx_undo
 use Rattle.em_step.specs.Cells.{Cells, shows}
 use Rattle.em_step.specs.Undo.{EffectFits, Fits, tx_cells_of, undo, undo_effect}
-use Rattle.em_step.specs.Undo.{Changed, Undo, Nothing, Register, Octets, Arrival, RxStep, TxStep, Link, Reset}
+use Rattle.em_step.specs.Undo.{Changed, Undo, Nothing, Register, Octets, Arrival, RxStep, TxStep, Link, Pins, Phy}
+use Rattle.em_step.specs.Undo.{Reset}
 
 size_patch : (m : memory.Cells) (p : memory.Patch) → memory.Fits m p
     → length (memory.undo m p).octets ≡ length m.octets
@@ -45,6 +46,8 @@ size_effect c l (Arrival old) fits = refl
 size_effect c l (RxStep head old) fits = size_both c.fifo c.memory old fits.1
 size_effect c l (TxStep old head) fits = size_status c.memory old.status fits.1.1
 size_effect c l (Link old) fits = refl
+size_effect c l (Pins old told) fits = refl
+size_effect c l (Phy old) fits = refl
 size_effect c l (Reset old) fits = size_transmit (tx_cells_of c) old.gathered fits.0
 
 -- before an event memory was as large as after it
@@ -71,7 +74,26 @@ base_effect c l (Arrival old) = refl
 base_effect c l (RxStep head old) = refl
 base_effect c l (TxStep old head) = base_status c.memory old.status
 base_effect c l (Link old) = refl
+base_effect c l (Pins old told) = refl
+base_effect c l (Phy old) = refl
 base_effect c l (Reset old) = base_transmit (tx_cells_of c) old.gathered
+
+-- ---- and the adapter is of the same profile
+profile_effect : (c : Cells) (l : Registers) (e : Changed)
+    → (undo_effect (record c { latches = l }) e).profile ≡ c.profile
+profile_effect c l Nothing = refl
+profile_effect c l (Register old) = refl
+profile_effect c l (Octets old) = refl
+profile_effect c l (Arrival old) = refl
+profile_effect c l (RxStep head old) = refl
+profile_effect c l (TxStep old head) = refl
+profile_effect c l (Link old) = refl
+profile_effect c l (Pins old told) = refl
+profile_effect c l (Phy old) = refl
+profile_effect c l (Reset old) = refl
+
+pub profile_stays : (c : Cells) (r : Undo) → (shows (undo c r)).profile ≡ (shows c).profile
+profile_stays c r = profile_effect c (latches.undo c.latches r.latches) r.effect
 
 pub memory_base : (c : Cells) (r : Undo) → (shows (undo c r)).base ≡ (shows c).base
 memory_base c r = base_effect c (latches.undo c.latches r.latches) r.effect

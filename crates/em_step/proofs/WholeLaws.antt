@@ -40,7 +40,7 @@ use Rattle.em_tx.specs.declared.answer.TxAnswer.TheVariants as tx_answer
 use Rattle.em_tx.specs.declared.refusal.TxRefusal.{TxRefusal}
 use Rattle.em_tx.specs.declared.refusal.TxRefusal.TheVariants as tx_refusal
 use Rattle.em_step.specs.Arrival.{after_accept, after_miss, arrival, is_enabled, judged, judgement, kept_frame}
-use Rattle.em_step.specs.Arrival.{lacks_room}
+use Rattle.em_step.specs.Arrival.{keeps_sequence, lacks_room, with_sequence}
 use Rattle.em_step.specs.Engines.{after_rx_answer, after_tx_answer, rx_step, rx_stepped, sending, tx_step, tx_stepped}
 use Rattle.em_step.specs.Engines.{with_outcome, with_shown}
 use Rattle.em_step.specs.State.{State}
@@ -95,38 +95,40 @@ abbrev ArrivedAs : State → List ℕ → Answer × State → Type 0
 ArrivedAs s f r = KeepsAllButFifo s r.1 × Admits s f r.0 r.1
 
 same_state : (s : State) → KeepsAllButFifo s s
-same_state s = record { registers = refl; base = refl; memory = refl; gathered = refl; wire = refl }
+same_state s = record { registers = refl; base = refl; memory = refl; gathered = refl; wire = refl; profile = refl }
 
-kept_plain : (s : State) (f : List ℕ) → vme s.registers ≡ false → kept_frame s f ≡ plain f
-kept_plain s f no_vme = ap (stored_frame f) (untagged s.registers f no_vme)
+kept_plain : (s : State) (f : List ℕ) → vme s.registers ≡ false → keeps_sequence s ≡ false → kept_frame s f ≡ plain f
+kept_plain s f no_vme bare =
+    ap (λ (k : Bool). stored_frame (with_sequence k f) (tagged s.registers f)) bare
+    ∙ ap (stored_frame f) (untagged s.registers f no_vme)
 
 admitted : (s : State) (f : List ℕ) (kind : Kind) (b : Bool) → is_enabled s ≡ true → IsUsual f
-    → vme s.registers ≡ false
+    → vme s.registers ≡ false → keeps_sequence s ≡ false
     → ArrivedAs s f (if b then (Dropped Missed, after_miss s) else (Stored, after_accept s f kind))
-admitted s f kind true on usual no_vme =
-    (record { registers = refl; base = refl; memory = refl; gathered = refl; wire = refl }, inl (Missed, refl, refl))
-admitted s f kind false on usual no_vme = (
-  record { registers = refl; base = refl; memory = refl; gathered = refl; wire = refl },
-  inr (refl, on, usual, ap (after_arrival s.fifo) (kept_plain s f no_vme)),
+admitted s f kind true on usual no_vme bare =
+    (record { registers = refl; base = refl; memory = refl; gathered = refl; wire = refl; profile = refl }, inl (Missed, refl, refl))
+admitted s f kind false on usual no_vme bare = (
+  record { registers = refl; base = refl; memory = refl; gathered = refl; wire = refl; profile = refl },
+  inr (refl, on, usual, ap (after_arrival s.fifo) (kept_plain s f no_vme bare)),
 )
 
 judged_by : (s : State) (f : List ℕ) (v : Verdict) → verdict s.registers f ≡ v → is_enabled s ≡ true
-    → lpe s.registers ≡ false → vme s.registers ≡ false
+    → lpe s.registers ≡ false → vme s.registers ≡ false → keeps_sequence s ≡ false
     → ArrivedAs s f (judgement s f v)
-judged_by s f Reject is on no_lpe no_vme = (same_state s, inl (Rejected, refl, refl))
-judged_by s f TooShort is on no_lpe no_vme =
-    (record { registers = refl; base = refl; memory = refl; gathered = refl; wire = refl }, inl (Undersize, refl, refl))
-judged_by s f TooLong is on no_lpe no_vme =
-    (record { registers = refl; base = refl; memory = refl; gathered = refl; wire = refl }, inl (Oversize, refl, refl))
-judged_by s f (Accept kind) is on no_lpe no_vme =
-    admitted s f kind (lacks_room s f) on (accepted s.registers f kind no_lpe is) no_vme
+judged_by s f Reject is on no_lpe no_vme bare = (same_state s, inl (Rejected, refl, refl))
+judged_by s f TooShort is on no_lpe no_vme bare =
+    (record { registers = refl; base = refl; memory = refl; gathered = refl; wire = refl; profile = refl }, inl (Undersize, refl, refl))
+judged_by s f TooLong is on no_lpe no_vme bare =
+    (record { registers = refl; base = refl; memory = refl; gathered = refl; wire = refl; profile = refl }, inl (Oversize, refl, refl))
+judged_by s f (Accept kind) is on no_lpe no_vme bare =
+    admitted s f kind (lacks_room s f) on (accepted s.registers f kind no_lpe is) no_vme bare
 
 arrived_by : (s : State) (f : List ℕ) (up on : Bool) → is_enabled s ≡ on
-    → lpe s.registers ≡ false → vme s.registers ≡ false
+    → lpe s.registers ≡ false → vme s.registers ≡ false → keeps_sequence s ≡ false
     → ArrivedAs s f (if not up then (Dropped Down, s) else if not on then (Dropped Disabled, s) else judged s f)
-arrived_by s f false on is no_lpe no_vme = (same_state s, inl (Down, refl, refl))
-arrived_by s f true false is no_lpe no_vme = (same_state s, inl (Disabled, refl, refl))
-arrived_by s f true true is no_lpe no_vme = judged_by s f (verdict s.registers f) refl is no_lpe no_vme
+arrived_by s f false on is no_lpe no_vme bare = (same_state s, inl (Down, refl, refl))
+arrived_by s f true false is no_lpe no_vme bare = (same_state s, inl (Disabled, refl, refl))
+arrived_by s f true true is no_lpe no_vme bare = judged_by s f (verdict s.registers f) refl is no_lpe no_vme bare
 
 taken_in : (s : State) (f : List ℕ) (a : Bool) (r : Answer × State)
     → (if a then Err Length else Ok (arrival s f)) ≡ Ok r → arrival s f ≡ r
@@ -135,11 +137,12 @@ taken_in s f false r h = cc
 
 -- an arrival puts the frame as it is at the FIFO's end, or drops it
 pub arrived : (s : State) (f : List ℕ) (r : Answer × State) → arrive s f ≡ Ok r
-    → lpe s.registers ≡ false → vme s.registers ≡ false → KeepsAllButFifo s r.1 × Admits s f r.0 r.1
-arrived s f r is no_lpe no_vme =
+    → lpe s.registers ≡ false → vme s.registers ≡ false → keeps_sequence s ≡ false
+    → KeepsAllButFifo s r.1 × Admits s f r.0 r.1
+arrived s f r is no_lpe no_vme bare =
     subst (ArrivedAs s f)
     (taken_in s f (nat_lt (length f) 14 || nat_lt 20_000 (length f)) r is)
-    (arrived_by s f s.link (is_enabled s) refl no_lpe no_vme)
+    (arrived_by s f s.link (is_enabled s) refl no_lpe no_vme bare)
 
 -- ---- receive steps
 
@@ -229,6 +232,7 @@ received_by s false false false r is ok size none all =
         fifo = ap (λ x. x.1.fifo) now;
         gathered = ap (λ x. x.1.gathered) now;
         wire = ap (λ x. x.1.wire) now;
+        profile = ap (λ x. x.1.profile) now;
       },
     )
 
@@ -318,6 +322,7 @@ transmitted_by s false false r is ok no_vlan pad none whole =
       fifo = ap (λ x. x.1.fifo) now;
       gathered = ap (λ x. x.1.gathered) now;
       wire = ap (λ x. x.1.wire) now;
+      profile = ap (λ x. x.1.profile) now;
     })
 
 -- a transmit step does nothing, or the packet at TDH goes whole onto the wire

@@ -1,7 +1,8 @@
 -- An arriving frame: what becomes of it, where the first line that holds decides, and what it changes.
-use Rattle.std.specs.Prelude.{ℕ, ◌+◌, ◌==◌, nat_lt, Bool, not, if◌then◌else◌, List, length}
+use Rattle.std.specs.Prelude.{ℕ, ◌+◌, ◌==◌, ◌&&◌, nat_lt, Bool, true, false, not, if◌then◌else◌, List, ◌++◌, length}
 use Rattle.em_regs.specs.declared.reg.Reg.TheVariants.{Rctl, Rdh, Rdt}
 use Rattle.em_regs.specs.Setup.{value_of}
+use Rattle.em_crc.specs.Crc.{crc32, sequence}
 use Rattle.em_latch.specs.Counter.{after_count}
 use Rattle.em_latch.specs.declared.counter.Counter.{Counter}
 use Rattle.em_latch.specs.declared.counter.Counter.TheVariants.{Ruc, Roc}
@@ -15,7 +16,7 @@ use Rattle.em_rx.specs.Frame.{Frame, len_of, stored_frame}
 use Rattle.em_rx.specs.Fifo.{after_arrival, octets_in}
 use Rattle.em_step.specs.Access.{has}
 use Rattle.em_step.specs.Counts.{after_buffer_count, after_frame_count, after_miss_count}
-use Rattle.em_step.specs.State.{State}
+use Rattle.em_step.specs.State.{State, is_adapter}
 use Rattle.em_step.specs.declared.event.Answer.{Answer}
 use Rattle.em_step.specs.declared.event.Answer.TheVariants.{Stored, Dropped}
 use Rattle.em_step.specs.declared.event.Reason.TheVariants.{Down, Disabled, Rejected, Undersize, Oversize, Missed}
@@ -43,9 +44,18 @@ abbrev pub lacks_buffer : State → Bool
 lacks_buffer s = rdh s == rdt s
 
 -- ---- the frame in the FIFO
+-- the second profile stores the frame check sequence too, unless RCTL.SECRC strips it
+abbrev pub keeps_sequence : State → Bool
+keeps_sequence s = is_adapter s.profile && not (has (rctl s) 0x0400_0000)
+
+-- the frame as it came, with its check sequence where that is kept
+abbrev pub with_sequence : Bool → List ℕ → List ℕ
+with_sequence false f = f
+with_sequence true f = f ++ sequence (crc32 f)
+
 -- the frame as it is stored
 abbrev pub kept_frame : State → List ℕ → Frame
-kept_frame s f = stored_frame f (tagged s.registers f)
+kept_frame s f = stored_frame (with_sequence (keeps_sequence s) f) (tagged s.registers f)
 
 -- so many stored octets would be too many
 abbrev pub lacks_room : State → List ℕ → Bool

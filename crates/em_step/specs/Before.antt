@@ -10,7 +10,7 @@ use Rattle.em_mem.specs.Window.{IsWindow, lay_over}
 use Rattle.em_regs.specs.declared.reg.Reg.{Reg}
 use Rattle.em_regs.specs.declared.reg.Reg.TheVariants.{Ics, Imc, Rdh, Tdh}
 use Rattle.em_regs.specs.declared.table.Kind.{Kind}
-use Rattle.em_regs.specs.declared.table.Kind.TheVariants.{Interrupt, Counter, Status}
+use Rattle.em_regs.specs.declared.table.Kind.TheVariants.{Interrupt, Counter, EepromPins, PhyCommand, Status}
 use Rattle.em_regs.specs.Table.{row_of, offset_of}
 use Rattle.em_regs.specs.RegFile as registers
 use Rattle.em_latch.specs.Latches as latches
@@ -22,7 +22,7 @@ use Rattle.em_tx.specs.Undo.{gathered_of, last_of}
 use Rattle.em_step.specs.Cells.{Cells, shows}
 use Rattle.em_step.specs.State.{State}
 use Rattle.em_step.specs.Undo.{Changed, Fits, Undo, undo, word}
-use Rattle.em_step.specs.Undo.{Register, Octets, Arrival, RxStep, TxStep, Link, Reset}
+use Rattle.em_step.specs.Undo.{Register, Octets, Arrival, RxStep, TxStep, Link, Pins, Phy, Reset}
 
 -- ---- what an answer about a record means: in any cells that the record fits
 -- what reads so now reads so once the record is put back
@@ -86,11 +86,23 @@ abbrev pub status_before : Changed → ℕ → ℕ
 status_before (Link old) now = if old then 0x83 else 0x81
 status_before effect now = now
 
+-- of EECD
+abbrev pub pins_before : Changed → ℕ → ℕ
+pins_before (Pins old told) now = told
+pins_before effect now = now
+
+-- of MDIC
+abbrev pub mdic_before : Changed → ℕ → ℕ
+mdic_before (Phy old) now = old.mdic
+mdic_before effect now = now
+
 -- of any register, by the kind of its row
 abbrev pub register_before_by : Kind → Undo → Reg → ℕ → ℕ
 register_before_by Status r reg now = status_before r.effect now
 register_before_by Interrupt r reg now = latched_before r.latches r.effect reg now
 register_before_by Counter r reg now = latched_before r.latches r.effect reg now
+register_before_by EepromPins r reg now = pins_before r.effect now
+register_before_by PhyCommand r reg now = mdic_before r.effect now
 register_before_by kind r reg now = stored_before r.effect reg now
 
 abbrev pub register_before : Undo → Reg → ℕ → ℕ

@@ -12,7 +12,8 @@ use Rattle.em_step.specs.Step.{resets}
 use Rattle.em_step.specs.declared.undo.Record.{Record}
 use Rattle.em_step.specs.declared.undo.Effect.{Effect}
 use Rattle.em_step.specs.declared.undo.Effect.TheVariants as effect
-use Rattle.em_step.specs.Undo.{piece, Changed, Undo, Nothing, Register, Octets, Arrival, RxStep, TxStep, Link, Reset}
+use Rattle.em_step.specs.Undo.{piece, Changed, Undo, Nothing, Register, Octets, Arrival, RxStep, TxStep, Link, Pins, Phy}
+use Rattle.em_step.specs.Undo.{Reset}
 
 -- of an event whose record holds no octets
 abbrev pub least_cost : ℕ
@@ -41,6 +42,8 @@ cost_of_effect (Arrival old) = least_cost + length old.octets
 cost_of_effect (RxStep head old) = least_cost + (length old.first.octets + length old.second.octets)
 cost_of_effect (TxStep old head) = least_cost + old.cost
 cost_of_effect (Link old) = least_cost
+cost_of_effect (Pins old told) = least_cost
+cost_of_effect (Phy old) = least_cost
 cost_of_effect (Reset old) = most_cost
 
 abbrev pub cost_of : Undo → ℕ
@@ -55,6 +58,8 @@ cost_by_effect (effect.Arrival old place) = least_cost + old.len
 cost_by_effect (effect.RxStep high word low end rest) = least_cost + ((piece high word low end rest).len + 8)
 cost_by_effect (effect.TxStep old head) = least_cost + old.cost
 cost_by_effect (effect.Link old) = least_cost
+cost_by_effect (effect.Pins old told) = least_cost
+cost_by_effect (effect.Phy old) = least_cost
 cost_by_effect (effect.Reset old) = most_cost
 
 abbrev pub cost_by : Record → ℕ

@@ -1,10 +1,15 @@
 -- What an adapter shows, as data.
-use Rattle.std.specs.Prelude.{ℕ, Bool, List, Option, refl, if◌then◌else◌}
+use Rattle.std.specs.Prelude.{◌≡◌, ℕ, Bool, true, false, List, Option, refl, if◌then◌else◌}
 use Rattle.std.specs.Coded.{Coded, code_by, coded×, coded_list, coded_ℕ, coded_bool, coded_option}
+use Rattle.em_regs.specs.declared.profile.Profile.{Profile}
+use Rattle.em_regs.specs.declared.profile.Profile.TheVariants.{Table, Adapter}
 use Rattle.em_regs.specs.Storage.{Registers}
 use Rattle.em_regs.specs.RegFile.{registers_code}
+use Rattle.em_pins.specs.Pins as pins
+use Rattle.em_phy.specs.Phy as phy
 use Rattle.em_rx.specs.Frame.{Frame}
 use Rattle.em_rx.specs.Fifo.{Fifo}
+use Rattle.em_tx.specs.Wire.{let_go}
 
 pub record State : Type 0 where
   -- the registers that keep what software writes
@@ -25,6 +30,12 @@ pub record State : Type 0 where
   pub eeprom : List ℕ
   -- whether the link is up
   pub link : Bool
+  -- which registers there are, and what their accesses do: it never changes
+  pub profile : Profile
+  -- the pins of EECD
+  pub pins : pins.State
+  -- MDIC, and the PHY
+  pub phy : phy.State
 
 abbrev pub frame_code : Coded Frame
 frame_code =
@@ -36,15 +47,72 @@ fifo_code =
     code_by (List Frame × ℕ) (coded× (coded_list frame_code) coded_ℕ)
     (λ f. (f.frames, f.taken)) (λ p. record { frames = p.0; taken = p.1 }) (λ _. refl)
 
+abbrev pub is_adapter : Profile → Bool
+is_adapter Table = false
+is_adapter Adapter = true
+
+abbrev pub profile_of : Bool → Profile
+profile_of false = Table
+profile_of true = Adapter
+
+abbrev pub profile_back : (p : Profile) → profile_of (is_adapter p) ≡ p
+profile_back Table = refl
+profile_back Adapter = refl
+
+abbrev pub profile_code : Coded Profile
+profile_code = code_by Bool coded_bool is_adapter profile_of profile_back
+
+abbrev pub pins_code : Coded pins.State
+pins_code =
+    code_by (ℕ × (ℕ × (ℕ × ℕ))) (coded× coded_ℕ (coded× coded_ℕ (coded× coded_ℕ coded_ℕ)))
+    (λ s. (s.pins, (s.count, (s.taken, s.falls))))
+    (λ p. record { pins = p.0; count = p.1.0; taken = p.1.1.0; falls = p.1.1.1 }) (λ _. refl)
+
+abbrev pub phy_code : Coded phy.State
+phy_code =
+    code_by (ℕ × List ℕ) (coded× coded_ℕ (coded_list coded_ℕ))
+    (λ s. (s.mdic, s.words)) (λ p. record { mdic = p.0; words = p.1 }) (λ _. refl)
+
+-- the link, the profile, and what the second profile has besides
+abbrev pub Rest : Type 0
+Rest = Bool × (Profile × (pins.State × phy.State))
+
+abbrev pub rest_code : Coded Rest
+rest_code = coded× coded_bool (coded× profile_code (coded× pins_code phy_code))
+
 -- a state is stored as the tuple of its fields
 abbrev pub state_code : Coded State
 state_code =
     code_by
-    (Registers × (Registers × (Fifo × (ℕ × (List ℕ × (List ℕ × (List (List ℕ) × (List ℕ × Bool))))))))
+    (Registers × (Registers × (Fifo × (ℕ × (List ℕ × (List ℕ × (List (List ℕ) × (List ℕ × Rest))))))))
     (coded× registers_code (coded× registers_code (coded× fifo_code (coded× coded_ℕ
     (coded× (coded_list coded_ℕ) (coded× (coded_list coded_ℕ) (coded× (coded_list (coded_list coded_ℕ))
-    (coded× (coded_list coded_ℕ) coded_bool))))))))
-    (λ s. (s.registers, (s.latches, (s.fifo, (s.base, (s.memory, (s.gathered, (s.wire, (s.eeprom, s.link)))))))))
+    (coded× (coded_list coded_ℕ) rest_code))))))))
+    (λ s. (
+      s.registers,
+      (
+        s.latches,
+        (
+          s.fifo,
+          (
+            s.base,
+            (
+              s.memory,
+              (
+                s.gathered,
+                (
+                  s.wire,
+                  (
+                    s.eeprom,
+                    (s.link, (s.profile, (s.pins, s.phy))),
+                  ),
+                ),
+              ),
+            ),
+          ),
+        ),
+      ),
+    ))
     (λ p. record {
       registers = p.0;
       latches = p.1.0;
@@ -54,10 +122,17 @@ state_code =
       gathered = p.1.1.1.1.1.0;
       wire = p.1.1.1.1.1.1.0;
       eeprom = p.1.1.1.1.1.1.1.0;
-      link = p.1.1.1.1.1.1.1.1;
+      link = p.1.1.1.1.1.1.1.1.0;
+      profile = p.1.1.1.1.1.1.1.1.1.0;
+      pins = p.1.1.1.1.1.1.1.1.1.1.0;
+      phy = p.1.1.1.1.1.1.1.1.1.1.1;
     })
     (λ _. refl)
 
 -- STATUS follows the link: FD and SPEED 10b, and LU where it is up
 abbrev pub status : State → ℕ
 status s = if s.link then 0x83 else 0x81
+
+-- the octets of the first k frames that were sent are let go
+abbrev pub without_frames : ℕ → State → State
+without_frames k s = record s { wire = let_go k s.wire }

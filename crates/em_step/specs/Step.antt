@@ -1,8 +1,8 @@
 -- One event: the refusal whose cause comes first, or the answer and the next state.
-use Rattle.std.specs.Prelude.{◌≡◌, ◌⊎◌, ℕ, ◌+◌, ◌==◌, ◌||◌, nat_lt, Bool, true, false, not, IsTrue, if◌then◌else◌}
+use Rattle.std.specs.Prelude.{◌≡◌, ◌⊎◌, ℕ, ◌==◌, ◌||◌, nat_lt, Bool, true, false, not, IsTrue, if◌then◌else◌}
 use Rattle.std.specs.Prelude.{List, length, Option, Some, None, Result, Ok, Err}
 use Rattle.em_mem.specs.Memory.{leaves, put}
-use Rattle.em_regs.specs.Table.{reg_at}
+use Rattle.em_regs.specs.Table.{answers_at, reg_at, reg_of}
 use Rattle.em_regs.specs.declared.reg.Reg.{Reg}
 use Rattle.em_step.specs.Event.{Event, reads, writes, pokes, arrives, links, receives, transmits}
 use Rattle.em_step.specs.State.{State}
@@ -14,10 +14,15 @@ use Rattle.em_step.specs.declared.event.Answer.TheVariants.{Done, Value, Dropped
 use Rattle.em_step.specs.declared.refusal.Refusal.{Refusal}
 use Rattle.em_step.specs.declared.refusal.Refusal.TheVariants.{NoRegister, Range, Length, Memory}
 
--- an access of the register at an offset, where there is one
+-- an access where no register lies changes nothing, and is refused where the profile does not answer at the offset
+abbrev pub at_none : State → ℕ → Answer → Result (Answer × State) Refusal
+at_none s o answer = if answers_at s.profile o then Ok (answer, s) else Err NoRegister
+
+-- an access of the register at an offset, and what it is otherwise, where there is none
 abbrev pub at_register : Option Reg → (Reg → Answer × State) → Result (Answer × State) Refusal
-at_register None access = Err NoRegister
-at_register (Some reg) access = Ok (access reg)
+    → Result (Answer × State) Refusal
+at_register None access otherwise = otherwise
+at_register (Some reg) access otherwise = Ok (access reg)
 
 -- a memory write has 1 to 16,384 octets; the range is tested before the length
 abbrev pub poke : State → ℕ → List ℕ → Result (Answer × State) Refusal
@@ -32,8 +37,9 @@ arrive s f = if nat_lt (length f) 14 || nat_lt 20_000 (length f) then Err Length
 
 -- the answer and the next state, or why there is none
 abbrev pub step : State → Event → Result (Answer × State) Refusal
-step s (reads o) = at_register (reg_at o) (λ reg. (Value (gives s reg), after_read s reg))
-step s (writes o v) = at_register (reg_at o) (λ reg. (Done, after_write s reg v))
+step s (reads o) =
+    at_register (reg_of s.profile o) (λ reg. (Value (gives s reg), after_read s reg)) (at_none s o (Value 0))
+step s (writes o v) = at_register (reg_of s.profile o) (λ reg. (Done, after_write s reg v)) (at_none s o Done)
 step s (pokes a octets) = poke s a octets
 step s (arrives f) = arrive s f
 step s (links up) = Ok (Done, after_link s up)

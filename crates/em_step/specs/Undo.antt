@@ -10,6 +10,8 @@ use Rattle.em_regs.specs.RegFile as registers
 use Rattle.em_regs.specs.Storage.{Registers}
 use Rattle.em_latch.specs.Latches as latches
 use Rattle.em_latch.specs.Latches.{Growth}
+use Rattle.em_pins.specs.Pins as pins
+use Rattle.em_phy.specs.Phy as phy
 use Rattle.em_rx.specs.FramePatch.{FramePatch}
 use Rattle.em_rx.specs.StepPatch.{StepPatch}
 use Rattle.em_rx.specs.Undo as rx
@@ -49,6 +51,10 @@ pub data Changed : Type 0 where
   -- what a transmit step changed, and TDH
   TxStep : Change → ℕ → Changed
   Link : Bool → Changed
+  -- the pins of EECD, and what a read of it gave
+  Pins : pins.State → ℕ → Changed
+  -- MDIC, and a word of the PHY
+  Phy : phy.Old → Changed
   Reset : Aside → Changed
 
 -- what takes an event back: by how much words of the latches grew, and what else it changed
@@ -89,6 +95,8 @@ changed (effect.Arrival old place) o = Arrival (frame_patch old o)
 changed (effect.RxStep high word low end rest) o = receiving (piece high word low end rest) o
 changed (effect.TxStep old head) o = TxStep old head
 changed (effect.Link old) o = Link old
+changed (effect.Pins old told) o = Pins old told
+changed (effect.Phy old) o = Phy old
 changed (effect.Reset old) o = Reset (aside old.value)
 
 -- what a record means
@@ -164,6 +172,8 @@ EffectFits c (Arrival old) = rx.FitsFrame c.fifo old
 EffectFits c (RxStep head old) = registers.Fits c.registers (word Rdh head) × rx.FitsStep c.fifo c.memory old
 EffectFits c (TxStep old head) = registers.Fits c.registers (word Tdh head) × tx.Fits (tx_cells_of c) (tx_undo.Step old)
 EffectFits c (Link old) = Unit {0}
+EffectFits c (Pins old told) = told ≡ pins.eecd c.eeprom old
+EffectFits c (Phy old) = phy.Fits c.phy old
 EffectFits c (Reset old) =
     tx.Fits (tx_cells_of c) old.gathered × IsSound (record c.fifo { places = old.places })
 
@@ -208,6 +218,8 @@ undo_effect c (Arrival old) = undo_arrival c old
 undo_effect c (RxStep head old) = undo_piece (undo_register c (word Rdh head)) old
 undo_effect c (TxStep old head) = undo_transmit (undo_register c (word Tdh head)) (tx_undo.Step old)
 undo_effect c (Link old) = record c { link = old }
+undo_effect c (Pins old told) = record c { pins = pins.undo c.pins old }
+undo_effect c (Phy old) = record c { phy = phy.undone c.phy old }
 undo_effect c (Reset old) = undo_places
     (undo_transmit (record c { registers = old.registers; latches = old.latches }) old.gathered) old.places
 

@@ -36,6 +36,7 @@ pub record KeepsAllButFifo (s t : State) : Type 0 where
   pub memory : t.memory ≡ s.memory
   pub gathered : t.gathered ≡ s.gathered
   pub wire : t.wire ≡ s.wire
+  pub profile : t.profile ≡ s.profile
 
 -- a frame was dropped, or it came last into the FIFO as it is
 abbrev pub Admits : State → List ℕ → Answer → State → Type 0
@@ -59,6 +60,7 @@ pub record ReceivesWhole (s : State) (f : List ℕ) (frames : List Frame) (t : S
   pub fifo : t.fifo ≡ record { frames = frames; taken = 0 }
   pub gathered : t.gathered ≡ s.gathered
   pub wire : t.wire ≡ s.wire
+  pub profile : t.profile ≡ s.profile
 
 -- zero octets are added up to 60
 abbrev pub padded : List ℕ → List ℕ
@@ -88,3 +90,4 @@ pub record SendsWhole (s t : State) : Type 0 where
   pub fifo : t.fifo ≡ s.fifo
   pub gathered : t.gathered ≡ []
   pub wire : t.wire ≡ s.wire ++ padded (next_packet s) ∷ []
+  pub profile : t.profile ≡ s.profile

@@ -1,19 +1,20 @@
 //! The adapter: its registers, its interrupt latches and the guest's memory.
 ghost use Rattle.std.specs.Prelude.{◌≡◌, ◌≢◌, ◌↔◌, ◌+◌, ◌<◌, ◌≤◌, ◌⊎◌};
-ghost use Rattle.std.specs.Prelude.{if◌then◌else◌, IsTrue, false, [], length, slice_get};
+ghost use Rattle.std.specs.Prelude.{if◌then◌else◌, ℕ, IsTrue, None, false, [], length, slice_get};
 ghost use Rattle.std.specs.Prelude.{IfOk, IfErr, IfSome, IsNone, OnOk, OnErr, IsErrOf};
 ghost use Rattle.std.specs.Option.{option_map};
 ghost use Rattle.em_mem.specs.Memory.{IsMemoryRange, IsMemorySize, LiesIn, leaves, part};
-ghost use Rattle.em_regs.specs.Table.{IsReg, row_of, offset_of, reg_at};
+ghost use Rattle.em_regs.specs.Table.{IsReg, IsRegOf, has_reg, offset_of, reg_of, row_of};
 ghost use Rattle.em_regs.specs.RegFile.{IsStored, OnlyStores};
 ghost use Rattle.em_latch.specs.Latches.{is_latched, IsLatched, IsAsserted};
 ghost use Rattle.em_eeprom.specs.Eeprom.{IsEeprom};
-ghost use Rattle.em_rx.specs.Fifo.{first, last};
+ghost use Rattle.em_pins.specs.Pins.{eecd};
+ghost use Rattle.em_rx.specs.Fifo.{first, last, octets_in};
 ghost use Rattle.em_rx.specs.StoredFrame.{LiesSo};
 ghost use Rattle.em_step.specs.State.{status};
-ghost use Rattle.em_step.specs.Access.{gives, after_write_by, after_eerd_write};
-ghost use Rattle.em_step.specs.Access.{is_reset_by, reset};
-ghost use Rattle.em_step.specs.Cells.{fresh, shows, MorePages};
+ghost use Rattle.em_step.specs.Access.{gives, after_write_by, after_eerd_write, after_phy_command};
+ghost use Rattle.em_step.specs.Access.{after_pins_write, command_cause, is_reset_by, reset};
+ghost use Rattle.em_step.specs.Cells.{cells_without, fresh, fresh_as, shows, MorePages};
 ghost use Rattle.em_step.specs.Event.{links, plain, pokes, reads, writes};
 ghost use Rattle.em_mem.specs.OldOctets.{OldOctets};
 ghost use Rattle.em_step.specs.Performed.{PerformedPlainly, WasPerformed, WasRefused};
@@ -29,7 +30,9 @@ use bitflags::Flags;
 use em_eeprom::Eeprom;
 use em_latch::Latches;
 use em_mem::{GuestMemory, MemRefusal, OldOctets, Reversible, Saved, Spares};
-use em_regs::{Causes, Ctrl, Eerd, Kind, Reg, RegFile, RegUndo, Status};
+use em_phy::{Phy, asks_for_interrupt};
+use em_pins::Pins;
+use em_regs::{Causes, Ctrl, Eerd, Kind, Profile, Reg, RegFile, RegUndo, Status};
 use em_rx::{Fifo, Places, StoredFrame};
 use em_tx::{Change, Gather, TxUndo, Wire, take_back};
 use std::alloc::{AllocError, Global};
@@ -48,6 +51,9 @@ pub struct Adapter {
     pub(crate) wire: Wire,
     eeprom: Eeprom,
     pub(crate) link: bool,
+    profile: Profile,
+    pins: Pins,
+    phy: Phy,
     // what was let go serves the next record
     spare_resets: Spares<BeforeReset>,
 }
@@ -68,6 +74,9 @@ impl Model for Adapter {
       wire = a.wire;
       eeprom = a.eeprom;
       link = a.link;
+      profile = a.profile;
+      pins = a.pins;
+      phy = a.phy;
     } };
 
     ghost use Rattle.em_eeprom.specs.Eeprom.{IsEeprom};
@@ -86,7 +95,7 @@ impl Adapter {
         ensures refused { IfErr result (λ e. (e ≡ MemRefusal.Size) ↔ (IsMemorySize size → ⊥)) }
     {
         let memory = GuestMemory::new(alloc, size)?;
-        Adapter::over(alloc, memory, eeprom)
+        Adapter::over(alloc, Profile::Table, memory, eeprom)
     }
 
     /// An adapter after a reset, over a guest memory of `size` octets from `base` on that are all zero.
@@ -98,13 +107,34 @@ impl Adapter {
         ensures memory { IfErr result (λ e. e ≡ MemRefusal.Memory → IsMemoryRange base size) }
         ensures refused { IfErr result (λ e. (e ≡ MemRefusal.Size) ↔ (IsMemoryRange base size → ⊥)) }
     {
+        Adapter::at_as(alloc, Profile::Table, base, size, eeprom)
+    }
+
+    /// The same, of a profile.
+    pub fn at_as(
+        alloc: Global,
+        profile: Profile,
+        base: u64,
+        size: u64,
+        eeprom: Eeprom,
+    ) -> Result<Adapter, MemRefusal>
+        ensures ok { IfOk result (λ adapter. adapter ≡ fresh_as profile base size eeprom) }
+        ensures size { OnOk result (IsMemoryRange base size) }
+        ensures memory { IfErr result (λ e. e ≡ MemRefusal.Memory → IsMemoryRange base size) }
+        ensures refused { IfErr result (λ e. (e ≡ MemRefusal.Size) ↔ (IsMemoryRange base size → ⊥)) }
+    {
         let memory = GuestMemory::at(alloc, base, size)?;
-        Adapter::over(alloc, memory, eeprom)
+        Adapter::over(alloc, profile, memory, eeprom)
     }
 
     /// An adapter after a reset, over this guest memory.
-    fn over(alloc: Global, memory: GuestMemory, eeprom: Eeprom) -> Result<Adapter, MemRefusal>
-        ensures ok { IfOk result (λ adapter. adapter ≡ record (fresh 0 0 eeprom) { memory = memory }) }
+    fn over(
+        alloc: Global,
+        profile: Profile,
+        memory: GuestMemory,
+        eeprom: Eeprom,
+    ) -> Result<Adapter, MemRefusal>
+        ensures ok { IfOk result (λ adapter. adapter ≡ record (fresh_as profile 0 0 eeprom) { memory = memory }) }
         ensures refused { IfErr result (λ e. e ≡ MemRefusal.Memory) }
     {
         let Ok(fifo) = Fifo::new(alloc) else {
@@ -124,16 +154,54 @@ impl Adapter {
             wire: Wire::new(alloc),
             eeprom,
             link: false,
+            profile,
+            pins: Pins::new(),
+            phy: Phy::new(),
             spare_resets,
         })
     }
 
-    /// What a read of the register at an offset would give, with nothing cleared; none where no
-    /// register lies there.
-    pub fn look(&self, offset: u32) -> Option<u32>
-        ensures { result ≡ option_map (gives (shows self.now)) (reg_at offset) }
+    /// The same adapter once more, over a guest memory of its own.
+    pub fn copy(&self) -> Result<Adapter, AllocError>
+        ensures { IfOk result (λ copy. copy ≡ self.now) }
     {
-        let reg = Reg::of_offset(offset)?;
+        let memory = self.memory.copy()?;
+        let registers = Box::new(self.alloc, self.registers.copy())?;
+        let fifo = self.fifo.copy()?;
+        let gather = self.gather.copy()?;
+        let wire = self.wire.copy()?;
+        let spare_resets = Spares::new(self.alloc)?;
+        Ok(Adapter {
+            alloc: self.alloc,
+            memory,
+            registers,
+            latches: self.latches.copy(),
+            fifo,
+            gather,
+            wire,
+            eeprom: self.eeprom,
+            link: self.link,
+            profile: self.profile,
+            pins: self.pins,
+            phy: self.phy.copy(),
+            spare_resets,
+        })
+    }
+
+    /// Which profile it is of.
+    #[inline(always)]
+    pub fn profile(&self) -> Profile
+        ensures { result ≡ self.now.profile }
+    {
+        self.profile
+    }
+
+    /// What a read of the register at an offset would give, with nothing cleared; none where its profile has no
+    /// register there.
+    pub fn look(&self, offset: u32) -> Option<u32>
+        ensures { result ≡ option_map (gives (shows self.now)) (reg_of (shows self.now).profile offset) }
+    {
+        let reg = Reg::of_offset_in(self.profile(), offset)?;
         Some(self.shown(reg))
     }
 
@@ -175,6 +243,13 @@ impl Adapter {
         self.fifo.frames()
     }
 
+    /// How many stored octets have room in the FIFO.
+    pub fn room(&self) -> usize
+        ensures { octets_in (shows self.now).fifo + result ≡ 49_152 }
+    {
+        self.fifo.room()
+    }
+
     /// The first frame of the FIFO, as it lies there; none where no frame waits.
     pub fn first_frame(&self) -> Option<StoredFrame<'_>>
         ensures none { IsNone result ↔ (length (shows self.now).fifo.frames ≡ 0) }
@@ -196,6 +271,14 @@ impl Adapter {
         ensures { result ≡ length (shows self.now).wire }
     {
         self.wire.len()
+    }
+
+    /// Lets go of the octets of the first frames that were sent: these are empty from then on, and are still counted.
+    pub fn let_frames_go(&mut self, count: usize)
+        requires { count ≤ length (shows self.old).wire }
+        ensures { self.new ≡ cells_without count self.old }
+    {
+        self.wire.let_go(count);
     }
 
     /// The octets of a frame that was sent, the first one at 0; none where so many were not sent.
@@ -264,20 +347,8 @@ impl Adapter {
         ensures err { IfErr result (WasRefused self.old (plain event.entry) self.new) }
     {
         match event {
-            Event::Read(offset) => {
-                let Some(reg) = Reg::of_offset(offset) else {
-                    return Err(Refusal::NoRegister);
-                };
-                let (value, record) = self.read_register(reg);
-                Ok((Answer::Value(value), record))
-            }
-            Event::Write(offset, value) => {
-                let Some(reg) = Reg::of_offset(offset) else {
-                    return Err(Refusal::NoRegister);
-                };
-                let record = self.write_register(reg, value)?;
-                Ok((Answer::Done, record))
-            }
+            Event::Read(offset) => self.read_at(offset),
+            Event::Write(offset, value) => self.write_at(offset, value),
             Event::Poke(addr, octets) => self.poke(addr, octets, old),
             Event::Arrive(frame) => self.arrive(frame, old),
             Event::Link(up) => self.set_link(up),
@@ -286,16 +357,63 @@ impl Adapter {
         }
     }
 
+    /// Software reads at an offset.
+    fn read_at(&mut self, offset: u32) -> Result<(Answer, Record), Refusal>
+        ensures ok { IfOk result (λ r. PerformedPlainly self.old (reads offset) self.new r.0 r.1) }
+        ensures err { IfErr result (WasRefused self.old (reads offset) self.new) }
+        ensures same { OnErr result (self.new ≡ self.old) }
+    {
+        match Reg::of_offset_in(self.profile(), offset) {
+            Some(reg) => {
+                let (value, record) = self.read_register(reg);
+                Ok((Answer::Value(value), record))
+            }
+            None => Ok((Answer::Value(0), self.access_none(offset)?)),
+        }
+    }
+
+    /// Software writes a value at an offset.
+    fn write_at(&mut self, offset: u32, value: u32) -> Result<(Answer, Record), Refusal>
+        ensures ok { IfOk result (λ r. PerformedPlainly self.old (writes offset value) self.new r.0 r.1) }
+        ensures err { IfErr result (WasRefused self.old (writes offset value) self.new) }
+        ensures same { OnErr result (self.new ≡ self.old) }
+    {
+        match Reg::of_offset_in(self.profile(), offset) {
+            Some(reg) => Ok((Answer::Done, self.write_register(reg, value)?)),
+            None => Ok((Answer::Done, self.access_none(offset)?)),
+        }
+    }
+
+    /// Software reads or writes at an offset where no register lies: a read gives 0, and nothing changes. Refused as
+    /// NoRegister where the adapter's profile does not answer there.
+    #[inline(never)]
+    pub fn access_none(&self, offset: u32) -> Result<Record, Refusal>
+        requires { reg_of self.now.profile offset ≡ None }
+        ensures read { IfOk result (PerformedPlainly self.now (reads offset) self.now (Answer.Value 0)) }
+        ensures write { IfOk result (λ r. (v : ℕ) →
+            PerformedPlainly self.now (writes offset v) self.now Answer.Done r) }
+        ensures unread { IfErr result (WasRefused self.now (reads offset) self.now) }
+        ensures unwritten { IfErr result (λ e. (v : ℕ) → WasRefused self.now (writes offset v) self.now e) }
+    {
+        if self.profile().answers_at(offset) {
+            Ok(Record::of_effect(Effect::Nothing))
+        } else {
+            Err(Refusal::NoRegister)
+        }
+    }
+
     /// Software reads a register: the event of a read at its offset.
     #[inline(always)]
     pub fn read_register(&mut self, reg: Reg) -> (u32, Record)
-        requires { IsReg reg }
+        requires { IsRegOf self.old.profile reg }
         ensures { PerformedPlainly self.old (reads (offset_of reg)) self.new (Answer.Value result.0) result.1 }
     {
         match reg.row().kind {
             Kind::Stored | Kind::Control | Kind::EepromRead => self.read_stored(reg),
             Kind::Interrupt | Kind::Counter => self.read_latched(reg),
             Kind::Status => (self.status(), Record::of_effect(Effect::Nothing)),
+            Kind::EepromPins => (self.told_by_pins(), Record::of_effect(Effect::Nothing)),
+            Kind::PhyCommand => (self.phy.read(), Record::of_effect(Effect::Nothing)),
         }
     }
 
@@ -303,7 +421,7 @@ impl Adapter {
     /// where it is a reset.
     #[inline(always)]
     pub fn write_register(&mut self, reg: Reg, value: u32) -> Result<Record, Refusal>
-        requires { IsReg reg }
+        requires { IsRegOf self.old.profile reg }
         ensures ok { IfOk result (PerformedPlainly self.old (writes (offset_of reg) value) self.new Answer.Done) }
         ensures err { IfErr result (WasRefused self.old (writes (offset_of reg) value) self.new) }
         ensures same { OnErr result (self.new ≡ self.old) }
@@ -314,13 +432,16 @@ impl Adapter {
             Kind::EepromRead => Ok(Record::of_effect(Effect::Register(self.write_eerd(value)))),
             Kind::Interrupt | Kind::Counter => Ok(self.write_latched(reg, value)),
             Kind::Status => Ok(Record::of_effect(Effect::Nothing)),
+            Kind::EepromPins => Ok(self.write_pins(value)),
+            Kind::PhyCommand => Ok(self.command_phy(value)),
         }
     }
 
     /// Software reads a register that stores what is written: nothing changes.
     #[inline(always)]
     pub fn read_stored(&mut self, reg: Reg) -> (u32, Record)
-        requires { IsStored reg }
+        requires stored { IsStored reg }
+        requires has { IsTrue (has_reg self.old.profile reg) }
         ensures { PerformedPlainly self.old (reads (offset_of reg)) self.new (Answer.Value result.0) result.1 }
     {
         (self.registers.look(reg), Record::of_effect(Effect::Nothing))
@@ -329,10 +450,12 @@ impl Adapter {
     /// Software writes a value to a register that stores it and does nothing else.
     #[inline(always)]
     pub fn write_stored(&mut self, reg: Reg, value: u32) -> Record
-        requires { OnlyStores reg }
+        requires only { OnlyStores reg }
+        requires has { IsTrue (has_reg self.old.profile reg) }
         ensures { PerformedPlainly self.old (writes (offset_of reg) value) self.new Answer.Done result }
     {
-        Record::of_effect(Effect::Register(self.registers.put(reg, value)))
+        let old = self.registers.put_in(self.profile, reg, value);
+        Record::of_effect(Effect::Register(old))
     }
 
     /// Software reads an interrupt register or a counter.
@@ -340,6 +463,7 @@ impl Adapter {
     pub fn read_latched(&mut self, reg: Reg) -> (u32, Record)
         requires reg { IsReg reg }
         requires latched { IsLatched reg }
+        requires has { IsTrue (has_reg self.old.profile reg) }
         ensures { PerformedPlainly self.old (reads (offset_of reg)) self.new (Answer.Value result.0) result.1 }
     {
         let (value, words) = self.latches.read(reg);
@@ -351,6 +475,7 @@ impl Adapter {
     pub fn write_latched(&mut self, reg: Reg, value: u32) -> Record
         requires reg { IsReg reg }
         requires latched { IsLatched reg }
+        requires has { IsTrue (has_reg self.old.profile reg) }
         ensures { PerformedPlainly self.old (writes (offset_of reg) value) self.new Answer.Done result }
     {
         Record::of_latches(self.latches.write(reg, value))
@@ -372,7 +497,8 @@ impl Adapter {
             let before = self.reset()?;
             Ok(Record::of_effect(Effect::Reset(before)))
         } else {
-            Ok(Record::of_effect(Effect::Register(self.registers.put(reg, value))))
+            let written = self.registers.put_in(self.profile, reg, value);
+            Ok(Record::of_effect(Effect::Register(written)))
         }
     }
 
@@ -388,6 +514,27 @@ impl Adapter {
         } else {
             self.registers.put(Reg::Eerd, value)
         }
+    }
+
+    /// Writes EECD. The record has what a read of it gave.
+    fn write_pins(&mut self, value: u32) -> Record
+        ensures state { shows self.new ≡ after_pins_write (shows self.old) value }
+        ensures cost { (o : OldOctets) → cost_of (undo_of result o) ≡ least_cost }
+        ensures reverses { ReversesPlainly self.old self.new result }
+    {
+        let told = self.told_by_pins();
+        Record::of_effect(Effect::Pins(self.pins.write(value), told))
+    }
+
+    /// Writes MDIC: a command to the PHY, which is done at once.
+    fn command_phy(&mut self, value: u32) -> Record
+        ensures state { shows self.new ≡ after_phy_command (shows self.old) value }
+        ensures cost { (o : OldOctets) → cost_of (undo_of result o) ≡ least_cost }
+        ensures reverses { ReversesPlainly self.old self.new result }
+    {
+        let latches = self.latches.raise(command_cause(value));
+        let effect = Effect::Phy(self.phy.write(self.link, value));
+        Record { latches, effect }
     }
 
     /// Takes an event back. It takes no memory.
@@ -423,6 +570,8 @@ impl Adapter {
             } => self.take_back_receiving(&piece_of(high, word, low, end, rest), old),
             Effect::TxStep(change, head) => self.take_back_sending(change, head),
             Effect::Link(old) => self.link = old,
+            Effect::Pins(old, _) => self.pins.take_back(old),
+            Effect::Phy(old) => self.phy.take_back(old),
             // what it put aside has every word of the latches
             Effect::Reset(old) => self.take_back_reset(old),
         }
@@ -489,7 +638,16 @@ impl Adapter {
             Kind::Stored | Kind::Control | Kind::EepromRead => self.registers.look(reg),
             Kind::Interrupt | Kind::Counter => self.latches.look(reg),
             Kind::Status => self.status(),
+            Kind::EepromPins => self.told_by_pins(),
+            Kind::PhyCommand => self.phy.read(),
         }
+    }
+
+    /// What EECD gives.
+    fn told_by_pins(&self) -> u32
+        ensures { result ≡ eecd self.now.eeprom self.now.pins }
+    {
+        self.pins.read(&self.eeprom)
     }
 
     /// What STATUS gives (this project's profile): full duplex, 1,000 Mb/s, and whether the link is up.
@@ -558,6 +716,17 @@ impl Adapter {
         let latches = self.latches.raise(Causes::LSC.bits());
         let effect = Effect::Link(std::mem::replace(&mut self.link, up));
         Ok((Answer::Done, Record { latches, effect }))
+    }
+}
+
+/// What a command in MDIC raises.
+fn command_cause(value: u32) -> u32
+    ensures { result ≡ command_cause value }
+{
+    if asks_for_interrupt(value) {
+        Causes::MDAC.bits()
+    } else {
+        0
     }
 }
 

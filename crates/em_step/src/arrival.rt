@@ -1,10 +1,11 @@
 //! What becomes of a frame that arrives (manual, chapter on receive description).
-ghost use Rattle.std.specs.Prelude.{◌≡◌, ◌+◌, ◌≤◌, IfOk, IfErr, OnOk, OnErr, Ok, length, not, false, []};
+ghost use Rattle.std.specs.Prelude.{◌≡◌, ◌+◌, ◌≤◌, IfOk, IfErr, OnOk, OnErr, Ok, length, not, false, [], if◌then◌else◌};
 ghost use Rattle.em_mem.specs.OldOctets.{Keeps, OldOctets as Octets};
 ghost use Rattle.em_rx.specs.Frame.{len_of};
 ghost use Rattle.em_rx.specs.Records.{frame_patch};
 ghost use Rattle.em_step.specs.Arrival.{after_accept, after_miss, after_one_more, admission, arrival, judged};
-ghost use Rattle.em_step.specs.Arrival.{is_enabled, kept_frame, lacks_buffer, lacks_room, octets_stored};
+ghost use Rattle.em_step.specs.Arrival.{is_enabled, keeps_sequence, kept_frame, lacks_buffer, lacks_room};
+ghost use Rattle.em_step.specs.Arrival.{octets_stored};
 ghost use Rattle.em_step.specs.Arrival.{takes_broadcasts};
 ghost use Rattle.em_step.specs.Cells.{shows};
 ghost use Rattle.em_step.specs.Cost.{cost_of, least_cost};
@@ -16,13 +17,14 @@ use crate::adapter::Adapter;
 use crate::counts::{count_frame, count_miss};
 use crate::event::{Answer, Reason};
 use crate::refusal::Refusal;
+use crate::sequence::store_kept;
 use crate::undo::{Effect, Record};
 use bitflags::Flags;
 use em_address::Kind;
 use em_filter::{CHECK_OCTETS, Verdict, tagged, verdict};
 use em_latch::Counter;
 use em_mem::{OldOctets, Saved};
-use em_regs::{Rctl, Reg};
+use em_regs::{Profile, Rctl, Reg};
 use em_rx::OldFrame;
 
 /// The fewest octets that a frame can arrive with, and the most.
@@ -136,17 +138,48 @@ impl Adapter {
         self.registers.look(Reg::Rdh) == self.registers.look(Reg::Rdt)
     }
 
-    /// The FIFO has room for a frame as it is stored: a tagged one without its tag.
+    /// RCTL.SECRC strips the frame check sequence in the second profile; the first one never stores it.
+    fn keeps_sequence(&self) -> bool
+        ensures { result ≡ keeps_sequence (shows self.now) }
+    {
+        matches!(self.profile(), Profile::Adapter)
+            && !Rctl::from_bits_retain(self.registers.look(Reg::Rctl)).contains(Rctl::SECRC)
+    }
+
+    /// The FIFO has room for a frame as it is stored.
     fn has_room(&self, frame: &[u8]) -> bool
-        requires { 60 ≤ length frame.now }
+        requires least { 60 ≤ length frame.now }
+        requires most { length frame.now ≤ 16_380 }
         ensures { result ≡ not (lacks_room (shows self.now) frame.now) }
     {
-        let taken = if tagged(&self.registers, frame) {
-            TAG_OCTETS
+        self.fifo.has_room(self.stored_len(frame))
+    }
+
+    /// How many octets a frame has as it is stored: a tagged one without its tag, and with its check sequence where
+    /// that is kept.
+    #[tactic(auto, using(crate::proofs::ArrivalLaws::kept_len))]
+    fn stored_len(&self, frame: &[u8]) -> usize
+        requires least { 60 ≤ length frame.now }
+        requires most { length frame.now ≤ 16_380 }
+        ensures { result ≡ len_of (kept_frame (shows self.now) frame.now) }
+    {
+        let octets = frame.len() + self.check_octets();
+        if tagged(&self.registers, frame) {
+            octets - TAG_OCTETS
+        } else {
+            octets
+        }
+    }
+
+    /// How many octets of its check sequence are stored with a frame.
+    fn check_octets(&self) -> usize
+        ensures { result ≡ (if keeps_sequence (shows self.now) then 4 else 0) }
+    {
+        if self.keeps_sequence() {
+            CHECK_OCTETS
         } else {
             0
-        };
-        self.fifo.has_room(frame.len() - taken)
+        }
     }
 
     /// Steps a counter by one.
@@ -187,7 +220,9 @@ impl Adapter {
         ensures saved { OnErr result (old.new ≡ old.old) }
     {
         let is_tagged = tagged(&self.registers, frame);
-        let Ok(replaced) = self.fifo.store(frame, is_tagged, old) else {
+        let is_kept = self.keeps_sequence();
+        let Ok(replaced) = store_kept(self.alloc, &mut self.fifo, frame, is_kept, is_tagged, old)
+        else {
             return Err(Refusal::Memory);
         };
         let broadcasts = self.takes_broadcasts();

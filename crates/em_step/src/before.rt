@@ -10,7 +10,7 @@ ghost use Rattle.em_step.specs.Access.{gives};
 ghost use Rattle.em_step.specs.Before.{LeavesUpTo, PutsBack, PutsBackGathered, PutsBackWindow, TakesOffWire};
 ghost use Rattle.em_step.specs.Before.{WroteOnly, frames_before, gathered_before, has_sent, written};
 ghost use Rattle.em_step.specs.Before.{latched_before, link_before, next_octet, octets_before, register_before};
-ghost use Rattle.em_step.specs.Before.{status_before, stored_before};
+ghost use Rattle.em_step.specs.Before.{mdic_before, pins_before, status_before, stored_before};
 ghost use Rattle.em_step.specs.Undo.{IsPlaced, held, past_of, word};
 
 use crate::adapter::status_of;
@@ -136,6 +136,18 @@ impl<'a> Past<'a> {
         self.has_sent()
     }
 
+    /// How many frames were sent before the event, where `now` are sent behind it.
+    #[inline(always)]
+    pub fn sent_before(&self, now: usize) -> usize
+        ensures { PutsBack self.now (λ s. length s.wire) now result }
+    {
+        if self.takes_off_wire() {
+            now.saturating_sub(1)
+        } else {
+            now
+        }
+    }
+
     /// What a register was, by the kind of its row.
     #[inline(always)]
     fn register_told(&self, reg: Reg, now: u32) -> u32
@@ -146,6 +158,8 @@ impl<'a> Past<'a> {
             Kind::Stored | Kind::Control | Kind::EepromRead => self.stored_told(reg, now),
             Kind::Interrupt | Kind::Counter => self.latched_told(reg, now),
             Kind::Status => self.status_told(now),
+            Kind::EepromPins => self.pins_told(now),
+            Kind::PhyCommand => self.mdic_told(now),
         }
     }
 
@@ -178,7 +192,12 @@ impl<'a> Past<'a> {
             }
             Effect::TxStep(_, head) => head_before(reg, Reg::Tdh, *head, now),
             Effect::Reset(old) => old.registers.look(reg),
-            Effect::Nothing | Effect::Octets { .. } | Effect::Arrival(..) | Effect::Link(_) => now,
+            Effect::Nothing
+            | Effect::Octets { .. }
+            | Effect::Arrival(..)
+            | Effect::Link(_)
+            | Effect::Pins(..)
+            | Effect::Phy(_) => now,
         }
     }
 
@@ -189,6 +208,28 @@ impl<'a> Past<'a> {
     {
         match &self.record.effect {
             Effect::Link(up) => status_of(*up),
+            _ => now,
+        }
+    }
+
+    /// What EECD was.
+    #[inline(always)]
+    fn pins_told(&self, now: u32) -> u32
+        ensures { result ≡ pins_before self.now.effect now }
+    {
+        match &self.record.effect {
+            Effect::Pins(_, told) => *told,
+            _ => now,
+        }
+    }
+
+    /// What MDIC was.
+    #[inline(always)]
+    fn mdic_told(&self, now: u32) -> u32
+        ensures { result ≡ mdic_before self.now.effect now }
+    {
+        match &self.record.effect {
+            Effect::Phy(old) => old.mdic(),
             _ => now,
         }
     }

@@ -6,6 +6,8 @@ ghost use Rattle.em_step.specs.Undo.{held};
 use crate::packed::len_of;
 use em_latch::{LatchUndo, Latches};
 use em_mem::OldOctets;
+use em_phy::PhyUndo;
+use em_pins::PinsUndo;
 use em_regs::{RegFile, RegUndo};
 use em_rx::{OldFrame, Places};
 use em_tx::{Change, TxUndo};
@@ -62,6 +64,10 @@ pub enum Effect {
     TxStep(Change, u32),
     /// The link.
     Link(bool),
+    /// The pins of EECD, and what a read of it gave.
+    Pins(PinsUndo, u32),
+    /// MDIC, and a word of the PHY.
+    Phy(PhyUndo),
     /// All that a reset put aside, the latches among it.
     Reset(Box<BeforeReset>),
 }
@@ -106,7 +112,11 @@ impl Record {
         ensures least { least_cost ≤ result }
     {
         match &self.effect {
-            Effect::Nothing | Effect::Register(_) | Effect::Link(_) => LEAST_COST,
+            Effect::Nothing
+            | Effect::Register(_)
+            | Effect::Link(_)
+            | Effect::Pins(..)
+            | Effect::Phy(_) => LEAST_COST,
             Effect::Octets { len, .. } => LEAST_COST + u32::from(*len),
             Effect::Arrival(frame, _) => LEAST_COST + frame.len() as u32,
             Effect::RxStep { word, .. } => LEAST_COST + (u32::from(len_of(*word)) + 8),

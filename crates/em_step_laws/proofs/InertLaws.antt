@@ -14,9 +14,10 @@ use Rattle.em_regs.specs.RegFile as registers
 use Rattle.em_regs.specs.RegFile.{at}
 use Rattle.em_regs.specs.Setup.{has, rx_setup, tx_setup, value_of}
 use Rattle.em_regs.specs.Storage.{Registers}
-use Rattle.em_regs.specs.Table.{mask_of, offset_of, reg_at, row_of}
+use Rattle.em_regs.specs.Table.{answers_at, mask_in, mask_of, offset_of, reg_of, row_of}
 use Rattle.em_regs.specs.declared.table.Kind.{Kind}
 use Rattle.em_regs.specs.declared.table.Kind.TheVariants.{Stored as StoredKind, Control, EepromRead, Status, Interrupt, Counter}
+use Rattle.em_regs.specs.declared.table.Kind.TheVariants.{EepromPins, PhyCommand}
 use Rattle.em_regs.proofs.Entries.{at-insert}
 use Rattle.em_latch.specs.Latches as latches
 use Rattle.em_eeprom.specs.Eeprom.{mac_of, word_at}
@@ -43,18 +44,19 @@ use Rattle.em_tx.specs.declared.refusal.TxRefusal.{TxRefusal}
 use Rattle.em_step.specs.Access.{after_eeprom_read, after_link, after_store, after_write, after_write_by, differ}
 use Rattle.em_step.specs.Access.{eerd_address, is_reset_by, reset}
 use Rattle.em_step.specs.Access as access
-use Rattle.em_step.specs.Arrival.{admission, arrival, is_enabled, judgement}
+use Rattle.em_step.specs.Arrival.{admission, arrival, is_enabled, judgement, keeps_sequence, kept_frame}
+use Rattle.em_step.specs.Arrival.{with_sequence}
 use Rattle.em_step.specs.Counts.{after_buffer_count, after_frame_count, after_miss_count}
 use Rattle.em_step.specs.Engines.{after_rx_answer, after_tx_answer, rx_step, rx_stepped, sending, tx_step, tx_stepped}
 use Rattle.em_step.specs.Engines.{with_outcome, with_shown}
 use Rattle.em_step.specs.Event.{Event, reads, writes, pokes, arrives, links, receives, transmits}
 use Rattle.em_step_laws.specs.Inert.{AgreeInRules, Alike, IsNoRead}
-use Rattle.em_step.specs.State.{State}
-use Rattle.em_step.specs.Step.{at_register, step}
+use Rattle.em_step.specs.State.{State, is_adapter}
+use Rattle.em_step.specs.Step.{at_none, at_register, step}
 use Rattle.em_step.specs.declared.event.Answer.{Answer}
 use Rattle.em_step.specs.declared.event.Answer.TheVariants.{Done, Stored, Dropped}
 use Rattle.em_step.specs.declared.event.Reason.TheVariants.{Down, Disabled, Missed}
-use Rattle.em_step.specs.declared.refusal.Refusal.TheVariants.{Range, Length}
+use Rattle.em_step.specs.declared.refusal.Refusal.TheVariants.{NoRegister, Range, Length}
 
 -- the state with other registers
 abbrev with_registers : State → Registers → State
@@ -73,6 +75,7 @@ agree_same m = record {
   bsize = refl;
   vfe = refl;
   bsex = refl;
+  secrc = refl;
   tx_en = refl;
   psp = refl;
   vet = refl;
@@ -119,6 +122,7 @@ agree_on m n o v h =
       bsize = kept (λ x. x / 2 ^ 16 % 4) m n o v (offset_of Rctl) h.bsize;
       vfe = kept (λ x. has x (2 ^ 18)) m n o v (offset_of Rctl) h.vfe;
       bsex = kept (λ x. has x 0x0200_0000) m n o v (offset_of Rctl) h.bsex;
+      secrc = kept (λ x. has x 0x0400_0000) m n o v (offset_of Rctl) h.secrc;
       tx_en = kept (λ x. has x 0x2) m n o v (offset_of Tctl) h.tx_en;
       psp = kept (λ x. has x 0x8) m n o v (offset_of Tctl) h.psp;
       vet = whole Vet h.vet;
@@ -207,7 +211,8 @@ alike_state s n answer h = (refl, (n, refl, h))
 store_alike : (s : State) (n : Registers) (reg : Reg) (v : ℕ) → AgreeInRules s.registers n
     → Alike (Ok (Done, after_store s reg v)) (Ok (Done, after_store (with_registers s n) reg v))
 store_alike s n reg v h =
-    (refl, (registers.put n reg v, refl, agree_on s.registers n (offset_of reg) (bit_and v (mask_of reg)) h))
+    let kept : ℕ = bit_and v (mask_in s.profile reg) in
+    (refl, (registers.put_in s.profile n reg v, refl, agree_on s.registers n (offset_of reg) kept h))
 
 eerd_alike : (s : State) (n : Registers) (v : ℕ) (start : Bool) → AgreeInRules s.registers n
     → Alike (Ok (Done, if start then after_eeprom_read s (eerd_address v) else after_store s Eerd v))
@@ -238,16 +243,24 @@ write_by s n reg v EepromRead h = eerd_alike s n v (access.has v 0x1) h
 write_by s n reg v Status h = alike_state s n Done h
 write_by s n reg v Interrupt h = (refl, (n, refl, h))
 write_by s n reg v Counter h = (refl, (n, refl, h))
+write_by s n reg v EepromPins h = (refl, (n, refl, h))
+write_by s n reg v PhyCommand h = (refl, (n, refl, h))
 
 write_alike : (s : State) (n : Registers) (reg : Reg) (v : ℕ) → AgreeInRules s.registers n
     → Alike (Ok (Done, after_write s reg v)) (Ok (Done, after_write (with_registers s n) reg v))
 write_alike s n reg v h = write_by s n reg v (row_of reg).kind h
 
-written_by : (s : State) (n : Registers) (v : ℕ) (there : Option Reg) → AgreeInRules s.registers n
-    → Alike (at_register there (λ reg. (Done, after_write s reg v)))
-    (at_register there (λ reg. (Done, after_write (with_registers s n) reg v)))
-written_by s n v None h = refl
-written_by s n v (Some reg) h = write_alike s n reg v h
+unheard_by : (s : State) (n : Registers) (answers : Bool) → AgreeInRules s.registers n
+    → Alike (if answers then Ok (Done, s) else Err NoRegister)
+    (if answers then Ok (Done, with_registers s n) else Err NoRegister)
+unheard_by s n true h = (refl, (n, refl, h))
+unheard_by s n false h = refl
+
+written_by : (s : State) (n : Registers) (o v : ℕ) (there : Option Reg) → AgreeInRules s.registers n
+    → Alike (at_register there (λ reg. (Done, after_write s reg v)) (at_none s o Done))
+    (at_register there (λ reg. (Done, after_write (with_registers s n) reg v)) (at_none (with_registers s n) o Done))
+written_by s n o v None h = unheard_by s n (answers_at s.profile o) h
+written_by s n o v (Some reg) h = write_alike s n reg v h
 
 linked_by : (s : State) (n : Registers) (up changes : Bool) → AgreeInRules s.registers n
     → Alike (Ok (Done, if changes then record s { link = up; latches = latches.after_raise s.latches 0x4 } else s))
@@ -295,15 +308,16 @@ admission_alike : (s : State) (n : Registers) (f : List ℕ) (kind : Destination
 admission_alike s n f kind h =
     let m : Registers = s.registers in
     let t : State = with_registers s n in
-    let frame : Bool → Frame = λ tag. stored_frame f tag in
-    let full : Bool → Bool = λ tag. nat_lt 49_152 (octets_in s.fifo + len_of (frame tag)) in
+    let frame : Bool → Bool → Frame = λ keeps tag. stored_frame (with_sequence keeps f) tag in
+    let full : Frame → Bool = λ x. nat_lt 49_152 (octets_in s.fifo + len_of x) in
     let tag : tagged n f ≡ tagged m f = tagged_same m n f h in
-    let same : admission t f kind ≡ admitted t f kind (frame (tagged m f)) (has (rctl m) 0x8000)
-    (value_of m Rdh == value_of m Rdt) (full (tagged m f))
-    = λ i. admitted t f kind (frame (tag i)) (h.bam i) (h.rdh i == h.rdt i) (full (tag i)) in
+    let keeps : keeps_sequence t ≡ keeps_sequence s = λ i. is_adapter s.profile && not (h.secrc i) in
+    let same : admission t f kind ≡ admitted t f kind (kept_frame s f) (has (rctl m) 0x8000)
+    (value_of m Rdh == value_of m Rdt) (full (kept_frame s f))
+    = λ i. admitted t f kind (frame (keeps i) (tag i)) (h.bam i) (h.rdh i == h.rdt i) (full (frame (keeps i) (tag i))) in
     subst (λ x. Alike (Ok (admission s f kind)) (Ok x)) (sym same)
-    (admitted_alike s n f kind (frame (tagged m f)) (has (rctl m) 0x8000) (value_of m Rdh == value_of m Rdt)
-    (full (tagged m f)) h)
+    (admitted_alike s n f kind (kept_frame s f) (has (rctl m) 0x8000) (value_of m Rdh == value_of m Rdt)
+    (full (kept_frame s f)) h)
 
 judged_alike : (s : State) (n : Registers) (f : List ℕ) (v : Verdict) → AgreeInRules s.registers n
     → Alike (Ok (judgement s f v)) (Ok (judgement (with_registers s n) f v))
@@ -386,7 +400,7 @@ transmit_alike s n h =
 pub alike : (s : State) (n : Registers) (e : Event) → AgreeInRules s.registers n → IsNoRead e
     → Alike (step s e) (step (record s { registers = n }) e)
 alike s n (reads o) h noread = absurd noread
-alike s n (writes o v) h noread = written_by s n v (reg_at o) h
+alike s n (writes o v) h noread = written_by s n o v (reg_of s.profile o) h
 alike s n (pokes a d) h noread =
     poked_by s n a d (memory.leaves s.base s.memory a (length d)) (length d == 0 || nat_lt 16_384 (length d)) h
 alike s n (arrives f) h noread = sized_by s n f (nat_lt (length f) 14 || nat_lt 20_000 (length f)) h

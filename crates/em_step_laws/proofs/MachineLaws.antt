@@ -2,7 +2,8 @@
 use Rattle.std.proofs.Common.{ℕ, List, [], ◌∷◌, refl, sym, subst}
 use Rattle.std.specs.Prelude.{All}
 use Rattle.std.proofs.lemmas.List.Elements.{All-cons, All-head, All-nil, All-tail, All-take}
-use Rattle.em_step.specs.Cells.{fresh, shows}
+use Rattle.em_regs.specs.declared.profile.Profile.{Profile}
+use Rattle.em_step.specs.Cells.{fresh_as, shows}
 use Rattle.em_step.specs.Cost.{cost}
 use Rattle.em_step.specs.State.{State}
 use Rattle.em_journal.specs.History.{Call, performs, refuses, goes_back, is_empty, Does, Leads, Run}
@@ -21,6 +22,7 @@ call_reached : (v w : View) (call : Call) → Does v call w → AreReached v →
 call_reached v w (performs e answer) does h =
     let here = All-head IsReached v.present v.past h in
     let now : IsReached w.present = record {
+      profile = here.profile;
       base = here.base;
       size = here.size;
       eeprom = here.eeprom;
@@ -39,9 +41,9 @@ run_reached : (v w : View) (calls : List Call) → Run v calls w → AreReached 
 run_reached v w [] run h = subst AreReached (sym run) h
 run_reached v w (call ∷ calls) (m, does, run) h = run_reached m w calls run (call_reached v m call does h)
 
-pub machine_reached : (budget base size : ℕ) (eeprom : List ℕ) (calls : List Call) (v : View)
-    → Leads budget (shows (fresh base size eeprom)) calls v → All IsReached (states v)
-machine_reached budget base size eeprom calls v run =
-    let s : State = shows (fresh base size eeprom) in
-    let new : IsReached s = record { base = base; size = size; eeprom = eeprom; events = []; performed = refl } in
+pub machine_reached : (profile : Profile) (budget base size : ℕ) (eeprom : List ℕ) (calls : List Call) (v : View)
+    → Leads budget (shows (fresh_as profile base size eeprom)) calls v → All IsReached (states v)
+machine_reached profile budget base size eeprom calls v run =
+    let s : State = shows (fresh_as profile base size eeprom) in
+    let new : IsReached s = record { profile = profile; base = base; size = size; eeprom = eeprom; events = []; performed = refl } in
     run_reached (opening budget s) v calls run (All-cons IsReached s [] new (All-nil IsReached))

@@ -9,9 +9,10 @@ use Rattle.em_regs.specs.declared.reg.Reg.{Reg}
 use Rattle.em_regs.specs.declared.reg.Reg.TheVariants.{Eerd, Rdh, Rdlen, Tdh}
 use Rattle.em_regs.specs.declared.table.Kind.{Kind}
 use Rattle.em_regs.specs.declared.table.Kind.TheVariants.{Stored as StoredKind, Control, EepromRead}
-use Rattle.em_regs.specs.Table.{offset_of, reg_at, row_of}
+use Rattle.em_regs.specs.declared.profile.Profile.{Profile}
+use Rattle.em_regs.specs.Table.{answers_at, mask_in, offset_of, reg_of, row_of}
 use Rattle.em_regs.specs.RegFile as registers
-use Rattle.em_regs.specs.RegFile.{put, put_eerd, eerd_value}
+use Rattle.em_regs.specs.RegFile.{put, put_in, put_eerd, eerd_value}
 use Rattle.em_regs.specs.Setup.{rx_setup, value_of}
 use Rattle.em_regs.specs.Storage.{Registers}
 use Rattle.em_regs.proofs.Entries.{at-insert_other}
@@ -32,19 +33,19 @@ use Rattle.em_tx.specs.declared.refusal.TxRefusal.{TxRefusal}
 use Rattle.em_step.specs.Access.{after_eeprom_read, after_link, after_read, after_store, after_write, after_write_by}
 use Rattle.em_step.specs.Access.{differ, eerd_address, gives, has, is_reset_by, reset}
 use Rattle.em_step.specs.Arrival.{after_accept, after_miss, arrival, is_enabled, judged, judgement, lacks_room}
-use Rattle.em_step.specs.Cells.{fresh, shows}
+use Rattle.em_step.specs.Cells.{fresh_as, shows}
 use Rattle.em_step.specs.Engines.{after_rx_answer, after_tx_answer, received, rx_stepped, transmitted}
 use Rattle.em_step.specs.Engines.{tx_stepped, with_outcome, with_shown}
 use Rattle.em_step.specs.Event.{Event, reads, writes, pokes, arrives, links, receives, transmits}
 use Rattle.em_step_laws.specs.Reached.{ArePerformed, IsReached}
 use Rattle.em_step.specs.State.{State}
-use Rattle.em_step.specs.Step.{at_register, step}
+use Rattle.em_step.specs.Step.{at_none, at_register, step}
 use Rattle.em_step.specs.declared.event.Answer.{Answer}
 use Rattle.em_step.specs.declared.event.Answer.TheVariants.{Done, Dropped, Stored, Value}
 use Rattle.em_step.specs.declared.event.Reason.TheVariants.{Disabled, Down, Missed}
-use Rattle.em_step.specs.declared.refusal.Refusal.TheVariants.{Length, Range}
+use Rattle.em_step.specs.declared.refusal.Refusal.TheVariants.{Length, NoRegister, Range}
 use Rattle.em_step.proofs.ResetLaws.{stored_zero}
-use Rattle.em_step.proofs.SetupLaws.{put_other, put_same}
+use Rattle.em_step.proofs.SetupLaws.{put_same}
 
 -- RDLEN has no bit that its row does not keep
 abbrev KeepsLength : Registers → Type 0
@@ -64,10 +65,11 @@ length_kept m v =
     let most : bit_and v 0xF_FF80 ≤ 0xF_FF80 = and_le_r v 0xF_FF80 in
     omega (arith, len, most)
 
-put_keeps : (m : Registers) (reg : Reg) (v : ℕ) → KeepsLength m → KeepsLength (put m reg v)
-put_keeps m reg v few = elim (other_than_length reg) [
-  | inl same ↦ subst (λ r. KeepsLength (put m r v)) (sym same) (length_kept m v)
-  | inr other ↦ subst (λ n. n ≤ 0xF_FF80) (sym (put_other m reg Rdlen v other)) few
+put_keeps : (p : Profile) (m : Registers) (reg : Reg) (v : ℕ) → KeepsLength m → KeepsLength (put_in p m reg v)
+put_keeps p m reg v few = elim (other_than_length reg) [
+  | inl same ↦ subst (λ r. KeepsLength (put_in p m r v)) (sym same) (length_kept m v)
+  | inr other ↦ subst (λ n. n ≤ 0xF_FF80)
+      (sym (at-insert_other m (offset_of reg) (bit_and v (mask_in p reg)) (offset_of Rdlen) other)) few
 ]
 
 eerd_keeps : (m : Registers) (a w : ℕ) → KeepsLength m → KeepsLength (put_eerd m a w)
@@ -87,24 +89,30 @@ either_keeps false s t here there = there
 
 write_keeps : (kind : Kind) (s : State) (reg : Reg) (v : ℕ) → KeepsLength s.registers
     → KeepsLength (after_write_by kind s reg v).registers
-write_keeps StoredKind s reg v few = put_keeps s.registers reg v few
+write_keeps StoredKind s reg v few = put_keeps s.profile s.registers reg v few
 write_keeps Control s reg v few =
     either_keeps (is_reset_by Control v) (reset s) (after_store s reg v) (reset_keeps (mac_of s.eeprom))
-    (put_keeps s.registers reg v few)
+    (put_keeps s.profile s.registers reg v few)
 write_keeps EepromRead s reg v few =
     either_keeps (has v 0x1) (after_eeprom_read s (eerd_address v)) (after_store s Eerd v)
     (eerd_keeps s.registers (eerd_address v) (word_at s.eeprom (eerd_address v)) few)
-    (put_keeps s.registers Eerd v few)
+    (put_keeps s.profile s.registers Eerd v few)
 write_keeps kind s reg v few = few
 
 read_keeps : (s : State) (reg : Reg) → KeepsLength s.registers → KeepsLength (after_read s reg).registers
 read_keeps s reg few = either_keeps (is_latched reg) _ s few few
 
 -- ---- events
-access_keeps : (found : Option Reg) (access : Reg → Answer × State) (r : Answer × State)
-    → ((reg : Reg) → Keeps (access reg)) → at_register found access ≡ Ok r → Keeps r
-access_keeps None access r all is = cc
-access_keeps (Some reg) access r all is = let same : access reg ≡ r = cc in subst Keeps same (all reg)
+none_keeps : (b : Bool) (s : State) (a : Answer) (r : Answer × State) → KeepsLength s.registers
+    → (if b then Ok (a, s) else Err NoRegister) ≡ Ok r → Keeps r
+none_keeps true s a r few is = let same : (a, s) ≡ r = cc in subst Keeps same few
+none_keeps false s a r few is = cc
+
+access_keeps : (found : Option Reg) (access : Reg → Answer × State) (s : State) (o : ℕ) (a : Answer) (r : Answer × State)
+    → KeepsLength s.registers → ((reg : Reg) → Keeps (access reg))
+    → at_register found access (at_none s o a) ≡ Ok r → Keeps r
+access_keeps None access s o a r few all is = none_keeps (answers_at s.profile o) s a r few is
+access_keeps (Some reg) access s o a r few all is = let same : access reg ≡ r = cc in subst Keeps same (all reg)
 
 poke_keeps : (out bad : Bool) (x r : Answer × State) → Keeps x
     → (if out then Err Range else if bad then Err Length else Ok x) ≡ Ok r → Keeps r
@@ -135,7 +143,7 @@ arrive_keeps false x r few is = let same : x ≡ r = cc in subst Keeps same few
 
 rx_answer_keeps : (s : State) (a : RxAnswer) → KeepsLength s.registers → Keeps (after_rx_answer s a)
 rx_answer_keeps s rx_answer.Idle few = few
-rx_answer_keeps s (rx_answer.Wrote index next causes) few = put_keeps s.registers Rdh next few
+rx_answer_keeps s (rx_answer.Wrote index next causes) few = put_keeps s.profile s.registers Rdh next few
 
 rx_keeps : (s : State) (x : Result Outcome RxRefusal) (r : Answer × State) → KeepsLength s.registers
     → rx_stepped s x ≡ Ok r → Keeps r
@@ -146,8 +154,8 @@ rx_keeps s (Err refusal) r few is = cc
 
 tx_answer_keeps : (s : State) (a : TxAnswer) → KeepsLength s.registers → Keeps (after_tx_answer s a)
 tx_answer_keeps s tx_answer.Idle few = few
-tx_answer_keeps s (tx_answer.Fetched index next causes) few = put_keeps s.registers Tdh next few
-tx_answer_keeps s (tx_answer.Sent index next causes octets kind) few = put_keeps s.registers Tdh next few
+tx_answer_keeps s (tx_answer.Fetched index next causes) few = put_keeps s.profile s.registers Tdh next few
+tx_answer_keeps s (tx_answer.Sent index next causes octets kind) few = put_keeps s.profile s.registers Tdh next few
 
 tx_keeps : (s : State) (x : Result (TxAnswer × Shown) TxRefusal) (r : Answer × State) → KeepsLength s.registers
     → tx_stepped s x ≡ Ok r → Keeps r
@@ -158,9 +166,10 @@ tx_keeps s (Err refusal) r few is = cc
 
 event_keeps : (s : State) (e : Event) (r : Answer × State) → KeepsLength s.registers → step s e ≡ Ok r → Keeps r
 event_keeps s (reads o) r few is =
-    access_keeps (reg_at o) (λ reg. (Value (gives s reg), after_read s reg)) r (λ reg. read_keeps s reg few) is
+    access_keeps (reg_of s.profile o) (λ reg. (Value (gives s reg), after_read s reg)) s o (Value 0) r few
+    (λ reg. read_keeps s reg few) is
 event_keeps s (writes o v) r few is =
-    access_keeps (reg_at o) (λ reg. (Done, after_write s reg v)) r
+    access_keeps (reg_of s.profile o) (λ reg. (Done, after_write s reg v)) s o Done r few
     (λ reg. write_keeps (row_of reg).kind s reg v few) is
 event_keeps s (pokes a d) r few is =
     poke_keeps (leaves s.base s.memory a (length d)) (length d == 0 || nat_lt 16_384 (length d)) _ r few is
@@ -185,5 +194,5 @@ performed_keeps (e ∷ events) s t few is =
 pub few_reached : (s : State) → IsReached s → (rx_setup s.registers).count ≤ 65_536
 few_reached s is =
     let few : KeepsLength s.registers
-    = performed_keeps is.events (shows (fresh is.base is.size is.eeprom)) s (reset_keeps (mac_of is.eeprom)) is.performed in
+    = performed_keeps is.events (shows (fresh_as is.profile is.base is.size is.eeprom)) s (reset_keeps (mac_of is.eeprom)) is.performed in
     omega (arith, few)

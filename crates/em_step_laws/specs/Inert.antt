@@ -11,7 +11,8 @@ use Rattle.em_step.specs.declared.event.Answer.{Answer}
 use Rattle.em_step.specs.declared.refusal.Refusal.{Refusal}
 
 -- Two register files agree in all that has a rule. Not among it are EERD, CTRL_EXT, FCAL, FCAH, FCT, ITR, FCTTV, TIPG,
--- LEDCTL, PBA, RDTR, RXDCTL, RADV, TIDV, TXDCTL, TADV and RXCSUM, and all other bits of CTRL, RCTL and TCTL.
+-- LEDCTL, PBA, RDTR, RXDCTL, RADV, TIDV, TXDCTL, TADV and RXCSUM, all other bits of CTRL, RCTL and TCTL, and TXCW, AIT,
+-- FCRTL, FCRTH, WUC, WUFC, MANC and SWSM.
 pub record AgreeInRules (m n : Registers) : Type 0 where
   -- CTRL
   pub vme : vme n ≡ vme m
@@ -26,6 +27,7 @@ pub record AgreeInRules (m n : Registers) : Type 0 where
   pub bsize : rctl n / 2 ^ 16 % 4 ≡ rctl m / 2 ^ 16 % 4
   pub vfe : vfe n ≡ vfe m
   pub bsex : has (rctl n) 0x0200_0000 ≡ has (rctl m) 0x0200_0000
+  pub secrc : has (rctl n) 0x0400_0000 ≡ has (rctl m) 0x0400_0000
   -- TCTL
   pub tx_en : has (value_of n Tctl) 0x2 ≡ has (value_of m Tctl) 0x2
   pub psp : has (value_of n Tctl) 0x8 ≡ has (value_of m Tctl) 0x8

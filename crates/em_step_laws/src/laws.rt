@@ -7,7 +7,8 @@ ghost use Rattle.em_rx.specs.Pieces.{GoesInPieces, IsDelivered};
 ghost use Rattle.em_step.specs.State.{State};
 ghost use Rattle.em_step.specs.Event.{Event};
 ghost use Rattle.em_step.specs.Arrival.{arrival};
-ghost use Rattle.em_step.specs.Cells.{fresh, shows};
+ghost use Rattle.em_regs.specs.declared.profile.Profile.{Profile};
+ghost use Rattle.em_step.specs.Cells.{fresh_as, shows};
 ghost use Rattle.em_step.specs.Step.{step};
 ghost use Rattle.em_step.specs.declared.event.Answer.{Answer};
 ghost use Rattle.em_journal.specs.History.{Call, Leads};
@@ -43,8 +44,8 @@ pub fn rings_are_small()
 /// Every state that a machine with a new adapter comes to is reached, after any of its calls, and so is
 /// each that steps back lead to: the laws of such states hold of them.
 pub fn machines_are_reached()
-    ensures { (budget base size : ℕ) (eeprom : List ℕ) (calls : List Call) (v : View)
-        → Leads budget (shows (fresh base size eeprom)) calls v → All IsReached (states v) }
+    ensures { (profile : Profile) (budget base size : ℕ) (eeprom : List ℕ) (calls : List Call) (v : View)
+        → Leads budget (shows (fresh_as profile base size eeprom)) calls v → All IsReached (states v) }
 {}
 
 /// Registers and bits without a rule are inert: what they hold changes no answer of any event but a

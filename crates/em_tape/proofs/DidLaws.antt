@@ -1,7 +1,8 @@
 -- What a line did, by what is seen of it.
 use Rattle.std.proofs.Common.{◌≡◌, ℕ, ◌-◌, ◌≤◌, Bool, true, false, List, [], ◌∷◌, length, Option, Some, None, Result, Ok, Err}
 use Rattle.std.proofs.Common.{refl, sym, ap, ◌∙◌, subst, inr, arith}
-use Rattle.std.specs.Prelude.{min}
+use Rattle.std.specs.Prelude.{min, IsErrOf}
+use Rattle.em_text.specs.declared.writer.WriteFailed.{WriteFailed}
 use Rattle.em_step.specs.State.{State}
 use Rattle.em_journal.specs.View.{View, after_back, after_backs}
 use Rattle.em_journal.proofs.BackLaws.{past_left}
@@ -51,6 +52,12 @@ pub replied_ok : (r : Result Outcome BenchFault) (o : Outcome) → replied_of r 
 replied_ok (Ok p) o is = cc
 replied_ok (Err Write) o is = absurd (cc)
 replied_ok (Err fault) o is = absurd (cc)
+
+-- a line whose text could not be written was played so
+pub replied_failed : (r : Result Outcome BenchFault) (failed : WriteFailed) → replied_of r ≡ Some (Err failed) → IsErrOf r Write
+replied_failed (Ok p) failed is = absurd (cc)
+replied_failed (Err Write) failed is = refl
+replied_failed (Err fault) failed is = absurd (cc)
 
 -- a line that takes n events back, by its steps alone
 pub took_line : (number : ℕ) (line : List ℕ) (n : ℕ) (from now : Session) → parsed_line line ≡ says (back_by n)

@@ -13,6 +13,7 @@ mod counts;
 mod done;
 mod faults;
 mod frames;
+mod head;
 mod lines;
 mod missing;
 mod poll;
@@ -28,6 +29,7 @@ use crate::arriving::{Arrivals, Seen, arrivals_in};
 use crate::done::Done;
 use crate::faults::{is_gzip, open_fault, packed, read_fault};
 use crate::frames::{Frames, packets_of};
+use crate::head::Head;
 use crate::survey::Survey;
 use crate::text::write_text;
 use crate::translating::{Wanted, translate};
@@ -198,9 +200,11 @@ fn written<R: Print + Eprint + AllocGlobal, B: BufRead>(
     let mut done = translate(rt, wanted, frames, lines, &mut script)?;
     done.seen = seen;
     let mut head = Vec::new(rt.alloc());
-    if let Some(room) = wanted.memory.or(done.room) {
-        room.write(&mut head)?;
+    Head {
+        room: wanted.memory.or(done.room),
+        profile: wanted.profile,
     }
+    .write(&mut head)?;
     done.octets = done.octets.saturating_add(head.len() as u64);
     let mut out = BufWriter::with_capacity(rt.alloc(), BUFFER, io::writer(rt))?;
     write_text(&mut out, head.as_slice())?;

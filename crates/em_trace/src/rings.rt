@@ -124,19 +124,18 @@ impl Rings {
 }
 
 impl Room {
-    /// Writes the comment that says so at the head of a script, by the words of a command line.
+    /// Writes the words of a command line that say so.
     pub fn write<W: Write>(self, out: &mut W) -> Result<()> {
         let Room { base, size } = self;
         if size % MIB == 0 {
             let size = size / MIB;
-            write!(out, "# em_debug --memory {size}M")?;
+            write!(out, " --memory {size}M")?;
         } else {
-            write!(out, "# em_debug --memory {size}")?;
+            write!(out, " --memory {size}")?;
         }
         if base > 0 {
             write!(out, " --base {base:X}")?;
         }
-        writeln!(out, "")?;
         Ok(())
     }
 }

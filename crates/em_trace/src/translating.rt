@@ -14,7 +14,7 @@ use crate::text::{
 };
 use anyhow::{Context, Result};
 use em_log::{Entry, Form, Log, RegisterAccess, Way, Width, looks_like_access};
-use em_regs::Reg;
+use em_regs::{Profile, Reg};
 use std::alloc::{AllocError, Global};
 use std::io::{BufRead, Write};
 
@@ -45,6 +45,8 @@ pub struct Wanted<'a> {
     pub at: Option<u64>,
     /// The memory that the script is to have; without it what the log's rings want.
     pub memory: Option<Room>,
+    /// Of which profile the script's machine is to be.
+    pub profile: Profile,
     pub link: Link,
     /// Whether accesses of something else are left out of the script.
     pub skips_others: bool,
@@ -76,6 +78,8 @@ struct Script<'a> {
     lines: Vec<u8>,
     /// How the script begins, if it has not begun.
     begins: Option<Link>,
+    /// Which registers it may access.
+    profile: Profile,
     skips_others: bool,
     keeps_polls: bool,
     /// The read that was written last, if more such reads would be a poll.
@@ -111,6 +115,7 @@ impl<'a> Script<'a> {
             done: Done::new(alloc, wanted.lines)?,
             lines: Vec::new(alloc),
             begins: Some(wanted.link),
+            profile: wanted.profile,
             skips_others: wanted.skips_others,
             keeps_polls: wanted.keeps_polls,
             poll: None,
@@ -256,7 +261,7 @@ impl<'a> Script<'a> {
     fn count_access(&mut self, access: RegisterAccess) {
         if access.width != Width::Four {
             self.done.other_sizes = self.done.other_sizes.saturating_add(1);
-        } else if Reg::of_offset(access.offset).is_none() {
+        } else if Reg::of_offset_in(self.profile, access.offset).is_none() {
             self.done.missing.add(access.offset);
         }
     }
@@ -271,7 +276,7 @@ impl<'a> Script<'a> {
         if access.width != Width::Four {
             return write_other_size(&mut self.lines, number, access, moment);
         }
-        let Some(reg) = Reg::of_offset(access.offset) else {
+        let Some(reg) = Reg::of_offset_in(self.profile, access.offset) else {
             let name = missing_name(access.offset).unwrap_or("no register");
             return write_missing(&mut self.lines, number, access, name, moment);
         };

@@ -5,9 +5,10 @@ use crate::rings::Room;
 use crate::shown::Address;
 use crate::translating::{Link, Wanted};
 use clap::{Arg, ArgAction, ArgMatches, Command, Error, value_parser};
-use em_input::{SIZES, size_of};
+use em_input::{SIZES, profile_of, size_of};
 use em_log::Form;
 use em_mem::{GuestMemory, MemRefusal};
+use em_regs::Profile;
 use em_text::Words;
 use std::alloc::{AllocError, Global};
 use std::fmt;
@@ -32,6 +33,9 @@ bad, 3 where the run stopped.";
 
 /// What `--form` takes.
 const FORMS: &[&str] = &["qemu", "mmiotrace", "plain"];
+
+/// What `--profile` takes.
+const PROFILES: &[&str] = &["table", "adapter"];
 
 /// What `--link` takes.
 const LINKS: &[&str] = &["up", "down"];
@@ -146,9 +150,19 @@ fn with_script<'a>(alloc: Global, command: Command<'a>) -> Result<Command<'a>, A
         .arg(link(alloc))?
         .arg(option(alloc, "memory", "SIZE", memory))?
         .arg(option(alloc, "memory-base", "ADDR", base))?
+        .arg(profile(alloc))?
         .arg(flag(alloc, "skip-others", skip))?
         .arg(flag(alloc, "keep-polls", keep))?
         .arg(log(alloc))
+}
+
+/// `--profile PROFILE`
+fn profile<'a>(alloc: Global) -> Arg<'a> {
+    let help =
+        "The registers of the script's adapter: table, or adapter, which has what operating systems need";
+    option(alloc, "profile", "PROFILE", help)
+        .value_parser(PROFILES)
+        .default_value("table")
 }
 
 /// `--link WAY`
@@ -212,6 +226,7 @@ pub fn wanted<'a>(alloc: Global, matches: &ArgMatches<'a>) -> Result<Wanted<'a>,
         address,
         at,
         memory,
+        profile: profile_in(matches),
         link: match matches.get_str("link") {
             Some("down") => Link::Down,
             _ => Link::Up,
@@ -219,6 +234,14 @@ pub fn wanted<'a>(alloc: Global, matches: &ArgMatches<'a>) -> Result<Wanted<'a>,
         skips_others: matches.get_flag("skip-others"),
         keeps_polls: matches.get_flag("keep-polls"),
     })
+}
+
+/// The profile that `--profile` names, which takes no other name.
+fn profile_in(matches: &ArgMatches<'_>) -> Profile {
+    matches
+        .get_str("profile")
+        .and_then(|name| profile_of(name.as_bytes()))
+        .unwrap_or(Profile::Table)
 }
 
 fn form_of(name: &str) -> Option<Form> {

@@ -7,7 +7,7 @@ use Rattle.em_step.specs.Event.{Event}
 use Rattle.em_step.specs.Step.{step}
 use Rattle.em_step.specs.Cost.{least_cost}
 use Rattle.em_step.specs.declared.event.Answer.{Answer}
-use Rattle.em_journal.specs.View.{View}
+use Rattle.em_journal.specs.View.{View, view_without}
 use Rattle.em_journal.specs.History.{Does, performs, goes_back}
 use Rattle.em_trail.specs.declared.note.Note.{Note}
 use Rattle.em_trail.specs.Dma.{dma_of}
@@ -53,6 +53,10 @@ pub record HoldsTrail (ring : Buffer Note) (view : View) : Type 0 where
 -- a machine that has performed nothing
 abbrev pub starting : View → Trail
 starting view = record { view = view; notes = [] }
+
+-- in each state the first k frames are without their octets; the notes stay
+abbrev pub trail_without : ℕ → Trail → Trail
+trail_without k t = record t { view = view_without k t.view }
 
 -- an event was performed: its note comes first, and as many stay as the journal has records
 pub record Noted (old new : Trail) (tag : ℕ) (event : Event) (answer : Answer) : Type 0 where

@@ -1,19 +1,19 @@
 //! A machine with its trail.
 ghost use Rattle.std.specs.Prelude.{◌≡◌, ◌==◌, ◌<◌, ◌≤◌, ◌↔◌, ◌∷◌, [], length, min, take, slice_get};
 ghost use Rattle.std.specs.Prelude.{IfOk, IfErr, IfSome, IsNone, OnOk, OnErr};
-ghost use Rattle.em_regs.specs.Table.{IsReg, offset_of};
+ghost use Rattle.em_regs.specs.Table.{IsRegOf, offset_of};
 ghost use Rattle.em_step.specs.Event.{plain, reads, writes};
 ghost use Rattle.em_step.specs.Step.{Refuses};
-ghost use Rattle.em_journal.specs.View.{after_backs, states};
-ghost use Rattle.em_trail.specs.Trail.{Noted, TakesBack, TellsAt, starting};
+ghost use Rattle.em_journal.specs.View.{after_backs, sent_before, states};
+ghost use Rattle.em_trail.specs.Trail.{Noted, TakesBack, TellsAt, starting, trail_without};
 
 use crate::dma::{Dma, dma_of};
 use crate::note::{Note, note_of};
 use circular_buffer::HeapCircularBuffer;
 use em_journal::{Empty, Machine};
-use em_regs::Reg;
+use em_regs::{Profile, Reg};
 use em_step::{Answer, Event, Refusal};
-use std::alloc::Global;
+use std::alloc::{AllocError, Global};
 use std::marker::Model;
 
 /// A machine, and a note of each event that it can take back.
@@ -57,6 +57,15 @@ impl Traced {
         }
     }
 
+    /// The same machine once more, with its trail, in memory of its own.
+    pub fn copy(&self) -> Result<Traced, AllocError>
+        ensures { IfOk result (λ copy. copy ≡ self.now) }
+    {
+        let machine = self.machine.copy()?;
+        let notes = copy_notes(&self.notes)?;
+        Ok(Traced { machine, notes })
+    }
+
     /// Performs an event, and notes it with a tag of the caller's.
     ///
     /// It is refused as `Machine::perform` refuses it, and for no other cause: a note takes no memory. A refused event
@@ -78,10 +87,10 @@ impl Traced {
         Ok(answer)
     }
 
-    /// Software reads a register: the event of a read at its offset.
+    /// Software reads a register that each profile has: the event of a read at its offset.
     #[inline(always)]
     pub fn read_register(&mut self, tag: u64, reg: Reg) -> u32
-        requires { IsReg reg }
+        requires { IsRegOf Profile.Table reg }
         ensures noted { Noted self.old self.new tag (reads (offset_of reg)) (Answer.Value result) }
         ensures past { 0 < length self.new.view.past }
     {
@@ -96,10 +105,11 @@ impl Traced {
         value
     }
 
-    /// Software writes a register: the event of a write at its offset. Refused only as Memory, where it is a reset.
+    /// Software writes a register that each profile has: the event of a write at its offset. Refused only as Memory,
+    /// where it is a reset.
     #[inline(always)]
     pub fn write_register(&mut self, tag: u64, reg: Reg, value: u32) -> Result<(), Refusal>
-        requires { IsReg reg }
+        requires { IsRegOf Profile.Table reg }
         ensures ok { OnOk result (Noted self.old self.new tag (writes (offset_of reg) value) Answer.Done) }
         ensures past { OnOk result (0 < length self.new.view.past) }
         ensures err { IfErr result (λ refusal. Refuses self.old.view.present (writes (offset_of reg) value) refusal) }
@@ -148,6 +158,15 @@ impl Traced {
         Ok(note)
     }
 
+    /// Lets go of the octets of frames that were sent and that no step back takes off the wire, as the machine does, and
+    /// gives how many frames these are. Each note stays, and tells of the same event.
+    pub fn let_frames_go(&mut self) -> usize
+        ensures count { result ≡ sent_before self.old.view }
+        ensures trail { self.new ≡ trail_without result self.old }
+    {
+        self.machine.let_frames_go()
+    }
+
     /// The machine, to look at.
     pub fn machine(&self) -> &Machine
         ensures { result.now ≡ self.now.view }
@@ -183,4 +202,15 @@ impl Traced {
     {
         self.len() == 0
     }
+}
+
+/// The same notes in a ring of their own, with as many places.
+fn copy_notes(notes: &HeapCircularBuffer<Note>) -> Result<HeapCircularBuffer<Note>, AllocError>
+    ensures { IfOk result (λ copy. copy ≡ notes.now) }
+{
+    let mut copy = HeapCircularBuffer::with_capacity(*notes.allocator(), notes.capacity())?;
+    let (front, back) = notes.as_slices();
+    copy.fill_from_slice(front);
+    copy.fill_from_slice(back);
+    Ok(copy)
 }

@@ -4,7 +4,9 @@ use Rattle.std.proofs.Common.{sym, ap, ◌∙◌, arith, zero, suc}
 use Rattle.std.specs.List.{between}
 use Rattle.std.proofs.lemmas.List.{take_at, drop_at, take_all, take-take, get_or_default}
 use Rattle.std.proofs.lemmas.Slice.{between_is}
-use Rattle.em_tx.specs.Wire.{AreEnds, frames_from}
+use Rattle.std.proofs.Common.{map, set}
+use Rattle.std.proofs.Math.Seq.{drop-drop}
+use Rattle.em_tx.specs.Wire.{AreEnds, frames_from, let_go}
 
 -- the last place is not before the first
 pub ends_least : (a : ℕ) (ends : List ℕ) (n : ℕ) → AreEnds a ends n → a ≤ n
@@ -91,3 +93,54 @@ pub start_most : (a : ℕ) (ends : List ℕ) (n i : ℕ) → AreEnds a ends n �
 start_most a ends n zero are within = ends_least a ends n are
 start_most a [] n (suc i) are within = absurd (omega arith)
 start_most a (e ∷ ends) n (suc i) are within = start_most e ends n i are.1 (omega (arith, within))
+
+-- ---- the first frames without their octets
+
+-- octets from a place on, where that place has become the first
+shifted : (a e g : ℕ) (o : List ℕ) → g ≤ a → between (a - g) (e - g) (drop g o) ≡ between a e o
+shifted a e g o most =
+    let count : (e - g) - (a - g) ≡ e - a = omega (arith, most) in
+    let place : g + (a - g) ≡ a = omega (arith, most) in
+    ap (λ n. take n (drop (a - g) (drop g o))) count
+    ∙ ap (λ xs. take (e - a) xs) (drop-drop (a - g) g o ∙ ap (λ n. drop n o) place)
+
+-- what lies behind that place stays
+behind_stay : (a g : ℕ) (ends o : List ℕ) (n : ℕ) → AreEnds a ends n → g ≤ a
+    → frames_from (a - g) (map (λ (e : ℕ). e - g) ends) (drop g o) ≡ frames_from a ends o
+behind_stay a g [] o n are most = refl
+behind_stay a g (e ∷ ends) o n are most =
+    λ i. shifted a e g o most i ∷ behind_stay e g ends o n are.1 (omega (arith, most, are.0)) i
+
+-- what lies before it is empty
+nothing_before : (a e g : ℕ) (o : List ℕ) → e ≤ g → between (a - g) (e - g) (drop g o) ≡ []
+nothing_before a e g o most =
+    let none : (e - g) - (a - g) ≡ 0 = omega (arith, most) in
+    ap (λ n. take n (drop (a - g) (drop g o))) none
+
+pub frames_let_go : (a : ℕ) (ends o : List ℕ) (n k : ℕ) → AreEnds a ends n → k ≤ length ends
+    → (g : ℕ) → g ≡ get_or (a ∷ ends) k 0
+    → frames_from (a - g) (map (λ (e : ℕ). e - g) ends) (drop g o) ≡ let_go k (frames_from a ends o)
+frames_let_go a ends o n zero are within g is = behind_stay a g ends o n are (omega (arith, is))
+frames_let_go a [] o n (suc k) are within g is = absurd (omega arith)
+frames_let_go a (e ∷ ends) o n (suc k) are within g is =
+    let less : k ≤ length ends = omega (arith, within) in
+    let before : e ≤ g = omega (
+      arith,
+      is,
+      ends_least e (take k ends) (get_or (e ∷ ends) k 0)
+          (first_ends e ends n k are.1 less),
+    ) in
+    λ i. nothing_before a e g o before i ∷ frames_let_go e ends o n k are.1 less g is i
+
+pub ends_moved : (a g : ℕ) (ends : List ℕ) (n : ℕ) → AreEnds a ends n
+    → AreEnds (a - g) (map (λ (e : ℕ). e - g) ends) (n - g)
+ends_moved a g [] n are = ap (λ m. m - g) are
+ends_moved a g (e ∷ ends) n are = (omega (arith, are.0), ends_moved e g ends n are.1)
+
+-- ---- each place changed in turn
+pub changed_next : (f : ℕ → ℕ) (xs : List ℕ) (i : ℕ) → i < length xs
+    → set (map f (take i xs) ++ drop i xs) i (f (get_or (map f (take i xs) ++ drop i xs) i 0))
+    ≡ map f (take (suc i) xs) ++ drop (suc i) xs
+changed_next f [] i l = absurd (omega arith)
+changed_next f (x ∷ xs) zero l = refl
+changed_next f (x ∷ xs) (suc i) l = ap (λ ys. f x ∷ ys) (changed_next f xs i (omega (arith, l)))

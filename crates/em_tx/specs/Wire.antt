@@ -1,5 +1,5 @@
 -- The frames on the wire as data.
-use Rattle.std.specs.Prelude.{◌≡◌, ◌+◌, ◌<◌, ◌≤◌, ℕ, List, [], ◌∷◌, length, vec_capacity, vec_len}
+use Rattle.std.specs.Prelude.{◌≡◌, ◌+◌, ◌<◌, ◌≤◌, ℕ, zero, suc, List, [], ◌∷◌, length, vec_capacity, vec_len}
 use Rattle.std.specs.List.{between}
 use Rattle.em_tx.specs.declared.wire.Frames.{Frames}
 
@@ -25,3 +25,9 @@ AreLaid frames = AreEnds 0 frames.ends.items (length frames.octets.items)
 abbrev pub HasRoom : Frames → ℕ → Type 0
 HasRoom frames n =
     (vec_len frames.ends < vec_capacity frames.ends) × (vec_len frames.octets + n ≤ vec_capacity frames.octets)
+
+-- the first k frames without their octets
+abbrev pub let_go : ℕ → List (List ℕ) → List (List ℕ)
+let_go zero frames = frames
+let_go (suc k) [] = []
+let_go (suc k) (frame ∷ frames) = [] ∷ let_go k frames

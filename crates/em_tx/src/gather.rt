@@ -1,5 +1,5 @@
 //! The octets that are gathered for the next frame.
-ghost use Rattle.std.specs.Prelude.{◌≡◌, ◌≤◌, IsTrue, List, ℕ, length, take};
+ghost use Rattle.std.specs.Prelude.{◌≡◌, ◌≤◌, IfOk, IsTrue, List, ℕ, length, take, vec_capacity};
 ghost use Rattle.em_mem.specs.Memory as mem;
 ghost use Rattle.em_tx.specs.Cells.{cells, none_gathered, with_room};
 ghost use Rattle.em_tx.specs.Frame.{without_tag};
@@ -7,7 +7,7 @@ ghost use Rattle.em_tx.specs.Undo.{Reverses};
 
 use crate::frame;
 use crate::undo::TxUndo;
-use std::alloc::Global;
+use std::alloc::{AllocError, Global};
 use std::marker::Model;
 
 /// The longest frame with its tag has so many octets at most. The first step that handles a descriptor makes room for
@@ -41,6 +41,18 @@ impl Gather {
         Gather {
             octets: Vec::new(alloc),
         }
+    }
+
+    /// The same octets once more, with as much room.
+    pub fn copy(&self) -> Result<Gather, AllocError>
+        ensures { IfOk result (λ copy. copy ≡ self.now) }
+    {
+        let octets = copy_octets(
+            *self.octets.allocator(),
+            self.octets.as_slice(),
+            self.octets.capacity(),
+        )?;
+        Ok(Gather { octets })
     }
 
     /// Puts the gathered octets aside, with their room. It takes no memory.
@@ -83,4 +95,17 @@ impl Gather {
             frame::gather(&mut self.octets, &frame[..count]);
         }
     }
+}
+
+/// The octets once more, with room for exactly so many.
+fn copy_octets(alloc: Global, octets: &[u8], room: usize) -> Result<Vec<u8>, AllocError>
+    requires { length octets.now ≤ room }
+    ensures items { IfOk result (λ copy. copy.items ≡ octets.now) }
+    ensures room { IfOk result (λ copy. vec_capacity copy ≡ room) }
+{
+    let mut copy = Vec::with_capacity(alloc, room)?;
+    for octet in octets {
+        copy.push_reserved(*octet);
+    }
+    Ok(copy)
 }

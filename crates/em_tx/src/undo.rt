@@ -1,5 +1,5 @@
 //! What takes a step back.
-ghost use Rattle.std.specs.Prelude.{◌≡◌, ◌≤◌, ◌+◌, ◌∷◌, [], IsTrue, take};
+ghost use Rattle.std.specs.Prelude.{◌≡◌, ◌≤◌, ◌+◌, ◌∷◌, [], IfOk, IsTrue, take};
 ghost use Rattle.em_mem.specs.Memory as mem;
 ghost use Rattle.em_mem.specs.Memory.{IsHeld, IsMade, put};
 ghost use Rattle.em_tx.specs.Cells.{cells, with_room};
@@ -12,6 +12,7 @@ use crate::change::{Change, MOST_COST, Sent, Status};
 use crate::gather::{Gather, ROOM};
 use crate::wire::Wire;
 use em_mem::GuestMemory;
+use std::alloc::AllocError;
 
 /// What takes a step of the transmit engine back.
 #[derive(Drop)]
@@ -25,6 +26,17 @@ pub enum TxUndo {
 }
 
 impl TxUndo {
+    /// The same once more, in memory of its own.
+    pub fn copy(&self) -> Result<TxUndo, AllocError>
+        ensures { IfOk result (λ copy. copy ≡ self.now) }
+    {
+        match self {
+            TxUndo::Nothing => Ok(TxUndo::Nothing),
+            TxUndo::Step(change) => Ok(TxUndo::Step(change.copy())),
+            TxUndo::Cleared(gather) => Ok(TxUndo::Cleared(gather.copy()?)),
+        }
+    }
+
     /// What the record costs beyond the least.
     pub fn cost(&self) -> u32
         ensures cost { result ≡ cost_of self.now }

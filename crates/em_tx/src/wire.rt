@@ -1,7 +1,8 @@
 //! The frames that were sent.
-ghost use Rattle.std.specs.Prelude.{◌≡◌, ◌++◌, ◌∷◌, ◌<◌, ◌≤◌, [], OnOk, length, slice_get, slice_index, slice_index_or};
+ghost use Rattle.std.specs.Prelude.{◌≡◌, ◌++◌, ◌∷◌, ◌-◌, ◌<◌, ◌≤◌, [], ℕ, IfOk, OnOk, length, map, slice_get, slice_index};
+ghost use Rattle.std.specs.Prelude.{drop, slice_index_or};
 ghost use Rattle.em_tx.specs.Undo.{front_of, last_of};
-ghost use Rattle.em_tx.specs.Wire.{AreLaid, HasRoom, plain};
+ghost use Rattle.em_tx.specs.Wire.{AreLaid, HasRoom, let_go, plain};
 ghost use Rattle.std.specs.Option.{option_map};
 
 use std::alloc::{AllocError, Global};
@@ -43,6 +44,14 @@ impl Wire {
         }
     }
 
+    /// The same frames once more, in memory of their own.
+    pub fn copy(&self) -> Result<Wire, AllocError>
+        ensures { IfOk result (λ copy. copy ≡ self.now) }
+    {
+        let frames = self.frames.copy()?;
+        Ok(Wire { frames })
+    }
+
     /// How many frames were sent.
     pub fn len(&self) -> usize
         ensures { result ≡ length self.now }
@@ -59,6 +68,15 @@ impl Wire {
         } else {
             None
         }
+    }
+
+    /// Lets go of the octets of the first frames: these are empty from then on, and stay on the wire. The memory is used
+    /// again for frames that are sent later. The cost is that of moving all octets, and a little for each frame.
+    pub fn let_go(&mut self, count: usize)
+        requires { count ≤ length self.old }
+        ensures { self.new ≡ let_go count self.old }
+    {
+        self.frames.let_go(count);
     }
 
     /// The octets of the last frame.
@@ -79,6 +97,16 @@ impl Wire {
 }
 
 impl Frames {
+    /// The same octets and ends, in memory of their own.
+    fn copy(&self) -> Result<Frames, AllocError>
+        ensures octets { IfOk result (λ copy. copy.octets.items ≡ self.now.octets.items) }
+        ensures ends { IfOk result (λ copy. copy.ends.items ≡ self.now.ends.items) }
+    {
+        let octets = Vec::from_slice(*self.octets.allocator(), self.octets.as_slice())?;
+        let ends = Vec::from_slice(*self.ends.allocator(), self.ends.as_slice())?;
+        Ok(Frames { octets, ends })
+    }
+
     /// Where a frame begins: at the end of the one before it.
     fn start(&self, index: usize) -> usize
         requires { index ≤ length self.now.ends.items }
@@ -132,5 +160,36 @@ impl Frames {
         let start = self.start(left);
         self.ends.truncate(left);
         self.octets.truncate(start);
+    }
+
+    /// Lets go of the octets of the first frames: where these end, the others begin.
+    fn let_go(&mut self, count: usize)
+        requires laid { AreLaid self.old }
+        requires within { count ≤ length self.old.ends.items }
+        ensures frames { plain self.new ≡ let_go count (plain self.old) }
+        ensures laid { AreLaid self.new }
+    {
+        let gone = self.start(count);
+        cut_front(&mut self.octets, gone);
+        move_down(&mut self.ends, gone);
+    }
+}
+
+/// Takes so many of the first octets away.
+fn cut_front(octets: &mut Vec<u8>, count: usize)
+    requires { count ≤ length octets.old.items }
+    ensures { octets.new.items ≡ drop count octets.old.items }
+{
+    let left = octets.len() - count;
+    octets.as_mut_slice().rotate_left(count);
+    octets.truncate(left);
+}
+
+/// Moves places down by so many octets, and those below them to 0.
+fn move_down(ends: &mut Vec<usize>, by: usize)
+    ensures { ends.new.items ≡ map (λ (end : ℕ). end - by) ends.old.items }
+{
+    for end in ends.iter_mut() {
+        *end = end.saturating_sub(by);
     }
 }

@@ -1,10 +1,12 @@
 -- What an event did, from what was traced before it and after it.
-use Rattle.std.proofs.Common.{◌≡◌, ℕ, ◌+◌, ◌-◌, ◌%◌, ◌<◌, ◌⊎◌, inl, inr, Some, None, sym, ap, ◌∙◌, subst, arith}
+use Rattle.std.proofs.Common.{◌≡◌, ℕ, ◌+◌, ◌-◌, ◌%◌, ◌<◌, ◌⊎◌, inl, inr, Some, None, true, cond, refl, sym, ap, ◌∙◌, subst, arith}
 use Rattle.std.specs.Prelude.{◌≢◌, Option, IfNone}
 use Rattle.std.proofs.lemmas.Bool.{cases_lt}
 use Rattle.std.proofs.lemmas.Bool.Decides.{nat_tests}
 use Rattle.em_regs.specs.declared.reg.Reg.{Reg}
-use Rattle.em_regs.specs.Table.{IsReg, NoneFrom, offset_of, reg_at}
+use Rattle.em_regs.specs.declared.profile.Profile.TheVariants.{Adapter, Table}
+use Rattle.em_regs.specs.Table.{IsReg, NoneFrom, is_in, kept_by, offset_of, reg_at, reg_of, row_of}
+use Rattle.em_regs.specs.declared.profile.Profile.{Profile}
 use Rattle.em_regs.proofs.TableLaws.{reg_at-offset_of, whole_word}
 use Rattle.em_journal.specs.View.{View}
 use Rattle.em_watch.specs.Difference.{IsDifference, LeavesAsItIs, LeavesOffset, LeavesRegisters}
@@ -32,12 +34,24 @@ the_same w v back before after x y was is x_is y_is same =
 
 -- ---- the register at an offset
 
-register_is : (o : ℕ) (reg other : Reg) → Some reg ≡ reg_at o → IsReg other → offset_of other ≡ o → reg ≡ other
+-- the second profile has every row
+has_each : (p : Profile) → is_in p Adapter ≡ true
+has_each Table = refl
+has_each Adapter = refl
+
+keeps_each : (found : Option Reg) → kept_by Adapter found ≡ found
+keeps_each None = refl
+keeps_each (Some reg) = ap (λ b. cond b (Some reg) None) (has_each (row_of reg).since)
+
+adapter_is_all : (o : ℕ) → reg_of Adapter o ≡ reg_at o
+adapter_is_all o = keeps_each (reg_at o)
+
+register_is : (o : ℕ) (reg other : Reg) → Some reg ≡ reg_of Adapter o → IsReg other → offset_of other ≡ o → reg ≡ other
 register_is o reg other found named there =
-    let same : Some reg ≡ Some other = found ∙ ap reg_at (sym there) ∙ reg_at-offset_of other named in
+    let same : Some reg ≡ Some other = found ∙ adapter_is_all o ∙ ap reg_at (sym there) ∙ reg_at-offset_of other named in
     cc
 
-pub leaves_offset : (v : View) (back o : ℕ) (reg : Reg) → Some reg ≡ reg_at o → LeavesAsItIs (Register reg) v back
+pub leaves_offset : (v : View) (back o : ℕ) (reg : Reg) → Some reg ≡ reg_of Adapter o → LeavesAsItIs (Register reg) v back
     → LeavesOffset v back o
 leaves_offset v back o reg found stays other named there =
     subst (λ r. LeavesAsItIs (Register r) v back) (register_is o reg other found named there) stays

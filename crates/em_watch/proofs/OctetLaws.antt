@@ -1,15 +1,13 @@
 -- Octets of memory just before an event and just after it.
-use Rattle.std.proofs.Common.{◌≡◌, ℕ, ◌+◌, ◌-◌, ◌<◌, ◌≤◌, ◌⊎◌, inl, inr, Bool, true, false, cond, List, ◌++◌, length}
-use Rattle.std.proofs.Common.{take, drop, get_or, Some, None, refl, sym, ap, ◌∙◌, subst, arith}
-use Rattle.std.specs.Prelude.{◌≢◌, Option, if◌then◌else◌, nat_lt, slice_get, replicate, map, IfSome, IfNone}
-use Rattle.std.specs.Option.{option_map}
+use Rattle.std.proofs.Common.{◌≡◌, ℕ, ◌+◌, ◌-◌, ◌<◌, ◌≤◌, inl, inr, Bool, true, false, cond, List, ◌++◌, length}
+use Rattle.std.proofs.Common.{drop, get_or, Some, None, refl, sym, ap, ◌∙◌, subst, arith}
+use Rattle.std.specs.Prelude.{◌≢◌, Option, if◌then◌else◌, nat_lt, slice_get, replicate, IfSome, IfNone}
 use Rattle.std.proofs.lemmas.Bool.{cases_lt, false≢true}
 use Rattle.std.proofs.lemmas.Bool.Decides.{nat_tests}
 use Rattle.std.proofs.lemmas.List.{get_or_append_left, get_or-take, get_or-drop}
 use Rattle.std.proofs.lemmas.Option.{slice_get-get_or, slice_get_cases, slice_get_past}
 use Rattle.em_mem.specs.Memory.{LiesIn, leaves, part}
 use Rattle.em_mem.proofs.NeedsLaws.{stays_in}
-use Rattle.em_mem.specs.Extent.{SameUpTo}
 use Rattle.em_mem.proofs.PutLaws.{length-part}
 use Rattle.em_step.specs.Before.{LeavesUpTo}
 use Rattle.em_step.specs.Cells.{shows}
@@ -21,7 +19,6 @@ use Rattle.em_journal.specs.View.{HaveMemoryOf, View, states}
 use Rattle.em_watch.specs.MemoryChange.{ChangesOctet, HasRange, IsMemoryChange, LeavesOctet, LeavesOctets, LeavesRest}
 use Rattle.em_watch.specs.MemoryChange.{ShowsOctets, octet_back, octet_in}
 use Rattle.em_watch.specs.Traced.{IsOctets, IsTraced, octets_of, shown, traced, traced_octets}
-use Rattle.em_watch.specs.declared.octets.MemoryChange.{MemoryChange}
 use Rattle.em_watch.specs.declared.range.TheConstants.{MOST_WATCHED}
 use Rattle.em_watch.specs.declared.range.MemoryRange.{MemoryRange}
 use Rattle.em_watch.specs.declared.watch.Watch.TheVariants.{Octets}

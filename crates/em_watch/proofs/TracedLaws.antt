@@ -1,7 +1,7 @@
 -- A watched thing, followed back over records.
 use Rattle.std.proofs.Common.{◌≡◌, ℕ, ◌+◌, ◌-◌, ◌≤◌, Bool, true, false, cond, List, [], ◌∷◌, ◌++◌, zero, suc}
 use Rattle.std.proofs.Common.{length, length-append, take, drop, map, refl, sym, ap, ◌∙◌, subst, arith, Some}
-use Rattle.std.specs.Prelude.{◌||◌, nat_lt, slice_get, replicate}
+use Rattle.std.specs.Prelude.{◌||◌, ◌&&◌, nat_lt, slice_get, replicate}
 use Rattle.std.specs.Option.{option_map}
 use Rattle.std.proofs.Math.Seq.{take-append_seam, drop-append_seam}
 use Rattle.std.proofs.lemmas.Bool.Decides.{nat_tests}
@@ -12,17 +12,17 @@ use Rattle.em_mem.proofs.NeedsLaws.{lies_by_test}
 use Rattle.em_mem.proofs.PutLaws.{length-part}
 use Rattle.em_regs.specs.declared.reg.Reg.{Reg}
 use Rattle.em_regs.specs.declared.reg.Reg.TheVariants.{Icr, Ims}
-use Rattle.em_regs.specs.Table.{index_of, row_of}
+use Rattle.em_regs.specs.Table.{has_reg, index_of, row_of}
 use Rattle.em_step.specs.Cells.{Cells, shows}
 use Rattle.em_step.specs.State.{State}
 use Rattle.em_step.specs.Undo.{Undo, Fits, undo}
 use Rattle.em_step.specs.Access.{gives}
-use Rattle.em_step.proofs.SizeLaws.{memory_base, memory_size}
+use Rattle.em_step.proofs.SizeLaws.{memory_base, memory_size, profile_stays}
 use Rattle.em_journal.specs.View.{View, states}
 use Rattle.em_mem.specs.Window.{IsWindow}
 use Rattle.em_step.specs.Before.{PutsBack}
 use Rattle.em_journal.specs.Record.{IsRecordAt}
-use Rattle.em_watch.specs.Watching.{sight, sights}
+use Rattle.em_watch.specs.Watching.{is_there, sight, sights}
 use Rattle.em_watch.specs.Traced.{traced, traced_octets, shown}
 use Rattle.em_watch.specs.Traced.{IsTraceable, IsTraced, TakesBack, OctetsGoBack, LeadsBack}
 use Rattle.em_watch.specs.declared.range.TheConstants.{MOST_WATCHED}
@@ -39,7 +39,7 @@ shown_if true t u = refl
 shown_if false t u = refl
 
 pub shown-traced : (w : Watch) (s : State) → shown (traced w s) ≡ sight w s
-shown-traced (Register reg) s = shown_if (nat_lt (index_of reg) (row_of reg).words) _ _
+shown-traced (Register reg) s = shown_if (is_there s reg) _ _
 shown-traced (Octets range) s = shown_if (leaves s.base s.memory range.addr range.len) _ _
 shown-traced Line s = refl
 shown-traced Link s = refl
@@ -113,7 +113,9 @@ octets_size base memory range was size begins is =
 back_at : (w : Watch) (c : Cells) (r : Undo) (u : Traced) → Fits c r → GoesBack r (traced w (shows c)) u
     → traced w (shows (undo c r)) ≡ u
 back_at (Register reg) c r u fits goes =
-    register_back c r reg u (nat_lt (index_of reg) (row_of reg).words) fits goes
+    ap (λ p. cond (nat_lt (index_of reg) (row_of reg).words && has_reg p reg)
+    (traced.Register reg (gives (shows (undo c r)) reg)) traced.Nothing) (profile_stays c r)
+    ∙ register_back c r reg u (is_there (shows c) reg) fits goes
 back_at (Octets range) c r u fits goes =
     octets_size (shows (undo c r)).base (shows (undo c r)).memory range (shows c).base (length (shows c).memory)
     (memory_base c r) (memory_size c r fits)
@@ -168,10 +170,11 @@ seen_there w v k t is =
     let here = from_map (traced w) (states v) k t is in
     mapped (sight w) (states v) k here.0 here.1 ∙ ap Some (sym (shown-traced w here.0) ∙ ap shown here.2)
 
-traceable_if : (reg : Reg) (value : ℕ) (b : Bool) → nat_lt (index_of reg) (row_of reg).words ≡ b
-    → IsTraceable (cond b (traced.Register reg value) traced.Nothing)
-traceable_if reg value true there = grind (arith, nat_tests)
-traceable_if reg value false there = tt
+traceable_if : (reg : Reg) (value : ℕ) (a b : Bool) → nat_lt (index_of reg) (row_of reg).words ≡ a
+    → IsTraceable (cond (a && b) (traced.Register reg value) traced.Nothing)
+traceable_if reg value true true there = grind (arith, nat_tests)
+traceable_if reg value true false there = tt
+traceable_if reg value false b there = tt
 
 octets_traceable : (range : MemoryRange) (octets : List ℕ) (b : Bool)
     → IsTraceable (cond b traced.Nothing (traced.Octets range octets))
@@ -179,7 +182,8 @@ octets_traceable range octets true = tt
 octets_traceable range octets false = tt
 
 traceable : (w : Watch) (s : State) → IsTraceable (traced w s)
-traceable (Register reg) s = traceable_if reg (gives s reg) (nat_lt (index_of reg) (row_of reg).words) refl
+traceable (Register reg) s =
+    traceable_if reg (gives s reg) (nat_lt (index_of reg) (row_of reg).words) (has_reg s.profile reg) refl
 traceable (Octets range) s = octets_traceable range _ (leaves s.base s.memory range.addr range.len)
 traceable Line s = tt
 traceable Link s = tt

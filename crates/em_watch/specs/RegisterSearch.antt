@@ -31,9 +31,9 @@ pub record IsNextRegister (s : RegisterSearch) (change : RegisterChange) : Type 
 -- and the search goes on behind it; or there is none, and the search stays
 abbrev pub GivesRegister : RegisterSearch → Option RegisterChange → RegisterSearch → Type 0
 GivesRegister s given t =
-    MatchOption given (LeavesRegisters s.view s.back s.offset 0x05800 × (t ≡ s))
+    MatchOption given (LeavesRegisters s.view s.back s.offset 0x06000 × (t ≡ s))
     (λ change. IsNextRegister s change × (t ≡ record s { offset = offset_of change.reg + 1 }))
 
--- each lies at an offset of its own, below 05800h
+-- each lies at an offset of its own, below 06000h
 abbrev pub registers_left : RegisterSearch → Count
-registers_left s = at_most (0x05800 - s.offset)
+registers_left s = at_most (0x06000 - s.offset)

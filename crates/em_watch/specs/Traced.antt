@@ -1,9 +1,9 @@
 -- What has to be known of a state to see a watched thing in it, and how a record takes that back.
-use Rattle.std.specs.Prelude.{◌≡◌, ℕ, ◌+◌, ◌-◌, nat_lt, if◌then◌else◌, List, ◌++◌, length, take, drop, replicate, map, []}
+use Rattle.std.specs.Prelude.{◌≡◌, ℕ, ◌-◌, if◌then◌else◌, List, ◌++◌, length, take, drop, replicate, map, []}
 use Rattle.std.specs.Prelude.{slice_get, Some}
 use Rattle.em_mem.specs.Memory.{leaves, part}
 use Rattle.em_regs.specs.declared.reg.Reg.{Reg}
-use Rattle.em_regs.specs.Table.{IsReg, index_of, row_of}
+use Rattle.em_regs.specs.Table.{IsReg}
 use Rattle.em_latch.specs.Latches.{causes, mask}
 use Rattle.em_step.specs.State.{State}
 use Rattle.em_step.specs.Access.{gives}
@@ -12,7 +12,7 @@ use Rattle.em_step.specs.Undo.{Undo, Fits, undo}
 use Rattle.em_journal.specs.View.{View, states}
 use Rattle.em_step.specs.Before.{PutsBackWindow}
 use Rattle.em_watch.specs.Change.{IsNextChange, StaysTo}
-use Rattle.em_watch.specs.Watching.{is_asserted}
+use Rattle.em_watch.specs.Watching.{is_asserted, is_there}
 use Rattle.em_watch.specs.declared.range.TheConstants.{MOST_WATCHED}
 use Rattle.em_watch.specs.declared.range.MemoryRange.{MemoryRange}
 use Rattle.em_watch.specs.declared.watch.Watch.{Watch}
@@ -23,7 +23,7 @@ use Rattle.em_watch.specs.declared.traced.Traced.{Traced}
 use Rattle.em_watch.specs.declared.traced.Traced.TheVariants.{Nothing, Register, Octets, Line, Link, Frames, Sent}
 
 abbrev pub traced_register : State → Reg → Traced
-traced_register s reg = if nat_lt (index_of reg) (row_of reg).words then Register reg (gives s reg) else Nothing
+traced_register s reg = if is_there s reg then Register reg (gives s reg) else Nothing
 
 abbrev pub traced_octets : ℕ → List ℕ → MemoryRange → Traced
 traced_octets base memory range =

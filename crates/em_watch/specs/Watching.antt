@@ -1,9 +1,9 @@
 -- What is seen of a watched thing.
-use Rattle.std.specs.Prelude.{ℕ, ◌+◌, ◌-◌, ◌==◌, Bool, not, nat_lt, if◌then◌else◌, List, ◌++◌, length, map, replicate}
+use Rattle.std.specs.Prelude.{ℕ, ◌-◌, ◌==◌, ◌&&◌, Bool, not, nat_lt, if◌then◌else◌, List, ◌++◌, length, map, replicate}
 use Rattle.std.specs.Prelude.{bit_and}
 use Rattle.em_mem.specs.Memory.{leaves, part}
 use Rattle.em_regs.specs.declared.reg.Reg.{Reg}
-use Rattle.em_regs.specs.Table.{index_of, row_of}
+use Rattle.em_regs.specs.Table.{has_reg, index_of, row_of}
 use Rattle.em_latch.specs.Latches.{causes, mask}
 use Rattle.em_step.specs.State.{State}
 use Rattle.em_step.specs.Access.{gives}
@@ -14,9 +14,13 @@ use Rattle.em_watch.specs.declared.watch.Watch.TheVariants as watch
 use Rattle.em_watch.specs.declared.watch.Sight.{Sight}
 use Rattle.em_watch.specs.declared.watch.Sight.TheVariants.{Nothing, Value, Octets, Line, Link, Count}
 
+-- the adapter has the register
+abbrev pub is_there : State → Reg → Bool
+is_there s reg = nat_lt (index_of reg) (row_of reg).words && has_reg s.profile reg
+
 -- of a register, if the table has it: what a look shows
 abbrev pub register_sight : State → Reg → Sight
-register_sight s reg = if nat_lt (index_of reg) (row_of reg).words then Value (gives s reg) else Nothing
+register_sight s reg = if is_there s reg then Value (gives s reg) else Nothing
 
 -- of n octets from a on, if memory, which begins at a base, has them: the octets, and zeros behind them
 abbrev pub octets_sight : ℕ → List ℕ → ℕ → ℕ → Sight

@@ -6,7 +6,7 @@ ghost use Rattle.em_watch.specs.Difference.{IsRegisterChange, LeavesOffset, Leav
 use crate::difference::{Difference, difference_of};
 use crate::watch::Watch;
 use em_journal::Machine;
-use em_regs::Reg;
+use em_regs::{Profile, Reg};
 use std::marker::Model;
 
 /// How many octets a word of the registers' space has.
@@ -37,7 +37,7 @@ impl<'a> Model for RegisterChanges<'a> {
 
     ghost view = { λ c. record { view = c.machine.now; back = c.back; offset = c.offset } };
 
-    ghost invariant = { λ c. IsOfAnEvent c.machine.now c.back × (c.offset ≤ 0x05800) };
+    ghost invariant = { λ c. IsOfAnEvent c.machine.now c.back × (c.offset ≤ 0x06000) };
 }
 
 impl<'a> RegisterChanges<'a> {
@@ -76,12 +76,12 @@ impl<'a> Iterator for RegisterChanges<'a> {
 fn next_changed(machine: &Machine, back: usize, from: u32) -> Option<RegisterChange>
     requires some { 0 < back }
     requires there { back ≤ length machine.now.past }
-    requires within { from ≤ 0x05800 }
+    requires within { from ≤ 0x06000 }
     ensures change { IfSome result (IsRegisterChange machine.now back) }
     ensures from { IfSome result (λ change. from ≤ offset_of change.reg) }
-    ensures below { IfSome result (λ change. offset_of change.reg < 0x05800) }
+    ensures below { IfSome result (λ change. offset_of change.reg < 0x06000) }
     ensures first { IfSome result (λ change. LeavesRegisters machine.now back from (offset_of change.reg)) }
-    ensures none { IfNone result (LeavesRegisters machine.now back from 0x05800) }
+    ensures none { IfNone result (LeavesRegisters machine.now back from 0x06000) }
 {
     let mut next = WORD * from.div_ceil(WORD);
     while let Some(offset) = Reg::next_page_with_registers(next) {
@@ -101,7 +101,8 @@ fn changed_at(machine: &Machine, back: usize, offset: u32) -> Option<RegisterCha
     ensures there { IfSome result (λ change. offset_of change.reg ≡ offset) }
     ensures none { IfNone result (LeavesOffset machine.now back offset) }
 {
-    let reg = Reg::of_offset(offset)?;
+    // of one that the machine's own profile has not nothing is seen
+    let reg = Reg::of_offset_in(Profile::Adapter, offset)?;
     let difference = difference_of(machine, Watch::Register(reg), back)?;
     Some(RegisterChange { reg, difference })
 }

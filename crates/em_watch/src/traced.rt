@@ -1,6 +1,6 @@
 //! A watched thing, followed back over records.
 ghost use Rattle.std.specs.Prelude.{◌≡◌, length};
-ghost use Rattle.em_regs.specs.Table.{IsReg};
+ghost use Rattle.em_regs.specs.Table.{IsRegOf};
 ghost use Rattle.em_step.specs.Access.{gives};
 ghost use Rattle.em_step.specs.Before.{PutsBack};
 ghost use Rattle.em_watch.specs.Traced.{traced, traced_register, traced_octets, shown, IsTraceable};
@@ -92,14 +92,14 @@ impl Traced {
             ),
             Traced::Link(up) => Traced::Link(past.link_before(up)),
             Traced::Frames(count) => Traced::Frames(past.frames_before(count)),
-            Traced::Sent(count) => Traced::Sent(sent_before(past, count)),
+            Traced::Sent(count) => Traced::Sent(past.sent_before(count)),
         }
     }
 }
 
-/// A register of the table, as a look at it shows it.
+/// A register that the machine has, as a look at it shows it.
 fn look(machine: &Machine, reg: Reg) -> u32
-    requires { IsReg reg }
+    requires { IsRegOf machine.now.present.profile reg }
     ensures { result ≡ gives machine.now.present reg }
 {
     match machine.look(reg.offset()) {
@@ -111,7 +111,7 @@ fn look(machine: &Machine, reg: Reg) -> u32
 fn traced_register(machine: &Machine, reg: Reg) -> Traced
     ensures { result ≡ traced_register machine.now.present reg }
 {
-    if reg.index() < reg.row().words {
+    if reg.index() < reg.row().words && reg.row().since.is_in(machine.profile()) {
         Traced::Register(reg, look(machine, reg))
     } else {
         Traced::Nothing
@@ -140,16 +140,4 @@ fn octets_before(
     let mut window = octets;
     past.octets_before(range.addr(), &mut window[..range.len()]);
     window
-}
-
-/// How many frames were sent before the event of a record.
-#[inline(always)]
-fn sent_before(past: &Past<'_>, now: usize) -> usize
-    ensures { PutsBack past.now (λ s. length s.wire) now result }
-{
-    if past.takes_off_wire() {
-        now.saturating_sub(1)
-    } else {
-        now
-    }
 }

@@ -23,7 +23,7 @@ pub enum Watch {
 /// What is seen of it in one state.
 #[derive(Clone, Copy, PartialEq, Eq, Debug)]
 pub enum Sight {
-    /// The octets leave guest memory, or the table has no such register.
+    /// The octets leave guest memory, or the machine's profile has no such register.
     Nothing,
     /// What a read of the register would give.
     Value(u32),

@@ -21,6 +21,7 @@ use Rattle.em_turn.specs.Turn.{event_of, stored_by}
 use Rattle.em_turn.specs.declared.turn.Turn.{Turn}
 use Rattle.em_turn.specs.declared.turn.Turn.TheVariants.{Arrive, RxStep, TxStep}
 use Rattle.em_driver.proofs.order.Accessed.{ok_is}
+use Rattle.em_driver.proofs.rings.ReceiveRing.{no_sequences}
 
 -- ---- transmitting is not enabled
 
@@ -51,6 +52,7 @@ rests s t is = record {
   fifo = ap (λ x. x.fifo) is;
   gathered = ap (λ x. x.gathered) is;
   wire = ap (λ x. x.wire) is;
+  profile = ap (λ x. x.profile) is;
 }
 
 not_enabled : (s : State) → IsOff s → (rx_setup s.registers).enabled ≡ true → ⊥
@@ -66,6 +68,7 @@ admitted_off s t f answer h k (inl dropped) = (
     fifo = dropped.2;
     gathered = k.gathered;
     wire = k.wire;
+    profile = k.profile;
   },
   ap (stored_by (Arrive f)) dropped.1,
 )
@@ -80,7 +83,8 @@ received_off s t h (inr r) = absurd (not_enabled s h r.2.enabled)
 pub off_turn : (s : State) (t : Turn) (r : Answer × State) → IsOff s → step s (event_of t) ≡ Ok r
     → Rests s r.1 × (stored_by t r.0 ≡ [])
 off_turn s (Arrive f) r h is =
-    let a = arrived s f r is (ap (λ v. bit_and v 0x20 == 0x20) h.rctl) h.untagged in
+    let a = arrived s f r is (ap (λ v. bit_and v 0x20 == 0x20) h.rctl) h.untagged
+    (no_sequences s h.profile) in
     admitted_off s r.1 f r.0 h a.0 a.1
 off_turn s RxStep r h is = (
   received_off s r.1 h

@@ -11,9 +11,10 @@ use Rattle.em_regs.specs.declared.reg.Reg.TheVariants.{Ctrl, Eerd, Imc, Rctl, Tc
 use Rattle.em_regs.specs.declared.reg.Reg.TheVariants.{Rdbal, Rdbah, Rdlen, Rdh, Rdt}
 use Rattle.em_regs.specs.RegFile as registers
 use Rattle.em_regs.specs.Setup.{value_of}
-use Rattle.em_regs.specs.Table.{mask_of, offset_of, reg_at}
+use Rattle.em_regs.specs.declared.profile.Profile.{Profile}
+use Rattle.em_regs.specs.Table.{mask_of, offset_of, reg_of}
 use Rattle.em_regs.proofs.Entries.{at-insert_other}
-use Rattle.em_regs.proofs.TableLaws.{reg_at-offset_of}
+use Rattle.em_regs.proofs.ProfileLaws.{reg_of-offset_of}
 use Rattle.em_latch.specs.Latches as latches
 use Rattle.em_latch.specs.Latches.{is_latched}
 use Rattle.em_filter.specs.Bits.{vme}
@@ -54,6 +55,7 @@ off_rests s t h k = record {
   rctl = ap (λ m. value_of m Rctl) k.registers ∙ h.rctl;
   tctl = ap (λ m. value_of m Tctl) k.registers ∙ h.tctl;
   untagged = ap vme k.registers ∙ h.untagged;
+  profile = k.profile ∙ h.profile;
   fifo = k.fifo ∙ h.fifo;
   gathered = k.gathered ∙ h.gathered;
 }
@@ -65,6 +67,7 @@ off_elsewhere l s t h k =
       rctl = both.0.setup.control ∙ h.rctl;
       tctl = both.1.setup.control ∙ h.tctl;
       untagged = both.0.setup.vme ∙ h.untagged;
+      profile = k.profile ∙ h.profile;
       fifo = k.fifo ∙ h.fifo;
       gathered = k.gathered ∙ h.gathered;
     }
@@ -76,6 +79,7 @@ off_insert s o x other h = record {
   tctl = at-insert_other s.registers o x (offset_of Tctl) (λ e. other.tctl (sym e)) ∙ h.tctl;
   untagged = ap (λ v. bit_and v 0x4000_0000 == 0x4000_0000)
       (at-insert_other s.registers o x (offset_of Ctrl) (λ e. other.ctrl (sym e))) ∙ h.untagged;
+  profile = h.profile;
   fifo = h.fifo;
   gathered = h.gathered;
 }
@@ -150,7 +154,7 @@ making_put l sent entries k s stored reg v u other others kept h = record {
 
 making_write : (l : Layout) (sent : List (List ℕ)) (entries : Entries) (k : ℕ) (reg : Reg) (v u : ℕ) → k ≤ l.rx_count
     → lie_in 0x2800 0x2818 entries ≡ true → IsNoSwitch (offset_of reg)
-    → are_others (offset_of reg) entries ≡ true → reg_at (offset_of reg) ≡ Some reg → is_latched reg ≡ false
+    → are_others (offset_of reg) entries ≡ true → ((p : Profile) → reg_of p (offset_of reg) ≡ Some reg) → is_latched reg ≡ false
     → ((x : State) → after_write x reg v
     ≡ (if is_latched reg then x else record x { registers = registers.put x.registers reg v }))
     → bit_and v (mask_of reg) ≡ u
@@ -197,9 +201,17 @@ masked l sent =
     (making_closed l sent [] 0 (omega arith) refl)
     (λ s t stored h is.
     subst (λ x. IsMaking l sent [] 0 x stored)
-    (sym (written_so s t (offset_of Imc) Imc 0xFFFF_FFFF (reg_at-offset_of Imc (omega arith)) is))
+    (sym (written_so s t (offset_of Imc) Imc 0xFFFF_FFFF (λ p. reg_of-offset_of p Imc (omega arith) refl) is))
     (making_same l sent [] 0 s (record s { latches = latches.after_write s.latches Imc 0xFFFF_FFFF }) stored h
-    (record { registers = refl; base = refl; memory = refl; fifo = refl; gathered = refl; wire = refl })))
+    (record {
+      registers = refl;
+      base = refl;
+      memory = refl;
+      fifo = refl;
+      gathered = refl;
+      wire = refl;
+      profile = refl;
+    })))
 
 link_put : (l : Layout) (sent : List (List ℕ)) (s : State) (stored : List (List ℕ)) → IsMaking l sent [] 0 s stored
     → IsMaking l sent [] 0 (record s { registers = registers.put s.registers Ctrl 0x41 }) stored
@@ -208,6 +220,7 @@ link_put l sent s stored h = record {
     rctl = put_other s.registers Ctrl Rctl 0x41 (λ e. omega arith) ∙ h.off.rctl;
     tctl = put_other s.registers Ctrl Tctl 0x41 (λ e. omega arith) ∙ h.off.tctl;
     untagged = ap (λ v. bit_and v 0x4000_0000 == 0x4000_0000) (put_same s.registers Ctrl 0x41);
+    profile = h.off.profile;
     fifo = h.off.fifo;
     gathered = h.off.gathered;
   };
@@ -225,7 +238,7 @@ linked l sent =
     (making_closed l sent [] 0 (omega arith) refl)
     (λ s t stored h is.
     subst (λ x. IsMaking l sent [] 0 x stored)
-    (sym (written s t (offset_of Ctrl) Ctrl 0x41 (reg_at-offset_of Ctrl (omega arith)) refl (λ x. refl) is))
+    (sym (written s t (offset_of Ctrl) Ctrl 0x41 (λ p. reg_of-offset_of p Ctrl (omega arith) refl) refl (λ x. refl) is))
     (link_put l sent s stored h))
 
 pub link_made : (l : Layout) (sent : List (List ℕ)) → Brings l (IsMaking l sent [] 0) (IsMaking l sent [] 0) set_link_up
@@ -266,7 +279,7 @@ eeprom_made l sent =
     brings_eeprom l (IsMaking l sent [] 0) (making_closed l sent [] 0 (omega arith) refl)
     (λ v s t stored h is.
     subst (λ x. IsMaking l sent [] 0 x stored)
-    (sym (written_so s t (offset_of Eerd) Eerd v (reg_at-offset_of Eerd (omega arith)) is))
+    (sym (written_so s t (offset_of Eerd) Eerd v (λ p. reg_of-offset_of p Eerd (omega arith) refl) is))
     (eerd_by l sent s stored (has v 0x1) (eerd_address v) v h))
     (λ v s t stored h is.
     let k = read_keeps s t (offset_of Eerd) (Value v) is in
@@ -278,6 +291,7 @@ eeprom_made l sent =
       fifo = k.fifo;
       gathered = k.gathered;
       wire = k.wire;
+      profile = k.profile;
     }))
 
 high_switch : (o : ℕ) → 0x0400 < o → IsNoSwitch o
@@ -293,10 +307,10 @@ address_made l sent words =
     (λ more. write (Rah 0) high more)
     (making_less l sent (Ral 0, bit_and low 0xFFFF_FFFF) 0 _
     (making_write l sent [] 0 (Ral 0) low _ (omega arith) refl (high_switch (offset_of (Ral 0)) (omega arith)) refl
-    (reg_at-offset_of (Ral 0) (omega arith)) refl (λ x. refl) refl))
+    (λ p. reg_of-offset_of p (Ral 0) (omega arith) refl) refl (λ x. refl) refl))
     (making_less l sent (Rah 0, bit_and high 0x8003_FFFF) 0 _
     (making_write l sent [] 0 (Rah 0) high _ (omega arith) refl (high_switch (offset_of (Rah 0)) (omega arith)) refl
-    (reg_at-offset_of (Rah 0) (omega arith)) refl (λ x. refl) refl))
+    (λ p. reg_of-offset_of p (Rah 0) (omega arith) refl) refl (λ x. refl) refl))
 
 pub table_made : (l : Layout) (sent : List (List ℕ)) → Brings l (IsMaking l sent [] 0)
     (IsMaking l sent [] 0) multicast_table
@@ -306,7 +320,7 @@ table_made l sent =
     (λ i low.
     making_less l sent (Mta i, 0) 0 _
     (making_write l sent [] 0 (Mta i) 0 0 (omega arith) refl (high_switch (offset_of (Mta i)) (omega arith)) refl
-    (reg_at-offset_of (Mta i) (omega arith)) refl (λ x. refl) refl))
+    (λ p. reg_of-offset_of p (Mta i) (omega arith) refl) refl (λ x. refl) refl))
 
 -- ---- the receive ring
 
@@ -330,6 +344,7 @@ descriptor_made l sent k low =
         rctl = h.off.rctl;
         tctl = h.off.tctl;
         untagged = h.off.untagged;
+        profile = h.off.profile;
         fifo = h.off.fifo;
         gathered = h.off.gathered;
       };
@@ -380,18 +395,18 @@ registers_made l sent base end good placed =
     let all : n ≤ l.rx_count = omega arith in
     brings_both l (at []) (at a) (at (rx_entries l)) (write Rdbal low) _
     (making_write l sent [] n Rdbal low low all refl (high_switch (offset_of Rdbal) (omega arith)) refl
-    (reg_at-offset_of Rdbal (omega arith)) refl (λ x. refl) (base_low l.rx_ring good.receive.aligned))
+    (λ p. reg_of-offset_of p Rdbal (omega arith) refl) refl (λ x. refl) (base_low l.rx_ring good.receive.aligned))
     (brings_both l (at a) (at b) (at (rx_entries l)) (write Rdbah high) _
     (making_write l sent a n Rdbah high high all refl (high_switch (offset_of Rdbah) (omega arith)) refl
-    (reg_at-offset_of Rdbah (omega arith)) refl (λ x. refl) (base_high l.rx_ring (omega (arith, inside))))
+    (λ p. reg_of-offset_of p Rdbah (omega arith) refl) refl (λ x. refl) (base_high l.rx_ring (omega (arith, inside))))
     (brings_both l (at b) (at c) (at (rx_entries l)) (write Rdlen (16 * n)) _
     (making_write l sent b n Rdlen (16 * n) (16 * n) all refl (high_switch (offset_of Rdlen) (omega arith))
     refl
-    (reg_at-offset_of Rdlen (omega arith)) refl (λ x. refl) (ring_length n good.receive.count.eights good.receive.count.most))
+    (λ p. reg_of-offset_of p Rdlen (omega arith) refl) refl (λ x. refl) (ring_length n good.receive.count.eights good.receive.count.most))
     (brings_both l (at c) (at d) (at (rx_entries l)) (write Rdh 0) _
     (making_write l sent c n Rdh 0 0 all refl (high_switch (offset_of Rdh) (omega arith))
     refl
-    (reg_at-offset_of Rdh (omega arith)) refl (λ x. refl) refl)
+    (λ p. reg_of-offset_of p Rdh (omega arith) refl) refl (λ x. refl) refl)
     (making_write l sent d n Rdt (n - 1) (n - 1) all refl (high_switch (offset_of Rdt) (omega arith))
     refl
-    (reg_at-offset_of Rdt (omega arith)) refl (λ x. refl) (index (n - 1) (omega (arith, good.receive.count.most)))))))
+    (λ p. reg_of-offset_of p Rdt (omega arith) refl) refl (λ x. refl) (index (n - 1) (omega (arith, good.receive.count.most)))))))

@@ -4,13 +4,16 @@ use Rattle.std.proofs.Common.{arith, append-nil, inl, inr, Option, Some, None, O
 use Rattle.std.specs.Prelude.{bit_and}
 use Rattle.em_regs.specs.Table.{offset_of}
 use Rattle.em_regs.specs.declared.reg.Reg.TheVariants.{Ctrl, Imc, Rctl, Tctl}
-use Rattle.em_regs.proofs.TableLaws.{reg_at-offset_of}
+use Rattle.em_regs.proofs.ProfileLaws.{reg_of-offset_of}
+use Rattle.em_regs.specs.declared.profile.Profile.TheVariants.{Table}
 use Rattle.em_step.specs.Access.{reset as reset_of}
 use Rattle.em_step.specs.Event.{writes}
 use Rattle.em_step.specs.State.{State}
 use Rattle.em_step.specs.Step.{step}
 use Rattle.em_step.specs.declared.event.Answer.TheVariants.{Done}
+use Rattle.em_step.proofs.ProfileLaws.{event_keeps}
 use Rattle.em_step.proofs.ResetLaws.{zero_after_reset}
+use Rattle.em_turn.specs.Turn.{event_of}
 use Rattle.em_driver.specs.Course.{done, write, Follows}
 use Rattle.em_driver.specs.Driven.{IsGoodFor}
 use Rattle.em_driver.specs.Layout.{IsGoodLayout, IsPlaced}
@@ -35,28 +38,31 @@ use Rattle.em_driver.proofs.order.Accessed.{written_so}
 
 -- ---- until the reset
 
--- memory lies from a base on, and ends there
+-- memory lies from a base on, and ends there, and the device is of the first profile
 abbrev IsThere : ℕ → ℕ → Stage
-IsThere base end s stored = (s.base ≡ base) × (length s.memory ≡ end)
+IsThere base end s stored = (s.base ≡ base) × ((length s.memory ≡ end) × (s.profile ≡ Table))
 
 there_closed : (l : Layout) (base end : ℕ) → IsClosed l (IsThere base end)
 there_closed l base end =
     closed_by l (IsThere base end)
-    (λ s stored t r h is. let k = turn_range s t r is in (k.base ∙ h.0, k.size ∙ h.1))
-    (λ s t stored h e. (e.base ∙ h.0, e.size ∙ h.1))
+    (λ s stored t r h is.
+    let k = turn_range s t r is in
+    (k.base ∙ h.0, (k.size ∙ h.1.0, event_keeps s (event_of t) r is ∙ h.1.1)))
+    (λ s t stored h e. (e.base ∙ h.0, (e.size ∙ h.1.0, e.profile ∙ h.1.1)))
 
 masked : (base end : ℕ) (s t : State) (stored : List (List ℕ)) → IsThere base end s stored
     → step s (writes (offset_of Imc) 0xFFFF_FFFF) ≡ Ok (Done, t) → IsThere base end t stored
 masked base end s t stored h is =
-    let at = written_so s t (offset_of Imc) Imc 0xFFFF_FFFF (reg_at-offset_of Imc (omega arith)) is in
-    (ap (λ x. x.base) at ∙ h.0, ap (λ x. length x.memory) at ∙ h.1)
+    let at = written_so s t (offset_of Imc) Imc 0xFFFF_FFFF (λ p. reg_of-offset_of p Imc (omega arith) refl) is in
+    (ap (λ x. x.base) at ∙ h.0, (ap (λ x. length x.memory) at ∙ h.1.0, ap (λ x. x.profile) at ∙ h.1.1))
 
-is_off : (s : State) → IsOff (reset_of s)
-is_off s = record {
-  rctl = zero_after_reset s Rctl (omega arith) (λ e. cc) (λ e. cc) (λ e. cc);
-  tctl = zero_after_reset s Tctl (omega arith) (λ e. cc) (λ e. cc) (λ e. cc);
+is_off : (s : State) → s.profile ≡ Table → IsOff (reset_of s)
+is_off s first = record {
+  rctl = zero_after_reset s Rctl (omega arith) (λ e. cc) (λ e. cc) (λ e. cc) (λ e. cc) (λ e. cc);
+  tctl = zero_after_reset s Tctl (omega arith) (λ e. cc) (λ e. cc) (λ e. cc) (λ e. cc) (λ e. cc);
   untagged = ap (λ v. bit_and v 0x4000_0000 == 0x4000_0000)
-      (zero_after_reset s Ctrl (omega arith) (λ e. cc) (λ e. cc) (λ e. cc));
+      (zero_after_reset s Ctrl (omega arith) (λ e. cc) (λ e. cc) (λ e. cc) (λ e. cc) (λ e. cc));
+  profile = first;
   fifo = refl;
   gathered = refl;
 }
@@ -66,10 +72,10 @@ made_by_reset : (l : Layout) (base end : ℕ) (s t : State) (stored : List (List
     → IsThere base end s stored → step s (writes (offset_of Ctrl) 0x0400_0000) ≡ Ok (Done, t) → IsMaking l t.wire [] 0 t []
 made_by_reset l base end s t stored good h is =
     subst (λ x. IsMaking l x.wire [] 0 x [])
-    (sym (written_so s t (offset_of Ctrl) Ctrl 0x0400_0000 (reg_at-offset_of Ctrl (omega arith)) is))
+    (sym (written_so s t (offset_of Ctrl) Ctrl 0x0400_0000 (λ p. reg_of-offset_of p Ctrl (omega arith) refl) is))
     (record {
-      off = is_off s;
-      good = good_same l h.0 h.1 good;
+      off = is_off s h.1.1;
+      good = good_same l h.0 h.1.0 good;
       holds = tt;
       fresh = λ i low. absurd (omega arith);
       none = refl;
@@ -118,18 +124,18 @@ reset_follows w m r first second =
     (resets_on m r r (Some Memory) end 1 0 started second refl (ends r started))
 
 from_mask : (l : Layout) (w m v : World) (n k : ℕ) → IsGoodFor (present w) l → IsPlaced l
-    → IsSpared l w.spared
+    → IsSpared l w.spared → (present w).profile ≡ Table
     → Accesses w (writes (offset_of Imc) 0xFFFF_FFFF) Done m → n ≡ 1 + k
     → Follows m (device_reset (after_reset l)) k None v → StartsInOrder l w n v
 unfolding Follows until_reset
-from_mask l w m v n k good placed spared first count (inl (refused, none, is)) = absurd (not_none _ is)
-from_mask l w m v n k good placed spared first count (inr step) =
+from_mask l w m v n k good placed spared profile first count (inl (refused, none, is)) = absurd (not_none _ is)
+from_mask l w m v n k good placed spared profile first count (inr step) =
     let base : ℕ = (present w).base in
     let end : ℕ = length (present w).memory in
     let r : World = step.mid in
     let there = event_at l (IsThere base end) (IsThere base end) w.stored w m (writes (offset_of Imc) 0xFFFF_FFFF) Done
     (there_closed l base end) (masked base end)
-    (record { stored = []; is = sym (append-nil w.stored); holds = (refl, refl); spared = spared }) first in
+    (record { stored = []; is = sym (append-nil w.stored); holds = (refl, (refl, profile)); spared = spared }) first in
     let made = event_at l (IsThere base end) (λ s stored. IsMaking l s.wire [] 0 s []) w.stored m r
     (writes (offset_of Ctrl) 0x0400_0000) Done (there_closed l base end)
     (λ s t stored h is. made_by_reset l base end s t stored good h is) there step.step in
@@ -149,7 +155,7 @@ from_mask l w m v n k good placed spared first count (inr step) =
     }
 
 pub start_order : (l : Layout) (w v : World) (n : ℕ) → IsGoodFor (present w) l → IsPlaced l
-    → IsSpared l w.spared → Follows w (start l) n None v → StartsInOrder l w n v
+    → IsSpared l w.spared → (present w).profile ≡ Table → Follows w (start l) n None v → StartsInOrder l w n v
 unfolding Follows start until_reset
-start_order l w v n good placed spared f =
-    from_mask l w f.mid v n f.others good placed spared f.step f.count f.more
+start_order l w v n good placed spared profile f =
+    from_mask l w f.mid v n f.others good placed spared profile f.step f.count f.more

@@ -14,8 +14,9 @@ use Rattle.em_regs.specs.declared.reg.Reg.TheVariants.{Tctl, Tipg, Tdbal, Tdbah,
 use Rattle.em_regs.specs.RegFile as registers
 use Rattle.em_regs.specs.Setup.{value_of}
 use Rattle.em_regs.specs.Storage.{Registers}
-use Rattle.em_regs.specs.Table.{mask_of, offset_of, reg_at}
-use Rattle.em_regs.proofs.TableLaws.{reg_at-offset_of}
+use Rattle.em_regs.specs.declared.profile.Profile.{Profile}
+use Rattle.em_regs.specs.Table.{mask_of, offset_of, reg_of}
+use Rattle.em_regs.proofs.ProfileLaws.{reg_of-offset_of}
 use Rattle.em_latch.specs.Latches.{is_latched}
 use Rattle.em_step.specs.Access.{after_write}
 use Rattle.em_step.specs.State.{State}
@@ -174,6 +175,7 @@ enabled_receiving l sent s stored placed h =
         untagged = ap (λ v. bit_and v 0x4000_0000 == 0x4000_0000)
             (put_other s.registers Rctl Ctrl 0x801A (λ e. omega arith))
             ∙ h.off.untagged;
+        profile = h.off.profile;
         addresses = λ i low. ap (little_number 8) (at i low) ∙ fresh_address (rx_buffer l i) (omega (arith, inside));
         lengths = λ i low e. absurd (let not_so : true ≡ false = sym e ∙ none i in cc);
         marks = λ i low other. mark i low;
@@ -197,7 +199,7 @@ receiving_enabled l sent placed =
     (making_closed l sent (rx_entries l) l.rx_count (omega arith) refl)
     (λ s t stored h is.
     subst (λ x. IsListening l sent [] 0 x stored)
-    (sym (written s t (offset_of Rctl) Rctl 0x801A (reg_at-offset_of Rctl (omega arith)) refl (λ x. refl) is))
+    (sym (written s t (offset_of Rctl) Rctl 0x801A (λ p. reg_of-offset_of p Rctl (omega arith) refl) refl (λ x. refl) is))
     (enabled_receiving l sent s stored placed h))
 
 -- ---- registers
@@ -216,7 +218,7 @@ listening_put l sent entries k s stored reg v u quiet others kept h =
     let t : State = record s { registers = registers.put s.registers reg v } in
     let r : RxMoves l s t []
     = rx_same l s t h.receiving
-    (same_ring l s t (put_other_side is_rx_side s.registers reg v quiet.receiving) refl) refl in
+    (same_ring l s t (put_other_side is_rx_side s.registers reg v quiet.receiving) refl refl) refl in
     record {
       layout = laid_same l s t refl refl h.layout;
       receiving = r.but;
@@ -231,7 +233,7 @@ listening_put l sent entries k s stored reg v u quiet others kept h =
 
 listening_write : (l : Layout) (sent : List (List ℕ)) (entries : Entries) (k : ℕ) (reg : Reg) (v u : ℕ) → k ≤ l.tx_count
     → are_others (offset_of Rdh) entries ≡ true → lie_in 0x3800 0x3818 entries ≡ true → IsQuiet (offset_of reg)
-    → are_others (offset_of reg) entries ≡ true → reg_at (offset_of reg) ≡ Some reg → is_latched reg ≡ false
+    → are_others (offset_of reg) entries ≡ true → ((p : Profile) → reg_of p (offset_of reg) ≡ Some reg) → is_latched reg ≡ false
     → ((x : State) → after_write x reg v
     ≡ (if is_latched reg then x else record x { registers = registers.put x.registers reg v }))
     → bit_and v (mask_of reg) ≡ u
@@ -297,6 +299,7 @@ descriptor_made l sent k low =
       registers = same_side rx_side s.registers s.registers refl;
       descriptors = λ i below. w.other rx_ring i below tt;
       buffers = λ i below. w.other rx_buffers i below tt;
+      profile = refl;
     }) refl in
     let made : IsListening l sent [] (k + 1) now stored = record {
       layout = laid_same l s now refl w.size h.layout;
@@ -362,25 +365,25 @@ tx_registers_made l sent base end good placed =
     brings_both l (at []) (at a) (at (tx_entries l)) (write Tdbal low) _
     (listening_write l sent [] n Tdbal low low all refl refl
     (quiet (offset_of Tdbal) (omega arith) (λ x. omega arith)) refl
-    (reg_at-offset_of Tdbal (omega arith)) refl (λ x. refl) (base_low l.tx_ring good.transmit.aligned))
+    (λ p. reg_of-offset_of p Tdbal (omega arith) refl) refl (λ x. refl) (base_low l.tx_ring good.transmit.aligned))
     (brings_both l (at a) (at b) (at (tx_entries l)) (write Tdbah high) _
     (listening_write l sent a n Tdbah high high all refl refl
     (quiet (offset_of Tdbah) (omega arith) (λ x. omega arith)) refl
-    (reg_at-offset_of Tdbah (omega arith)) refl (λ x. refl) (base_high l.tx_ring (omega (arith, inside))))
+    (λ p. reg_of-offset_of p Tdbah (omega arith) refl) refl (λ x. refl) (base_high l.tx_ring (omega (arith, inside))))
     (brings_both l (at b) (at c) (at (tx_entries l)) (write Tdlen (16 * n)) _
     (listening_write l sent b n Tdlen (16 * n) (16 * n) all refl refl
     (quiet (offset_of Tdlen) (omega arith) (λ x. omega arith)) refl
-    (reg_at-offset_of Tdlen (omega arith)) refl (λ x. refl) (ring_length n good.transmit.count.eights good.transmit.count.most))
+    (λ p. reg_of-offset_of p Tdlen (omega arith) refl) refl (λ x. refl) (ring_length n good.transmit.count.eights good.transmit.count.most))
     (brings_both l (at c) (at d) (at (tx_entries l)) (write Tdh 0) _
     (listening_write l sent c n Tdh 0 0 all refl refl (quiet (offset_of Tdh) (omega arith) (λ x. omega arith)) refl
-    (reg_at-offset_of Tdh (omega arith)) refl (λ x. refl) refl)
+    (λ p. reg_of-offset_of p Tdh (omega arith) refl) refl (λ x. refl) refl)
     (brings_both l (at d) (at e) (at (tx_entries l)) (write Tdt 0) _
     (listening_write l sent d n Tdt 0 0 all refl refl (quiet (offset_of Tdt) (omega arith) (λ x. omega arith)) refl
-    (reg_at-offset_of Tdt (omega arith)) refl (λ x. refl) refl)
+    (λ p. reg_of-offset_of p Tdt (omega arith) refl) refl (λ x. refl) refl)
     (listening_less l sent (Tipg, 0x0060_200A) e n _
     (listening_write l sent e n Tipg 0x0060_200A 0x0060_200A all refl refl
     (quiet (offset_of Tipg) (omega arith) (λ x. omega arith)) refl
-    (reg_at-offset_of Tipg (omega arith)) refl (λ x. refl) refl))))))
+    (λ p. reg_of-offset_of p Tipg (omega arith) refl) refl (λ x. refl) refl))))))
 
 -- ---- sending begins
 
@@ -408,7 +411,7 @@ enabled_sending l sent s stored h =
     (same_ring l s t
     (put_other_side is_rx_side s.registers Tctl 0x4_010A
     (record { ctrl = λ e. omega arith; control = λ e. omega arith; ring = λ e. omega arith }))
-    refl) refl in
+    refl refl) refl in
     record {
       driven = record {
         but = record {
@@ -442,5 +445,5 @@ sending_enabled l sent =
     (listening_closed l sent (tx_entries l) l.tx_count (omega arith) refl refl)
     (λ s t stored h is.
     subst (λ x. IsStarted l sent x stored)
-    (sym (written s t (offset_of Tctl) Tctl 0x4_010A (reg_at-offset_of Tctl (omega arith)) refl (λ x. refl) is))
+    (sym (written s t (offset_of Tctl) Tctl 0x4_010A (λ p. reg_of-offset_of p Tctl (omega arith) refl) refl (λ x. refl) is))
     (enabled_sending l sent s stored h))

@@ -2,7 +2,8 @@
 use Rattle.std.proofs.Common.{◌≡◌, ◌∙◌, ℕ, Bool, true, false, List, Result, Ok, Err, sym, ap}
 use Rattle.std.proofs.Common.{inl, inr}
 use Rattle.std.proofs.Common.{if◌then◌else◌}
-use Rattle.em_regs.specs.Table.{IsReg, offset_of}
+use Rattle.em_regs.specs.declared.profile.Profile.TheVariants.{Table}
+use Rattle.em_regs.specs.Table.{IsRegOf, offset_of}
 use Rattle.em_regs.specs.declared.reg.Reg.{Reg}
 use Rattle.em_regs.proofs.TableLaws.{reg_at-offset_of}
 use Rattle.em_step.specs.Access.{after_write, is_reset}
@@ -10,6 +11,7 @@ use Rattle.em_step.specs.Event.{writes, pokes}
 use Rattle.em_step.specs.State.{State}
 use Rattle.em_step.specs.Step.{step, resets, Refuses}
 use Rattle.em_step.proofs.Registers.{write_step}
+use Rattle.em_journal.proofs.ProfileLaws.{in_each}
 use Rattle.em_step.specs.declared.event.Answer.{Answer}
 use Rattle.em_step.specs.declared.event.Answer.TheVariants.{Done}
 use Rattle.em_step.specs.declared.refusal.Refusal.{Refusal}
@@ -22,12 +24,12 @@ err_not_ok : {T E : Type 0} (e : E) (x : T) → ◌≡◌ {A = Result T E} (Err 
 err_not_ok e x h = cc
 
 -- a write of a register is refused for memory alone, and only where it resets
-pub write_refused : (s : State) (reg : Reg) (v : ℕ) (refusal : Refusal) → IsReg reg
+pub write_refused : (s : State) (reg : Reg) (v : ℕ) (refusal : Refusal) → IsRegOf Table reg
     → Refuses s (writes (offset_of reg) v) refusal → (refusal ≡ Memory) × (is_reset reg v ≡ true)
 write_refused s reg v refusal is (inl lack) =
-    (lack.0, sym (ap (λ r. resets r v) (reg_at-offset_of reg is)) ∙ lack.1)
+    (lack.0, sym (ap (λ r. resets r v) (reg_at-offset_of reg is.0)) ∙ lack.1)
 write_refused s reg v refusal is (inr e) =
-    absurd (err_not_ok refusal (Done, after_write s reg v) (sym e ∙ write_step s reg v is))
+    absurd (err_not_ok refusal (Done, after_write s reg v) (sym e ∙ write_step s reg v is.0 (in_each reg s.profile is).1))
 
 -- ---- memory writes
 

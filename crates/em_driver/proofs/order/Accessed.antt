@@ -1,5 +1,5 @@
 -- What an access of a driver, or a read or a memory write of others, leaves and answers.
-use Rattle.std.proofs.Common.{◌≡◌, ◌∙◌, ◌||◌, ◌==◌, ℕ, ◌+◌, ◌≤◌, Bool, true, false, List, length}
+use Rattle.std.proofs.Common.{◌≡◌, ◌∙◌, ◌||◌, ◌==◌, ℕ, ◌≤◌, Bool, true, false, List, length}
 use Rattle.std.proofs.Common.{refl, sym, ap, subst, inl, inr, arith, Option, Some, None}
 use Rattle.std.proofs.Common.{Result, Ok, Err, if◌then◌else◌}
 use Rattle.std.specs.Prelude.{nat_lt}
@@ -8,30 +8,31 @@ use Rattle.em_mem.specs.Memory.{LiesIn, leaves, put}
 use Rattle.em_mem.proofs.NeedsLaws.{stays_in}
 use Rattle.em_regs.specs.declared.reg.Reg.{Reg}
 use Rattle.em_regs.specs.RegFile as registers
-use Rattle.em_regs.specs.Table.{reg_at}
+use Rattle.em_regs.specs.declared.profile.Profile.{Profile}
+use Rattle.em_regs.specs.Table.{answers_at, reg_of}
 use Rattle.em_latch.specs.Latches as latches
 use Rattle.em_latch.specs.Latches.{is_latched}
 use Rattle.em_step.specs.Access.{after_read, after_write, gives}
 use Rattle.em_step.specs.Event.{reads, writes, pokes}
 use Rattle.em_step.specs.State.{State}
-use Rattle.em_step.specs.Step.{at_register, poke, step, Refuses}
+use Rattle.em_step.specs.Step.{at_none, at_register, poke, step, Refuses}
 use Rattle.em_step.specs.declared.event.Answer.{Answer}
 use Rattle.em_step.specs.declared.event.Answer.TheVariants.{Done, Value}
 use Rattle.em_step.specs.declared.refusal.Refusal.{Refusal}
-use Rattle.em_step.specs.declared.refusal.Refusal.TheVariants.{Range, Length, Memory}
+use Rattle.em_step.specs.declared.refusal.Refusal.TheVariants.{NoRegister, Range, Length, Memory}
 
 pub ok_is : (x y : Answer × State) → ◌≡◌ {A = Result (Answer × State) Refusal} (Ok x) (Ok y) → x ≡ y
 ok_is x y h = cc
 
 -- the state after a write of a register
-pub written_so : (s t : State) (o : ℕ) (reg : Reg) (v : ℕ) → reg_at o ≡ Some reg → step s (writes o v) ≡ Ok (Done, t)
+pub written_so : (s t : State) (o : ℕ) (reg : Reg) (v : ℕ) → ((p : Profile) → reg_of p o ≡ Some reg) → step s (writes o v) ≡ Ok (Done, t)
     → t ≡ after_write s reg v
 written_so s t o reg v there h =
     let access : Reg → Answer × State = λ r. (Done, after_write s r v) in
-    sym (ap (λ x. x.1) (ok_is (access reg) (Done, t) (sym (ap (λ r. at_register r access) there) ∙ h)))
+    sym (ap (λ x. x.1) (ok_is (access reg) (Done, t) (sym (ap (λ r. at_register r access (at_none s o Done)) (there s.profile)) ∙ h)))
 
 -- the state after a write of a register that stores it
-pub written : (s t : State) (o : ℕ) (reg : Reg) (v : ℕ) → reg_at o ≡ Some reg → is_latched reg ≡ false
+pub written : (s t : State) (o : ℕ) (reg : Reg) (v : ℕ) → ((p : Profile) → reg_of p o ≡ Some reg) → is_latched reg ≡ false
     → ((x : State) → after_write x reg v ≡
     (if is_latched reg then x else record x { registers = registers.put x.registers reg v }))
     → step s (writes o v) ≡ Ok (Done, t) → t ≡ record s { registers = registers.put s.registers reg v }
@@ -47,29 +48,40 @@ pub record ReadKeeps (s t : State) : Type 0 where
   pub fifo : t.fifo ≡ s.fifo
   pub gathered : t.gathered ≡ s.gathered
   pub wire : t.wire ≡ s.wire
+  pub profile : t.profile ≡ s.profile
 
 keeps_by : (s : State) (reg : Reg) (b : Bool)
     → ReadKeeps s (if b then record s { latches = latches.after_read s.latches reg } else s)
-keeps_by s reg true = record { registers = refl; base = refl; memory = refl; fifo = refl; gathered = refl; wire = refl }
-keeps_by s reg false = record { registers = refl; base = refl; memory = refl; fifo = refl; gathered = refl; wire = refl }
+keeps_by s reg true =
+    record { registers = refl; base = refl; memory = refl; fifo = refl; gathered = refl; wire = refl; profile = refl }
+keeps_by s reg false =
+    record { registers = refl; base = refl; memory = refl; fifo = refl; gathered = refl; wire = refl; profile = refl }
 
-read_by : (s t : State) (r : Option Reg) (a : Answer)
-    → at_register r (λ reg. (Value (gives s reg), after_read s reg)) ≡ Ok (a, t) → ReadKeeps s t
-read_by s t None a h = cc
-read_by s t (Some reg) a h =
+-- where no register lies
+lost_by : (s t : State) (answers : Bool) (a : Answer)
+    → if◌then◌else◌ {A = Result (Answer × State) Refusal} answers (Ok (Value 0, s)) (Err NoRegister) ≡ Ok (a, t) → ReadKeeps s t
+lost_by s t true a h =
+    subst (ReadKeeps s) (ap (λ x. x.1) (ok_is (Value 0, s) (a, t) h))
+    (record { registers = refl; base = refl; memory = refl; fifo = refl; gathered = refl; wire = refl; profile = refl })
+lost_by s t false a h = cc
+
+read_by : (s t : State) (o : ℕ) (r : Option Reg) (a : Answer)
+    → at_register r (λ reg. (Value (gives s reg), after_read s reg)) (at_none s o (Value 0)) ≡ Ok (a, t) → ReadKeeps s t
+read_by s t o None a h = lost_by s t (answers_at s.profile o) a h
+read_by s t o (Some reg) a h =
     subst (ReadKeeps s) (ap (λ x. x.1) (ok_is (Value (gives s reg), after_read s reg) (a, t) h))
     (keeps_by s reg (is_latched reg))
 
 pub read_keeps : (s t : State) (o : ℕ) (a : Answer) → step s (reads o) ≡ Ok (a, t) → ReadKeeps s t
-read_keeps s t o a h = read_by s t (reg_at o) a h
+read_keeps s t o a h = read_by s t o (reg_of s.profile o) a h
 
 -- what is read is what the register holds
-pub read_gives : (s t : State) (o value : ℕ) (reg : Reg) → reg_at o ≡ Some reg
+pub read_gives : (s t : State) (o value : ℕ) (reg : Reg) → ((p : Profile) → reg_of p o ≡ Some reg)
     → step s (reads o) ≡ Ok (Value value, t) → value ≡ gives s reg
 read_gives s t o value reg there h =
     let access : Reg → Answer × State = λ r. (Value (gives s r), after_read s r) in
     let is : (Value (gives s reg), after_read s reg) ≡ (Value value, t)
-    = ok_is _ _ (sym (ap (λ r. at_register r access) there) ∙ h) in
+    = ok_is _ _ (sym (ap (λ r. at_register r access (at_none s o (Value 0))) (there s.profile)) ∙ h) in
     same_value _ _ (ap (λ x. x.0) is)
   where
     same_value : (a b : ℕ) → Value a ≡ Value b → b ≡ a

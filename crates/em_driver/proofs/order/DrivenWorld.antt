@@ -5,7 +5,8 @@ use Rattle.std.specs.Prelude.{bit_and}
 use Rattle.std.proofs.lemmas.List.{map-append}
 use Rattle.em_regs.specs.declared.reg.Reg.{Reg}
 use Rattle.em_regs.specs.RegFile as registers
-use Rattle.em_regs.specs.Table.{mask_of, offset_of, reg_at}
+use Rattle.em_regs.specs.declared.profile.Profile.{Profile}
+use Rattle.em_regs.specs.Table.{mask_of, offset_of, reg_of}
 use Rattle.em_latch.specs.Latches.{is_latched}
 use Rattle.em_step.specs.Access.{after_write}
 use Rattle.em_step.specs.Event.{reads, writes}
@@ -125,7 +126,7 @@ pub moves_read : (l : Layout) (s t : State) (o : ℕ) (a : Answer) → IsDrivenB
     → Moves l s t []
 moves_read l s t o a h is =
     let k = read_keeps s t o a is in
-    moves_same l s t h k.registers k.base k.memory k.fifo k.gathered k.wire
+    moves_same l s t h k.registers k.base k.memory k.fifo k.gathered k.wire k.profile
 
 pub order_read : (l : Layout) (w v : World) (o : ℕ) (a : Answer) → IsUndisturbed l w → Accesses w (reads o) a v
     → InOrder l w v [] []
@@ -136,7 +137,7 @@ order_read l w v o a h k =
 
 -- a write of a register that neither side goes by
 pub order_write : (l : Layout) (w v : World) (reg : Reg) {value : ℕ} → IsOther rx_side (offset_of reg)
-    → IsOther tx_side (offset_of reg) → reg_at (offset_of reg) ≡ Some reg → is_latched reg ≡ false
+    → IsOther tx_side (offset_of reg) → ((p : Profile) → reg_of p (offset_of reg) ≡ Some reg) → is_latched reg ≡ false
     → ((x : State) → after_write x reg value
     ≡ (if is_latched reg then x else record x { registers = registers.put x.registers reg value }))
     → IsUndisturbed l w → Accesses w (writes (offset_of reg) value) Done v → InOrder l w v [] []

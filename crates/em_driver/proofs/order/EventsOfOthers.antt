@@ -1,5 +1,5 @@
 -- An event of others: what it leaves of a device, and in a state as a driver keeps it.
-use Rattle.std.proofs.Common.{◌≡◌, ◌≢◌, ◌∙◌, ◌⊎◌, ◌||◌, ◌==◌, ℕ, ◌+◌, ◌≤◌, ◌<◌, Bool, true, false, List, [], ◌++◌}
+use Rattle.std.proofs.Common.{◌≡◌, ◌≢◌, ◌∙◌, ◌⊎◌, ◌||◌, ◌==◌, ℕ, ◌<◌, Bool, true, false, List, [], ◌++◌}
 use Rattle.std.proofs.Common.{length, refl, sym, ap, subst, inl, inr, arith, Option, Some, None, Ok, Err}
 use Rattle.std.proofs.Common.{if◌then◌else◌}
 use Rattle.std.specs.FinMap as map
@@ -12,21 +12,23 @@ use Rattle.em_regs.specs.declared.reg.Reg.{Reg}
 use Rattle.em_regs.specs.declared.reg.Reg.TheVariants.{Ctrl, Eerd}
 use Rattle.em_regs.specs.declared.table.Kind.{Kind}
 use Rattle.em_regs.specs.declared.table.Kind.TheVariants.{Stored, Control, EepromRead, Status, Interrupt, Counter}
+use Rattle.em_regs.specs.declared.table.Kind.TheVariants.{EepromPins, PhyCommand}
 use Rattle.em_regs.specs.RegFile as registers
 use Rattle.em_regs.specs.Storage.{Registers}
-use Rattle.em_regs.specs.Table.{IsReg, mask_of, offset_of, reg_at, row_of}
+use Rattle.em_regs.specs.declared.profile.Profile.{Profile}
+use Rattle.em_regs.specs.Table.{IsReg, answers_at, has_reg, kept_by, mask_in, mask_of, offset_of, reg_at, reg_of, row_of}
 use Rattle.em_regs.specs.Table as table
 use Rattle.em_regs.proofs.TableLaws.{reg_in_lies}
 use Rattle.em_latch.specs.Latches as latches
 use Rattle.em_eeprom.specs.Eeprom.{word_at}
 use Rattle.em_step.specs.Access.{after_eeprom_read, after_latch_write, after_link, after_store, after_write}
-use Rattle.em_step.specs.Access.{after_write_by, differ, eerd_address, has}
+use Rattle.em_step.specs.Access.{after_phy_command, after_pins_write, after_write_by, differ, eerd_address, has}
 use Rattle.em_step.specs.Event.{Event, reads, writes, pokes, arrives, links, receives, transmits}
 use Rattle.em_step.specs.State.{State}
-use Rattle.em_step.specs.Step.{at_register, step}
+use Rattle.em_step.specs.Step.{at_none, at_register, step}
 use Rattle.em_step.specs.declared.event.Answer.{Answer}
 use Rattle.em_step.specs.declared.event.Answer.TheVariants.{Done}
-use Rattle.em_step.specs.declared.refusal.Refusal.TheVariants.{Range, Length}
+use Rattle.em_step.specs.declared.refusal.Refusal.TheVariants.{NoRegister, Range, Length}
 use Rattle.em_driver.specs.Driven.{IsDrivenBut, IsReceivingBut}
 use Rattle.em_driver.specs.Order.{queued}
 use Rattle.em_driver.specs.Others.{IsNoDriverMemory, IsNoDriverRegister, IsOthers}
@@ -64,10 +66,11 @@ pub record IsElsewhere (l : Layout) (s t : State) : Type 0 where
   pub fifo : t.fifo ≡ s.fifo
   pub gathered : t.gathered ≡ s.gathered
   pub wire : t.wire ≡ s.wire
+  pub profile : t.profile ≡ s.profile
 
 elsewhere_same : (l : Layout) (s t : State) → t.registers ≡ s.registers → t.base ≡ s.base → t.memory ≡ s.memory
-    → t.fifo ≡ s.fifo → t.gathered ≡ s.gathered → t.wire ≡ s.wire → IsElsewhere l s t
-elsewhere_same l s t regs base memory fifo gathered wire = record {
+    → t.fifo ≡ s.fifo → t.gathered ≡ s.gathered → t.wire ≡ s.wire → t.profile ≡ s.profile → IsElsewhere l s t
+elsewhere_same l s t regs base memory fifo gathered wire profile = record {
   registers = inl regs;
   base = base;
   size = ap length memory;
@@ -75,6 +78,7 @@ elsewhere_same l s t regs base memory fifo gathered wire = record {
   fifo = fifo;
   gathered = gathered;
   wire = wire;
+  profile = profile;
 }
 
 word_elsewhere : (l : Layout) (s : State) (o v : ℕ) → IsNoDriverRegister o
@@ -87,6 +91,7 @@ word_elsewhere l s o v out = record {
   fifo = refl;
   gathered = refl;
   wire = refl;
+  profile = refl;
 }
 
 -- ---- a register
@@ -115,26 +120,48 @@ no_control reg out = λ same. cc
 
 write_by : (l : Layout) (s : State) (reg : Reg) (v : ℕ) (kind : Kind) → kind ≢ Control
     → IsNoDriverRegister (offset_of reg) → IsElsewhere l s (after_write_by kind s reg v)
-write_by l s reg v Stored other out = word_elsewhere l s (offset_of reg) (bit_and v (mask_of reg)) out
+write_by l s reg v Stored other out = word_elsewhere l s (offset_of reg) (bit_and v (mask_in s.profile reg)) out
 write_by l s reg v Control other out = absurd (other refl)
 write_by l s reg v EepromRead other out = eerd_elsewhere l s v (has v 0x1)
-write_by l s reg v Status other out = elsewhere_same l s s refl refl refl refl refl refl
+write_by l s reg v Status other out = elsewhere_same l s s refl refl refl refl refl refl refl
 write_by l s reg v Interrupt other out =
-    elsewhere_same l s (after_latch_write s reg v) refl refl refl refl refl refl
-write_by l s reg v Counter other out = elsewhere_same l s (after_latch_write s reg v) refl refl refl refl refl refl
+    elsewhere_same l s (after_latch_write s reg v) refl refl refl refl refl refl refl
+write_by l s reg v Counter other out = elsewhere_same l s (after_latch_write s reg v) refl refl refl refl refl refl refl
+write_by l s reg v EepromPins other out = elsewhere_same l s (after_pins_write s v) refl refl refl refl refl refl refl
+write_by l s reg v PhyCommand other out = elsewhere_same l s (after_phy_command s v) refl refl refl refl refl refl refl
 
 write_elsewhere : (l : Layout) (s : State) (reg : Reg) (v : ℕ) → IsNoDriverRegister (offset_of reg)
     → IsElsewhere l s (after_write s reg v)
 write_elsewhere l s reg v out = write_by l s reg v (row_of reg).kind (no_control reg out.ctrl) out
 
-lies : (o : ℕ) → IfSome (reg_at o) (λ reg. IsReg reg × (offset_of reg ≡ o))
+lies_at : (o : ℕ) → IfSome (reg_at o) (λ reg. IsReg reg × (offset_of reg ≡ o))
 unfolding reg_at
-lies o = reg_in_lies table.registers o
+lies_at o = reg_in_lies table.registers o
+
+lies_if : (b : Bool) (o : ℕ) (reg : Reg) → IsReg reg × (offset_of reg ≡ o)
+    → IfSome (if b then Some reg else None) (λ r. IsReg r × (offset_of r ≡ o))
+lies_if true o reg lies = lies
+lies_if false o reg lies = tt
+
+lies_kept : (p : Profile) (o : ℕ) (found : Option Reg) → IfSome found (λ reg. IsReg reg × (offset_of reg ≡ o))
+    → IfSome (kept_by p found) (λ reg. IsReg reg × (offset_of reg ≡ o))
+lies_kept p o None lies = tt
+lies_kept p o (Some reg) lies = lies_if (has_reg p reg) o reg lies
+
+lies : (p : Profile) (o : ℕ) → IfSome (reg_of p o) (λ reg. IsReg reg × (offset_of reg ≡ o))
+lies p o = lies_kept p o (reg_at o) (lies_at o)
+
+-- where no register lies
+lost_by : (l : Layout) (s : State) (answers : Bool) (r : Answer × State)
+    → (if answers then Ok (Done, s) else Err NoRegister) ≡ Ok r → IsElsewhere l s r.1
+lost_by l s true r is =
+    subst (λ x. IsElsewhere l s x.1) (ok_is (Done, s) r is) (elsewhere_same l s s refl refl refl refl refl refl refl)
+lost_by l s false r is = cc
 
 written_by : (l : Layout) (s : State) (o v : ℕ) (there : Option Reg) (r : Answer × State)
     → IfSome there (λ reg. IsReg reg × (offset_of reg ≡ o)) → IsNoDriverRegister o
-    → at_register there (λ reg. (Done, after_write s reg v)) ≡ Ok r → IsElsewhere l s r.1
-written_by l s o v None r lies out is = cc
+    → at_register there (λ reg. (Done, after_write s reg v)) (at_none s o Done) ≡ Ok r → IsElsewhere l s r.1
+written_by l s o v None r lies out is = lost_by l s (answers_at s.profile o) r is
 written_by l s o v (Some reg) r lies out is =
     subst (λ x. IsElsewhere l s x.1) (ok_is (Done, after_write s reg v) r is)
     (write_elsewhere l s reg v (subst IsNoDriverRegister (sym lies.1) out))
@@ -151,6 +178,7 @@ memory_elsewhere l s a d out held = record {
   fifo = refl;
   gathered = refl;
   wire = refl;
+  profile = refl;
 }
 
 poked_by : (l : Layout) (s : State) (a : ℕ) (d : List ℕ) (past short : Bool) (r : Answer × State)
@@ -165,8 +193,8 @@ poked_by l s a d false false r out is e =
 
 link_by : (l : Layout) (s : State) (up b : Bool)
     → IsElsewhere l s (if b then record s { link = up; latches = latches.after_raise s.latches 0x4 } else s)
-link_by l s up true = elsewhere_same l s _ refl refl refl refl refl refl
-link_by l s up false = elsewhere_same l s s refl refl refl refl refl refl
+link_by l s up true = elsewhere_same l s _ refl refl refl refl refl refl refl
+link_by l s up false = elsewhere_same l s s refl refl refl refl refl refl refl
 
 -- ---- any event
 
@@ -181,8 +209,8 @@ pub others_elsewhere : (l : Layout) (s : State) (e : Event) (r : Answer × State
     → step s e ≡ Ok r → IsElsewhere l s r.1
 others_elsewhere l s (reads o) r plain out is =
     let k = read_keeps s r.1 o r.0 is in
-    elsewhere_same l s r.1 k.registers k.base k.memory k.fifo k.gathered k.wire
-others_elsewhere l s (writes o v) r plain out is = written_by l s o v (reg_at o) r (lies o) out is
+    elsewhere_same l s r.1 k.registers k.base k.memory k.fifo k.gathered k.wire k.profile
+others_elsewhere l s (writes o v) r plain out is = written_by l s o v (reg_of s.profile o) r (lies s.profile o) out is
 others_elsewhere l s (pokes a d) r plain out is =
     poked_by l s a d (leaves s.base s.memory a (length d)) (length d == 0 || nat_lt 16_384 (length d)) r out
     refl is
@@ -215,6 +243,7 @@ rx_elsewhere l s t h k = rx_same l s t h (record {
   registers = (same_sides s.registers t.registers k.registers).0;
   descriptors = λ i low. k.units rx_ring i low;
   buffers = λ i low. k.units rx_buffers i low;
+  profile = k.profile;
 }) k.fifo
 
 elsewhere_moves : (l : Layout) (s t : State) → IsDrivenBut l s → IsElsewhere l s t → Moves l s t []

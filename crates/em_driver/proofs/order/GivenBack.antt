@@ -81,6 +81,7 @@ clears l s t h filled is =
           head = r.head;
           tail = r.tail;
           untagged = r.untagged;
+          profile = r.profile;
           addresses = λ i inside. elim (cases_eq i a) [
             | inl e ↦ subst (λ x. little_number 8 (rx_at l u x) ≡ rx_buffer l x) (sym e)
                 (ap (little_number 8) w.here ∙ address_stays (rx_at l s a) 12 (0 ∷ []) (omega arith)
@@ -188,6 +189,7 @@ gives_back l s t h c is =
             head = subst (λ x. x < n) (sym head) r.head;
             tail = subst (λ x. x < n) (sym tail) low;
             untagged = setup.vme ∙ r.untagged;
+            profile = r.profile;
             addresses = r.addresses;
             lengths = λ i inside e. elim (cases_eq i a) [
               | inl is ↦ absurd (let not_so : true ≡ false = sym e ∙ ap (is_filled l u) is ∙ here in cc)

@@ -46,7 +46,12 @@ hands : (l : Layout) (s : State) (m : List ℕ) → IsDriven l s → length m �
 hands l s m h size ring buffers kept =
     let t : State = record s { memory = m } in
     let r : RxMoves l s t [] = rx_same l s t h.but.receiving
-    (record { registers = same_side rx_side s.registers s.registers refl; descriptors = ring; buffers = buffers })
+    (record {
+      registers = same_side rx_side s.registers s.registers refl;
+      descriptors = ring;
+      buffers = buffers;
+      profile = refl;
+    })
     refl in
     record {
       driven = record {
@@ -215,7 +220,7 @@ queues l s t packet h ready free is =
     (same_ring l s u
     (put_other_side is_rx_side s.registers Tdt next
     (record { ctrl = λ e. omega arith; control = λ e. omega arith; ring = λ e. omega arith }))
-    refl) refl in
+    refl refl) refl in
     let far : distance n (tdh u) (tdt u) ≡ distance n a next = λ p. distance n (head p) (tail p) in
     let more = distance_more n a b k.head k.tail room in
     let all : Queues l s u packet = record {

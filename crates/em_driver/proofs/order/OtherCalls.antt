@@ -3,7 +3,7 @@ use Rattle.std.proofs.Common.{ℕ, List, [], refl, arith}
 use Rattle.std.specs.Prelude.{⊤}
 use Rattle.em_regs.specs.Table.{offset_of}
 use Rattle.em_regs.specs.declared.reg.Reg.TheVariants.{Ral, Rah}
-use Rattle.em_regs.proofs.TableLaws.{reg_at-offset_of}
+use Rattle.em_regs.proofs.ProfileLaws.{reg_of-offset_of}
 use Rattle.em_step.specs.declared.event.Answer.TheVariants.{Value}
 use Rattle.em_driver.specs.Calls.{get_link_speed, get_mac_addr, read_stats, reset_stats, set_mac_addr}
 use Rattle.em_driver.specs.Course.{Course, done, read, write, reset, peek, poke, room, Follows}
@@ -61,11 +61,11 @@ set_mac_addr_order {l = l} octets {w = w} {v = v} events h step =
     let one = order_write l w step.mid (Ral 0)
     (record { ctrl = λ e. omega arith; control = λ e. omega arith; ring = λ e. omega arith })
     (record { ctrl = λ e. omega arith; control = λ e. omega arith; ring = λ e. omega arith })
-    (reg_at-offset_of (Ral 0) (omega arith)) refl (λ x. refl) h step.step in
+    (λ p. reg_of-offset_of p (Ral 0) (omega arith) refl) refl (λ x. refl) h step.step in
     let two = order_write l step.mid step.more.mid (Rah 0)
     (record { ctrl = λ e. omega arith; control = λ e. omega arith; ring = λ e. omega arith })
     (record { ctrl = λ e. omega arith; control = λ e. omega arith; ring = λ e. omega arith })
-    (reg_at-offset_of (Rah 0) (omega arith)) refl (λ x. refl) one.undisturbed step.more.step in
+    (λ p. reg_of-offset_of p (Rah 0) (omega arith) refl) refl (λ x. refl) one.undisturbed step.more.step in
     order_on l w step.mid v [] [] [] [] one
     (order_on l step.mid step.more.mid v [] [] [] [] two
     (order_none l step.more.mid v two.undisturbed step.more.more.world_is))

@@ -11,7 +11,7 @@ use Rattle.em_regs.specs.declared.reg.Reg.TheVariants.{Rdt}
 use Rattle.em_regs.specs.RegFile as registers
 use Rattle.em_regs.specs.Setup.{value_of}
 use Rattle.em_regs.specs.Table.{offset_of}
-use Rattle.em_regs.proofs.TableLaws.{reg_at-offset_of}
+use Rattle.em_regs.proofs.ProfileLaws.{reg_of-offset_of}
 use Rattle.em_step.specs.Event.{writes, pokes}
 use Rattle.em_step.specs.declared.event.Answer.TheVariants.{Done, Value}
 use Rattle.em_step.specs.declared.refusal.Refusal.TheVariants as refusal
@@ -67,7 +67,7 @@ took l i w u v h at filled a b =
     let at2 : i ≡ first l s2 = at1 ∙ sym first_u ∙ sym first_2 in
     let cleared2 = cleared_moves l (present u) s2 q.stored q.holds.receiving c.cleared in
     let g = gives_back l s2 (present v) (passed_but l u b.mid q) cleared2
-    (written s2 (present v) (offset_of Rdt) Rdt i (reg_at-offset_of Rdt (omega arith)) refl (λ x. refl) b.does.0
+    (written s2 (present v) (offset_of Rdt) Rdt i (λ p. reg_of-offset_of p Rdt (omega arith) refl) refl (λ x. refl) b.does.0
     ∙ ap (λ k. record s2 { registers = registers.put s2.registers Rdt k }) at2) in
     -- the packet stayed as it was
     let packet : rx_packet_at l s2 (first l s2) ≡ rx_packet_at l (present w) (first l (present w))
@@ -278,7 +278,7 @@ rx_batch_order l zero (suc n) queue w v events a h (tail, step) =
     let order = order_read l w m (offset_of Rdt) (Value tail) h step.step in
     let s = present step.step.mid in
     let gives : tail ≡ rdt s = read_gives s (present m) (offset_of Rdt) tail Rdt
-    (reg_at-offset_of Rdt (omega arith)) step.step.does.0 in
+    (λ p. reg_of-offset_of p Rdt (omega arith) refl) step.step.does.0 in
     let same = (read_keeps s (present m) (offset_of Rdt) (Value tail) step.step.does.0).registers in
     let is : tail ≡ rdt (present m) = gives ∙ sym (ap (λ r. value_of r Rdt) same) in
     let below : nat_lt tail l.rx_count ≡ true

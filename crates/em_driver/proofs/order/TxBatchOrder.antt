@@ -13,7 +13,7 @@ use Rattle.em_regs.specs.RegFile as registers
 use Rattle.em_regs.specs.Setup.{value_of}
 use Rattle.em_regs.specs.declared.reg.Reg.TheVariants.{Tdh, Tdt}
 use Rattle.em_regs.specs.Table.{offset_of}
-use Rattle.em_regs.proofs.TableLaws.{reg_at-offset_of}
+use Rattle.em_regs.proofs.ProfileLaws.{reg_of-offset_of}
 use Rattle.em_step.specs.Event.{reads, writes, pokes}
 use Rattle.em_step.specs.Whole.{padded}
 use Rattle.em_step.specs.declared.event.Answer.TheVariants.{Done, Value}
@@ -150,7 +150,7 @@ give_packet l i packet w v h at ready free a =
     let at1 : i ≡ tdt s = at ∙ sym p.holds.sending.tail in
     let q = queues l s (present v) packet (passed_driven l w a.mid h.driven p)
     (ready_moves l (present w) s packet p.holds.sending ready) (omega (arith, p.holds.sending.free))
-    (written s (present v) (offset_of Tdt) Tdt (following l.tx_count i) (reg_at-offset_of Tdt (omega arith)) refl
+    (written s (present v) (offset_of Tdt) Tdt (following l.tx_count i) (λ p. reg_of-offset_of p Tdt (omega arith) refl) refl
     (λ x. refl) a.does.0
     ∙ ap (λ k. record s { registers = registers.put s.registers Tdt (following l.tx_count k) }) at1) in
     record {
@@ -339,11 +339,11 @@ tx_batch_order l zero (packet ∷ queue) w v events a h (tail, one) =
     let s1 = present one.step.mid in
     let s2 = present two.step.mid in
     let tail_is : tail ≡ tdt (present x)
-    = read_gives s1 (present m) (offset_of Tdt) tail Tdt (reg_at-offset_of Tdt (omega arith)) one.step.does.0
+    = read_gives s1 (present m) (offset_of Tdt) tail Tdt (λ p. reg_of-offset_of p Tdt (omega arith) refl) one.step.does.0
     ∙ sym (ap (λ r. value_of r Tdt) (read_keeps s1 (present m) (offset_of Tdt) (Value tail) one.step.does.0).registers)
     ∙ sym r2.tail in
     let head_is : head ≡ tdh (present x)
-    = read_gives s2 (present x) (offset_of Tdh) head Tdh (reg_at-offset_of Tdh (omega arith)) two.step.does.0
+    = read_gives s2 (present x) (offset_of Tdh) head Tdh (λ p. reg_of-offset_of p Tdh (omega arith) refl) two.step.does.0
     ∙ sym (ap (λ r. value_of r Tdh) (read_keeps s2 (present x) (offset_of Tdh)
     (Value head) two.step.does.0).registers) in
     let k = r2.order.undisturbed.driven.but.sending in

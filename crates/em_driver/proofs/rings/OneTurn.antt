@@ -1,7 +1,7 @@
 -- One turn of another actor, in a state as a driver keeps it.
-use Rattle.std.proofs.Common.{◌≡◌, ◌∙◌, ◌⊎◌, ℕ, Bool, true, false, List, [], ◌∷◌, ◌++◌, length, refl, sym, ap}
+use Rattle.std.proofs.Common.{◌≡◌, ◌∙◌, ◌⊎◌, ℕ, List, [], ◌∷◌, ◌++◌, length, refl, sym, ap}
 use Rattle.std.proofs.Common.{subst}
-use Rattle.std.proofs.Common.{if◌then◌else◌, inl, inr, arith, Ok}
+use Rattle.std.proofs.Common.{inl, inr, arith, Ok}
 use Rattle.em_regs.specs.declared.reg.Reg.TheVariants.{Rdh, Tdh}
 use Rattle.em_regs.specs.RegFile as registers
 use Rattle.std.specs.FinMap as map
@@ -23,7 +23,7 @@ use Rattle.em_turn.specs.declared.turn.Turn.{Turn}
 use Rattle.em_turn.specs.declared.turn.Turn.TheVariants.{Arrive, RxStep, TxStep}
 use Rattle.em_driver.proofs.rings.ReceiveRing.{RxMoves, rx_moves_on, rx_kept, rx_same, same_ring}
 use Rattle.em_driver.proofs.rings.ReceiveRing.{rx_writes, fills}
-use Rattle.em_driver.proofs.rings.ReceiveRing.{moves_fill, buffer_whole, no_long_frames}
+use Rattle.em_driver.proofs.rings.ReceiveRing.{moves_fill, buffer_whole, no_long_frames, no_sequences}
 use Rattle.em_driver.proofs.rings.TransmitRing.{TxMoves, tx_moves_on, SameTxRing, tx_same, same_tx_ring}
 use Rattle.em_driver.proofs.rings.TransmitRing.{sends, moves_send, is_whole}
 use Rattle.em_driver.proofs.rings.TransmitRing.{no_tags, pads}
@@ -44,16 +44,16 @@ laid_same l s t base size h = record { good = good_same l base size h.good; plac
 -- neither side's ring changed, nor what is on the wire
 pub moves_same : (l : Layout) (s t : State) → IsDrivenBut l s → t.registers ≡ s.registers → t.base ≡ s.base
     → t.memory ≡ s.memory
-    → t.fifo ≡ s.fifo → t.gathered ≡ s.gathered → t.wire ≡ s.wire → Moves l s t []
-moves_same l s t h regs base memory fifo gathered wire = record {
+    → t.fifo ≡ s.fifo → t.gathered ≡ s.gathered → t.wire ≡ s.wire → t.profile ≡ s.profile → Moves l s t []
+moves_same l s t h regs base memory fifo gathered wire profile = record {
   layout = laid_same l s t base (ap length memory) h.layout;
-  receiving = rx_same l s t h.receiving (same_ring l s t (same_side rx_side s.registers t.registers regs) memory) fifo;
+  receiving = rx_same l s t h.receiving (same_ring l s t (same_side rx_side s.registers t.registers regs) memory profile) fifo;
   sending = tx_same l s t h.sending
       (same_tx_ring l s t (same_side tx_side s.registers t.registers regs) memory gathered wire);
 }
 
 pub moves_none : (l : Layout) (s : State) → IsDrivenBut l s → Moves l s s []
-moves_none l s h = moves_same l s s h refl refl refl refl refl refl
+moves_none l s h = moves_same l s s h refl refl refl refl refl refl refl
 
 -- a word of the registers that neither side goes by
 pub moves_word : (l : Layout) (s : State) (o v : ℕ) → IsDrivenBut l s → IsOther rx_side o → IsOther tx_side o
@@ -62,7 +62,7 @@ moves_word l s o v h rx tx =
     let t : State = record s { registers = map.insert s.registers o v } in
     record {
       layout = laid_same l s t refl refl h.layout;
-      receiving = rx_same l s t h.receiving (same_ring l s t (word_other is_rx_side s.registers o v rx) refl) refl;
+      receiving = rx_same l s t h.receiving (same_ring l s t (word_other is_rx_side s.registers o v rx) refl refl) refl;
       sending = tx_same l s t h.sending (same_tx_ring l s t (word_other is_tx_side s.registers o v tx) refl refl refl);
     }
 
@@ -78,7 +78,7 @@ pub record RxTurn (l : Layout) (s t : State) (added : List (List ℕ)) : Type 0 
 nothing : (l : Layout) (s : State) → IsLaidOut l s → IsReceivingBut l s → RxTurn l s s []
 nothing l s laid h = record {
   layout = laid;
-  receiving = rx_same l s s h (same_ring l s s (same_side rx_side s.registers s.registers refl) refl) refl;
+  receiving = rx_same l s s h (same_ring l s s (same_side rx_side s.registers s.registers refl) refl refl) refl;
   sending = same_tx_ring l s s (same_side tx_side s.registers s.registers refl) refl refl refl;
   registers = inl refl;
 }
@@ -89,7 +89,7 @@ admitted l s t f answer laid h k (inl dropped) =
     subst (RxTurn l s t) (sym (ap (stored_by (Arrive f)) dropped.1))
     (record {
       layout = laid_same l s t k.base (ap length k.memory) laid;
-      receiving = rx_same l s t h (same_ring l s t (same_side rx_side s.registers t.registers k.registers) k.memory)
+      receiving = rx_same l s t h (same_ring l s t (same_side rx_side s.registers t.registers k.registers) k.memory k.profile)
           dropped.2;
       sending = same_tx_ring l s t (same_side tx_side s.registers t.registers k.registers) k.memory k.gathered k.wire;
       registers = inl k.registers;
@@ -99,7 +99,7 @@ admitted l s t f answer laid h k (inr stored) =
     (record {
       layout = laid_same l s t k.base (ap length k.memory) laid;
       receiving = rx_kept l s t (plain f ∷ []) h
-          (same_ring l s t (same_side rx_side s.registers t.registers k.registers) k.memory) stored.3
+          (same_ring l s t (same_side rx_side s.registers t.registers k.registers) k.memory k.profile) stored.3
           (All-cons IsPlain (plain f) [] (record { usual = stored.2; untagged = refl }) (All-nil IsPlain));
       sending = same_tx_ring l s t (same_side tx_side s.registers t.registers k.registers) k.memory k.gathered k.wire;
       registers = inl k.registers;
@@ -108,7 +108,7 @@ admitted l s t f answer laid h k (inr stored) =
 pub arrival_turn : (l : Layout) (s : State) (f : List ℕ) (r : Answer × State) → IsLaidOut l s → IsReceivingBut l s
     → step s (arrives f) ≡ Ok r → RxTurn l s r.1 (stored_by (Arrive f) r.0)
 arrival_turn l s f r laid h is =
-    let a = arrived s f r is (no_long_frames l s h) h.untagged in admitted l s r.1 f r.0 laid h a.0 a.1
+    let a = arrived s f r is (no_long_frames l s h) h.untagged (no_sequences s h.profile) in admitted l s r.1 f r.0 laid h a.0 a.1
 
 received : (l : Layout) (s t : State) → IsLaidOut l s → IsReceivingBut l s
     → (t ≡ s) ⊎ ((f : List ℕ) × (frames : List Frame) × ReceivesWhole s f frames t) → RxTurn l s t []
@@ -158,6 +158,7 @@ sent l s t h r =
             (record { ctrl = λ e. omega arith; control = λ e. omega arith; ring = λ e. omega arith }));
         descriptors = λ i low. w.other rx_ring i low tt;
         buffers = λ i low. w.other rx_buffers i low tt;
+        profile = r.profile;
       }) r.fifo;
       sending = moves_send l s t h.sending k.1;
     }

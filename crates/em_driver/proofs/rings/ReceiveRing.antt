@@ -2,7 +2,7 @@
 use Rattle.std.proofs.Common.{◌≡◌, ◌≢◌, ◌∙◌, ℕ, ◌+◌, ◌*◌, ◌/◌, ◌<◌, ◌≤◌, Bool, true, false, List, [], ◌∷◌}
 use Rattle.std.proofs.Common.{◌++◌}
 use Rattle.std.proofs.Common.{length, take, drop, refl, sym, ap, subst, inl, inr, arith, append_assoc, append-nil}
-use Rattle.std.specs.Prelude.{All, slice_index, ◌==◌, bit_and}
+use Rattle.std.specs.Prelude.{All, slice_index, ◌==◌, ◌&&◌, not, bit_and}
 use Rattle.std.proofs.lemmas.Bool.{cases_eq}
 use Rattle.std.proofs.lemmas.List.{map-append, take_at}
 use Rattle.std.proofs.lemmas.List.Elements.{All-append, All-rest}
@@ -11,14 +11,18 @@ use Rattle.std.proofs.Math.Nat.{mod-eq_of_lt}
 use Rattle.byteorder.specs.Endian.{little_number}
 use Rattle.em_mem.specs.Memory.{part, put}
 use Rattle.em_regs.specs.declared.reg.Reg.{Reg}
-use Rattle.em_regs.specs.declared.reg.Reg.TheVariants.{Rdh, Rdt}
+use Rattle.em_regs.specs.declared.profile.Profile.{Profile}
+use Rattle.em_regs.specs.declared.profile.Profile.TheVariants.{Table}
+use Rattle.em_regs.specs.declared.reg.Reg.TheVariants.{Rctl, Rdh, Rdt}
 use Rattle.em_regs.specs.RegFile as registers
 use Rattle.em_regs.specs.Setup.{value_of, rx_setup, buffer_size}
 use Rattle.em_regs.specs.Storage.{Registers}
 use Rattle.em_filter.specs.Bits.{lpe}
 use Rattle.em_rx.specs.Frame.{Frame}
 use Rattle.em_rx.specs.Receive as rx
-use Rattle.em_step.specs.State.{State}
+use Rattle.em_step.specs.Arrival.{keeps_sequence}
+use Rattle.em_step.specs.State.{State, is_adapter}
+use Rattle.em_step.specs.Access.{has}
 use Rattle.em_step.specs.Whole.{IsUsual, IsPlain, plain, ReceivesWhole}
 use Rattle.em_step.proofs.SetupLaws.{put_same, put_other}
 use Rattle.em_driver.specs.Descriptor.{length_of}
@@ -102,11 +106,13 @@ pub record SameRing (l : Layout) (s t : State) : Type 0 where
   pub registers : SameSide rx_side s.registers t.registers
   pub descriptors : (i : ℕ) → i < l.rx_count → rx_at l t i ≡ rx_at l s i
   pub buffers : (i : ℕ) → i < l.rx_count → unit l t.memory rx_buffers i ≡ unit l s.memory rx_buffers i
+  pub profile : t.profile ≡ s.profile
 
 pub same_ring : (l : Layout) (s t : State) → SameSide rx_side s.registers t.registers → t.memory ≡ s.memory
-    → SameRing l s t
-same_ring l s t regs is = record {
+    → t.profile ≡ s.profile → SameRing l s t
+same_ring l s t regs is profile = record {
   registers = regs;
+  profile = profile;
   descriptors = λ i low. ap (λ m. unit l m rx_ring i) is;
   buffers = λ i low. ap (λ m. unit l m rx_buffers i) is;
 }
@@ -146,6 +152,7 @@ rx_kept l s t more h same fifo plain =
         head = subst (λ x. x < n) (sym same.registers.head) h.head;
         tail = subst (λ x. x < n) (sym same.registers.tail) h.tail;
         untagged = same.registers.setup.vme ∙ h.untagged;
+        profile = same.profile ∙ h.profile;
         addresses = λ i low. ap (little_number 8) (same.descriptors i low) ∙ h.addresses i low;
         lengths = λ i low e. subst (λ d. IsUsualLength (length_of d)) (sym (same.descriptors i low))
             (h.lengths i low (sym (filled i) ∙ e));
@@ -192,6 +199,7 @@ pub record Fills (l : Layout) (s t : State) (f : List ℕ) (frames : List Frame)
   pub length : length_of (rx_at l t (rdh s)) ≡ length f
   pub mark : slice_index (rx_at l t (rdh s)) 12 ≡ 0x07
   pub packet : rx_packet_at l t (rdh s) ≡ f
+  pub profile : t.profile ≡ s.profile
 
 pub moves_fill : (l : Layout) (s t : State) (f : List ℕ) (frames : List Frame) → IsReceivingBut l s
     → Fills l s t f frames → RxMoves l s t []
@@ -233,6 +241,7 @@ moves_fill l s t f frames h k =
         head = subst (λ x. x < n) (sym k.head) (following_in n b h.head);
         tail = subst (λ x. x < n) (sym k.tail) h.tail;
         untagged = k.setup.vme ∙ h.untagged;
+        profile = k.profile ∙ h.profile;
         addresses = λ i low. elim (cases_eq i b) [
           | inl e ↦ subst (λ x. little_number 8 (rx_at l t x) ≡ rx_buffer l x) (sym e) k.address
           | inr e ↦ ap (little_number 8) (k.descriptors i low e) ∙ h.addresses i low
@@ -324,11 +333,16 @@ fills l s t f frames laid h r =
           ∙ part_front t.memory (rx_buffer l b) (length f) 2048 (omega (arith, r.usual.most))
           ∙ ap (take (length f)) buffer
           ∙ take_at f (drop (0 + length f) (unit l s.memory rx_buffers b)) (length f) refl;
+      profile = r.profile;
     }
 
 -- the receive ring's setup
 pub buffer_whole : (l : Layout) (s : State) → IsReceivingBut l s → (rx_setup s.registers).buffer ≡ 2048
 buffer_whole l s h = ap buffer_size h.rctl
+
+-- frames are stored without their check sequences
+pub no_sequences : (s : State) → s.profile ≡ Table → keeps_sequence s ≡ false
+no_sequences s first = ap (λ (p : Profile). is_adapter p && not (has (value_of s.registers Rctl) 0x0400_0000)) first
 
 pub no_long_frames : (l : Layout) (s : State) → IsReceivingBut l s → lpe s.registers ≡ false
 no_long_frames l s h = ap (λ v. bit_and v 0x20 == 0x20) h.rctl

@@ -20,5 +20,5 @@ loop-word-preserved c = record {
 -- as many words as there are
 pub returns : goal.returns
 returns c =
-    let all : c.loop-word.word ≡ 0x1600 = omega (arith, c.loop-word.auto.word-end, c.loop-word-test.false) in
+    let all : c.loop-word.word ≡ 0x1800 = omega (arith, c.loop-word.auto.word-end, c.loop-word-test.false) in
     c.loop-word.invariant.counted ∙ ap (λ n. length (registers_below n c.args.machine.now)) all

@@ -16,7 +16,7 @@ loop-word-init c =
 -- those of the next word are among all, for which there is room
 pub put_shown-at-requires : goal.put_shown-at-requires
 put_shown-at-requires c =
-    let among = fewer_below (c.loop-word.word + 1) 0x1600 c.args.machine.now (omega (arith, c.loop-word-test.true)) in
+    let among = fewer_below (c.loop-word.word + 1) 0x1800 c.args.machine.now (omega (arith, c.loop-word-test.true)) in
     let next = length_next c.loop-word.word c.args.machine.now in
     let long = ap length c.loop-word.invariant.filled
     ∙ length_filled (registers_below c.loop-word.word c.args.machine.now) c.args.out.now
@@ -27,7 +27,7 @@ pub loop-word-preserved : goal.loop-word-preserved
 loop-word-preserved c =
     let v = c.args.machine.now in
     let k = c.loop-word.word in
-    let among = fewer_below (k + 1) 0x1600 v (omega (arith, c.loop-word-test.true)) in
+    let among = fewer_below (k + 1) 0x1800 v (omega (arith, c.loop-word-test.true)) in
     let room : length (registers_below (k + 1) v) ≤ length c.args.out.now = omega (arith, among, c.requires) in
     record {
       counted = omega (arith, c.put_shown-at.ensures.next, c.loop-word.invariant.counted, length_next k v);
@@ -39,7 +39,7 @@ loop-word-preserved c =
 
 pub returns : goal.returns
 returns c =
-    let all : c.loop-word.word ≡ 0x1600 = omega (arith, c.loop-word.auto.word-end, c.loop-word-test.false) in
+    let all : c.loop-word.word ≡ 0x1800 = omega (arith, c.loop-word.auto.word-end, c.loop-word-test.false) in
     c.loop-word.invariant.filled
     ∙ ap (λ n. registers_below n c.args.machine.now ++ drop (length (registers_below n c.args.machine.now)) c.args.out.now)
     all

@@ -10,9 +10,9 @@ use Rattle.em_debugger.proofs.files.add_all.Given as goal
 -- whether those are read
 abbrev pub invariant-loop-rest : goal.invariant-loop-rest
 invariant-loop-rest l =
-    AddedSo l.fn.tape l.tape (texts l.fn.wanted.answers.items) (texts l.wanted.answers.items)
+    AddedSo l.fn.profile l.fn.tape l.tape (texts l.fn.wanted.answers.items) (texts l.wanted.answers.items)
     (texts l.fn.marks.answers.items) (texts l.marks.answers.items) l.fn.text l.rest
-    × ((l.are_read && are_read (lines_of l.rest)) ≡ are_read (lines_of l.fn.text))
+    × ((l.are_read && are_read l.fn.profile (lines_of l.rest)) ≡ are_read l.fn.profile (lines_of l.fn.text))
 
 abbrev pub decreases-loop-rest : goal.decreases-loop-rest
 decreases-loop-rest l = length l.rest

@@ -13,6 +13,6 @@ returns-in_err-write_settings g c = record {
 
 pub returns : goal.returns
 returns g c = record {
-  writes = Writes-more _ _ _ _ (settings_text c.args.base c.args.memory c.args.budget (mac_of c.args.eeprom.now)) (words_text c.args.eeprom.now) _
+  writes = Writes-more _ _ _ _ (settings_text c.args.profile c.args.base c.args.memory c.args.budget (mac_of c.args.eeprom.now)) (words_text c.args.eeprom.now) _
       (rw c.mac.ensures.mac at c.in_ok-write_settings.ensures.writes) c.write_words.ensures.writes (refl);
 }

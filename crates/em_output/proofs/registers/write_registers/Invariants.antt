@@ -10,8 +10,8 @@ invariant-loop-offset g l =
     record {
       whole : l.from % 4 ≡ 0;
       wrote : WroteFront (contents l.fn.writer) (contents l.writer)
-          (words_text l.machine.present (l.from / 4) (0x01600 - l.from / 4)) (registers_text l.machine.present);
+          (words_text l.machine.present (l.from / 4) (0x01800 - l.from / 4)) (registers_text l.machine.present);
     }
 
 abbrev pub decreases-loop-offset : goal.decreases-loop-offset
-decreases-loop-offset g l = 0x05800 - l.from
+decreases-loop-offset g l = 0x06000 - l.from

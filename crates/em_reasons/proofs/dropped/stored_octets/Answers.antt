@@ -1,6 +1,9 @@
-use Rattle.std.proofs.Common.{◌≡◌, ◌≤◌, ◌∙◌, true, length, sym, arith}
+use Rattle.std.proofs.Common.{◌≡◌, ◌+◌, ◌-◌, ◌≤◌, ◌∙◌, true, false, length, sym, arith}
 use Rattle.em_filter.specs.Vlan.{tagged}
-use Rattle.em_reasons.proofs.DropLemmas.{kept_len, tagged_long}
+use Rattle.em_rx.specs.Frame.{len_of}
+use Rattle.em_step.specs.Arrival.{kept_frame}
+use Rattle.em_step.proofs.ArrivalLaws.{stored_by}
+use Rattle.em_reasons.proofs.DropLemmas.{tagged_long}
 use Rattle.em_reasons.proofs.dropped.stored_octets.Goals as goal
 
 pub overflow_sub-result : goal.overflow_sub-result
@@ -12,4 +15,14 @@ overflow_sub-result c =
 
 pub returns-then-tagged : goal.returns-then-tagged
 returns-then-tagged c =
-    kept_len c.args.machine.now.present c.args.frame.now c.tagged.result c.tagged.ensures c.if-tagged.true
+    stored_by c.args.machine.now.present c.args.frame.now c.check_octets.result true
+    (tagged_long c.args.machine.now.present.registers c.args.frame.now) c.check_octets.ensures (sym c.if-tagged.true ∙ c.tagged.ensures)
+
+pub returns-else-tagged : goal.returns-else-tagged
+returns-else-tagged c =
+    let s = c.args.machine.now.present in
+    let f = c.args.frame.now in
+    let is : (length f + c.check_octets.result) - 0 ≡ len_of (kept_frame s f)
+    = stored_by s f c.check_octets.result false (tagged_long s.registers f) c.check_octets.ensures
+    (sym c.if-tagged.false ∙ c.tagged.ensures) in
+    omega (arith, is)

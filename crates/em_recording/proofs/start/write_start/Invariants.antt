@@ -9,7 +9,7 @@ abbrev pub invariant-loop-word : goal.invariant-loop-word
 invariant-loop-word g l =
     let contents = g.W.Write.contents in
     record {
-      within : l.word ≤ 0x1600;
+      within : l.word ≤ 0x1800;
       wrote : WroteFront (contents l.fn.writer) (contents l.writer)
-          (words_text l.machine.present l.word (0x1600 - l.word) ++ codes "}},\n") (start_text l.machine.present);
+          (words_text l.machine.present l.word (0x1800 - l.word) ++ codes "}},\n") (start_text l.machine.present);
     }

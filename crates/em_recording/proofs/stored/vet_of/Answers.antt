@@ -1,19 +1,19 @@
-use Rattle.std.proofs.Common.{◌≡◌, ℕ, ◌∙◌, Some, ap, arith}
+use Rattle.std.proofs.Common.{◌≡◌, ℕ, ◌∙◌, Some, refl, ap, arith}
 use Rattle.std.specs.Prelude.{Option}
 use Rattle.std.specs.Option.{option_map}
 use Rattle.em_regs.specs.declared.reg.Reg.TheVariants.{Vet}
-use Rattle.em_regs.specs.Table.{offset_of, reg_at}
-use Rattle.em_regs.proofs.TableLaws.{reg_at-offset_of}
+use Rattle.em_regs.specs.Table.{offset_of, reg_of}
+use Rattle.em_regs.proofs.ProfileLaws.{reg_of-offset_of}
 use Rattle.em_step.specs.State.{State}
 use Rattle.em_step.specs.Access.{gives}
 use Rattle.em_recording.proofs.stored.vet_of.Goals as goal
 
 -- a look at VET finds it
-found : (s : State) (o : ℕ) (shown : Option ℕ) → o ≡ offset_of Vet → shown ≡ option_map (gives s) (reg_at o)
+found : (s : State) (o : ℕ) (shown : Option ℕ) → o ≡ offset_of Vet → shown ≡ option_map (gives s) (reg_of s.profile o)
     → shown ≡ Some (gives s Vet)
 found s o shown at is =
-    is ∙ ap (λ (k : ℕ). option_map (gives s) (reg_at k)) at
-    ∙ ap (option_map (gives s)) (reg_at-offset_of Vet (omega arith))
+    is ∙ ap (λ (k : ℕ). option_map (gives s) (reg_of s.profile k)) at
+    ∙ ap (option_map (gives s)) (reg_of-offset_of s.profile Vet (omega arith) refl)
 
 pub unreachable-requires : goal.unreachable-requires
 unreachable-requires c =

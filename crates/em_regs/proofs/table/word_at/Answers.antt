@@ -4,7 +4,7 @@ use Rattle.em_regs.proofs.table.word_at.Goals as goal
 
 pub bounds-from : goal.bounds-from
 bounds-from c =
-    let at : c.args.offset / 64 < 352 = omega (arith, c.requires.within) in
+    let at : c.args.offset / 64 < 384 = omega (arith, c.requires.within) in
     rw c.from.ensures (page_is_there (c.args.offset / 64) at)
 
 pub returns : goal.returns

@@ -1,11 +1,11 @@
-use Rattle.std.proofs.Common.{◌≡◌, ◌∙◌, Some, Ok, length, ap, inr, subst, sym}
-use Rattle.std.specs.Prelude.{IfOk}
+use Rattle.std.proofs.Common.{◌≡◌, ◌∙◌, Some, Ok, Err, length, ap, inl, inr, subst, sym}
+use Rattle.std.specs.Prelude.{IfOk, is_ok}
 use Rattle.em_line.specs.Grammar.{parsed_line}
 use Rattle.em_script.specs.Reply.{Performs, after_line}
 use Rattle.em_script.specs.Session.{Session}
 use Rattle.em_tape.specs.Known.{Does}
 use Rattle.em_tape.specs.Replied.{replied_of}
-use Rattle.em_tape.proofs.DidLaws.{replied_ok}
+use Rattle.em_tape.proofs.DidLaws.{replied_failed, replied_ok}
 use Rattle.em_tape.proofs.playing.play.Goals as goal
 
 pub returns-in-Ok-clause-done : goal.returns-in-Ok-clause-done
@@ -37,4 +37,18 @@ returns-in-Ok-clause-done g c =
       few = c.did_of.ensures.few;
       known = subst (Does c.known_of.result parsed old) (sym performs.session)
           (c.known_of.ensures performs.memory parsed old kind performs.prints.ended before costs after);
+    }
+
+pub returns-in-Err-clause-done : goal.returns-in-Err-clause-done
+returns-in-Err-clause-done g c =
+    let failed = c.in-Err.field-0 in
+    let is : replied_of c.play.result ≡ Some (Err failed) =
+    sym c.replied_of.ensures ∙ c.in_ok-replied.was ∙ ap Some c.in-Err.is in
+    let done = c.play.ensures.write (replied_failed c.play.result failed is) in
+    record {
+      performs = subst (λ r. Performs c.args.number (parsed_line c.args.line.now) c.args.session.now c.play.new.session
+          (g.W.Write.contents c.args.writer.now) (g.W.Write.contents c.play.new.writer) r) (sym c.in-Err.is) done.1;
+      did = inl (ap is_ok c.in-Err.is);
+      few = c.did_of-in-Err.ensures.few;
+      known = tt;
     }

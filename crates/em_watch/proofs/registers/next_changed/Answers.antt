@@ -29,5 +29,5 @@ pub returns-clause-none : goal.returns-clause-none
 returns-clause-none c =
     let v = c.args.machine.now in
     let back = c.args.back in
-    leaves_both v back c.args.from c.loop-offset.next 0x05800 c.loop-offset.invariant.left
-    (leaves_bare v back c.loop-offset.next 0x05800 (λ o l m. c.in_default.ensures.last o l))
+    leaves_both v back c.args.from c.loop-offset.next 0x06000 c.loop-offset.invariant.left
+    (leaves_bare v back c.loop-offset.next 0x06000 (λ o l m. c.in_default.ensures.last o l))

@@ -10,4 +10,4 @@ invariant-loop-offset l = record {
 }
 
 abbrev pub decreases-loop-offset : goal.decreases-loop-offset
-decreases-loop-offset l = 0x05800 - l.next
+decreases-loop-offset l = 0x06000 - l.next

@@ -17,9 +17,9 @@ returns-in-Ok-clause-good g c =
 pub returns-in-Ok-clause-order : goal.returns-in-Ok-clause-order
 returns-in-Ok-clause-order g c =
     let good = c.is_good.ensures.0 c.if-is_good.true in
-    λ spared. start_order c.args.layout (g.B.Bus.world c.args.bus) (g.B.Bus.world c.initialize.new.self.driver.bus)
+    λ spared profile. start_order c.args.layout (g.B.Bus.world c.args.bus) (g.B.Bus.world c.initialize.new.self.driver.bus)
     c.initialize.new.self.events (good_same c.args.layout (sym c.base.ensures) (sym c.end.ensures) good)
-    (placed c.base.result c.end.result c.args.layout good (omega (arith, c.end.type_inv))) spared c.in-Ok.ensures.ok
+    (placed c.base.result c.end.result c.args.layout good (omega (arith, c.end.type_inv))) spared profile c.in-Ok.ensures.ok
 
 pub returns-in-Err-clause-untouched : goal.returns-in-Err-clause-untouched
 returns-in-Err-clause-untouched g c = λ bad.

@@ -26,4 +26,4 @@ returns c =
 pub keep-requires-clause-cost : goal.keep-requires-clause-cost
 keep-requires-clause-cost c =
     sym (plain_cost c.self.inside.records.octets c.write_stored-newest.ensures
-    ∙ writes_cost Stored (shows c.self.inside.adapter) c.args.reg c.args.value c.requires.0 c.requires.1)
+    ∙ writes_cost Stored (shows c.self.inside.adapter) c.args.reg c.args.value c.requires.only.0 c.requires.only.1)

@@ -10,4 +10,4 @@ invariant-loop-next l = record {
 }
 
 abbrev pub decreases-loop-next : goal.decreases-loop-next
-decreases-loop-next l = 0x05800 - l.next
+decreases-loop-next l = 0x06000 - l.next

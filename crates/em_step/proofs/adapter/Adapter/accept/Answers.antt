@@ -1,6 +1,7 @@
 -- The words of the latches and the cells of the FIFO that changed are in the record.
-use Rattle.std.proofs.Common.{ap, rules, ◌∙◌}
+use Rattle.std.proofs.Common.{ap, arith, rules, ◌∙◌}
 use Rattle.em_step.specs.Cells.{Cells}
+use Rattle.em_step.proofs.ArrivalLaws.{kept_most}
 use Rattle.em_step.proofs.ReversalLaws.{more_same, room_same}
 use Rattle.em_step.proofs.adapter.Adapter.accept.Goals as goal
 
@@ -23,6 +24,23 @@ returns-clause-ok c =
           wire = ap (λ (x : Cells). x.wire) c.self.view_is;
           eeprom = ap (λ (x : Cells). x.eeprom) c.self.view_is;
           link = ap (λ (x : Cells). x.link) c.self.view_is;
+          profile = ap (λ (x : Cells). x.profile) c.self.view_is;
+          pins = ap (λ (x : Cells). x.pins) c.self.view_is;
+          phy = ap (λ (x : Cells). x.phy) c.self.view_is;
         };
       };
+    }
+
+-- a frame is stored with four octets more at most
+pub returns-clause-keeps : goal.returns-clause-keeps
+returns-clause-keeps c =
+    record {
+      keeps = c.in-Ok.ensures.keeps;
+      few = omega (
+        arith,
+        c.in-Ok.ensures.held,
+        kept_most c.keeps_sequence-is_kept.result c.tagged-is_tagged.result c.args.frame.now,
+        c.requires.most,
+      );
+      at = search rules;
     }

@@ -20,5 +20,8 @@ returns-clause-reverses c =
         wire = octets.restores.wire ∙ ap (λ (x : Cells). x.wire) c.self.view_is;
         eeprom = ap (λ (x : Cells). x.eeprom) c.self.view_is;
         link = ap (λ (x : Cells). x.link) c.self.view_is;
+        profile = ap (λ (x : Cells). x.profile) c.self.view_is;
+        pins = ap (λ (x : Cells). x.pins) c.self.view_is;
+        phy = ap (λ (x : Cells). x.phy) c.self.view_is;
       };
     }

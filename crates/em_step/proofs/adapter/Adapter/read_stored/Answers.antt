@@ -9,7 +9,7 @@ pub returns : goal.returns
 returns c = record {
   plain = plain_of c.of_effect.ensures refl (λ o. tt);
   performed = λ o. record {
-    ok = reads_stored _ c.args.self.now c.args.reg c.self.view_is c.requires
+    ok = reads_stored _ c.args.self.now c.args.reg c.self.view_is c.requires.stored c.requires.has
         (c.look.ensures ∙ ap (λ file. at file (offset_of c.args.reg)) c.deref.ensures);
     cost = search rules;
     reverses = search rules;

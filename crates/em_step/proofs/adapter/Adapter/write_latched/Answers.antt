@@ -11,7 +11,7 @@ returns c = record {
   plain = plain_of c.of_latches.ensures refl (λ o. tt);
   performed = λ o. record {
     ok = writes_latched _ c.args.self.now c.args.reg c.args.value c.self.view_is c.requires.reg c.requires.latched
-        c.write.ensures.state;
+        c.requires.has c.write.ensures.state;
     cost = ap (λ r. cost_of (undo_of r o)) c.of_latches.ensures
         ∙ sym (latched_costs (shows c.args.self.now) c.args.reg c.args.value c.requires.reg c.requires.latched);
     reverses = search rules;

@@ -1,4 +1,4 @@
-use Rattle.std.proofs.Common.{◌∙◌, ap, sym, arith}
+use Rattle.std.proofs.Common.{◌∙◌, ap, arith}
 use Rattle.std.specs.Prelude.{max}
 use Rattle.em_step.specs.Before.{frames_before}
 use Rattle.em_step.proofs.BeforeLaws.{frames_put_back, frames_told}

@@ -1,5 +1,0 @@
-use Rattle.em_names.specs.Near.{AreNear}
-use Rattle.em_names.proofs.near.nearest.Given as goal
-
-abbrev pub invariant-loop-index : goal.invariant-loop-index
-invariant-loop-index l = AreNear l.near

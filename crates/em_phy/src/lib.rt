@@ -1,0 +1,7 @@
+//! The PHY behind MDIC: 32 words of 16 bits, of which two say whether there is a link.
+#![tactic(auto)]
+
+pub mod laws;
+mod phy;
+
+pub use phy::{Phy, PhyUndo, asks_for_interrupt};

@@ -1,0 +1,60 @@
+//! Lab 2, a solution.
+use crate::nic::{Calls, Nic};
+use crate::registers::*;
+
+const COUNT: u32 = 8;
+const SIZE: u64 = 2048;
+const RING: u64 = 0x1000;
+const BUFFERS: u64 = 0x4000;
+/// A descriptor: octets, and where in it the length and the status stand.
+const DESCRIPTOR: usize = 16;
+const LENGTH: usize = 8;
+const STATUS_AT: usize = 12;
+
+#[derive(Default)]
+pub struct Driver {
+    next: u32,
+}
+
+fn descriptor_at(index: u32) -> u64 {
+    RING + DESCRIPTOR as u64 * u64::from(index)
+}
+
+fn buffer_of(index: u32) -> u64 {
+    BUFFERS + SIZE * u64::from(index)
+}
+
+fn fill(nic: &mut Nic, index: u32) {
+    let mut octets = [0; DESCRIPTOR];
+    octets[..8].copy_from_slice(&buffer_of(index).to_le_bytes());
+    nic.put(descriptor_at(index), &octets);
+}
+
+impl Calls for Driver {
+    fn start(&mut self, nic: &mut Nic) {
+        for index in 0..COUNT {
+            fill(nic, index);
+        }
+        nic.write(RDBAL, RING as u32);
+        nic.write(RDBAH, 0);
+        nic.write(RDLEN, COUNT * DESCRIPTOR as u32);
+        nic.write(RDH, 0);
+        nic.write(RDT, COUNT - 1);
+        nic.write(RCTL, RCTL_EN | RCTL_BAM | RCTL_BSIZE_2048);
+    }
+
+    fn receive(&mut self, nic: &mut Nic) -> Option<Vec<u8>> {
+        let mut octets = [0; DESCRIPTOR];
+        nic.get(descriptor_at(self.next), &mut octets);
+        if octets[STATUS_AT] & RX_DD == 0 {
+            return None;
+        }
+        let length = u16::from_le_bytes([octets[LENGTH], octets[LENGTH + 1]]);
+        let mut packet = vec![0; usize::from(length)];
+        nic.get(buffer_of(self.next), &mut packet);
+        fill(nic, self.next);
+        nic.write(RDT, self.next);
+        self.next = (self.next + 1) % COUNT;
+        Some(packet)
+    }
+}

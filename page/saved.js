@@ -1,0 +1,82 @@
+// What is saved from the page: the frames that were sent, as a capture that em_debug's `pcap` would write here, and the
+// script.
+
+/** A classic capture with the lowest octet first: times in nanoseconds, version 2.4, snap length 65,535, Ethernet. */
+const CAPTURE_HEADER = [0xA1B23C4D, 0x00040002, 0, 0, 65_535, 1];
+const RECORD_WORDS = 4;
+const MICROSECONDS = 1_000, SECOND = 1_000_000_000, MOST_SECONDS = 2 ** 32;
+/** The comment behind a line: the first word that begins with `#`, and what follows. */
+const COMMENT = /(?:^|[ \t\r])#(.*)$/s;
+/** A comment that is a time: seconds, a point, and six digits. */
+const TIME = /^[ \t\r]*(\d+)\.(\d{6})[ \t\r]*$/;
+
+/**
+ * The time that a line's comment is, as seconds and nanoseconds; null where it is none.
+ * @returns {[number, number]|null}
+ */
+function timeOf(line) {
+  const [, seconds, micros] = TIME.exec(COMMENT.exec(line)?.[1] ?? "") ?? [];
+  if (seconds === undefined || Number(seconds) >= MOST_SECONDS) return null;
+  return [Number(seconds), MICROSECONDS * Number(micros)];
+}
+
+/**
+ * When each of these lines came: the latest time of a line up to it; before the first one, its number in microseconds.
+ * @param {string[]} script @param {number[]} numbers of lines, in their order @returns {[number, number][]}
+ */
+function timesOf(script, numbers) {
+  let latest = null, line = 0;
+  return numbers.map((number) => {
+    for (; line < number; line++) latest = timeOf(script[line]) ?? latest;
+    const nanoseconds = MICROSECONDS * number;
+    return latest ?? [Math.floor(nanoseconds / SECOND), nanoseconds % SECOND];
+  });
+}
+
+/** The frames that were sent up to a place, the first one first, as a capture. @returns {Uint8Array[]} its pieces */
+function captureOf(run, place) {
+  const frames = sentFrames(place, Infinity).reverse();
+  const times = timesOf(run.script, frames.map((frame) => frame.place.line));
+  const pieces = [littleWords(CAPTURE_HEADER)];
+  frames.forEach((frame, index) => {
+    const octets = octetsOf(frame.list.digits(frame.number));
+    pieces.push(littleWords([...times[index], octets.length, octets.length]), octets);
+  });
+  return pieces;
+}
+
+/** Words of 32 bits as octets, the lowest first. @param {number[]} words */
+function littleWords(words) {
+  const view = new DataView(new ArrayBuffer(4 * words.length));
+  words.forEach((word, index) => view.setUint32(4 * index, word, true));
+  return new Uint8Array(view.buffer);
+}
+
+/** Gives a file to save. @param {BlobPart[]} pieces */
+function save(name, pieces, type) {
+  const url = URL.createObjectURL(new Blob(pieces, { type }));
+  make("a", { href: url, download: name }).click();
+  setTimeout(() => URL.revokeObjectURL(url), 10_000);
+}
+
+/** The name of a file to save, by that of the script, which the page's title has. */
+function fileName(ending) {
+  const [, name] = /^(.+?)(?:\.\w+)?: a run of /.exec(document.title) ?? ["", "run"];
+  return `${name.replace(/[^\w.-]/g, "_").replace(/^\.+/, "_")}.${ending}`;
+}
+
+class Saved {
+  constructor(app) {
+    this.app = app;
+    byId("save-script").addEventListener("click", () =>
+      save(fileName("em"), app.run.script.map((line) => `${line}\n`), "text/plain"));
+    byId("save-pcap").addEventListener("click", () =>
+      save(fileName("pcap"), captureOf(app.run, app.place), "application/vnd.tcpdump.pcap"));
+  }
+
+  paint() {
+    const count = this.app.place.sending?.count ?? 0;
+    setText(byId("save-pcap"), `save ${counted(count, "frame")} as pcap`);
+    byId("save-pcap").disabled = count === 0;
+  }
+}

@@ -1,0 +1,2 @@
+# em_debug --profile adapter
+w MDIC 08220000

@@ -1,0 +1,3 @@
+# em_debug --profile adapter --memory 8K
+w MDIC 08220000
+r MDIC = 18220141
