@@ -106,15 +106,15 @@ class Room:
 
     def __init__(self, folder: str, program: str) -> None:
         self.top = pathlib.Path(folder)
-        self.tools, self.temporary = self.top / "tools", self.top / "temporary"
-        for name in (self.tools, self.temporary):
+        self.tools, self.temporary = self.top / "commands", self.top / "temporary"
+        for name in (self.tools, self.temporary, self.top / "tools"):
             name.mkdir()
-        for name in ("em_debug", "em_page", "em_record", "addr2line.bash"):
-            shutil.copy(TOP / name, self.top)
+        for name in ("em_debug", "em_page", "em_record", "tools/addr2line.bash"):
+            shutil.copy(TOP / name, self.top / name)
         shutil.copytree(TOP / "page", self.top / "page")
         chosen = f'[ $me = em_debug ] && program="{program}" || program="{player("em_record")}"'
         choice = f'run_program() {{\n  {chosen}\n  exec "${{through[@]}}" "$program" "$@"\n}}\n'
-        (self.top / "program.bash").write_text(choice)
+        (self.top / "tools/program.bash").write_text(choice)
         for name in (*TOOLS, *PAGE_TOOLS):
             (self.tools / name).symlink_to(shutil.which(name))
         self.environment = {"PATH": str(self.tools), "TMPDIR": str(self.temporary)}

@@ -4,8 +4,8 @@
 # to yes where that takes a script from standard input whatever the other words are. Where it has a folder of its own in
 # `room`, which it removes at its end, the files that are made lie there.
 #
-#   bash addr2line.bash PLAYER PATH NAME PROGRAM WORD ..   runs a program whose script lies at PATH; what PLAYER says of
-#                                                          that on standard error is said of NAME
+#   bash tools/addr2line.bash PLAYER PATH NAME PROGRAM WORD ..   runs a program whose script lies at PATH; what PLAYER
+#                                                                says of that on standard error is said of NAME
 #
 # It takes bash, coreutils, awk and addr2line, and /proc.
 
@@ -163,7 +163,7 @@ put_names() {
   rm -rf -- "$desk"
   [ "${room-}" ] || trap - EXIT
   words[at]=/dev/fd/9
-  through+=("$BASH" "$top/addr2line.bash" "$player" /dev/fd/9 "$script")
+  through+=("$BASH" "$top/tools/addr2line.bash" "$player" /dev/fd/9 "$script")
 }
 
 # Asks for all counters of the script at once: `keys` has those that were asked for, `answers` what was answered.

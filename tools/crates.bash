@@ -1,4 +1,4 @@
-# What the scripts at the top know of crates: what each names, what it is made of, and how it is proved and built.
+# What the scripts of this folder know of crates: what each names, what it is made of, and how it is proved and built.
 # It is read into a script that has set `top`, and its name as `me`.
 
 # by crate: what it names; the seconds that it took when all was proved from nothing on four processors; those of the
@@ -8,7 +8,7 @@ declare -gA uses=() seconds=() above=() chain=() is_longest=()
 declare -gA process=() began=() place=() proved=()
 # where what they print goes, where they are built, and what else an end removes; what show_how_far said last; the table
 # of seconds
-room='' lanes='' rooms=() shown='' table=$top/crates.seconds
+room='' lanes='' rooms=() shown='' table=$top/tools/crates.seconds
 # crates, each after those that it stands on; the files that they are made of, and the folders that these lie in
 order=() files=() folders=()
 

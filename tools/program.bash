@@ -55,7 +55,7 @@ sum_of_looks() {
 choose() {
   local names=(dist/SOURCES) found=() seen=()
   local -A is_well=()
-  . "$top/crates.bash"
+  . "$top/tools/crates.bash"
   if sums_stand; then
     chosen=dist
     keep_seen
@@ -159,7 +159,7 @@ is_newer() {
 # The program of dist/ is there and may not be run, as where an archive has dropped the modes of files.
 stop_where_none_runs() {
   local it=dist/$system
-  . "$top/crates.bash"
+  . "$top/tools/crates.bash"
   stop 69 "$it/$me may not be run here: chmod +x $it/* mends it (archives as ZIP drop that mode)"
 }
 
@@ -201,7 +201,7 @@ run_program() {
   else
     shift
   fi
-  . "$top/crates.bash"
+  . "$top/tools/crates.bash"
   if [ "$why" = other ]; then
     find_files "$me"
     ! is_newer || run "$own" "$@"
