@@ -1,7 +1,6 @@
 """A source file as the prover takes it: without comments and blank lines.
 
-Comments that document (`///`, `//!`) stay, since a macro can read them. Texts in quotes stay as they are, whatever stands in
-them.
+Comments that document (`///`, `//!`) stay, since a macro can read them. So does all that stands in quotes.
 """
 import re
 from pathlib import Path
