@@ -13,8 +13,7 @@ import time
 from pathlib import Path
 
 import guest_packages
-from guest_played import differ
-from guest_tools import asked, counted_run, debugger
+from guest_tools import asked, counted_run, debugger, differ
 from played_qemu import connected, until
 from tally import TOP, Tally, run
 
