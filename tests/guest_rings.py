@@ -6,7 +6,8 @@ import struct
 import time
 from pathlib import Path
 
-from guest_tools import FRAME, RECEIVING, Guest, asked, captured, counted_run, differ, ended, set_up_rings
+from guest_tools import (FRAME, RECEIVING, Guest, asked, captured, counted_run, differ, ended, frames_of,
+                         set_up_rings)
 from played_qemu import WINDOW, receive_descriptor, transmit_descriptor, until
 from tally import Tally
 
@@ -206,6 +207,37 @@ def many(tally: Tally, room: Path) -> None:
     counted_run(tally, "4,095 frames at once, played again", guest.kept, 4095)
 
 
+def lasting(tally: Tally, room: Path) -> None:
+    """20,000 long frames are sent, each of which reaches the wire, and em_guest's memory does not grow with them."""
+    captured_to = room / "lasting.pcap"
+    guest = Guest(room, "lasting", "--pcap-out", captured_to,
+                  env=dict(os.environ, ASAN_OPTIONS="quarantine_size_mb=1"))
+    qemu = guest.qemu()
+    qemu.boot()
+    for offset, value in ((0x3800, 0x100000), (0x3808, 4096), (0x0400, 2)):
+        qemu.write(offset, value)
+    count, batch, sent, resident = 256, 200, [], []
+    for turn in range(100):
+        frame, first = FRAME[:14] + turn.to_bytes(2, "big") * 750, turn * batch
+        qemu.poke(0x20000, frame)
+        for i in range(first, first + batch):
+            qemu.poke(0x100000 + 16 * (i % count), transmit_descriptor(0x20000, len(frame)))
+        tail = (first + batch) % count
+        qemu.write(0x3818, tail)
+        if not until(lambda: qemu.read(0x3810) == tail):
+            break
+        sent += [frame] * batch
+        resident.append(int(re.search(r"VmRSS:\s+(\d+)", Path(f"/proc/{guest.process.pid}/status").read_text())[1]))
+    grew = resident[-1] - resident[len(resident) // 5]
+    tally.check("20,000 frames", differ({
+        "sent": (len(sent), 20_000), "KiB that it grew by, from the 4,000th on, below 2,048": (grew < 2048, True)})
+        + ([] if grew < 2048 else [f"by {grew}"]))
+    qemu.close()
+    ended(tally, "20,000 frames, the end", guest, 0, "20000 were sent")
+    tally.check("20,000 frames, on the wire", differ({"all": (frames_of(captured_to) == sent, True)}))
+    counted_run(tally, "20,000 frames, played again", guest.kept, 20_000)
+
+
 def waiting(tally: Tally, room: Path) -> None:
     """Frames wait in the adapter, and then on the wire; a reset loses those in the adapter; a frame in three buffers."""
     wire = room / "waiting-wire"
@@ -269,4 +301,4 @@ def again(tally: Tally, room: Path) -> None:
     counted_run(tally, "boots, played again", guest.kept, 6)
 
 
-PARTS = (rings, standing_still, across, overlaid, received_across, many, waiting, again)
+PARTS = (rings, standing_still, across, overlaid, received_across, many, lasting, waiting, again)
