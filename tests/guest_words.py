@@ -122,6 +122,12 @@ def named(tally: Tally, room: Path) -> None:
     second = re.fullmatch(r"poke 1000 00 @ before poke\(\), driver\.c:[34]", lines[1])
     tally.check("--name", differ({"status": (ran.returncode, 0), "names": (bool(first and second), True),
                                   "others": (lines[2:], text.splitlines()[2:])}) + ([] if first else lines[:2]))
+    # a program without lines has functions alone
+    run(["strip", "--strip-debug", program])
+    kept.write_text(text)
+    ran = run([room / "em_guest", "--name", kept, "--symbols", f"{program}@0xC0000000"])
+    tally.check("--name, without lines", differ({"status": (ran.returncode, 0), "lines": (
+        kept.read_text().splitlines(), ["w 03818 00000001 @ poke() # a remark", "poke 1000 00 @ before poke()", *text.splitlines()[2:]])}))
     for words, sentence in ((["--symbols", f"{program}@xyz"], "in hexadecimal digits"),
                             (["--symbols", room / "nothing"], "addr2line can't read it")):
         before = kept.read_text()
