@@ -39,6 +39,13 @@ def asked(kept: Path, room: Path, *typed: str) -> list[str]:
     return ran.stdout.decode().splitlines()
 
 
+def tail_asked(kept: Path, room: Path) -> tuple[int, str]:
+    """The line of a run that wrote the transmit tail last (not 0, as a driver's end does); who wrote it, by em_debug."""
+    lines = kept.read_text().splitlines()
+    number = max((i for i, line in enumerate(lines, 1) if re.match(r"w 03818 0*[1-9A-F]", line)), default=0)
+    return number, "\n".join(asked(kept, room, f"back to {number + 1}", "who TDT"))
+
+
 class Guest:
     """The sanitized em_guest, waiting for a QEMU, with files in a folder of its own."""
 
@@ -107,5 +114,5 @@ def frames_of(path: Path) -> list[bytes]:
 
 
 def captured(tally: Tally, path: Path, wanted: list[bytes]) -> None:
-    faults = differ({"the head": (path.read_bytes()[:4].hex(), "d4c3b2a1"), "frames": (frames_of(path)[:len(wanted)], wanted)})
-    tally.check("--pcap-out", faults)
+    tally.check("--pcap-out", differ({"the head": (path.read_bytes()[:4].hex(), "d4c3b2a1"),
+                                      "frames": (frames_of(path)[:len(wanted)], wanted)}))
