@@ -120,17 +120,16 @@ class Linux:
         return self.root / "bin" / "busybox"
 
 
-def unpacked_kernel(image: Path, to: Path) -> Path:
-    """The kernel that lies packed in an image, which says where. (In a QEMU without KVM a start takes twice as long where
-    the kernel unpacks itself.) The image, where it is packed in a way that is not known here."""
+def unpack_kernel(image: Path, to: Path) -> None:
+    """Unpacks the kernel that lies in an image, which says where; not where it is packed in a way that is not known here.
+    (In a QEMU without KVM a start takes twice as long where the kernel unpacks itself.)"""
     octets = image.read_bytes()
     sectors, (place, length) = octets[0x1F1], struct.unpack_from("<II", octets, 0x248)
     start = 512 * (sectors + 1) + place
     try:
         to.write_bytes(lzma.LZMADecompressor(lzma.FORMAT_XZ).decompress(octets[start:start + length]))
     except lzma.LZMAError:
-        return image
-    return to
+        to.unlink(missing_ok=True)
 
 
 def linux() -> Linux | None:
@@ -138,16 +137,20 @@ def linux() -> Linux | None:
     if not unpacked(LINUX_ROOM, PROGRAMS, "-o", "Dir::State::status=/dev/null", alone=(LINUX,)):
         return None
     root, kernel = LINUX_ROOM / "root", LINUX_ROOM / "vmlinux"
-    image = next((root / "boot").glob("vmlinuz-*"))
+    image, modules = next((root / "boot").glob("vmlinuz-*")), next((root / "lib/modules").iterdir()) / "kernel"
     if not (LINUX_ROOM / "whole").is_file():
-        unpacked_kernel(image, kernel)
-    (LINUX_ROOM / "whole").touch()
-    return Linux(root, image, kernel if kernel.is_file() else image, next((root / "lib/modules").iterdir()) / "kernel")
+        unpack_kernel(image, kernel)
+        # (the modules that are not for networks take 300 MB)
+        for folder in [*modules.iterdir(), *(modules / "drivers").iterdir()]:
+            if folder.name not in ("drivers", "net"):
+                shutil.rmtree(folder)
+        (LINUX_ROOM / "whole").touch()
+    return Linux(root, image, kernel if kernel.is_file() else image, modules)
 
 
 def lined_e1000(made_for: Linux) -> Path | None:
-    """The kernel's driver, built with lines of its own source, which is unchanged and lies beside it; None where something
-    for it is missing."""
+    """The kernel's driver, built with lines of its own source, which is unchanged and lies beside it; None where
+    something for it is missing."""
     root, folder = SOURCE_ROOM / "root", SOURCE_ROOM / "e1000"
     version = made_for.image.name.partition("-")[2]
     if (SOURCE_ROOM / "whole").is_file() and (SOURCE_ROOM / "whole").read_text() != version:

@@ -40,7 +40,7 @@ def asked(kept: Path, room: Path, *typed: str) -> list[str]:
 
 
 def tail_asked(kept: Path, room: Path) -> tuple[int, str]:
-    """The line of a run that wrote the transmit tail last (not 0, as a driver's end does); who wrote it, by em_debug."""
+    """The line of a run that wrote the transmit tail last (and not 0, as a driver's end does); and em_debug's `who`."""
     lines = kept.read_text().splitlines()
     number = max((i for i, line in enumerate(lines, 1) if re.match(r"w 03818 0*[1-9A-F]", line)), default=0)
     return number, "\n".join(asked(kept, room, f"back to {number + 1}", "who TDT"))
