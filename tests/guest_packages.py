@@ -34,8 +34,11 @@ def has_proxy(qemu: str) -> bool:
 
 def apt(archives: Path, *words: str) -> bool:
     how = ["-o", f"Dir::Cache::archives={archives}", "-o", "Debug::NoLocking=1", "-o", "APT::Sandbox::User=root"]
-    return subprocess.run(["apt-get", "-y", *how, *words], cwd=archives, capture_output=True, check=False,
-                          timeout=600).returncode == 0
+    words = ("apt-get", "-y", *how, *words)
+    try:
+        return subprocess.run(words, cwd=archives, capture_output=True, check=False, timeout=600).returncode == 0
+    except subprocess.TimeoutExpired:
+        return False
 
 
 def unpacked(room: Path, packages: list[str], *how: str, alone: tuple[str, ...] = ()) -> bool:

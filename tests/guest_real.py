@@ -259,6 +259,7 @@ def sender(tally: Tally, room: Path, qemu: str) -> None:
     place = re.search(r"sender's code is at 0x(\w+)", told)
     tally.check("a module of Linux", differ({
         "status": (ran.returncode, 0), "interrupted": ("sender: interrupted, causes 00000003, status 01" in told, True),
+        "none is refused": (b" 0 refused; " in ran.stderr, True),
         "its place": (bool(place), True)}) + ([] if place else [told[-2000:]]))
     if not place:
         return
