@@ -1,6 +1,8 @@
 """What tests/guests takes of Debian: QEMU, iPXE, lspci and U-Boot, kernels, and what builds modules of them. What the
 system has not, apt fetches into a folder outside the repository, where it is unpacked and not installed; nothing of it
 is handed on."""
+import contextlib
+import fcntl
 import lzma
 import os
 import re
@@ -24,6 +26,15 @@ WRAPPER = """#!/bin/sh
 root={root}
 LD_LIBRARY_PATH=$root/usr/lib/x86_64-linux-gnu:$root/lib/x86_64-linux-gnu exec "$root{program}" {words} "$@"
 """
+
+
+@contextlib.contextmanager
+def one_at_a_time():
+    """Keeps two runs of the tests from fetching to one folder at once."""
+    CACHE.mkdir(parents=True, exist_ok=True)
+    with open(CACHE / "lock", "w", encoding="utf-8") as file:
+        fcntl.flock(file, fcntl.LOCK_EX)
+        yield
 
 
 def has_proxy(qemu: str) -> bool:
@@ -71,6 +82,7 @@ def named(package: str) -> str:
     return behind[0] if behind else package
 
 
+@one_at_a_time()
 def fetch() -> bool:
     """QEMU, iPXE and lspci; the programs as scripts that find what they want."""
     if not unpacked(ROOM, PACKAGES):
@@ -85,6 +97,7 @@ def fetch() -> bool:
     return True
 
 
+@one_at_a_time()
 def kernel() -> tuple[Path, Path, Path] | None:
     """Debian's kernel, the folder that a module of it is built by, and busybox."""
     root = KERNEL_ROOM / "root"
@@ -135,6 +148,7 @@ def unpack_kernel(image: Path, to: Path) -> None:
         to.unlink(missing_ok=True)
 
 
+@one_at_a_time()
 def linux() -> Linux | None:
     # (as if nothing were installed, so that all libraries come)
     if not unpacked(LINUX_ROOM, PROGRAMS, "-o", "Dir::State::status=/dev/null", alone=(LINUX,)):
@@ -151,6 +165,7 @@ def linux() -> Linux | None:
     return Linux(root, image, kernel if kernel.is_file() else image, modules)
 
 
+@one_at_a_time()
 def lined_e1000(made_for: Linux) -> Path | None:
     """The kernel's driver, built with lines of its own source, which is unchanged and lies beside it; None where
     something for it is missing."""
@@ -179,6 +194,7 @@ def lined_e1000(made_for: Linux) -> Path | None:
     return folder / "e1000.ko"
 
 
+@one_at_a_time()
 def u_boot() -> Path | None:
     """U-Boot in the place of a PC's firmware."""
     if not unpacked(BOOT_ROOM, [], alone=("u-boot-qemu",)):
