@@ -1,5 +1,6 @@
 """em_guest with Debian's kernel, and its own e1000 as it is: what that driver does, and what the run tells of it."""
 import re
+import shlex
 import sys
 from collections import defaultdict
 from pathlib import Path
@@ -107,21 +108,12 @@ def pinged(step: str, count: int) -> bool:
     return bool(re.search(rf"^{count} packets transmitted, {count} received, 0% packet loss", step, re.M))
 
 
-def everything(tally: Tally, room: Path, qemu: str, linux: Linux) -> None:
-    """Each of the steps of tests/guest/linux_init, over a wire whose other end is tests/guest_peer.py."""
-    kept, wire = room / "linux-all.em", room / "linux-all.pcap"
-    names = "usr/share/misc/pci.ids"
-    files = {"init": INIT, "e1000.ko": linux.e1000, names: linux.root / names}
-    files |= {f"{name.partition('/')[2]}.ko": linux.modules / "net" / f"{name}.ko" for name in MODULES}
-    files |= with_libraries(linux.root, [linux.root / "bin/ping", linux.root / "usr/bin/lspci"])
-    peer = f"exec {sys.executable} {TOP / 'tests' / 'guest_peer.py'}"
-    disk = packed(room / "linux-all", linux.busybox, files)
-    told = started(linux, qemu, kept, disk, "--peer", peer, "--pcap-out", wire)
-    step = defaultdict(str, steps_of(told))
+def looks(step: dict[str, str], told: str) -> dict[str, dict]:
+    """Of each thing that the driver does what is seen of it, and what is wanted."""
     errors = re.findall(r"/(\w+):(\d+)$", step["counted"], re.M)
     down, unloaded = (step[name].partition("PING")[0] for name in ("down and up", "loaded again"))
     alone, joined = step["a group that is not joined"], step["a group that is joined"]
-    for name, faults in {
+    return {
         "lspci": {"adapter": ("82540EM Gigabit Ethernet Controller [8086:100e] (rev 02)" in step["lspci"], True)},
         "probe": {"address": (step["probe"].strip(), MAC)},
         "link": {"it": (re.findall(r"(\w+):(\w+)$", step["link"], re.M),
@@ -143,7 +135,21 @@ def everything(tally: Tally, room: Path, qemu: str, linux: Linux) -> None:
         "what the kernel tells": {"faults": (re.findall("Tx Unit Hang|nobody cared", step["told"]), []),
                                   "the end": ("done" in step, True)},
         "accesses": {"none is refused": (bool(re.search(NONE_REFUSED, told)), True)},
-    }.items():
+    }
+
+
+def everything(tally: Tally, room: Path, qemu: str, linux: Linux) -> None:
+    """Each of the steps of tests/guest/linux_init, over a wire whose other end is tests/guest_peer.py."""
+    kept, wire = room / "linux-all.em", room / "linux-all.pcap"
+    names = "usr/share/misc/pci.ids"
+    files = {"init": INIT, "e1000.ko": linux.e1000, names: linux.root / names}
+    files |= {f"{name.partition('/')[2]}.ko": linux.modules / "net" / f"{name}.ko" for name in MODULES}
+    files |= with_libraries(linux.root, [linux.root / "bin/ping", linux.root / "usr/bin/lspci"])
+    peer = "exec " + shlex.join([sys.executable, str(TOP / "tests" / "guest_peer.py")])
+    disk = packed(room / "linux-all", linux.busybox, files)
+    told = started(linux, qemu, kept, disk, "--peer", peer, "--pcap-out", wire)
+    step = defaultdict(str, steps_of(told))
+    for name, faults in looks(step, told).items():
         tally.check(f"Linux's e1000, {name}", differ(faults))
     if "done" not in step:
         print(told[-3000:], flush=True)
