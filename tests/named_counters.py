@@ -89,7 +89,7 @@ REFUSED_PAGES = (
     (["--addr2line", "nowhere", "core"], 3, "em_page: --addr2line nowhere: there is no such file"),
     (["--addr2line", "text", "core"], 3, "em_page: --addr2line text: addr2line cannot read it"),
     (["--record", "core", "--addr2line", "driver"], 2,
-     "em_page: a record is wanted: ./em_page --record run.json > run.html"),
+     "em_page: driver is one file too many: a page shows a run, or two beside each other"),
     (["--addr2line", "driver", "nowhere"], 3, "em_record: nowhere: there is no such file"),
     (["--addr2line", "driver", "--base", "7", "core"], 2,
      "em_record: --memory 65536 --base 7: guest memory begins at a multiple of 4096, has a multiple of 4096 octets, and "
