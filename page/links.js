@@ -106,7 +106,8 @@ const LINK_PARTS = new Map([
     link.find = value;
     return "";
   }],
-  ["run", (value, link, run) => (run.of === 1 ? "says nothing here" : /^[12]$/.test(value ?? "") ? "" : "is none of the two runs")],
+  ["run", (value, link, run) => (run.of === 1 ? "says nothing here"
+    : /^[12]$/.test(value ?? "") ? "" : "is none of the two runs")],
 ]);
 
 /** Whether a text is a number from 0 to another one. */

@@ -251,7 +251,8 @@ function tellBroken(fault, run, name = "") {
   const element = byId("broken");
   element.hidden = false;
   const rest = run ? ` What stands before that is shown: ${counted(run.steps.length - 1, "step")}.` : "";
-  element.append(make("b", {}, `⚠\uFE0E This record is broken: ${name ? `${name}: ` : ""}`), `${visible(fault)}.${rest} `);
+  element.append(make("b", {}, `⚠\uFE0E This record is broken: ${name ? `${name}: ` : ""}`),
+    `${visible(fault)}.${rest} `);
 }
 
 /** What a run's machine is made of, and how long it is, in words. @param {Run} run */
@@ -319,7 +320,8 @@ async function readPacked(letters) {
       (share) => setText(told, `Reading the run: ${Math.floor(100 * share)} %`));
   } catch (fault) {
     setHidden(told, true);
-    return { run: null, fault: `it was packed, and can’t be unpacked (${fault instanceof Error ? fault.message : fault})` };
+    return { run: null,
+      fault: `it was packed, and can’t be unpacked (${fault instanceof Error ? fault.message : fault})` };
   }
   return packed.end();
 }
@@ -350,9 +352,11 @@ async function showPacked(records) {
   const reads = [];
   for (const { name, elements } of records) {
     try {
-      reads.push({ ...(elements[0].type === PACKED_TYPE ? await readPacked(lettersOfPage(elements[0])) : readRecord(octetsOfPage(elements))), name });
+      reads.push({ ...(elements[0].type === PACKED_TYPE ? await readPacked(lettersOfPage(elements[0]))
+        : readRecord(octetsOfPage(elements))), name });
     } catch (fault) {
-      reads.push({ run: null, fault: `this page can’t show it (${fault instanceof Error ? fault.message : fault})`, name });
+      reads.push({ run: null,
+        fault: `this page can’t show it (${fault instanceof Error ? fault.message : fault})`, name });
     }
   }
   guarded(() => show(reads));

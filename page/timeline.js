@@ -118,7 +118,8 @@ class Timeline {
         .map(([kind, [letter, words]]) => make("li", {}, make("span", { class: `tick kind-${kind}` }, letter), words)),
       ...Object.entries(MARKS).filter(([mark]) => has(marks, MARK_KINDS.indexOf(mark))).map(([mark, [sign, words]]) =>
         make("li", {}, make("span", { class: `tick mark-${mark}` }, sign), this.markButton(mark, words))),
-      ...(two ? [make("li", {}, this.countButton(UNLIKE, `not as in ${two.other(this.app.side)}`, countOf(run.unlike, 1)))] : []),
+      ...(two ? [make("li", {}, this.countButton(UNLIKE, `not as in ${two.other(this.app.side)}`,
+        countOf(run.unlike, 1)))] : []),
       make("li", {}, make("span", { class: "masked", "aria-hidden": "true" }), "under a cause: IMS lets it through"));
   }
 

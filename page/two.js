@@ -60,7 +60,8 @@ class TwoPanel {
   begin() {
     const { two, side } = this, { differences, carried } = two.pairs;
     setText(byId("two-head"), differences.length || carried ? `${counted(differences.length, "difference")}${carried
-      ? `, and ${counted(carried, "event")} in which only that differs which differed before` : ""}` : "all events are the same");
+      ? `, and ${counted(carried, "event")} in which only that differs which differed before` : ""}`
+      : "all events are the same");
     for (const [id, go] of Object.entries({
       "apart-first": () => this.show(0), "apart-back": () => this.go(-1), "apart-on": () => this.go(1),
       "other-run": () => this.swap(),
@@ -107,7 +108,8 @@ class TwoPanel {
     const { pairs } = this.two, { step } = this.app;
     const [behind, isThere] = this.rank(), { length } = pairs.differences;
     if (!isThere || this.current !== behind) this.current = isThere ? behind : null;
-    setText(byId("apart-at"), !length ? "" : isThere ? `${(behind + 1).toLocaleString("en")} of ${length.toLocaleString("en")}`
+    setText(byId("apart-at"), !length ? "" : isThere
+      ? `${(behind + 1).toLocaleString("en")} of ${length.toLocaleString("en")}`
       : `${behind.toLocaleString("en")} before this, of ${length.toLocaleString("en")}`);
     this.beside = new Beside(this.two, this.side, step, this.current);
     setAttribute(byId("beside"), "data-places", this.beside.ranges.map(({ from, end }) => `${from}-${end}`).join());
@@ -224,7 +226,8 @@ class TwoPanel {
     setAttribute(element, "data-events", numbers.join());
     setAttribute(element, "data-registers", said.registers.map((index) => REGISTERS[index][1]).join());
     setAttribute(element, "data-octets", said.octets);
-    const behind = names.map((name, side) => `${numbers[side] ? `event ${numbers[side]}` : "the start"} of ${name}`).join(" and ");
+    const behind = names.map((name, side) =>
+      `${numbers[side] ? `event ${numbers[side]}` : "the start"} of ${name}`).join(" and ");
     const words = [...said.registers.slice(0, MOST_APART_SHOWN).map((index) =>
       `${REGISTERS[index][1]} ${runs.map(({ state }) => hex(state.registers[index], 8)).join(" | ")}`),
     ...(said.registers.length > MOST_APART_SHOWN ? [`${said.registers.length - MOST_APART_SHOWN} more registers`] : []),
@@ -267,8 +270,10 @@ function apartOf([one, other]) {
       octets += 1;
     }
   }
-  const sights = [one, other].map(({ place }) => [["link", place.link ? "up" : "down"], ["interrupt line", place.interrupt ? "1" : "0"],
-    ["frames in the FIFO", place.frames], ["octets gathered", place.gathered.length / 2], ["frames sent", place.sending?.count ?? 0]]);
+  const sights = [one, other].map(({ place }) => [["link", place.link ? "up" : "down"],
+    ["interrupt line", place.interrupt ? "1" : "0"],
+    ["frames in the FIFO", place.frames], ["octets gathered", place.gathered.length / 2],
+    ["frames sent", place.sending?.count ?? 0]]);
   return { registers, octets, first, others: sights[0].flatMap(([name, value], at) =>
     (value === sights[1][at][1] ? [] : [[name, value, sights[1][at][1]]])) };
 }
