@@ -135,7 +135,10 @@ class TwoPanel {
     return `${this.current === 0 ? "Here they part: " : ""}${said}.`;
   }
 
-  /** What stands beside each other. @private @returns {{name: string, cells: string[], differs: boolean}[]} */
+  /**
+   * What stands beside each other; what has several lines, as a list of them.
+   * @private @returns {{name: string, cells: (string|string[])[], differs: boolean}[]}
+   */
   rows() {
     const { ranges, isPair } = this.beside;
     if (!isPair) return [{ name: "in one alone", cells: ranges.map((range, run) => this.alone(run, range)), differs: true }];
@@ -147,7 +150,7 @@ class TwoPanel {
     });
   }
 
-  /** Happenings that stand in one run alone, in words. @private */
+  /** Happenings that stand in one run alone, in words, each in a line. @private @returns {string[]} */
   alone(run, { from, end }) {
     const happenings = this.two.pairs.both[run], first = Math.max(from, Math.min(happenings.at(this.beside.steps[run]),
       end - MOST_ALONE)), list = [];
@@ -156,7 +159,7 @@ class TwoPanel {
       list.push(this.where(run, happenings.steps[index]));
     }
     if (first + MOST_ALONE < end) list.push(`and ${(end - first - MOST_ALONE).toLocaleString("en")} more`);
-    return list.join("\n") || "–";
+    return list.length ? list : ["–"];
   }
 
   /** A step in words: its event, its line, and what it was. @private */
@@ -175,7 +178,7 @@ class TwoPanel {
     if (line) told.set("line", script[line - 1]);
     if (performs) told.set("event", place.text);
     const played = lines.at(line);
-    if (played?.answer.length && played.last === step) told.set("answer", played.answer.join("\n"));
+    if (played?.answer.length && played.last === step) told.set("answer", played.answer.join("; "));
     if (played?.source) told.set("from", played.source);
     if (step === 0) {
       for (const part of MACHINE_PARTS) told.set(part, settings[part] === undefined ? "–" : String(settings[part]));
@@ -207,7 +210,7 @@ class TwoPanel {
 
   /** @private */
   table(rows) {
-    const cell = (text, other) => visible(partAbout(text, other));
+    const cell = (text, other) => (Array.isArray(text) ? text.map(visible).join("\n") : visible(partAbout(text, other)));
     become(byId("beside-rows"), rows.map(({ name, cells: [one, other], differs }) =>
       make("tr", { "data-name": name, "data-differs": differs ? "" : null },
         make("th", { scope: "row" }, ...(differs ? [make("span", { class: "trouble" }, "≠ ")] : []), name),

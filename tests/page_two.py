@@ -271,7 +271,8 @@ def edits(tally: Tally, browser, room: Path) -> None:
         browser.run(CLICK, "apart-on")
     first = told[0]["rows"][0]
     is_so = told[0]["said"] == "Here they part: two-b.json has 2 steps that two-a.json has not."
-    is_so = is_so and first[2] == "–" and "line 152: read STATUS" in first[3] and "line 153: read RDT" in first[3]
+    is_so = is_so and first[2] == "–" and len(first[3].split("\n")) == 2
+    is_so = is_so and "line 152: read STATUS" in first[3] and "line 153: read RDT" in first[3]
     tally.check("two lines put in", [] if is_so else [f"{told[0]['said']} {first}"])
     second = told[1]["rows"][0]
     is_so = "two-a.json has 1 step that two-b.json has not" in told[1]["said"] and second[3] == "–" and "line 249" in second[2]
