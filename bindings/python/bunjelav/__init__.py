@@ -183,7 +183,7 @@ class Machine(Explained):
         >>> m.record_to(path)
         >>> m.IMS = 4
         >>> print(path.read_text().splitlines()[1])  # doctest: +ELLIPSIS
-        w 000000D0 00000004 = ok @ ...:1
+        w D0 4 =ok @...:1
         """
         record = library.em_record_mapped if mapped else library.em_record_to
         must_of_file(record(self._at, os.fsencode(path)), os.fsdecode(path))
@@ -213,7 +213,7 @@ class Machine(Explained):
         >>> m.source("driver.c", 57)
         >>> m.IMS = 4
         >>> print(path.read_text().splitlines()[1])
-        w 000000D0 00000004 = ok @ driver.c:57
+        w D0 4 =ok @driver.c:57
         """
         place = number_of(line, 32, "a line")
         super().__setattr__("_source", os.fsencode(file))  # (the library keeps no copy)

@@ -185,7 +185,7 @@ impl Machine {
     /// m.record_to(&path)?;
     /// m.write(offset_of("IMS")?, 4)?;
     /// let text = std::fs::read_to_string(&path).unwrap();
-    /// assert!(text.contains("\nw 000000D0 00000004 = ok @ "));
+    /// assert!(text.contains("\nw D0 4 =ok @"));
     /// # std::fs::remove_file(&path).unwrap();
     /// # Ok(())
     /// # }

@@ -1,6 +1,7 @@
 mod Texts
 mod ShownNames
 mod PartsOfLines
+mod DigitSteps
 mod DigitLaws
 mod EventWords
 mod SourcePlaces
