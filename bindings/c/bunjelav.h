@@ -787,6 +787,16 @@ EM_CHECKED em_code em_record_to(em_machine *machine, const char *path);
    Behind a fork only one of the two processes may use the machine. */
 EM_CHECKED em_code em_record_mapped(em_machine *machine, const char *path);
 
+/* Writes the run of a machine that was not kept to a file, as lines that play to the same machine: the events that the
+   journal has, with their answers, and their tags as program counters. What was refused, or taken back, is not among them.
+   Of a frame that was dropped the octets are kept nowhere: one of the same length stands there, which is dropped for the
+   same reason, and does the same.
+
+   Refused as EM_NOT_MADE, EM_BEGUN where events were taken back, or where the journal may have dropped some: it
+   has all as long as they cost less than its budget by 65,536 octets; EM_MEMORY or EM_FILE, where errno says why. The
+   machine stays as it is. Cost: that of a copy, of the events once more, and of their lines. */
+EM_CHECKED em_code em_save(const em_machine *machine, const char *path);
+
 /* EM_OK where the run is kept, and all that happened so far is in the file. EM_FILE where that failed: `error` tells the
    host's number of the error (errno). It is told once; from then on the run is not kept. EM_UNRECORDED where it is not.
    Constant. */

@@ -632,6 +632,19 @@ class Kept(unittest.TestCase):
         m.close()
         self.assertEqual(self.kept(), wanted)
 
+    def test_saved_afterwards(self):
+        m = Machine()
+        m.tag(0x1234)
+        m.IMS = 4
+        m.arrive(bytes([0xFF] * 14))
+        m.save(self.path)
+        self.assertEqual(self.kept(), ["w D0 4 =ok @0x1234", "arrive FFFFFFFFFFFF0000000000000000 =dropped down @0x1234"])
+        with self.assertRaises(bunjelav.File) as refused:
+            m.save("/nowhere/saved.em")
+        self.assertEqual(refused.exception.__cause__.errno, errno.ENOENT)
+        m.back()
+        self.assertRaises(bunjelav.Begun, m.save, self.path)
+
     def test_without_places(self):
         m = Machine()
         m.record_to(str(self.path), places=False)

@@ -210,6 +210,17 @@ impl Machine {
         Ok(())
     }
 
+    /// Writes the run so far to a file, where nobody kept it: the events that the journal has, as lines that play to the
+    /// same machine, with their tags in the place of lines. For a frame that was dropped stands another one of the same
+    /// length, which is dropped for the same reason. Refused as [`Refusal::Begun`] where events were taken back, or where
+    /// the journal may have dropped some, [`Refusal::Memory`] or [`Refusal::File`]; of the last,
+    /// `std::io::Error::last_os_error` says why.
+    #[cfg(feature = "std")]
+    pub fn save<P: AsRef<std::path::Path>>(&self, path: P) -> Result<(), Refusal> {
+        let path = crate::record::c_path(path.as_ref()).ok_or(Refusal::File)?;
+        told(unsafe { raw::em_save(self.handle.get(), path.as_ptr()) }, ())
+    }
+
     /// Whether the run is kept, and all that happened is in the file; where the file could not be written, why. That is
     /// told once, and from then on the run is not kept.
     #[cfg(feature = "std")]

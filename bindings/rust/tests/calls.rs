@@ -570,6 +570,21 @@ fn keeps_a_run() {
 }
 
 #[test]
+fn saves_a_run_that_was_not_kept() {
+    let path = std::env::temp_dir().join(format!("bunjelav-{}-saved.em", std::process::id()));
+    let mut m = made();
+    m.tag(0x1234);
+    m.write(IMS, 4).unwrap();
+    m.arrive(&[0xFF; 14]).unwrap();
+    m.save(&path).unwrap();
+    assert_eq!(lines_of(&path), ["w D0 4 =ok @0x1234", "arrive FFFFFFFFFFFF0000000000000000 =dropped down @0x1234"]);
+    assert_eq!(m.save("/nowhere/saved.em"), Err(Refusal::File));
+    assert_eq!(m.back(1), 1);
+    assert_eq!(m.save(&path), Err(Refusal::Begun));
+    std::fs::remove_file(&path).unwrap();
+}
+
+#[test]
 fn keeps_a_run_by_a_mapping() {
     let path = std::env::temp_dir().join(format!("bunjelav-{}-mapped.em", std::process::id()));
     let mut m = made();
