@@ -181,12 +181,13 @@ def xv6(s: Script) -> None:
         s.blame(f"w {RDLEN:X} {16 * 9:X}")
     else:
         s.write(RDLEN, 16 * COUNT)
-        if s.has("tail-is-count"):
-            s.follow()
     address_filter(s)
     s.write(TCTL, TX_CONTROL)
     s.write(TIPG, 0x60200A)
     s.write(RCTL, EN | BAM | SECRC)
+    if s.has("tail-is-count"):
+        # from here on the receiver goes by the ring
+        s.follow()
     s.write(IMS, RXT0)
     s.do("link up", "wire")
     for turn in range(COUNT + 3):
@@ -437,6 +438,9 @@ def bsd_up(s: Script) -> None:
         s.write(register, value)
     for at in range(COUNT):
         bsd_init_receive(s, at, is_first=True)
+        if s.has("base-in-the-high-half") and at == 1:
+            # the first descriptor that the adapter is given, which is nowhere
+            s.follow()
     s.write(TCTL, TX_CONTROL)
     s.write(IMS, RXT0 | TXDW | LSC)
     if s.has("broadcast-not-accepted"):
