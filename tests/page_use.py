@@ -8,7 +8,7 @@ from page_names import of_code, of_docs
 from page_states import ASK, GO, LOOK, by_bench
 from tally import Tally
 
-MANY_ROUNDS, OPEN_SECONDS, STEP_MILLISECONDS, TRIES = 2000, 1.0, 16.0, 6
+MANY_ROUNDS, OPEN_SECONDS, STEP_MILLISECONDS, TRIES = 2000, 1.0, 16.0, 20
 # of a long run: what objects of the page may take for an event, and so many lines em_bench reads at most
 EVENTS_OF_A_ROUND, OBJECT_OCTETS, MOST_OF_BENCH, PLACES = 5, 600, 100_000, [0x1000, 0x2000]
 LEAST_CONTRAST = 4.5
