@@ -20,7 +20,8 @@ enum {
   MOST_WAITING = 16,
   STATUS = 12, /* of a receive descriptor, in which EOP says that the frame ends there */
   STATUS_EOP = 2,
-  MOST_GIVEN = 262144 /* octets that are looked at before one write of a tail; a step brings in the rest */
+  MOST_GIVEN = 262144, /* octets that are looked at before one write of a tail; a step brings in the rest */
+  MOST_KEPT = 1048576  /* octets of frames that were handed on, before the library lets go of them */
 };
 
 bool device_make(struct device *device, uint32_t profile, const uint8_t mac[6], struct run *run, frame_sent *on_sent,
@@ -147,6 +148,12 @@ void device_arrive(struct device *device, const uint8_t *frame, size_t length) {
   else device->tally.dropped++;
 }
 
+/* Lets go of the frames that were handed on: nobody steps back here, and the run has what sent them. */
+static void let_go(struct device *device) {
+  size_t count = 0;
+  if (em_let_go(&device->machine, &count) == EM_OK) device->kept = 0;
+}
+
 /* Hands on what the last step sent. */
 static void hand_on(struct device *device) {
   uint8_t frame[EM_MOST_SENT];
@@ -155,8 +162,10 @@ static void hand_on(struct device *device) {
   for (; device->sent < count; device->sent++) {
     if (em_wire_frame(&device->machine, device->sent, frame, sizeof frame, &length) != EM_OK) continue;
     device->tally.sent++;
+    device->kept += length;
     if (device->on_sent) device->on_sent(device->whose, frame, length);
   }
+  if (device->kept >= MOST_KEPT) let_go(device);
 }
 
 /* ---- the engines */

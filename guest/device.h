@@ -44,6 +44,7 @@ struct device {
   bool is_master;   /* the guest lets it use memory */
   size_t waiting;   /* frames that lie in the FIFO */
   size_t sent;      /* frames of the model's wire that were handed on */
+  size_t kept;      /* octets of them since the library let go of some */
   uint64_t counter; /* the guest's program counter at this access; 0 where it is not known */
   frame_sent *on_sent;
   register_accessed *on_access; /* or NULL */

@@ -129,7 +129,8 @@ static bool is_header(const char *place) {
   return colon && colon - place > 2 && strncmp(colon - 2, ".h", 2) == 0;
 }
 
-/* Reads the answers. Of functions that were put into others the innermost counts that stands in no header. */
+/* Reads the answers. Of functions that were put into others the innermost counts that stands in no header. Where the
+   program has no lines, as a kernel's own module has none, the function stands alone. */
 static void read_names(FILE *answers, struct symbols *symbols, uint64_t base) {
   char *function = NULL, *place = NULL;
   size_t function_room = 0, place_room = 0;
@@ -144,10 +145,12 @@ static void read_names(FILE *answers, struct symbols *symbols, uint64_t base) {
     if (getline(&place, &place_room, answers) <= 0) break;
     function[strcspn(function, "\n")] = '\0';
     place[strcspn(place, " \n")] = '\0';
-    if (!symbol || is_final || place[0] == '?' || function[0] == '?') continue;
-    if (symbol->name[0] == '\0' || !is_header(place))
-      snprintf(symbol->name, sizeof symbol->name, "%s%s, %s", function, strchr(function, '(') ? "" : "()", place);
-    is_final = !is_header(place);
+    if (!symbol || is_final || function[0] == '?') continue;
+    bool has_line = place[0] != '?';
+    if (symbol->name[0] == '\0' || (has_line && !is_header(place)))
+      snprintf(symbol->name, sizeof symbol->name, "%s%s%s%s", function, strchr(function, '(') ? "" : "()",
+               has_line ? ", " : "", has_line ? place : "");
+    is_final = has_line && !is_header(place);
   }
   free(function);
   free(place);

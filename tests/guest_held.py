@@ -6,11 +6,9 @@ import signal
 import socket
 import struct
 import subprocess
-import time
 from pathlib import Path
 
-from guest_played import FRAME, RECEIVING, Guest, differ, ended, set_up_rings
-from guest_tools import debugger
+from guest_tools import FRAME, Guest, debugger, differ, ended, set_up_rings
 from played_qemu import BAR_READ, BAR_WRITE, WINDOW, PlayedQemu, message, transmit_descriptor, until
 from tally import TOP, Tally, run
 

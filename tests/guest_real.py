@@ -13,8 +13,8 @@ import time
 from pathlib import Path
 
 import guest_packages
-from guest_played import differ
-from guest_tools import asked, counted_run, debugger
+from guest_disk import packed
+from guest_tools import asked, counted_run, debugger, differ
 from played_qemu import connected, until
 from tally import TOP, Tally, run
 
@@ -83,6 +83,8 @@ def terminal(words: list, script: list[tuple[bytes, bytes]]) -> tuple[int, str]:
 def held(tally: Tally, room: Path, qemu: str) -> None:
     """A guest that has the terminal is held, em_debug has it then, with names in the run, and the guest has it again."""
     elf, kept, seen = room / "bare.elf", room / "held.em", room / "held-seen.em"
+    if not elf.is_file():
+        return
     lines = BARE.read_text().splitlines()
     tail = next(number for number, line in enumerate(lines, 1) if "/* the tail */" in line)
     script = room / "held-debugger"
@@ -106,6 +108,8 @@ def held(tally: Tally, room: Path, qemu: str) -> None:
 def listened(tally: Tally, room: Path, qemu: str) -> None:
     """A QEMU that is started here, with em_guest waiting for it."""
     elf, path, qtest = room / "bare.elf", room / "listened", room / "listened-qtest"
+    if not elf.is_file():
+        return
     process = subprocess.Popen([TOP / "em_guest", "--run", room / "listened.em", "--listen", path, "--qtest", qtest,
                                 "--irq", "/machine/i440fx/ioapic:11"], stderr=subprocess.PIPE)
     with connected(path) as end:
@@ -125,6 +129,7 @@ class Served:
     """A web server with files of a folder, and what was asked of it."""
 
     def __init__(self, folder: Path) -> None:
+        folder.mkdir(exist_ok=True)
         self.asked: list[str] = []
         outer = self
 
@@ -141,8 +146,12 @@ class Served:
         self.server.server_close()
 
 
-def ipxe(tally: Tally, room: Path, qemu: str, kernel: Path) -> None:
+def ipxe(tally: Tally, room: Path, qemu: str) -> None:
     """iPXE takes an address by DHCP and fetches a script by HTTP, which prints its line; no access is refused."""
+    kernel = guest_packages.ipxe()
+    if not kernel:
+        print("not run: iPXE, which is not here and apt has not", flush=True)
+        return
     served, kept = Served(room / "www"), room / "ipxe.em"
     script = "dhcp net0 && chain http://10.0.2.2:{}/boot.ipxe"
     # (a reset comes before the serial port has printed the last octets)
@@ -195,10 +204,14 @@ def dies(tally: Tally, room: Path, qemu: str) -> None:
     tally.check("QEMU refuses its words", differ({"status": (ran.returncode, 1), "told": (b"unsupported machine type" in ran.stderr, True)}))
 
 
-def much(tally: Tally, room: Path, qemu: str, kernel: Path) -> None:
-    """600,000 octets by HTTP, beside QEMU's own adapter."""
-    (room / "www" / "much").write_bytes(os.urandom(600_000))
+def much(tally: Tally, room: Path, qemu: str) -> None:
+    """600,000 octets by HTTP to iPXE, beside QEMU's own adapter."""
+    kernel = guest_packages.ipxe()
+    if not kernel:
+        print("not run: 600,000 octets to iPXE, which is not here and apt has not", flush=True)
+        return
     served, times = Served(room / "www"), {}
+    (room / "www" / "much").write_bytes(os.urandom(600_000))
     script = f"dhcp net0 && imgfetch http://10.0.2.2:{served.port}/much && imgstat && reboot"
     machine = ["-machine", "pc,graphics=off", *MACHINE, "-kernel", kernel, "-append", script]
     own = ["-netdev", "user,id=n", "-device", "e1000,netdev=n,romfile="]
@@ -222,20 +235,6 @@ def written_in_page(file: str, text: str) -> list[str]:
     return faults if page else ["it has no line of the run"]
 
 
-def initrd(room: Path, module: Path, busybox: Path) -> Path:
-    """A disk in memory that loads the module, tells where it lies, and resets the machine."""
-    folder, packed = room / "disk", room / "initrd"
-    for name in ("bin", "proc", "sys", "dev"):
-        (folder / name).mkdir(parents=True)
-    shutil.copy(busybox, folder / "bin" / "busybox")
-    shutil.copy(module, folder)
-    shutil.copy(INIT, folder)
-    names = "\n".join(str(path.relative_to(folder)) for path in sorted(folder.rglob("*")))
-    ran = run([busybox, "cpio", "-o", "-H", "newc"], names.encode(), cwd=folder)
-    packed.write_bytes(ran.stdout)
-    return packed
-
-
 def sender(tally: Tally, room: Path, qemu: str) -> None:
     """A module of ours in Debian's kernel: it is built, loaded, sends a frame and is interrupted; then its lines are named."""
     there = guest_packages.kernel() if shutil.which("make") else None
@@ -252,7 +251,8 @@ def sender(tally: Tally, room: Path, qemu: str) -> None:
         tally.check("a module of Linux, built", [ran.stderr.decode()[-2000:]])
         return
     words = ["-accel", "tcg", "-m", "128", "-machine", "pc,graphics=off", "-nodefaults", "-display", "none", "-serial", "stdio",
-             "-no-reboot", "-kernel", image, "-initrd", initrd(room, folder / "sender.ko", busybox),
+             "-no-reboot", "-kernel", image, "-initrd",
+             packed(room / "disk", busybox, {"sender.ko": folder / "sender.ko", "init": INIT}),
              "-append", "console=ttyS0 panic=-1 no_timer_check"]  # (the check fails where the host is slow)
     ran = em_guest("--run", kept, "--pc", "--", qemu, *words, timeout=600)
     told = ran.stdout.decode(errors="replace")
@@ -270,24 +270,3 @@ def sender(tally: Tally, room: Path, qemu: str) -> None:
         "reads of ICR": (len(re.findall(r"^r 000C0 = 00000003 @ on_interrupt\(\), sender\.c:\d+$", text, re.M)), 1)}))
     tally.check("docs/guest.md, a module of Linux", written_in_page("sender.c", text))
     counted_run(tally, "a module of Linux, played again", kept, 2, warnings="0")
-
-
-def all_of(tally: Tally, room: Path, is_all: bool) -> None:
-    qemu, kernel = guest_packages.qemu(), guest_packages.ipxe()
-    if not qemu:
-        print("not run: guests in a real QEMU: none with x-pci-proxy-dev is here, and apt has none", flush=True)
-        return
-    (room / "www").mkdir()
-    bare(tally, room, qemu)
-    if (room / "bare.elf").is_file():
-        held(tally, room, qemu)
-        listened(tally, room, qemu)
-    dies(tally, room, qemu)
-    if is_all:
-        sender(tally, room, qemu)
-    if not kernel:
-        print("not run: iPXE, which is not here and apt has not", flush=True)
-        return
-    ipxe(tally, room, qemu, kernel)
-    if is_all:
-        much(tally, room, qemu, kernel)

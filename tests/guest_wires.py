@@ -9,7 +9,7 @@ import struct
 import sys
 from pathlib import Path
 
-from guest_played import FRAME, Guest, differ, ended, set_up_rings
+from guest_tools import FRAME, Guest, differ, ended, set_up_rings
 from played_qemu import PlayedQemu, transmit_descriptor, until
 from tally import TOP, Tally, run
 
