@@ -74,8 +74,8 @@ def agrees(is_read: bool, expected: str, answer: str) -> bool:
 
 @cache
 def bits() -> dict[str, dict[str, int]]:
-    """By the name of a register, of an array without the index: its bits."""
-    return {reg: {name: 1 << low for name, high, low in rows if high == low}
+    """By the name of a register, of an array without the index: its bits, in upper case."""
+    return {reg: {name.upper(): 1 << low for name, high, low in rows if high == low}
             for reg, rows in page_names.of_docs().items()}
 
 

@@ -28,7 +28,7 @@ def field(name: str, high: int, low: int, value: int, register: str) -> str:
         return f" {name}"
     if name in ("SPEED", "ASDV"):
         return f" {name}={SPEEDS[number]}"
-    is_in_digits = name in ("ADDR", "DATA") or (register, name) == ("RAH", "RAH")
+    is_in_digits = name in ("ADDR", "DATA", "TxConfigWord") or (register, name) == ("RAH", "RAH")
     return f" {name}={number:04X}" if is_in_digits else f" {name}={number}"
 
 

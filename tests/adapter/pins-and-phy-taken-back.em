@@ -1,0 +1,44 @@
+# em_debug --profile adapter
+w EECD 42 = ok
+back = ok
+r EECD = 00000118
+w MDIC 04241234 = ok
+back = ok
+r MDIC = 00000000
+w MDIC 08240000 = ok
+r MDIC = 18240DE1
+# MDAC goes with the command that raised it
+w MDIC 24245678 = ok
+back = ok
+r ICR = 00000000
+r MDIC = 18240DE1
+# a bit that was given comes once more: the second of word 0
+w EECD 2 = ok
+w EECD 6 = ok
+w EECD 7 = ok
+w EECD 6 = ok
+w EECD 7 = ok
+w EECD 2 = ok
+w EECD 3 = ok
+w EECD 2 = ok
+w EECD 3 = ok
+w EECD 2 = ok
+w EECD 3 = ok
+w EECD 2 = ok
+w EECD 3 = ok
+w EECD 2 = ok
+w EECD 3 = ok
+w EECD 2 = ok
+w EECD 3 = ok
+w EECD 2 = ok
+w EECD 3 = ok
+w EECD 2 = ok
+r EECD = 00000102
+w EECD 3 = ok
+w EECD 2 = ok
+r EECD = 0000010A
+back 3 = back 3
+r EECD = 00000102
+w EECD 3 = ok
+w EECD 2 = ok
+r EECD = 0000010A

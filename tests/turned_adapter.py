@@ -1,0 +1,166 @@
+"""Rules of the second profile, each with its text in tests/second_reading.py or tests/second_parts.py, and a wrong one:
+tests/turned_rules puts that in its place, and a row of tests/adapter must fail."""
+
+LOST = "    if not s.is_second or offset >= REACH or offset % 4:\n"
+STORED = [
+    ("TXCW keeps 16 bits", "0x178: 0xC000FFFF", "0x178: 0xFFFF"),
+    ("TXCW keeps bit 29", "0x178: 0xC000FFFF", "0x178: 0xE000FFFF"),
+    ("AIT keeps 32 bits", "0x458: 0xFFFF,", "0x458: GREATEST,"),
+    ("FCRTL without bit 31", "0x2160: 0x8000FFF8", "0x2160: 0xFFF8"),
+    ("FCRTL with its low bits", "0x2160: 0x8000FFF8", "0x2160: 0x8000FFFF"),
+    ("FCRTH with bit 31", "0x2168: 0xFFF8", "0x2168: 0x8000FFF8"),
+    ("FCRTH with its low bits", "0x2168: 0xFFF8", "0x2168: 0xFFFF"),
+    ("WUC keeps 16 bits", "0x5800: GREATEST", "0x5800: 0xFFFF"),
+    ("WUFC keeps 16 bits", "0x5808: GREATEST", "0x5808: 0xFFFF"),
+    ("MANC keeps 16 bits", "0x5820: GREATEST", "0x5820: 0xFFFF"),
+    ("SWSM keeps 16 bits", "0x5B50: GREATEST", "0x5B50: 0xFFFF"),
+    ("FCAH keeps 32 bits", "NARROW = {0x2C, ", "NARROW = {"),
+    ("FCT keeps 32 bits", "0x30, 0xC4", "0xC4"),
+    ("ITR keeps 32 bits", "0x30, 0xC4", "0x30"),
+    ("FCTTV keeps 32 bits", "0x170, 0x2820", "0x2820"),
+    ("RDTR keeps 32 bits", "0x170, 0x2820", "0x170"),
+    ("RADV keeps 32 bits", "0x282C, 0x3820", "0x3820"),
+    ("TIDV keeps 32 bits", "0x282C, 0x3820", "0x282C"),
+    ("TADV keeps 32 bits", ", 0x382C}", "}"),
+    ("FPD is kept", "s.put(offset, value & 0xFFFF)\n    elif offset in PLAIN", "s.put(offset, value & 0x8000FFFF)\n    "
+     "elif offset in PLAIN"),
+]
+LOST_ACCESSES = [
+    ("offsets end below 1FFFC", "REACH = 0x20000", "REACH = 0x1FFFC"),
+    ("offsets go to 20000", "REACH = 0x20000", "REACH = 0x20004"),
+    ("offsets without an end", LOST, "    if not s.is_second or offset % 4:\n"),
+    ("offsets at multiples of 2", LOST, LOST.replace("% 4", "% 2")),
+    ("any offset", LOST, LOST.replace(" or offset % 4", "")),
+    ("an offset without a register is refused", LOST, "    if True:\n"),
+    ("a read without a register gives ones", "        return 0\n    value = s.look", "        return GREATEST\n    value = "
+     "s.look"),
+    ("a write without a register reaches the one before it", "    if is_lost(s, offset):\n        return False\n",
+     "    if is_lost(s, offset):\n        s.put(offset - 4, value)\n        return False\n"),
+]
+CHECK_SEQUENCE = [
+    ("SECRC without effect", " and not s.at(RCTL) >> 26 & 1 else", " else"),
+    ("SECRC turned round", "and not s.at(RCTL) >> 26 & 1 else", "and s.at(RCTL) >> 26 & 1 else"),
+    ("another bit for SECRC", "RCTL) >> 26 & 1", "RCTL) >> 25 & 1"),
+    ("never a check sequence", 'crc32(frame).to_bytes(4, "little") if s.is_second', 'crc32(frame).to_bytes(4, "little") if False'),
+    ("the high octet first", 'crc32(frame).to_bytes(4, "little")', 'crc32(frame).to_bytes(4, "big")'),
+    ("the sequence of the frame without its tag", "check_sequence(s, frame)\n    if sum", "check_sequence(s, stored)\n    if "
+     "sum"),
+    ("a sequence of zeros", "return crc32(frame).to_bytes", "return (0).to_bytes"),
+    ("room without the sequence", "+ len(stored) > ROOM", "+ len(stored) - len(check_sequence(s, frame)) > ROOM"),
+    ("sizes with the sequence", "len(frame) + 4\n    if not s.link", "len(frame) + 4 + len(check_sequence(s, frame))\n    if "
+     "not s.link"),
+    ("sizes without the sequence", "len(frame) + 4\n    if not s.link", "len(frame) + 4 - len(check_sequence(s, frame))\n    "
+     "if not s.link"),
+    ("an arrival's cost without the sequence", "return text, 32 + stored\n", "return text, 32 + (len(frame) if stored else "
+     "0)\n"),
+    ("an arrival costs 31 with the sequence", "return text, 32 + stored\n", "return text, 31 + stored\n"),
+    ("an arrival costs 33 with the sequence", "return text, 32 + stored\n", "return text, 33 + stored\n"),
+]
+COSTS = [
+    ("a read costs 31", '{read(s, offset):08X}", 32)', '{read(s, offset):08X}", 31)'),
+    ("a read costs 33", '{read(s, offset):08X}", 32)', '{read(s, offset):08X}", 33)'),
+    ("a write costs 31", "write(s, offset, value) else 32", "write(s, offset, value) else 31"),
+    ("a write costs 33", "write(s, offset, value) else 32", "write(s, offset, value) else 33"),
+]
+PINS = [
+    ("SK is not stored", "STORED = 0x77", "STORED = 0x76"),
+    ("CS reads as 0", "return self.pins | DO", "return self.pins & ~CS | DO"),
+    ("DI is not stored", "STORED = 0x77", "STORED = 0x73"),
+    ("DO is stored", "STORED = 0x77", "STORED = 0x7F"),
+    ("the low bit of FWE is not stored", "STORED = 0x77", "STORED = 0x67"),
+    ("the high bit of FWE is not stored", "STORED = 0x77", "STORED = 0x57"),
+    ("REQ is not stored", "STORED = 0x77", "STORED = 0x37"),
+    ("GNT is stored", "STORED = 0x77", "STORED = 0xF7"),
+    ("GNT always", "(GNT if self.pins & REQ else 0)", "GNT"),
+    ("GNT never", "(GNT if self.pins & REQ else 0)", "0"),
+    ("GNT with CS", "(GNT if self.pins & REQ else 0)", "(GNT if self.pins & CS else 0)"),
+    ("PRES is 0", " | PRES\n", "\n"),
+    ("SIZE is 1", " | PRES\n", " | PRES | 0x200\n"),
+    ("FWE is 00b at power on", "pins: int = 0x10", "pins: int = 0"),
+    ("FWE is 10b at power on", "pins: int = 0x10", "pins: int = 0x20"),
+    ("nothing is forgotten", '                heard, fell = "", 0\n', "                pass\n"),
+    ("the falls are not forgotten", '                heard, fell = "", 0\n', '                heard = ""\n'),
+    ("SK high takes DI", "            if value & SK and not pins & SK:\n", "            if value & SK:\n"),
+    ("a fall of SK takes DI", "            if value & SK and not pins & SK:\n", "            if not value & SK and pins & SK:\n"),
+    ("SK low takes DI", "            if value & SK and not pins & SK:\n", "            if not value & SK:\n"),
+    ("DI turned round", "str(value >> 2 & 1)", "str(~value >> 2 & 1)"),
+    ("eight bits are a command", "if len(heard) < 9 else", "if len(heard) < 8 else"),
+    ("ten bits are a command", "if len(heard) < 9 else", "if len(heard) < 10 else"),
+    ("the last nine bits", 'heard += str(value >> 2 & 1) if len(heard) < 9 else ""', "heard = (heard + str(value >> 2 & "
+     "1))[-9:]"),
+    ("falls before the ninth bit count", " and len(heard) == 9:\n                fell", ":\n                fell"),
+    ("a rise of SK gives the next bit", "if pins & SK and not value & SK and len", "if not pins & SK and value & SK and len"),
+    ("DO is 0 where nothing is read", "        bit = 1\n", "        bit = 0\n"),
+    ("DO without CS", "if self.pins & CS and len", "if len"),
+    ("101 reads too", 'startswith("110")', 'startswith(("110", "101"))'),
+    ("111 reads too", 'startswith("110")', 'startswith("11")'),
+    ("no start bit is asked for", 'startswith("110")', 'startswith(("110", "010"))'),
+    ("the address is of five bits", "int(self.heard[3:], 2)", "int(self.heard[4:], 2)"),
+    ("the address from its lowest bit", "int(self.heard[3:], 2)", "int(self.heard[:2:-1], 2)"),
+    ("one word alone", "words[(first + i) % 64]", "words[first]"),
+    ("the words go down", "words[(first + i) % 64]", "words[(first - i) % 64]"),
+    ("word 1 behind word 63", "words[(first + i) % 64]", "words[(first + i) % 63 if first + i > 63 else first + i]"),
+    ("the lowest bit first", ":016b}\" for i in range(64))", ":016b}\"[::-1] for i in range(64))"),
+    ("DO is 1 until SK falls", "if self.fell else 0\n", "if self.fell else 1\n"),
+    ("no bit of 0 before the word", "bits[(self.fell - 1) % 1024]) if self.fell else 0", "bits[self.fell % 1024])"),
+    ("a reset clears the pins", "    def reset(self) -> None:\n", "    def reset(self) -> None:\n        self.pins = Pins()\n"),
+]
+PHY = [
+    *((f"word {at} at power on", f"{at}: 0x{word},", f"{at}: 0x{word} ^ 1,") for at, word in (
+        (0, "1140"), (1, "7949"), (2, "0141"), (3, "0C20"), (4, "0DE1"), (5, "01E0"), (9, "0E00"), (10, "3C00"), (16, "0360"),
+        (17, "A800"),
+    )),
+    ("word 20 at power on", "20: 0x0D60,", "19: 0x0D60,"),
+    ("another word at power on", "POWER_ON.get(i, 0) for", "POWER_ON.get(i, i // 31) for"),
+    ("MDIC at power on", "mdic: int = 0\n", "mdic: int = 1 << 28\n"),
+    ("word 1 without the link", "LINK_BITS = {1: 0x24, ", "LINK_BITS = {"),
+    ("word 1 with bit 2 alone", "1: 0x24,", "1: 4,"),
+    ("word 1 with bit 5 alone", "1: 0x24,", "1: 0x20,"),
+    ("word 17 without the link", ", 17: 0x400}", "}"),
+    ("another bit of word 17", "17: 0x400}", "17: 0x800}"),
+    ("the link's bits in each word", "LINK_BITS.get(at, 0) if", "LINK_BITS.get(at, 4) if"),
+    ("the link's bits without a link", "LINK_BITS.get(at, 0) if link else 0", "LINK_BITS.get(at, 0)"),
+    ("MDIC follows the link", "            return self.phy.mdic\n", "            return self.phy.write(self.link, "
+     "self.phy.mdic).mdic\n"),
+    *((f"word {at} is written", "READ_ONLY = (1, 2, 3, 17)", f"READ_ONLY = ({others})") for at, others in (
+        (1, "2, 3, 17"), (2, "1, 3, 17"), (3, "1, 2, 17"), (17, "1, 2, 3"))),
+    *((f"word {at} can't be written", "READ_ONLY = (1, 2, 3, 17)", f"READ_ONLY = (1, 2, 3, 17, {at})")
+      for at in (0, 4, 5, 16, 18, 31)),
+    ("reset stays", "~(1 << 15 | 1 << 9) if at == 0", "~(1 << 9) if at == 0"),
+    ("restart of negotiation stays", "~(1 << 15 | 1 << 9) if at == 0", "~(1 << 15) if at == 0"),
+    ("two bits of every word", "~(1 << 15 | 1 << 9) if at == 0 else data", "~(1 << 15 | 1 << 9)"),
+    ("a reset of the PHY changes its words", "            words = (*words[:at]", "            words = Phy().words if at == 0 and "
+     "data >> 15 else words\n            words = (*words[:at]"),
+    ("the word behind is written", "(*words[:at], stored, *words[at + 1 :])", "(*words[:at], stored, stored, *words[at + 2 :])"),
+    ("OP 11 writes", "elif operation == 1 and", "elif operation & 1 and"),
+    ("OP 00 writes", "elif operation == 1 and", "elif operation in (0, 1) and"),
+    ("OP 11 reads", "elif operation == 2:", "elif operation >= 2:"),
+    ("OP 00 reads", "elif operation == 2:", "elif operation in (0, 2):"),
+    ("a read gives what was in DATA too", "told & ~0xFFFF | self.word(link, at)", "told | self.word(link, at)"),
+    ("any PHY answers", "        if phy != 1:\n", "        if False:\n"),
+    ("PHY 0 answers", "        if phy != 1:\n", "        if phy not in (0, 1):\n"),
+    ("PHYADD of one bit", "        if phy != 1:\n", "        if not phy & 1:\n"),
+    ("PHYADD of four bits", "value >> 21 & 31", "value >> 21 & 15"),
+    ("REGADD of four bits", "value >> 16 & 31", "value >> 16 & 15"),
+    ("no E", "            told |= 1 << 30\n", "            pass\n"),
+    ("E and no R", "            told |= 1 << 30\n", "            told = told & ~(1 << 28) | 1 << 30\n"),
+    ("no R", " | 1 << 28, self.words\n", ", self.words\n"),
+    ("E as it was written", "~(1 << 31 | 1 << 30)", "~(1 << 31)"),
+    ("bit 31 as it was written", "~(1 << 31 | 1 << 30)", "~(1 << 30)"),
+    ("I is cleared", "~(1 << 31 | 1 << 30)", "~(7 << 29)"),
+    ("another PHY's DATA is cleared", "            told |= 1 << 30\n", "            told = told & ~0xFFFF | 1 << 30\n"),
+    ("another PHY's words are written", "elif operation == 1 and", "if operation == 1 and"),
+    ("MDAC without I", "        if value >> 29 & 1:\n", "        if True:\n"),
+    ("MDAC never", "        if value >> 29 & 1:\n", "        if False:\n"),
+    ("MDAC of a read alone", "        if value >> 29 & 1:\n", "        if value >> 29 & 1 and value >> 26 & 3 == 2:\n"),
+    ("MDAC of PHY 1 alone", "        if value >> 29 & 1:\n", "        if value >> 29 & 1 and value >> 21 & 31 == 1:\n"),
+    ("another bit for MDAC", "= 1, 2, 4, 0x10, 0x40, 0x80, 0x200\n", "= 1, 2, 4, 0x10, 0x40, 0x80, 0x100\n"),
+    ("a reset clears the PHY", "    def reset(self) -> None:\n", "    def reset(self) -> None:\n        self.phy = Phy()\n"),
+    ("a reset clears MDIC", "    def reset(self) -> None:\n", "    def reset(self) -> None:\n        self.phy = Phy(0, "
+     "self.phy.words) if self.phy else Phy()\n"),
+    ("a reverse step leaves the pins", "        self.now, cost = self.past.pop()\n", "        old = self.now.pins\n        "
+     "self.now, cost = self.past.pop()\n        self.now = copy.copy(self.now)\n        self.now.pins = old\n"),
+    ("a reverse step leaves the PHY", "        self.now, cost = self.past.pop()\n", "        old = self.now.phy\n        "
+     "self.now, cost = self.past.pop()\n        self.now = copy.copy(self.now)\n        self.now.phy = old\n"),
+]
+TURNED = [*STORED, *LOST_ACCESSES, *CHECK_SEQUENCE, *COSTS, *PINS, *PHY]
