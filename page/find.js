@@ -4,7 +4,8 @@
 /** So much of an answer is sought in, in characters. */
 const MOST_OF_ANSWER = 4_096;
 /** What `is:` takes, besides the marks. */
-const GONE = "gone";
+const GONE = "gone", UNLIKE = "unlike";
+const IS_WORDS = [...MARK_KINDS.slice(1), GONE, UNLIKE];
 
 /** Texts that are sought in all at once, without regard to capitals. */
 class Haystack {
@@ -61,8 +62,7 @@ const TERMS = {
   line: { of: lineRange, wrong: "is no line, and no range as 10-20" },
   source: { of: (word) => word || undefined, wrong: "is no source" },
   kind: { of: (word) => KIND_NUMBER.get(word.toLowerCase()), wrong: `is none of ${STEP_KINDS.join(", ")}` },
-  is: { of: (word) => [...MARK_KINDS.slice(1), GONE].find((one) => one === word.toLowerCase()),
-    wrong: `is none of ${[...MARK_KINDS.slice(1), GONE].join(", ")}` },
+  is: { of: (word) => IS_WORDS.find((one) => one === word.toLowerCase()), wrong: `is none of ${IS_WORDS.join(", ")}` },
   frame: { of: frameTerm, wrong: `is none of ${frameNames().join(", ")}, and no octets as 0A000202` },
   words: { of: (word) => word || undefined, wrong: "is empty" },
 };
@@ -167,7 +167,8 @@ class Finder {
 
   /** @private */
   marked(value) {
-    const { steps } = this.run, mark = MARK_KINDS.indexOf(value);
+    const { steps, unlike } = this.run, mark = MARK_KINDS.indexOf(value);
+    if (value === UNLIKE) return { step: (step) => unlike?.[step] === 1 };
     return { step: value === GONE ? (step) => steps.performs.at(step) === 1 && steps.isOnBranch(step)
       : (step) => steps.marks.at(step) === mark };
   }

@@ -106,6 +106,7 @@ const LINK_PARTS = new Map([
     link.find = value;
     return "";
   }],
+  ["run", (value, link, run) => (run.of === 1 ? "says nothing here" : /^[12]$/.test(value ?? "") ? "" : "is none of the two runs")],
 ]);
 
 /** Whether a text is a number from 0 to another one. */
@@ -121,7 +122,7 @@ class Address {
     this.shown = null;
     /** When the last entry was made. */
     this.pushed = -Infinity;
-    window.addEventListener("hashchange", () => this.arrive());
+    window.addEventListener("hashchange", () => this.arrive(), { signal: app.ending.signal });
   }
 
   /** The link of the present place, and of the question that was answered here. */
@@ -132,7 +133,12 @@ class Address {
       : line && (!isOwn || isLast) ? linkPart("line", line) : linkPart("step", step);
     const who = asked && asked.step === step ? [linkPart("who", wordsOfWatch(asked.watch))] : [];
     const { text, fault } = this.app.search, find = text.trim() && !fault ? [linkPart("find", text.trim())] : [];
-    return `#${[place, ...who, ...find].join("&")}`;
+    const run = this.app.side ? [linkPart("run", this.app.side + 1)] : [];
+    return `#${[place, ...who, ...find, ...run].join("&")}`;
+  }
+
+  close() {
+    clearTimeout(this.timer);
   }
 
   /** Said before a jump: the place that is left stays in the browser's history, where one was there for a moment. */
@@ -168,6 +174,13 @@ class Address {
 
   /** Goes where the address says. */
   arrive() {
+    const { shown, side, two } = this.app;
+    const wanted = two && /[#&]run=2(&|$)/.test(window.location.hash) ? 1 : 0;
+    if (wanted !== side) {
+      shown.put(wanted);
+      shown.app.address.arrive();
+      return;
+    }
     const { link, faults } = readLink(window.location.hash, this.app.run);
     this.shown = null;
     this.tell(faults);

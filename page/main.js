@@ -4,10 +4,11 @@ const PAGE_STEPS = 10;
 const MOST_TRAIL = 6;
 
 class App {
-  /** @param {Run} run */
-  constructor(run) {
-    this.run = run;
-    this.state = run.state;
+  /** @param {Run} run @param {Shown} shown @param {number} side which of two runs it is */
+  constructor(run, shown, side) {
+    Object.assign(this, { run, shown, side, state: run.state, two: shown.two });
+    /** Ends what listens to more than the page's main element. */
+    this.ending = new AbortController();
     /** @type {number} the place in the run: a step */
     this.step = run.steps.length - 1;
     this.state.goTo(this.number);
@@ -29,9 +30,23 @@ class App {
     this.wave = new Wave(this, this.timeline);
     this.panels = [new ScriptPanel(this), this.timeline, this.wave, ...this.rings,
       new Present(this), this.sources,
-      new Registers(this), this.memory, new Frames(this), this.search, new Saved(this), this.lanes, new Stops()];
+      new Registers(this), this.memory, new Frames(this), this.search, new Saved(this), this.lanes, new Stops(this)];
+    this.beside = new TwoPanel(this);
+    this.panels.push(this.beside);
     this.signals();
     this.listen();
+  }
+
+  /** Lets go of the page, where another run is to be shown. */
+  close() {
+    this.timeline.play(false);
+    this.address.close();
+    this.ending.abort();
+  }
+
+  /** Whether it is shown no more. */
+  get isClosed() {
+    return this.ending.signal.aborted;
   }
 
   /** The number of the newest event that stands here. */
@@ -182,20 +197,22 @@ class App {
 
   /** @private */
   listen() {
+    const { signal } = this.ending;
     document.addEventListener("click", (event) => {
       const button = event.target.closest("[data-watch], button[data-step], [data-show]");
       if (!button) return;
       if (button.dataset.watch) this.ask(button.dataset.watch);
       else if (button.dataset.show) this.memory.showAt(Number(button.dataset.show));
       else this.jump(Number(button.dataset.step));
-    });
-    document.addEventListener("keydown", (event) => this.keyed(event));
+    }, { signal });
+    document.addEventListener("keydown", (event) => this.keyed(event), { signal });
     byId("return").addEventListener("click", () => this.jump(this.origin));
     matchMedia("(prefers-color-scheme: dark)").addEventListener("change", () => {
       readPalette();
       this.paint();
-    });
+    }, { signal });
     const observer = new ResizeObserver(() => {
+      if (this.isClosed) return;
       widths.clear();
       this.paint();
     });
@@ -216,6 +233,7 @@ class App {
       Home: () => this.jump(0), End: () => this.jump(Infinity),
       Escape: () => this.asked !== null && this.jump(this.origin),
       n: () => this.search.go(1), p: () => this.search.go(-1), "/": () => this.search.focus(),
+      d: () => this.beside.go(1), D: () => this.beside.go(-1), o: () => this.beside.swap(),
       " ": target.closest("button, summary, input, [role=gridcell]") ? undefined : () =>
         this.timeline.play(!this.timeline.timer),
     }[event.key];
@@ -225,35 +243,75 @@ class App {
   }
 }
 
-/** Says above the page what is wrong with the record, and what is shown of it. */
-function tellBroken(fault, run) {
+/**
+ * Says above the page what is wrong with the record, and what is shown of it.
+ * @param {string} name of the record, where there are two; else empty
+ */
+function tellBroken(fault, run, name = "") {
   const element = byId("broken");
   element.hidden = false;
   const rest = run ? ` What stands before that is shown: ${counted(run.steps.length - 1, "step")}.` : "";
-  element.replaceChildren(make("b", {}, "⚠\uFE0E This record is broken: "), `${fault}.${rest}`);
+  element.append(make("b", {}, `⚠\uFE0E This record is broken: ${name ? `${name}: ` : ""}`), `${fault}.${rest} `);
 }
 
-/** Shows what was read of a record. @param {{run: Run|null, fault: string|null}} read */
-function show({ run, fault }) {
-  setHidden(byId("reading"), true);
-  if (fault) tellBroken(fault, run);
-  if (!run) return;
+/** What a run's machine is made of, and how long it is, in words. @param {Run} run */
+function settingsText(run) {
   const { base = 0, memory, budget, mac, profile } = run.settings;
-  setText(byId("settings"), [
-    `${counted(run.script.length, "line")}, ${counted(run.steps.performed, "event")}`,
+  return [
+    ...(run.name ? [run.name] : []), `${counted(run.script.length, "line")}, ${counted(run.steps.performed, "event")}`,
     `${counted(memory, "octet")} of memory${base ? ` from ${addressText(base)} on` : ""}`,
     ...(typeof mac === "string" && isDigits(mac) && mac.length === 12 ? [`address ${macText(octetsOf(mac))}`] : []),
     ...(profile === "adapter" ? ["an adapter of the second profile"] : []),
     ...(isNumber(budget, Infinity) ? [`a journal of ${counted(budget, "octet")}`] : []),
-  ].join(" · "));
-  byId("run").hidden = false;
-  const app = new App(run);
-  app.memory.showNewest();
-  app.address.arrive();
+  ].join(" · ");
 }
 
-/** Unpacks a long record, and shows it. @param {string} letters */
-async function showPacked(letters) {
+/** The runs of the page, of which one is shown. */
+class Shown {
+  /** @param {Run[]} runs one, or two to be compared */
+  constructor(runs) {
+    this.runs = runs;
+    this.main = byId("run").cloneNode(true);
+    this.two = runs.length > 1 ? new TwoRuns(runs, runs.map(({ name }) => name)) : null;
+    this.put(0);
+    this.app.memory.showNewest();
+    this.app.address.arrive();
+    if (this.two && !window.location.hash) this.app.beside.begins();
+  }
+
+  /** Shows a run in the place of another one. @param {number} side */
+  put(side) {
+    if (this.app) {
+      this.app.close();
+      byId("run").replaceWith(this.main.cloneNode(true));
+      widths.clear();
+    }
+    setText(byId("settings"), settingsText(this.runs[side]));
+    byId("run").hidden = false;
+    this.app = new App(this.runs[side], this, side);
+  }
+
+  /** Shows the other run at a step. @param {number|null} difference that is shown */
+  swap(step, difference) {
+    const { side, address, search } = this.app, link = address.link();
+    this.put(1 - side);
+    Object.assign(this.app.address, { shown: link, isJump: true });
+    this.app.beside.current = difference;
+    this.app.show({ step, line: 0, watch: "", find: search.text });
+    byId("other-run").focus();
+  }
+}
+
+/** Shows what was read of one record or of two. @param {{run: Run|null, fault: string|null, name: string}[]} reads */
+function show(reads) {
+  setHidden(byId("reading"), true);
+  for (const { run, fault, name } of reads) if (fault) tellBroken(fault, run, name);
+  const runs = reads.flatMap(({ run, name }) => (run ? [Object.assign(run, { name, of: reads.length })] : []));
+  if (runs.length) new Shown(runs);
+}
+
+/** Reads a packed record. @param {string} letters @returns {Promise<{run: Run|null, fault: string|null}>} */
+async function readPacked(letters) {
   const told = byId("reading"), packed = new PackedReading();
   setHidden(told, false);
   try {
@@ -261,10 +319,31 @@ async function showPacked(letters) {
       (share) => setText(told, `Reading the run: ${Math.floor(100 * share)} %`));
   } catch (fault) {
     setHidden(told, true);
-    tellBroken(`it was packed, and can’t be unpacked (${fault instanceof Error ? fault.message : fault})`, null);
-    return;
+    return { run: null, fault: `it was packed, and can’t be unpacked (${fault instanceof Error ? fault.message : fault})` };
   }
-  guarded(() => show(packed.end()));
+  return packed.end();
+}
+
+/** The records of the page, each by the elements that it stands in. @returns {{name: string, elements: HTMLElement[]}[]} */
+function recordsOfPage() {
+  const elements = [...document.querySelectorAll("script.record")];
+  const second = elements.findIndex((one, index) => index > 0 && one.dataset.name !== undefined);
+  return (second < 0 ? [elements] : [elements.slice(0, second), elements.slice(second)])
+    .map((own) => ({ name: own[0].dataset.name ?? "", elements: own }));
+}
+
+/** Reads and shows records of which one is packed. */
+async function showPacked(records) {
+  const reads = [];
+  for (const { name, elements } of records) {
+    const texts = elements.map((part) => part.textContent);
+    try {
+      reads.push({ ...(elements[0].type === PACKED_TYPE ? await readPacked(texts[0]) : readRecord(texts)), name });
+    } catch (fault) {
+      reads.push({ run: null, fault: `this page can’t show it (${fault instanceof Error ? fault.message : fault})`, name });
+    }
+  }
+  guarded(() => show(reads));
 }
 
 /** Does something, and says what failed. */
@@ -278,7 +357,7 @@ function guarded(work) {
 
 guarded(() => {
   readPalette();
-  const elements = [...document.querySelectorAll("script.record")];
-  if (elements[0].type === PACKED_TYPE) showPacked(elements[0].textContent);
-  else show(readRecord(elements.map((part) => part.textContent)));
+  const records = recordsOfPage();
+  if (records.some(({ elements }) => elements[0].type === PACKED_TYPE)) showPacked(records);
+  else show(records.map(({ name, elements }) => ({ ...readRecord(elements.map((part) => part.textContent)), name })));
 });

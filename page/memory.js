@@ -53,7 +53,7 @@ class MemoryPanel {
     this.map = byId("map");
     this.grid = byId("octets");
     this.narrow = matchMedia("(max-width: 560px)");
-    this.narrow.addEventListener("change", () => app.paint());
+    this.narrow.addEventListener("change", () => app.paint(), { signal: app.ending.signal });
     byId("memory-form").addEventListener("submit", (event) => {
       event.preventDefault();
       this.showTyped();

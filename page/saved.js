@@ -59,9 +59,9 @@ function save(name, pieces, type) {
   setTimeout(() => URL.revokeObjectURL(url), 10_000);
 }
 
-/** The name of a file to save, by that of the script, which the page's title has. */
-function fileName(ending) {
-  const [, name] = /^(.+?)(?:\.\w+)?: a run of /.exec(document.title) ?? ["", "run"];
+/** The name of a file to save, by that of the script, which the page's title has; of two runs by the own name. */
+function fileName(ending, own) {
+  const [, name] = /^(.+?)(?:\.\w+)?: a run of /.exec(own ? `${own}: a run of ` : document.title) ?? ["", "run"];
   return `${name.replace(/[^\w.-]/g, "_").replace(/^\.+/, "_")}.${ending}`;
 }
 
@@ -69,9 +69,9 @@ class Saved {
   constructor(app) {
     this.app = app;
     byId("save-script").addEventListener("click", () =>
-      save(fileName("em"), app.run.script.map((line) => `${line}\n`), "text/plain"));
+      save(fileName("em", app.run.name), app.run.script.map((line) => `${line}\n`), "text/plain"));
     byId("save-pcap").addEventListener("click", () =>
-      save(fileName("pcap"), captureOf(app.run, app.place), "application/vnd.tcpdump.pcap"));
+      save(fileName("pcap", app.run.name), captureOf(app.run, app.place), "application/vnd.tcpdump.pcap"));
   }
 
   paint() {

@@ -39,6 +39,7 @@ class ScriptPanel {
     });
     this.element.addEventListener("keydown", (event) => this.keyed(event));
     new ResizeObserver(() => {
+      if (app.isClosed) return;
       this.height = this.element.clientHeight;
       this.fill();
     }).observe(this.element);

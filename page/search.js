@@ -38,7 +38,7 @@ class Search {
       if (!button) return;
       this.set(button.dataset.find);
       this.go(1);
-    });
+    }, { signal: this.app.ending.signal });
   }
 
   /** Seeks what stands in a link or on a button. */
@@ -50,7 +50,7 @@ class Search {
   /** Seeks, where it is something else than before. @param {string} text */
   seek(text) {
     clearTimeout(this.timer);
-    if (text === this.text) return;
+    if (text === this.text || this.app.isClosed) return;
     this.text = text;
     const { hits, fault } = this.finder.find(text);
     Object.assign(this, { hits, fault, version: this.version + 1 });

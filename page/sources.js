@@ -89,7 +89,7 @@ class Sources {
       if (row) this.choose(Number(row.dataset.source));
     });
     element.addEventListener("keydown", (event) => this.keyed(event));
-    new ResizeObserver(() => this.measure()).observe(element);
+    new ResizeObserver(() => !this.app.isClosed && this.measure()).observe(element);
   }
 
   /** How many letters of a source have room. @private */

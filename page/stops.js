@@ -5,9 +5,9 @@ const STOPS = "[data-stops]";
 const CONTROLS = "button, summary, a[href]";
 
 class Stops {
-  constructor() {
+  constructor({ ending: { signal } }) {
     this.groups = [...document.querySelectorAll(STOPS)];
-    document.addEventListener("keydown", (event) => this.keyed(event));
+    document.addEventListener("keydown", (event) => this.keyed(event), { signal });
   }
 
   /** The controls of a group that are shown. @private */

@@ -6,6 +6,8 @@ const MOST_AT_ONCE = 2 ** 28;
 const LINES_BEGIN = '\n"lines":[\n';
 /** The line of the text behind them. */
 const LINES_END = "],";
+/** What stands before the number of a line's first event. */
+const ONLY_EVENT = ',"events":[{"event":';
 const FIELDS_BEFORE = ["format", "version", "settings", "script", "start", "lines"];
 
 /**
@@ -16,6 +18,7 @@ const FIELDS_BEFORE = ["format", "version", "settings", "script", "start", "line
  * @property {(take: (line: Object, index: number) => void) => void} each
  * @property {(index: number) => Object} line
  * @property {(index: number, field: string) => string|undefined} frame the digits of a frame of a line's only event
+ * @property {(index: number) => string|null} only the text of a line's only event behind its number; null where it is to be read
  * @property {() => Object|undefined} end
  */
 
@@ -40,6 +43,10 @@ class WholeSource {
 
   frame(index, field) {
     return this.line(index).events[0][field];
+  }
+
+  only() {
+    return null;
   }
 
   end() {
@@ -159,6 +166,13 @@ class LineSource {
     const mark = `"${field}":"`, from = part.indexOf(mark, this.starts[at][i]) + mark.length;
     if (from < mark.length || from >= this.starts[at][i + 1]) return this.line(index).events[0][field];
     return part.slice(from, part.indexOf('"', from));
+  }
+
+  /** (what a text has of its own has a mark before its quotation marks, so that this stands in none) */
+  only(index) {
+    const at = partOf(this.firsts, index), part = this.parts[at], i = index - this.firsts[at];
+    const from = part.indexOf(ONLY_EVENT, this.starts[at][i]), to = this.starts[at][i + 1];
+    return from < 0 || from >= to ? null : part.slice(part.indexOf(",", from + ONLY_EVENT.length), endOfRecord(part, from, to));
   }
 
   end() {

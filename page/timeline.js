@@ -76,6 +76,13 @@ function has({ values, length }, value) {
   return at >= 0 && at < length;
 }
 
+/** How often a value stands in an array. */
+function countOf(values, wanted) {
+  let count = 0;
+  for (const value of values) if (value === wanted) count += 1;
+  return count;
+}
+
 class Timeline {
   constructor(app) {
     this.app = app;
@@ -102,21 +109,25 @@ class Timeline {
 
   /** @private */
   legend() {
-    const { kinds, marks } = this.app.run.steps;
+    const { run, two, run: { steps: { kinds, marks } } } = this.app;
     byId("kinds").replaceChildren(
       ...Object.entries(KINDS).filter(([kind]) => has(kinds, KIND_NUMBER.get(kind)) && kind !== "start")
         .map(([kind, [letter, words]]) => make("li", {}, make("span", { class: `tick kind-${kind}` }, letter), words)),
       ...Object.entries(MARKS).filter(([mark]) => has(marks, MARK_KINDS.indexOf(mark))).map(([mark, [sign, words]]) =>
         make("li", {}, make("span", { class: `tick mark-${mark}` }, sign), this.markButton(mark, words))),
+      ...(two ? [make("li", {}, this.countButton(UNLIKE, `not as in ${two.other(this.app.side)}`, countOf(run.unlike, 1)))] : []),
       make("li", {}, make("span", { class: "masked", "aria-hidden": "true" }), "under a cause: IMS lets it through"));
   }
 
   /** How many steps came out so; they are sought by it. @private */
   markButton(mark, words) {
-    const { values, length } = this.app.run.steps.marks, number = MARK_KINDS.indexOf(mark);
-    let count = 0;
-    for (let step = 0; step < length; step++) if (values[step] === number) count += 1;
-    return make("button", { type: "button", "data-find": `is:${mark}`, tabindex: -1, title: "Go to the next one" },
+    const { values, length } = this.app.run.steps.marks;
+    return this.countButton(mark, words, countOf(values.subarray(0, length), MARK_KINDS.indexOf(mark)));
+  }
+
+  /** @private */
+  countButton(word, words, count) {
+    return make("button", { type: "button", "data-find": `is:${word}`, tabindex: -1, title: "Go to the next one" },
       `${words} (${count.toLocaleString("en")})`);
   }
 
@@ -136,6 +147,7 @@ class Timeline {
   changed() {
     this.frame ??= requestAnimationFrame(() => {
       this.frame = undefined;
+      if (this.app.isClosed) return;
       this.paint();
       this.app.wave.paint();
     });
