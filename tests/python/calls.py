@@ -376,7 +376,7 @@ class Names(unittest.TestCase):
             self.assertEqual(str(told), "none is left")
 
     def test_kinds_that_are_unknown(self):
-        self.assertEqual(bunjelav._event(_tables.Note(0, 0, 0, 0, 99)).kind, "unknown kind 99")
+        self.assertEqual(bunjelav._told.event_of(_tables.Note(0, 0, 0, 0, 99)).kind, "unknown kind 99")
 
     def test_the_version(self):
         self.assertEqual(bunjelav.__version__, _tables.VERSION)

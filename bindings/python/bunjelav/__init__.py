@@ -33,17 +33,19 @@ import operator
 import os
 import sys
 from pathlib import Path  # noqa: F401  (for an example)
-from typing import Any, Callable, Dict, Iterable, Iterator, List, NamedTuple, NoReturn, Optional, Union, overload
+from typing import Any, Callable, Dict, Iterable, Iterator, List, NoReturn, Optional, Union
 
-from . import _refusals, _tables
+from . import _memory, _refusals, _tables
 from ._captures import CapturedFrame, frames_of, must_of_file
 from ._explain import Difference, DriverWarning, Explained, Fifo, Reason, line_of, numbers_of, trouble_of
+from ._memory import Functions, GuestMemory, Region
 from ._native import (
     DONE, SIZE_T, U32, U64, Register, bits_of, library, must, name_of, number_of, octets_of, offset_of, refused,
     words_of,
 )
 from ._refusals import *  # noqa: F401, F403
 from ._refusals import NoName, Refused
+from ._told import KIND, UNDONE, Change, Event, Needs, RxDescriptor, TxDescriptor, event_of, slices
 
 __all__ = [
     "Machine", "GuestMemory", "Event", "Change", "Needs", "RxDescriptor", "TxDescriptor", "Reason", "DriverWarning",
@@ -52,193 +54,8 @@ __all__ = [
 __all__ += _refusals.__all__
 __version__ = _tables.VERSION
 
-# the names of this file, by which its frames are known
-_OWN = globals()
-
-# ---- what is told
-
-
-class Event(NamedTuple):
-    """An event that was performed: what it was, where, how many octets, which value, and the caller's tag. Of a step of an
-    engine that was not idle `at` is the descriptor's address, `value` its index, and `buffer` and `octets` say which
-    octets of guest memory the step wrote into its buffer or read there."""
-
-    kind: str
-    at: int
-    length: int
-    value: int
-    tag: int
-    buffer: int = 0
-    octets: int = 0
-
-    @property
-    def is_stored(self) -> bool:
-        """Whether it is a frame that arrived and lies in the FIFO."""
-        return self.kind == "stored"
-
-    @property
-    def is_idle(self) -> bool:
-        """Whether it is a step of an engine that had nothing to do."""
-        return self.kind.endswith("idle")
-
-
-class Change(NamedTuple):
-    """A change of what is watched: so many steps back lead before its event, where this was seen."""
-
-    back: int
-    before: Union[int, bytes]
-    event: Event
-
-
-# the kinds of events that did nothing
-_UNDONE = {number for number, words in _tables.KINDS.items() if words.endswith("idle") or words.startswith("dropped")}
-
-_KIND = {words: number for number, words in _tables.KINDS.items()}
-
-
-class RxDescriptor(NamedTuple):
-    """A receive descriptor; `owned` says that it is the adapter's, `trouble` what is wrong with it, if anything is."""
-
-    index: int  # type: ignore[assignment]  # (a tuple has a method of this name)
-    owned: bool
-    address: int
-    length: int
-    status: int
-    errors: int
-    special: int
-    trouble: str
-
-
-class TxDescriptor(NamedTuple):
-    """A transmit descriptor; `owned` says that it is the adapter's, `trouble` what is wrong with it, if anything is."""
-
-    index: int  # type: ignore[assignment]  # (a tuple has a method of this name)
-    owned: bool
-    address: int
-    length: int
-    command: int
-    status: int
-    special: int
-    trouble: str
-
-
-class Needs(NamedTuple):
-    """What a step reads of guest memory and what it writes there, as slices; none of them is empty."""
-
-    reads: List[slice]
-    writes: List[slice]
-
-
-def _slices(ranges: Iterable[_tables.Range]) -> List[slice]:
-    return [slice(it.address, it.address + it.length) for it in ranges if it.length]
-
-
-def _event(note: _tables.Note) -> Event:
-    kind = _tables.KINDS.get(note.kind, f"unknown kind {note.kind}")
-    return Event(kind, note.at, note.length, note.value, note.tag, note.buffer, note.octets)
-
-
-class GuestMemory:
-    """The guest's memory by its addresses: m.memory[a], m.memory[a:b], and the same set, by writes of 16,384 octets at
-    most. `base` is the address of its first octet."""
-
-    MOST = 16384
-
-    def __init__(self, machine: Machine) -> None:
-        self._machine = machine
-
-    def __len__(self) -> int:
-        return self._machine._told(library.em_memory_size, U64())
-
-    @property
-    def base(self) -> int:
-        return self._machine._told(library.em_memory_base, U64())
-
-    def __iter__(self) -> Iterator[int]:
-        return iter(self[:])
-
-    def _range(self, where: Union[int, slice]) -> range:
-        base, size = self.base, len(self)
-        if isinstance(where, slice):
-            if where.step not in (None, 1):
-                raise ValueError("octets of memory are taken one after another")
-            start, stop, _ = where.indices(base + size)
-            return range(max(start, base), max(stop, base))
-        at = operator.index(where)
-        at += base + size if at < 0 else 0
-        if not base <= at < base + size:
-            raise IndexError(f"guest memory has {size} octets from {base:X}h on")
-        return range(at, at + 1)
-
-    @overload
-    def __getitem__(self, where: int) -> int: ...
-
-    @overload
-    def __getitem__(self, where: slice) -> bytes: ...
-
-    def __getitem__(self, where: Union[int, slice]) -> Union[int, bytes]:
-        octets = self._range(where)
-        room = ctypes.create_string_buffer(max(len(octets), 1))
-        must(library.em_peek(self._machine._at, octets.start, room, len(octets)))
-        return room.raw[: len(octets)] if isinstance(where, slice) else room.raw[0]
-
-    @overload
-    def __setitem__(self, where: int, value: int) -> None: ...
-
-    @overload
-    def __setitem__(self, where: slice, value: bytes) -> None: ...
-
-    def __setitem__(self, where: Union[int, slice], value: Any) -> None:
-        octets = self._range(where)
-        given = octets_of(value, "memory") if isinstance(where, slice) else bytes([value])
-        if len(given) != len(octets):
-            raise ValueError(f"{len(given)} octets do not fit where {len(octets)} lie")
-        for at in range(0, len(given), self.MOST):
-            self._machine.poke(octets.start + at, given[at : at + self.MOST])
-
-
-class _Functions:
-    """What the library is given for an object with `read` and `write`. What they raise is kept, since it can't go through
-    the library."""
-
-    def __init__(self, ram: Any) -> None:
-        self.raised: Optional[BaseException] = None
-        self._ram = ram
-        read, write = _tables.READ(self._read), _tables.WRITE(self._write)
-        self.raw = _tables.Ram(None, read, write, None, 0)
-        self._kept = read, write
-
-    def _read(self, _context: int, address: int, out: int, length: int) -> bool:
-        try:
-            octets = octets_of(self._ram.read(address, length), "what is read")
-            if len(octets) != length:
-                raise ValueError(f"{len(octets)} octets were read, and {length} were asked for")
-            ctypes.memmove(out, octets, length)
-            return True
-        except BaseException as raised:  # (whatever it is, it is raised behind the call)
-            self.raised = raised
-            return False
-
-    def _write(self, _context: int, address: int, octets: int, length: int) -> bool:
-        try:
-            self._ram.write(address, ctypes.string_at(octets, length))
-            return True
-        except BaseException as raised:
-            self.raised = raised
-            return False
-
-
-class _Region:
-    """The same for a buffer, which lies at an address. It can't be resized while this is there."""
-
-    raised: Optional[BaseException] = None
-
-    def __init__(self, ram: Any, base: int) -> None:
-        size = memoryview(ram).nbytes
-        self._octets = (ctypes.c_uint8 * size).from_buffer(ram)
-        self._region = _tables.Region(base, size, ctypes.addressof(self._octets))
-        # (without functions)
-        self.raw = _tables.Ram(regions=ctypes.pointer(self._region), count=1)
+# the names of the files that perform events, by which their frames are known
+_OWN = globals(), vars(_memory)
 
 
 class Machine(Explained):
@@ -253,7 +70,7 @@ class Machine(Explained):
 
     _handle: _tables.Handle
     _at: Any
-    _ram: Union[None, _Functions, _Region]
+    _ram: Union[None, Functions, Region]
     _places: Optional[Dict[str, bytes]]
     _source: bytes
     _undone: Optional[Reason]
@@ -403,11 +220,11 @@ class Machine(Explained):
         must(library.em_source(self._at, self._source, place))
 
     def _here(self) -> None:
-        """Tells the library which line the next call comes from: that of the newest frame outside of this file."""
+        """Tells the library which line the next call comes from: that of the newest frame outside of this package."""
         if self._places is None or self._source:
             return
         frame = sys._getframe(1)
-        while frame.f_globals is _OWN and frame.f_back is not None:
+        while any(frame.f_globals is own for own in _OWN) and frame.f_back is not None:
             frame = frame.f_back
         name = frame.f_code.co_filename
         if name not in self._places:  # (the library keeps no copy)
@@ -420,7 +237,7 @@ class Machine(Explained):
         """The driver reads a register: an event, which may clear it."""
         value, offset = U32(), offset_of(register)
         self._here()
-        self._came(library.em_read(self._at, offset, ctypes.byref(value)), _tables.Note(at=offset, kind=_KIND["read"]))
+        self._came(library.em_read(self._at, offset, ctypes.byref(value)), _tables.Note(at=offset, kind=KIND["read"]))
         self._warn()
         return value.value
 
@@ -429,7 +246,7 @@ class Machine(Explained):
         given = number_of(value, 32, "what a register holds")
         offset = offset_of(register)
         self._here()
-        self._came(library.em_write(self._at, offset, given), _tables.Note(at=offset, kind=_KIND["write"]))
+        self._came(library.em_write(self._at, offset, given), _tables.Note(at=offset, kind=KIND["write"]))
         self._warn()
 
     def read_sized(self, register: Register, octets: int) -> int:
@@ -439,7 +256,7 @@ class Machine(Explained):
         width = number_of(octets, 32, "a number of octets", "Width")
         self._here()
         number = library.em_read_sized(self._at, offset, width, ctypes.byref(value))
-        self._came(number, _tables.Note(at=offset, kind=_KIND["read"]))
+        self._came(number, _tables.Note(at=offset, kind=KIND["read"]))
         self._warn()
         return value.value
 
@@ -450,7 +267,7 @@ class Machine(Explained):
         offset, width = offset_of(register), number_of(octets, 32, "a number of octets", "Width")
         self._here()
         number = library.em_write_sized(self._at, offset, width, given)
-        self._came(number, _tables.Note(at=offset, kind=_KIND["write"]))
+        self._came(number, _tables.Note(at=offset, kind=KIND["write"]))
         self._warn()
 
     def look(self, register: Register) -> int:
@@ -492,7 +309,7 @@ class Machine(Explained):
         """The driver writes 1 to 16,384 octets to guest memory: one event."""
         given, at = octets_of(octets, "what is written"), number_of(address, 64, "an address", "Range")
         self._here()
-        self._came(library.em_poke(self._at, at, given, len(given)), _tables.Note(at=at, kind=_KIND["poke"]), given)
+        self._came(library.em_poke(self._at, at, given, len(given)), _tables.Note(at=at, kind=KIND["poke"]), given)
 
     def sync_out(self, ram: bytearray) -> None:
         """Makes a bytearray, or another buffer, what guest memory is; it has to be as large. Octets that are the same
@@ -564,7 +381,7 @@ class Machine(Explained):
         if not is_buffer and not all(has):
             raise TypeError(f"memory is a buffer, or has read and write, and not {type(ram).__name__}")
         at = number_of(base, 64, "an address", "Range")
-        kept: Union[_Region, _Functions] = _Region(ram, at) if is_buffer else _Functions(ram)
+        kept: Union[Region, Functions] = Region(ram, at) if is_buffer else Functions(ram)
         must(library.em_attach(self._at, ctypes.byref(kept.raw)))
         super().__setattr__("_ram", kept)
 
@@ -576,7 +393,7 @@ class Machine(Explained):
     def _over(self, number: int, done: int = 0) -> None:
         """Raises the exception of a refusal; where memory of the caller's raised, from that."""
         raised = self._ram.raised if self._ram else None
-        if isinstance(self._ram, _Functions):
+        if isinstance(self._ram, Functions):
             self._ram.raised = None
         if raised is not None and not isinstance(raised, Exception):
             raise raised
@@ -586,7 +403,7 @@ class Machine(Explained):
     def _came(self, number: int, note: _tables.Note, octets: bytes = b"", done: int = 0) -> None:
         """Keeps why an event did nothing, where it did nothing; raises the exception of a refusal, which has it too."""
         reason = None
-        if number != DONE or note.kind in _UNDONE:
+        if number != DONE or note.kind in UNDONE:
             reason = self._reason(number, note, octets)
         if number != DONE:
             try:
@@ -612,34 +429,34 @@ class Machine(Explained):
             raise ValueError('a ring is "rx" or "tx"')
         reads, writes = (_tables.Range * 2)(), (_tables.Range * 2)()
         must(library.em_ring_needs(self._at, _tables.RINGS[which], reads, writes))
-        return Needs(_slices(reads), _slices(writes))
+        return Needs(slices(reads), slices(writes))
 
     def written(self, k: int = 0) -> List[slice]:
         """What the k-th newest event wrote of guest memory."""
         written = (_tables.Range * 2)()
         must(library.em_written(self._at, number_of(k, 64, "a place in the journal", "NoEvent"), written))
-        return _slices(written)
+        return slices(written)
 
     def arrive(self, frame: bytes) -> Event:
         """A frame arrives; the event says what became of it."""
-        note, given = _tables.Note(kind=_KIND["stored"]), octets_of(frame, "a frame")
+        note, given = _tables.Note(kind=KIND["stored"]), octets_of(frame, "a frame")
         self._here()
         self._came(library.em_arrive(self._at, given, len(given), ctypes.byref(note)), note, given)
-        return _event(note)
+        return event_of(note)
 
     def rx_step(self) -> Event:
         """The receive engine handles a descriptor."""
-        note = _tables.Note(kind=_KIND["wrote"])
+        note = _tables.Note(kind=KIND["wrote"])
         self._here()
         self._came(library.em_rx_step(self._at, ctypes.byref(note)), note)
-        return _event(note)
+        return event_of(note)
 
     def tx_step(self) -> Event:
         """The transmit engine handles a descriptor."""
-        note = _tables.Note(kind=_KIND["fetched"])
+        note = _tables.Note(kind=KIND["fetched"])
         self._here()
         self._came(library.em_tx_step(self._at, ctypes.byref(note)), note)
-        return _event(note)
+        return event_of(note)
 
     def run(self, most: int = 2**32) -> int:
         """Both engines step until they are idle, first that which receives, and each at most so many times; gives how
@@ -650,7 +467,7 @@ class Machine(Explained):
             done = SIZE_T()
             number = engine(self._at, most, ctypes.byref(done))
             steps += done.value
-            note = _tables.Note(kind=_KIND[kind])
+            note = _tables.Note(kind=KIND[kind])
             if number == DONE and done.value < most:  # (it stopped at a step that was idle)
                 must(library.em_event(self._at, 0, ctypes.byref(note)))
             self._came(number, note, done=steps)
@@ -755,7 +572,7 @@ class Machine(Explained):
         note = _tables.Note()
         place = number_of(k, 64, "a place in the journal", "NoEvent")
         must(library.em_event(self._at, place, ctypes.byref(note)))
-        return _event(note)
+        return event_of(note)
 
     def events(self) -> Iterator[Event]:
         """What the events of the journal were, the newest first."""
