@@ -112,7 +112,7 @@ def passed(parameter: Field, call: Call) -> list[tuple[str, str, str, str]]:
         return [("in" if call.looks and name == "machine" else "out", "EmMachine", "", name)]
     array = re.fullmatch(r"&(mut )?\[(\w+); (\w+)\]", kind)
     if array:
-        count = {"EEPROM_WORDS": "64", "RULES": "6"}.get(array[3], array[3])
+        count = {"EEPROM_WORDS": "64", "RULES": "10"}.get(array[3], array[3])
         return [("out" if array[1] else "in", array[2], count, name)]
     there = re.fullmatch(r"&(mut )?\[(\w+)\]", kind)
     if there:

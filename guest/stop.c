@@ -13,7 +13,8 @@ static const char warning[] = "warning ";
 /* The rules that em_debug warns by, as docs/warnings.md has them. */
 static const char *const rules[] = {
     "bits-dropped", "tail-past-ring",          "enabled-before-ring", "descriptor-unwritten",
-    "status-left",  "interrupts-before-rings", "read-again"};
+    "status-left",  "interrupts-before-rings", "read-again",   "ring-outside-memory", "buffers-overlap",
+                            "tail-past-head", "head-while-enabled", "written-while-owned"};
 
 static bool parse_count(const char *text, uint64_t *count) {
   char *end;

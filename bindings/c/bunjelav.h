@@ -639,14 +639,20 @@ typedef enum em_warned {
   EM_WARN_DESCRIPTOR_UNWRITTEN = 4, /* the adapter owns a descriptor that is all zeros */
   EM_WARN_STATUS_LEFT = 5, /* the adapter owns a descriptor whose status has DD */
   EM_WARN_INTERRUPTS_BEFORE_RINGS = 6, /* causes of a ring are let through while the ring's length is 0 */
-  EM_WARN_READ_AGAIN = 7 /* a read of ICR gave 0, since an earlier event cleared it, and the frame still waits */
+  EM_WARN_READ_AGAIN = 7, /* a read of ICR gave 0, since an earlier event cleared it, and the frame still waits */
+  EM_WARN_RING_OUTSIDE_MEMORY = 8, /* the adapter owns descriptors of a ring that begins at this address, and leaves guest memory */
+  EM_WARN_BUFFERS_OVERLAP = 9, /* the adapter is given a receive descriptor, at this address (octets), whose buffer lies over that of another one */
+  EM_WARN_TAIL_PAST_HEAD = 10, /* the tail went past the head, so that the adapter has fewer descriptors than it was given */
+  EM_WARN_HEAD_WHILE_ENABLED = 11, /* the head is moved by the driver while EN is set in RCTL or TCTL */
+  EM_WARN_WRITTEN_WHILE_OWNED = 12 /* octets were written that are the adapter's: of this descriptor, at this address (octets), or of its buffer */
 } em_warned;
 
 /* What a driver seems to get wrong by an access of a register. A number that the rule has not is 0. */
 typedef struct em_warning {
-  uint64_t address; /* where the descriptor lies */
+  uint64_t address; /* where the descriptor lies, or the ring */
   uint32_t rule;    /* an em_warned */
-  uint32_t offset;  /* of the register that was accessed; of EM_WARN_INTERRUPTS_BEFORE_RINGS of RDLEN or TDLEN */
+  uint32_t offset;  /* of the register that was accessed; of EM_WARN_INTERRUPTS_BEFORE_RINGS of RDLEN or TDLEN, and of
+                       EM_WARN_WRITTEN_WHILE_OWNED of RDH or TDH */
   uint32_t index;   /* the descriptor's index, or what the tail holds */
   uint32_t count;   /* how many descriptors the ring has */
   uint32_t kept;    /* the bits that the register keeps, */
@@ -655,10 +661,11 @@ typedef struct em_warning {
   char text[256];   /* "warning tail-past-ring: RDT 8 is past the ring of 8, write an index below that" */
 } em_warning;
 
-/* What a driver seems to get wrong by the newest event, as the machine is behind it: a write of a register, or a read
-   of ICR that gave 0. `count` tells how many warnings there are; the others are of the rule 0. The cost is that of a
-   look at each descriptor that a write of RDT or TDT gives to the adapter; of another write it is constant. */
-EM_CHECKED em_code em_warnings(const em_machine *machine, em_warning warnings[6], size_t *count);
+/* What a driver seems to get wrong by the newest event, as the machine is behind it: a write of a register or of guest memory,
+   or a read of ICR that gave 0. `count` tells how many warnings there are; the others are of the rule 0. The cost is that of a
+   look at each descriptor that a write of RDT or TDT gives to the adapter, of RDT at all the adapter's for each of them, and of
+   a write of guest memory at all the adapter's; of another write it is constant. */
+EM_CHECKED em_code em_warnings(const em_machine *machine, em_warning warnings[10], size_t *count);
 
 /* What is wrong with a descriptor first; 0 where nothing is. The numbers stay as they are. */
 typedef enum em_trouble {

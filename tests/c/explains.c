@@ -265,17 +265,17 @@ static void explains_memory_at_a_base(void) {
 
 /* ---- warnings */
 
-static size_t warns(em_machine *machine, em_warning warnings[6]) {
-  size_t count = 7;
-  memset(warnings, 7, 6 * sizeof *warnings);
+static size_t warns(em_machine *machine, em_warning warnings[10]) {
+  size_t count = 11;
+  memset(warnings, 7, 10 * sizeof *warnings);
   OK(em_warnings(machine, warnings, &count));
-  for (size_t i = count; i < 6; i++) CHECK(warnings[i].rule == 0 && has_line(warnings[i].text, ""));
+  for (size_t i = count; i < 10; i++) CHECK(warnings[i].rule == 0 && has_line(warnings[i].text, ""));
   return count;
 }
 
 static void warns_of_accesses(void) {
   em_machine machine = made();
-  em_warning all[6];
+  em_warning all[10];
   CHECK(warns(&machine, all) == 0);
   /* an IMS that lets RXT0 through without a ring */
   OK(em_write(&machine, IMS, RXT0));
@@ -315,7 +315,7 @@ static void warns_of_accesses(void) {
 static void warns_of_a_read(void) {
   em_machine machine = made();
   uint8_t frame[60];
-  em_warning all[6];
+  em_warning all[10];
   em_note event;
   fill(frame, sizeof frame);
   set_receiving(&machine);
@@ -540,7 +540,7 @@ static void refuses_an_empty_handle(void) {
   em_machine machine = EM_NO_MACHINE;
   em_note event = {0, 0, 0, 0, EM_RX_IDLE, 0, 0};
   em_reason reason;
-  em_warning warnings[6];
+  em_warning warnings[10];
   em_entry entry;
   em_fifo_state fifo;
   uint8_t octets[4] = {7, 7, 7, 7};

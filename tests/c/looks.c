@@ -144,7 +144,7 @@ static void look_at_events(const em_machine *machine, struct looker *looker) {
   em_range written[2];
   em_change change;
   em_reason reason;
-  em_warning warnings[6];
+  em_warning warnings[10];
   em_difference differences[64];
   OK(em_can_go_back(machine, &count));
   CHECK(looker, count > 10);

@@ -346,7 +346,7 @@ static void asks_for_none(void) {
   em_descriptor descriptor;
   em_range ranges[2][2];
   em_reason reason;
-  em_warning warnings[6];
+  em_warning warnings[10];
   em_entry entry;
   em_fifo_state fifo;
   em_field_row field;

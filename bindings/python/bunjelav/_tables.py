@@ -142,6 +142,11 @@ WARNINGS = {
     5: "status left",
     6: "interrupts before rings",
     7: "read again",
+    8: "ring outside memory",
+    9: "buffers overlap",
+    10: "tail past head",
+    11: "head while enabled",
+    12: "written while owned",
 }
 
 # by number, what each thing that can be wrong with a descriptor is called

@@ -329,9 +329,10 @@ impl Machine {
         (number == 0 && reason.rule != 0).then(|| Reason::of(reason))
     }
 
-    /// What a driver seems to get wrong by the newest event: a write of a register, or a read of ICR that gave 0.
+    /// What a driver seems to get wrong by the newest event: a write of a register or of
+    /// guest memory, or a read of ICR that gave 0.
     pub fn warnings(&self) -> Result<Warnings, Refusal> {
-        let (mut warnings, mut count) = ([raw::Warning::blank(); 6], 0);
+        let (mut warnings, mut count) = ([raw::Warning::blank(); 10], 0);
         told(unsafe { raw::em_warnings(self.handle.get(), warnings.as_mut_ptr(), &mut count) }, ())?;
         Ok(Warnings { told: warnings, count, next: 0 })
     }

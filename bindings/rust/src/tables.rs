@@ -287,12 +287,22 @@ pub enum Warned {
     InterruptsBeforeRings,
     /// A read of ICR gave 0, since an earlier event cleared these causes there, and the frame still waits.
     ReadAgain,
+    /// The adapter owns descriptors of a ring that begins at this address, and leaves guest memory.
+    RingOutsideMemory,
+    /// The adapter is given a receive descriptor, at this address (octets), whose buffer lies over that of another one.
+    BuffersOverlap,
+    /// The tail went past the head, so that the adapter has fewer descriptors than it was given.
+    TailPastHead,
+    /// The head is moved by the driver while EN is set in RCTL or TCTL.
+    HeadWhileEnabled,
+    /// Octets were written that are the adapter's: of this descriptor, at this address (octets), or of its buffer.
+    WrittenWhileOwned,
     /// Another number, which this binding does not know.
     Other(u32),
 }
 
 /// Each warned with its number.
-pub(crate) const WARNINGS: [(Warned, u32); 7] = [
+pub(crate) const WARNINGS: [(Warned, u32); 12] = [
     (Warned::BitsDropped, 1),
     (Warned::TailPastRing, 2),
     (Warned::EnabledBeforeRing, 3),
@@ -300,6 +310,11 @@ pub(crate) const WARNINGS: [(Warned, u32); 7] = [
     (Warned::StatusLeft, 5),
     (Warned::InterruptsBeforeRings, 6),
     (Warned::ReadAgain, 7),
+    (Warned::RingOutsideMemory, 8),
+    (Warned::BuffersOverlap, 9),
+    (Warned::TailPastHead, 10),
+    (Warned::HeadWhileEnabled, 11),
+    (Warned::WrittenWhileOwned, 12),
 ];
 
 /// What is wrong with a descriptor.

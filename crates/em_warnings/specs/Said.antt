@@ -44,6 +44,34 @@ row_of (warning.InterruptsBeforeRings causes length) = (
       ++ (value_digits causes
       ++ (codes " through while " ++ (reg_name length ++ codes " is 0, set up the ring first"))),
 )
+row_of (warning.RingOutsideMemory tail at) = (
+  codes "ring-outside-memory",
+  reg_name tail
+      ++ (codes " gives the adapter descriptors of a ring at "
+      ++ (address_text at ++ codes " that leaves guest memory, write its base anew")),
+)
+row_of (warning.BuffersOverlap tail index at) =
+    (codes "buffers-overlap", given_text tail index at (codes " whose buffer lies over another one's, give each octets of its own"))
+row_of (warning.TailPastHead tail index count) = (
+  codes "tail-past-head",
+  reg_name tail
+      ++ (codes " "
+      ++ (decimal index
+      ++ (codes " goes past the head of the ring of " ++ (decimal count ++ codes ", leave one descriptor free")))),
+)
+row_of (warning.HeadWhileEnabled head control) = (
+  codes "head-while-enabled",
+  reg_name head ++ (codes " is moved while " ++ (reg_name control ++ codes ".EN is set, clear EN first")),
+)
+row_of (warning.WrittenWhileOwned head index at) = (
+  codes "written-while-owned",
+  codes "descriptor "
+      ++ (decimal index
+      ++ (codes " at "
+      ++ (address_text at
+      ++ (codes " or its buffer is written while it is the adapter's, wait until "
+      ++ (reg_name head ++ codes " is past it"))))),
+)
 row_of (warning.ReadAgain causes) = (
   codes "read-again",
   codes "ICR is 0, an earlier event cleared "

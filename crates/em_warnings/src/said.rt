@@ -30,6 +30,20 @@ macro_rules! table {
             InterruptsBeforeRings { causes, length }, "interrupts-before-rings",
                 Text(b"IMS lets ") Value(causes) Text(b" through while ") Name(length)
                 Text(b" is 0, set up the ring first");
+            RingOutsideMemory { tail, at }, "ring-outside-memory",
+                Name(tail) Text(b" gives the adapter descriptors of a ring at ") Address(at)
+                Text(b" that leaves guest memory, write its base anew");
+            BuffersOverlap { tail, index, at }, "buffers-overlap",
+                Name(tail) Text(b" gives the adapter descriptor ") Number(u64::from(index)) Text(b" at ") Address(at)
+                Text(b" whose buffer lies over another one's, give each octets of its own");
+            TailPastHead { tail, index, count }, "tail-past-head",
+                Name(tail) Text(b" ") Number(u64::from(index)) Text(b" goes past the head of the ring of ")
+                Number(u64::from(count)) Text(b", leave one descriptor free");
+            HeadWhileEnabled { head, control }, "head-while-enabled",
+                Name(head) Text(b" is moved while ") Name(control) Text(b".EN is set, clear EN first");
+            WrittenWhileOwned { head, index, at }, "written-while-owned",
+                Text(b"descriptor ") Number(u64::from(index)) Text(b" at ") Address(at)
+                Text(b" or its buffer is written while it is the adapter's, wait until ") Name(head) Text(b" is past it");
             ReadAgain { causes }, "read-again",
                 Text(b"ICR is 0, an earlier event cleared ") Value(causes)
                 Text(b" there and the frame still waits, read it once and keep it");
