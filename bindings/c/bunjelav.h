@@ -764,8 +764,8 @@ EM_CHECKED em_code em_fifo_text(const em_machine *machine, uint8_t *out, size_t 
    to a file, as a line of the script language with its answer and with where it comes from:
 
        # em_debug --memory 65536 --budget 1048576 --mac 525400123456
-       w 00002818 00000003 = ok @ driver.c:57
-       r 000000C0 = 00000004 @ driver.c:61
+       w 2818 3 =ok @driver.c:57
+       r C0 =00000004 @driver.c:61
 
    em_debug, em_record and em_page take the file as it is. Each line is in the file before its call returns, by one
    write(2) or by a mapping: it is there when the process dies, by whatever signal, by abort or _exit. (It does not
@@ -794,6 +794,16 @@ EM_CHECKED em_code em_record_to(em_machine *machine, const char *path);
    Behind a fork only one of the two processes may use the machine. */
 EM_CHECKED em_code em_record_mapped(em_machine *machine, const char *path);
 
+/* Writes the run of a machine that was not kept to a file, as lines that play to the same machine: the events that the
+   journal has, with their answers, and their tags as program counters. What was refused, or taken back, is not among them.
+   Of a frame that was dropped the octets are kept nowhere: one of the same length stands there, which is dropped for the
+   same reason, and does the same.
+
+   Refused as EM_NOT_MADE, EM_BEGUN where events were taken back, or where the journal may have dropped some: it
+   has all as long as they cost less than its budget by 65,536 octets; EM_MEMORY or EM_FILE, where errno says why. The
+   machine stays as it is. Cost: that of a copy, of the events once more, and of their lines. */
+EM_CHECKED em_code em_save(const em_machine *machine, const char *path);
+
 /* EM_OK where the run is kept, and all that happened so far is in the file. EM_FILE where that failed: `error` tells the
    host's number of the error (errno). It is told once; from then on the run is not kept. EM_UNRECORDED where it is not.
    Constant. */
@@ -801,8 +811,8 @@ EM_CHECKED em_code em_recording_status(em_machine *machine, int *error);
 
 /* Where the calls from now on come from: a line of a file, as `__FILE__` and `__LINE__` give it. The text is not copied: it
    has to stay until em_source or em_tag is called again, or em_free. It is written in the lines of a run that is kept, as
-   ` @ driver.c:57`, and else nowhere. A tag that em_tag sets later and that is not 0 stands there in its place, as a program
-   counter: ` @ 0x00005555DEADBEEF`. With NULL or an empty name nothing stands there. Constant. */
+   ` @driver.c:57`, and else nowhere. A tag that em_tag sets later and that is not 0 stands there in its place, as a program
+   counter: ` @0x5555DEADBEEF`. With NULL or an empty name nothing stands there. Constant. */
 EM_CHECKED em_code em_source(em_machine *machine, const char *file, uint32_t line);
 
 /* A handle, of which the next call comes from here: `must(em_write(EM_HERE(&m), RDT, tail))`. */

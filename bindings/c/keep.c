@@ -12,8 +12,8 @@
 #include <string.h>
 #include <unistd.h>
 
-/* the register by which software reads the EEPROM, and how many words that has */
-enum { EERD = 0x14, START = 1, ADDRESS = 8, DATA = 16, WORDS = 64 };
+/* the register by which software reads the EEPROM */
+enum { EERD = 0x14, START = 1, ADDRESS = 8, DATA = 16 };
 
 /* ---- the file */
 
@@ -103,14 +103,20 @@ static em_code read_word(em_machine *machine, uint32_t address, uint16_t *word, 
   return why;
 }
 
+em_code what_it_is_of(em_machine *machine, uint32_t *profile, uint64_t *base, uint64_t *size, uint16_t words[EEPROM_WORDS],
+                      uint64_t *tag) {
+  em_code why = em_profile(machine, profile);
+  if (why == EM_OK) why = em_memory_base(machine, base);
+  if (why == EM_OK) why = em_memory_size(machine, size);
+  for (uint32_t i = 0; i < EEPROM_WORDS && why == EM_OK; i++) why = read_word(machine, i, &words[i], tag);
+  return why;
+}
+
 static em_code put_head(em_machine *machine, kept *run) {
-  uint16_t words[WORDS];
+  uint16_t words[EEPROM_WORDS];
   uint32_t profile = 0;
   uint64_t base = 0, size = 0;
-  em_code why = em_profile(machine, &profile);
-  if (why == EM_OK) why = em_memory_base(machine, &base);
-  if (why == EM_OK) why = em_memory_size(machine, &size);
-  for (uint32_t i = 0; i < WORDS && why == EM_OK; i++) why = read_word(machine, i, &words[i], &run->counter);
+  em_code why = what_it_is_of(machine, &profile, &base, &size, words, &run->counter);
   if (why != EM_OK) return why;
   kept_head(profile, base, size, machine->state >> BUDGET, words, &run->text);
   put_lines(run);

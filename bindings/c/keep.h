@@ -4,6 +4,12 @@
 
 #include "layer.h"
 
+enum { EEPROM_WORDS = 64 };
+
+/* What a machine is made of, and the tag of its next events. The words are read by events that are taken back. */
+em_code what_it_is_of(em_machine *machine, uint32_t *profile, uint64_t *base, uint64_t *size, uint16_t words[EEPROM_WORDS],
+                      uint64_t *tag);
+
 /* Puts the text at the file's end. Where that fails the file is closed: nothing is put there any more. */
 void put_lines(kept *run);
 

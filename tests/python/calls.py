@@ -618,13 +618,13 @@ class Kept(unittest.TestCase):
         ram[5] = 1
         m.sync_in(ram)
         wanted = [
-            f"link up = ok @ calls.py:{at + 1}", *(f"w 000000D0 00000004 = ok @ calls.py:{at + n}" for n in (2, 3, 4)),
-            f"r 000000C0 = 00000004 @ calls.py:{at + 5}", f"poke 0000000000003000 616263 = ok @ calls.py:{at + 6}",
-            f"poke 0000000000003000 09 = ok @ calls.py:{at + 7}", f"poke 0000000000003000 61 = ok @ calls.py:{at + 8}",
-            f"arrive {FRAME.hex().upper()} = dropped disabled @ calls.py:{at + 9}",
-            f"rx = idle @ calls.py:{at + 10}", f"tx = idle @ calls.py:{at + 10}",
-            f"rx = idle @ calls.py:{at + 11}", f"tx = idle @ calls.py:{at + 11}", f"back 2 = back 2 @ calls.py:{at + 12}",
-            f"poke 0000000000000005 01 = ok @ calls.py:{at + 15}",
+            f"link up =ok @calls.py:{at + 1}", *(f"w D0 4 =ok @calls.py:{at + n}" for n in (2, 3, 4)),
+            f"r C0 =00000004 @calls.py:{at + 5}", f"poke 3000 616263 =ok @calls.py:{at + 6}",
+            f"poke 3000 09 =ok @calls.py:{at + 7}", f"poke 3000 61 =ok @calls.py:{at + 8}",
+            f"arrive {FRAME.hex().upper()} =dropped disabled @calls.py:{at + 9}",
+            f"rx =idle @calls.py:{at + 10}", f"tx =idle @calls.py:{at + 10}",
+            f"rx =idle @calls.py:{at + 11}", f"tx =idle @calls.py:{at + 11}", f"back 2 =back 2 @calls.py:{at + 12}",
+            f"poke 5 01 =ok @calls.py:{at + 15}",
         ]
         self.assertEqual(self.kept(), wanted)
         self.assertTrue(m.recording())
@@ -632,13 +632,26 @@ class Kept(unittest.TestCase):
         m.close()
         self.assertEqual(self.kept(), wanted)
 
+    def test_saved_afterwards(self):
+        m = Machine()
+        m.tag(0x1234)
+        m.IMS = 4
+        m.arrive(bytes([0xFF] * 14))
+        m.save(self.path)
+        self.assertEqual(self.kept(), ["w D0 4 =ok @0x1234", "arrive FFFFFFFFFFFF0000000000000000 =dropped down @0x1234"])
+        with self.assertRaises(bunjelav.File) as refused:
+            m.save("/nowhere/saved.em")
+        self.assertEqual(refused.exception.__cause__.errno, errno.ENOENT)
+        m.back()
+        self.assertRaises(bunjelav.Begun, m.save, self.path)
+
     def test_without_places(self):
         m = Machine()
         m.record_to(str(self.path), places=False)
         m.IMS = 1
         m.tag(0x1234)
         m.IMS = 1
-        self.assertEqual(self.kept(), ["w 000000D0 00000001 = ok", "w 000000D0 00000001 = ok @ 0x0000000000001234"])
+        self.assertEqual(self.kept(), ["w D0 1 =ok", "w D0 1 =ok @0x1234"])
 
     def test_another_source(self):
         m = Machine()
@@ -648,7 +661,7 @@ class Kept(unittest.TestCase):
         m.source("", 0)
         m.IMS = 1
         at = line() - 1
-        wanted = ["w 000000D0 00000001 = ok @ driver.c:57", f"w 000000D0 00000001 = ok @ calls.py:{at}"]
+        wanted = ["w D0 1 =ok @driver.c:57", f"w D0 1 =ok @calls.py:{at}"]
         self.assertEqual(self.kept(), wanted)
         self.assertRaises(ValueError, m.source, "driver.c", -1)
 
@@ -662,10 +675,10 @@ class Kept(unittest.TestCase):
         m.IMS = 4
         at = line() - 1
         # ahead of the lines the file is blank
-        self.assertEqual(self.kept(), [f"w 000000D0 00000004 = ok @ calls.py:{at}", " " * len(self.kept()[-1])])
+        self.assertEqual(self.kept(), [f"w D0 4 =ok @calls.py:{at}", " " * len(self.kept()[-1])])
         self.assertTrue(m.recording())
         m.close()
-        self.assertEqual(self.kept(), [f"w 000000D0 00000004 = ok @ calls.py:{at}"])
+        self.assertEqual(self.kept(), [f"w D0 4 =ok @calls.py:{at}"])
 
     def test_what_is_refused(self):
         m = Machine()

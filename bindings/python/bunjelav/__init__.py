@@ -183,11 +183,27 @@ class Machine(Explained):
         >>> m.record_to(path)
         >>> m.IMS = 4
         >>> print(path.read_text().splitlines()[1])  # doctest: +ELLIPSIS
-        w 000000D0 00000004 = ok @ ...:1
+        w D0 4 =ok @...:1
         """
         record = library.em_record_mapped if mapped else library.em_record_to
         must_of_file(record(self._at, os.fsencode(path)), os.fsdecode(path))
         super().__setattr__("_places", {} if places else None)
+
+    def save(self, path: Union[str, bytes, "os.PathLike[str]"]) -> None:
+        """Writes the run so far to a file, where nobody kept it: the events that the journal has, as lines that play to the
+        same machine, with their tags in the place of lines. For a frame that was dropped stands another one of the same
+        length, which is dropped for the same reason. Begun is raised where events were taken back, or where the journal may
+        have dropped some; where the file can't be written, File, from the OSError.
+
+        >>> import tempfile
+        >>> path = Path(tempfile.mkdtemp()) / "core.em"
+        >>> m = Machine()
+        >>> m.IMS = 4
+        >>> m.save(path)
+        >>> print(path.read_text().splitlines()[1])
+        w D0 4 =ok
+        """
+        must_of_file(library.em_save(self._at, os.fsencode(path)), os.fsdecode(path))
 
     def recording(self) -> bool:
         """Whether the run is kept, and all that happened is in the file. Where the file could not be written, OSError says
@@ -213,7 +229,7 @@ class Machine(Explained):
         >>> m.source("driver.c", 57)
         >>> m.IMS = 4
         >>> print(path.read_text().splitlines()[1])
-        w 000000D0 00000004 = ok @ driver.c:57
+        w D0 4 =ok @driver.c:57
         """
         place = number_of(line, 32, "a line")
         super().__setattr__("_source", os.fsencode(file))  # (the library keeps no copy)

@@ -407,6 +407,7 @@ CALLS = {
     "em_record_mapped": [POINTER(Handle), c_char_p],
     "em_recording_status": [POINTER(Handle), POINTER(c_int)],
     "em_source": [POINTER(Handle), c_char_p, c_uint32],
+    "em_save": [POINTER(Handle), c_char_p],
     "em_pcap_write": [POINTER(Handle), c_char_p, POINTER(c_uint64)],
     "em_pcap_open": [POINTER(Pcap), c_char_p],
     "em_strerror": [c_uint32],

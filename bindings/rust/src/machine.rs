@@ -185,7 +185,7 @@ impl Machine {
     /// m.record_to(&path)?;
     /// m.write(offset_of("IMS")?, 4)?;
     /// let text = std::fs::read_to_string(&path).unwrap();
-    /// assert!(text.contains("\nw 000000D0 00000004 = ok @ "));
+    /// assert!(text.contains("\nw D0 4 =ok @"));
     /// # std::fs::remove_file(&path).unwrap();
     /// # Ok(())
     /// # }
@@ -208,6 +208,17 @@ impl Machine {
         told(unsafe { call(self.handle.get(), path.as_ptr()) }, ())?;
         self.places = Some(crate::record::Places::new());
         Ok(())
+    }
+
+    /// Writes the run so far to a file, where nobody kept it: the events that the journal has, as lines that play to the
+    /// same machine, with their tags in the place of lines. For a frame that was dropped stands another one of the same
+    /// length, which is dropped for the same reason. Refused as [`Refusal::Begun`] where events were taken back, or where
+    /// the journal may have dropped some, [`Refusal::Memory`] or [`Refusal::File`]; of the last,
+    /// `std::io::Error::last_os_error` says why.
+    #[cfg(feature = "std")]
+    pub fn save<P: AsRef<std::path::Path>>(&self, path: P) -> Result<(), Refusal> {
+        let path = crate::record::c_path(path.as_ref()).ok_or(Refusal::File)?;
+        told(unsafe { raw::em_save(self.handle.get(), path.as_ptr()) }, ())
     }
 
     /// Whether the run is kept, and all that happened is in the file; where the file could not be written, why. That is

@@ -409,6 +409,7 @@ extern "C" {
     pub(crate) fn em_record_mapped(machine: *mut Handle, path: *const c_char) -> u32;
     pub(crate) fn em_recording_status(machine: *mut Handle, error: *mut c_int) -> u32;
     pub(crate) fn em_source(machine: *mut Handle, file: *const c_char, line: u32) -> u32;
+    pub(crate) fn em_save(machine: *const Handle, path: *const c_char) -> u32;
     pub(crate) fn em_pcap_write(machine: *const Handle, path: *const c_char, nanoseconds: *const u64) -> u32;
     pub(crate) fn em_pcap_open(pcap: *mut Pcap, path: *const c_char) -> u32;
     pub(crate) fn em_strerror(code: u32) -> *const c_char;

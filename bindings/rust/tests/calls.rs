@@ -538,34 +538,49 @@ fn keeps_a_run() {
     assert_eq!(m.write(4, 1), Err(Refusal::NoRegister));
     m.poke(0x3000, b"abc").unwrap();
     assert_eq!((m.sync_in_range(0x3000, b"abd"), m.run_rx(9), m.run_tx(9), m.back(2)), (Ok(1), Ok(0), Ok(0), 2));
-    let told = ["link up = ok", "w 000000D0 00000004 = ok", "r 000000D0 = 00000004", "w 00000004 00000001 = refused NoRegister",
-        "poke 0000000000003000 616263 = ok"];
-    let mut wanted: Vec<_> = (line + 1..).zip(told).map(|(n, told)| format!("{told} @ calls.rs:{n}")).collect();
-    for told in ["poke 0000000000003002 64 = ok", "rx = idle", "tx = idle", "back 2 = back 2"] {
-        wanted.push(format!("{told} @ calls.rs:{}", line + 6));
+    let told = ["link up =ok", "w D0 4 =ok", "r D0 =00000004", "w 4 1 =refused NoRegister",
+        "poke 3000 616263 =ok"];
+    let mut wanted: Vec<_> = (line + 1..).zip(told).map(|(n, told)| format!("{told} @calls.rs:{n}")).collect();
+    for told in ["poke 3002 64 =ok", "rx =idle", "tx =idle", "back 2 =back 2"] {
+        wanted.push(format!("{told} @calls.rs:{}", line + 6));
     }
     assert_eq!(lines_of(&path), wanted);
     // through memory that is lent, and a method of the caller's that hands its own caller's place on
     let mut ram = vec![0; 65_536];
     m.over(&mut ram[..]).poke(0, b"x").unwrap();
-    wanted.push(format!("poke 0000000000000000 78 = ok @ calls.rs:{}", line!() - 1));
+    wanted.push(format!("poke 0 78 =ok @calls.rs:{}", line!() - 1));
     #[track_caller]
     fn written(m: &mut Machine) {
         m.write(IMS, 8).unwrap();
     }
     written(&mut m);
-    wanted.push(format!("w 000000D0 00000008 = ok @ calls.rs:{}", line!() - 1));
+    wanted.push(format!("w D0 8 =ok @calls.rs:{}", line!() - 1));
     // turned off, a tag stands there
     m.tell_places(false);
     m.write(IMS, 1).unwrap();
     m.tag(0x1234);
     m.write(IMS, 1).unwrap();
     m.tell_places(true);
-    wanted.extend(["w 000000D0 00000001 = ok", "w 000000D0 00000001 = ok @ 0x0000000000001234"].map(String::from));
+    wanted.extend(["w D0 1 =ok", "w D0 1 =ok @0x1234"].map(String::from));
     assert_eq!(lines_of(&path), wanted);
     assert!(m.recording().unwrap());
     drop(m);
     assert_eq!(lines_of(&path), wanted);
+    std::fs::remove_file(&path).unwrap();
+}
+
+#[test]
+fn saves_a_run_that_was_not_kept() {
+    let path = std::env::temp_dir().join(format!("bunjelav-{}-saved.em", std::process::id()));
+    let mut m = made();
+    m.tag(0x1234);
+    m.write(IMS, 4).unwrap();
+    m.arrive(&[0xFF; 14]).unwrap();
+    m.save(&path).unwrap();
+    assert_eq!(lines_of(&path), ["w D0 4 =ok @0x1234", "arrive FFFFFFFFFFFF0000000000000000 =dropped down @0x1234"]);
+    assert_eq!(m.save("/nowhere/saved.em"), Err(Refusal::File));
+    assert_eq!(m.back(1), 1);
+    assert_eq!(m.save(&path), Err(Refusal::Begun));
     std::fs::remove_file(&path).unwrap();
 }
 
@@ -578,7 +593,7 @@ fn keeps_a_run_by_a_mapping() {
     assert_eq!(std::io::Error::last_os_error().kind(), std::io::ErrorKind::WouldBlock);
     let line = line!() + 1;
     m.write(IMS, 4).unwrap();
-    let wanted = format!("w 000000D0 00000004 = ok @ calls.rs:{line}");
+    let wanted = format!("w D0 4 =ok @calls.rs:{line}");
     // ahead of the lines the file is blank
     let lines = lines_of(&path);
     assert_eq!((lines.len(), &lines[0], lines[1].trim()), (2, &wanted, ""));

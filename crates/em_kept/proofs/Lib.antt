@@ -11,6 +11,7 @@
 mod Texts
 mod ShownNames
 mod PartsOfLines
+mod DigitSteps
 mod DigitLaws
 mod EventWords
 mod SourcePlaces

@@ -39,4 +39,4 @@ plain_name name h =
 -- the place of a line of a file, and the end of the line
 pub place_made : (file : List ℕ) (number : ℕ) → end_text (line file number) ≡ place_text file number
 place_made file number =
-    ap (λ l. codes " @ " ++ l) (append_assoc (shown (last_of file)) (codes ":" ++ decimal number) (codes "\n"))
+    ap (λ l. codes " @" ++ l) (append_assoc (shown (last_of file)) (codes ":" ++ decimal number) (codes "\n"))

@@ -1,10 +1,9 @@
 -- Where a call comes from, and how a line says that.
 use Rattle.std.specs.Prelude.{◌≡◌, ℕ, Bool, false, not, ◌-◌, ◌<◌, ◌≤◌, ◌==◌, ◌||◌, ◌&&◌, nat_lt, if◌then◌else◌}
 use Rattle.std.specs.Prelude.{List, [], ◌++◌, length, drop, map, slice_index, codes, decimal, Option, Some, None}
-use Rattle.std.specs.Int.{w64, to_be_bytes}
 use Rattle.std.specs.List.{list_all, range_with_len}
-use Rattle.em_text.specs.Writer.{hex_text}
 use Rattle.em_line.specs.Parts.{stands_at}
+use Rattle.em_kept.specs.Digits.{number_digits}
 use Rattle.em_kept.specs.declared.source.Source.{Source as Lent}
 use Rattle.em_kept.specs.declared.source.Source.TheVariants as lent
 
@@ -66,11 +65,11 @@ line_place file number = shown (last_of file) ++ (codes ":" ++ decimal number)
 abbrev pub place_of : Source → Option (List ℕ)
 place_of unknown = None
 place_of (line file number) = Some (line_place file number)
-place_of (counter at) = Some (codes "0x" ++ hex_text (to_be_bytes w64 at))
+place_of (counter at) = Some (codes "0x" ++ number_digits at)
 
 abbrev pub placed : Option (List ℕ) → List ℕ
 placed None = []
-placed (Some place) = codes " @ " ++ place
+placed (Some place) = codes " @" ++ place
 
 -- and the end of the line
 abbrev pub end_text : Source → List ℕ
@@ -84,4 +83,4 @@ abbrev pub named_text : List ℕ → ℕ → List ℕ
 named_text name number = shown name ++ line_number_text number
 
 abbrev pub place_text : List ℕ → ℕ → List ℕ
-place_text file number = codes " @ " ++ named_text (last_of file) number
+place_text file number = codes " @" ++ named_text (last_of file) number

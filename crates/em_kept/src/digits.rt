@@ -1,10 +1,61 @@
 //! Numbers in hexadecimal digits.
-ghost use Rattle.std.specs.Prelude.{◌≡◌};
+ghost use Rattle.std.specs.Prelude.{◌≡◌, ◌<◌, ◌≤◌, true, drop};
+ghost use Rattle.std.specs.Fmt.{digit_glyph};
 ghost use Rattle.em_text.specs.Writer.{value_digits};
-ghost use Rattle.em_kept.specs.Kept.{address_digits};
-ghost use Rattle.em_kept.specs.Head.{word_digits};
+ghost use Rattle.em_kept.specs.Digits.{number_digits};
+ghost use Rattle.em_kept.specs.Head.{address_digits, word_digits};
 
 use em_text::octet_digits;
+
+const HEX: u64 = 16;
+
+/// How many digits are numerals.
+const NUMERALS: u8 = 10;
+
+/// What a letter is past its value.
+const PAST_VALUE: u8 = b'A' - NUMERALS;
+
+/// The most digits of a number.
+pub(crate) const MOST_DIGITS: usize = 16;
+
+/// The digits of a number, with no zero in front of them, in the room that is lent for them.
+#[inline(always)]
+pub(crate) fn number_digits(number: u64, room: &mut [u8; MOST_DIGITS]) -> &[u8]
+    ensures { result.now ≡ number_digits number }
+{
+    let first = put_digits(number, room);
+    &room[first..]
+}
+
+/// Puts the digits of a number at the end of a room, the last one first, and tells where they begin.
+#[inline(always)]
+fn put_digits(number: u64, room: &mut [u8; MOST_DIGITS]) -> usize
+    ensures within { result ≤ 16 }
+    ensures digits { drop result room.new ≡ number_digits number }
+{
+    let mut left = number;
+    let mut at = MOST_DIGITS - 1;
+    while left >= HEX {
+        room[at] = digit((left % HEX) as u8);
+        left /= HEX;
+        at -= 1;
+    }
+    room[at] = digit(left as u8);
+    at
+}
+
+/// The digit of a value below 16.
+#[inline(always)]
+fn digit(value: u8) -> u8
+    requires { value < 16 }
+    ensures { result ≡ digit_glyph true value }
+{
+    if value < NUMERALS {
+        b'0' + value
+    } else {
+        PAST_VALUE + value
+    }
+}
 
 /// The 8 digits of a value.
 #[inline(always)]

@@ -1,14 +1,14 @@
 //! The lines of events.
 ghost use Rattle.std.specs.Prelude.{◌≡◌, ◌++◌};
 ghost use Rattle.std.specs.List.{flat_map};
-ghost use Rattle.em_step.specs.Event.{arrives, plain, pokes};
+ghost use Rattle.em_step.specs.Event.{arrives, plain, pokes, reads, writes};
 ghost use Rattle.em_text.specs.Writer.{Writes};
 ghost use Rattle.em_kept.specs.Source as sources;
 ghost use Rattle.em_kept.specs.Kept.{answer_words, behind_text, comment_words, event_text, event_words, has_line};
 ghost use Rattle.em_kept.specs.Kept.{octets_behind, refusal_words, refused_text, refused_words, told_words};
 
 use crate::answer::{write_answer, write_number, write_refusal};
-use crate::digits::{address_digits, value_digits};
+use crate::digits::{MOST_DIGITS, number_digits};
 use crate::source::{Source, write_end};
 use em_step::{Answer, Event, Refusal};
 use em_text::{WriteFailed, write_octets, write_pieces, write_whole};
@@ -116,22 +116,47 @@ fn write_said<W: Write>(writer: &mut W, event: Event<'_>) -> Result<(), WriteFai
     ensures writes { Writes (W.contents writer.old) (W.contents writer.new) result (event_words (plain event.entry)) }
 {
     match event {
-        Event::Read(offset) => write_pieces(writer, &[b"r ", &value_digits(offset)]),
-        Event::Write(offset, value) => {
-            write_pieces(
-                writer,
-                &[b"w ", &value_digits(offset), b" ", &value_digits(value)],
-            )
-        }
-        Event::Poke(addr, octets) => {
-            write_octets_behind(writer, &[b"poke ", &address_digits(addr), b" "], octets)
-        }
+        Event::Read(offset) => write_read(writer, offset),
+        Event::Write(offset, value) => write_written(writer, offset, value),
+        Event::Poke(addr, octets) => write_poke(writer, addr, octets),
         Event::Arrive(frame) => write_octets_behind(writer, &[b"arrive "], frame),
         Event::Link(true) => write_whole(writer, b"link up"),
         Event::Link(false) => write_whole(writer, b"link down"),
         Event::RxStep => write_whole(writer, b"rx"),
         Event::TxStep => write_whole(writer, b"tx"),
     }
+}
+
+/// Writes that a register was read.
+#[inline(always)]
+fn write_read<W: Write>(writer: &mut W, offset: u32) -> Result<(), WriteFailed>
+    ensures writes { Writes (W.contents writer.old) (W.contents writer.new) result (event_words (reads offset)) }
+{
+    let mut room = [0; MOST_DIGITS];
+    let offset = number_digits(u64::from(offset), &mut room);
+    write_pieces(writer, &[b"r ", offset])
+}
+
+/// Writes that a register was written.
+#[inline(always)]
+fn write_written<W: Write>(writer: &mut W, offset: u32, value: u32) -> Result<(), WriteFailed>
+    ensures writes { Writes (W.contents writer.old) (W.contents writer.new) result (event_words (writes offset value)) }
+{
+    let mut one = [0; MOST_DIGITS];
+    let mut other = [0; MOST_DIGITS];
+    let offset = number_digits(u64::from(offset), &mut one);
+    let value = number_digits(u64::from(value), &mut other);
+    write_pieces(writer, &[b"w ", offset, b" ", value])
+}
+
+/// Writes that octets were written to guest memory.
+fn write_poke<W: Write>(writer: &mut W, addr: u64, octets: &[u8]) -> Result<(), WriteFailed>
+    ensures writes { Writes (W.contents writer.old) (W.contents writer.new) result
+        (event_words (pokes addr octets.now)) }
+{
+    let mut room = [0; MOST_DIGITS];
+    let addr = number_digits(addr, &mut room);
+    write_octets_behind(writer, &[b"poke ", addr, b" "], octets)
 }
 
 /// Writes octets in hexadecimal digits behind words.
@@ -165,10 +190,9 @@ fn write_told_poke<W: Write>(writer: &mut W, addr: u64, octets: &[u8]) -> Result
 {
     let mut digits = Buffer::new();
     let number = digits.format(octets.len()).as_bytes();
-    write_pieces(
-        writer,
-        &[b"poke ", &address_digits(addr), b" length ", number],
-    )
+    let mut room = [0; MOST_DIGITS];
+    let addr = number_digits(addr, &mut room);
+    write_pieces(writer, &[b"poke ", addr, b" length ", number])
 }
 
 /// Writes how many octets a frame has.

@@ -3,10 +3,10 @@ ghost use Rattle.std.specs.Prelude.{◌≡◌, ◌<◌, ◌++◌, length};
 ghost use Rattle.std.specs.List.{list_all, range_with_len};
 ghost use Rattle.em_text.specs.Writer.{Writes};
 ghost use Rattle.em_line.specs.Parts.{begins_at};
-ghost use Rattle.em_kept.specs.Source.{end_text, is_replaced, is_shown, last_of, line_number_text, named_text};
+ghost use Rattle.em_kept.specs.Source.{counter, end_text, is_replaced, is_shown, last_of, line_number_text, named_text};
 ghost use Rattle.em_kept.specs.Source.{place_text, plain, shown, shown_at};
 
-use crate::digits::address_digits;
+use crate::digits::{MOST_DIGITS, number_digits};
 use em_text::{WriteFailed, write_pieces, write_whole};
 use itoa::Buffer;
 use std::io::Write;
@@ -36,7 +36,7 @@ pub(crate) fn write_end<W: Write>(writer: &mut W, source: Source<'_>) -> Result<
     match source {
         Source::Unknown => write_whole(writer, b"\n"),
         Source::Line { file, line } => write_place(writer, file, line),
-        Source::Counter(at) => write_pieces(writer, &[b" @ 0x", &address_digits(at), b"\n"]),
+        Source::Counter(at) => write_counter(writer, at),
     }
 }
 
@@ -44,8 +44,16 @@ pub(crate) fn write_end<W: Write>(writer: &mut W, source: Source<'_>) -> Result<
 fn write_place<W: Write>(writer: &mut W, file: &[u8], line: u32) -> Result<(), WriteFailed>
     ensures writes { Writes (W.contents writer.old) (W.contents writer.new) result (place_text file.now line) }
 {
-    write_whole(writer, b" @ ")?;
+    write_whole(writer, b" @")?;
     write_named(writer, last_of(file), line)
+}
+
+/// Writes a program counter, and the end of a line.
+fn write_counter<W: Write>(writer: &mut W, at: u64) -> Result<(), WriteFailed>
+    ensures writes { Writes (W.contents writer.old) (W.contents writer.new) result (end_text (counter at)) }
+{
+    let mut room = [0; MOST_DIGITS];
+    write_pieces(writer, &[b" @0x", number_digits(at, &mut room), b"\n"])
 }
 
 /// Writes a name with the number of a line, and the end of a line.
