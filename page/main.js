@@ -332,13 +332,25 @@ function recordsOfPage() {
     .map((own) => ({ name: own[0].dataset.name ?? "", elements: own }));
 }
 
+/** The octets of a record that stands in some elements. @param {HTMLElement[]} elements */
+function octetsOfPage(elements) {
+  const encoder = new TextEncoder();
+  return elements.map((part) => encoder.encode(part.textContent));
+}
+
+/** The letters of a packed record; the page keeps them no longer. @param {HTMLElement} element */
+function lettersOfPage(element) {
+  const letters = element.textContent;
+  element.textContent = "";
+  return letters;
+}
+
 /** Reads and shows records of which one is packed. */
 async function showPacked(records) {
   const reads = [];
   for (const { name, elements } of records) {
-    const texts = elements.map((part) => part.textContent);
     try {
-      reads.push({ ...(elements[0].type === PACKED_TYPE ? await readPacked(texts[0]) : readRecord(texts)), name });
+      reads.push({ ...(elements[0].type === PACKED_TYPE ? await readPacked(lettersOfPage(elements[0])) : readRecord(octetsOfPage(elements))), name });
     } catch (fault) {
       reads.push({ run: null, fault: `this page can’t show it (${fault instanceof Error ? fault.message : fault})`, name });
     }
@@ -359,5 +371,5 @@ guarded(() => {
   readPalette();
   const records = recordsOfPage();
   if (records.some(({ elements }) => elements[0].type === PACKED_TYPE)) showPacked(records);
-  else show(records.map(({ name, elements }) => ({ ...readRecord(elements.map((part) => part.textContent)), name })));
+  else show(records.map(({ name, elements }) => ({ ...readRecord(octetsOfPage(elements)), name })));
 });
