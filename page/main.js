@@ -152,7 +152,7 @@ class App {
   /** What a step is, in words. */
   stepText(step = this.step) {
     const { kind, mark, line, place, performs } = this.run.steps.at(step);
-    const event = performs ? [place.text, `event ${place.number}`] : [KINDS[kind][1]];
+    const event = performs ? [visible(place.text), `event ${place.number}`] : [KINDS[kind][1]];
     return [...event, ...(line ? [`line ${line}`] : []), ...(mark ? [MARKS[mark][1]] : [])].join(", ");
   }
 
@@ -251,7 +251,7 @@ function tellBroken(fault, run, name = "") {
   const element = byId("broken");
   element.hidden = false;
   const rest = run ? ` What stands before that is shown: ${counted(run.steps.length - 1, "step")}.` : "";
-  element.append(make("b", {}, `⚠\uFE0E This record is broken: ${name ? `${name}: ` : ""}`), `${fault}.${rest} `);
+  element.append(make("b", {}, `⚠\uFE0E This record is broken: ${name ? `${name}: ` : ""}`), `${visible(fault)}.${rest} `);
 }
 
 /** What a run's machine is made of, and how long it is, in words. @param {Run} run */
@@ -329,7 +329,7 @@ function recordsOfPage() {
   const elements = [...document.querySelectorAll("script.record")];
   const second = elements.findIndex((one, index) => index > 0 && one.dataset.name !== undefined);
   return (second < 0 ? [elements] : [elements.slice(0, second), elements.slice(second)])
-    .map((own) => ({ name: own[0].dataset.name ?? "", elements: own }));
+    .map((own) => ({ name: visible(own[0].dataset.name ?? ""), elements: own }));
 }
 
 /** The octets of a record that stands in some elements. @param {HTMLElement[]} elements */
