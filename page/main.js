@@ -228,7 +228,7 @@ class App {
       ArrowLeft: () => (event.shiftKey ? this.timeline.move(-MOVED_PART) : this.goTo(this.step - 1)),
       ArrowRight: () => (event.shiftKey ? this.timeline.move(MOVED_PART) : this.goTo(this.step + 1)),
       "+": () => this.timeline.zoom(ZOOM_FACTOR), "-": () => this.timeline.zoom(1 / ZOOM_FACTOR),
-      0: () => this.timeline.zoom(0),
+      0: () => this.timeline.zoom(0), t: () => this.timeline.turn(),
       PageUp: () => this.goTo(this.step - PAGE_STEPS), PageDown: () => this.goTo(this.step + PAGE_STEPS),
       Home: () => this.jump(0), End: () => this.jump(Infinity),
       Escape: () => this.asked !== null && this.jump(this.origin),
