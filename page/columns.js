@@ -74,3 +74,48 @@ class Texts {
     return number;
   }
 }
+
+/** Texts of ASCII by their octets: the same octets give the same text, and it is made once. */
+class Letters {
+  constructor() {
+    this.texts = [];
+    /** By place, one more than the number of a text, and 0 where none is. */
+    this.places = new Uint32Array(4_096);
+    this.decoder = new TextDecoder();
+  }
+
+  /** The text between two places. @param {Uint8Array} octets */
+  at(octets, from, end) {
+    let sum = end - from;
+    for (let i = from; i < end; i++) sum = (Math.imul(sum, 31) + octets[i]) | 0;
+    const { places, texts } = this, mask = places.length - 1;
+    let place = (sum ^ (sum >>> 15)) & mask;
+    for (; places[place]; place = (place + 1) & mask) {
+      const text = texts[places[place] - 1];
+      if (text.length === end - from && this.isText(text, octets, from)) return text;
+    }
+    const text = this.decoder.decode(octets.subarray(from, end));
+    places[place] = texts.push(text);
+    if (2 * texts.length > places.length) this.grow();
+    return text;
+  }
+
+  /** @private */
+  isText(text, octets, from) {
+    for (let i = 0; i < text.length; i++) if (text.charCodeAt(i) !== octets[from + i]) return false;
+    return true;
+  }
+
+  /** @private */
+  grow() {
+    const { texts } = this, places = new Uint32Array(4 * this.places.length), mask = places.length - 1;
+    texts.forEach((text, number) => {
+      let sum = text.length;
+      for (let i = 0; i < text.length; i++) sum = (Math.imul(sum, 31) + text.charCodeAt(i)) | 0;
+      let place = (sum ^ (sum >>> 15)) & mask;
+      while (places[place]) place = (place + 1) & mask;
+      places[place] = number + 1;
+    });
+    this.places = places;
+  }
+}

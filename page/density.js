@@ -25,13 +25,13 @@ const MARK_ORDER = ["refused", "bad", "differs", "dropped"];
  */
 
 /** The steps of a view by columns, one for each point. @param {Steps} steps @returns {Columns} */
-function columnsOf(steps, { first, cell }, width) {
+function columnsOf(steps, { axis, first, cell }, width) {
   const count = Math.ceil(width), marks = new Uint8Array(count);
   const kinds = new Uint32Array(count * KIND_COUNT), gone = new Uint32Array(count * KIND_COUNT);
   const { performs, places, events: { takenBack } } = steps, back = KIND_NUMBER.get("back");
-  const from = Math.max(0, Math.floor(first)), end = Math.min(steps.length, Math.ceil(first + count / cell));
+  const [from, end] = axis.range(first, first + count / cell);
   for (let step = from; step < end; step++) {
-    const column = Math.max(0, Math.min(count - 1, Math.floor((step - first) * cell))), kind = steps.kinds.at(step);
+    const column = Math.max(0, Math.min(count - 1, Math.floor((axis.at(step) - first) * cell))), kind = steps.kinds.at(step);
     const isGone = performs.at(step) ? takenBack.at(places.at(step)) !== NEVER : kind === back;
     (isGone ? gone : kinds)[column * KIND_COUNT + kind] += 1;
     marks[column] |= 1 << steps.marks.at(step);
@@ -40,7 +40,7 @@ function columnsOf(steps, { first, cell }, width) {
 }
 
 /** Draws in each column each kind by its share, from a height on; each that is there can be seen. */
-function paintShares(context, counts, column, y, tall) {
+function paintShares(context, counts, column, y, tall, wide = 1) {
   const at = column * KIND_COUNT;
   let [sum, there] = [0, 0];
   for (let kind = 0; kind < KIND_COUNT; kind++) {
@@ -53,7 +53,7 @@ function paintShares(context, counts, column, y, tall) {
     if (!counts[at + kind]) continue;
     const part = least + (counts[at + kind] / sum) * (tall - least * there);
     context.fillStyle = palette[`kind-${STEP_KINDS[kind]}`];
-    context.fillRect(column, top, 1, part);
+    context.fillRect(column, top, wide, part);
     top += part;
   }
 }
@@ -84,24 +84,24 @@ class WholeRun {
   }
 
   /** Whether a run is drawn so, in so many points. */
-  isLong(width) {
-    return width / this.steps.length < 1;
+  isLong(width, axis) {
+    return axis.isTime || width / this.steps.length < 1;
   }
 
   height() {
     return MARK_ROW * this.marks.length + 2 + KIND_ROW * this.kinds.length + FOUND_ROW;
   }
 
-  paint(context, width) {
-    const { steps, kinds, marks } = this, columns = columnsOf(steps, { first: 0, cell: width / steps.length }, width);
+  paint(context, width, axis) {
+    const { steps, kinds, marks } = this, columns = columnsOf(steps, { axis, first: 0, cell: width / steps.length }, width);
     paintMarks(context, columns, marks, 0, MARK_ROW);
-    const top = MARK_ROW * marks.length + 2;
-    kinds.forEach((kind, row) => this.paintKind(context, columns, kind, top + KIND_ROW * row));
+    const top = MARK_ROW * marks.length + 2, wide = axis.isTime ? 2 : 1;
+    kinds.forEach((kind, row) => this.paintKind(context, columns, kind, top + KIND_ROW * row, wide));
     context.globalAlpha = 1;
   }
 
   /** @private */
-  paintKind(context, { count, kinds, gone }, kind, y) {
+  paintKind(context, { count, kinds, gone }, kind, y, wide) {
     const number = KIND_NUMBER.get(kind);
     const at = (column) => kinds[column * KIND_COUNT + number] + gone[column * KIND_COUNT + number];
     let most = 1;
@@ -110,7 +110,7 @@ class WholeRun {
     for (let column = 0; column < count; column++) {
       if (!at(column)) continue;
       context.globalAlpha = LEAST_STRENGTH + (1 - LEAST_STRENGTH) * Math.sqrt(at(column) / most);
-      context.fillRect(column, y, 1, KIND_ROW - 1);
+      context.fillRect(column, y, wide, KIND_ROW - 1);
     }
   }
 }

@@ -160,12 +160,14 @@ function shortPlace(text, most) {
 
 // what is no letter, and can hide others or put them in another order: separators, marks that take no room, and those
 // that turn the direction of writing
-const UNSEEN = /[\u0080-\u009F\u00AD\u061C\u180E\u200B\u200E\u200F\u2028-\u202E\u2060-\u206F\uFEFF\uFFF9-\uFFFB]/g;
+const UNSEEN = new RegExp("[\\u0080-\\u009F\\u00AD\\u034F\\u061C\\u115F\\u1160\\u17B4\\u17B5\\u180B-\\u180F\\u200B\\u200E\\u200F"
+  + "\\u2028-\\u202E\\u2060-\\u206F\\u3164\\uFEFF\\uFFA0\\uFFF0-\\uFFFB\\u{13430}-\\u{1343F}\\u{1BCA0}-\\u{1BCA3}"
+  + "\\u{1D173}-\\u{1D17A}\\u{E0000}-\\u{E0FFF}]", "gu");
 
 /** A text whose control characters can be seen: no line looks like another one. */
 function visible(text) {
   // eslint-disable-next-line no-control-regex
   return text.replace(/[\u0000-\u001F\u007F]/g, (mark) =>
     mark === "\u007F" ? "\u2421" : String.fromCharCode(0x2400 + mark.charCodeAt(0)))
-    .replace(UNSEEN, (mark) => `\u27E8U+${hex(mark.charCodeAt(0), 4)}\u27E9`);
+    .replace(UNSEEN, (mark) => `\u27E8U+${hex(mark.codePointAt(0), 4)}\u27E9`);
 }

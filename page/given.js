@@ -5,7 +5,7 @@
 const NO_DIGIT = 0x80;
 const NIBBLES = new Uint8Array(256).fill(NO_DIGIT);
 for (const [code, value] of DIGITS) NIBBLES[code] = value;
-const QUOTE = 34, BACKSLASH = 92, FIRST_LETTER = 32, ZERO = 48, NINE = 57;
+const QUOTE = 34, BACKSLASH = 92, FIRST_LETTER = 32, LAST_LETTER = 126, ZERO = 48, NINE = 57;
 const COMMA = 44, OPENED = 91, CLOSED = 93, ENDED = 125;
 /** A number with more digits is read as JSON. */
 const MOST_DIGITS = 15;
@@ -20,12 +20,6 @@ function lettersOf(text) {
   const octets = new Uint8Array(text.length);
   for (let i = 0; i < octets.length; i++) octets[i] = text.charCodeAt(i);
   return octets;
-}
-
-/** The octets of a text of ASCII alone; null of another one. @param {string} text */
-function asciiOf(text) {
-  const octets = new TextEncoder().encode(text);
-  return octets.length === text.length ? octets : null;
 }
 
 /** What an event is said to have been and changed. */
@@ -127,19 +121,23 @@ const WORDS = {
 class LineReader {
   constructor() {
     this.octets = NO_OCTETS;
-    this.text = "";
     this.at = 0;
     this.isOdd = false;
+    this.letters = new Letters();
   }
 
-  /** The line between two places of a text, and of its octets; null where it has another form. */
-  read(octets, text, from, end) {
+  /**
+   * The line from a place of some octets on, behind which the next one stands then; null where it has another form.
+   * @param {Uint8Array} octets
+   */
+  read(octets, from) {
     this.octets = octets;
-    this.text = text;
     this.at = from;
     this.isOdd = false;
     const line = this.line();
-    return this.isOdd || this.at !== end ? null : line;
+    this.isMark(COMMA);
+    if (!this.isMark(NEWLINE) && this.at < octets.length) this.isOdd = true;
+    return this.isOdd ? null : line;
   }
 
   /** Goes behind a word, if it stands here. @private @param {Uint8Array} word */
@@ -173,12 +171,13 @@ class LineReader {
   /** @private */
   number() {
     const { octets } = this, first = this.at;
-    let value = 0, code = octets[first];
+    let at = first, value = 0, code = octets[at];
     while (code >= ZERO && code <= NINE) {
       value = 10 * value + code - ZERO;
-      code = octets[++this.at];
+      code = octets[++at];
     }
-    const count = this.at - first;
+    this.at = at;
+    const count = at - first;
     if (count === 0 || count > MOST_DIGITS || (count > 1 && octets[first] === ZERO)) this.isOdd = true;
     return value;
   }
@@ -190,22 +189,25 @@ class LineReader {
     return value;
   }
 
-  /** A text of letters that stand for themselves, up to its quotation mark. @private */
+  /** A text of ASCII letters that stand for themselves, up to its quotation mark. @private */
   string() {
-    const { octets, text } = this, from = this.at;
-    let code = octets[from];
-    while (code !== QUOTE && code !== BACKSLASH && code >= FIRST_LETTER) code = octets[++this.at];
-    if (code !== QUOTE) this.isOdd = true;
-    return text.slice(from, this.at++);
+    const { octets } = this, from = this.at;
+    let at = from, code = octets[at];
+    while (code !== QUOTE && code !== BACKSLASH && code >= FIRST_LETTER && code <= LAST_LETTER) code = octets[++at];
+    this.at = at + 1;
+    if (code === QUOTE) return this.letters.at(octets, from, at);
+    this.isOdd = true;
+    return "";
   }
 
   /** Digits up to a quotation mark: an even number of them. @private @returns {number} how many */
   digits() {
     const { octets } = this, from = this.at;
-    while (NIBBLES[octets[this.at]] < NO_DIGIT) this.at += 1;
-    const count = this.at - from;
-    if (count % 2 || octets[this.at] !== QUOTE) this.isOdd = true;
-    this.at += 1;
+    let at = from;
+    while (NIBBLES[octets[at]] < NO_DIGIT) at += 1;
+    const count = at - from;
+    if (count % 2 || octets[at] !== QUOTE) this.isOdd = true;
+    this.at = at + 1;
     return count;
   }
 
@@ -376,7 +378,7 @@ class LineReader {
     const [before, after] = [0, 1].map(() => {
       this.want(WORDS.next);
       const from = this.at, count = this.digits();
-      return this.text.slice(from, from + count).toUpperCase();
+      return new TextDecoder().decode(this.octets.subarray(from, from + count)).toUpperCase();
     });
     this.wantMark(CLOSED);
     given.gathered = [kept, before, after];

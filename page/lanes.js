@@ -118,10 +118,10 @@ function paintLane(context, lane, view, [top, bottom], end) {
 /** Draws a lane of many steps by columns: a line where it changed there, and else where it stays. */
 function paintLaneColumns(context, lane, view, [top, bottom], end) {
   const changes = new Uint8Array(Math.ceil(view.width) + 1);
-  const first = Math.max(1, Math.floor(view.first)), last = Math.min(end, Math.ceil(view.first + view.count));
-  for (let step = first; step < last; step++) {
+  const [first, last] = view.axis.range(view.first, view.first + view.count);
+  for (let step = Math.max(1, first); step < Math.min(end, last); step++) {
     if (lane.values[step] === lane.values[step - 1]) continue;
-    changes[Math.max(0, Math.floor((step - view.first) * view.cell))] = 1;
+    changes[Math.max(0, Math.floor(view.x(step)))] = 1;
   }
   context.fillStyle = palette.ink;
   context.fillRect(0, bottom, view.width, 1);

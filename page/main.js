@@ -152,7 +152,7 @@ class App {
   /** What a step is, in words. */
   stepText(step = this.step) {
     const { kind, mark, line, place, performs } = this.run.steps.at(step);
-    const event = performs ? [place.text, `event ${place.number}`] : [KINDS[kind][1]];
+    const event = performs ? [visible(place.text), `event ${place.number}`] : [KINDS[kind][1]];
     return [...event, ...(line ? [`line ${line}`] : []), ...(mark ? [MARKS[mark][1]] : [])].join(", ");
   }
 
@@ -228,7 +228,7 @@ class App {
       ArrowLeft: () => (event.shiftKey ? this.timeline.move(-MOVED_PART) : this.goTo(this.step - 1)),
       ArrowRight: () => (event.shiftKey ? this.timeline.move(MOVED_PART) : this.goTo(this.step + 1)),
       "+": () => this.timeline.zoom(ZOOM_FACTOR), "-": () => this.timeline.zoom(1 / ZOOM_FACTOR),
-      0: () => this.timeline.zoom(0),
+      0: () => this.timeline.zoom(0), t: () => this.timeline.turn(),
       PageUp: () => this.goTo(this.step - PAGE_STEPS), PageDown: () => this.goTo(this.step + PAGE_STEPS),
       Home: () => this.jump(0), End: () => this.jump(Infinity),
       Escape: () => this.asked !== null && this.jump(this.origin),
@@ -251,7 +251,7 @@ function tellBroken(fault, run, name = "") {
   const element = byId("broken");
   element.hidden = false;
   const rest = run ? ` What stands before that is shown: ${counted(run.steps.length - 1, "step")}.` : "";
-  element.append(make("b", {}, `⚠\uFE0E This record is broken: ${name ? `${name}: ` : ""}`), `${fault}.${rest} `);
+  element.append(make("b", {}, `⚠\uFE0E This record is broken: ${name ? `${name}: ` : ""}`), `${visible(fault)}.${rest} `);
 }
 
 /** What a run's machine is made of, and how long it is, in words. @param {Run} run */
@@ -329,16 +329,28 @@ function recordsOfPage() {
   const elements = [...document.querySelectorAll("script.record")];
   const second = elements.findIndex((one, index) => index > 0 && one.dataset.name !== undefined);
   return (second < 0 ? [elements] : [elements.slice(0, second), elements.slice(second)])
-    .map((own) => ({ name: own[0].dataset.name ?? "", elements: own }));
+    .map((own) => ({ name: visible(own[0].dataset.name ?? ""), elements: own }));
+}
+
+/** The octets of a record that stands in some elements. @param {HTMLElement[]} elements */
+function octetsOfPage(elements) {
+  const encoder = new TextEncoder();
+  return elements.map((part) => encoder.encode(part.textContent));
+}
+
+/** The letters of a packed record; the page keeps them no longer. @param {HTMLElement} element */
+function lettersOfPage(element) {
+  const letters = element.textContent;
+  element.textContent = "";
+  return letters;
 }
 
 /** Reads and shows records of which one is packed. */
 async function showPacked(records) {
   const reads = [];
   for (const { name, elements } of records) {
-    const texts = elements.map((part) => part.textContent);
     try {
-      reads.push({ ...(elements[0].type === PACKED_TYPE ? await readPacked(texts[0]) : readRecord(texts)), name });
+      reads.push({ ...(elements[0].type === PACKED_TYPE ? await readPacked(lettersOfPage(elements[0])) : readRecord(octetsOfPage(elements))), name });
     } catch (fault) {
       reads.push({ run: null, fault: `this page can’t show it (${fault instanceof Error ? fault.message : fault})`, name });
     }
@@ -359,5 +371,5 @@ guarded(() => {
   readPalette();
   const records = recordsOfPage();
   if (records.some(({ elements }) => elements[0].type === PACKED_TYPE)) showPacked(records);
-  else show(records.map(({ name, elements }) => ({ ...readRecord(elements.map((part) => part.textContent)), name })));
+  else show(records.map(({ name, elements }) => ({ ...readRecord(octetsOfPage(elements)), name })));
 });

@@ -34,6 +34,8 @@ class Present {
     if (line && line.answer.length) parts.push(this.answer(line));
     if (line && line.differs) parts.push(make("p", { class: "note" }, `≠ ${visible(shortened(line.differs, 400))}`));
     if (line && line.source) parts.push(make("p", { class: "note" }, `@ ${visible(shortened(line.source, 400))}`));
+    const time = app.timeline.axes.text(step);
+    if (time) parts.push(make("p", { class: "note time" }, time));
     if (now.performs && place.takenBack !== NEVER) {
       const by = run.steps.lines.at(place.takenBack);
       parts.push(make("p", { class: "note" },

@@ -32,7 +32,7 @@ class Broken extends Error {}
 
 /**
  * Reads a record as far as it is whole.
- * @param {string[]} parts of its text
+ * @param {Uint8Array[]} parts of its octets
  * @returns {{run: Run|null, fault: string|null}} the run is null where not even its start can be read
  */
 function readRecord(parts) {
@@ -43,7 +43,7 @@ function readRecord(parts) {
     if (!read.fault || !isShort) return read;
   }
   if (!isShort) return { run: null, fault: "it is not written line by line, and too long to be read so" };
-  return readFrom(() => new WholeSource(parts.join("")));
+  return readFrom(() => new WholeSource(textOf(joined(parts))));
 }
 
 /** @param {() => Source} begin */
@@ -94,20 +94,20 @@ class Reading {
 class PackedReading {
   constructor() {
     this.reading = new Reading();
-    this.texts = [];
+    this.parts = [];
   }
 
-  /** @param {Part} part */
+  /** @param {Uint8Array} part */
   take(part) {
-    this.texts.push(part.text);
-    const { reading } = this;
+    const { reading, parts } = this;
+    parts.push(part);
     if (reading.source) {
       reading.try(() => reading.source.eachOf(part, reading.take));
       return;
     }
     // (parts are whole lines)
-    if (!`\n${part.text}`.includes(LINES_BEGIN)) return;
-    const source = LineSource.of([this.texts.join("")]);
+    if (linesBegin(joined([Uint8Array.of(NEWLINE), part])) < 0) return;
+    const source = LineSource.of([joined(parts)]);
     if (!source) return;
     reading.try(() => {
       reading.begin(source);
@@ -117,10 +117,11 @@ class PackedReading {
 
   /** @returns {{run: Run|null, fault: string|null}} */
   end() {
-    const { reading, texts } = this;
+    const { reading, parts } = this;
     reading.try(() => want(reading.source?.isBehind, reading.source?.cut() ?? ""));
     const read = reading.end();
-    return read.fault === null ? read : readRecord(texts);
+    const isShort = parts.reduce((sum, { length }) => sum + length, 0) <= MOST_AT_ONCE;
+    return read.fault === null || (read.run && !isShort) ? read : readRecord([joined(parts)]);
   }
 }
 

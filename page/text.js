@@ -3,9 +3,11 @@
 /** Up to so many characters a text that is not written line by line is read at once. */
 const MOST_AT_ONCE = 2 ** 28;
 /** What stands in em_record's text before the records of lines, each of which has a line of the text. */
-const LINES_BEGIN = '\n"lines":[\n';
+const LINES_BEGIN = lettersOf('\n"lines":[\n');
 /** The line of the text behind them. */
-const LINES_END = "],";
+const LINES_END = lettersOf("],");
+const NEWLINE = 10;
+const DECODER = new TextDecoder();
 /** What stands before the number of a line's first event. */
 const ONLY_EVENT = ',"events":[{"event":';
 const FIELDS_BEFORE = ["format", "version", "settings", "script", "start", "lines"];
@@ -54,13 +56,13 @@ class WholeSource {
   }
 }
 
-/** A record of which the text is kept, and each line's record is read where it is wanted. @implements {Source} */
+/** A record of which the octets are kept, and each line's record is read where it is wanted. @implements {Source} */
 class LineSource {
-  /** @param {string[]} parts of the text, each whole lines @param {Object} record what stands before its lines */
+  /** @param {Uint8Array[]} parts of its octets, each whole lines @param {Object} record what stands before its lines */
   constructor(parts, record) {
-    /** The parts that are read, and those that are still to be: their octets go when they were read. */
+    /** The parts that are read, and those that are still to be. */
     this.parts = [];
-    this.waiting = parts.map((text) => ({ text, octets: null }));
+    this.waiting = parts;
     this.record = record;
     /** By part, which line's record is the first there. @type {number[]} */
     this.firsts = [];
@@ -76,15 +78,14 @@ class LineSource {
     this.reader = new LineReader();
   }
 
-  /** The source of a text that is written line by line, as em_record writes it; null of another one. */
+  /** The source of a record that is written line by line, as em_record writes it; null of another one. */
   static of(parts) {
-    const begin = parts[0].indexOf(LINES_BEGIN);
-    if (begin < 0 || parts.slice(0, -1).some((part) => !part.endsWith("\n"))) return null;
-    const front = parts[0].slice(0, begin + LINES_BEGIN.length);
+    const begin = linesBegin(parts[0]);
+    if (begin < 0 || parts.slice(0, -1).some((part) => part[part.length - 1] !== NEWLINE)) return null;
     try {
-      const record = isRecord(JSON.parse(`${front.replace(/^\uFEFF/, "")}]}`));
+      const record = isRecord(JSON.parse(`${textOf(parts[0].subarray(0, begin))}]}`));
       return Object.keys(record).every((field) => FIELDS_BEFORE.includes(field))
-        ? new LineSource([parts[0].slice(front.length), ...parts.slice(1)], record) : null;
+        ? new LineSource([parts[0].subarray(begin), ...parts.slice(1)], record) : null;
     } catch {
       return null;
     }
@@ -96,49 +97,46 @@ class LineSource {
     want(this.isBehind, this.cut());
   }
 
-  /** The lines of a further part. @param {Part} part */
-  eachOf({ text, octets = null }, take) {
-    this.parts.push(text);
+  /** The lines of a further part. @param {Uint8Array} part */
+  eachOf(part, take) {
     if (this.isBehind) {
-      this.tail.push(text);
+      this.tail.push(textOf(part));
       return;
     }
-    const starts = this.startsOf(text), letters = octets ?? asciiOf(text);
+    const starts = [0], index = this.parts.push(part) - 1;
     this.firsts.push(this.count);
+    // (a line that takes events back has those read again that stand before it)
     this.starts.push(starts);
-    for (let i = 0; i + 1 < starts.length; i++) take(this.given(letters, text, starts[i], starts[i + 1]), this.count++);
-    const end = starts[starts.length - 1];
-    if (end === text.length) return;
-    this.isBehind = true;
-    this.tail.push(text.slice(end + LINES_END.length));
-  }
-
-  /** Where the records of a part begin, and where the last one ends. @private */
-  startsOf(part) {
-    const starts = [];
     let at = 0;
-    while (at < part.length && !part.startsWith(LINES_END, at)) {
+    while (at < part.length && !standsAt(part, at, LINES_END)) {
+      const line = this.given(part, at);
+      ({ at } = this);
       starts.push(at);
-      const end = part.indexOf("\n", at);
-      at = end < 0 ? part.length : end + 1;
+      take(line, this.count++);
     }
-    starts.push(at);
-    return Uint32Array.from(starts);
+    this.starts[index] = Uint32Array.from(starts);
+    if (at === part.length) return;
+    this.isBehind = true;
+    this.tail.push(textOf(part.subarray(at + LINES_END.length)));
   }
 
-  /** A line's record as it is read first: what is written as em_record does is read at once. @private */
-  given(octets, part, from, to) {
-    const read = octets && this.reader.read(octets, part, from, endOfLetters(octets, from, to));
-    const line = read ?? this.read(part, from, to);
+  /** The record of a line from a place on, as it is read first: what is written as em_record does is read at once. @private */
+  given(part, from) {
+    let line = this.reader.read(part, from);
+    this.at = this.reader.at;
+    if (!line) {
+      const end = part.indexOf(NEWLINE, from);
+      this.at = end < 0 ? part.length : end + 1;
+      line = this.read(part, from, this.at);
+    }
     this.behind = isObject(line) && Number.isInteger(line.line) ? line.line : this.behind;
     return line;
   }
 
   /** The record between two places of a part. @private */
   read(part, from, to) {
-    const end = endOfRecord(part, from, to);
     try {
-      const line = JSON.parse(part.slice(from, end));
+      const line = JSON.parse(recordText(part, from, to));
       this.behind = isObject(line) && Number.isInteger(line.line) ? line.line : this.behind;
       return line;
     } catch {
@@ -151,28 +149,27 @@ class LineSource {
     return cutOff(this.behind);
   }
 
+  /** In which part a record lies, and from where to where. @private @returns {[Uint8Array, number, number]} */
+  place(index) {
+    const at = partOf(this.firsts, index), starts = this.starts[at], i = index - this.firsts[at];
+    return [this.parts[at], starts[i], starts[i + 1]];
+  }
+
   line(index) {
-    if (this.newest.index !== index) {
-      const at = partOf(this.firsts, index);
-      const [starts, i] = [this.starts[at], index - this.firsts[at]];
-      this.newest = { index, line: this.read(this.parts[at], starts[i], starts[i + 1]) };
-    }
+    if (this.newest.index !== index) this.newest = { index, line: this.read(...this.place(index)) };
     return this.newest.line;
   }
 
   /** The digits of a frame are found in the text, and the line is not read. */
   frame(index, field) {
-    const at = partOf(this.firsts, index), part = this.parts[at], i = index - this.firsts[at];
-    const mark = `"${field}":"`, from = part.indexOf(mark, this.starts[at][i]) + mark.length;
-    if (from < mark.length || from >= this.starts[at][i + 1]) return this.line(index).events[0][field];
-    return part.slice(from, part.indexOf('"', from));
+    const text = recordText(...this.place(index)), mark = `"${field}":"`, from = text.indexOf(mark) + mark.length;
+    return from < mark.length ? this.line(index).events[0][field] : text.slice(from, text.indexOf('"', from));
   }
 
   /** (what a text has of its own has a mark before its quotation marks, so that this stands in none) */
   only(index) {
-    const at = partOf(this.firsts, index), part = this.parts[at], i = index - this.firsts[at];
-    const from = part.indexOf(ONLY_EVENT, this.starts[at][i]), to = this.starts[at][i + 1];
-    return from < 0 || from >= to ? null : part.slice(part.indexOf(",", from + ONLY_EVENT.length), endOfRecord(part, from, to));
+    const text = recordText(...this.place(index)), from = text.indexOf(ONLY_EVENT);
+    return from < 0 ? null : text.slice(text.indexOf(",", from + ONLY_EVENT.length));
   }
 
   end() {
@@ -187,13 +184,26 @@ class LineSource {
   }
 }
 
-/** The same of a record that is written as em_record does, by its octets: a comma and a newline may stand behind it. */
-function endOfLetters(octets, from, to) {
-  const end = octets[to - 1] === NEWLINE ? to - 1 : to;
-  return octets[end - 1] === COMMA ? end - 1 : end;
+/** Where the records of lines begin in octets; -1 where they do not. @param {Uint8Array} octets */
+function linesBegin(octets) {
+  for (let at = octets.indexOf(NEWLINE); at >= 0; at = octets.indexOf(NEWLINE, at + 1)) {
+    if (standsAt(octets, at, LINES_BEGIN)) return at + LINES_BEGIN.length;
+  }
+  return -1;
 }
 
-/** Where a record ends, without the comma and the blanks behind it. */
+/** The text of octets. @param {Uint8Array} octets */
+function textOf(octets) {
+  return DECODER.decode(octets);
+}
+
+/** The text of a record that stands between two places, without the comma and the blanks behind it. */
+function recordText(part, from, to) {
+  const text = textOf(part.subarray(from, to));
+  return text.slice(0, endOfRecord(text, 0, text.length));
+}
+
+/** Where a record ends in a text, without the comma and the blanks behind it. */
 function endOfRecord(part, from, to) {
   let end = to;
   while (end > from && " \n\r".includes(part[end - 1])) end -= 1;

@@ -87,7 +87,8 @@ class Timeline {
   constructor(app) {
     this.app = app;
     const { steps } = app.run;
-    this.view = new View(steps);
+    this.axes = new Axes(app.run);
+    this.view = new View(steps, this.axes.steps);
     this.whole = new WholeRun(app.run);
     /** the reverse steps that took something back, and the steps behind which they led */
     this.backs = Uint32Array.from(steps.backs.keys());
@@ -103,6 +104,8 @@ class Timeline {
       "to-end": () => app.jump(Infinity), play: () => this.play(!this.timer),
       narrower: () => this.zoom(1 / ZOOM_FACTOR), wider: () => this.zoom(ZOOM_FACTOR), whole: () => this.zoom(0),
     })) byId(id).addEventListener("click", go);
+    setHidden(byId("by-time"), !this.axes.byTime);
+    byId("by-time").addEventListener("click", () => this.turn());
     this.pointer = new Pointer(this);
     this.legend();
   }
@@ -135,6 +138,16 @@ class Timeline {
   zoom(factor) {
     this.view.zoom(factor, this.view.middle());
     this.changed();
+  }
+
+  /** Lies along times in the place of steps, or along steps again. */
+  turn() {
+    const { byTime, steps } = this.axes;
+    if (!byTime) return;
+    this.view.turn(this.view.axis.isTime ? steps : byTime);
+    setAttribute(byId("by-time"), "aria-pressed", this.view.axis.isTime);
+    this.app.wave.makeNames();
+    this.app.paint();
   }
 
   /** Moves the view by a part of its width. */
@@ -178,7 +191,9 @@ class Timeline {
     this.slider.value = String(app.step);
     setAttribute(this.slider, "aria-valuetext", app.stepText());
     setText(byId("where"), `event ${app.place.number} · step ${app.step} of ${app.run.steps.length - 1}`);
+    if (this.axes.times) setAttribute(byId("run"), "data-time", this.axes.text(app.step));
     const { first, count } = this.view;
+    setAttribute(this.analyser, "data-axis", this.view.axis.isTime ? "times" : "steps");
     setAttribute(this.analyser, "data-first", first.toFixed(3));
     setAttribute(this.analyser, "data-count", count.toFixed(3));
     this.paintOverview();
@@ -186,12 +201,12 @@ class Timeline {
 
   /** How tall the steps are above the signals. */
   height() {
-    return MARK_ROOM + LANE + (this.hasBranches ? LANE + ARC_ROOM : 4);
+    return MARK_ROOM + LANE + (this.hasBranches ? LANE + ARC_ROOM : 4) + (this.view.axis.isTime ? RULER : 0);
   }
 
   /** @private */
   paintOverview() {
-    const { run, step } = this.app, isLong = this.whole.isLong(widthOf(this.overview));
+    const { run, step } = this.app, { axis } = this.view, isLong = this.whole.isLong(widthOf(this.overview), axis);
     const height = isLong ? this.whole.height() : OVERVIEW_HEIGHT;
     const { context, width } = sized(this.overview, height);
     const apart = width / run.steps.length;
@@ -200,22 +215,22 @@ class Timeline {
     context.strokeStyle = palette.dim;
     context.strokeRect(first * apart + 0.5, 0.5, Math.max(2, Math.min(width, count * apart) - 1), height - 1);
     context.fillStyle = palette.accent;
-    context.fillRect(Math.min(width - 2, (step + 0.5) * apart - 1), 0, 2, height);
+    context.fillRect(Math.min(width - 2, Math.max(0, (axis.at(step) + axis.wide / 2) * apart - 1)), 0, 2, height);
   }
 
   /** The whole run as a picture, which is drawn once for each width, scheme and search. @private */
   wholeRun(width, height) {
-    const { run, search } = this.app;
-    const key = `${width} ${palette.version} ${window.devicePixelRatio} ${search.version}`;
+    const { run, search } = this.app, { axis } = this.view;
+    const key = `${axis.isTime} ${width} ${palette.version} ${window.devicePixelRatio} ${search.version}`;
     if (this.pictureKey === key) return this.picture;
     this.pictureKey = key;
     this.picture = new OffscreenCanvas(1, 1);
     const { context } = sized(this.picture, height, width);
-    if (this.whole.isLong(width)) this.whole.paint(context, width);
+    if (this.whole.isLong(width, axis)) this.whole.paint(context, width, axis);
     else paintTicks(context, run.steps, width / run.steps.length);
     context.fillStyle = palette.accent;
     const apart = width / run.steps.length;
-    for (const x of foundColumns(search.hits.steps, apart)) {
+    for (const x of foundColumns(search.hits.steps, apart, axis)) {
       context.fillRect(Math.min(x, width - 2), height - FOUND_ROW, Math.max(2, apart - 1), FOUND_ROW);
     }
     return this.picture;
@@ -224,7 +239,8 @@ class Timeline {
   /** Draws the steps at the top of the analyser. */
   paintSteps(context) {
     const { view } = this;
-    if (view.cell < LEAST_CELL) {
+    if (view.axis.isTime) paintRuler(context, view, this.height() - RULER);
+    if (view.isColumns) {
       this.paintColumns(context);
     } else {
       this.paintEach(context);
@@ -232,24 +248,25 @@ class Timeline {
     }
     this.backs.forEach((index, order) => {
       const to = this.targets[order];
-      const isSeen = (index - to) * view.cell >= LEAST_CELL && to < view.first + view.count && index >= view.first;
+      const [start, end] = [view.x(to), view.x(index)];
+      const isSeen = end - start >= LEAST_CELL && start < view.width && end + view.wide > 0;
       if (isSeen) this.paintWay(context, index, to, order % TRACKS);
     });
   }
 
   /** Draws many steps by columns: each kind by its share, those that were taken back below. @private */
   paintColumns(context) {
-    const columns = this.columns();
+    const columns = this.columns(), wide = this.view.axis.isTime ? 2 : 1;
     for (let column = 0; column < columns.count; column++) {
-      paintShares(context, columns.kinds, column, MARK_ROOM + 1, LANE - 2);
-      if (this.hasBranches) paintShares(context, columns.gone, column, MARK_ROOM + LANE + 1, LANE - 2);
+      paintShares(context, columns.kinds, column, MARK_ROOM + 1, LANE - 2, wide);
+      if (this.hasBranches) paintShares(context, columns.gone, column, MARK_ROOM + LANE + 1, LANE - 2, wide);
     }
     paintMarks(context, columns, this.whole.marks, 0, MARK_ROOM / Math.max(3, this.whole.marks.length));
   }
 
   /** What lies ahead in columns is fainter. */
   paintAhead(context) {
-    const { view, app: { step } } = this, from = Math.max(0, (step + 1 - view.first) * view.cell);
+    const { view, app: { step } } = this, from = Math.max(0, view.x(step) + Math.max(2, view.wide));
     context.globalAlpha = 1 - AHEAD;
     context.fillStyle = palette.panel;
     context.fillRect(from, MARK_ROOM, Math.max(0, view.width - from), LANE * (this.hasBranches ? 2 : 1));
@@ -313,10 +330,9 @@ class Timeline {
 
   /** The way from a reverse step to the event behind which it led. @private */
   paintWay(context, from, to, track) {
-    const { first, cell } = this.view;
-    const { steps } = this.app.run;
+    const { view } = this, { steps } = this.app.run;
     const isBranch = steps.performs.at(to) === 1 && steps.isOnBranch(to);
-    const [start, end] = [from, to].map((index) => (index - first + 0.5) * cell);
+    const [start, end] = [from, to].map((index) => view.x(index) + view.wide / 2);
     const tip = MARK_ROOM + LANE * (isBranch ? 2 : 1);
     const low = MARK_ROOM + 2 * LANE + 5 + (track * (ARC_ROOM - 8)) / (TRACKS - 1);
     const turn = Math.min(4, Math.abs(start - end) / 2);
@@ -357,12 +373,13 @@ function firstFrom(numbers, least) {
 /**
  * Where something was found, in points, each once.
  * @param {Uint32Array} steps
- * @param {number} apart points of a step
+ * @param {number} apart points of a place along the axis
+ * @param {StepAxis|TimeAxis} axis
  */
-function foundColumns(steps, apart) {
+function foundColumns(steps, apart, axis) {
   const columns = [];
   for (const step of steps) {
-    const column = apart < 1 ? Math.floor(step * apart) : step * apart;
+    const column = apart < 1 ? Math.floor(axis.at(step) * apart) : axis.at(step) * apart;
     if (columns[columns.length - 1] !== column) columns.push(column);
   }
   return columns;

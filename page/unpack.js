@@ -1,14 +1,11 @@
 // A long record stands in the page packed: gzip, in letters as base64 has them.
 
 const PACKED_TYPE = "application/gzip";
-/** A part of the text has about so many octets, and whole lines. */
-const PART_LENGTH = 2 ** 22;
 const SIXTY_FOUR = "ABCDEFGHIJKLMNOPQRSTUVWXYZabcdefghijklmnopqrstuvwxyz0123456789+/";
 /** So many octets are given to be unpacked at once. */
 const UNPACKED_AT_ONCE = 2 ** 17;
 /** Every so many milliseconds the page says how far it is. */
 const TOLD_EVERY = 200;
-const NEWLINE = 10;
 
 /** The octets that letters of base64 say. @param {string} text */
 function octetsOfLetters(text) {
@@ -29,63 +26,52 @@ function octetsOfLetters(text) {
   return octets.subarray(0, octets.length - missing);
 }
 
-/**
- * A part of a text: whole lines, and their octets where they are ASCII alone.
- * @typedef {Object} Part
- * @property {string} text
- * @property {Uint8Array|null} octets
- */
-
-/** Octets that come piece by piece, as parts of whole lines. */
+/** Octets that come piece by piece, as parts of whole lines. A piece is not copied, but for the lines at its ends. */
 class Parts {
-  constructor() {
-    this.pieces = [];
-    this.length = 0;
-    this.decoder = new TextDecoder();
+  /** @param {(part: Uint8Array) => void} take which may keep the octets */
+  constructor(take) {
+    this.take = take;
+    /** What came behind the last newline. */
+    this.begun = [];
   }
 
-  /** Takes a piece. @param {Uint8Array} piece @returns {Part|null} a part that is whole now */
+  /** Takes a piece. @param {Uint8Array} piece */
   push(piece) {
-    this.pieces.push(piece);
-    this.length += piece.length;
-    if (this.length < PART_LENGTH || !piece.includes(NEWLINE)) return null;
-    const octets = this.joined(), end = octets.lastIndexOf(NEWLINE) + 1;
-    this.pieces = [octets.subarray(end)];
-    this.length = octets.length - end;
-    return this.part(octets.subarray(0, end));
-  }
-
-  /** What is left at the end. @returns {Part} */
-  end() {
-    return this.part(this.joined());
-  }
-
-  /** @private */
-  joined() {
-    const octets = new Uint8Array(this.length);
-    let at = 0;
-    for (const piece of this.pieces) {
-      octets.set(piece, at);
-      at += piece.length;
+    const first = piece.indexOf(NEWLINE) + 1, last = piece.lastIndexOf(NEWLINE) + 1, { begun } = this;
+    if (first === 0) {
+      begun.push(piece);
+      return;
     }
-    return octets;
+    this.begun = last < piece.length ? [piece.slice(last)] : [];
+    if (begun.length) this.take(joined([...begun, piece.subarray(0, first)]));
+    const from = begun.length ? first : 0;
+    if (from < last) this.take(piece.subarray(from, last));
   }
 
-  /** @private */
-  part(octets) {
-    const text = this.decoder.decode(octets);
-    return { text, octets: text.length === octets.length ? octets : null };
+  end() {
+    if (this.begun.length) this.take(joined(this.begun));
   }
+}
+
+/** Pieces as one. @param {Uint8Array[]} pieces */
+function joined(pieces) {
+  const octets = new Uint8Array(pieces.reduce((sum, { length }) => sum + length, 0));
+  let at = 0;
+  for (const piece of pieces) {
+    octets.set(piece, at);
+    at += piece.length;
+  }
+  return octets;
 }
 
 /**
  * Unpacks a record's text, and gives each part of it as soon as it is there.
  * @param {string} letters
- * @param {(part: Part) => void} take
+ * @param {(part: Uint8Array) => void} take
  * @param {(share: number) => void} tell how much of it is unpacked
  */
 async function unpack(letters, take, tell) {
-  const octets = octetsOfLetters(letters), parts = new Parts();
+  const octets = octetsOfLetters(letters), parts = new Parts(take);
   const { readable, writable } = new DecompressionStream("gzip"), writer = writable.getWriter();
   let shown = performance.now();
   const write = async () => {
@@ -102,10 +88,9 @@ async function unpack(letters, take, tell) {
     for (const reader = readable.getReader(); ;) {
       const { done, value } = await reader.read();
       if (done) break;
-      const part = parts.push(value);
-      if (part) take(part);
+      parts.push(value);
     }
-    take(parts.end());
+    parts.end();
   };
   await Promise.all([write(), read()]);
 }

@@ -14,9 +14,10 @@ const LEAST_DRAG = 4;
 const MOVED_PART = 0.25;
 
 class View {
-  /** @param {Steps} steps */
-  constructor(steps) {
+  /** @param {Steps} steps @param {StepAxis|TimeAxis} axis */
+  constructor(steps, axis) {
     this.steps = steps;
+    this.axis = axis;
     this.wanted = FIRST_CELL;
     /** The first step that is shown, or a part of it; how wide a step is; how many are shown. */
     this.first = 0;
@@ -27,9 +28,35 @@ class View {
     this.step = -1;
   }
 
-  /** How wide a step is where the whole run is shown: a short run is not spread beyond the widest. */
+  /** How wide a step is where the whole run is shown: steps of a short run are not spread beyond the widest. */
   get least() {
-    return Math.min(WIDEST_CELL, this.width / this.steps.length);
+    return Math.min(this.axis.isTime ? Infinity : WIDEST_CELL, this.width / this.steps.length);
+  }
+
+  get most() {
+    return WIDEST_CELL * this.axis.widest;
+  }
+
+  /** Whether columns of points are drawn, and no steps. */
+  get isColumns() {
+    return this.axis.isTime || this.cell < LEAST_CELL;
+  }
+
+  /** Lies along something else from now on, and shows all of it, or steps as at first. */
+  turn(axis) {
+    this.axis = axis;
+    this.wanted = axis.isTime ? 0 : FIRST_CELL;
+    this.step = -1;
+  }
+
+  /** Where a step begins, in points. */
+  x(step) {
+    return (this.axis.at(step) - this.first) * this.cell;
+  }
+
+  /** How wide a step is, in points. */
+  get wide() {
+    return this.axis.wide * this.cell;
   }
 
   /** Fits the view into a width, and brings the present step in sight where that is another one. */
@@ -37,16 +64,16 @@ class View {
     const isOther = step !== this.step;
     this.width = width;
     this.step = step;
-    this.cell = Math.max(this.least, Math.min(WIDEST_CELL, this.wanted));
+    this.cell = Math.max(this.least, Math.min(this.most, this.wanted));
     this.count = width / this.cell;
-    const margin = Math.min(2, this.count / 4);
-    if (isOther && (step < this.first + margin || step + 1 > this.first + this.count - margin)) this.centre(step);
+    const margin = Math.min(2, this.count / 4), place = this.axis.at(step), end = place + this.axis.wide;
+    if (isOther && (place < this.first + margin || end > this.first + this.count - margin)) this.centre(place);
     this.clamp();
   }
 
   /** @private */
-  centre(step) {
-    this.first = step + 0.5 - this.count / 2;
+  centre(place) {
+    this.first = place + this.axis.wide / 2 - this.count / 2;
   }
 
   /** @private */
@@ -57,7 +84,7 @@ class View {
   /** Zooms by a factor; what lies at a point stays there. @param {number} x in points */
   zoom(factor, x) {
     const there = this.first + x / this.cell;
-    this.wanted = Math.max(this.least, Math.min(WIDEST_CELL, this.cell * factor));
+    this.wanted = Math.max(this.least, Math.min(this.most, this.cell * factor));
     this.cell = this.wanted;
     this.count = this.width / this.cell;
     this.first = there - x / this.cell;
@@ -66,7 +93,7 @@ class View {
 
   /** Where a key zooms: at the present step, where it is in sight, and else in the middle. */
   middle() {
-    const x = (this.step + 0.5 - this.first) * this.cell;
+    const x = this.x(this.step) + this.wide / 2;
     return x >= 0 && x <= this.width ? x : this.width / 2;
   }
 
@@ -78,12 +105,12 @@ class View {
 
   /** The step at a point. */
   stepAt(x) {
-    return Math.floor(this.first + x / this.cell);
+    return this.axis.stepAt(this.first + x / this.cell);
   }
 
   /** All that a picture of it goes by. */
   key() {
-    return `${this.first} ${this.cell} ${this.width}`;
+    return `${this.axis.isTime} ${this.first} ${this.cell} ${this.width}`;
   }
 }
 
@@ -117,7 +144,7 @@ class Pointer {
     const { app, view } = this.timeline;
     const go = (event) => {
       const box = canvas.getBoundingClientRect();
-      app.goTo(Math.floor(((event.clientX - box.left) / box.width) * view.steps.length));
+      app.goTo(view.axis.stepAt(((event.clientX - box.left) / box.width) * view.steps.length));
     };
     canvas.addEventListener("pointerdown", (event) => {
       app.address.leave();

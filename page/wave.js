@@ -32,14 +32,14 @@ function runsOf(at, first, count) {
  */
 
 /** The signals of a view by columns, one for each point. @param {Steps} steps @returns {SignalColumns} */
-function signalColumnsOf(steps, { first, cell, width }) {
+function signalColumnsOf(steps, { axis, first, cell, width }) {
   const count = Math.ceil(width), { places, events, icr, ims } = steps;
   const [icrAny, imsAny, framesMost] = Array.from({ length: 3 }, () => new Uint32Array(count));
   const [icrAll, framesLeast] = Array.from({ length: 2 }, () => new Uint32Array(count).fill(0xFFFFFFFF));
   const signalsAny = new Uint8Array(count), signalsAll = new Uint8Array(count).fill(0xFF);
-  const from = Math.max(0, Math.floor(first)), end = Math.min(steps.length, Math.ceil(first + count / cell));
-  for (let step = from; step < end; step++) {
-    const column = Math.max(0, Math.min(count - 1, Math.floor((step - first) * cell))), number = places.at(step);
+  const [from, end] = axis.range(first, first + count / cell);
+  const gather = (step, column) => {
+    const number = places.at(step);
     const [signals, frames] = [events.signals.at(number), events.frames.at(number)];
     icrAny[column] |= icr.at(step);
     icrAll[column] &= icr.at(step);
@@ -48,7 +48,18 @@ function signalColumnsOf(steps, { first, cell, width }) {
     signalsAll[column] &= signals;
     if (frames > framesMost[column]) framesMost[column] = frames;
     if (frames < framesLeast[column]) framesLeast[column] = frames;
+  };
+  // between two times all stays as it was
+  let column = 0;
+  const stay = (step, until) => {
+    for (; axis.isTime && step >= 0 && column <= until; column++) gather(step, column);
+  };
+  for (let step = from; step < end; step++) {
+    const at = Math.max(0, Math.min(count - 1, Math.floor((axis.at(step) - first) * cell)));
+    stay(step - 1, at);
+    gather(step, at);
   }
+  stay(end - 1, count - 1);
   return { icrAny, icrAll, imsAny, signalsAny, signalsAll, framesMost, framesLeast };
 }
 
@@ -126,13 +137,13 @@ class Wave {
   paint() {
     const height = this.height(), { context, width } = sized(byId("analyser"), height);
     this.paintPresent(context, palette.shade, 0);
-    if (this.timeline.view.cell < LEAST_CELL) {
+    if (this.timeline.view.isColumns) {
       context.drawImage(this.picture(width, height), 0, 0, width, height);
       this.timeline.paintAhead(context);
     } else {
       this.paintAll(context, width);
     }
-    this.paintPresent(context, palette.accent, Math.max(0, this.timeline.view.cell - 1.5));
+    this.paintPresent(context, palette.accent, Math.max(0, this.timeline.view.wide - 1.5));
     this.rows.forEach((one) => this.paintName(one));
     for (const lane of this.app.lanes.list) {
       const text = lane.at(this.app.step);
@@ -167,7 +178,7 @@ class Wave {
     const { view } = this.timeline, end = this.app.run.steps.length, ends = [y + 4, y + this.row() - 4];
     context.fillStyle = palette.line;
     context.fillRect(0, y, width, 1);
-    (view.cell < LEAST_CELL ? paintLaneColumns : paintLane)(context, lane, view, ends, end);
+    (view.isColumns ? paintLaneColumns : paintLane)(context, lane, view, ends, end);
   }
 
   /** @private */
@@ -186,9 +197,9 @@ class Wave {
 
   /** The place where one is, from the steps down over every signal: its ground, or the line behind it. @private */
   paintPresent(context, colour, from) {
-    const { first, cell } = this.timeline.view;
+    const { view } = this.timeline;
     context.fillStyle = colour;
-    context.fillRect((this.app.step - first) * cell + from, 0, Math.max(1.5, cell - from), this.height());
+    context.fillRect(view.x(this.app.step) + from, 0, Math.max(1.5, view.wide - from), this.height());
   }
 
   /** @private */
@@ -198,7 +209,7 @@ class Wave {
     context.moveTo(0, y + 0.5);
     context.lineTo(width, y + 0.5);
     context.stroke();
-    if (this.timeline.view.cell < LEAST_CELL) this.paintColumns(context, row, y);
+    if (this.timeline.view.isColumns) this.paintColumns(context, row, y);
     else this.paintEach(context, row, y);
   }
 

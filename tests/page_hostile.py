@@ -14,7 +14,9 @@ from tally import TOP, Tally
 CUTS, MUTATIONS, PACKED_LINES = 200, 500, 60_000
 MOST_LETTERS = 300
 # these two stand within words of some scripts; the others of their kind are marks of Arabic and Syriac numbers
-JOINERS = {0x200C, 0x200D, *range(0x600, 0x606), 0x6DD, 0x70F, 0x890, 0x891, 0x8E2}
+JOINERS = {0x200C, 0x200D, *range(0x600, 0x606), 0x6DD, 0x70F, 0x890, 0x891, 0x8E2, 0x110BD, 0x110CD}
+# marks of other kinds that take no room, or are blank
+BLANKS = {0x34F, 0x115F, 0x1160, 0x17B4, 0x17B5, 0x180B, 0x180C, 0x180D, 0x180F, 0x3164, 0xFFA0}
 TITLE = b"A run of the 82540EM"
 RUNS = "window.ran = 1"
 HOSTILE_LINES = [
@@ -27,6 +29,7 @@ HOSTILE_LINES = [
     "w 00100 0 # \u202e 8002 w 00100".encode().decode("latin-1"),
     "# \u2066 \u2067 \u2068 \u2069 \u200e \u200f \u061c \u200b \u202a \u202b \u202c \u202d \u2060 \u2029".encode().decode("latin-1"),
     "# \u00ad \u0085 \u0093, \u05e9\u05dc\u05d5\u05dd \u0645\u0631\u062d\u0628\u0627 \u200d".encode().decode("latin-1"),
+    "# \u034f \u3164 \uffa0 \u115f \u180b \U000e0041\U000e007f \U000e0101 \U0001d173 \U00013430 ".encode().decode("latin-1"),
     "# no UTF-8: \xff\xfe\xc0\x80 \xed\xa0\x80",
     "link up", "w D0 4", "&", "", " ", "back 3", "__proto__", "r constructor",
 ]
@@ -46,7 +49,10 @@ if (!run.hidden) {
     asks[Math.floor(part * asks.length)].click();
   }
 }
-return { broken: broken.hidden ? '' : broken.textContent, run: !run.hidden, steps, ran: window.ran ?? null,
+const texts = [document.body.innerText, ...[...document.querySelectorAll('*')].flatMap((one) =>
+  ['title', 'aria-label', 'aria-valuetext'].map((name) => one.getAttribute(name) ?? ''))];
+const marks = texts.join('').match(/[\\p{Cf}\\p{Zl}\\p{Zp}\\u0080-\\u009F\\u3164\\uFFA0]/gu) ?? [];
+return { unseen: [...new Set(marks)], broken: broken.hidden ? '' : broken.textContent, run: !run.hidden, steps, ran: window.ran ?? null,
   scripts: document.scripts.length, seen: document.body.innerText.trim().length };
 """
 
@@ -68,6 +74,7 @@ def steps_before(cut: bytes) -> int:
 
 def faults_of(shown: dict, console: list[str], must_be_broken: bool) -> list[str]:
     faults = [f"on the console: {message}" for message in console]
+    faults += [f"U+{ord(mark):04X} can't be seen" for mark in shown["unseen"] if ord(mark) not in JOINERS]
     if shown["ran"] is not None or shown["scripts"] != 2:
         faults.append("a script of the record ran")
     if not shown["broken"] and not shown["run"]:
@@ -153,6 +160,8 @@ def hostile_records(seed: int = 82540) -> list[tuple[str, bytes, bool]]:
         made.append((f"{name}, mutation {number}", change(r, record), False))
     name, record = records[0]
     made += [
+        ("a register that turns the direction of writing",
+         record.replace(b'"registers":{"CTRL"', '"registers":{"\u202eCTRL \u00ad\U000e0041"'.encode(), 1), True),
         ("another version", record.replace(b'"version":2', b'"version":1'), True),
         ("another format", record.replace(b"bunjelav recording", b"a recording"), True),
         ("no record", b"", True), ("no object", b"[]", True), ("null", b"null", True), ("text", b"not JSON", True),
@@ -169,7 +178,8 @@ def shown_as(letter: str) -> str:
     if code < 32 or code == 127:
         return chr(0x2400 + code) if code < 32 else "\u2421"
     is_unseen = unicodedata.category(letter) in ("Cc", "Cf", "Zl", "Zp") and code not in JOINERS
-    return f"\u27e8U+{code:04X}\u27e9" if is_unseen and code < 0x10000 else letter
+    is_unseen = is_unseen or code in BLANKS or 0xE0000 <= code < 0xE1000
+    return f"\u27e8U+{code:04X}\u27e9" if is_unseen else letter
 
 
 def visible(text: str) -> str:
@@ -189,10 +199,14 @@ def hostile_scripts(tally: Tally, browser, room: Path) -> None:
     texts = browser.run("""
       const script = document.getElementById('script');
       script.style.setProperty('height', '4000px');
-      return new Promise((done) => setTimeout(() => done(
-        [...script.querySelectorAll('[role=option] .text')].map((one) => [one.closest('[data-line]').dataset.line,
-            one.textContent])), 300));
-    """)
+      const shown = () => [...script.querySelectorAll('[role=option] .text')];
+      return new Promise((done) => {
+        let left = 200;
+        const ask = () => (shown().length < arguments[0] && left-- ? setTimeout(ask, 50) : done(shown().map((one) =>
+          [one.closest('[data-line]').dataset.line, one.textContent])));
+        ask();
+      });
+    """, len(HOSTILE_LINES))
     wanted = {str(number): visible(text) for number, text in enumerate(json.loads(record)["script"], 1)}
     faults = [f"line {number} is shown as {text[:80]!r}, and not {wanted[number][:80]!r}"
               for number, text in texts if text != wanted[number]]
@@ -277,7 +291,7 @@ def titles(tally: Tally, room: Path) -> None:
     for name, shown in (
         ("two words.em", b"two words.em"), ("a&b<c>.em", b"a&amp;b&lt;c&gt;.em"), ("a|b\\1.em", b"a|b\\1.em"),
         ("@RECORD@.em", b"&#64;RECORD&#64;.em"), ("\u202eme.exe", b"?me.exe"), ("line\nend", b"line?end"),
-        ("\u00e4.em", "\u00e4.em".encode()),
+        ("\u00e4.em", "\u00e4.em".encode()), ("a\u00ad\U000e0041\u180eb.em", b"a???b.em"),
     ):
         file = room / name
         file.write_bytes(record)

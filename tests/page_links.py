@@ -16,6 +16,24 @@ LINK = "return document.getElementById('here').getAttribute('href')"
 BAD = "const bad = document.getElementById('bad-link'); return bad.hidden ? '' : bad.textContent"
 # the address bar follows a moment behind a step
 RESTED = "return new Promise((done) => setTimeout(() => done(location.hash), 400))"
+# gone through the browser's history: where that led, as soon as the page has followed. The browser leads there in its own time
+WENT = """
+const before = location.hash;
+history.go(arguments[0]);
+return new Promise((done) => {
+  let left = 200;
+  const ask = () => (location.hash === before && left-- ? setTimeout(ask, 50) : setTimeout(() => done(location.hash), 400));
+  ask();
+});
+"""
+# the same of a link that is typed
+FOLLOWED = f"const place = () => {{ {PLACE} }};" + """
+if (location.hash === arguments[0]) return place();
+return new Promise((done) => {
+  addEventListener('hashchange', () => setTimeout(() => done(place()), 0), { once: true });
+  location.hash = arguments[0];
+});
+"""
 WATCHES = ["register RDT", "register STATUS", "bits RCTL 2", "octets 4128 8", "link", "interrupt", "frames", "sent"]
 # what a link says, and what the page says of it
 BAD_LINKS = [
@@ -63,9 +81,7 @@ def places(tally: Tally, browser, room: Path) -> None:
             else ["two are the same"])
         faults = []
         for link, place in links.values():
-            browser.run("location.hash = arguments[0]", link)
-            faults += [] if browser.run(f"return new Promise((done) => setTimeout(() => done((() => {{{PLACE}}})()), 20))") == place \
-                else [f"{link} leads elsewhere"]
+            faults += [] if browser.run(FOLLOWED, link) == place else [f"{link} leads elsewhere"]
         for link, place in list(links.values())[::7]:
             opened_at(browser, page, link)
             faults += [] if browser.run(PLACE) == place else [f"opened by {link}, the page is elsewhere"]
@@ -105,11 +121,11 @@ def history(tally: Tally, browser, room: Path) -> None:
     browser.run(RESTED)
     seen = []
     for way in ("back", "back", "back", "forward", "forward", "forward"):
-        seen.append(browser.run(f"history.{way}(); {RESTED}"))
+        seen.append(browser.run(WENT, -1 if way == "back" else 1))
         place = browser.run(PLACE)
         if seen[-1].startswith("#event") and place[1] != seen[-1].partition("=")[2].partition("&")[0]:
             tally.check(f"{way} to {seen[-1]}", [f"the page is at {place}"])
-    first = browser.run("history.go(-3); " + RESTED)
+    first = browser.run(WENT, -3)
     is_so = seen[3:] == [seen[1], seen[0], "#step=0"] and first == seen[2] == "#event=13" and len(set(seen[:3])) == 3
     is_so = is_so and "who=RDT" in seen[0] and "who=001020+8" in seen[1]
     tally.check("back and forward", [] if is_so else [f"they lead to {seen}, {first}"])

@@ -41,7 +41,7 @@ def saved(browser, room: Path, button: str) -> bytes:
     for file in room.iterdir():
         file.unlink()
     browser.run("document.getElementById(arguments[0]).click()", button)
-    for _ in range(200):
+    for _ in range(600):
         files = [file for file in room.iterdir() if file.suffix != ".crdownload" and not file.name.startswith(".")]
         octets = files[0].read_bytes() if files else b""
         if octets:
