@@ -7,6 +7,7 @@ pub mod laws;
 mod lines;
 mod reads;
 mod rings;
+mod rule;
 mod rules;
 mod said;
 mod warning;
@@ -15,6 +16,7 @@ mod written;
 
 pub use lines::{Found, count_found, found_of, is_asked, write_found};
 pub use reads::read_again;
+pub use rule::Rule;
 pub use rules::{RULES, warnings_of};
-pub use said::write_warning;
+pub use said::{ALL_RULES, write_said, write_warning};
 pub use warning::Warning;
