@@ -30,5 +30,6 @@ pub mod StepsLaws
 pub mod StopsLaws
 pub mod TextLaws
 pub mod ToldLaws
+pub mod WarningsLaws
 pub mod WhoLaws
 pub mod WhyLaws

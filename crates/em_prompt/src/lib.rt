@@ -31,6 +31,7 @@ pub use command::Command;
 pub use fault::Fault;
 pub use help::{write_help, write_whole_help};
 pub use kind::{Choice, Kind};
+pub use near::{begins, is_near};
 pub use number::Number;
 pub use prompt::prompted;
 pub use script_line::{is_plain, scripted};

@@ -1,6 +1,6 @@
-use Rattle.std.proofs.Common.{refl}
+use Rattle.std.proofs.Common.{refl, ◌+◌, ap}
 use Rattle.std.proofs.lemmas.Result.{MatchResult-from_err}
-use Rattle.em_text.proofs.WritingLemmas.{Writes-more, WritesPart-front}
+use Rattle.em_text.proofs.WritingLemmas.{Writes-more, WritesPart-front, WritesPart-more}
 use Rattle.em_debugger.specs.Played.{ended_text}
 use Rattle.em_debugger.proofs.debugger.Debugger.run_all.Goals as goal
 
@@ -9,16 +9,7 @@ returns g c = (
   c.play_all-fault.result.0,
   c.play_all-fault.result.1,
   c.play_all-fault.ensures,
-  Writes-more _ _ _ _ _ _ _
-      c.in_ok-write_played.ensures.writes c.write_ended.ensures.writes refl,
-)
-
-pub returns-in_err-write_played : goal.returns-in_err-write_played
-returns-in_err-write_played g c = (
-  c.play_all-fault.result.0,
-  c.play_all-fault.result.1,
-  c.play_all-fault.ensures,
-  MatchResult-from_err _ _ _
-      c.from_residual.ensures.0 (λ _.
-      WritesPart-front (ended_text c.play_all-fault.result.1) c.in_err-write_played.ensures.writes refl),
+  rw (c.line_here-before.ensures.line, c.line_here.ensures.line) at
+      (Writes-more _ _ _ _ _ _ _ c.in_ok-write_played.ensures.writes
+      (Writes-more _ _ _ _ _ _ _ c.in_ok-write_summary.ensures.writes c.write_ended.ensures.writes refl) refl),
 )
