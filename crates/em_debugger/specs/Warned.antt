@@ -1,6 +1,6 @@
 -- The lines that have warnings, rule by rule.
-use Rattle.std.specs.Prelude.{ℕ, ◌+◌, ◌-◌, ◌==◌, nat_lt, Bool, if◌then◌else◌, List, [], ◌∷◌, ◌++◌, codes, filter, find, length}
-use Rattle.std.specs.Prelude.{Option, Some, None, is_some}
+use Rattle.std.specs.Prelude.{ℕ, ◌+◌, ◌-◌, ◌==◌, nat_lt, Bool, if◌then◌else◌, Option, Some, None, is_some}
+use Rattle.std.specs.Prelude.{List, [], ◌∷◌, ◌++◌, codes, filter, find, length}
 use Rattle.std.specs.List.{flat_map, range_with_len}
 use Rattle.em_looks.specs.Numbers.{count_text, number_text}
 use Rattle.em_named.specs.Numbers.{end_of}
@@ -59,7 +59,8 @@ tally d first end rules = tally_from d first end (record { warnings = 0; rules =
 abbrev pub tally_text : Tally → List ℕ
 tally_text t =
     if t.warnings == 1 then codes "1 warning, " else
-    number_text [] t.warnings (codes " warnings of ") ++ count_text t.rules (codes "1 rule, first ") (codes " rules, first ")
+    number_text [] t.warnings (codes " warnings of ")
+    ++ count_text t.rules (codes "1 rule, first ") (codes " rules, first ")
 
 -- how many they are, from the first line of them on, and where that is
 abbrev pub some_text : Debugger → ℕ → ℕ → List ℕ

@@ -2,11 +2,12 @@
 ghost use Rattle.std.specs.Prelude.{◌≡◌, ◌+◌, ◌<◌, ◌≤◌, is_some, length};
 ghost use Rattle.em_text.specs.Writer.{Writes};
 ghost use Rattle.em_debugger.specs.Place.{line_here};
-ghost use Rattle.em_debugger.specs.Warned.{all_text, asked_text, begun, count_warned, end_text, first_said, first_text};
-ghost use Rattle.em_debugger.specs.Warned.{first_warned, is_said, is_warned, mistyped, name_text, names_text, near_rule};
-ghost use Rattle.em_debugger.specs.Warned.{near_text, no_rule_text, none_near_text, place_line, place_text, places_text};
-ghost use Rattle.em_debugger.specs.Warned.{rule_text, rules_text, said_text, some_text, summary_text, tally, tally_text};
-ghost use Rattle.em_debugger.specs.Warned.{text_of_rule, warned_text, warning_at};
+ghost use Rattle.em_debugger.specs.Warned.{all_text, asked_text, begun, count_warned, end_text, first_said};
+ghost use Rattle.em_debugger.specs.Warned.{first_text, first_warned, is_said, is_warned, mistyped, name_text};
+ghost use Rattle.em_debugger.specs.Warned.{names_text, near_rule, near_text, no_rule_text, none_near_text};
+ghost use Rattle.em_debugger.specs.Warned.{place_line, place_text, places_text, rule_text, rules_text, said_text};
+ghost use Rattle.em_debugger.specs.Warned.{some_text, summary_text, tally, tally_text, text_of_rule, warned_text};
+ghost use Rattle.em_debugger.specs.Warned.{warning_at};
 
 use crate::debugger::Debugger;
 use crate::marks::write_line_number;
@@ -97,15 +98,16 @@ impl Debugger {
 
     // ---- behind lines that were played
 
-    /// Writes how many warnings lines have, from one up to before another, and where the first stands; nothing, where none has
-    /// any.
+    /// Writes how many warnings lines have, from one up to before another, and where the first stands; nothing, where
+    /// none has any.
     pub(crate) fn write_summary<W: Write>(
         &self,
         writer: &mut W,
         first: usize,
         end: usize,
     ) -> Result<(), WriteFailed>
-        ensures writes { Writes (W.contents writer.old) (W.contents writer.new) result (summary_text self.now first end) }
+        ensures writes { Writes (W.contents writer.old) (W.contents writer.new) result
+            (summary_text self.now first end) }
     {
         match self.first_said(first, end) {
             Some(first) => self.write_some(writer, first, end),
@@ -159,7 +161,8 @@ impl Debugger {
         rules: &[Rule],
         end: usize,
     ) -> Result<(), WriteFailed>
-        ensures writes { Writes (W.contents writer.old) (W.contents writer.new) result (rules_text self.now end rules.now) }
+        ensures writes { Writes (W.contents writer.old) (W.contents writer.new) result
+            (rules_text self.now end rules.now) }
     {
         for rule in rules {
             self.write_rule(writer, *rule, end)?;
@@ -190,7 +193,8 @@ impl Debugger {
         end: usize,
         first: usize,
     ) -> Result<(), WriteFailed>
-        ensures writes { Writes (W.contents writer.old) (W.contents writer.new) result (first_text self.now end rule first) }
+        ensures writes { Writes (W.contents writer.old) (W.contents writer.new) result
+            (first_text self.now end rule first) }
     {
         write_pieces(writer, &[rule.name().as_bytes(), b": "])?;
         let count = self.count_warned(rule, first, end) as u64;
@@ -206,7 +210,8 @@ impl Debugger {
         rule: Rule,
         line: usize,
     ) -> Result<(), WriteFailed>
-        ensures writes { Writes (W.contents writer.old) (W.contents writer.new) result (text_of_rule self.now rule line) }
+        ensures writes { Writes (W.contents writer.old) (W.contents writer.new) result
+            (text_of_rule self.now rule line) }
     {
         write_if_said(writer, self.warning_at(rule, line))?;
         write_whole(writer, b"\n")
@@ -335,7 +340,13 @@ fn write_near<W: Write>(writer: &mut W, word: &[u8], near: Rule) -> Result<(), W
 {
     write_pieces(
         writer,
-        &[b"no rule ", word, b", near: ", near.name().as_bytes(), b"\n"],
+        &[
+            b"no rule ",
+            word,
+            b", near: ",
+            near.name().as_bytes(),
+            b"\n",
+        ],
     )
 }
 
@@ -362,8 +373,8 @@ fn write_name<W: Write>(writer: &mut W, rule: Rule) -> Result<(), WriteFailed>
     write_pieces(writer, &[b" ", rule.name().as_bytes()])
 }
 
-/// The first rule that may be meant by a word: its name is the word but for one letter, or two that are turned; else one whose
-/// name begins with the word.
+/// The first rule that may be meant by a word: its name is the word but for one letter, or two that are turned; else
+/// one whose name begins with the word.
 fn near_rule(word: &[u8]) -> Option<Rule>
     ensures { result ≡ near_rule word.now }
 {

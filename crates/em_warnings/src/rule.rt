@@ -37,7 +37,11 @@ impl Rule {
     pub fn said(self, warnings: &[Option<Warning>]) -> Option<Warning>
         ensures { result ≡ said_by self warnings.now }
     {
-        match warnings.iter().copied().find(|warning| self.is_of(*warning)) {
+        match warnings
+            .iter()
+            .copied()
+            .find(|warning| self.is_of(*warning))
+        {
             Some(warning) => warning,
             None => None,
         }

@@ -89,7 +89,7 @@ macro_rules! told {
 const RULE_COUNT: usize = table!(count 0);
 
 /// All rules, in their order.
-pub static ALL_RULES: [Rule; RULE_COUNT] = table!(all ());
+pub static ALL_RULES: [Rule; RULE_COUNT] = table!(all());
 
 impl Rule {
     ghost use Rattle.std.specs.Prelude.{◌≡◌};
