@@ -10,7 +10,7 @@ ghost use Rattle.em_debugger.specs.Played.{CountsUp, PlaysAll};
 
 use crate::debugger::Debugger;
 use crate::performing::{Performed, write_fault};
-use crate::place::line_here;
+use crate::place::behind_here;
 use em_looks::{write_count, write_number};
 use em_script::{BenchFault, Outcome};
 use em_text::{WriteFailed, write_whole};
@@ -72,10 +72,10 @@ impl Debugger {
         ensures { (played : Count) × (fault : Option Fault) × PlaysAll self.old self.new played fault
             × Writes (W.contents writer.old) (W.contents writer.new) result (ran_text self.old self.new played fault) }
     {
-        let before = line_here(&self.tape);
+        let first = behind_here(&self.tape);
         let (played, fault) = self.play_all();
         self.write_played(writer, played)?;
-        self.write_summary(writer, before + 1, line_here(&self.tape) + 1)?;
+        self.write_summary(writer, first, behind_here(&self.tape))?;
         write_ended(writer, fault)
     }
 

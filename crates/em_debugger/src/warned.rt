@@ -11,7 +11,7 @@ ghost use Rattle.em_debugger.specs.Warned.{warning_at};
 
 use crate::debugger::Debugger;
 use crate::marks::write_line_number;
-use crate::place::line_here;
+use crate::place::behind_here;
 use crate::who::write_noted;
 use em_looks::{write_count, write_number};
 use em_prompt::{begins, is_near};
@@ -93,7 +93,7 @@ impl Debugger {
     pub fn has_warnings(&self) -> bool
         ensures { result ≡ is_some (first_said self.now 1 (line_here self.now.tape + 1)) }
     {
-        self.first_said(1, line_here(&self.tape) + 1).is_some()
+        self.first_said(1, behind_here(&self.tape)).is_some()
     }
 
     // ---- behind lines that were played
@@ -148,7 +148,7 @@ impl Debugger {
     pub(crate) fn list_warnings<W: Write>(&self, writer: &mut W) -> Result<(), WriteFailed>
         ensures writes { Writes (W.contents writer.old) (W.contents writer.new) result (warned_text self.now) }
     {
-        let end = line_here(&self.tape) + 1;
+        let end = behind_here(&self.tape);
         match self.first_said(1, end) {
             Some(_) => self.write_rules(writer, &ALL_RULES, end),
             None => write_whole(writer, b"no warnings\n"),
@@ -236,7 +236,7 @@ impl Debugger {
     fn write_all<W: Write>(&self, writer: &mut W, rule: Rule) -> Result<(), WriteFailed>
         ensures writes { Writes (W.contents writer.old) (W.contents writer.new) result (all_text self.now rule) }
     {
-        let end = line_here(&self.tape) + 1;
+        let end = behind_here(&self.tape);
         self.write_places(writer, rule, end)?;
         write_end(writer, rule, self.count_warned(rule, 1, end) as u64)
     }
