@@ -33,6 +33,10 @@ says_set old items new k s found stay within e is = record {
   others = λ n ne. ap (said_behind n) e ∙ set-other items n k s ne ∙ stay n;
 }
 
+pub says_put : (items new : List Said) (k : ℕ) (s : Said) (found : Option (List (Option Warning)))
+    → k < length items → new ≡ slice_set items k s → opened s ≡ told_by found → SaysSo k found items new
+says_put items new k s found within e is = says_set items items new k s found (λ n. refl) within e is
+
 -- the same behind lines beside which the same stood
 pub says_since : (old items new : List Said) (k : ℕ) (found : Option (List (Option Warning)))
     → StaySaid old items → SaysSo k found items new → SaysSo k found old new

@@ -1,5 +1,5 @@
 //! What the rules that tell what drivers get wrong said of the lines.
-ghost use Rattle.std.specs.Prelude.{◌≡◌, ◌<◌, ◌≤◌, IfErr, IsSome, OnOk, [], length, take};
+ghost use Rattle.std.specs.Prelude.{◌≡◌, ◌<◌, ◌≤◌, IfErr, IsSome, OnOk, [], length, slice_set, take};
 ghost use Rattle.em_debugger.specs.Warnings.{SaysSo, StaySaid, opened, said_behind, told_by};
 
 use em_script::BenchFault;
@@ -74,12 +74,20 @@ impl Warnings {
     }
 
     /// Keeps what they said of the line behind the first so many.
+    #[tactic(auto, using(crate::proofs::WarningsLaws::says_put))]
     pub(crate) fn say(&mut self, before: usize, found: &Found)
         requires place { before < length self.old.lines.items }
         requires room { IsSome self.old.room }
         ensures { SaysSo before found.now self.old.lines.items self.new.lines.items }
     {
         let said = self.said(found);
+        self.put(before, said);
+    }
+
+    fn put(&mut self, before: usize, said: Said)
+        requires { before < length self.old.lines.items }
+        ensures { self.new.lines.items ≡ slice_set self.old.lines.items before said }
+    {
         self.lines[before] = said;
     }
 
