@@ -58,5 +58,6 @@ pub mod StepsLaws
 pub mod StopsLaws
 pub mod TextLaws
 pub mod ToldLaws
+pub mod WarningsLaws
 pub mod WhoLaws
 pub mod WhyLaws

@@ -32,6 +32,7 @@ use Rattle.em_debugger.specs.Nowhere.{TellsNowhere}
 use Rattle.em_debugger.specs.Performing.{AnswersTyped}
 use Rattle.em_debugger.specs.Played.{RunsAll}
 use Rattle.em_debugger.specs.Stops.{AnswersRun}
+use Rattle.em_debugger.specs.Warned.{asked_text, warned_text}
 use Rattle.em_debugger.specs.Who.{AnswersWho, TellsAgain}
 use Rattle.em_debugger.specs.Why.{TellsWhy}
 
@@ -51,6 +52,7 @@ Shows d (shown.Frame None) text = text ≡ waiting_text d.tape.session.machine.p
 Shows d (shown.Frame (Some index)) text = text ≡ sent_text d.tape.session.machine.present.wire index
 Shows d (shown.Memory addr len) text = text ≡ memory_text d.tape.session.machine.present addr len
 Shows d shown.Why text = TellsWhy d text
+Shows d shown.Warnings text = text ≡ warned_text d
 Shows d (shown.Help (Some command)) text = text ≡ line_of command
 Shows d (shown.Help None) text = text ≡ help_text
 
@@ -69,6 +71,7 @@ ObeysAlone old new (typed.goto event) text = GoesToEvent event old new text
 ObeysAlone old new (typed.who watch which) text = AnswersWho old new watch which text
 ObeysAlone old new typed.who_again text = TellsAgain old new old.asked text
 ObeysAlone old new (typed.warnings on) text = (new ≡ record old { warns = on }) × (text ≡ warnings_are on)
+ObeysAlone old new (typed.warnings_of rule) text = (new ≡ old) × (text ≡ asked_text old rule)
 ObeysAlone old new (typed.auto on) text = (new ≡ record old { engines = steps_of on }) × (text ≡ engines_are on)
 ObeysAlone old new typed.arrive_next text = ArrivesNext old new text
 ObeysAlone old new typed.arrive_all text = ArrivesAll old new text

@@ -29,6 +29,8 @@ pub mod Search
 pub mod Sending
 pub mod Stops
 pub mod Told
+pub mod Warned
+pub mod Warnings
 pub mod Marks
 pub mod Who
 pub mod Why

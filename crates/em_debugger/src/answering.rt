@@ -101,6 +101,7 @@ impl Debugger {
             Typed::Save(name) => self.save(writer, disk, name, false),
             Typed::SaveOver(name) => self.save(writer, disk, name, true),
             Typed::Warnings(on) => self.warn(writer, on),
+            Typed::WarningsOf(rule) => self.list_warnings_of(writer, rule),
             Typed::Auto(on) => self.switch_engines(writer, on),
             Typed::ArriveNext => self.arrive_next(writer),
             Typed::ArriveAll => self.arrive_all(writer),
@@ -127,6 +128,7 @@ impl Debugger {
             Shown::Frame(Some(index)) => show_sent(writer, machine, index),
             Shown::Memory(addr, len) => show_memory(writer, machine, addr, len),
             Shown::Why => self.why(writer),
+            Shown::Warnings => self.list_warnings(writer),
             Shown::Help(Some(command)) => write_help(writer, command),
             Shown::Help(None) => write_whole_help(writer),
         }

@@ -35,6 +35,8 @@ mod search;
 mod sending;
 mod stops;
 mod told;
+mod warned;
+mod warnings;
 mod who;
 mod why;
 

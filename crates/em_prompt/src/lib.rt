@@ -32,6 +32,7 @@ pub use command::Command;
 pub use fault::Fault;
 pub use help::{write_help, write_whole_help};
 pub use kind::{Choice, Kind};
+pub use near::{begins, is_near};
 pub use nowhere::{Nowhere, meant, nowhere_said};
 pub use number::Number;
 pub use prompt::prompted;
