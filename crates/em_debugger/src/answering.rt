@@ -11,6 +11,7 @@ ghost use Rattle.em_debugger.specs.Answering.{Answers, AnswersPrompted, Obeys, S
 
 use crate::debugger::Debugger;
 use crate::disk::Disk;
+use crate::nowhere::tell_nowhere;
 use em_console::Flow;
 use em_line::parts_of;
 use em_looks::{show_memory, show_register, show_ring, show_sent, show_waiting};
@@ -43,7 +44,9 @@ impl Debugger {
         }
         match asking(self.settings.profile, line) {
             Some(bench) => {
+                let profile = self.settings.profile;
                 self.perform_typed(writer, bench, line)?;
+                tell_nowhere(self.alloc, profile, writer, parts_of(line).said)?;
                 Ok(Flow::Goes)
             }
             None => self.answer_prompted(writer, disk, line),
@@ -98,6 +101,7 @@ impl Debugger {
             Typed::Save(name) => self.save(writer, disk, name, false),
             Typed::SaveOver(name) => self.save(writer, disk, name, true),
             Typed::Warnings(on) => self.warn(writer, on),
+            Typed::WarningsOf(rule) => self.list_warnings_of(writer, rule),
             Typed::Auto(on) => self.switch_engines(writer, on),
             Typed::ArriveNext => self.arrive_next(writer),
             Typed::ArriveAll => self.arrive_all(writer),
@@ -124,6 +128,7 @@ impl Debugger {
             Shown::Frame(Some(index)) => show_sent(writer, machine, index),
             Shown::Memory(addr, len) => show_memory(writer, machine, addr, len),
             Shown::Why => self.why(writer),
+            Shown::Warnings => self.list_warnings(writer),
             Shown::Help(Some(command)) => write_help(writer, command),
             Shown::Help(None) => write_whole_help(writer),
         }

@@ -128,6 +128,7 @@ impl Debugger {
         self.wanted.keep(kept);
         self.marks.keep(kept);
         self.sent.keep(kept);
+        self.warnings.keep(kept);
         self.asked = None;
         Ok(dropped)
     }
@@ -244,6 +245,7 @@ impl Debugger {
             return Ok(None);
         }
         self.came.make_ready(line + 1)?;
+        self.warnings.prepare(line + 1)?;
         self.tape.to_line(line)?;
         self.answer.clear();
         let sent = self.tape.machine().wire_len();
@@ -264,6 +266,7 @@ impl Debugger {
                 self.sent.set(line, sent, now);
                 self.came.set(before, outcome);
                 self.count_answer(line);
+                self.warnings.say(before, &self.warned);
                 Ok(Some(Performed { line, outcome }))
             }
             Err(_) => Err(BenchFault::Memory),

@@ -5,7 +5,7 @@
 --   files
 -- What is written is read back (`events_are_read_back`, `refusals_are_read_back`, `steps_back_are_read_back`):
 --   1  PartsOfLines: a line of what it says, an answer and a place
---   2  DigitLaws: what digits write; 3 EventWords: an event or steps back, by words
+--   2  DigitSteps on single digits, DigitLaws: what digits write; 3 EventWords: an event or steps back, by words
 --   4  SourcePlaces: a source breaks no line (`a_plain_name_stays`); 5 LineLaws on all of these
 -- The head does nothing when it is played (`the_head_is_silent`): HeadLaws on LineLaws
 mod Texts

@@ -43,7 +43,7 @@ abbrev pub in_ring : ℕ → List ℕ → Extent → SidedRing → Option Warnin
 in_ring base memory write r =
     if r.setup.enabled
     then option_map (λ i. warning.WrittenWhileOwned (head_of r.side) i (descriptor_at r.setup i))
-        (first_written base memory write r)
+    (first_written base memory write r)
     else None
 
 -- of the receive ring, or else of the transmit ring

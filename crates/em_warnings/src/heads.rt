@@ -30,7 +30,11 @@ pub(crate) fn tail_past_head(machine: &Machine, tail: Reg) -> Option<Warning>
 fn goes_past(ring: &Ring, was: u32) -> bool
     ensures { result ≡ heads.goes_past ring.now was }
 {
-    let (count, head, tail) = (u64::from(ring.count), u64::from(ring.head), u64::from(ring.tail));
+    let (count, head, tail) = (
+        u64::from(ring.count),
+        u64::from(ring.head),
+        u64::from(ring.tail),
+    );
     let was = u64::from(was);
     ring.enabled
         && head < count

@@ -47,7 +47,13 @@ fn first_written(machine: &Machine, ring: &SidedRing, write: &Extent) -> Option<
 }
 
 /// The first such from one index on, below another.
-fn written_from(machine: &Machine, ring: &SidedRing, write: &Extent, from: u32, to: u32) -> Option<u32>
+fn written_from(
+    machine: &Machine,
+    ring: &SidedRing,
+    write: &Extent,
+    from: u32,
+    to: u32,
+) -> Option<u32>
     ensures { result
         ≡ owned.written_from machine.now.present.base machine.now.present.memory write.now ring.now from to }
 {

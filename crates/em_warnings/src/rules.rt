@@ -50,7 +50,9 @@ pub fn warnings_of(machine: &Machine, reg: Reg, value: u32) -> [Option<Warning>;
 pub fn alone(warning: Option<Warning>) -> [Option<Warning>; RULES]
     ensures { result ≡ rules.alone warning }
 {
-    [warning, None, None, None, None, None, None, None, None, None]
+    [
+        warning, None, None, None, None, None, None, None, None, None,
+    ]
 }
 
 /// Whether rules besides the first ask about a register: a ring's length, head or tail, what enables it, or IMS.

@@ -1,8 +1,9 @@
 //! What is said of a warning.
 ghost use Rattle.std.specs.Prelude.{◌≡◌};
 ghost use Rattle.em_text.specs.Writer.{Writes};
-ghost use Rattle.em_warnings.specs.Said.{head_text, name_of, said, warning_text};
+ghost use Rattle.em_warnings.specs.Said.{head_text, name_of, rule_name, said, warning_text};
 
+use crate::rule::Rule;
 use crate::warning::Warning;
 use em_pieces::{Piece, write_text};
 use em_text::{WriteFailed, write_whole};
@@ -51,6 +52,35 @@ macro_rules! table {
     };
 }
 
+/// All rules, as an array.
+macro_rules! all {
+    ($none:expr; $($rule:ident { $($number:ident),* }, $name:literal, $($piece:ident($value:expr))*;)*) => {
+        [$(Rule::$rule),*]
+    };
+}
+
+/// How many they are, beside so many others.
+macro_rules! count {
+    ($others:expr; $($rule:ident { $($number:ident),* }, $name:literal, $($piece:ident($value:expr))*;)*) => {
+        $others $(+ one!($rule))*
+    };
+}
+
+macro_rules! one {
+    ($rule:ident) => {
+        1
+    };
+}
+
+/// The name of a rule.
+macro_rules! called {
+    ($of:expr; $($rule:ident { $($number:ident),* }, $name:literal, $($piece:ident($value:expr))*;)*) => {
+        match $of {
+            $(Rule::$rule => $name,)*
+        }
+    };
+}
+
 /// The name of a warning's rule.
 macro_rules! name {
     ($of:expr; $($warning:ident { $($number:ident),* }, $name:literal, $($piece:ident($value:expr))*;)*) => {
@@ -69,7 +99,28 @@ macro_rules! told {
     };
 }
 
+/// How many rules there are.
+const RULE_COUNT: usize = table!(count 0);
+
+/// All rules, in their order.
+pub static ALL_RULES: [Rule; RULE_COUNT] = table!(all());
+
+impl Rule {
+    ghost use Rattle.std.specs.Prelude.{◌≡◌};
+    ghost use Rattle.em_warnings.specs.Said.{rule_name};
+
+    /// Its name, as it is printed.
+    pub fn name(self) -> &'static str
+        ensures { result.now ≡ rule_name self }
+    {
+        table!(called self)
+    }
+}
+
 impl Warning {
+    ghost use Rattle.std.specs.Prelude.{◌≡◌};
+    ghost use Rattle.em_warnings.specs.Said.{name_of};
+
     /// The name of the rule, as it is printed.
     pub fn name(self) -> &'static str
         ensures { result.now ≡ name_of self }
@@ -102,7 +153,7 @@ fn write_head<W: Write>(writer: &mut W, warning: Warning) -> Result<(), WriteFai
 }
 
 /// Writes what the rule of a warning says, with its numbers, and what to do.
-fn write_said<W: Write>(writer: &mut W, warning: Warning) -> Result<(), WriteFailed>
+pub fn write_said<W: Write>(writer: &mut W, warning: Warning) -> Result<(), WriteFailed>
     ensures writes { Writes (W.contents writer.old) (W.contents writer.new) result (said warning) }
 {
     table!(told writer, warning)

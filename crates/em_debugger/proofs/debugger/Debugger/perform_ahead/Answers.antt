@@ -6,6 +6,7 @@ use Rattle.em_debugger.specs.Place.{line_here}
 use Rattle.em_debugger.proofs.CameLaws.{comes_set}
 use Rattle.em_debugger.proofs.RefusedLaws.{unplayed_by}
 use Rattle.em_debugger.proofs.SendingLaws.{keeps_ready}
+use Rattle.em_debugger.proofs.WarningsLaws.{says_since}
 use Rattle.em_debugger.proofs.debugger.Debugger.perform_ahead.Goals as goal
 
 pub returns-in-Ok-note-clause-some : goal.returns-in-Ok-note-clause-some
@@ -29,6 +30,7 @@ returns-in-Ok-note-clause-some c =
       noted = rw c.as_slice.ensures.value at c.in-Ok-note.ensures.ok;
       came = comes_set _ _ _ line _ c.make_ready.ensures.stay c.in_ok-make_ready.ensures.place c.set-in-Ok-note.ensures;
       settings = refl;
+      warnings = rw c.line_here-line.ensures.line at (says_since _ _ _ line _ c.prepare.ensures.stay c.say.ensures);
       asked = refl;
       warns = refl;
       wanted = refl;
@@ -50,6 +52,24 @@ returns-in_err-make_ready-clause-err c =
       marks = λ line. refl;
       sent = λ line. refl;
       settings = refl;
+      warnings = λ k. refl;
+      asked = refl;
+      warns = refl;
+      score = refl;
+      engines = refl;
+      offered = refl;
+    }) (stays refl))
+
+pub returns-in_err-prepare-clause-err : goal.returns-in_err-prepare-clause-err
+returns-in_err-prepare-clause-err c =
+    MatchResult-from_err _ _ _ c.from_residual-in_err-prepare.ensures.0 (λ _. unplayed (record {
+      told = λ line. refl;
+      came = c.make_ready.ensures.stay;
+      wanted = λ line. refl;
+      marks = λ line. refl;
+      sent = λ line. refl;
+      settings = refl;
+      warnings = c.prepare.ensures.stay;
       asked = refl;
       warns = refl;
       score = refl;
@@ -66,6 +86,7 @@ returns-in_err-to_line-clause-err c =
       marks = λ line. refl;
       sent = λ line. refl;
       settings = refl;
+      warnings = c.prepare.ensures.stay;
       asked = refl;
       warns = refl;
       score = refl;
@@ -91,6 +112,7 @@ returns-in-Err-clause-err c =
       marks = λ line. refl;
       sent = λ line. refl;
       settings = refl;
+      warnings = c.prepare.ensures.stay;
       asked = refl;
       warns = refl;
       score = refl;
@@ -113,6 +135,7 @@ returns-in-Err-note-clause-err c =
       marks = λ line. refl;
       sent = c.make_ready-2.ensures.stay;
       settings = refl;
+      warnings = c.prepare.ensures.stay;
       asked = refl;
       warns = refl;
       score = refl;
@@ -144,6 +167,7 @@ returns-in_default-clause-err c =
       marks = λ line. refl;
       sent = c.make_ready-2.ensures.stay;
       settings = refl;
+      warnings = c.prepare.ensures.stay;
       asked = refl;
       warns = refl;
       score = refl;
