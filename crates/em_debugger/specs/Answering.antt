@@ -5,9 +5,11 @@ use Rattle.em_console.specs.declared.session.Flow.{Flow}
 use Rattle.em_console.specs.declared.session.Flow.TheVariants.{Goes, Ends}
 use Rattle.em_looks.specs.Frames.{waiting_text, sent_text}
 use Rattle.em_looks.specs.Views.{register_text, ring_text, memory_text}
+use Rattle.em_text.specs.Words.{words_of}
 use Rattle.em_line.specs.Parts.{said_in}
 use Rattle.em_prompt.specs.BenchLine.{BenchLine}
 use Rattle.em_prompt.specs.Help.{line_of, help_text}
+use Rattle.em_prompt.specs.Nowhere.{nowhere_said}
 use Rattle.em_prompt.specs.Prompt.{Wrong, prompted}
 use Rattle.em_regs.specs.declared.profile.Profile.{Profile}
 use Rattle.em_prompt.specs.Scripted.{bench_in}
@@ -26,6 +28,7 @@ use Rattle.em_debugger.specs.Offers.{ArrivesAll, ArrivesNext, Loads, SavesFrames
 use Rattle.em_debugger.specs.History.{ShowsHistory}
 use Rattle.em_debugger.specs.Moves.{GoesBack, GoesBeforeLine, GoesToEvent, forward_by}
 use Rattle.em_debugger.specs.Next.{TellsNext}
+use Rattle.em_debugger.specs.Nowhere.{TellsNowhere}
 use Rattle.em_debugger.specs.Performing.{AnswersTyped}
 use Rattle.em_debugger.specs.Played.{RunsAll}
 use Rattle.em_debugger.specs.Stops.{AnswersRun}
@@ -102,12 +105,20 @@ AnswersPrompted did old new (Err wrong) flow text =
 abbrev pub asking : Profile → List ℕ → Option BenchLine
 asking profile typed = bench_in (prompted profile (said_in typed))
 
+-- its answer, and behind it that it accesses no register, if it does not and is answered all the same
+pub record AnswersBench (old new : Debugger) (bench : BenchLine) (typed text : List ℕ) : Type 0 where
+  pub answer : List ℕ
+  pub note : List ℕ
+  pub answered : AnswersTyped old new bench typed answer
+  pub noted : TellsNowhere (nowhere_said old.settings.profile (words_of (said_in typed))) note
+  pub told : text ≡ answer ++ note
+
 -- such a line is performed; what else is typed is obeyed, or it is said what is wrong with it
 abbrev pub AnswersAsked : (Option Deed → Type 0) → Debugger → Debugger → List ℕ → Option BenchLine → Flow → List ℕ
     → Type 0
 AnswersAsked did old new typed None flow text = AnswersPrompted did old new (prompted old.settings.profile typed) flow text
 AnswersAsked did old new typed (Some bench) flow text =
-    (flow ≡ Goes) × (did None × AnswersTyped old new bench typed text)
+    (flow ≡ Goes) × (did None × AnswersBench old new bench typed text)
 
 -- a line was typed: one that is too long is none
 pub data Answers (did : Option Deed → Type 0) (old new : Debugger) (typed : List ℕ) (flow : Flow) (text : List ℕ)

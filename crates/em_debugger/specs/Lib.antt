@@ -19,6 +19,7 @@ pub mod Listing
 pub mod Lost
 pub mod Moves
 pub mod Next
+pub mod Nowhere
 pub mod Offers
 pub mod Performing
 pub mod Place

@@ -11,6 +11,7 @@ ghost use Rattle.em_debugger.specs.Answering.{Answers, AnswersPrompted, Obeys, S
 
 use crate::debugger::Debugger;
 use crate::disk::Disk;
+use crate::nowhere::tell_nowhere;
 use em_console::Flow;
 use em_line::parts_of;
 use em_looks::{show_memory, show_register, show_ring, show_sent, show_waiting};
@@ -43,7 +44,9 @@ impl Debugger {
         }
         match asking(self.settings.profile, line) {
             Some(bench) => {
+                let profile = self.settings.profile;
                 self.perform_typed(writer, bench, line)?;
+                tell_nowhere(self.alloc, profile, writer, parts_of(line).said)?;
                 Ok(Flow::Goes)
             }
             None => self.answer_prompted(writer, disk, line),

@@ -25,6 +25,7 @@ mod lost;
 mod marks;
 mod moves;
 mod next;
+mod nowhere;
 mod offers;
 mod performing;
 mod place;

@@ -89,7 +89,7 @@ fn begins(word: &[u8], name: &[u8]) -> bool
 }
 
 /// Whether a word is a name but for one letter, or two that are turned.
-fn is_near(word: &[u8], name: &[u8]) -> bool
+pub(crate) fn is_near(word: &[u8], name: &[u8]) -> bool
     ensures { result ≡ is_near word.now name.now }
 {
     let at = common(word, name);

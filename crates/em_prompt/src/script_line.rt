@@ -64,7 +64,7 @@ fn accesses_name(mut words: Words<'_>) -> bool
 }
 
 /// Whether a command reads or writes a register.
-fn is_access(command: &[u8]) -> bool
+pub(crate) fn is_access(command: &[u8]) -> bool
     ensures { result ≡ is_access command.now }
 {
     is_name(command, b"r") || is_name(command, b"w")
