@@ -268,7 +268,7 @@ typedef struct em_register {
 
 /* All registers that are not zero, by offset: at most EM_REGISTERS of them. Where `room` is too small it is refused as
    EM_ROOM, and `count` tells how much is needed. It is no event. The cost is that of some thousand looks. */
-#define EM_REGISTERS 360
+#define EM_REGISTERS 392
 EM_CHECKED em_code em_registers(const em_machine *machine, em_register *out, size_t room, size_t *count);
 
 /* ---- rings; constant */

@@ -6,7 +6,7 @@ from ctypes import CFUNCTYPE, POINTER, Structure, c_bool, c_char_p, c_int, c_siz
 from ctypes import c_uint64, c_void_p
 
 VERSION = "0.1.0"
-REGISTERS = 360
+REGISTERS = 392
 MOST_SENT = 16384
 MOST_WATCHED = 16
 

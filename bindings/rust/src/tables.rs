@@ -3,7 +3,7 @@
 //! Written by bindings/tables.py, of the crate em_c: change it there, and run that.
 
 /// How many registers there are.
-pub const REGISTERS: usize = 360;
+pub const REGISTERS: usize = 392;
 
 /// Room in which each frame that a machine sends fits.
 pub const MOST_SENT: usize = 16_384;

@@ -66,6 +66,9 @@ departure_of reg.Ptc1023 = by_steps
 departure_of reg.Ptc1522 = by_steps
 departure_of reg.Mptc = by_steps
 departure_of reg.Bptc = by_steps
+departure_of reg.Totl = by_steps
+departure_of reg.Toth = by_steps
+departure_of reg.Tpt = by_steps
 departure_of reg.Mpc = by_arrivals
 departure_of reg.Prc64 = by_arrivals
 departure_of reg.Prc127 = by_arrivals
@@ -81,6 +84,9 @@ departure_of reg.Gorch = by_arrivals
 departure_of reg.Rnbc = by_arrivals
 departure_of reg.Ruc = by_arrivals
 departure_of reg.Roc = by_arrivals
+departure_of reg.Torl = by_arrivals
+departure_of reg.Torh = by_arrivals
+departure_of reg.Tpr = by_arrivals
 departure_of _ = []
 
 abbrev pub known_text : List ℕ → List ℕ

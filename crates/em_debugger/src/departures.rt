@@ -44,7 +44,10 @@ fn departure(reg: Reg) -> &'static [u8]
         | Reg::Ptc1023
         | Reg::Ptc1522
         | Reg::Mptc
-        | Reg::Bptc => b"here engines make steps by rx and tx alone",
+        | Reg::Bptc
+        | Reg::Totl
+        | Reg::Toth
+        | Reg::Tpt => b"here engines make steps by rx and tx alone",
         Reg::Mpc
         | Reg::Prc64
         | Reg::Prc127
@@ -59,7 +62,10 @@ fn departure(reg: Reg) -> &'static [u8]
         | Reg::Gorch
         | Reg::Rnbc
         | Reg::Ruc
-        | Reg::Roc => b"here frames arrive by arrive alone",
+        | Reg::Roc
+        | Reg::Torl
+        | Reg::Torh
+        | Reg::Tpr => b"here frames arrive by arrive alone",
         _ => b"",
     }
 }

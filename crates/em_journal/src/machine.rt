@@ -234,7 +234,9 @@ impl Machine {
         match reg.row().kind {
             Kind::Stored | Kind::Control | Kind::EepromRead => self.read_stored(reg),
             Kind::Interrupt | Kind::Counter => self.read_latched(reg),
-            Kind::Status | Kind::EepromPins | Kind::PhyCommand => self.read_other(reg),
+            Kind::Status | Kind::EepromPins | Kind::PhyCommand | Kind::Uncounted => self.read_other(
+                reg,
+            ),
         }
     }
 
@@ -249,8 +251,12 @@ impl Machine {
         match reg.row().kind {
             Kind::Stored => self.write_stored(reg, value),
             Kind::Interrupt | Kind::Counter => self.write_latched(reg, value),
-            Kind::Control | Kind::EepromRead | Kind::Status | Kind::EepromPins | Kind::PhyCommand =>
-                self.write_other(reg, value)?,
+            Kind::Control
+            | Kind::EepromRead
+            | Kind::Status
+            | Kind::EepromPins
+            | Kind::PhyCommand
+            | Kind::Uncounted => self.write_other(reg, value)?,
         }
         Ok(())
     }

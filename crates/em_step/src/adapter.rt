@@ -414,6 +414,7 @@ impl Adapter {
             Kind::Status => (self.status(), Record::of_effect(Effect::Nothing)),
             Kind::EepromPins => (self.told_by_pins(), Record::of_effect(Effect::Nothing)),
             Kind::PhyCommand => (self.phy.read(), Record::of_effect(Effect::Nothing)),
+            Kind::Uncounted => (0, Record::of_effect(Effect::Nothing)),
         }
     }
 
@@ -434,6 +435,7 @@ impl Adapter {
             Kind::Status => Ok(Record::of_effect(Effect::Nothing)),
             Kind::EepromPins => Ok(self.write_pins(value)),
             Kind::PhyCommand => Ok(self.command_phy(value)),
+            Kind::Uncounted => Ok(Record::of_effect(Effect::Nothing)),
         }
     }
 
@@ -640,6 +642,7 @@ impl Adapter {
             Kind::Status => self.status(),
             Kind::EepromPins => self.told_by_pins(),
             Kind::PhyCommand => self.phy.read(),
+            Kind::Uncounted => 0,
         }
     }
 
